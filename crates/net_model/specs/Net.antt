@@ -1,0 +1,57 @@
+-- The network that a model states, as plain data.
+use Rattle.std.specs.Prelude.{ℕ, zero, suc, ◌+◌, List, [], Bool, true, false, Option, None, slice_get, unwrap_or, position, option_map}
+use Rattle.std.specs.Str.{bytes_eq}
+use Rattle.net_model.specs.declared.station.Kind.{Kind}
+use Rattle.net_model.specs.declared.station.Kind.TheVariants.{Source, Server, Router, Sink}
+use Rattle.net_model.specs.declared.station.Link.{Link}
+
+-- a station: its name, what it does, the stream of its draws, and its links in order
+pub record Site : Type 0 where
+  pub name : List ℕ
+  pub kind : Kind
+  pub stream : ℕ
+  pub links : List Link
+
+-- the network; its stations have the numbers from 1 on, in order
+pub record Net : Type 0 where
+  pub format : ℕ
+  pub lookahead : ℕ
+  pub horizon : ℕ
+  pub seed : ℕ
+  pub limit : ℕ
+  pub sites : List Site
+
+-- the station of a number
+abbrev pub site_at : Net → ℕ → Option Site
+site_at net zero = None
+site_at net (suc i) = slice_get net.sites i
+
+-- what stands for a station that is not there: it takes jobs, and sends nothing
+abbrev pub no_site : Site
+no_site = record { name = []; kind = Sink; stream = 0; links = [] }
+
+abbrev pub site_of : Net → ℕ → Site
+site_of net s = unwrap_or (site_at net s) no_site
+
+abbrev pub is_source : Kind → Bool
+is_source (Source lo hi jobs class) = true
+is_source _ = false
+
+-- the class of a source's jobs; 1 where a station is no source
+abbrev pub class_of_kind : Kind → ℕ
+class_of_kind (Source lo hi jobs class) = class
+class_of_kind _ = 1
+
+-- whether a server takes waiting jobs by their class
+abbrev pub serves_by_class : Kind → Bool
+serves_by_class (Server servers room lo hi by_class) = by_class
+serves_by_class _ = false
+
+-- whether a router takes its links by turn
+abbrev pub routes_by_turn : Kind → Bool
+routes_by_turn (Router turn) = turn
+routes_by_turn _ = false
+
+-- the number of the first station of a name
+abbrev pub number_of : List ℕ → Net → Option ℕ
+number_of name net = option_map (λ i. i + 1) (position (λ site. bytes_eq site.name name) net.sites)

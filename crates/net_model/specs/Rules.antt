@@ -1,0 +1,79 @@
+-- The rules that every model meets.
+use Rattle.std.specs.Prelude.{◌≡◌, ◌≢◌, ℕ, ◌<◌, ◌≤◌, ◌^◌, List, length, map, codes, true, false, ◌⊎◌}
+use Rattle.std.specs.List.{AllByRecursion, IsDistinct}
+use Rattle.std.specs.Str.{bytes_eq}
+use Rattle.sim_base.specs.Names.{is_name}
+use Rattle.net_model.specs.declared.station.Kind.{Kind}
+use Rattle.net_model.specs.declared.station.Kind.TheVariants.{Source, Server, Delay, Router, Sink}
+use Rattle.net_model.specs.declared.station.Link.{Link}
+use Rattle.net_model.specs.Net.{Net, Site, site_of, is_source}
+
+-- a range of times
+pub record IsRange (low lo hi : ℕ) : Type 0 where
+  pub above : low ≤ lo
+  pub ordered : lo ≤ hi
+  pub small : hi ≤ 1000000
+
+pub record IsSource (lo hi jobs class : ℕ) : Type 0 where
+  pub every : IsRange 1 lo hi
+  pub few : jobs ≤ 1000000
+  pub first : 1 ≤ class
+  pub last : class ≤ 4
+
+pub record IsServer (servers room lo hi : ℕ) : Type 0 where
+  pub some : 1 ≤ servers
+  pub few : servers ≤ 16
+  pub small : room ≤ 4096
+  pub service : IsRange 1 lo hi
+
+abbrev pub IsKind : Kind → Type 0
+IsKind (Source lo hi jobs class) = IsSource lo hi jobs class
+IsKind (Server servers room lo hi by_class) = IsServer servers room lo hi
+IsKind (Delay lo hi) = IsRange 0 lo hi
+IsKind (Router turn) = Unit {0}
+IsKind Sink = Unit {0}
+
+-- format 1 knows no classes
+abbrev pub IsOfFormat1 : Kind → Type 0
+IsOfFormat1 (Source lo hi jobs class) = class ≡ 1
+IsOfFormat1 (Server servers room lo hi by_class) = by_class ≡ false
+IsOfFormat1 _ = Unit {0}
+
+-- a link leads to a station that takes jobs, and is no faster than the lookahead
+pub record IsLink (net : Net) (link : Link) : Type 0 where
+  pub first : 1 ≤ link.to
+  pub last : link.to ≤ length net.sites
+  pub receives : is_source (site_of net link.to).kind ≡ false
+  pub slow : net.lookahead ≤ link.delay
+  pub small : link.delay ≤ 1000000
+  pub heavy : 1 ≤ link.weight
+  pub light : link.weight ≤ 1000
+
+-- jobs leave every station but a sink, where they leave the network
+abbrev pub HasWayOut : Kind → List Link → Type 0
+HasWayOut Sink links = length links ≡ 0
+HasWayOut _ links = 1 ≤ length links
+
+pub record IsSite (net : Net) (site : Site) : Type 0 where
+  pub named : is_name site.name ≡ true
+  pub no_analyst : site.name ≢ codes "analyst"
+  pub stream : site.stream < 2 ^ 63
+  pub kind : IsKind site.kind
+  pub format : net.format ≡ 1 → IsOfFormat1 site.kind
+  pub few : length site.links ≤ 16
+  pub links : AllByRecursion (IsLink net) site.links
+  pub way : HasWayOut site.kind site.links
+
+pub record IsNet (net : Net) : Type 0 where
+  pub format : (net.format ≡ 1) ⊎ (net.format ≡ 2)
+  pub ahead : 1 ≤ net.lookahead
+  pub near : net.lookahead ≤ 1000000
+  pub horizon : 1 ≤ net.horizon
+  pub soon : net.horizon ≤ 1000000000
+  pub seed : net.seed < 2 ^ 63
+  pub limit : 1 ≤ net.limit
+  pub short : net.limit ≤ 65536
+  pub some : 1 ≤ length net.sites
+  pub few : length net.sites ≤ 64
+  pub distinct : IsDistinct bytes_eq (map (λ site. site.name) net.sites)
+  pub sites : AllByRecursion (IsSite net) net.sites

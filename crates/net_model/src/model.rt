@@ -1,0 +1,112 @@
+//! A model.
+ghost use Rattle.std.specs.Prelude.{◌≡◌, ◌+◌, ◌<◌, ◌≤◌, length, Some, IfSome, position};
+ghost use Rattle.std.specs.Str.{bytes_eq};
+ghost use Rattle.net_model.specs.Net.{site_at, number_of};
+ghost use Rattle.net_model.specs.Sites.{as_site};
+
+use crate::station::Station;
+use sim_base::Name;
+
+/// A model that meets every rule of `specs/Rules.antt`.
+#[derive(Drop)]
+pub struct Model {
+    pub(crate) format: u32,
+    pub(crate) lookahead: u64,
+    pub(crate) horizon: u64,
+    pub(crate) seed: u64,
+    pub(crate) limit: u64,
+    pub(crate) stations: Vec<Station>,
+}
+
+impl std::marker::Model for Model {
+    ghost use Rattle.net_model.specs.Net.{Net};
+
+    ghost Value = { Net };
+
+    ghost use Rattle.net_model.specs.Sites.{net_of};
+    ghost use Rattle.net_model.specs.Rules.{IsNet};
+
+    ghost view = { λ m. net_of m.format m.lookahead m.horizon m.seed m.limit m.stations.items };
+
+    ghost invariant = { λ m. IsNet (net_of m.format m.lookahead m.horizon m.seed m.limit m.stations.items) };
+}
+
+impl Model {
+    ghost use Rattle.net_model.specs.Rules.{IsNet};
+
+    /// How many stations there are.
+    pub fn len(&self) -> u32
+        ensures value { result ≡ length self.now.sites }
+        ensures valid { IsNet self.now }
+    {
+        self.stations.len() as u32
+    }
+
+    /// The station of a number, from 1.
+    pub fn station(&self, s: u32) -> &Station
+        requires low { 1 ≤ s }
+        requires high { s ≤ length self.now.sites }
+        ensures value { site_at self.now s ≡ Some (as_site result.now) }
+        ensures valid { IsNet self.now }
+    {
+        &self.stations[s as usize - 1]
+    }
+
+    /// The number of the station of a name, None exactly where there is none.
+    pub fn find(&self, name: &Name) -> Option<u32>
+        ensures value { result ≡ number_of name.now self.now }
+        ensures there { IfSome result (λ s. s ≤ length self.now.sites) }
+    {
+        match place(&self.stations, name) {
+            Some(i) => Some(i as u32 + 1),
+            None => None,
+        }
+    }
+
+    /// The format: 1, or 2 with classes and service by class.
+    pub fn format(&self) -> u32
+        ensures { result ≡ self.now.format }
+    {
+        self.format
+    }
+
+    /// The least delay of a link, at least 1.
+    pub fn lookahead(&self) -> u64
+        ensures value { result ≡ self.now.lookahead }
+        ensures valid { IsNet self.now }
+    {
+        self.lookahead
+    }
+
+    /// Nothing is handled at this time or later.
+    pub fn horizon(&self) -> u64
+        ensures value { result ≡ self.now.horizon }
+        ensures valid { IsNet self.now }
+    {
+        self.horizon
+    }
+
+    /// The seed of all draws.
+    pub fn seed(&self) -> u64
+        ensures { result ≡ self.now.seed }
+    {
+        self.seed
+    }
+
+    /// How many messages a station may handle in one clone.
+    pub fn limit(&self) -> u64
+        ensures value { result ≡ self.now.limit }
+        ensures valid { IsNet self.now }
+    {
+        self.limit
+    }
+}
+
+fn place(stations: &[Station], name: &Name) -> Option<usize>
+    ensures value { result ≡ position (λ station. bytes_eq station.name name.now) stations.now }
+    ensures there { IfSome result (λ i. i < length stations.now) }
+{
+    stations
+        .iter()
+        .position(|station| station.name.as_bytes() == name.as_bytes())
+}

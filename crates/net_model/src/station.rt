@@ -1,0 +1,51 @@
+//! What a model says of a station.
+use arrayvec::ArrayVec;
+use sim_base::Name;
+
+/// A link, over which jobs go on: the station that it leads to, how long that takes, and its weight.
+#[derive(Clone, Copy, Debug, Default, PartialEq, Eq)]
+pub struct Link {
+    pub to: u32,
+    pub delay: u64,
+    pub weight: u32,
+}
+
+/// What a station does with a job. Times are ranges, from `lo` to `hi`.
+#[derive(Clone, Copy, Debug, PartialEq, Eq)]
+pub enum Kind {
+    /// Makes so many jobs of a class, with times between them from a range.
+    Source {
+        lo: u64,
+        hi: u64,
+        jobs: u64,
+        class: u32,
+    },
+    /// Serves jobs; so many may wait, and they leave the line as they came or by their class.
+    Server {
+        servers: u32,
+        room: u32,
+        lo: u64,
+        hi: u64,
+        by_class: bool,
+    },
+    /// Holds each job for a time from a range.
+    Delay {
+        lo: u64,
+        hi: u64,
+    },
+    /// Sends each job on, by turn or by the weights of its links.
+    Router {
+        turn: bool,
+    },
+    /// Where jobs leave the network.
+    Sink,
+}
+
+/// A station of a model: its name, what it does, the stream of its draws, and its links in order.
+#[derive(Drop)]
+pub struct Station {
+    pub name: Name,
+    pub kind: Kind,
+    pub stream: u64,
+    pub links: ArrayVec<Link, 16>,
+}

@@ -1,0 +1,82 @@
+-- A small simulation, computed: two stations throw a ball to and fro, and each decision throws in one more,
+-- which bounces once where it falls. A station counts what it has caught.
+use Rattle.std.specs.Prelude.{ℕ, ◌+◌, ◌-◌, ◌==◌, nat_lt, if◌then◌else◌, List, [], ◌∷◌, Some, None, Bool, ◌&&◌, codes}
+use Rattle.std.specs.Ordering.{nat_cmp, ordering_then}
+use Rattle.std.specs.declared.cmp.Ordering.{Ordering}
+use Rattle.sim_base.specs.Clones.{Clone, base}
+use Rattle.sim_base.specs.declared.decision.Planned.{Planned}
+use Rattle.sim_base.specs.declared.message.Param.TheVariants.{Room}
+use Rattle.sim_base.specs.declared.entry.Entry.{Entry}
+use Rattle.run_laws.specs.Machine.{Config}
+use Rattle.run_laws.specs.Simulation.{Simulation}
+use Rattle.run_laws.specs.Window.{Part, local}
+use Rattle.run_laws.specs.Runs.{log_at, state_at, due_at, end_of}
+
+-- the number is 0 for the ball that goes to and fro
+pub record Ball : Type 0 where
+  pub time : ℕ
+  pub number : ℕ
+  pub to : ℕ
+
+abbrev pub ball : ℕ → ℕ → ℕ → Ball
+ball time number to = record { time = time; number = number; to = to }
+
+abbrev pub ball_cmp : Ball → Ball → Ordering
+ball_cmp a b = ordering_then (nat_cmp a.time b.time) (ordering_then (nat_cmp a.number b.number) (nat_cmp a.to b.to))
+
+-- a bounce has ten more than the number of its ball
+abbrev pub thrown_back : ℕ → Ball → List Ball
+thrown_back s b =
+    if b.number == 0 then ball (b.time + 3) 0 (3 - s) ∷ []
+    else if nat_lt b.number 10 then ball (b.time + 1) (b.number + 10) s ∷ []
+    else []
+
+abbrev pub game : Simulation ℕ Ball ℕ
+game = record {
+  order = ball_cmp;
+  time = λ b. b.time;
+  to = λ b. b.to;
+  stations = 2;
+  setup = λ s. record { state = 0; first = if s == 1 then Some (ball 2 0 1) else None };
+  handle = λ s caught b. record { state = caught + 1; sends = thrown_back s b; line = caught + 1 };
+  decided = λ k p. ball p.at (k + 1) p.station;
+  lookahead = 3;
+  horizon = 12;
+  limit = 2;
+}
+
+-- what was caught, and the count after it
+abbrev pub caught : ℕ → ℕ → ℕ → ℕ → Entry Ball ℕ
+caught time number to count = record { msg = ball time number to; line = count }
+
+abbrev pub base_trace : List (Entry Ball ℕ)
+base_trace = caught 2 0 1 1 ∷ caught 5 0 2 1 ∷ caught 8 0 1 2 ∷ caught 11 0 2 2 ∷ []
+
+abbrev pub throw_in : ℕ → ℕ → Planned
+throw_in time station = record { at = time; station = station; change = record { param = Room; a = 0; b = 0 } }
+
+-- two balls more, at 6 and at 5, to station 1; numbers follow the list and not the time
+abbrev pub busy : Clone
+busy = record { name = codes "busy"; plans = throw_in 6 1 ∷ throw_in 5 1 ∷ []; end = None }
+
+abbrev pub busy_trace : List (Entry Ball ℕ)
+busy_trace =
+    caught 2 0 1 1 ∷ caught 5 0 2 1 ∷ caught 5 2 1 2 ∷ caught 6 1 1 3 ∷ caught 6 12 1 4 ∷ caught 7 11 1 5
+    ∷ caught 8 0 1 6 ∷ caught 11 0 2 2 ∷ []
+
+-- catches nothing at 8 or later: the ball that is thrown in at 7 does not bounce
+abbrev pub brief : Clone
+brief = record { name = codes "brief"; plans = throw_in 7 1 ∷ []; end = Some 8 }
+
+abbrev pub brief_trace : List (Entry Ball ℕ)
+brief_trace = caught 2 0 1 1 ∷ caught 5 0 2 1 ∷ caught 7 1 1 2 ∷ []
+
+abbrev pub all_three : List Clone
+all_three = base ∷ busy ∷ brief ∷ []
+
+abbrev pub same_catch : Entry Ball ℕ → Entry Ball ℕ → Bool
+same_catch e f = ((e.msg.time == f.msg.time && e.msg.number == f.msg.number) && e.msg.to == f.msg.to) && e.line == f.line
+
+-- one station's window by itself, from how it stands in a clone at a front
+abbrev pub window_of : Clone → ℕ → ℕ → ℕ → Config (Part ℕ Ball ℕ) Ball
+window_of c s front bound = local game s (log_at game c s front) (state_at game c s front) (due_at game c s front) bound (end_of game c)

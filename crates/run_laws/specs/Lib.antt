@@ -1,0 +1,9 @@
+pub mod Queue
+pub mod Machine
+pub mod Simulation
+pub mod World
+pub mod Window
+pub mod Runs
+pub mod Fronts
+pub mod Sharing
+pub mod Examples

@@ -1,0 +1,41 @@
+-- A machine that handles its pending messages, least first, one time unit after the other.
+--
+-- Both worlds of this crate are such machines: the world of one clone, and one station by itself.
+use Rattle.std.specs.Prelude.{ℕ, zero, suc, List, [], ◌∷◌, ◌==◌, if◌then◌else◌}
+use Rattle.std.specs.declared.cmp.Ordering.{Ordering}
+use Rattle.run_laws.specs.Queue.{insert_all}
+
+-- where a machine stands, and its pending messages in their order
+pub record Config (X M : Type 0) : Type 0 where
+  pub at : X
+  pub pending : List M
+
+module _ {M : Type 0} (time : M → ℕ) where
+  -- how many of the messages have the time t
+  abbrev pub count_at : ℕ → List M → ℕ
+  count_at t [] = 0
+  count_at t (m ∷ q) = if time m == t then suc (count_at t q) else count_at t q
+
+module _ {X M : Type 0} (cmp : M → M → Ordering) (handle : X → M → X × List M) where
+  -- m was handled, and what it sent joins q
+  abbrev pub after : X → M → List M → Config X M
+  after x m q = let h = handle x m in record { at = h.0; pending = insert_all cmp h.1 q }
+
+  abbrev pub turn_on : X → List M → Config X M
+  turn_on x [] = record { at = x; pending = [] }
+  turn_on x (m ∷ q) = after x m q
+
+  -- one turn: the least pending message is handled
+  abbrev pub turn : Config X M → Config X M
+  turn c = turn_on c.at c.pending
+
+  abbrev pub turns : ℕ → Config X M → Config X M
+  turns zero c = c
+  turns (suc n) c = turns n (turn c)
+
+  -- the run to a bound: every message with a time below it is handled
+  --
+  -- What is sent has a later time, so the messages of a time are there when its turns begin.
+  unfoldable pub run_to : (M → ℕ) → Config X M → ℕ → Config X M
+  run_to time c zero = c
+  run_to time c (suc t) = let d = run_to time c t in turns (count_at time t d.pending) d

@@ -1,0 +1,21 @@
+-- Pending messages of one clone: a list in the order of cmp, each element once.
+use Rattle.std.specs.Prelude.{List, [], ◌∷◌}
+use Rattle.std.specs.declared.cmp.Ordering.{Ordering}
+use Rattle.std.specs.declared.cmp.Ordering.TheVariants.{Less, Equal, Greater}
+
+-- x before y ∷ ys, in y's stead, or in the rest after y
+abbrev pub place : {X : Type 0} → Ordering → X → X → List X → List X → List X
+place Less x y ys rest = x ∷ y ∷ ys
+place Equal x y ys rest = y ∷ ys
+place Greater x y ys rest = y ∷ rest
+
+module _ {X : Type 0} (cmp : X → X → Ordering) where
+  -- adds x in its place; where it is there already, nothing changes
+  abbrev pub insert : X → List X → List X
+  insert x [] = x ∷ []
+  insert x (y ∷ ys) = place (cmp x y) x y ys (insert x ys)
+
+  -- adds each element in its place
+  abbrev pub insert_all : List X → List X → List X
+  insert_all [] q = q
+  insert_all (x ∷ xs) q = insert_all xs (insert x q)

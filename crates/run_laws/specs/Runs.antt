@@ -1,0 +1,42 @@
+-- The run of a clone, and its parts: trace, logs, states, and the messages that are due.
+use Rattle.std.specs.Prelude.{ℕ, List, min, unwrap_or, nat_lt}
+use Rattle.std.specs.List.{filter}
+use Rattle.sim_base.specs.Clones.{Clone}
+use Rattle.sim_base.specs.declared.decision.Planned.{Planned}
+use Rattle.sim_base.specs.declared.entry.Entry.{Entry}
+use Rattle.run_laws.specs.Machine.{Config, run_to}
+use Rattle.run_laws.specs.Simulation.{Simulation}
+use Rattle.run_laws.specs.World.{World, begin, world_step, to_it, log_of}
+
+module _ {S M N : Type 0} (sim : Simulation S M N) where
+  -- the run of a decision list to a front: every message below the front is handled
+  abbrev pub run : List Planned → ℕ → Config (World S M N) M
+  run plans front = run_to sim.order (world_step sim.to sim.handle) sim.time (begin sim plans) front
+
+  -- a clone's end, which is the horizon where it has none
+  abbrev pub end_of : Clone → ℕ
+  end_of c = unwrap_or c.end sim.horizon
+
+  -- a clone's run to a front: its end, where that comes first, is as far as it goes
+  abbrev pub run_of : Clone → ℕ → Config (World S M N) M
+  run_of c front = run c.plans (min front (end_of c))
+
+  -- all that a clone handles before the horizon
+  abbrev pub trace_of : Clone → List (Entry M N)
+  trace_of c = (run_of c sim.horizon).at.trace
+
+  -- what station s has handled before a front
+  abbrev pub log_at : Clone → ℕ → ℕ → List (Entry M N)
+  log_at c s front = log_of sim.to s (run_of c front).at.trace
+
+  -- the state of station s at a front
+  abbrev pub state_at : Clone → ℕ → ℕ → S
+  state_at c s front = (run_of c front).at.states s
+
+  -- the messages that are pending at a front and come before the clone's end
+  abbrev pub all_due : Clone → ℕ → List M
+  all_due c front = filter (λ m. nat_lt (sim.time m) (end_of c)) (run_of c front).pending
+
+  -- those of them that are for station s
+  abbrev pub due_at : Clone → ℕ → ℕ → List M
+  due_at c s front = to_it sim.to s (all_due c front)

@@ -1,0 +1,36 @@
+-- One station by itself in a window.
+use Rattle.std.specs.Prelude.{ℕ, List, [], ◌∷◌, ◌++◌, ◌==◌, not, min}
+use Rattle.std.specs.List.{filter}
+use Rattle.sim_base.specs.declared.entry.Entry.{Entry}
+use Rattle.run_laws.specs.Machine.{Config, run_to}
+use Rattle.run_laws.specs.Simulation.{Simulation, Handled}
+use Rattle.run_laws.specs.World.{to_it}
+
+-- a station: its state, its log, and what it has laid aside for other stations
+pub record Part (S M N : Type 0) : Type 0 where
+  pub state : S
+  pub log : List (Entry M N)
+  pub aside : List M
+
+module _ {M : Type 0} (to : M → ℕ) where
+  -- the messages to other stations than s
+  abbrev pub to_others : ℕ → List M → List M
+  to_others s ms = filter (λ m. not (to m == s)) ms
+
+module _ {S M N : Type 0} (to : M → ℕ) (handle : ℕ → S → M → Handled S M N) where
+  -- station s handles a message: what it sends to itself becomes pending, and the rest is laid aside
+  abbrev pub part_step : ℕ → Part S M N → M → Part S M N × List M
+  part_step s p m =
+      let h = handle s p.state m in
+      (record { state = h.state; log = p.log ++ record { msg = m; line = h.line } ∷ []; aside = p.aside ++ to_others to s h.sends }, to_it to s h.sends)
+
+module _ {S M N : Type 0} where
+  -- a station before its window
+  abbrev pub alone_at : List (Entry M N) → S → List M → Config (Part S M N) M
+  alone_at log state pending = record { at = record { state = state; log = log; aside = [] }; pending = pending }
+
+module _ {S M N : Type 0} (sim : Simulation S M N) where
+  -- one station's window, from its log, state and pending messages: it handles, least first,
+  -- the messages below the bound and below the end of its clone
+  abbrev pub local : ℕ → List (Entry M N) → S → List M → ℕ → ℕ → Config (Part S M N) M
+  local s log state pending bound end = run_to sim.order (part_step sim.to sim.handle s) sim.time (alone_at log state pending) (min bound end)

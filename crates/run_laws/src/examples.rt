@@ -1,0 +1,45 @@
+//! A small simulation, computed by the checker from the definitions of a run alone.
+//!
+//! It stands in `specs/Examples.antt`. Each function's contract is a theorem; there is nothing to run.
+ghost use Rattle.std.specs.Prelude.{◌≡◌, [], ◌∷◌};
+ghost use Rattle.sim_base.specs.Clones.{base};
+ghost use Rattle.run_laws.specs.Runs.{trace_of, log_at, due_at};
+ghost use Rattle.run_laws.specs.Fronts.{AreFronts};
+ghost use Rattle.run_laws.specs.Sharing.{copies, handled, alone, IsBeyond};
+ghost use Rattle.run_laws.specs.Examples.{game, base_trace, busy, busy_trace, brief, brief_trace, all_three, same_catch, window_of, caught, ball};
+
+/// A run handles messages by time, and those of one time in their order; a clone's end stops it.
+pub fn traces()
+    ensures plain { trace_of game base ≡ base_trace }
+    ensures decided { trace_of game busy ≡ busy_trace }
+    ensures ended { trace_of game brief ≡ brief_trace }
+{}
+
+/// The next fronts of one clone, of all three, and of one that ends.
+pub fn fronts()
+    ensures plain { AreFronts game (base ∷ []) 0 (5 ∷ 8 ∷ 11 ∷ 12 ∷ []) }
+    ensures all { AreFronts game all_three 0 (5 ∷ 8 ∷ 11 ∷ 12 ∷ []) }
+    ensures ended { AreFronts game (brief ∷ []) 0 (5 ∷ 8 ∷ 12 ∷ []) }
+{}
+
+/// One station's window from 5 to 8: its log grows, and what it sent to the other is laid aside.
+pub fn windows()
+    ensures log { (window_of busy 1 5 8).at.log ≡ caught 2 0 1 1 ∷ caught 5 2 1 2 ∷ caught 6 1 1 3 ∷ caught 6 12 1 4 ∷ caught 7 11 1 5 ∷ [] }
+    ensures nothing_aside { (window_of busy 1 5 8).at.aside ≡ [] }
+    ensures aside { (window_of busy 2 5 8).at.aside ≡ ball 8 0 1 ∷ [] }
+    ensures ended { (window_of brief 1 7 12).at.log ≡ caught 2 0 1 1 ∷ caught 7 1 1 2 ∷ [] }
+    ensures due { due_at game busy 1 5 ≡ ball 5 2 1 ∷ ball 6 1 1 ∷ [] }
+    ensures due_before_end { due_at game brief 1 7 ≡ ball 7 1 1 ∷ [] }
+{}
+
+/// What the three clones have in common at each station.
+pub fn sharing()
+    ensures copies_of_1 { copies game same_catch all_three 1 12 ≡ 3 }
+    ensures handled_of_1 { handled game same_catch all_three 1 12 ≡ 8 }
+    ensures alone_of_1 { alone game all_three 1 12 ≡ 10 }
+    ensures copies_of_2 { copies game same_catch all_three 2 12 ≡ 2 }
+    ensures handled_of_2 { handled game same_catch all_three 2 12 ≡ 2 }
+    ensures alone_of_2 { alone game all_three 2 12 ≡ 5 }
+    ensures beyond { IsBeyond game 1 12 busy }
+    ensures within { ¬ (IsBeyond game 1 12 base) }
+{}

@@ -1,0 +1,7 @@
+pub mod OrderLaws
+pub mod Derived
+pub mod NameBytes
+pub mod Inserting
+pub mod Cutting
+pub mod Room
+pub mod Distinct

@@ -1,0 +1,69 @@
+-- The order of messages is total.
+use Rattle.std.proofs.Common.{◌≡◌, ℕ, refl, Ordering, nat_cmp}
+use Rattle.std.specs.Ordering.{ordering_then}
+use Rattle.std.specs.Cmp.{IsTotalOrder, nat_cmp_total}
+use Rattle.std.proofs.lemmas.Cmp.{on_total, then_total}
+use Rattle.sim_base.specs.declared.message.Key.{Key}
+use Rattle.sim_base.specs.declared.message.Msg.{Msg}
+use Rattle.sim_base.specs.declared.message.Payload.{Payload}
+use Rattle.sim_base.specs.declared.message.Payload.TheVariants.{Tick, Job, Done, Set}
+use Rattle.sim_base.specs.Order.{key_cmp, payload_cmp, payload_index, param_index, msg_cmp}
+
+pub key_total : IsTotalOrder key_cmp
+key_total = then_total (on_total (λ (k : Key). k.time) nat_cmp_total) (then_total (on_total (λ (k : Key). k.sender) nat_cmp_total) (on_total (λ (k : Key). k.number) nat_cmp_total))
+
+abbrev first_of : Payload → ℕ
+first_of Tick = 0
+first_of (Job j) = j.source
+first_of (Done j) = j.source
+first_of (Set c) = param_index c.param
+
+abbrev second_of : Payload → ℕ
+second_of Tick = 0
+second_of (Job j) = j.count
+second_of (Done j) = j.count
+second_of (Set c) = c.a
+
+abbrev third_of : Payload → ℕ
+third_of Tick = 0
+third_of (Job j) = j.born
+third_of (Done j) = j.born
+third_of (Set c) = c.b
+
+abbrev by_numbers : Payload → Payload → Ordering
+by_numbers p q =
+    ordering_then (nat_cmp (payload_index p) (payload_index q))
+    (ordering_then (nat_cmp (first_of p) (first_of q)) (ordering_then (nat_cmp (second_of p) (second_of q)) (nat_cmp (third_of p) (third_of q))))
+
+by_numbers_total : IsTotalOrder by_numbers
+by_numbers_total =
+    then_total (on_total payload_index nat_cmp_total)
+    (then_total (on_total first_of nat_cmp_total) (then_total (on_total second_of nat_cmp_total) (on_total third_of nat_cmp_total)))
+
+same_order : (p q : Payload) → by_numbers p q ≡ payload_cmp p q
+same_order Tick Tick = refl
+same_order Tick (Job b) = refl
+same_order Tick (Done b) = refl
+same_order Tick (Set b) = refl
+same_order (Job a) Tick = refl
+same_order (Job a) (Job b) = refl
+same_order (Job a) (Done b) = refl
+same_order (Job a) (Set b) = refl
+same_order (Done a) Tick = refl
+same_order (Done a) (Job b) = refl
+same_order (Done a) (Done b) = refl
+same_order (Done a) (Set b) = refl
+same_order (Set a) Tick = refl
+same_order (Set a) (Job b) = refl
+same_order (Set a) (Done b) = refl
+same_order (Set a) (Set b) = refl
+
+pub payload_total : IsTotalOrder payload_cmp
+payload_total = record {
+  antisymm = λ p q. rw (← same_order p q, ← same_order q p) (by_numbers_total.antisymm p q);
+  trans = λ p q r. rw (← same_order p q, ← same_order q r, ← same_order p r) (by_numbers_total.trans p q r);
+  congr = λ p q r. rw (← same_order p q, ← same_order p r, ← same_order q r) (by_numbers_total.congr p q r);
+}
+
+pub msg_total : IsTotalOrder msg_cmp
+msg_total = then_total (on_total (λ (m : Msg). m.key) key_total) (then_total (on_total (λ (m : Msg). m.to) nat_cmp_total) (on_total (λ (m : Msg). m.payload) payload_total))

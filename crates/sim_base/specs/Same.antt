@@ -1,0 +1,18 @@
+-- Whether two entries of a log are equal, a job's time of birth among them.
+use Rattle.std.specs.Prelude.{Bool, false, ◌&&◌, ◌==◌}
+use Rattle.std.specs.Ordering.{is_eq}
+use Rattle.sim_base.specs.Order.{msg_cmp}
+use Rattle.sim_base.specs.declared.message.Msg.{Msg}
+use Rattle.sim_base.specs.declared.entry.Entry.{Entry}
+use Rattle.sim_base.specs.declared.entry.Line.{Line}
+use Rattle.sim_base.specs.declared.entry.Line.TheVariants.{Source, Server, Passed, Sink}
+
+abbrev pub same_line : Line → Line → Bool
+same_line (Source sent) (Source sent') = sent == sent'
+same_line (Server busy wait done lost) (Server busy' wait' done' lost') = (busy == busy' && wait == wait') && (done == done' && lost == lost')
+same_line (Passed passed) (Passed passed') = passed == passed'
+same_line (Sink got stay) (Sink got' stay') = got == got' && stay == stay'
+same_line _ _ = false
+
+abbrev pub same_entry : Entry Msg Line → Entry Msg Line → Bool
+same_entry e f = is_eq (msg_cmp e.msg f.msg) && same_line e.line f.line

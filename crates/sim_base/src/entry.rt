@@ -1,0 +1,34 @@
+//! Entries of a log.
+use crate::message::Msg;
+
+/// The counts of a station after it has handled a message.
+#[derive(Clone, Copy, Debug, PartialEq, Eq)]
+pub enum Line {
+    /// A source: jobs sent.
+    Source {
+        sent: u64,
+    },
+    /// A server: jobs in service, jobs that wait, jobs done, jobs lost for want of room.
+    Server {
+        busy: u64,
+        wait: u64,
+        done: u64,
+        lost: u64,
+    },
+    /// A delay or a router: jobs passed on.
+    Passed {
+        passed: u64,
+    },
+    /// A sink: jobs that came, and the sum of their times in the network.
+    Sink {
+        got: u64,
+        stay: u64,
+    },
+}
+
+/// One element of a log: a message that was handled, and the counts after it.
+#[derive(Clone, Copy, Debug, PartialEq, Eq)]
+pub struct Entry<M = Msg, N = Line> {
+    pub msg: M,
+    pub line: N,
+}

@@ -1,0 +1,80 @@
+//! Messages and their order.
+ghost use Rattle.std.specs.Prelude.{◌≡◌};
+ghost use Rattle.sim_base.specs.Order.{msg_cmp};
+
+use std::cmp::Ordering;
+
+/// What orders messages: the time, then the sender, then the sender's running count.
+///
+/// The sender is a station's number from 1, or 0 for the analyst.
+#[derive(Clone, Copy, Debug, Default, PartialEq, Eq, PartialOrd, Ord)]
+pub struct Key {
+    pub time: u64,
+    pub sender: u32,
+    pub number: u64,
+}
+
+/// A job: the station of its source, its count among that source's jobs, from 0, and when it was made.
+#[derive(Clone, Copy, Debug, Default, PartialEq, Eq, PartialOrd, Ord)]
+pub struct Job {
+    pub source: u32,
+    pub count: u64,
+    pub born: u64,
+}
+
+/// A parameter of a station that a decision may change.
+#[derive(Clone, Copy, Debug, Default, PartialEq, Eq, PartialOrd, Ord)]
+pub enum Param {
+    /// A source's time between jobs, a range.
+    #[default]
+    Every,
+    /// A server's time of service, a range.
+    Service,
+    /// A delay's time, a range.
+    Hold,
+    /// How many servers serve side by side.
+    Servers,
+    /// How many jobs may wait.
+    Room,
+    /// The weight of one link of a router.
+    Weight,
+}
+
+/// New values of a parameter; where it takes one value, `b` is 0.
+#[derive(Clone, Copy, Debug, Default, PartialEq, Eq, PartialOrd, Ord)]
+pub struct Change {
+    pub param: Param,
+    pub a: u64,
+    pub b: u64,
+}
+
+/// What a message tells its receiver.
+#[derive(Clone, Copy, Debug, Default, PartialEq, Eq, PartialOrd, Ord)]
+pub enum Payload {
+    /// A source is to make its next job.
+    #[default]
+    Tick,
+    /// A job arrives.
+    Job(Job),
+    /// The service of a job ends.
+    Done(Job),
+    /// A decision changes a parameter.
+    Set(Change),
+}
+
+/// A message: its place in the order, the station that receives it, and what it tells.
+///
+/// Messages are ordered by key; the receiver and the payload only tell equal keys apart.
+#[derive(Clone, Copy, Debug, Default, PartialEq, Eq, PartialOrd, Ord)]
+pub struct Msg {
+    pub key: Key,
+    pub to: u32,
+    pub payload: Payload,
+}
+
+/// Which of two messages comes first: the order by which every station handles its messages.
+pub fn compare(a: &Msg, b: &Msg) -> Ordering
+    ensures { result ≡ msg_cmp a.now b.now }
+{
+    a.cmp(b)
+}

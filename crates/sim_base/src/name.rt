@@ -1,0 +1,96 @@
+//! Names.
+ghost use Rattle.std.specs.Prelude.{◌≡◌, ℕ, ◌<◌, ◌≤◌, List, length, take, IsTrue, MatchOption, Bool, true, false};
+ghost use Rattle.std.specs.List.{list_all};
+ghost use Rattle.sim_base.specs.Names.{is_name, is_lower, is_name_byte};
+
+use std::marker::Model;
+use std::str;
+
+/// 1 to 16 bytes of `a-z`, `0-9` and `_`, the first of `a-z`.
+#[derive(Clone, Copy, Debug, PartialEq, Eq)]
+pub struct Name {
+    bytes: [u8; 16],
+    len: usize,
+}
+
+impl Model for Name {
+    ghost use Rattle.std.specs.Prelude.{◌≡◌, ℕ, ◌-◌, ◌≤◌, ◌++◌, List, length, take, replicate};
+    ghost use Rattle.sim_base.specs.Padding.{IsPadded, padded_back};
+
+    ghost Value = { List ℕ };
+
+    ghost view = { λ n. take n.len n.bytes };
+
+    ghost invariant = { λ n. IsPadded n.bytes n.len };
+
+    ghost inverse = { λ xs. record { bytes = xs ++ replicate (16 - length xs) 0; len = length xs } };
+
+    ghost inverse_ok = { λ n h i. record {
+      bytes = (padded_back n.bytes n.len h).0 i;
+      len = (padded_back n.bytes n.len h).1 i;
+    } };
+}
+
+fn is_lower_byte(byte: u8) -> bool
+    ensures { result ≡ is_lower byte }
+{
+    b'a' <= byte && byte <= b'z'
+}
+
+fn may_follow(byte: u8) -> bool
+    ensures { result ≡ is_name_byte byte }
+{
+    is_lower_byte(byte) || (b'0' <= byte && byte <= b'9') || byte == b'_'
+}
+
+/// Whether the bytes are a name.
+pub fn are_name(text: &[u8]) -> bool
+    ensures { result ≡ is_name text.now }
+{
+    match text {
+        [] => false,
+        [first, rest @ ..] => is_lower_byte(*first) && all_may_follow(rest) && rest.len() <= 15,
+    }
+}
+
+fn all_may_follow(rest: &[u8]) -> bool
+    ensures { result ≡ list_all is_name_byte rest.now }
+{
+    rest.iter().all(|b| may_follow(*b))
+}
+
+impl Name {
+    /// The name that the bytes are.
+    pub fn read(text: &[u8]) -> Option<Name>
+        ensures { MatchOption result (is_name text.now ≡ false) (λ n. (n ≡ text.now) × (is_name text.now ≡ true)) }
+    {
+        if !are_name(text) {
+            return None;
+        }
+        let mut bytes = [0u8; 16];
+        bytes[..text.len()].copy_from_slice(text);
+        Some(Name {
+            bytes,
+            len: text.len(),
+        })
+    }
+
+    /// Its bytes.
+    pub fn as_bytes(&self) -> &[u8]
+        ensures value { result.now ≡ self.now }
+        ensures named { is_name result.now ≡ true }
+    {
+        &self.bytes[..self.len]
+    }
+
+    /// Its text.
+    pub fn text(&self) -> &str
+        ensures value { result.now ≡ self.now }
+        ensures named { is_name result.now ≡ true }
+    {
+        match str::from_utf8(self.as_bytes()) {
+            Ok(text) => text,
+            Err(_) => unreachable!(),
+        }
+    }
+}

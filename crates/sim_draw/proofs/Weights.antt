@@ -1,0 +1,35 @@
+-- Sums of weights.
+use Rattle.std.proofs.Common.{◌≡◌, ℕ, suc, ◌+◌, ◌-◌, ◌<◌, ◌≤◌, Bool, true, false, if◌then◌else◌, nat_lt, ltb-true, List, [], ◌∷◌, length, refl, arith}
+use Rattle.std.specs.Prelude.{sum, take}
+use Rattle.std.proofs.lemmas.Bool.{ltb-false}
+use Rattle.std.proofs.lemmas.List.Sums.{sum_by-cons}
+use Rattle.std.specs.List.{AllByRecursion}
+use Rattle.sim_draw.specs.Drawing.{index_of, IsFirstAbove}
+
+pub heavy_sum : (ws : List ℕ) → 1 ≤ length ws → AllByRecursion (λ w. 1 ≤ w) ws → 0 < sum ws
+heavy_sum [] some heavy = absurd (omega arith)
+heavy_sum (w ∷ ws) some heavy = let one : 1 ≤ w = heavy.0 in omega (arith, sum_by-cons (λ (x : ℕ). x) w ws)
+
+module _ (w : ℕ) (ws : List ℕ) (x : ℕ) where
+  here_first : x < w → IsFirstAbove (w ∷ ws) x 0
+  here_first below = record { above = omega (arith, sum_by-cons (λ (y : ℕ). y) w []); first = omega arith }
+
+  later_first : (k : ℕ) → w ≤ x → IsFirstAbove ws (x - w) k → IsFirstAbove (w ∷ ws) x (1 + k)
+  later_first k reached rest =
+      let more : (1 + k) + 1 ≡ suc (k + 1) = omega arith in
+      let same : 1 + k ≡ suc k = omega arith in
+      record {
+        above = rw more (omega (arith, rest.above, sum_by-cons (λ (y : ℕ). y) w (take (k + 1) ws)));
+        first = rw same (omega (arith, rest.first, sum_by-cons (λ (y : ℕ). y) w (take k ws)));
+      }
+
+-- the index that is found is the first whose running sum exceeds x
+pub index_of-first : (ws : List ℕ) (x : ℕ) → x < sum ws → IsFirstAbove ws x (index_of ws x)
+index_of-first [] x below = absurd (omega arith)
+index_of-first (w ∷ ws) x below = by (nat_lt x w) refl (index_of-first ws (x - w))
+  where
+    by : (b : Bool) → nat_lt x w ≡ b → (x - w < sum ws → IsFirstAbove ws (x - w) (index_of ws (x - w))) → IsFirstAbove (w ∷ ws) x (if b then 0 else 1 + index_of ws (x - w))
+    by true here rest = here_first w ws x (ltb-true x w here)
+    by false later rest =
+        let reached = ltb-false x w later in
+        later_first w ws x (index_of ws (x - w)) reached (rest (omega (arith, sum_by-cons (λ (y : ℕ). y) w ws)))

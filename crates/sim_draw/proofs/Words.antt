@@ -1,0 +1,20 @@
+-- A generator that goes on by one word.
+use Rattle.std.proofs.Common.{◌≡◌, ℕ, zero, suc, ◌+◌, refl, ap, add-one}
+use Rattle.rand_pcg.specs.Lcg.{Lcg, next, next_state, state_after, started, increment_of}
+use Rattle.rand_pcg.specs.Pcg.{multiplier_64}
+use Rattle.sim_draw.specs.Drawing.{Drawn, generator}
+
+state_after_next : (w m p n s : ℕ) → next_state w m p (state_after w m p n s) ≡ state_after w m p (suc n) s
+unfolding state_after
+state_after_next w m p zero s = refl
+state_after_next w m p (suc n) s = state_after_next w m p n (next_state w m p s)
+
+pub generator_next : (d : Drawn) → next 64 multiplier_64 (generator d) ≡ generator (record d { count = d.count + 1 })
+unfolding generator
+generator_next d =
+    let g = started 64 multiplier_64 d.seed (increment_of 64 d.stream) in
+    rw add-one (ap (λ (s : ℕ). let r : Lcg = record { state = s; increment = g.increment } in r) (state_after_next 64 multiplier_64 g.increment d.count g.state))
+
+pub generator_new : (seed stream : ℕ) → started 64 multiplier_64 seed (increment_of 64 stream) ≡ generator (record { seed = seed; stream = stream; count = 0 })
+unfolding generator state_after
+generator_new seed stream = refl

@@ -1,0 +1,142 @@
+//! Seeded draws.
+ghost use Rattle.std.specs.Prelude.{◌≡◌, ℕ, ◌+◌, ◌-◌, ◌%◌, ◌^◌, ◌<◌, ◌≤◌, List, length, sum};
+ghost use Rattle.std.specs.List.{AllByRecursion};
+ghost use Rattle.sim_draw.specs.Drawing.{Drawn, drawn_one, range_of, next_of, pick_of, index_of, drawn_by, IsFirstAbove};
+
+use rand_core::utils::NextWord;
+use rand_pcg::Lcg64Xsh32;
+use std::marker::Model;
+
+/// Draws from one stream of a seed.
+///
+/// The words are those of PCG32, as `rand_pcg` makes them. No call takes memory.
+#[derive(Drop)]
+pub struct Draws {
+    seed: u64,
+    stream: u64,
+    drawn: u64,
+    words: Lcg64Xsh32,
+}
+
+impl Model for Draws {
+    ghost use Rattle.std.specs.Prelude.{◌≡◌};
+    ghost use Rattle.sim_draw.specs.Drawing.{Drawn, generator};
+
+    ghost Value = { Drawn };
+
+    ghost view = { λ d. record { seed = d.seed; stream = d.stream; count = d.drawn } };
+
+    ghost invariant = { λ d. d.words ≡ generator (record { seed = d.seed; stream = d.stream; count = d.drawn }) };
+}
+
+impl Draws {
+    /// Nothing was drawn yet.
+    pub fn new(seed: u64, stream: u64) -> Draws
+        ensures { result ≡ record { seed = seed; stream = stream; count = 0 } }
+    {
+        Draws {
+            seed,
+            stream,
+            drawn: 0,
+            words: Lcg64Xsh32::new(seed, stream),
+        }
+    }
+
+    /// So many words were drawn; the generator leaps there.
+    pub fn at(seed: u64, stream: u64, drawn: u64) -> Draws
+        ensures { result ≡ record { seed = seed; stream = stream; count = drawn } }
+    {
+        let mut words = Lcg64Xsh32::new(seed, stream);
+        words.advance(drawn);
+        Draws {
+            seed,
+            stream,
+            drawn,
+            words,
+        }
+    }
+
+    /// How many words were drawn.
+    pub fn drawn(&self) -> u64
+        ensures { result ≡ self.now.count }
+    {
+        self.drawn
+    }
+
+    /// Draws of their own, of the same seed, stream and count.
+    pub fn copy(&self) -> Draws
+        ensures { result ≡ self.now }
+    {
+        Draws::at(self.seed, self.stream, self.drawn)
+    }
+
+    /// A number from `lo` to `hi`, by one word: `lo` and the word modulo the size of the range.
+    pub fn range(&mut self, lo: u64, hi: u64) -> u64
+        requires ordered { lo ≤ hi }
+        requires small { hi ≤ 1000000 }
+        requires room { self.old.count < 2 ^ 32 }
+        ensures value { result ≡ range_of lo hi self.old }
+        ensures drawn { self.new ≡ drawn_one self.old }
+        ensures least { lo ≤ result }
+        ensures greatest { result ≤ hi }
+    {
+        let word = self.word();
+        lo + u64::from(word) % (hi - lo + 1)
+    }
+
+    /// An index, by the weights: the first whose running sum exceeds one word modulo the sum.
+    ///
+    /// With one weight the answer is 0 and nothing is drawn.
+    pub fn pick(&mut self, weights: &[u32]) -> usize
+        requires some { 1 ≤ length weights.now }
+        requires few { length weights.now ≤ 16 }
+        requires heavy { AllByRecursion (λ w. 1 ≤ w) weights.now }
+        requires light { AllByRecursion (λ w. w ≤ 1000) weights.now }
+        requires room { self.old.count < 2 ^ 32 }
+        ensures value { result ≡ pick_of weights.now self.old }
+        ensures drawn { self.new ≡ drawn_by weights.now self.old }
+        ensures within { result < length weights.now }
+        ensures choice { 2 ≤ length weights.now → IsFirstAbove weights.now (next_of self.old % sum weights.now) result }
+    {
+        if weights.len() == 1 {
+            return 0;
+        }
+        let word = self.word();
+        index_above(weights, u64::from(word) % total(weights))
+    }
+
+    // One word.
+    fn word(&mut self) -> u32
+        requires { self.old.count < 2 ^ 32 }
+        ensures value { result ≡ next_of self.old }
+        ensures drawn { self.new ≡ drawn_one self.old }
+    {
+        let word = self.words.next_word();
+        self.drawn += 1;
+        word
+    }
+}
+
+fn total(weights: &[u32]) -> u64
+    requires few { length weights.now ≤ 16 }
+    requires light { AllByRecursion (λ w. w ≤ 1000) weights.now }
+    ensures { result ≡ sum weights.now }
+{
+    weights.iter().map(|w| u64::from(*w)).sum()
+}
+
+fn index_above(weights: &[u32], x: u64) -> usize
+    requires { x < sum weights.now }
+    ensures value { result ≡ index_of weights.now x }
+    ensures within { result < length weights.now }
+{
+    let mut left = x;
+    for (i, weight) in weights.iter().enumerate() {
+        let weight = u64::from(*weight);
+        if left < weight {
+            return i;
+        }
+        left -= weight;
+    }
+    0
+}

@@ -1,0 +1,62 @@
+-- Two sources of different classes before one desk: who waits is served by class, or as he came.
+use Rattle.std.specs.Prelude.{ℕ, List, [], ◌∷◌, ◌++◌, codes, Bool}
+use Rattle.sim_base.specs.declared.message.Msg.{Msg}
+use Rattle.sim_base.specs.declared.entry.Entry.{Entry}
+use Rattle.sim_base.specs.declared.entry.Line.{Line}
+use Rattle.net_model.specs.declared.station.Kind.TheVariants.{Source, Server, Sink}
+use Rattle.net_model.specs.Net.{Net}
+use Rattle.stations.specs.Examples.{at, tick, job, done, source, server, sink, link}
+
+abbrev pub low : ℕ
+low = 1
+
+abbrev pub high : ℕ
+high = 2
+
+abbrev pub desk : ℕ
+desk = 3
+
+abbrev pub out : ℕ
+out = 4
+
+abbrev pub two_classes : Bool → Net
+two_classes by_class = record {
+  format = 2;
+  lookahead = 2;
+  horizon = 20;
+  seed = 0;
+  limit = 16384;
+  sites =
+      record { name = codes "low"; kind = Source 3 3 2 2; stream = 1; links = link desk 2 ∷ [] }
+      ∷ record { name = codes "high"; kind = Source 7 7 1 1; stream = 2; links = link desk 2 ∷ [] }
+      ∷ record { name = codes "desk"; kind = Server 1 5 4 4 by_class; stream = 3; links = link out 2 ∷ [] }
+      ∷ record { name = codes "out"; kind = Sink; stream = 4; links = [] } ∷ [];
+}
+
+-- at 9 two jobs wait: one of class 2, which came first, and one of class 1
+abbrev pub until_nine : List (Entry Msg Line)
+until_nine =
+    at 3 low low 0 tick (source 1)
+    ∷ at 5 desk low 1 (job low 0 3) (server 1 0 0 0)
+    ∷ at 6 low low 2 tick (source 2)
+    ∷ at 7 high high 0 tick (source 1)
+    ∷ at 8 desk low 3 (job low 1 6) (server 1 1 0 0)
+    ∷ at 9 desk high 1 (job high 0 7) (server 1 2 0 0)
+    ∷ at 9 desk desk 0 (done low 0 3) (server 1 1 1 0)
+    ∷ at 11 out desk 1 (job low 0 3) (sink 1 8) ∷ []
+
+abbrev pub by_class_trace : List (Entry Msg Line)
+by_class_trace =
+    until_nine
+    ++ at 13 desk desk 2 (done high 0 7) (server 1 0 2 0)
+    ∷ at 15 out desk 3 (job high 0 7) (sink 2 16)
+    ∷ at 17 desk desk 4 (done low 1 6) (server 0 0 3 0)
+    ∷ at 19 out desk 5 (job low 1 6) (sink 3 29) ∷ []
+
+abbrev pub by_arrival_trace : List (Entry Msg Line)
+by_arrival_trace =
+    until_nine
+    ++ at 13 desk desk 2 (done low 1 6) (server 1 0 2 0)
+    ∷ at 15 out desk 3 (job low 1 6) (sink 2 17)
+    ∷ at 17 desk desk 4 (done high 0 7) (server 0 0 3 0)
+    ∷ at 19 out desk 5 (job high 0 7) (sink 3 29) ∷ []

@@ -1,0 +1,49 @@
+-- How a station handles a message.
+use Rattle.std.specs.Prelude.{ℕ, ◌+◌, [], length}
+use Rattle.sim_base.specs.declared.message.Msg.{Msg}
+use Rattle.sim_base.specs.declared.message.Payload.{Payload}
+use Rattle.sim_base.specs.declared.entry.Line.{Line}
+use Rattle.sim_base.specs.declared.entry.Line.TheVariants as line
+use Rattle.run_laws.specs.Simulation.{Handled}
+use Rattle.net_model.specs.Net.{Net, Site, site_of}
+use Rattle.stations.specs.declared.sender.Sender.{Sender}
+use Rattle.stations.specs.declared.kind_state.KindState.{KindState}
+use Rattle.stations.specs.declared.kind_state.KindState.TheVariants.{Source, Server, Delay, Router, Sink}
+use Rattle.stations.specs.Sending.{Outgoing, Reaction, reaction, reaction_as}
+use Rattle.stations.specs.Sources.{source_on, sink_on}
+use Rattle.stations.specs.Servers.{server_on}
+use Rattle.stations.specs.Passing.{delay_on, router_on}
+
+-- the state of a station: its sender, how many messages it has handled, and what its kind keeps
+pub record StationState : Type 0 where
+  pub sender : Sender
+  pub handled : ℕ
+  pub kind : KindState
+
+-- what a kind does not take changes nothing and sends nothing
+abbrev pub kind_on : Net → Site → ℕ → Payload → KindState → Outgoing → Reaction KindState
+kind_on net site now p (Source s) o = reaction_as Source (source_on site now p s o)
+kind_on net site now p (Server s) o = reaction_as Server (server_on net site now p s o)
+kind_on net site now p (Delay s) o = reaction_as Delay (delay_on site now p s o)
+kind_on net site now p (Router s) o = reaction_as Router (router_on site now p s o)
+kind_on net site now p (Sink s) o = reaction (Sink (sink_on now p s)) o
+
+-- the counts of a station, as its log shows them
+abbrev pub line_of : KindState → Line
+line_of (Source s) = line.Source s.sent
+line_of (Server s) = line.Server s.busy (length s.waiting) s.done s.lost
+line_of (Delay s) = line.Passed s.passed
+line_of (Router s) = line.Passed s.passed
+line_of (Sink s) = line.Sink s.got s.stay
+
+abbrev pub handled_as : ℕ → Reaction KindState → Handled StationState Msg Line
+handled_as count r = record {
+  state = record { sender = r.out.sender; handled = count; kind = r.kept };
+  sends = r.out.sends;
+  line = line_of r.kept;
+}
+
+-- a station handles a message
+unfoldable pub handle : Net → StationState → Msg → Handled StationState Msg Line
+handle net st m =
+    handled_as (st.handled + 1) (kind_on net (site_of net st.sender.station) m.key.time m.payload st.kind (record { sender = st.sender; sends = [] }))

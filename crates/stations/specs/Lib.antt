@@ -1,0 +1,9 @@
+pub mod Sending
+pub mod Changes
+pub mod Sources
+pub mod Servers
+pub mod Passing
+pub mod Handling
+pub mod Opening
+pub mod Runs
+pub mod Examples

@@ -1,0 +1,38 @@
+-- How a station opens.
+use Rattle.std.specs.Prelude.{ℕ, [], slice_get}
+use Rattle.sim_base.specs.declared.message.Msg.{Msg}
+use Rattle.run_laws.specs.Simulation.{Opening as OpeningOf}
+use Rattle.net_model.specs.declared.station.Kind.{Kind}
+use Rattle.net_model.specs.declared.station.Kind.TheVariants as kind
+use Rattle.net_model.specs.Net.{Net, Site, site_of}
+use Rattle.stations.specs.declared.kind_state.KindState.{KindState}
+use Rattle.stations.specs.declared.kind_state.KindState.TheVariants.{Source, Server, Delay, Router, Sink}
+use Rattle.stations.specs.Sending.{Outgoing, weights_of}
+use Rattle.stations.specs.Sources.{next_tick}
+use Rattle.stations.specs.Handling.{StationState}
+
+-- what a kind keeps before any message came
+abbrev pub opening_kind : Site → Kind → KindState
+opening_kind site (kind.Source lo hi jobs class) = Source (record { lo = lo; hi = hi; jobs = jobs; sent = 0 })
+opening_kind site (kind.Server servers room lo hi by_class) =
+    Server (record { servers = servers; room = room; lo = lo; hi = hi; busy = 0; waiting = []; done = 0; lost = 0 })
+opening_kind site (kind.Delay lo hi) = Delay (record { lo = lo; hi = hi; passed = 0 })
+opening_kind site (kind.Router turn) = Router (record { weights = record { items = weights_of site.links }; passed = 0 })
+opening_kind site kind.Sink = Sink (record { got = 0; stay = 0 })
+
+-- a source sends itself its first tick
+abbrev pub first_tick : KindState → Outgoing → Outgoing
+first_tick (Source s) o = next_tick 0 s o
+first_tick _ o = o
+
+abbrev pub opened : KindState → Outgoing → OpeningOf StationState Msg
+opened kept o = record { state = record { sender = o.sender; handled = 0; kind = kept }; first = slice_get o.sends 0 }
+
+-- a station opens: its state, and a source's first tick
+abbrev pub opening : ℕ → ℕ → Site → OpeningOf StationState Msg
+opening seed s site =
+    let kept = opening_kind site site.kind in
+    opened kept (first_tick kept (record { sender = record { station = s; next = 0; draws = record { seed = seed; stream = site.stream; count = 0 } }; sends = [] }))
+
+abbrev pub setup : Net → ℕ → OpeningOf StationState Msg
+setup net s = opening net.seed s (site_of net s)

@@ -1,0 +1,64 @@
+-- What a station sends.
+use Rattle.std.specs.Prelude.{ℕ, ◌+◌, List, [], ◌∷◌, ◌++◌, map, slice_get, Option, Some, None}
+use Rattle.sim_base.specs.declared.message.Msg.{Msg}
+use Rattle.sim_base.specs.declared.message.Job.{Job as JobOf}
+use Rattle.sim_base.specs.declared.message.Payload.{Payload}
+use Rattle.sim_base.specs.declared.message.Payload.TheVariants.{Job}
+use Rattle.sim_draw.specs.Drawing.{drawn_one, range_of, pick_of, drawn_by}
+use Rattle.net_model.specs.declared.station.Link.{Link}
+use Rattle.stations.specs.declared.sender.Sender.{Sender}
+
+-- a sender, and what it has sent since a message came, in order
+pub record Outgoing : Type 0 where
+  pub sender : Sender
+  pub sends : List Msg
+
+-- one message more goes out, with the sender's next number
+abbrev pub send : ℕ → ℕ → Payload → Outgoing → Outgoing
+send time to payload o = record {
+  sender = record o.sender { next = o.sender.next + 1 };
+  sends = o.sends ++ record { key = record { time = time; sender = o.sender.station; number = o.sender.next }; to = to; payload = payload } ∷ [];
+}
+
+-- one word was drawn
+abbrev pub draw : Outgoing → Outgoing
+draw o = record o { sender = record o.sender { draws = drawn_one o.sender.draws } }
+
+-- a message to the station itself, after a time drawn from lo to hi
+abbrev pub send_later : ℕ → ℕ → ℕ → Payload → Outgoing → Outgoing
+send_later now lo hi payload o = send (now + range_of lo hi o.sender.draws) o.sender.station payload (draw o)
+
+-- a job goes over a link
+abbrev pub send_over : Option Link → ℕ → JobOf → Outgoing → Outgoing
+send_over None time job o = o
+send_over (Some link) time job o = send (time + link.delay) link.to (Job job) o
+
+-- a link was picked by these weights
+abbrev pub picked : List ℕ → Outgoing → Outgoing
+picked weights o = record o { sender = record o.sender { draws = drawn_by weights o.sender.draws } }
+
+-- the link that is picked by these weights
+abbrev pub link_by : List Link → List ℕ → Outgoing → Option Link
+link_by links weights o = slice_get links (pick_of weights o.sender.draws)
+
+-- a job goes over a link that is picked by these weights
+abbrev pub route_by : List Link → List ℕ → ℕ → JobOf → Outgoing → Outgoing
+route_by links weights time job o = send_over (link_by links weights o) time job (picked weights o)
+
+abbrev pub weights_of : List Link → List ℕ
+weights_of links = map (λ (l : Link). l.weight) links
+
+-- a job goes over one of the links, by the weights of the model
+abbrev pub route : List Link → ℕ → JobOf → Outgoing → Outgoing
+route links time job o = route_by links (weights_of links) time job o
+
+-- what a message leaves: what the station keeps, and what went out
+pub record Reaction (S : Type 0) : Type 0 where
+  pub kept : S
+  pub out : Outgoing
+
+abbrev pub reaction : {S : Type 0} → S → Outgoing → Reaction S
+reaction kept out = record { kept = kept; out = out }
+
+abbrev pub reaction_as : {S T : Type 0} → (S → T) → Reaction S → Reaction T
+reaction_as f r = record { kept = f r.kept; out = r.out }

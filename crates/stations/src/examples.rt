@@ -1,0 +1,134 @@
+//! Worked examples, computed by the checker from the definitions of a run alone.
+//!
+//! The models and the traces that are expected stand in `specs/Examples/`, an entry of a log written
+//! as a line of a trace text reads. Each function's contract is a theorem; there is nothing to run.
+ghost use Rattle.std.specs.Prelude.{◌≡◌, [], ◌∷◌, true, false};
+ghost use Rattle.sim_base.specs.Clones.{base};
+ghost use Rattle.stations.specs.Runs.{trace_of, log_at, state_at, replay, window_of, copies, handled, alone, AreFronts, IsBeyond};
+ghost use Rattle.stations.specs.Examples.OneDesk.{one_desk, one_desk_trace, fast, fast_trace, set_at_start, first_set, brief, brief_trace, two_branches, short_logs, fast_desk, quick_desk, quick_desk_trace, gate, desk, out};
+ghost use Rattle.stations.specs.Examples.Draws.{drawn_gate, drawn_gate_trace};
+ghost use Rattle.stations.specs.Examples.FullRoom.{three_sources, no_room_trace, more_servers, more_servers_trace};
+ghost use Rattle.stations.specs.Examples.Routers.{fan_network, fan_trace};
+ghost use Rattle.stations.specs.Examples.Changes.{answers, server_changes, server_answers, delay_changes, delay_answers, weight_changes, weight_answers, turn_answers, IsIgnored};
+ghost use Rattle.stations.specs.Examples.{tick, job, done, set};
+ghost use Rattle.sim_base.specs.declared.message.Param.TheVariants.{Service};
+ghost use Rattle.stations.specs.Examples.Classes.{two_classes, by_class_trace, by_arrival_trace};
+
+/// A server serves one job at a time, and the next one waits.
+pub fn one_job_at_a_time()
+    ensures { trace_of one_desk base ≡ one_desk_trace }
+{}
+
+/// Faster service from a time on: the service that has begun then stays as it was.
+pub fn faster_branch()
+    ensures { trace_of one_desk fast ≡ fast_trace }
+{}
+
+/// Several messages of a station to itself, closer than the lookahead.
+pub fn several_self_messages()
+    ensures { trace_of quick_desk base ≡ quick_desk_trace }
+{}
+
+/// Times between jobs are drawn from a range.
+pub fn drawn_times()
+    ensures { trace_of drawn_gate base ≡ drawn_gate_trace }
+{}
+
+/// A decision at time 0 is handled before all else, and here changes nothing.
+pub fn set_at_the_start()
+    ensures { trace_of one_desk set_at_start ≡ first_set ∷ one_desk_trace }
+{}
+
+/// Three jobs arrive at one time at a server without a waiting line: two are lost.
+pub fn full_waiting_room()
+    ensures { trace_of (three_sources 0) base ≡ no_room_trace }
+{}
+
+/// Three jobs arrive at one time; when servers are added, those who wait are served.
+pub fn servers_are_added()
+    ensures { trace_of (three_sources 5) more_servers ≡ more_servers_trace }
+{}
+
+/// A router by turn, and a delay behind it.
+pub fn router_by_turn()
+    ensures { trace_of (fan_network true) base ≡ fan_trace }
+{}
+
+/// A router by weights, whose draws here pick the same links.
+pub fn router_by_weights()
+    ensures { trace_of (fan_network false) base ≡ fan_trace }
+{}
+
+/// A server takes jobs of a lesser class first.
+pub fn priority_classes()
+    ensures { trace_of (two_classes true) base ≡ by_class_trace }
+{}
+
+/// The same network with the waiting line served as the jobs came.
+pub fn classes_by_arrival()
+    ensures { trace_of (two_classes false) base ≡ by_arrival_trace }
+{}
+
+/// A clone handles nothing at its end or later.
+pub fn a_clone_that_ends()
+    ensures { trace_of one_desk brief ≡ brief_trace }
+{}
+
+/// Which changes stations take, and why they refuse the others.
+pub fn changes_that_stations_take()
+    ensures server { answers one_desk desk server_changes ≡ server_answers }
+    ensures delay { answers (fan_network true) 3 delay_changes ≡ delay_answers }
+    ensures by_weights { answers (fan_network false) 2 weight_changes ≡ weight_answers }
+    ensures by_turn { answers (fan_network true) 2 weight_changes ≡ turn_answers }
+{}
+
+/// Messages that a station's kind does not take change nothing but its count of messages.
+pub fn messages_that_stations_ignore()
+    ensures job_at_source { IsIgnored one_desk gate (job gate 0 3) }
+    ensures tick_at_server { IsIgnored one_desk desk tick }
+    ensures done_while_idle { IsIgnored one_desk desk (done gate 0 3) }
+    ensures refused_set { IsIgnored one_desk desk (set Service 5 4) }
+    ensures done_at_delay { IsIgnored (fan_network true) 3 (done gate 0 3) }
+    ensures done_at_router { IsIgnored (fan_network true) 2 (done gate 0 3) }
+    ensures set_at_sink { IsIgnored one_desk out (set Service 2 2) }
+{}
+
+/// A station by itself, window after window, comes to the logs and states of the run.
+pub fn windows_of_one_station()
+    ensures first_log { (window_of one_desk base desk 5 7).at.log ≡ log_at one_desk base desk 7 }
+    ensures first_state { (window_of one_desk base desk 5 7).at.state ≡ state_at one_desk base desk 7 }
+    ensures third_log { (window_of one_desk fast desk 10 13).at.log ≡ log_at one_desk fast desk 13 }
+    ensures ended_log { (window_of one_desk brief desk 7 10).at.log ≡ log_at one_desk brief desk 20 }
+{}
+
+/// The state of a station is the replay of its log.
+pub fn replayed_state()
+    ensures reached { state_at one_desk fast desk 20 ≡ fast_desk }
+    ensures replayed { replay one_desk desk (log_at one_desk fast desk 20) ≡ fast_desk }
+{}
+
+/// The desk's log has four entries: beyond a limit of three, and the gate's two are not.
+pub fn beyond_the_limit()
+    ensures desk { IsBeyond short_logs desk 20 base }
+    ensures gate { ¬ (IsBeyond short_logs gate 20 base) }
+{}
+
+/// The windows of the two branches: the same fronts for one of them and for both.
+pub fn fronts_of_two_branches()
+    ensures alone { AreFronts one_desk (base ∷ []) 0 (5 ∷ 7 ∷ 10 ∷ 13 ∷ 15 ∷ 17 ∷ 20 ∷ []) }
+    ensures both { AreFronts one_desk two_branches 0 (5 ∷ 7 ∷ 10 ∷ 13 ∷ 15 ∷ 17 ∷ 20 ∷ []) }
+    ensures quick { AreFronts quick_desk (base ∷ []) 0 (6 ∷ 11 ∷ 17 ∷ 30 ∷ []) }
+{}
+
+/// What the two branches have in common at the horizon: copies, messages handled once and alone.
+pub fn report_of_two_branches()
+    ensures gate_copies { copies one_desk two_branches gate 20 ≡ 1 }
+    ensures gate_handled { handled one_desk two_branches gate 20 ≡ 2 }
+    ensures gate_alone { alone one_desk two_branches gate 20 ≡ 4 }
+    ensures desk_copies { copies one_desk two_branches desk 20 ≡ 2 }
+    ensures desk_handled { handled one_desk two_branches desk 20 ≡ 8 }
+    ensures desk_alone { alone one_desk two_branches desk 20 ≡ 9 }
+    ensures out_copies { copies one_desk two_branches out 20 ≡ 2 }
+    ensures out_handled { handled one_desk two_branches out 20 ≡ 3 }
+    ensures out_alone { alone one_desk two_branches out 20 ≡ 4 }
+{}
