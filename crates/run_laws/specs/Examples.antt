@@ -1,6 +1,6 @@
 -- A small simulation, computed: two stations throw a ball to and fro, and each decision throws in one more,
 -- which bounces once where it falls. A station counts what it has caught.
-use Rattle.std.specs.Prelude.{ℕ, ◌+◌, ◌-◌, ◌==◌, nat_lt, if◌then◌else◌, List, [], ◌∷◌, Some, None, Bool, ◌&&◌, codes}
+use Rattle.std.specs.Prelude.{ℕ, ◌+◌, ◌-◌, ◌==◌, nat_lt, if◌then◌else◌, List, [], ◌∷◌, Some, None, Bool, ◌&&◌, codes, ⊤}
 use Rattle.std.specs.Ordering.{nat_cmp, ordering_then}
 use Rattle.std.specs.declared.cmp.Ordering.{Ordering}
 use Rattle.sim_base.specs.Clones.{Clone, base}
@@ -44,6 +44,10 @@ game = record {
   horizon = 12;
   limit = 2;
 }
+
+-- any state of any station is good
+abbrev pub AnyState : ℕ → ℕ → Type 0
+AnyState s caught = ⊤
 
 -- what was caught, and the count after it
 abbrev pub caught : ℕ → ℕ → ℕ → ℕ → Entry Ball ℕ

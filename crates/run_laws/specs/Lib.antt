@@ -2,8 +2,13 @@ pub mod Queue
 pub mod Machine
 pub mod Simulation
 pub mod World
+pub mod Handlers
 pub mod Window
 pub mod Runs
 pub mod Fronts
+pub mod Laws
 pub mod Sharing
+pub mod Prefixes
+pub mod Copies
+pub mod CopyLaws
 pub mod Examples

@@ -1,7 +1,8 @@
 -- A machine that handles its pending messages, least first, one time unit after the other.
 --
 -- Both worlds of this crate are such machines: the world of one clone, and one station by itself.
-use Rattle.std.specs.Prelude.{ℕ, zero, suc, List, [], ◌∷◌, ◌==◌, if◌then◌else◌}
+use Rattle.std.specs.Prelude.{◌≡◌, ℕ, zero, suc, ◌<◌, ◌≤◌, List, [], ◌∷◌, ◌==◌, if◌then◌else◌}
+use Rattle.std.specs.List.{AllByRecursion}
 use Rattle.std.specs.declared.cmp.Ordering.{Ordering}
 use Rattle.run_laws.specs.Queue.{insert_all}
 
@@ -39,3 +40,22 @@ module _ {X M : Type 0} (cmp : M → M → Ordering) (handle : X → M → X × 
   unfoldable pub run_to : (M → ℕ) → Config X M → ℕ → Config X M
   run_to time c zero = c
   run_to time c (suc t) = let d = run_to time c t in turns (count_at time t d.pending) d
+
+module _ {X M : Type 0} (cmp : M → M → Ordering) (time : M → ℕ) (handle : X → M → X × List M) (bound : ℕ) where
+  -- d handles its least message, which comes before the bound, and then stands as e
+  pub record Next (d e : Config X M) : Type 0 where
+    pub m : M
+    pub q : List M
+    pub pending : d.pending ≡ m ∷ q
+    pub early : time m < bound
+    pub is : e ≡ after cmp handle d.at m q
+
+  -- some turns, each of a message before the bound, lead from c to a machine that stands so
+  pub data Reach (c : Config X M) : Config X M → Type 0 where
+    stay : Reach c c
+    go : {d e : Config X M} → Reach c d → Next d e → Reach c e
+
+module _ {X M : Type 0} (time : M → ℕ) (bound : ℕ) where
+  -- nothing before the bound is pending
+  abbrev pub Done : Config X M → Type 0
+  Done c = AllByRecursion (λ m. bound ≤ time m) c.pending

@@ -1,5 +1,6 @@
 -- Pending messages of one clone: a list in the order of cmp, each element once.
-use Rattle.std.specs.Prelude.{List, [], ◌∷◌}
+use Rattle.std.specs.Prelude.{◌≡◌, ◌⊎◌, List, [], ◌∷◌, ⊤}
+use Rattle.std.specs.List.{AllByRecursion}
 use Rattle.std.specs.declared.cmp.Ordering.{Ordering}
 use Rattle.std.specs.declared.cmp.Ordering.TheVariants.{Less, Equal, Greater}
 
@@ -19,3 +20,13 @@ module _ {X : Type 0} (cmp : X → X → Ordering) where
   abbrev pub insert_all : List X → List X → List X
   insert_all [] q = q
   insert_all (x ∷ xs) q = insert_all xs (insert x q)
+
+  -- each element comes before all that follow it
+  abbrev pub Sorted : List X → Type 0
+  Sorted [] = ⊤
+  Sorted (x ∷ xs) = AllByRecursion (λ y. cmp x y ≡ Less) xs × Sorted xs
+
+-- x is an element of the list
+abbrev pub In : {X : Type 0} → X → List X → Type 0
+In x [] = ⊥
+In x (y ∷ ys) = (x ≡ y) ⊎ In x ys

@@ -1,5 +1,5 @@
 -- One station by itself in a window.
-use Rattle.std.specs.Prelude.{ℕ, List, [], ◌∷◌, ◌++◌, ◌==◌, not, min}
+use Rattle.std.specs.Prelude.{ℕ, List, [], ◌∷◌, ◌++◌, ◌==◌, not, min, nat_lt}
 use Rattle.std.specs.List.{filter}
 use Rattle.sim_base.specs.declared.entry.Entry.{Entry}
 use Rattle.run_laws.specs.Machine.{Config, run_to}
@@ -16,6 +16,11 @@ module _ {M : Type 0} (to : M → ℕ) where
   -- the messages to other stations than s
   abbrev pub to_others : ℕ → List M → List M
   to_others s ms = filter (λ m. not (to m == s)) ms
+
+module _ {M : Type 0} (time : M → ℕ) where
+  -- the messages before a time
+  abbrev pub earlier_than : ℕ → List M → List M
+  earlier_than t ms = filter (λ m. nat_lt (time m) t) ms
 
 module _ {S M N : Type 0} (to : M → ℕ) (handle : ℕ → S → M → Handled S M N) where
   -- station s handles a message: what it sends to itself becomes pending, and the rest is laid aside

@@ -3,10 +3,11 @@
 //! It stands in `specs/Examples.antt`. Each function's contract is a theorem; there is nothing to run.
 ghost use Rattle.std.specs.Prelude.{◌≡◌, [], ◌∷◌};
 ghost use Rattle.sim_base.specs.Clones.{base};
-ghost use Rattle.run_laws.specs.Runs.{trace_of, log_at, due_at};
+ghost use Rattle.run_laws.specs.Runs.{trace_of, due_at};
 ghost use Rattle.run_laws.specs.Fronts.{AreFronts};
 ghost use Rattle.run_laws.specs.Sharing.{copies, handled, alone, IsBeyond};
-ghost use Rattle.run_laws.specs.Examples.{game, base_trace, busy, busy_trace, brief, brief_trace, all_three, same_catch, window_of, caught, ball};
+ghost use Rattle.run_laws.specs.Handlers.{HandlesLawfully, SendsToStations};
+ghost use Rattle.run_laws.specs.Examples.{game, AnyState, base_trace, busy, busy_trace, brief, brief_trace, all_three, same_catch, window_of, caught, ball};
 
 /// A run handles messages by time, and those of one time in their order; a clone's end stops it.
 pub fn traces()
@@ -42,4 +43,10 @@ pub fn sharing()
     ensures alone_of_2 { alone game all_three 2 12 ≡ 5 }
     ensures beyond { IsBeyond game 1 12 busy }
     ensures within { ¬ (IsBeyond game 1 12 base) }
+{}
+
+/// The game meets what the laws ask of a simulation.
+pub fn lawful()
+    ensures handles { HandlesLawfully game AnyState }
+    ensures sends { SendsToStations game AnyState }
 {}

@@ -1,4 +1,5 @@
 pub mod OrderLaws
+pub mod OrderEqual
 pub mod Derived
 pub mod NameBytes
 pub mod Inserting

@@ -1,0 +1,96 @@
+-- The small simulation of the examples meets what the laws ask.
+use Rattle.std.proofs.Common.{◌≡◌, ℕ, ◌+◌, ◌-◌, ◌<◌, ◌≤◌, [], ◌∷◌, ◌⊎◌, nat_lt, inl, inr, Bool, true, false, cond, ◌==◌, Some, None, refl, sym, ap, ◌∙◌, subst, arith}
+use Rattle.std.specs.declared.cmp.Ordering.{Ordering}
+use Rattle.std.specs.declared.cmp.Ordering.TheVariants.{Less, Equal, Greater}
+use Rattle.std.specs.List.{AllByRecursion}
+use Rattle.std.specs.Cmp.{ranks, nat_cmp_total}
+use Rattle.std.specs.Ordering.{MatchOrdering, nat_cmp, ordering_then}
+use Rattle.std.proofs.lemmas.Bool.{cases_eq, ne_eqb}
+use Rattle.std.proofs.lemmas.Cmp.{on_total, then_total}
+use Rattle.run_laws.specs.Queue.{In}
+use Rattle.run_laws.specs.Handlers.{IsTimed, HandlesLawfully, SendsToStations}
+use Rattle.run_laws.specs.Examples.{Ball, ball, ball_cmp, thrown_back, game, AnyState}
+use Rattle.run_laws.proofs.Rising.{nat_same, both_equal}
+
+-- a ball is its three numbers
+ball_parts : (a b c d e f : ℕ) → a ≡ d → b ≡ e → c ≡ f → ball a b c ≡ ball d e f
+ball_parts a b c d e f p q r = cc
+
+-- balls that tie are one
+ball_same : (x y : Ball) → ball_cmp x y ≡ Equal → x ≡ y
+ball_same x y e =
+    let h = both_equal (nat_cmp x.time y.time) (ordering_then (nat_cmp x.number y.number) (nat_cmp x.to y.to)) e in
+    let k = both_equal (nat_cmp x.number y.number) (nat_cmp x.to y.to) h.1 in
+    ball_parts x.time x.number x.to y.time y.number y.to (nat_same x.time y.time h.0) (nat_same x.number y.number k.0) (nat_same x.to y.to k.1)
+
+-- what comes first by a number and then by others has not the greater number
+not_later : (x y : ℕ) (s : Ordering) → ordering_then (nat_cmp x y) s ≡ Less → x ≤ y
+not_later x y s e = by (nat_cmp x y) (ranks x y) e
+  where
+    by : (r : Ordering) → MatchOrdering r (x < y) (x ≡ y) (y < x) → ordering_then r s ≡ Less → x ≤ y
+    by Less h e = omega (arith, h)
+    by Equal h e = omega (arith, h)
+    by Greater h e = let n : ⊥ = cc in absurd n
+
+-- balls are ordered by time first
+ball_order : IsTimed ball_cmp (λ b. b.time)
+ball_order = record {
+  order = record {
+    total = then_total (on_total (λ (b : Ball). b.time) nat_cmp_total) (then_total (on_total (λ (b : Ball). b.number) nat_cmp_total) (on_total (λ (b : Ball). b.to) nat_cmp_total));
+    same = ball_same;
+  };
+  timed = λ x y e. not_later x.time y.time (ordering_then (nat_cmp x.number y.number) (nat_cmp x.to y.to)) e;
+}
+
+-- one of two balls, if any
+one_of_two : (x y z : Ball) (b c : Bool) → In z (cond b (x ∷ []) (cond c (y ∷ []) [])) → (z ≡ x) ⊎ (z ≡ y)
+one_of_two x y z true c (inl e) = inl e
+one_of_two x y z true c (inr n) = absurd n
+one_of_two x y z false true (inl e) = inr e
+one_of_two x y z false true (inr n) = absurd n
+one_of_two x y z false false i = absurd i
+
+-- what is sent is the ball, thrown back, or its bounce
+thrown : (s : ℕ) (m z : Ball) → In z (thrown_back s m) → (z ≡ ball (m.time + 3) 0 (3 - s)) ⊎ (z ≡ ball (m.time + 1) (m.number + 10) s)
+thrown s m z i = one_of_two (ball (m.time + 3) 0 (3 - s)) (ball (m.time + 1) (m.number + 10) s) z (m.number == 0) (nat_lt m.number 10) i
+
+-- what is sent comes later
+all_later : (t : ℕ) (x y : Ball) (b c : Bool) → t < x.time → t < y.time → AllByRecursion (λ z. t < z.time) (cond b (x ∷ []) (cond c (y ∷ []) []))
+all_later t x y true c h k = (h, tt)
+all_later t x y false true h k = (k, tt)
+all_later t x y false false h k = tt
+
+-- balls are thrown back later, and to the other station by the lookahead
+pub game_is_lawful : HandlesLawfully game AnyState
+game_is_lawful = record {
+  order = ball_order;
+  opens = λ s. tt;
+  keeps = λ s st m g. tt;
+  later = λ s st m g. all_later m.time (ball (m.time + 3) 0 (3 - s)) (ball (m.time + 1) (m.number + 10) s) (m.number == 0) (nat_lt m.number 10) (omega arith) (omega arith);
+  far = λ s st m z g i n. elim (thrown s m z i) [
+    | inl e ↦ let t = ap (λ b. b.time) e in omega (arith, t)
+    | inr e ↦ absurd (n (ap (λ b. b.to) e))
+  ];
+}
+
+-- the one ball that is there at the start
+first_ball : (s : ℕ) (m : Ball) (b : Bool) → (s == 1) ≡ b → cond b (Some (ball 2 0 1)) None ≡ Some m → (s ≡ 1) × (m ≡ ball 2 0 1)
+first_ball s m true e f = elim (cases_eq s 1) [
+  | inl is ↦ (is, cc)
+  | inr n ↦ let h = sym (ne_eqb s 1 n) ∙ e in let k : ⊥ = cc in absurd k
+]
+first_ball s m false e f = let h : ⊥ = cc in absurd h
+
+-- and each is for a station
+pub game_sends_to_stations : SendsToStations game AnyState
+game_sends_to_stations = record {
+  first = λ s m is e. let h = first_ball s m (s == 1) refl e in ap (λ b. b.to) h.1 ∙ sym h.0;
+  decided = λ k p. refl;
+  sends = λ s st m z is g i.
+      let above : 0 < s = is.0 in
+      let most : s ≤ 2 = is.1 in
+      elim (thrown s m z i) [
+        | inl e ↦ let t = ap (λ b. b.to) e in (omega (arith, t, above, most), omega (arith, t, above, most))
+        | inr e ↦ let t = ap (λ b. b.to) e in (omega (arith, t, above, most), omega (arith, t, above, most))
+      ];
+}

@@ -1,0 +1,105 @@
+-- The world of a clone, turn by turn: its states and logs, and how it begins.
+use Rattle.std.proofs.Common.{◌≡◌, ℕ, zero, suc, ◌<◌, ◌≤◌, List, [], ◌∷◌, ◌++◌, ◌⊎◌, inl, inr, cond, refl, sym, ap, ◌∙◌, subst, arith, ◌==◌, eq-eqb, append-nil, Option, Some, None}
+use Rattle.std.proofs.lemmas.List.Elements.{filter-append}
+use Rattle.std.proofs.lemmas.Bool.{cases_eq, ne_eqb}
+use Rattle.sim_base.specs.declared.decision.Planned.{Planned}
+use Rattle.sim_base.specs.declared.entry.Entry.{Entry}
+use Rattle.run_laws.specs.Queue.{In}
+use Rattle.run_laws.specs.Machine.{Reach}
+use Rattle.run_laws.specs.Simulation.{Simulation}
+use Rattle.run_laws.specs.World.{to_it, log_of, put, world_step, and_first, openings, planned, begin}
+use Rattle.run_laws.specs.Window.{part_step}
+use Rattle.run_laws.specs.Runs.{run}
+use Rattle.run_laws.specs.Handlers.{IsLawful, AllGood, HandlesLawfully}
+use Rattle.run_laws.proofs.Queue.{all_in, all_from, sorted_insert_all}
+use Rattle.run_laws.proofs.Lists.{in_own, in_append}
+use Rattle.run_laws.proofs.Running.{Fine, all_from_zero, run_reach, run_on}
+
+-- at its place the new value stands
+pub put_same : {A : Type 0} (f : ℕ → A) (r : ℕ) (v : A) (s : ℕ) → s ≡ r → put f r v s ≡ v
+put_same f r v s e = rw (eq-eqb s r e)
+
+-- and each other one stays
+pub put_other : {A : Type 0} (f : ℕ → A) (r : ℕ) (v : A) (s : ℕ) → (s ≡ r → ⊥) → put f r v s ≡ f s
+put_other f r v s n = rw (ne_eqb s r n)
+
+-- what holds of the new value, and of the others as they were, holds of each
+pub put_cases : {A : Type 0} (P : ℕ → A → Type 0) (f : ℕ → A) (r : ℕ) (v : A) → P r v → ((s : ℕ) → (s ≡ r → ⊥) → P s (f s)) → (s : ℕ) → P s (put f r v s)
+put_cases P f r v a b s = elim (cases_eq s r) [
+  | inl e ↦ subst (P s) (sym (put_same f r v s e)) (subst (λ t. P t v) (sym e) a)
+  | inr n ↦ subst (P s) (sym (put_other f r v s n)) (b s n)
+]
+
+module _ {M N : Type 0} (to : M → ℕ) where
+  -- a station's log has its own new entry
+  pub log_here : (s : ℕ) (es : List (Entry M N)) (e : Entry M N) → to e.msg ≡ s → log_of to s (es ++ e ∷ []) ≡ log_of to s es ++ e ∷ []
+  log_here s es e h = filter-append (λ e. to e.msg == s) es (e ∷ []) ∙ ap (λ b. log_of to s es ++ cond b (e ∷ []) []) (eq-eqb (to e.msg) s h)
+
+  -- and not another's
+  pub log_there : (s : ℕ) (es : List (Entry M N)) (e : Entry M N) → (to e.msg ≡ s → ⊥) → log_of to s (es ++ e ∷ []) ≡ log_of to s es
+  log_there s es e h = filter-append (λ e. to e.msg == s) es (e ∷ []) ∙ ap (λ b. log_of to s es ++ cond b (e ∷ []) []) (ne_eqb (to e.msg) s h) ∙ append-nil (log_of to s es)
+
+module _ {S M N : Type 0} (sim : Simulation S M N) where
+  -- the entry of a message that is handled in a state
+  abbrev pub entry_of : ℕ → S → M → Entry M N
+  entry_of s st m = record { msg = m; line = (sim.handle s st m).line }
+
+  -- an opening is one of those before, or the station's own
+  first_in : (ms : List M) (f : Option M) (z : M) → In z (and_first sim ms f) → In z ms ⊎ (f ≡ Some z)
+  first_in ms None z i = inl i
+  first_in ms (Some m) z i = elim (in_append ms (m ∷ []) z i) [
+    | inl j ↦ inl j
+    | inr j ↦ elim j [ inl e ↦ inr (ap Some (sym e)) | inr k ↦ absurd k ]
+  ]
+
+  -- an opening is the first message of a station
+  pub in_openings : (n : ℕ) (z : M) → In z (openings sim n) → (s : ℕ) × ((0 < s) × (s ≤ n)) × ((sim.setup s).first ≡ Some z)
+  in_openings zero z i = absurd i
+  in_openings (suc n) z i = elim (first_in (openings sim n) (sim.setup (suc n)).first z i) [
+    | inl j ↦ let h = in_openings n z j in let above : 0 < h.0 = h.1.0 in let most : h.0 ≤ n = h.1.1 in (h.0, (omega arith, omega arith), h.2)
+    | inr e ↦ (suc n, (omega arith, omega arith), e)
+  ]
+
+  -- a planned message is a decision at its place
+  pub in_planned : (k : ℕ) (plans : List Planned) (z : M) → In z (planned sim k plans) → (i : ℕ) × (p : Planned) × (k ≤ i) × In p plans × (z ≡ sim.decided i p)
+  in_planned k [] z i = absurd i
+  in_planned k (p ∷ ps) z (inl e) = (k, p, omega arith, inl refl, e)
+  in_planned k (p ∷ ps) z (inr j) = let h = in_planned (suc k) ps z j in let l = h.2 in (h.0, h.1, omega arith, inr h.3, h.4)
+
+module _ {S M N : Type 0} {sim : Simulation S M N} {Good : ℕ → S → Type 0} (law : HandlesLawfully sim Good) where
+  -- the world keeps its stations good
+  pub world_lawful : IsLawful sim.time (world_step sim.to sim.handle) (AllGood Good)
+  world_lawful = record {
+    keeps = λ w m g. put_cases (λ s st. Good s st) w.states (sim.to m) (sim.handle (sim.to m) (w.states (sim.to m)) m).state (law.keeps (sim.to m) (w.states (sim.to m)) m (g (sim.to m))) (λ s n. g s);
+    later = λ w m g. law.later (sim.to m) (w.states (sim.to m)) m (g (sim.to m));
+  }
+
+  -- and so does one station by itself
+  pub part_lawful : (s : ℕ) → IsLawful sim.time (part_step sim.to sim.handle s) (λ p. Good s p.state)
+  part_lawful s = record {
+    keeps = λ p m g. law.keeps s p.state m g;
+    later = λ p m g. all_from (λ x. sim.time m < sim.time x) (to_it sim.to s (sim.handle s p.state m).sends) (λ z i. all_in (λ x. sim.time m < sim.time x) (sim.handle s p.state m).sends z (law.later s p.state m g) (in_own sim.to s (sim.handle s p.state m).sends z i).0);
+  }
+
+  -- a world begins in order
+  pub begins_fine : (plans : List Planned) → Fine sim.order sim.time (AllGood Good) 0 (begin sim plans)
+  begins_fine plans = record {
+    good = law.opens;
+    sorted = sorted_insert_all law.order.order (openings sim sim.stations ++ planned sim 0 plans) [] tt;
+    from_t = all_from_zero sim.time (begin sim plans).pending;
+  }
+
+  -- a run to a front is reached by turns before the front, and has none left
+  pub run_reached : (plans : List Planned) (front : ℕ) → Reach sim.order sim.time (world_step sim.to sim.handle) front (begin sim plans) (run sim plans front) × Fine sim.order sim.time (AllGood Good) front (run sim plans front)
+  run_reached plans front = run_reach law.order world_lawful front front (begin sim plans) (omega arith) (begins_fine plans)
+
+  -- a fine world may begin at an earlier time
+  pub run_fine : (plans : List Planned) (front : ℕ) → Fine sim.order sim.time (AllGood Good) 0 (run sim plans front)
+  run_fine plans front = let h = (run_reached plans front).1 in record { good = h.good; sorted = h.sorted; from_t = all_from_zero sim.time (run sim plans front).pending }
+
+  -- from a front, the run to a later one goes on
+  pub run_goes_on : (plans : List Planned) (front bound : ℕ) → front ≤ bound → Reach sim.order sim.time (world_step sim.to sim.handle) bound (run sim plans front) (run sim plans bound)
+  run_goes_on plans front bound l =
+      subst (Reach sim.order sim.time (world_step sim.to sim.handle) bound (run sim plans front))
+      (run_on law.order world_lawful front bound (begin sim plans) l (begins_fine plans))
+      (run_reach law.order world_lawful bound bound (run sim plans front) (omega arith) (run_fine plans front)).0

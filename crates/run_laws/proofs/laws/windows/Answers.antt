@@ -1,0 +1,5 @@
+use Rattle.run_laws.proofs.CloneWindows.{windows_give_run}
+use Rattle.run_laws.proofs.laws.windows.Goals as goal
+
+pub returns : goal.returns
+returns g c = windows_give_run g.T.Stations.lawful

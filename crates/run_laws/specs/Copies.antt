@@ -1,0 +1,252 @@
+-- Copies of one station: a copy stands for a set of clones, and each of its pending messages is marked with clones.
+--
+-- A clone takes the messages whose marks have it and that come before its end. What it takes of a copy makes it
+-- a station by itself, one whose sends at its end or later are dropped.
+use Rattle.std.specs.Prelude.{◌≡◌, ◌⊎◌, ℕ, ◌+◌, ◌<◌, ◌≤◌, List, [], ◌∷◌, ◌++◌, if◌then◌else◌, Bool, true, false, ◌==◌, ◌&&◌, ◌||◌, map, length, take, nat_lt, Option, Some, None, ⊤}
+use Rattle.std.specs.List.{AllByRecursion}
+use Rattle.std.specs.declared.cmp.Ordering.{Ordering}
+use Rattle.std.specs.declared.cmp.Ordering.TheVariants.{Less}
+use Rattle.sim_base.specs.Clones.{Clone, clone_at}
+use Rattle.sim_base.specs.Pending.{insert_marked}
+use Rattle.sim_base.specs.declared.entry.Entry.{Entry}
+use Rattle.run_laws.specs.Queue.{insert, In}
+use Rattle.run_laws.specs.Machine.{Config, Reach, Done}
+use Rattle.run_laws.specs.Simulation.{Simulation, Handled}
+use Rattle.run_laws.specs.World.{to_it}
+use Rattle.run_laws.specs.Window.{Part, to_others, earlier_than, part_step, local}
+use Rattle.run_laws.specs.Runs.{end_of, log_at, state_at, due_at}
+use Rattle.run_laws.specs.Handlers.{IsStation}
+use Rattle.run_laws.specs.Prefixes.{IsCount, IsGained}
+
+module _ {M K : Type 0} (takes : M → K → ℕ → Bool) where
+  -- the messages that clone c takes
+  abbrev pub part : ℕ → List (M × K) → List M
+  part c [] = []
+  part c (x ∷ xs) = if takes x.0 x.1 c then x.0 ∷ part c xs else part c xs
+
+module _ {M K : Type 0} (join : K → K → K) (cmp : M → M → Ordering) where
+  -- each message is put in its place, with these marks
+  abbrev pub insert_marked_all : List M → K → List (M × K) → List (M × K)
+  insert_marked_all [] k q = q
+  insert_marked_all (x ∷ xs) k q = insert_marked_all xs k (insert_marked join cmp x k q)
+
+module _ {M K : Type 0} (cmp : M → M → Ordering) where
+  -- m comes before all of the messages
+  abbrev pub Above : M → List (M × K) → Type 0
+  Above m xs = AllByRecursion (λ y. cmp m y.0 ≡ Less) xs
+
+  -- each message comes before all that follow it
+  abbrev pub SortedMarked : List (M × K) → Type 0
+  SortedMarked [] = ⊤
+  SortedMarked (x ∷ xs) = Above x.0 xs × SortedMarked xs
+
+-- marks that are joined are those of both
+pub record JoinsMarks {K : Type 0} (has : K → ℕ → Bool) (join : K → K → K) : Type 0 where
+  pub joined : (a b : K) (c : ℕ) → has (join a b) c ≡ (has a c || has b c)
+
+-- a copy of a station: the clones that it stands for, their state and log, and what is pending to them
+pub record Copy (S M N K : Type 0) : Type 0 where
+  pub set : K
+  pub state : S
+  pub log : List (Entry M N)
+  pub pending : List (M × K)
+
+module _ {S M N K : Type 0} (has : K → ℕ → Bool) where
+  -- the copy stands for clone c
+  abbrev pub Carries : Copy S M N K → ℕ → Type 0
+  Carries a c = has a.set c ≡ true
+
+  -- no clone is in two of the copies
+  abbrev pub Disjoint : List (Copy S M N K) → Type 0
+  Disjoint [] = ⊤
+  Disjoint (a ∷ as_copies) = AllByRecursion (λ b. (c : ℕ) → Carries a c → ¬ (Carries b c)) as_copies × Disjoint as_copies
+
+module _ {S M N K : Type 0} (sim : Simulation S M N) (join : K → K → K) (s : ℕ) where
+  -- the copy has handled m for all its clones
+  abbrev pub handled_by : Copy S M N K → M → List (M × K) → Copy S M N K
+  handled_by a m q = let h = sim.handle s a.state m in record {
+    set = a.set;
+    state = h.state;
+    log = a.log ++ record { msg = m; line = h.line } ∷ [];
+    pending = insert_marked_all join sim.order (to_it sim.to s h.sends) a.set q;
+  }
+
+module _ {S M N K : Type 0} (sim : Simulation S M N) (s : ℕ) where
+  -- what it sends to others then, marked with its clones
+  abbrev pub laid_aside : Copy S M N K → M → List (M × K)
+  laid_aside a m = map (λ x. (x, a.set)) (to_others sim.to s (sim.handle s a.state m).sends)
+
+module _ {S M N : Type 0} (sim : Simulation S M N) where
+  -- what is sent at the end or later is dropped
+  abbrev pub handle_until : ℕ → ℕ → S → M → Handled S M N
+  handle_until end s st m = let h = sim.handle s st m in record { state = h.state; sends = earlier_than sim.time end h.sends; line = h.line }
+
+-- the clone that clone c was: `new` was `old`, and each other clone itself
+abbrev pub origin_of : ℕ → ℕ → ℕ → ℕ
+origin_of old new c = if c == new then old else c
+
+-- each clone c ends at `ends c`
+module _ {S M N K : Type 0} (sim : Simulation S M N) (has : K → ℕ → Bool) (ends : ℕ → ℕ) where
+  -- clone c takes a message with these marks: they have it, and it ends later
+  abbrev pub takes : M → K → ℕ → Bool
+  takes m k c = has k c && nat_lt (sim.time m) (ends c)
+
+  -- the same, where the clone `new` ends when the clone `old` does
+  abbrev pub takes_as : ℕ → ℕ → M → K → ℕ → Bool
+  takes_as old new m k c = has k c && nat_lt (sim.time m) (ends (origin_of old new c))
+
+  -- the messages that clone c takes
+  abbrev pub taken : ℕ → List (M × K) → List M
+  taken c xs = part takes c xs
+
+  -- a copy, and what its station has laid aside, as clone c sees them
+  abbrev pub view : ℕ → Copy S M N K → List (M × K) → Config (Part S M N) M
+  view c a sent = record { at = record { state = a.state; log = a.log; aside = taken c sent }; pending = taken c a.pending }
+
+  -- some of the clones of r, and r for them
+  pub record Narrowed (r some : Copy S M N K) : Type 0 where
+    pub state : some.state ≡ r.state
+    pub log : some.log ≡ r.log
+    pub within : (c : ℕ) → Carries has some c → Carries has r c
+    pub parts : (c : ℕ) → Carries has some c → taken c some.pending ≡ taken c r.pending
+
+  module _ (s bound : ℕ) where
+    -- the turns of clone c, before the bound
+    abbrev pub Turns : ℕ → Config (Part S M N) M → Config (Part S M N) M → Type 0
+    Turns c = Reach sim.order sim.time (part_step sim.to (handle_until sim (ends c)) s) bound
+
+    -- nothing is left before the bound
+    abbrev pub Settled : Config (Part S M N) M → Type 0
+    Settled = Done sim.time bound
+
+    -- l is what a log of one of the clones of r is at the bound, cut to the limit
+    pub record IsCutLog (r : Copy S M N K) (sent : List (M × K)) (l : List (Entry M N)) : Type 0 where
+      pub clone : ℕ
+      pub is_in : Carries has r clone
+      pub last : Config (Part S M N) M
+      pub ran : Turns clone (view clone r sent) last
+      pub settled : Settled last
+      pub is : l ≡ take sim.limit last.at.log
+
+    -- p is a prefix that the logs of a copy's clones gain, each cut to the limit
+    abbrev pub Gains : Copy S M N K → List (Entry M N) → Type 0
+    Gains a = IsGained (IsCutLog a []) a.log
+
+    -- p is a prefix that one of the copies gains
+    abbrev pub GainedBy : List (Copy S M N K) → List (Entry M N) → Type 0
+    GainedBy old p = (a : Copy S M N K) × In a old × Gains a p
+
+    -- the copies gain n prefixes, each copy by itself
+    abbrev pub GainTogether : List (Copy S M N K) → ℕ → Type 0
+    GainTogether [] n = n ≡ 0
+    GainTogether (a ∷ as_copies) n = (m : ℕ) × (k : ℕ) × IsCount (Gains a) m × GainTogether as_copies k × (n ≡ m + k)
+
+    -- the log of clone c gets longer than the limit
+    abbrev pub GoesOver : Copy S M N K → List (M × K) → ℕ → Type 0
+    GoesOver r sent c = (last : Config (Part S M N) M) → Turns c (view c r sent) last → Settled last → sim.limit < length last.at.log
+
+    -- the copies that come of r at the bound: with each, its clones have taken their turns; clones whose logs
+    -- get too long are put with those over the limit; n prefixes were gained, of logs cut to the limit
+    pub record Ends (r : Copy S M N K) (results : List (Copy S M N K)) (before after : List (M × K)) (over over_after : K) (n : ℕ) : Type 0 where
+      pub inhabited : (b : Copy S M N K) → In b results → (c : ℕ) × Carries has b c
+      pub gained : IsCount (IsGained (IsCutLog r before) r.log) n
+      pub within : (b : Copy S M N K) (c : ℕ) → In b results → Carries has b c → Carries has r c
+      pub ran : (b : Copy S M N K) (c : ℕ) → In b results → Carries has b c → Turns c (view c r before) (view c b after) × Settled (view c b after)
+      pub short : (b : Copy S M N K) → In b results → length b.log ≤ sim.limit
+      pub some : (c : ℕ) → Carries has r c → ((b : Copy S M N K) × In b results × Carries has b c) ⊎ (has over_after c ≡ true)
+      pub too_long : (c : ℕ) → has over_after c ≡ true → (has over c ≡ true) ⊎ (Carries has r c × GoesOver r before c)
+      pub still_over : (c : ℕ) → has over c ≡ true → has over_after c ≡ true
+      pub parted : (a b : Copy S M N K) (c d : ℕ) → In a results → In b results → Carries has a c → Carries has b d → a.log ≡ b.log → a ≡ b
+      pub disjoint : Disjoint has results
+      pub others : (c : ℕ) → has r.set c ≡ false → taken c after ≡ taken c before
+
+    -- the window of clone c by itself, from the copy a
+    abbrev pub alone_from : Copy S M N K → ℕ → Config (Part S M N) M
+    alone_from a c = local sim s a.log a.state (taken c a.pending) bound (ends c)
+
+    -- what a step of a station's copies gives: for each clone what its window by itself gives, before its end
+    pub record IsStepped (old new : List (Copy S M N K)) (out : List (M × K)) : Type 0 where
+      pub inhabited : (b : Copy S M N K) → In b new → (c : ℕ) × Carries has b c
+      pub from : (b : Copy S M N K) → In b new → (a : Copy S M N K) × In a old × ((c : ℕ) → Carries has b c → Carries has a c)
+      pub carried : (a : Copy S M N K) (c : ℕ) → In a old → Carries has a c → (b : Copy S M N K) × In b new × Carries has b c
+      pub log : (a b : Copy S M N K) (c : ℕ) → In a old → In b new → Carries has a c → Carries has b c → b.log ≡ (alone_from a c).at.log
+      pub state : (a b : Copy S M N K) (c : ℕ) → In a old → In b new → Carries has a c → Carries has b c → b.state ≡ (alone_from a c).at.state
+      pub pending : (a b : Copy S M N K) (c : ℕ) → In a old → In b new → Carries has a c → Carries has b c → taken c b.pending ≡ earlier_than sim.time (ends c) (alone_from a c).pending
+      pub sent : (a : Copy S M N K) (c : ℕ) → In a old → Carries has a c → taken c out ≡ earlier_than sim.time (ends c) (alone_from a c).at.aside
+      pub parted : (a b1 b2 : Copy S M N K) (c d : ℕ) → In a old → In b1 new → In b2 new → Carries has a c → Carries has a d → Carries has b1 c → Carries has b2 d → b1.log ≡ b2.log → b1 ≡ b2
+      pub disjoint : Disjoint has new
+
+    -- those over the limit are the clones of the copies whose windows by themselves give logs that are too long
+    pub record AreOver (old : List (Copy S M N K)) (over : K) : Type 0 where
+      pub from : (c : ℕ) → has over c ≡ true → (a : Copy S M N K) × In a old × Carries has a c × (sim.limit < length (alone_from a c).at.log)
+      pub all : (a : Copy S M N K) (c : ℕ) → In a old → Carries has a c → sim.limit < length (alone_from a c).at.log → has over c ≡ true
+
+  -- the copy b is a, where m is pending besides for the clones that take it
+  pub record IsGiven (m : M) (k : K) (a b : Copy S M N K) : Type 0 where
+    pub set : b.set ≡ a.set
+    pub log : b.log ≡ a.log
+    pub state : b.state ≡ a.state
+    pub parts : (c : ℕ) → Carries has a c → taken c b.pending ≡ (if takes m k c then insert sim.order m (taken c a.pending) else taken c a.pending)
+    pub sorted : SortedMarked sim.order b.pending
+
+  -- the copy b is a with the clone `new` beside the clone `old`: what holds of b for new held of a for old, and all
+  -- else is as it was
+  pub record IsForked (old new : ℕ) (a b : Copy S M N K) : Type 0 where
+    pub log : b.log ≡ a.log
+    pub state : b.state ≡ a.state
+    pub set : (c : ℕ) → has b.set c ≡ has a.set (origin_of old new c)
+    pub parts : (c : ℕ) → part (takes_as old new) c b.pending ≡ taken (origin_of old new c) a.pending
+    pub sorted : SortedMarked sim.order b.pending
+
+module _ {S M N K : Type 0} (sim : Simulation S M N) (only : K) where
+  -- what a station opens with, for a set of clones
+  abbrev pub first_pending : Option M → List (M × K)
+  first_pending None = []
+  first_pending (Some m) = (m, only) ∷ []
+
+  -- the copy of a station before anything was handled
+  abbrev pub first_copy : ℕ → Copy S M N K
+  first_copy s = record { set = only; state = (sim.setup s).state; log = []; pending = first_pending (sim.setup s).first }
+
+module _ {S M N : Type 0} (sim : Simulation S M N) where
+  -- when the clone at a place ends
+  abbrev pub ends_of : List Clone → ℕ → ℕ
+  ends_of cs c = end_of sim (clone_at cs c)
+
+module _ {S M N K : Type 0} (sim : Simulation S M N) (has : K → ℕ → Bool) (cs : List Clone) where
+  -- the copies of station s stand for the clones at a front: each clone is in one copy, which has the clone's log,
+  -- state and due messages, and clones whose logs are equal are in one copy
+  pub record Stands (front s : ℕ) (copies : List (Copy S M N K)) : Type 0 where
+    pub inhabited : (a : Copy S M N K) → In a copies → (c : ℕ) × Carries has a c
+    pub carried : (c : ℕ) → c < length cs → (a : Copy S M N K) × In a copies × Carries has a c
+    pub living : (a : Copy S M N K) (c : ℕ) → In a copies → Carries has a c → c < length cs
+    pub disjoint : Disjoint has copies
+    pub log : (a : Copy S M N K) (c : ℕ) → In a copies → Carries has a c → a.log ≡ log_at sim (clone_at cs c) s front
+    pub state : (a : Copy S M N K) (c : ℕ) → In a copies → Carries has a c → a.state ≡ state_at sim (clone_at cs c) s front
+    pub due : (a : Copy S M N K) (c : ℕ) → In a copies → Carries has a c → taken sim has (ends_of sim cs) c a.pending ≡ due_at sim (clone_at cs c) s front
+    pub shared : (a b : Copy S M N K) (c d : ℕ) → In a copies → In b copies → Carries has a c → Carries has b d → log_at sim (clone_at cs c) s front ≡ log_at sim (clone_at cs d) s front → a ≡ b
+    pub sorted : (a : Copy S M N K) → In a copies → SortedMarked sim.order a.pending
+
+  -- what came of the copies of each station up to a bound, and what each station sent
+  pub record AllStepped (front bound : ℕ) (olds news : ℕ → List (Copy S M N K)) (sent : ℕ → List (M × K)) : Type 0 where
+    pub stood : (r : ℕ) → IsStation sim r → Stands front r (olds r)
+    pub stepped : (r : ℕ) → IsStation sim r → IsStepped sim has (ends_of sim cs) r bound (olds r) (news r) (sent r)
+    pub no_other : (r : ℕ) → ¬ (IsStation sim r) → sent r ≡ []
+
+  -- the copy b is a, and has what was sent to station s besides: each clone its own
+  pub record HasReceived (s : ℕ) (sent : ℕ → List (M × K)) (a b : Copy S M N K) : Type 0 where
+    pub set : b.set ≡ a.set
+    pub log : b.log ≡ a.log
+    pub state : b.state ≡ a.state
+    pub from : (c : ℕ) (z : M) → Carries has a c → In z (taken sim has (ends_of sim cs) c b.pending) →
+        In z (taken sim has (ends_of sim cs) c a.pending) ⊎ ((r : ℕ) × In z (taken sim has (ends_of sim cs) c (sent r)) × (sim.to z ≡ s))
+    pub kept : (c : ℕ) (z : M) → Carries has a c → In z (taken sim has (ends_of sim cs) c a.pending) → In z (taken sim has (ends_of sim cs) c b.pending)
+    pub got : (c r : ℕ) (z : M) → Carries has a c → In z (taken sim has (ends_of sim cs) c (sent r)) → sim.to z ≡ s → In z (taken sim has (ends_of sim cs) c b.pending)
+
+  -- what the stations sent to station s has reached its copies
+  pub record IsDelivered (s : ℕ) (sent : ℕ → List (M × K)) (new done : List (Copy S M N K)) : Type 0 where
+    pub from : (b : Copy S M N K) → In b done → (a : Copy S M N K) × In a new × HasReceived s sent a b
+    pub each : (a : Copy S M N K) → In a new → (b : Copy S M N K) × In b done × (b.set ≡ a.set)
+    pub one : (a b : Copy S M N K) → In a done → In b done → (c : ℕ) → Carries has a c → Carries has b c → a ≡ b
+    pub disjoint : Disjoint has done
+    pub sorted : (a : Copy S M N K) → In a done → SortedMarked sim.order a.pending

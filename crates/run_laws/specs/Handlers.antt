@@ -1,0 +1,78 @@
+-- What the laws of runs ask of a simulation: of its order of messages, and of what its stations do.
+--
+-- What is asked of a station holds in states that are good, which the author of a simulation may choose;
+-- a station opens in a good state, and stays in one.
+use Rattle.std.specs.Prelude.{◌≡◌, ◌⊎◌, ℕ, ◌+◌, ◌<◌, ◌≤◌, List, Some}
+use Rattle.std.specs.List.{AllByRecursion}
+use Rattle.std.specs.Cmp.{IsTotalOrder}
+use Rattle.std.specs.Ordering.{nat_cmp, ordering_then}
+use Rattle.std.specs.declared.cmp.Ordering.{Ordering}
+use Rattle.std.specs.declared.cmp.Ordering.TheVariants.{Less, Equal}
+use Rattle.sim_base.specs.declared.decision.Planned.{Planned}
+use Rattle.run_laws.specs.Queue.{In}
+use Rattle.run_laws.specs.Simulation.{Simulation}
+use Rattle.run_laws.specs.World.{World}
+
+-- an order that tells any two elements apart
+pub record IsOrder {M : Type 0} (cmp : M → M → Ordering) : Type 0 where
+  pub total : IsTotalOrder cmp
+  pub same : (x y : M) → cmp x y ≡ Equal → x ≡ y
+
+-- an order in which an earlier time comes first
+pub record IsTimed {M : Type 0} (cmp : M → M → Ordering) (time : M → ℕ) : Type 0 where
+  pub order : IsOrder cmp
+  pub timed : (x y : M) → cmp x y ≡ Less → time x ≤ time y
+
+-- a machine that stays good, and whose sends come later than what was handled
+pub record IsLawful {X M : Type 0} (time : M → ℕ) (handle : X → M → X × List M) (Good : X → Type 0) : Type 0 where
+  pub keeps : (x : X) (m : M) → Good x → Good (handle x m).0
+  pub later : (x : X) (m : M) → Good x → AllByRecursion (λ z. time m < time z) (handle x m).1
+
+-- by time, then sender, then number
+abbrev pub key_order : {M : Type 0} → (M → ℕ) → (M → ℕ) → (M → ℕ) → M → M → Ordering
+key_order time sender number x y = ordering_then (nat_cmp (time x) (time y)) (ordering_then (nat_cmp (sender x) (sender y)) (nat_cmp (number x) (number y)))
+
+module _ {S M N : Type 0} where
+  -- each station of a world is in a good state
+  abbrev pub AllGood : (ℕ → S → Type 0) → World S M N → Type 0
+  AllGood Good w = (s : ℕ) → Good s (w.states s)
+
+module _ {S M N : Type 0} (sim : Simulation S M N) where
+  -- the number of a station
+  abbrev pub IsStation : ℕ → Type 0
+  IsStation s = (0 < s) × (s ≤ sim.stations)
+
+  -- the decisions are for stations
+  abbrev pub AreForStations : List Planned → Type 0
+  AreForStations plans = AllByRecursion (λ p. IsStation p.station) plans
+
+  -- what the runs, the windows and the copies rest on
+  pub record HandlesLawfully (Good : ℕ → S → Type 0) : Type 0 where
+    pub order : IsTimed sim.order sim.time
+    pub opens : (s : ℕ) → Good s (sim.setup s).state
+    pub keeps : (s : ℕ) (st : S) (m : M) → Good s st → Good s (sim.handle s st m).state
+    -- what is sent comes later
+    pub later : (s : ℕ) (st : S) (m : M) → Good s st → AllByRecursion (λ z. sim.time m < sim.time z) (sim.handle s st m).sends
+    -- and to another station by the lookahead later, or more
+    pub far : (s : ℕ) (st : S) (m z : M) → Good s st → In z (sim.handle s st m).sends → ¬ (sim.to z ≡ s) → sim.time m + sim.lookahead ≤ sim.time z
+
+  -- every message is for a station, where the decisions are
+  pub record SendsToStations (Good : ℕ → S → Type 0) : Type 0 where
+    pub first : (s : ℕ) (m : M) → IsStation s → (sim.setup s).first ≡ Some m → sim.to m ≡ s
+    pub decided : (k : ℕ) (p : Planned) → sim.to (sim.decided k p) ≡ p.station
+    pub sends : (s : ℕ) (st : S) (m z : M) → IsStation s → Good s st → In z (sim.handle s st m).sends → IsStation (sim.to z)
+
+  -- no two messages of a run have one sender and number: a station numbers what it sends, and a decision,
+  -- whose sender is 0, has its place in the list
+  pub record HandlesFreshly (Good : ℕ → S → Type 0) (sender number : M → ℕ) (next : S → ℕ) : Type 0 where
+    -- messages that differ in time, sender or number are ordered by those
+    pub keyed : (x y : M) → sim.order x y ≡ Less → (key_order sim.time sender number x y ≡ Less) ⊎ (key_order sim.time sender number x y ≡ Equal)
+    -- what a station opens with is its own, of a number that is used up
+    pub opened : (s : ℕ) (m : M) → IsStation s → (sim.setup s).first ≡ Some m → (sender m ≡ s) × (number m < next (sim.setup s).state)
+    pub decided : (k : ℕ) (p : Planned) → (sender (sim.decided k p) ≡ 0) × (number (sim.decided k p) ≡ k)
+    -- what a station sends is its own, and has numbers from the next one on, which are used up then, each number once
+    pub mine : (s : ℕ) (st : S) (m z : M) → IsStation s → Good s st → In z (sim.handle s st m).sends → sender z ≡ s
+    pub low : (s : ℕ) (st : S) (m z : M) → IsStation s → Good s st → In z (sim.handle s st m).sends → next st ≤ number z
+    pub high : (s : ℕ) (st : S) (m z : M) → IsStation s → Good s st → In z (sim.handle s st m).sends → number z < next (sim.handle s st m).state
+    pub rises : (s : ℕ) (st : S) (m : M) → IsStation s → Good s st → next st ≤ next (sim.handle s st m).state
+    pub apart : (s : ℕ) (st : S) (m z y : M) → IsStation s → Good s st → In z (sim.handle s st m).sends → In y (sim.handle s st m).sends → number z ≡ number y → z ≡ y

@@ -1,0 +1,120 @@
+-- What is proved of machines and of runs, in words that contracts cite.
+use Rattle.std.specs.Prelude.{◌≡◌, ◌⊎◌, ◌↔◌, ℕ, ◌<◌, ◌≤◌, List, [], ◌∷◌, ◌++◌, ◌==◌, ◌&&◌, if◌then◌else◌, Some, map, length, nat_lt}
+use Rattle.std.specs.List.{filter}
+use Rattle.std.specs.declared.cmp.Ordering.{Ordering}
+use Rattle.sim_base.specs.Clones.{Clone}
+use Rattle.sim_base.specs.declared.decision.Planned.{Planned}
+use Rattle.sim_base.specs.declared.entry.Entry.{Entry}
+use Rattle.run_laws.specs.Queue.{insert, In, Sorted}
+use Rattle.run_laws.specs.Machine.{Config, run_to, Reach, Done}
+use Rattle.run_laws.specs.Simulation.{Simulation}
+use Rattle.run_laws.specs.World.{replay}
+use Rattle.run_laws.specs.Window.{Part, local, earlier_than}
+use Rattle.run_laws.specs.Runs.{end_of, run_of, log_at, state_at, all_due, due_at}
+use Rattle.run_laws.specs.Fronts.{next_front}
+use Rattle.run_laws.specs.Handlers.{key_order, IsStation, AreForStations}
+
+-- a message more is pending
+abbrev pub and_pending : {X M : Type 0} → (M → M → Ordering) → M → Config X M → Config X M
+and_pending cmp m c = record { at = c.at; pending = insert cmp m c.pending }
+
+module _ {X M : Type 0} (cmp : M → M → Ordering) (time : M → ℕ) (handle : X → M → X × List M) (Good : X → Type 0) where
+  -- a machine in a good state, with its messages in order
+  pub record IsReady (c : Config X M) : Type 0 where
+    pub good : Good c.at
+    pub sorted : Sorted cmp c.pending
+
+  -- a run is reached by turns before the bound, and leaves no message before it
+  abbrev pub RunIsReached : Type 0
+  RunIsReached = (bound : ℕ) (c : Config X M) → IsReady c →
+      Reach cmp time handle bound c (run_to cmp handle time c bound) × Done time bound (run_to cmp handle time c bound)
+
+  -- whatever turns before the bound lead to where no message before it is left, that is the run
+  abbrev pub RunIsDetermined : Type 0
+  RunIsDetermined = (bound : ℕ) (c d : Config X M) → IsReady c →
+      Reach cmp time handle bound c d → Done time bound d → d ≡ run_to cmp handle time c bound
+
+  -- a run to one bound, and from where it stands to a later one, is the run to the later one
+  abbrev pub RunGoesOn : Type 0
+  RunGoesOn = (front bound : ℕ) (c : Config X M) → IsReady c → front ≤ bound →
+      run_to cmp handle time (run_to cmp handle time c front) bound ≡ run_to cmp handle time c bound
+
+  -- a message at or after the bound changes nothing but that it is pending
+  abbrev pub LateMessageStaysPending : Type 0
+  LateMessageStaysPending = (bound : ℕ) (c : Config X M) (m : M) → IsReady c → bound ≤ time m →
+      run_to cmp handle time (and_pending cmp m c) bound ≡ and_pending cmp m (run_to cmp handle time c bound)
+
+-- a decision more, the last of the clone
+abbrev pub with_plan : Clone → Planned → Clone
+with_plan c p = record c { plans = c.plans ++ p ∷ [] }
+
+-- the clone with this end
+abbrev pub with_end : Clone → ℕ → Clone
+with_end c at = record c { end = Some at }
+
+module _ {S M N : Type 0} (sim : Simulation S M N) where
+  -- the entries before a front
+  abbrev pub before : ℕ → List (Entry M N) → List (Entry M N)
+  before front es = filter (λ e. nat_lt (sim.time e.msg) front) es
+
+  -- the trace of a clone rises strictly by time, then sender, then number
+  abbrev pub TraceRises : (M → ℕ) → (M → ℕ) → Type 0
+  TraceRises sender number = (c : Clone) (front : ℕ) → AreForStations sim c.plans →
+      Sorted (key_order sim.time sender number) (map (λ e. e.msg) (run_of sim c front).at.trace)
+
+  -- every message that is due is for a station, where the decisions are
+  abbrev pub DueIsForStations : Type 0
+  DueIsForStations = (c : Clone) (front : ℕ) (m : M) → AreForStations sim c.plans → In m (all_due sim c front) → IsStation sim (sim.to m)
+
+  -- the state of a station at a front is what the messages of its log lead to from its opening state
+  abbrev pub StateIsReplay : Type 0
+  StateIsReplay = (c : Clone) (s front : ℕ) →
+      state_at sim c s front ≡ replay sim.to sim.handle s (sim.setup s).state (log_at sim c s front)
+
+  -- two clones whose logs at a station are equal have it in one state
+  abbrev pub EqualLogsEqualStates : Type 0
+  EqualLogsEqualStates = (c d : Clone) (s front : ℕ) →
+      log_at sim c s front ≡ log_at sim d s front → state_at sim c s front ≡ state_at sim d s front
+
+  -- the log of a station at a front is that part of any later log which comes before the front
+  abbrev pub LogAtFront : Type 0
+  LogAtFront = (c : Clone) (s front bound : ℕ) → front ≤ bound → before front (log_at sim c s bound) ≡ log_at sim c s front
+
+  -- what a new decision, as the message m, changes at a front: m is due, where it comes before the clone's end
+  pub record AddsDue (c : Clone) (p : Planned) (m : M) (front : ℕ) : Type 0 where
+    pub world : (run_of sim (with_plan c p) front).at ≡ (run_of sim c front).at
+    pub due : all_due sim (with_plan c p) front ≡ (if nat_lt (sim.time m) (end_of sim c) then insert sim.order m (all_due sim c front) else all_due sim c front)
+    pub due_here : (s : ℕ) → due_at sim (with_plan c p) s front ≡ (if nat_lt (sim.time m) (end_of sim c) && sim.to m == s then insert sim.order m (due_at sim c s front) else due_at sim c s front)
+
+  -- a decision at or after a front adds its message to what is due, and changes nothing else
+  abbrev pub LateDecisionAddsDue : Type 0
+  LateDecisionAddsDue = (c : Clone) (p : Planned) (front : ℕ) →
+      front ≤ sim.time (sim.decided (length c.plans) p) → AddsDue c p (sim.decided (length c.plans) p) front
+
+  -- what a new end changes at a front: the due messages from it on are no longer due
+  pub record DropsDue (c : Clone) (at front : ℕ) : Type 0 where
+    pub world : (run_of sim (with_end c at) front).at ≡ (run_of sim c front).at
+    pub due : all_due sim (with_end c at) front ≡ earlier_than sim.time at (all_due sim c front)
+    pub due_here : (s : ℕ) → due_at sim (with_end c at) s front ≡ earlier_than sim.time at (due_at sim c s front)
+
+  -- an end at or after a front, and not past the end that the clone had, drops the due messages from it on,
+  -- and changes nothing else
+  abbrev pub LateEndDropsDue : Type 0
+  LateEndDropsDue = (c : Clone) (at front : ℕ) → front ≤ at → at ≤ end_of sim c → DropsDue c at front
+
+  -- station s of a clone by itself, from a front to a bound
+  abbrev pub window : Clone → ℕ → ℕ → ℕ → Config (Part S M N) M
+  window c s front bound = local sim s (log_at sim c s front) (state_at sim c s front) (due_at sim c s front) bound (end_of sim c)
+
+  -- the stations of a clone, each by itself from a front to a bound, come to what the clone's run comes to;
+  -- due at a station is then what it has left, and what others have laid aside for it, before the clone's end
+  pub record WindowsGive (c : Clone) (front bound : ℕ) : Type 0 where
+    pub log : (s : ℕ) → log_at sim c s bound ≡ (window c s front bound).at.log
+    pub state : (s : ℕ) → state_at sim c s bound ≡ (window c s front bound).at.state
+    pub sorted : (s : ℕ) → Sorted sim.order (due_at sim c s bound)
+    pub due : (s : ℕ) (m : M) → In m (due_at sim c s bound) ↔
+        ((sim.time m < end_of sim c) × (In m (window c s front bound).pending ⊎ ((sim.to m ≡ s) × ((r : ℕ) × In m (window c r front bound).at.aside))))
+
+  -- so it is for each of several clones, where the bound is not past their next front
+  abbrev pub WindowsGiveRuns : Type 0
+  WindowsGiveRuns = (cs : List Clone) (c : Clone) (front bound : ℕ) → In c cs → front ≤ bound → bound ≤ next_front sim cs front → WindowsGive c front bound
