@@ -1,1 +1,9 @@
 pub mod Placing
+pub mod KeyBytes
+pub mod Trees
+pub mod Turns
+pub mod Stated
+pub mod Bounds
+pub mod Stations
+pub mod Validity
+pub mod AsciiTexts

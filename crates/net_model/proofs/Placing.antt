@@ -16,7 +16,7 @@ module _ (net : Net) (stations : List Station) (seen : net.sites ≡ map as_site
       let same : suc i - 1 ≡ i = omega arith in
       ap (λ sites. slice_get sites i) seen ∙ (slice_get-map as_site stations i ∙ ap (option_map as_site) (rw same at is))
 
-prefix_len-map : {X Y : Type 0} (p : Y → Bool) (f : X → Y) (xs : List X) → prefix_len p (map f xs) ≡ prefix_len (λ x. p (f x)) xs
+pub prefix_len-map : {X Y : Type 0} (p : Y → Bool) (f : X → Y) (xs : List X) → prefix_len p (map f xs) ≡ prefix_len (λ x. p (f x)) xs
 prefix_len-map p f [] = refl
 prefix_len-map p f (x ∷ xs) = ap (λ n. cond (p (f x)) (1 + n) 0) (prefix_len-map p f xs)
 

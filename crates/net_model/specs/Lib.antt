@@ -1,3 +1,16 @@
 pub mod Net
 pub mod Sites
 pub mod Rules
+pub mod Fields
+pub mod KeyTexts
+pub mod Faults
+pub mod Chains
+pub mod Reading
+pub mod Keys
+pub mod Top
+pub mod Kinds
+pub mod NamedLinks
+pub mod Drafts
+pub mod Resolving
+pub mod Text
+pub mod Examples

@@ -1,0 +1,53 @@
+-- The tree of a text, and the lists in it.
+use Rattle.std.proofs.Common.{◌≡◌, refl, ap, sym, ◌∙◌, ℕ, true, false, is_some, if◌then◌else◌, List, [], ◌∷◌, map, Some, None, Ok, Err, inl, inr}
+use Rattle.std.specs.List.{list_all}
+use Rattle.std.specs.Str.{IsUtf8, is_utf8}
+use Rattle.std.proofs.lemmas.Bool.{cases_Bool}
+use Rattle.std.proofs.lemmas.List.Folds.{list_all-map}
+use Rattle.std.proofs.lemmas.Option.{same_Some}
+use Rattle.std.proofs.lemmas.Str.{is_utf8-from_IsUtf8, IsUtf8-from_is_utf8}
+use Rattle.toml.specs.Data.{Data, Items, Members, string, integer, float, boolean, datetime, array, table, as_array, as_table}
+use Rattle.toml.specs.Parse.{parse_document}
+use Rattle.toml.specs.View.{view, items_view}
+use Rattle.toml.specs.declared.value.Value.{Value}
+use Rattle.net_model.specs.declared.fault.ModelFault.TheVariants.{WrongType}
+use Rattle.net_model.specs.declared.field.Field.{Field}
+use Rattle.net_model.specs.Reading.{list_of, all_tables, tables_of}
+use Rattle.net_model.specs.Text.{tree}
+
+pub tree_of_parsed : (text : List ℕ) (ms : Members) → IsUtf8 text → parse_document text ≡ Some ms → tree text ≡ Some ms
+tree_of_parsed text ms u p = rw (is_utf8-from_IsUtf8 text u) p
+
+pub no_tree : (text : List ℕ) → (IsUtf8 text → parse_document text ≡ None) → tree text ≡ None
+no_tree text p =
+    elim (cases_Bool (is_utf8 text)) [
+      | inl is ↦ rw is (p (IsUtf8-from_is_utf8 text is))
+      | inr is ↦ rw is
+    ]
+
+pub listed : (vs : List Value) → list_of (items_view vs) ≡ map view vs
+listed [] = refl
+listed (v ∷ vs) = ap (λ ds. view v ∷ ds) (listed vs)
+
+-- the value of an array, by what `as_array` gives
+pub array_of : (d : Data) (ds : Items) → Some ds ≡ as_array d → d ≡ array ds
+array_of (array es) ds h = ap array (same_Some _ _ (sym h))
+array_of (string s) ds h = absurd (cc)
+array_of (integer z) ds h = absurd (cc)
+array_of (float x) ds h = absurd (cc)
+array_of (boolean b) ds h = absurd (cc)
+array_of (datetime t) ds h = absurd (cc)
+array_of (table ms) ds h = absurd (cc)
+
+pub tables_listed : (place : ℕ) (field : Field) (d : Data) (vs : List Value) → Some (items_view vs) ≡ as_array d → tables_of place field d ≡ (if list_all (λ v. is_some (as_table (view v))) vs then Ok (map view vs) else Err (WrongType place field))
+tables_listed place field d vs h =
+    ap (tables_of place field) (array_of d (items_view vs) h)
+    ∙ (ap (all_tables place field) (listed vs)
+    ∙ rw (list_all-map (λ d. is_some (as_table d)) view vs) refl)
+
+-- the elements of an array, all of them tables, or not
+pub tables_there : (place : ℕ) (field : Field) (d : Data) (vs : List Value) → Some (items_view vs) ≡ as_array d → list_all (λ v. is_some (as_table (view v))) vs ≡ true → Ok (map view vs) ≡ tables_of place field d
+tables_there place field d vs h all = sym (tables_listed place field d vs h ∙ rw all refl)
+
+pub tables_refused : (place : ℕ) (field : Field) (d : Data) (vs : List Value) → Some (items_view vs) ≡ as_array d → list_all (λ v. is_some (as_table (view v))) vs ≡ false → Err (WrongType place field) ≡ tables_of place field d
+tables_refused place field d vs h all = sym (tables_listed place field d vs h ∙ rw all refl)

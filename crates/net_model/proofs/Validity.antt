@@ -1,0 +1,271 @@
+-- Every model that is read meets the rules.
+use Rattle.std.proofs.Common.{◌≡◌, ◌≢◌, refl, ap, sym, ◌∙◌, subst, ℕ, zero, suc, ◌+◌, ◌<◌, ◌≤◌, ◌^◌, ◌==◌, ◌||◌, nat_lt, not, true, false, codes, if◌then◌else◌, List, [], ◌∷◌, length, map, slice_get, option_map, unwrap_or, position, Option, Some, None, Ok, Err, ◌⊎◌, inl, inr, arith}
+use Rattle.std.specs.List.{AllByRecursion, IsDistinct}
+use Rattle.std.specs.Str.{bytes_eq}
+use Rattle.std.proofs.lemmas.Bool.{false≢true}
+use Rattle.std.proofs.lemmas.Bool.Decides.{nat_tests}
+use Rattle.std.proofs.lemmas.List.{length-map}
+use Rattle.std.proofs.lemmas.List.Quantifiers.{position-Some}
+use Rattle.std.proofs.lemmas.Option.{slice_get-map}
+use Rattle.toml.specs.Data.{Data}
+use Rattle.sim_base.specs.Names.{is_name}
+use Rattle.net_model.specs.declared.fault.ModelFault.TheVariants.{UnknownStation, IntoSource, ShortDelay, NoWayOut, OutOfRange, TooMany}
+use Rattle.net_model.specs.declared.field.Field.TheVariants.{Format, Lookahead, Horizon, Seed, Limit, Station}
+use Rattle.net_model.specs.declared.links.NamedLink.{NamedLink}
+use Rattle.net_model.specs.declared.station.Kind.{Kind}
+use Rattle.net_model.specs.declared.station.Kind.TheVariants.{Source, Server, Delay, Router, Sink}
+use Rattle.net_model.specs.declared.station.Link.{Link}
+use Rattle.net_model.specs.declared.top.Top.{Top}
+use Rattle.net_model.specs.Chains.{◌>>=◌}
+use Rattle.net_model.specs.Drafts.{DraftSite, drafts_of}
+use Rattle.net_model.specs.Keys.{only_known, top_keys}
+use Rattle.net_model.specs.Net.{Net, Site, is_source, no_site, site_of}
+use Rattle.net_model.specs.Reading.{integer_at, tables_of, value_at}
+use Rattle.net_model.specs.Resolving.{each_resolved, is_sink, kind_after, link_along, resolved, site_of_draft, sites_of, with_way_out}
+use Rattle.net_model.specs.Rules.{HasWayOut, IsKind, IsLink, IsNet, IsOfFormat1, IsSite}
+use Rattle.net_model.specs.Text.{model_of, sites_stated, with_sites}
+use Rattle.net_model.specs.Top.{counted, stations_at, top_of}
+use Rattle.net_model.proofs.Bounds.{le_of_not, not_refused, passed, refused, required_bounds, same_ok, step, usual_bounds}
+use Rattle.net_model.proofs.Stations.{AreDrafts, IsDraft, IsNamedLink, drafts_hold}
+
+-- a link that leads to the station after `others` others
+pub record IsResolved (lookahead : ℕ) (all : List DraftSite) (link : Link) : Type 0 where
+  pub others : ℕ
+  pub number : link.to ≡ others + 1
+  pub there : others < length all
+  pub receives : is_source (kind_after others all) ≡ false
+  pub slow : lookahead ≤ link.delay
+  pub small : link.delay ≤ 1000000
+  pub heavy : 1 ≤ link.weight
+  pub light : link.weight ≤ 1000
+
+along : (lookahead : ℕ) (all : List DraftSite) (place : ℕ) (link : NamedLink) (found : Option ℕ) (l : Link) → position (λ draft. bytes_eq draft.name link.to) all ≡ found → IsNamedLink link → link_along lookahead all place link found ≡ Ok l → IsResolved lookahead all l
+along lookahead all place link None l is named h = absurd (refused (UnknownStation place) l h)
+along lookahead all place link (Some i) l is named h =
+    let anyone : DraftSite = record { name = []; kind = Sink; stream = 0; links = [] } in
+    let (there, same, first) = position-Some (λ draft. bytes_eq draft.name link.to) all i anyone is in
+    let (receives, h1) = not_refused (is_source (kind_after i all)) (if nat_lt link.delay lookahead then Err (ShortDelay place) else Ok (record { to = i + 1; delay = link.delay; weight = link.weight })) l (IntoSource place) h in
+    let (slow, h2) = not_refused (nat_lt link.delay lookahead) (Ok (record { to = i + 1; delay = link.delay; weight = link.weight })) l (ShortDelay place) h1 in
+    let made : Link = record { to = i + 1; delay = link.delay; weight = link.weight } in
+    subst (λ (x : Link). IsResolved lookahead all x) {x = made} (same_ok made l h2)
+    (record {
+      others = i;
+      number = refl;
+      there = there;
+      receives = receives;
+      slow = le_of_not link.delay lookahead slow;
+      small = named.small;
+      heavy = named.heavy;
+      light = named.light;
+    })
+
+each_is_resolved : (lookahead : ℕ) (all : List DraftSite) (place : ℕ) (named : List NamedLink) (links : List Link) → AllByRecursion IsNamedLink named → each_resolved lookahead all place named ≡ Ok links → AllByRecursion (IsResolved lookahead all) links × (length links ≡ length named)
+each_is_resolved lookahead all place [] links are h = subst (λ (ls : List Link). AllByRecursion (IsResolved lookahead all) ls × (length ls ≡ 0)) (same_ok [] links h) (tt, refl)
+each_is_resolved lookahead all place (n ∷ named) links are h =
+    let (first, e1, h1) = step (resolved lookahead all place n) (λ first. each_resolved lookahead all place named >>= (λ others. Ok (first ∷ others))) links h in
+    let (others, e2, h2) = step (each_resolved lookahead all place named) (λ others. Ok (first ∷ others)) links h1 in
+    let (holds, count) = each_is_resolved lookahead all place named others are.1 e2 in
+    subst (λ (ls : List Link). AllByRecursion (IsResolved lookahead all) ls × (length ls ≡ length (n ∷ named))) (same_ok (first ∷ others) links h2)
+    ((along lookahead all place n (position (λ draft. bytes_eq draft.name n.to) all) first refl are.0 e1, holds), omega (arith, count))
+
+way_out : (kind : Kind) (links : List Link) → (is_sink kind || not (length links == 0)) ≡ true → (is_sink kind ≡ true → length links ≡ 0) → HasWayOut kind links
+way_out Sink links some closed = closed refl
+way_out (Source lo hi jobs class) [] some closed = absurd (false≢true some)
+way_out (Server servers room lo hi by_class) [] some closed = absurd (false≢true some)
+way_out (Delay lo hi) [] some closed = absurd (false≢true some)
+way_out (Router turn) [] some closed = absurd (false≢true some)
+way_out (Source lo hi jobs class) (l ∷ links) some closed = omega arith
+way_out (Server servers room lo hi by_class) (l ∷ links) some closed = omega arith
+way_out (Delay lo hi) (l ∷ links) some closed = omega arith
+way_out (Router turn) (l ∷ links) some closed = omega arith
+
+-- a station whose links are resolved
+pub record IsPlaced (format lookahead : ℕ) (all : List DraftSite) (site : Site) : Type 0 where
+  pub named : is_name site.name ≡ true
+  pub no_analyst : site.name ≢ codes "analyst"
+  pub stream : site.stream < 2 ^ 63
+  pub kind : IsKind site.kind
+  pub of_format : format ≡ 1 → IsOfFormat1 site.kind
+  pub few : length site.links ≤ 16
+  pub links : AllByRecursion (IsResolved lookahead all) site.links
+  pub way : HasWayOut site.kind site.links
+
+abbrev SiteHolds : ℕ → ℕ → List DraftSite → DraftSite → Site → Type 0
+SiteHolds format lookahead all draft site = IsPlaced format lookahead all site × (site.name ≡ draft.name) × (site.kind ≡ draft.kind)
+
+site_holds : (format lookahead : ℕ) (all : List DraftSite) (place : ℕ) (draft : DraftSite) (site : Site) → IsDraft format draft → site_of_draft lookahead all place draft ≡ Ok site → SiteHolds format lookahead all draft site
+site_holds format lookahead all place draft site is h =
+    let (links, e1, h1) = step (each_resolved lookahead all place draft.links >>= with_way_out place draft.kind) (λ links. Ok (record { name = draft.name; kind = draft.kind; stream = draft.stream; links = links })) site h in
+    let (found, e2, h2) = step (each_resolved lookahead all place draft.links) (with_way_out place draft.kind) links e1 in
+    let (holds, count) = each_is_resolved lookahead all place draft.links found is.links e2 in
+    let (some, same) = passed (is_sink draft.kind || not (length found == 0)) found links (NoWayOut place) h2 in
+    let placed : SiteHolds format lookahead all draft (record { name = draft.name; kind = draft.kind; stream = draft.stream; links = found }) = (
+      record {
+        named = is.named;
+        no_analyst = is.no_analyst;
+        stream = is.stream;
+        kind = is.kind;
+        of_format = is.of_format;
+        few = omega (arith, count, is.few);
+        links = holds;
+        way = way_out draft.kind found some (λ e. count ∙ is.closed e);
+      },
+      refl,
+      refl,
+    ) in
+    subst (λ (s : Site). SiteHolds format lookahead all draft s) (same_ok (record { name = draft.name; kind = draft.kind; stream = draft.stream; links = links }) site h1)
+    (subst (λ (ls : List Link). SiteHolds format lookahead all draft (record { name = draft.name; kind = draft.kind; stream = draft.stream; links = ls })) same placed)
+
+-- the stations of the network
+pub record ArePlaced (format lookahead : ℕ) (all drafts : List DraftSite) (sites : List Site) : Type 0 where
+  pub placed : AllByRecursion (IsPlaced format lookahead all) sites
+  pub names : map (λ s. s.name) sites ≡ map (λ x. x.name) drafts
+  pub kinds : map (λ s. s.kind) sites ≡ map (λ x. x.kind) drafts
+
+sites_hold : (format lookahead : ℕ) (all : List DraftSite) (place : ℕ) (drafts : List DraftSite) (sites : List Site) → AllByRecursion (IsDraft format) drafts → sites_of lookahead all place drafts ≡ Ok sites → ArePlaced format lookahead all drafts sites
+sites_hold format lookahead all place [] sites are h =
+    subst (λ (ss : List Site). ArePlaced format lookahead all [] ss) (same_ok [] sites h) (record { placed = tt; names = refl; kinds = refl })
+sites_hold format lookahead all place (x ∷ drafts) sites are h =
+    let (site, e1, h1) = step (site_of_draft lookahead all place x) (λ site. sites_of lookahead all (place + 1) drafts >>= (λ sites. Ok (site ∷ sites))) sites h in
+    let (rest, e2, h2) = step (sites_of lookahead all (place + 1) drafts) (λ sites. Ok (site ∷ sites)) sites h1 in
+    let first = site_holds format lookahead all place x site are.0 e1 in
+    let others = sites_hold format lookahead all (place + 1) drafts rest are.1 e2 in
+    subst (λ (ss : List Site). ArePlaced format lookahead all (x ∷ drafts) ss) (same_ok (site ∷ rest) sites h2)
+    (record {
+      placed = (first.0, others.placed);
+      names = ap (λ n. n ∷ map (λ s. s.name) rest) first.1 ∙ ap (λ ns. x.name ∷ ns) others.names;
+      kinds = ap (λ k. k ∷ map (λ s. s.kind) rest) first.2 ∙ ap (λ ks. x.kind ∷ ks) others.kinds;
+    })
+
+for_all : {X : Type 0} (P Q : X → Type 0) → ((x : X) → P x → Q x) → (xs : List X) → AllByRecursion P xs → AllByRecursion Q xs
+for_all P Q f [] h = tt
+for_all P Q f (x ∷ xs) h = (f x h.0, for_all P Q f xs h.1)
+
+-- the kind of a station, from the list of kinds
+site_kind : (found : Option Site) → (unwrap_or found no_site).kind ≡ unwrap_or (option_map (λ s. s.kind) found) Sink
+site_kind None = refl
+site_kind (Some s) = refl
+
+kind_there : (sites : List Site) (drafts : List DraftSite) (i : ℕ) → map (λ s. s.kind) sites ≡ map (λ x. x.kind) drafts → (unwrap_or (slice_get sites i) no_site).kind ≡ kind_after i drafts
+kind_there sites drafts i kinds =
+    site_kind (slice_get sites i)
+    ∙ ap (λ o. unwrap_or o Sink) (sym (slice_get-map (λ s. s.kind) sites i) ∙ (ap (λ ks. slice_get ks i) kinds ∙ slice_get-map (λ x. x.kind) drafts i))
+
+module _ (top : Top) (drafts : List DraftSite) (sites : List Site) (holds : ArePlaced top.format top.lookahead drafts drafts sites) where
+  many : length sites ≡ length drafts
+  many = sym (length-map sites (λ s. s.kind)) ∙ (ap length holds.kinds ∙ length-map drafts (λ x. x.kind))
+
+  numbered : (n i : ℕ) → n ≡ suc i → (site_of (with_sites top sites) n).kind ≡ kind_after i drafts
+  numbered n i is = ap (λ k. (site_of (with_sites top sites) k).kind) is ∙ kind_there sites drafts i holds.kinds
+
+  link_is : (link : Link) → IsResolved top.lookahead drafts link → IsLink (with_sites top sites) link
+  link_is link r =
+      record {
+        first = omega (arith, r.number);
+        last = omega (arith, r.number, r.there, many);
+        receives = ap is_source (numbered link.to r.others (omega (arith, r.number))) ∙ r.receives;
+        slow = r.slow;
+        small = r.small;
+        heavy = r.heavy;
+        light = r.light;
+      }
+
+  site_is : (site : Site) → IsPlaced top.format top.lookahead drafts site → IsSite (with_sites top sites) site
+  site_is site p =
+      record {
+        named = p.named;
+        no_analyst = p.no_analyst;
+        stream = p.stream;
+        kind = p.kind;
+        format = p.of_format;
+        few = p.few;
+        links = for_all (IsResolved top.lookahead drafts) (IsLink (with_sites top sites)) link_is site.links p.links;
+        way = p.way;
+      }
+
+  pub sites_are : AllByRecursion (IsSite (with_sites top sites)) sites
+  sites_are = for_all (IsPlaced top.format top.lookahead drafts) (IsSite (with_sites top sites)) site_is sites holds.placed
+
+-- the numbers at the top
+pub record IsTop (top : Top) : Type 0 where
+  pub format : (top.format ≡ 1) ⊎ (top.format ≡ 2)
+  pub ahead : 1 ≤ top.lookahead
+  pub near : top.lookahead ≤ 1000000
+  pub horizon : 1 ≤ top.horizon
+  pub soon : top.horizon ≤ 1000000000
+  pub seed : top.seed < 2 ^ 63
+  pub limit : 1 ≤ top.limit
+  pub short : top.limit ≤ 65536
+
+one_or_two : (n : ℕ) → 1 ≤ n → n ≤ 2 → (n ≡ 1) ⊎ (n ≡ 2)
+one_or_two zero low high = absurd (omega arith)
+one_or_two (suc zero) low high = inl refl
+one_or_two (suc (suc zero)) low high = inr refl
+one_or_two (suc (suc (suc n))) low high = absurd (omega arith)
+
+top_holds : (root : Data) (top : Top) → top_of root ≡ Ok top → IsTop top
+top_holds root top h =
+    let (format, e1, h1) = step (integer_at 0 Format 1 2 (Some 1) root) (λ format. integer_at 0 Lookahead 1 1000000 None root >>= (λ lookahead. integer_at 0 Horizon 1 1000000000 None root >>= (λ horizon. integer_at 0 Seed 0 9223372036854775807 (Some 0) root >>= (λ seed. integer_at 0 Limit 1 65536 (Some 16384) root >>= (λ limit. Ok (record { format = format; lookahead = lookahead; horizon = horizon; seed = seed; limit = limit })))))) top h in
+    let (lookahead, e2, h2) = step (integer_at 0 Lookahead 1 1000000 None root) (λ lookahead. integer_at 0 Horizon 1 1000000000 None root >>= (λ horizon. integer_at 0 Seed 0 9223372036854775807 (Some 0) root >>= (λ seed. integer_at 0 Limit 1 65536 (Some 16384) root >>= (λ limit. Ok (record { format = format; lookahead = lookahead; horizon = horizon; seed = seed; limit = limit }))))) top h1 in
+    let (horizon, e3, h3) = step (integer_at 0 Horizon 1 1000000000 None root) (λ horizon. integer_at 0 Seed 0 9223372036854775807 (Some 0) root >>= (λ seed. integer_at 0 Limit 1 65536 (Some 16384) root >>= (λ limit. Ok (record { format = format; lookahead = lookahead; horizon = horizon; seed = seed; limit = limit })))) top h2 in
+    let (seed, e4, h4) = step (integer_at 0 Seed 0 9223372036854775807 (Some 0) root) (λ seed. integer_at 0 Limit 1 65536 (Some 16384) root >>= (λ limit. Ok (record { format = format; lookahead = lookahead; horizon = horizon; seed = seed; limit = limit }))) top h3 in
+    let (limit, e5, h5) = step (integer_at 0 Limit 1 65536 (Some 16384) root) (λ limit. Ok (record { format = format; lookahead = lookahead; horizon = horizon; seed = seed; limit = limit })) top h4 in
+    let formats = usual_bounds 0 Format 1 2 1 root format (omega arith) (omega arith) e1 in
+    let aheads = required_bounds 0 Lookahead 1 1000000 root lookahead e2 in
+    let horizons = required_bounds 0 Horizon 1 1000000000 root horizon e3 in
+    let seeds = usual_bounds 0 Seed 0 9223372036854775807 0 root seed (omega arith) (omega arith) e4 in
+    let limits = usual_bounds 0 Limit 1 65536 16384 root limit (omega arith) (omega arith) e5 in
+    let made : Top = record { format = format; lookahead = lookahead; horizon = horizon; seed = seed; limit = limit } in
+    subst (λ (t : Top). IsTop t) {x = made} (same_ok made top h5)
+    (record {
+      format = one_or_two format formats.0 formats.1;
+      ahead = aheads.0;
+      near = aheads.1;
+      horizon = horizons.0;
+      soon = horizons.1;
+      seed = omega (arith, seeds.1);
+      limit = limits.0;
+      short = limits.1;
+    })
+
+some_if : (n : ℕ) → (n == 0) ≡ false → 1 ≤ n
+some_if n h = grind (arith, nat_tests)
+
+count_holds : (root : Data) (ds : List Data) → stations_at root ≡ Ok ds → (1 ≤ length ds) × (length ds ≤ 64)
+count_holds root ds h =
+    let (read, e1, h1) = step (value_at 0 Station root >>= tables_of 0 Station) counted ds h in
+    let (some, h2) = not_refused (length read == 0) (if nat_lt 64 (length read) then Err (TooMany 0) else Ok read) ds (OutOfRange 0 Station) h1 in
+    let (few, h3) = not_refused (nat_lt 64 (length read)) (Ok read) ds (TooMany 0) h2 in
+    subst (λ (xs : List Data). (1 ≤ length xs) × (length xs ≤ 64)) (same_ok read ds h3) (some_if (length read) some, le_of_not 64 (length read) few)
+
+net_holds : (top : Top) (ds : List Data) (sites : List Site) → IsTop top → (1 ≤ length ds) × (length ds ≤ 64) → sites_stated top ds ≡ Ok sites → IsNet (with_sites top sites)
+net_holds top ds sites is count h =
+    let (drafts, e1, h1) = step (drafts_of top.format [] 1 ds) (λ drafts. sites_of top.lookahead drafts 1 drafts) sites h in
+    let read : AreDrafts top.format [] drafts (length ds) = drafts_hold top.format [] 1 ds drafts (omega (arith, count.1)) e1 in
+    let placed : ArePlaced top.format top.lookahead drafts drafts sites = sites_hold top.format top.lookahead drafts 1 drafts sites read.all h1 in
+    let size : length sites ≡ length drafts = many top drafts sites placed in
+    record {
+      format = is.format;
+      ahead = is.ahead;
+      near = is.near;
+      horizon = is.horizon;
+      soon = is.soon;
+      seed = is.seed;
+      limit = is.limit;
+      short = is.short;
+      some = omega (arith, size, read.counted, count.0);
+      few = omega (arith, size, read.counted, count.1);
+      distinct = subst (λ (names : List (List ℕ)). IsDistinct bytes_eq names) (sym placed.names) read.distinct;
+      sites = sites_are top drafts sites placed;
+    }
+
+-- every model that a tree states meets the rules
+pub stated_is_net : (root : Data) (net : Net) → model_of root ≡ Ok net → IsNet net
+unfolding model_of
+stated_is_net root net h =
+    let (known, e1, h1) = step (only_known 0 top_keys root) (λ _. top_of root >>= (λ top. stations_at root >>= (λ ds. sites_stated top ds >>= (λ sites. Ok (with_sites top sites))))) net h in
+    let (top, e2, h2) = step (top_of root) (λ top. stations_at root >>= (λ ds. sites_stated top ds >>= (λ sites. Ok (with_sites top sites)))) net h1 in
+    let (ds, e3, h3) = step (stations_at root) (λ ds. sites_stated top ds >>= (λ sites. Ok (with_sites top sites))) net h2 in
+    let (sites, e4, h4) = step (sites_stated top ds) (λ sites. Ok (with_sites top sites)) net h3 in
+    let made : Net = with_sites top sites in
+    subst (λ (n : Net). IsNet n) {x = made} (same_ok made net h4) (net_holds top ds sites (top_holds root top e2) (count_holds root ds e3) e4)

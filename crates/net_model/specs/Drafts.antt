@@ -1,0 +1,59 @@
+-- The stations as the file states them, before their links are resolved.
+use Rattle.std.specs.Prelude.{ℕ, ◌+◌, Bool, codes, if◌then◌else◌, List, [], ◌∷◌, ◌++◌, Some, Result, Ok, Err}
+use Rattle.std.specs.List.{list_any}
+use Rattle.std.specs.Str.{bytes_eq}
+use Rattle.toml.specs.Data.{Data}
+use Rattle.net_model.specs.declared.draft.Draft.{Draft}
+use Rattle.net_model.specs.declared.fault.ModelFault.{ModelFault}
+use Rattle.net_model.specs.declared.fault.ModelFault.TheVariants.{BadName, NameTwice}
+use Rattle.net_model.specs.declared.field.Field.TheVariants.{Name, Stream}
+use Rattle.net_model.specs.declared.links.NamedLink.{NamedLink}
+use Rattle.net_model.specs.declared.station.Kind.{Kind}
+use Rattle.net_model.specs.Chains.{◌>>=◌}
+use Rattle.net_model.specs.Keys.{only_known, station_keys}
+use Rattle.net_model.specs.Kinds.{kind_of, kind_word_at}
+use Rattle.net_model.specs.NamedLinks.{links_of}
+use Rattle.net_model.specs.Reading.{integer_at, name_at}
+
+-- a station whose links name their receivers
+pub record DraftSite : Type 0 where
+  pub name : List ℕ
+  pub kind : Kind
+  pub stream : ℕ
+  pub links : List NamedLink
+
+abbrev pub as_draft : Draft → DraftSite
+as_draft d = record { name = d.name; kind = d.kind; stream = d.stream; links = d.links.items }
+
+-- the analyst is no station
+abbrev pub no_analyst : ℕ → List ℕ → Result (List ℕ) ModelFault
+no_analyst place name = if bytes_eq name (codes "analyst") then Err (BadName place) else Ok name
+
+abbrev pub has_name : List ℕ → List DraftSite → Bool
+has_name name drafts = list_any (λ draft. bytes_eq draft.name name) drafts
+
+-- no earlier station has the name
+abbrev pub unused : ℕ → List DraftSite → List ℕ → Result (List ℕ) ModelFault
+unused place earlier name = if has_name name earlier then Err (NameTwice place) else Ok name
+
+abbrev pub station_name_at : ℕ → List DraftSite → Data → Result (List ℕ) ModelFault
+station_name_at place earlier d = name_at place Name d >>= no_analyst place >>= unused place earlier
+
+-- a station: its name, its kind, its keys, and last its links; its stream is its number where it states none
+abbrev pub draft_of : ℕ → List DraftSite → ℕ → Data → Result DraftSite ModelFault
+draft_of format earlier place d =
+    station_name_at place earlier d >>= (λ name.
+    kind_word_at place d >>= (λ word.
+    only_known place (station_keys format word) d >>= (λ _.
+    integer_at place Stream 0 9223372036854775807 (Some place) d >>= (λ stream.
+    kind_of format place word d >>= (λ kind.
+    links_of place word d >>= (λ links.
+    Ok (record { name = name; kind = kind; stream = stream; links = links })))))))
+
+-- each station in turn, with the earlier ones and its number
+abbrev pub drafts_of : ℕ → List DraftSite → ℕ → List Data → Result (List DraftSite) ModelFault
+drafts_of format earlier place [] = Ok []
+drafts_of format earlier place (d ∷ ds) =
+    draft_of format earlier place d >>= (λ draft.
+    drafts_of format (earlier ++ draft ∷ []) (place + 1) ds >>= (λ drafts.
+    Ok (draft ∷ drafts)))

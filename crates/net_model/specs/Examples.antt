@@ -1,0 +1,80 @@
+-- A small model and its text: a source `gate`, a server `desk` and a sink `out`, one after the other.
+use Rattle.std.specs.Prelude.{ℕ, zero, suc, List, [], ◌∷◌, ◌++◌, codes, decimal, false}
+use Rattle.net_model.specs.declared.station.Kind.TheVariants.{Source, Server, Sink}
+use Rattle.net_model.specs.Net.{Net}
+
+-- the top, with the lookahead and the horizon given as they are written
+abbrev pub top_with : List ℕ → List ℕ → List ℕ
+top_with lookahead horizon = codes "lookahead = " ++ lookahead ++ codes "\nhorizon = " ++ horizon ++ codes "\n"
+
+abbrev pub top_text : List ℕ
+top_text = top_with (codes "2") (codes "20")
+
+-- the gate, with its last line given
+abbrev pub gate_with : List ℕ → List ℕ
+gate_with link = codes "[[station]]\nname = \"gate\"\nkind = \"source\"\nevery = [3, 3]\njobs = 2\n" ++ link
+
+abbrev pub gate_text : List ℕ
+gate_text = gate_with (codes "link = [{ to = \"desk\", delay = 2 }]\n")
+
+-- the desk, with its name, its times and its receiver given as they are written
+abbrev pub desk_with : List ℕ → List ℕ → List ℕ → List ℕ
+desk_with name service to =
+    codes "[[station]]\nname = \"" ++ name
+    ++ codes "\"\nkind = \"server\"\nservers = 1\nroom = 5\nservice = " ++ service
+    ++ codes "\nlink = [{ to = \"" ++ to
+    ++ codes "\", delay = 2 }]\n"
+
+abbrev pub desk_text : List ℕ
+desk_text = desk_with (codes "desk") (codes "[4, 4]") (codes "out")
+
+abbrev pub out_text : List ℕ
+out_text = codes "[[station]]\nname = \"out\"\nkind = \"sink\"\n"
+
+-- the text with another top, another desk, or another link of the gate
+abbrev pub with_top : List ℕ → List ℕ
+with_top top = top ++ gate_text ++ desk_text ++ out_text
+
+abbrev pub with_desk : List ℕ → List ℕ → List ℕ → List ℕ
+with_desk name service to = top_text ++ gate_text ++ desk_with name service to ++ out_text
+
+abbrev pub named_desk : List ℕ → List ℕ
+named_desk name = with_desk name (codes "[4, 4]") (codes "out")
+
+abbrev pub timed_desk : List ℕ → List ℕ
+timed_desk service = with_desk (codes "desk") service (codes "out")
+
+abbrev pub linked_desk : List ℕ → List ℕ
+linked_desk to = with_desk (codes "desk") (codes "[4, 4]") to
+
+abbrev pub without_link : List ℕ
+without_link = top_text ++ gate_with [] ++ desk_text ++ out_text
+
+abbrev pub linked_out : List ℕ
+linked_out = top_text ++ gate_text ++ desk_text ++ out_text ++ codes "link = [{ to = \"desk\", delay = 2 }]\n"
+
+-- a text that ends within the times of the gate
+abbrev pub cut_text : List ℕ
+cut_text = top_text ++ codes "[[station]]\nname = \"gate\"\nkind = \"source\"\nevery = [3"
+
+-- so many sinks, `x1` and so on, with the last first
+abbrev pub sinks : ℕ → List ℕ
+sinks zero = []
+sinks (suc n) = codes "[[station]]\nname = \"x" ++ decimal (suc n) ++ codes "\"\nkind = \"sink\"\n" ++ sinks n
+
+abbrev pub small_text : List ℕ
+small_text = top_text ++ gate_text ++ desk_text ++ out_text
+
+-- a job every 3, two in all; one server, which serves for 4; room for 5
+abbrev pub small : Net
+small = record {
+  format = 1;
+  lookahead = 2;
+  horizon = 20;
+  seed = 0;
+  limit = 16384;
+  sites =
+      record { name = codes "gate"; kind = Source 3 3 2 1; stream = 1; links = record { to = 2; delay = 2; weight = 1 } ∷ [] }
+      ∷ record { name = codes "desk"; kind = Server 1 5 4 4 false; stream = 2; links = record { to = 3; delay = 2; weight = 1 } ∷ [] }
+      ∷ record { name = codes "out"; kind = Sink; stream = 3; links = [] } ∷ [];
+}

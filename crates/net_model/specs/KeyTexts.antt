@@ -1,0 +1,26 @@
+-- How an unknown key is shown: its first 32 bytes, with `?` for each byte that no key has.
+use Rattle.std.specs.Prelude.{◌≡◌, ◌||◌, ◌==◌, ℕ, ◌-◌, ◌≤◌, ◌++◌, Bool, true, if◌then◌else◌, List, length, map, take, drop, replicate}
+use Rattle.std.specs.List.{list_all}
+use Rattle.std.proofs.Common.{arith, take-append-drop, length-take-le}
+use Rattle.sim_base.specs.Names.{is_name_byte}
+
+abbrev pub shown : ℕ → ℕ
+shown b = if is_name_byte b then b else 63
+
+abbrev pub key_text : List ℕ → List ℕ
+key_text key = map shown (take 32 key)
+
+abbrev pub is_shown : ℕ → Bool
+is_shown b = is_name_byte b || (b == 63)
+
+-- the shown bytes, and zeros behind them
+pub record IsKeyText (bytes : List ℕ) (len : ℕ) : Type 0 where
+  pub room : len ≤ 32
+  pub size : length bytes ≡ 32
+  pub zeros : drop len bytes ≡ replicate (32 - len) 0
+  pub shown : list_all is_shown (take len bytes) ≡ true
+
+pub key_text_back : (bytes : List ℕ) (len : ℕ) → IsKeyText bytes len → (take len bytes ++ replicate (32 - length (take len bytes)) 0 ≡ bytes) × (length (take len bytes) ≡ len)
+key_text_back bytes len h =
+    let long : length (take len bytes) ≡ len = length-take-le len bytes (omega (arith, h.room, h.size)) in
+    (rw (long, ← h.zeros) (take-append-drop len bytes), long)

@@ -1,0 +1,44 @@
+-- The keys that a table may have.
+use Rattle.std.specs.Prelude.{◌==◌, ℕ, Bool, List, [], ◌∷◌, Option, Some, None, if◌then◌else◌, Result, Ok, Err}
+use Rattle.std.specs.List.{list_any}
+use Rattle.std.specs.Str.{bytes_eq}
+use Rattle.toml.specs.Data.{Data, table, Members, no_members, member}
+use Rattle.net_model.specs.declared.fault.ModelFault.{ModelFault}
+use Rattle.net_model.specs.declared.fault.ModelFault.TheVariants.{UnknownKey}
+use Rattle.net_model.specs.declared.field.Field.{Field}
+use Rattle.net_model.specs.declared.field.Field.TheVariants.{Format, Lookahead, Horizon, Seed, Limit, Station, Name, Kind, Stream, Every, Jobs, Class, Servers, Room, Service, Order, Hold, By, Link, To, Delay, Weight}
+use Rattle.net_model.specs.declared.keys.KindWord.{KindWord}
+use Rattle.net_model.specs.declared.keys.KindWord.TheVariants.{Source as SourceWord, Server as ServerWord, Delay as DelayWord, Router as RouterWord, Sink as SinkWord}
+use Rattle.net_model.specs.Fields.{key_of}
+use Rattle.net_model.specs.KeyTexts.{key_text}
+
+abbrev pub is_known : List Field → List ℕ → Bool
+is_known fields key = list_any (λ field. bytes_eq key (key_of field)) fields
+
+-- the first key that is none of the fields; a table's keys ascend, so it is the least one
+abbrev pub first_unknown : List Field → Members → Option (List ℕ)
+first_unknown fields no_members = None
+first_unknown fields (member key d ms) = if is_known fields key then first_unknown fields ms else Some key
+
+abbrev pub none_unknown : ℕ → Option (List ℕ) → Result (Unit {0}) ModelFault
+none_unknown place None = Ok tt
+none_unknown place (Some key) = Err (UnknownKey place (key_text key))
+
+-- no key of a table is unknown
+abbrev pub only_known : ℕ → List Field → Data → Result (Unit {0}) ModelFault
+only_known place fields (table ms) = none_unknown place (first_unknown fields ms)
+only_known place fields _ = Ok tt
+
+abbrev pub top_keys : List Field
+top_keys = Format ∷ Lookahead ∷ Horizon ∷ Seed ∷ Limit ∷ Station ∷ []
+
+-- format 1 knows neither classes nor orders
+abbrev pub station_keys : ℕ → KindWord → List Field
+station_keys format SourceWord = if format == 1 then Name ∷ Kind ∷ Stream ∷ Every ∷ Jobs ∷ Link ∷ [] else Name ∷ Kind ∷ Stream ∷ Every ∷ Jobs ∷ Class ∷ Link ∷ []
+station_keys format ServerWord = if format == 1 then Name ∷ Kind ∷ Stream ∷ Servers ∷ Room ∷ Service ∷ Link ∷ [] else Name ∷ Kind ∷ Stream ∷ Servers ∷ Room ∷ Service ∷ Order ∷ Link ∷ []
+station_keys format DelayWord = Name ∷ Kind ∷ Stream ∷ Hold ∷ Link ∷ []
+station_keys format RouterWord = Name ∷ Kind ∷ Stream ∷ By ∷ Link ∷ []
+station_keys format SinkWord = Name ∷ Kind ∷ Stream ∷ []
+
+abbrev pub link_keys : List Field
+link_keys = To ∷ Delay ∷ Weight ∷ []

@@ -1,0 +1,78 @@
+-- What a station does, as its keys state it.
+use Rattle.std.specs.Prelude.{◌==◌, ℕ, Bool, true, false, codes, if◌then◌else◌, List, Option, Some, None, Result, Ok, Err}
+use Rattle.std.specs.Str.{bytes_eq}
+use Rattle.toml.specs.Data.{Data, get}
+use Rattle.net_model.specs.declared.fault.ModelFault.{ModelFault}
+use Rattle.net_model.specs.declared.fault.ModelFault.TheVariants.{OutOfRange}
+use Rattle.net_model.specs.declared.field.Field.{Field}
+use Rattle.net_model.specs.declared.field.Field.TheVariants.{Kind as KindField, Every, Jobs, Class, Servers, Room, Service, Order, Hold, By}
+use Rattle.net_model.specs.declared.keys.KindWord.{KindWord}
+use Rattle.net_model.specs.declared.keys.KindWord.TheVariants.{Source as SourceWord, Server as ServerWord, Delay as DelayWord, Router as RouterWord, Sink as SinkWord}
+use Rattle.net_model.specs.declared.station.Kind.{Kind}
+use Rattle.net_model.specs.declared.station.Kind.TheVariants.{Source, Server, Delay, Router, Sink}
+use Rattle.net_model.specs.Chains.{◌>>=◌}
+use Rattle.net_model.specs.Fields.{key_of}
+use Rattle.net_model.specs.Reading.{integer_at, span_at, text_at, text_of}
+
+-- a word that a key knows
+abbrev pub known_word : {A : Type 0} → ℕ → Field → Option A → Result A ModelFault
+known_word place field (Some word) = Ok word
+known_word place field None = Err (OutOfRange place field)
+
+abbrev pub kind_word : List ℕ → Option KindWord
+kind_word text =
+    if bytes_eq text (codes "source") then Some SourceWord
+    else (if bytes_eq text (codes "server") then Some ServerWord
+    else (if bytes_eq text (codes "delay") then Some DelayWord
+    else (if bytes_eq text (codes "router") then Some RouterWord
+    else (if bytes_eq text (codes "sink") then Some SinkWord else None))))
+
+abbrev pub kind_word_at : ℕ → Data → Result KindWord ModelFault
+kind_word_at place d = text_at place KindField d >>= (λ text. known_word place KindField (kind_word text))
+
+-- 1 in format 1, which knows no classes
+abbrev pub class_at : ℕ → ℕ → Data → Result ℕ ModelFault
+class_at format place d = if format == 1 then Ok 1 else integer_at place Class 1 4 (Some 1) d
+
+-- whether the order is by class
+abbrev pub order_word : List ℕ → Option Bool
+order_word text = if bytes_eq text (codes "arrival") then Some false else (if bytes_eq text (codes "class") then Some true else None)
+
+abbrev pub found_order : ℕ → Option Data → Result Bool ModelFault
+found_order place None = Ok false
+found_order place (Some d) = text_of place Order d >>= (λ text. known_word place Order (order_word text))
+
+abbrev pub order_at : ℕ → ℕ → Data → Result Bool ModelFault
+order_at format place d = if format == 1 then Ok false else found_order place (get (key_of Order) d)
+
+-- whether a router goes by turn
+abbrev pub by_word : List ℕ → Option Bool
+by_word text = if bytes_eq text (codes "weights") then Some false else (if bytes_eq text (codes "turn") then Some true else None)
+
+abbrev pub source_of : ℕ → ℕ → Data → Result Kind ModelFault
+source_of format place d =
+    span_at place Every 1 d >>= (λ every.
+    integer_at place Jobs 0 1000000 None d >>= (λ jobs.
+    class_at format place d >>= (λ class.
+    Ok (Source every.lo every.hi jobs class))))
+
+abbrev pub server_of : ℕ → ℕ → Data → Result Kind ModelFault
+server_of format place d =
+    integer_at place Servers 1 16 None d >>= (λ servers.
+    integer_at place Room 0 4096 None d >>= (λ room.
+    span_at place Service 1 d >>= (λ service.
+    order_at format place d >>= (λ by_class.
+    Ok (Server servers room service.lo service.hi by_class)))))
+
+abbrev pub delay_of : ℕ → Data → Result Kind ModelFault
+delay_of place d = span_at place Hold 0 d >>= (λ hold. Ok (Delay hold.lo hold.hi))
+
+abbrev pub router_of : ℕ → Data → Result Kind ModelFault
+router_of place d = text_at place By d >>= (λ text. known_word place By (by_word text) >>= (λ turn. Ok (Router turn)))
+
+abbrev pub kind_of : ℕ → ℕ → KindWord → Data → Result Kind ModelFault
+kind_of format place SourceWord d = source_of format place d
+kind_of format place ServerWord d = server_of format place d
+kind_of format place DelayWord d = delay_of place d
+kind_of format place RouterWord d = router_of place d
+kind_of format place SinkWord d = Ok Sink

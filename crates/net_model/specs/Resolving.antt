@@ -1,0 +1,58 @@
+-- The stations of the network: each link leads to the station of its name.
+use Rattle.std.specs.Prelude.{◌==◌, ◌||◌, ℕ, ◌+◌, Bool, true, false, not, nat_lt, if◌then◌else◌, List, [], ◌∷◌, length, Option, Some, None, option_map, position, slice_get, unwrap_or, Result, Ok, Err}
+use Rattle.std.specs.Str.{bytes_eq}
+use Rattle.net_model.specs.declared.fault.ModelFault.{ModelFault}
+use Rattle.net_model.specs.declared.fault.ModelFault.TheVariants.{UnknownStation, IntoSource, ShortDelay, NoWayOut}
+use Rattle.net_model.specs.declared.links.NamedLink.{NamedLink}
+use Rattle.net_model.specs.declared.station.Kind.{Kind}
+use Rattle.net_model.specs.declared.station.Kind.TheVariants.{Sink}
+use Rattle.net_model.specs.declared.station.Link.{Link}
+use Rattle.net_model.specs.Chains.{◌>>=◌}
+use Rattle.net_model.specs.Drafts.{DraftSite}
+use Rattle.net_model.specs.Net.{Site, is_source}
+
+abbrev pub is_sink : Kind → Bool
+is_sink Sink = true
+is_sink _ = false
+
+-- the kind of the station after so many others
+abbrev pub kind_after : ℕ → List DraftSite → Kind
+kind_after i drafts = unwrap_or (option_map (λ draft. draft.kind) (slice_get drafts i)) Sink
+
+-- a link to the station after i others, of a kind
+abbrev pub link_to : ℕ → ℕ → NamedLink → ℕ → Kind → Result Link ModelFault
+link_to lookahead place link i kind =
+    if is_source kind then Err (IntoSource place)
+    else (if nat_lt link.delay lookahead then Err (ShortDelay place)
+    else Ok (record { to = i + 1; delay = link.delay; weight = link.weight }))
+
+abbrev pub link_along : ℕ → List DraftSite → ℕ → NamedLink → Option ℕ → Result Link ModelFault
+link_along lookahead drafts place link None = Err (UnknownStation place)
+link_along lookahead drafts place link (Some i) = link_to lookahead place link i (kind_after i drafts)
+
+abbrev pub resolved : ℕ → List DraftSite → ℕ → NamedLink → Result Link ModelFault
+resolved lookahead drafts place link = link_along lookahead drafts place link (position (λ draft. bytes_eq draft.name link.to) drafts)
+
+abbrev pub each_resolved : ℕ → List DraftSite → ℕ → List NamedLink → Result (List Link) ModelFault
+each_resolved lookahead drafts place [] = Ok []
+each_resolved lookahead drafts place (link ∷ links) =
+    resolved lookahead drafts place link >>= (λ first.
+    each_resolved lookahead drafts place links >>= (λ others.
+    Ok (first ∷ others)))
+
+-- jobs have to leave a station that is no sink
+abbrev pub with_way_out : ℕ → Kind → List Link → Result (List Link) ModelFault
+with_way_out place kind links = if is_sink kind || not (length links == 0) then Ok links else Err (NoWayOut place)
+
+abbrev pub site_of_draft : ℕ → List DraftSite → ℕ → DraftSite → Result Site ModelFault
+site_of_draft lookahead drafts place draft =
+    each_resolved lookahead drafts place draft.links >>= with_way_out place draft.kind >>= (λ links.
+    Ok (record { name = draft.name; kind = draft.kind; stream = draft.stream; links = links }))
+
+-- each station in turn, among all of them
+abbrev pub sites_of : ℕ → List DraftSite → ℕ → List DraftSite → Result (List Site) ModelFault
+sites_of lookahead drafts place [] = Ok []
+sites_of lookahead drafts place (draft ∷ others) =
+    site_of_draft lookahead drafts place draft >>= (λ site.
+    sites_of lookahead drafts (place + 1) others >>= (λ sites.
+    Ok (site ∷ sites)))

@@ -1,0 +1,26 @@
+-- The top of a model file.
+use Rattle.std.specs.Prelude.{◌==◌, nat_lt, if◌then◌else◌, List, length, Some, None, Result, Ok, Err}
+use Rattle.toml.specs.Data.{Data}
+use Rattle.net_model.specs.declared.fault.ModelFault.{ModelFault}
+use Rattle.net_model.specs.declared.fault.ModelFault.TheVariants.{OutOfRange, TooMany}
+use Rattle.net_model.specs.declared.field.Field.TheVariants.{Format, Lookahead, Horizon, Seed, Limit, Station}
+use Rattle.net_model.specs.declared.top.Top.{Top}
+use Rattle.net_model.specs.Chains.{◌>>=◌}
+use Rattle.net_model.specs.Reading.{integer_at, value_at, tables_of}
+
+-- the numbers of the whole model, in the order in which they are tested
+abbrev pub top_of : Data → Result Top ModelFault
+top_of root =
+    integer_at 0 Format 1 2 (Some 1) root >>= (λ format.
+    integer_at 0 Lookahead 1 1000000 None root >>= (λ lookahead.
+    integer_at 0 Horizon 1 1000000000 None root >>= (λ horizon.
+    integer_at 0 Seed 0 9223372036854775807 (Some 0) root >>= (λ seed.
+    integer_at 0 Limit 1 65536 (Some 16384) root >>= (λ limit.
+    Ok (record { format = format; lookahead = lookahead; horizon = horizon; seed = seed; limit = limit }))))))
+
+-- 1 to 64 stations
+abbrev pub counted : List Data → Result (List Data) ModelFault
+counted ds = if length ds == 0 then Err (OutOfRange 0 Station) else (if nat_lt 64 (length ds) then Err (TooMany 0) else Ok ds)
+
+abbrev pub stations_at : Data → Result (List Data) ModelFault
+stations_at root = value_at 0 Station root >>= tables_of 0 Station >>= counted

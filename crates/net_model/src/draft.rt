@@ -1,0 +1,108 @@
+//! Reads the stations, before their links are resolved.
+ghost use Rattle.std.specs.Prelude.{◌≡◌, ◌≢◌, ◌<◌, ◌^◌, [], IfErr, IfOk, length, map, Ok, Err};
+ghost use Rattle.std.specs.List.{list_any};
+ghost use Rattle.std.specs.Result.{result_map_both};
+ghost use Rattle.std.specs.Str.{bytes_eq};
+ghost use Rattle.toml.specs.View.{view};
+ghost use Rattle.net_model.specs.Drafts.{as_draft, draft_of, drafts_of, station_name_at};
+
+use crate::fault::ModelFault;
+use crate::field::Field;
+use crate::keys::{only_fields, station_fields};
+use crate::kinds::{kind_key, read_kind};
+use crate::links::{NamedLink, read_links};
+use crate::reading::{Spot, integer_key, name_key};
+use crate::station::Kind;
+use arrayvec::ArrayVec;
+use sim_base::Name;
+use std::alloc::Global;
+use toml::Value;
+
+/// A station as the file states it: its links name the stations that they lead to.
+#[derive(Drop)]
+pub struct Draft {
+    pub name: Name,
+    pub kind: Kind,
+    pub stream: u64,
+    pub links: ArrayVec<NamedLink, 16>,
+}
+
+fn is_taken(name: &Name, earlier: &[Draft]) -> bool
+    ensures { result ≡ list_any (λ draft. bytes_eq draft.name name.now) earlier.now }
+{
+    earlier
+        .iter()
+        .any(|draft| draft.name.as_bytes() == name.as_bytes())
+}
+
+#[tactic(auto, using(crate::proofs::Turns::has_name_drafts))]
+fn station_name(place: u32, earlier: &[Draft], table: &Value) -> Result<Name, ModelFault>
+    ensures { result ≡ station_name_at place (map as_draft earlier.now) (view table.now) }
+{
+    let name = name_key(
+        Spot {
+            place,
+            field: Field::Name,
+        },
+        table,
+    )?;
+    if name.text() == "analyst" {
+        return Err(ModelFault::BadName { place });
+    }
+    if is_taken(&name, earlier) {
+        return Err(ModelFault::NameTwice { place });
+    }
+    Ok(name)
+}
+
+fn read_draft(
+    format: u32,
+    earlier: &[Draft],
+    place: u32,
+    table: &Value,
+) -> Result<Draft, ModelFault>
+    ensures { result_map_both as_draft (λ e. e) result ≡ draft_of format (map as_draft earlier.now) place (view table.now) }
+{
+    let name = station_name(place, earlier, table)?;
+    let word = kind_key(place, table)?;
+    only_fields(place, station_fields(format, word), table)?;
+    let spot = Spot {
+        place,
+        field: Field::Stream,
+    };
+    let stream = integer_key(
+        spot,
+        0,
+        9_223_372_036_854_775_807,
+        Some(u64::from(place)),
+        table,
+    )?;
+    let kind = read_kind(format, place, word, table)?;
+    let links = read_links(place, word, table)?;
+    Ok(Draft {
+        name,
+        kind,
+        stream,
+        links,
+    })
+}
+
+/// The stations that the tables state, in order.
+pub fn read_drafts(alloc: Global, format: u32, tables: &[Value]) -> Result<Vec<Draft>, ModelFault>
+    requires { length tables.now < 2 ^ 31 }
+    ensures count { IfOk result (λ v. length v.items ≡ length tables.now) }
+    ensures ok { IfOk result (λ v. drafts_of format [] 1 (map view tables.now) ≡ Ok (map as_draft v.items)) }
+    ensures refused { IfErr result (λ e. e ≢ ModelFault.NoMemory → drafts_of format [] 1 (map view tables.now) ≡ Err e) }
+{
+    let mut drafts = Vec::new(alloc);
+    'drafts: for (i, table) in tables.iter().enumerate() {
+        match read_draft(format, drafts.as_slice(), i as u32 + 1, table) {
+            Ok(draft) => match drafts.push(draft) {
+                Ok(()) => {}
+                Err(_) => return Err(ModelFault::NoMemory),
+            },
+            Err(fault) => return Err(fault),
+        }
+    }
+    Ok(drafts)
+}

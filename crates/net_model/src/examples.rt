@@ -1,0 +1,42 @@
+//! Worked examples, computed by the checker from the definition of the model that a text states.
+//!
+//! The texts stand in `specs/Examples.antt`. Each function's contract is a theorem; there is nothing
+//! to run.
+ghost use Rattle.std.specs.Prelude.{◌≡◌, ◌++◌, [], Ok, Err, codes};
+ghost use Rattle.net_model.specs.Text.{model};
+ghost use Rattle.net_model.specs.Examples.{cut_text, linked_desk, linked_out, named_desk, sinks, small, small_text, timed_desk, top_text, top_with, with_top, without_link};
+ghost use Rattle.net_model.specs.declared.field.Field.TheVariants.{Lookahead, Horizon, Service};
+
+use crate::fault::ModelFault;
+
+/// A text and the model that it states.
+pub fn small_model()
+    ensures { model small_text ≡ Ok small }
+{}
+
+/// Texts that are refused for what stands at the top, or for their form.
+pub fn refused_at_the_top()
+    ensures empty { model [] ≡ Err (ModelFault.Missing 0 Lookahead) }
+    ensures unknown { model (codes "speed = 3\n" ++ small_text) ≡ Err (ModelFault.UnknownKey 0 (codes "speed")) }
+    ensures no_number { model (with_top (top_with (codes "\"2\"") (codes "20"))) ≡ Err (ModelFault.WrongType 0 Lookahead) }
+    ensures no_time { model (with_top (top_with (codes "2") (codes "0"))) ≡ Err (ModelFault.OutOfRange 0 Horizon) }
+    ensures cut { model cut_text ≡ Err ModelFault.NotToml }
+    ensures crowd { model (top_text ++ sinks 65) ≡ Err (ModelFault.TooMany 0) }
+{}
+
+/// Texts that are refused for what a station states of itself.
+pub fn refused_stations()
+    ensures twice { model (named_desk (codes "gate")) ≡ Err (ModelFault.NameTwice 2) }
+    ensures capital { model (named_desk (codes "Desk")) ≡ Err (ModelFault.BadName 2) }
+    ensures analyst { model (named_desk (codes "analyst")) ≡ Err (ModelFault.BadName 2) }
+    ensures three { model (timed_desk (codes "[4, 4, 4]")) ≡ Err (ModelFault.WrongType 2 Service) }
+    ensures falling { model (timed_desk (codes "[5, 4]")) ≡ Err (ModelFault.OutOfRange 2 Service) }
+    ensures open { model linked_out ≡ Err (ModelFault.UnknownKey 3 (codes "link")) }
+{}
+
+/// Texts that are refused for where a link leads, or for want of one.
+pub fn refused_links()
+    ensures nowhere { model (linked_desk (codes "exit")) ≡ Err (ModelFault.UnknownStation 2) }
+    ensures back { model (linked_desk (codes "gate")) ≡ Err (ModelFault.IntoSource 2) }
+    ensures none { model without_link ≡ Err (ModelFault.NoWayOut 1) }
+{}

@@ -1,0 +1,84 @@
+//! The keys of a model file.
+ghost use Rattle.std.specs.Prelude.{◌≡◌};
+ghost use Rattle.net_model.specs.Fields.{key_of};
+
+/// A key that a model file may have.
+#[derive(Clone, Copy, Debug, PartialEq, Eq)]
+pub enum Field {
+    /// The format of the file.
+    Format,
+    /// The least delay of a link.
+    Lookahead,
+    /// The end of the simulation.
+    Horizon,
+    /// The seed of all draws.
+    Seed,
+    /// How many messages a station may handle in one clone.
+    Limit,
+    /// The stations.
+    Station,
+    /// A station's name.
+    Name,
+    /// What a station is.
+    Kind,
+    /// The stream that a station draws from.
+    Stream,
+    /// The times between a source's jobs.
+    Every,
+    /// How many jobs a source makes.
+    Jobs,
+    /// The class of a source's jobs.
+    Class,
+    /// How many jobs a server serves at a time.
+    Servers,
+    /// How many jobs may wait at a server.
+    Room,
+    /// The durations of a server's services.
+    Service,
+    /// Who is served next.
+    Order,
+    /// How long a delay holds a job.
+    Hold,
+    /// How a router picks a link.
+    By,
+    /// A station's links.
+    Link,
+    /// The name of the station that a link leads to.
+    To,
+    /// The time on a link.
+    Delay,
+    /// A link's share among those of its station.
+    Weight,
+}
+
+impl Field {
+    /// The key as it stands in a file.
+    pub fn key(&self) -> &'static str
+        ensures { result.now ≡ key_of self.now }
+    {
+        match self {
+            Field::Format => "format",
+            Field::Lookahead => "lookahead",
+            Field::Horizon => "horizon",
+            Field::Seed => "seed",
+            Field::Limit => "limit",
+            Field::Station => "station",
+            Field::Name => "name",
+            Field::Kind => "kind",
+            Field::Stream => "stream",
+            Field::Every => "every",
+            Field::Jobs => "jobs",
+            Field::Class => "class",
+            Field::Servers => "servers",
+            Field::Room => "room",
+            Field::Service => "service",
+            Field::Order => "order",
+            Field::Hold => "hold",
+            Field::By => "by",
+            Field::Link => "link",
+            Field::To => "to",
+            Field::Delay => "delay",
+            Field::Weight => "weight",
+        }
+    }
+}

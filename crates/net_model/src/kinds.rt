@@ -1,0 +1,223 @@
+//! Reads what a station does.
+ghost use Rattle.std.specs.Prelude.{◌≡◌, ◌≤◌, IfOk};
+ghost use Rattle.toml.specs.View.{view};
+ghost use Rattle.net_model.specs.Kinds.{by_word, class_at, delay_of, kind_of, kind_word, kind_word_at, order_at, order_word, router_of, server_of, source_of};
+
+use crate::fault::ModelFault;
+use crate::field::Field;
+use crate::keys::KindWord;
+use crate::reading::{Spot, integer_key, read_text, span_key, text_key};
+use crate::station::Kind;
+use toml::Value;
+
+fn kind_named(text: &str) -> Option<KindWord>
+    ensures { result ≡ kind_word text.now }
+{
+    if text == "source" {
+        return Some(KindWord::Source);
+    }
+    if text == "server" {
+        return Some(KindWord::Server);
+    }
+    if text == "delay" {
+        return Some(KindWord::Delay);
+    }
+    if text == "router" {
+        return Some(KindWord::Router);
+    }
+    if text == "sink" {
+        return Some(KindWord::Sink);
+    }
+    None
+}
+
+/// The word that names a station's kind.
+pub fn kind_key(place: u32, table: &Value) -> Result<KindWord, ModelFault>
+    ensures { result ≡ kind_word_at place (view table.now) }
+{
+    let spot = Spot {
+        place,
+        field: Field::Kind,
+    };
+    match text_key(spot, table) {
+        Ok(text) => match kind_named(text) {
+            Some(word) => Ok(word),
+            None => Err(ModelFault::OutOfRange {
+                place,
+                field: Field::Kind,
+            }),
+        },
+        Err(fault) => Err(fault),
+    }
+}
+
+fn read_class(format: u32, place: u32, table: &Value) -> Result<u64, ModelFault>
+    ensures value { result ≡ class_at format place (view table.now) }
+    ensures small { IfOk result (λ n. n ≤ 4) }
+{
+    if format == 1 {
+        return Ok(1);
+    }
+    let spot = Spot {
+        place,
+        field: Field::Class,
+    };
+    integer_key(spot, 1, 4, Some(1), table)
+}
+
+fn order_named(text: &str) -> Option<bool>
+    ensures { result ≡ order_word text.now }
+{
+    if text == "arrival" {
+        return Some(false);
+    }
+    if text == "class" {
+        return Some(true);
+    }
+    None
+}
+
+fn read_order(format: u32, place: u32, table: &Value) -> Result<bool, ModelFault>
+    ensures { result ≡ order_at format place (view table.now) }
+{
+    if format == 1 {
+        return Ok(false);
+    }
+    let field = Field::Order;
+    let Some(value) = table.get(field.key()) else {
+        return Ok(false);
+    };
+    match read_text(Spot { place, field }, value) {
+        Ok(text) => match order_named(text) {
+            Some(by_class) => Ok(by_class),
+            None => Err(ModelFault::OutOfRange { place, field }),
+        },
+        Err(fault) => Err(fault),
+    }
+}
+
+fn way_named(text: &str) -> Option<bool>
+    ensures { result ≡ by_word text.now }
+{
+    if text == "weights" {
+        return Some(false);
+    }
+    if text == "turn" {
+        return Some(true);
+    }
+    None
+}
+
+fn read_source(format: u32, place: u32, table: &Value) -> Result<Kind, ModelFault>
+    ensures { result ≡ source_of format place (view table.now) }
+{
+    let every = span_key(
+        Spot {
+            place,
+            field: Field::Every,
+        },
+        1,
+        table,
+    )?;
+    let jobs = integer_key(
+        Spot {
+            place,
+            field: Field::Jobs,
+        },
+        0,
+        1_000_000,
+        None,
+        table,
+    )?;
+    let class = read_class(format, place, table)? as u32;
+    Ok(Kind::Source {
+        lo: every.lo,
+        hi: every.hi,
+        jobs,
+        class,
+    })
+}
+
+fn read_server(format: u32, place: u32, table: &Value) -> Result<Kind, ModelFault>
+    ensures { result ≡ server_of format place (view table.now) }
+{
+    let servers = integer_key(
+        Spot {
+            place,
+            field: Field::Servers,
+        },
+        1,
+        16,
+        None,
+        table,
+    )? as u32;
+    let room = integer_key(
+        Spot {
+            place,
+            field: Field::Room,
+        },
+        0,
+        4096,
+        None,
+        table,
+    )? as u32;
+    let service = span_key(
+        Spot {
+            place,
+            field: Field::Service,
+        },
+        1,
+        table,
+    )?;
+    let by_class = read_order(format, place, table)?;
+    Ok(Kind::Server {
+        servers,
+        room,
+        lo: service.lo,
+        hi: service.hi,
+        by_class,
+    })
+}
+
+fn read_delay(place: u32, table: &Value) -> Result<Kind, ModelFault>
+    ensures { result ≡ delay_of place (view table.now) }
+{
+    let hold = span_key(
+        Spot {
+            place,
+            field: Field::Hold,
+        },
+        0,
+        table,
+    )?;
+    Ok(Kind::Delay {
+        lo: hold.lo,
+        hi: hold.hi,
+    })
+}
+
+fn read_router(place: u32, table: &Value) -> Result<Kind, ModelFault>
+    ensures { result ≡ router_of place (view table.now) }
+{
+    let field = Field::By;
+    match text_key(Spot { place, field }, table) {
+        Ok(text) => match way_named(text) {
+            Some(turn) => Ok(Kind::Router { turn }),
+            None => Err(ModelFault::OutOfRange { place, field }),
+        },
+        Err(fault) => Err(fault),
+    }
+}
+
+/// What a station of a kind does, by that kind's keys.
+pub fn read_kind(format: u32, place: u32, word: KindWord, table: &Value) -> Result<Kind, ModelFault>
+    ensures { result ≡ kind_of format place word (view table.now) }
+{
+    match word {
+        KindWord::Source => read_source(format, place, table),
+        KindWord::Server => read_server(format, place, table),
+        KindWord::Delay => read_delay(place, table),
+        KindWord::Router => read_router(place, table),
+        KindWord::Sink => Ok(Kind::Sink),
+    }
+}

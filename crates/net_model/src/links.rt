@@ -1,0 +1,121 @@
+//! Reads the links of a station.
+ghost use Rattle.std.specs.Prelude.{◌≡◌, ◌≤◌, IfOk, length, map};
+ghost use Rattle.std.specs.Result.{result_map_both};
+ghost use Rattle.toml.specs.View.{view};
+ghost use Rattle.toml.specs.Data.{get};
+ghost use Rattle.net_model.specs.Fields.{key_of};
+ghost use Rattle.net_model.specs.NamedLinks.{each_link, link_of, link_tables, links_of};
+
+use crate::fault::ModelFault;
+use crate::field::Field;
+use crate::keys::{KindWord, link_fields, only_fields};
+use crate::reading::{Spot, integer_key, name_key, read_tables};
+use arrayvec::ArrayVec;
+use sim_base::Name;
+use toml::Value;
+
+/// A link as the file states it, the station that it leads to by name.
+#[derive(Clone, Copy, Debug, PartialEq, Eq)]
+pub struct NamedLink {
+    pub to: Name,
+    pub delay: u64,
+    pub weight: u32,
+}
+
+impl Default for NamedLink {
+    /// Stands where no link is.
+    fn default() -> NamedLink {
+        match Name::read(b"nowhere") {
+            Some(to) => NamedLink {
+                to,
+                delay: 0,
+                weight: 0,
+            },
+            None => unreachable!(),
+        }
+    }
+}
+
+fn read_link(place: u32, table: &Value) -> Result<NamedLink, ModelFault>
+    ensures { result ≡ link_of place (view table.now) }
+{
+    only_fields(place, link_fields(), table)?;
+    let to = name_key(
+        Spot {
+            place,
+            field: Field::To,
+        },
+        table,
+    )?;
+    let delay = integer_key(
+        Spot {
+            place,
+            field: Field::Delay,
+        },
+        1,
+        1_000_000,
+        None,
+        table,
+    )?;
+    let weight = integer_key(
+        Spot {
+            place,
+            field: Field::Weight,
+        },
+        1,
+        1000,
+        Some(1),
+        table,
+    )? as u32;
+    Ok(NamedLink { to, delay, weight })
+}
+
+fn read_each(place: u32, tables: &[Value]) -> Result<ArrayVec<NamedLink, 16>, ModelFault>
+    requires { length tables.now ≤ 16 }
+    ensures { result_map_both (λ v. v.items) (λ e. e) result ≡ each_link place (map view tables.now) }
+{
+    let mut links = ArrayVec::new();
+    'links: for table in tables {
+        match read_link(place, table) {
+            Ok(link) => links.push(link),
+            Err(fault) => return Err(fault),
+        }
+    }
+    Ok(links)
+}
+
+fn link_values(place: u32, table: &Value) -> Result<&[Value], ModelFault>
+    ensures value { result_map_both (λ vs. map view vs.now) (λ e. e) result ≡ link_tables place (get (key_of Field.Link) (view table.now)) }
+    ensures few { IfOk result (λ vs. length vs.now ≤ 16) }
+{
+    let field = Field::Link;
+    let Some(value) = table.get(field.key()) else {
+        return Ok(&[]);
+    };
+    match read_tables(Spot { place, field }, value) {
+        Ok(tables) => {
+            if tables.len() > 16 {
+                return Err(ModelFault::TooMany { place });
+            }
+            Ok(tables)
+        }
+        Err(fault) => Err(fault),
+    }
+}
+
+/// The links of a station of a kind, in order.
+pub fn read_links(
+    place: u32,
+    word: KindWord,
+    table: &Value,
+) -> Result<ArrayVec<NamedLink, 16>, ModelFault>
+    ensures { result_map_both (λ v. v.items) (λ e. e) result ≡ links_of place word (view table.now) }
+{
+    match word {
+        KindWord::Sink => Ok(ArrayVec::new()),
+        _ => match link_values(place, table) {
+            Ok(tables) => read_each(place, tables),
+            Err(fault) => Err(fault),
+        },
+    }
+}

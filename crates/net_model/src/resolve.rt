@@ -1,0 +1,145 @@
+//! Resolves the links of the stations.
+ghost use Rattle.std.specs.Prelude.{◌≡◌, ◌≢◌, ◌≤◌, ◌<◌, ◌^◌, IfErr, IfOk, IfSome, length, map, position, Ok, Err};
+ghost use Rattle.std.specs.Result.{result_map_both};
+ghost use Rattle.std.specs.Str.{bytes_eq};
+ghost use Rattle.net_model.specs.Drafts.{as_draft};
+ghost use Rattle.net_model.specs.Net.{is_source};
+ghost use Rattle.net_model.specs.Resolving.{each_resolved, is_sink, link_to, resolved, site_of_draft, sites_of};
+ghost use Rattle.net_model.specs.Sites.{as_site};
+
+use crate::draft::Draft;
+use crate::fault::ModelFault;
+use crate::links::NamedLink;
+use crate::station::{Kind, Link, Station};
+use arrayvec::ArrayVec;
+use sim_base::Name;
+use std::alloc::Global;
+
+fn is_source_kind(kind: Kind) -> bool
+    ensures { result ≡ is_source kind }
+{
+    match kind {
+        Kind::Source { .. } => true,
+        _ => false,
+    }
+}
+
+fn is_sink_kind(kind: Kind) -> bool
+    ensures { result ≡ is_sink kind }
+{
+    match kind {
+        Kind::Sink => true,
+        _ => false,
+    }
+}
+
+fn named_draft(drafts: &[Draft], name: &Name) -> Option<usize>
+    ensures value { result ≡ position (λ draft. bytes_eq draft.name name.now) drafts.now }
+    ensures there { IfSome result (λ i. i < length drafts.now) }
+{
+    drafts
+        .iter()
+        .position(|draft| draft.name.as_bytes() == name.as_bytes())
+}
+
+fn link_into(
+    lookahead: u64,
+    place: u32,
+    link: &NamedLink,
+    i: usize,
+    kind: Kind,
+) -> Result<Link, ModelFault>
+    requires { i < 2 ^ 31 }
+    ensures { result ≡ link_to lookahead place link.now i kind }
+{
+    if is_source_kind(kind) {
+        return Err(ModelFault::IntoSource { place });
+    }
+    if link.delay < lookahead {
+        return Err(ModelFault::ShortDelay { place });
+    }
+    Ok(Link {
+        to: i as u32 + 1,
+        delay: link.delay,
+        weight: link.weight,
+    })
+}
+
+fn resolve_link(
+    lookahead: u64,
+    drafts: &[Draft],
+    place: u32,
+    link: &NamedLink,
+) -> Result<Link, ModelFault>
+    requires { length drafts.now < 2 ^ 31 }
+    ensures { result ≡ resolved lookahead (map as_draft drafts.now) place link.now }
+{
+    match named_draft(drafts, &link.to) {
+        Some(i) => link_into(lookahead, place, link, i, drafts[i].kind),
+        None => Err(ModelFault::UnknownStation { place }),
+    }
+}
+
+fn resolve_links(
+    lookahead: u64,
+    drafts: &[Draft],
+    place: u32,
+    links: &[NamedLink],
+) -> Result<ArrayVec<Link, 16>, ModelFault>
+    requires some { length drafts.now < 2 ^ 31 }
+    requires few { length links.now ≤ 16 }
+    ensures { result_map_both (λ v. v.items) (λ e. e) result ≡ each_resolved lookahead (map as_draft drafts.now) place links.now }
+{
+    let mut found = ArrayVec::new();
+    'links: for link in links {
+        match resolve_link(lookahead, drafts, place, link) {
+            Ok(link) => found.push(link),
+            Err(fault) => return Err(fault),
+        }
+    }
+    Ok(found)
+}
+
+fn resolve_station(
+    lookahead: u64,
+    drafts: &[Draft],
+    place: u32,
+    draft: &Draft,
+) -> Result<Station, ModelFault>
+    requires { length drafts.now < 2 ^ 31 }
+    ensures { result_map_both as_site (λ e. e) result ≡ site_of_draft lookahead (map as_draft drafts.now) place (as_draft draft.now) }
+{
+    let links = resolve_links(lookahead, drafts, place, draft.links.as_slice())?;
+    if !is_sink_kind(draft.kind) && links.is_empty() {
+        return Err(ModelFault::NoWayOut { place });
+    }
+    Ok(Station {
+        name: draft.name,
+        kind: draft.kind,
+        stream: draft.stream,
+        links,
+    })
+}
+
+/// The stations of the network, in order.
+pub fn resolve_stations(
+    alloc: Global,
+    lookahead: u64,
+    drafts: &[Draft],
+) -> Result<Vec<Station>, ModelFault>
+    requires { length drafts.now < 2 ^ 31 }
+    ensures ok { IfOk result (λ v. sites_of lookahead (map as_draft drafts.now) 1 (map as_draft drafts.now) ≡ Ok (map as_site v.items)) }
+    ensures refused { IfErr result (λ e. e ≢ ModelFault.NoMemory → sites_of lookahead (map as_draft drafts.now) 1 (map as_draft drafts.now) ≡ Err e) }
+{
+    let mut stations = Vec::new(alloc);
+    'stations: for (i, draft) in drafts.iter().enumerate() {
+        match resolve_station(lookahead, drafts, i as u32 + 1, draft) {
+            Ok(station) => match stations.push(station) {
+                Ok(()) => {}
+                Err(_) => return Err(ModelFault::NoMemory),
+            },
+            Err(fault) => return Err(fault),
+        }
+    }
+    Ok(stations)
+}

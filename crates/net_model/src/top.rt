@@ -1,0 +1,80 @@
+//! Reads the top of a model file.
+ghost use Rattle.std.specs.Prelude.{◌≡◌, ◌≤◌, IfOk, length, map};
+ghost use Rattle.std.specs.Result.{result_map_both};
+ghost use Rattle.toml.specs.View.{view};
+ghost use Rattle.net_model.specs.Top.{counted, stations_at, top_of};
+
+use crate::fault::ModelFault;
+use crate::field::Field;
+use crate::reading::{Spot, integer_key, read_tables, value_key};
+use toml::Value;
+
+/// The numbers of the whole model, with the meaning that they have in a `Model`.
+#[derive(Clone, Copy, Debug, PartialEq, Eq)]
+pub struct Top {
+    pub format: u32,
+    pub lookahead: u64,
+    pub horizon: u64,
+    pub seed: u64,
+    pub limit: u64,
+}
+
+fn spot(field: Field) -> Spot
+    ensures { result ≡ record { place = 0; field = field } }
+{
+    Spot { place: 0, field }
+}
+
+/// The numbers at the top.
+pub fn top_numbers(root: &Value) -> Result<Top, ModelFault>
+    ensures { result ≡ top_of (view root.now) }
+{
+    let format = integer_key(spot(Field::Format), 1, 2, Some(1), root)? as u32;
+    let lookahead = integer_key(spot(Field::Lookahead), 1, 1_000_000, None, root)?;
+    let horizon = integer_key(spot(Field::Horizon), 1, 1_000_000_000, None, root)?;
+    let seed = integer_key(
+        spot(Field::Seed),
+        0,
+        9_223_372_036_854_775_807,
+        Some(0),
+        root,
+    )?;
+    let limit = integer_key(spot(Field::Limit), 1, 65_536, Some(16_384), root)?;
+    Ok(Top {
+        format,
+        lookahead,
+        horizon,
+        seed,
+        limit,
+    })
+}
+
+fn counted_tables(tables: &[Value]) -> Result<&[Value], ModelFault>
+    ensures few { IfOk result (λ vs. length vs.now ≤ 64) }
+    ensures value { result_map_both (λ vs. map view vs.now) (λ e. e) result ≡ counted (map view tables.now) }
+{
+    if tables.is_empty() {
+        return Err(ModelFault::OutOfRange {
+            place: 0,
+            field: Field::Station,
+        });
+    }
+    if tables.len() > 64 {
+        return Err(ModelFault::TooMany { place: 0 });
+    }
+    Ok(tables)
+}
+
+/// The tables of the stations, 1 to 64.
+pub fn station_tables(root: &Value) -> Result<&[Value], ModelFault>
+    ensures few { IfOk result (λ vs. length vs.now ≤ 64) }
+    ensures value { result_map_both (λ vs. map view vs.now) (λ e. e) result ≡ stations_at (view root.now) }
+{
+    match value_key(spot(Field::Station), root) {
+        Ok(value) => match read_tables(spot(Field::Station), value) {
+            Ok(tables) => counted_tables(tables),
+            Err(fault) => Err(fault),
+        },
+        Err(fault) => Err(fault),
+    }
+}
