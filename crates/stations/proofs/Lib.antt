@@ -1,0 +1,12 @@
+pub mod Places
+pub mod Links
+pub mod Accepting
+pub mod Lines
+pub mod Starting
+pub mod Growing
+pub mod NextInLine
+pub mod ServerLaws
+pub mod KindLaws
+pub mod Lawful
+pub mod OpeningLaws
+pub mod GoodLaws

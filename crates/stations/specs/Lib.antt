@@ -5,5 +5,8 @@ pub mod Servers
 pub mod Passing
 pub mod Handling
 pub mod Opening
+pub mod Fits
+pub mod Sends
+pub mod Good
 pub mod Runs
 pub mod Examples

@@ -13,6 +13,9 @@ pub record Outgoing : Type 0 where
   pub sender : Sender
   pub sends : List Msg
 
+abbrev pub outgoing : Sender → List Msg → Outgoing
+outgoing sender sends = record { sender = sender; sends = sends }
+
 -- one message more goes out, with the sender's next number
 abbrev pub send : ℕ → ℕ → Payload → Outgoing → Outgoing
 send time to payload o = record {

@@ -16,16 +16,23 @@ use Rattle.stations.specs.Changes.{is_accepted}
 abbrev pub class_of : Net → JobOf → ℕ
 class_of net job = class_of_kind (site_of net job.source).kind
 
--- the least class of a job and of those after it
-abbrev pub least_class : Net → JobOf → List JobOf → ℕ
-least_class net job [] = class_of net job
-least_class net job (j ∷ js) = min (class_of net job) (least_class net j js)
+-- the least of a class and of the classes of jobs
+abbrev pub least_class : Net → ℕ → List JobOf → ℕ
+least_class net n [] = n
+least_class net n (j ∷ js) = least_class net (min n (class_of net j)) js
+
+-- the place of the first job of a class, or the length of the line
+abbrev pub place_of_class : Net → ℕ → List JobOf → ℕ
+place_of_class net n jobs = position_or_len (λ job. class_of net job == n) jobs
+
+-- the least class in a waiting line
+abbrev pub least_in : Net → List JobOf → ℕ
+least_in net [] = 1
+least_in net (j ∷ js) = least_class net (class_of net j) js
 
 -- the place of the next job in the waiting line: the first, or the first of the least class
 abbrev pub next_place : Net → Site → List JobOf → ℕ
-next_place net site [] = 0
-next_place net site (j ∷ js) =
-    if serves_by_class site.kind then position_or_len (λ job. class_of net job == least_class net j js) (j ∷ js) else 0
+next_place net site jobs = if serves_by_class site.kind then place_of_class net (least_in net jobs) jobs else 0
 
 -- a job is taken into service, which ends after a time from the server's range
 abbrev pub start : ℕ → JobOf → ServerState → Outgoing → Reaction ServerState

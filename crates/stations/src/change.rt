@@ -1,4 +1,11 @@
 //! Whether a station takes a change.
+ghost use Rattle.std.specs.Prelude.{◌≡◌, ◌≤◌, length};
+ghost use Rattle.net_model.specs.Net.{site_of};
+ghost use Rattle.net_model.specs.Sites.{as_site};
+ghost use Rattle.stations.specs.Changes.{accepts as accepts_at, is_accepted, takes, is_range, is_in_range};
+
+use net_model::{Kind, Model, Station};
+use sim_base::{Change, Param};
 
 /// Why a station does not take a change.
 #[derive(Clone, Copy, Debug, PartialEq, Eq)]
@@ -7,4 +14,68 @@ pub enum ChangeFault {
     WrongParameter,
     /// A value is outside the parameter's range.
     OutOfRange,
+}
+
+/// Whether a station of the model takes a change.
+///
+/// `WrongParameter` comes exactly where its kind does not have the parameter, `OutOfRange` exactly where
+/// it does and a value is out of range.
+pub fn accepts(model: &Model, station: u32, change: &Change) -> Result<(), ChangeFault>
+    requires low { 1 ≤ station }
+    requires high { station ≤ length model.now.sites }
+    ensures { result ≡ accepts_at (site_of model.now station) change.now }
+{
+    station_accepts(model.station(station), change)
+}
+
+pub(crate) fn station_accepts(station: &Station, change: &Change) -> Result<(), ChangeFault>
+    ensures { result ≡ accepts_at (as_site station.now) change.now }
+{
+    if !kind_takes(&station.kind, change.param) {
+        return Err(ChangeFault::WrongParameter);
+    }
+    if !in_range(station.links.len(), change) {
+        return Err(ChangeFault::OutOfRange);
+    }
+    Ok(())
+}
+
+pub(crate) fn takes_change(station: &Station, change: &Change) -> bool
+    ensures { result ≡ is_accepted (as_site station.now) change.now }
+{
+    station_accepts(station, change).is_ok()
+}
+
+fn kind_takes(kind: &Kind, param: Param) -> bool
+    ensures { result ≡ takes kind.now param }
+{
+    match *kind {
+        Kind::Source { .. } => param == Param::Every,
+        Kind::Server { .. } => {
+            param == Param::Service || param == Param::Servers || param == Param::Room
+        }
+        Kind::Delay { .. } => param == Param::Hold,
+        Kind::Router { turn } => param == Param::Weight && !turn,
+        Kind::Sink => false,
+    }
+}
+
+fn ordered(low: u64, change: &Change) -> bool
+    ensures { result ≡ is_range low change.now.a change.now.b }
+{
+    low <= change.a && change.a <= change.b && change.b <= 1_000_000
+}
+
+fn in_range(links: usize, change: &Change) -> bool
+    ensures { result ≡ is_in_range links change.now.param change.now.a change.now.b }
+{
+    match change.param {
+        Param::Every | Param::Service => ordered(1, change),
+        Param::Hold => ordered(0, change),
+        Param::Servers => 1 <= change.a && change.a <= 16,
+        Param::Room => change.a <= 4096,
+        Param::Weight => {
+            1 <= change.a && change.a <= links as u64 && 1 <= change.b && change.b <= 1000
+        }
+    }
 }

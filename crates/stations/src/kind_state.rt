@@ -1,44 +1,6 @@
 //! What each kind of station keeps.
-ghost use Rattle.std.specs.Prelude.{◌≡◌, [], length};
-
+use crate::job_queue::JobQueue;
 use arrayvec::ArrayVec;
-use sim_base::Job;
-use std::alloc::Global;
-use std::collections::VecDeque;
-use std::marker::Model;
-
-/// The waiting line of a server, in the order in which the jobs came.
-#[derive(Drop)]
-pub struct JobQueue {
-    jobs: VecDeque<Job>,
-}
-
-impl Model for JobQueue {
-    ghost use Rattle.std.specs.Prelude.{List};
-    ghost use Rattle.sim_base.specs.declared.message.Job.{Job};
-
-    ghost Value = { List Job };
-
-    ghost view = { λ q. q.jobs.items };
-}
-
-impl JobQueue {
-    /// Nobody waits.
-    pub fn new(alloc: Global) -> JobQueue
-        ensures { result ≡ [] }
-    {
-        JobQueue {
-            jobs: VecDeque::new(alloc),
-        }
-    }
-
-    /// How many jobs wait.
-    pub fn len(&self) -> usize
-        ensures { result ≡ length self.now }
-    {
-        self.jobs.len()
-    }
-}
 
 /// A source: the range of its times between jobs, how many jobs it makes, and how many it has sent.
 #[derive(Clone, Copy, Debug, PartialEq, Eq)]

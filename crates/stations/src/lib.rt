@@ -3,11 +3,17 @@
 
 pub mod change;
 pub mod examples;
+pub mod job_queue;
 pub mod kind_state;
+pub mod laws;
+mod passing;
 pub mod sender;
+mod server;
+mod source;
+pub mod state;
 
 pub use change::ChangeFault;
-pub use kind_state::{
-    DelayState, JobQueue, KindState, RouterState, ServerState, SinkState, SourceState,
-};
+pub use job_queue::JobQueue;
+pub use kind_state::{DelayState, KindState, RouterState, ServerState, SinkState, SourceState};
 pub use sender::Sender;
+pub use state::State;

@@ -1,4 +1,14 @@
-//! What a station sends by.
+//! What a station sends by, and how it sends.
+ghost use Rattle.std.specs.Prelude.{◌≡◌, ◌<◌, ◌≤◌, ◌^◌, length, slice_get, Some};
+ghost use Rattle.arrayvec.specs.ArrayVec.{array_vec_len};
+ghost use Rattle.sim_draw.specs.Drawing.{pick_of, drawn_by};
+ghost use Rattle.net_model.specs.Rules.{IsRange};
+ghost use Rattle.stations.specs.Fits.{AreWeights, AreLinks};
+ghost use Rattle.stations.specs.Sending.{outgoing, send, send_later, send_over, route, weights_of};
+
+use arrayvec::ArrayVec;
+use net_model::Link;
+use sim_base::{Job, Key, Msg, Payload};
 use sim_draw::Draws;
 
 /// A station's number, the count of the messages that it has sent, and its draws.
@@ -7,4 +17,128 @@ pub struct Sender {
     pub station: u32,
     pub next: u64,
     pub draws: Draws,
+}
+
+/// Sends a message, with the sender's next number.
+pub(crate) fn send_message(
+    sender: &mut Sender,
+    out: &mut ArrayVec<Msg, 16>,
+    time: u64,
+    to: u32,
+    payload: Payload,
+)
+    requires room { array_vec_len out.old < 16 }
+    requires small { sender.old.next < 2 ^ 32 }
+    ensures { send time to payload (outgoing sender.old out.old.items) ≡ outgoing sender.new out.new.items }
+{
+    out.push(Msg {
+        key: Key {
+            time,
+            sender: sender.station,
+            number: sender.next,
+        },
+        to,
+        payload,
+    });
+    sender.next += 1;
+}
+
+/// Sends a message to the station itself, after a time drawn from `lo` to `hi`.
+pub(crate) fn send_to_itself(
+    sender: &mut Sender,
+    out: &mut ArrayVec<Msg, 16>,
+    now: u64,
+    lo: u64,
+    hi: u64,
+    payload: Payload,
+)
+    requires room { array_vec_len out.old < 16 }
+    requires small { sender.old.next < 2 ^ 32 }
+    requires few { sender.old.draws.count < 2 ^ 32 }
+    requires range { IsRange 1 lo hi }
+    requires early { now < 2 ^ 31 }
+    ensures { send_later now lo hi payload (outgoing sender.old out.old.items) ≡ outgoing sender.new out.new.items }
+{
+    let wait = sender.draws.range(lo, hi);
+    let station = sender.station;
+    send_message(sender, out, now + wait, station, payload);
+}
+
+/// Sends a job over a link, which takes the link's delay from `time` on.
+pub(crate) fn send_over_link(
+    sender: &mut Sender,
+    out: &mut ArrayVec<Msg, 16>,
+    link: &Link,
+    time: u64,
+    job: Job,
+)
+    requires room { array_vec_len out.old < 16 }
+    requires small { sender.old.next < 2 ^ 32 }
+    requires near { link.now.delay ≤ 1000000 }
+    requires early { time < 2 ^ 32 }
+    ensures { send_over (Some link.now) time job (outgoing sender.old out.old.items) ≡ outgoing sender.new out.new.items }
+{
+    send_message(sender, out, time + link.delay, link.to, Payload::Job(job));
+}
+
+/// Picks a link by weights, one for each link.
+pub(crate) fn pick_link(sender: &mut Sender, links: &[Link], weights: &[u32]) -> Link
+    requires valid { AreWeights weights.now }
+    requires same { length weights.now ≡ length links.now }
+    requires few { sender.old.draws.count < 2 ^ 32 }
+    ensures link { slice_get links.now (pick_of weights.now sender.old.draws) ≡ Some result }
+    ensures drawn { sender.new ≡ record sender.old { draws = drawn_by weights.now sender.old.draws } }
+{
+    let place = sender.draws.pick(weights);
+    link_at(links, place)
+}
+
+pub(crate) fn link_at(links: &[Link], place: usize) -> Link
+    requires { place < length links.now }
+    ensures { slice_get links.now place ≡ Some result }
+{
+    links[place]
+}
+
+/// The weights of links, as the model states them.
+pub(crate) fn link_weights(links: &[Link]) -> ArrayVec<u32, 16>
+    requires { length links.now ≤ 16 }
+    ensures { result.items ≡ weights_of links.now }
+{
+    let mut weights = ArrayVec::new();
+    for link in links {
+        weights.push(link.weight);
+    }
+    weights
+}
+
+/// Picks a link by the weights of the model; with one link nothing is drawn.
+pub(crate) fn pick_by_model(sender: &mut Sender, links: &[Link]) -> Link
+    requires valid { AreLinks links.now }
+    requires few { sender.old.draws.count < 2 ^ 32 }
+    ensures link { slice_get links.now (pick_of (weights_of links.now) sender.old.draws) ≡ Some result }
+    ensures drawn { sender.new ≡ record sender.old { draws = drawn_by (weights_of links.now) sender.old.draws } }
+    ensures near { result.delay ≤ 1000000 }
+{
+    let weights = link_weights(links);
+    pick_link(sender, links, weights.as_slice())
+}
+
+/// Sends a job over one of the links, by the weights of the model.
+pub(crate) fn route_job(
+    sender: &mut Sender,
+    out: &mut ArrayVec<Msg, 16>,
+    links: &[Link],
+    now: u64,
+    job: Job,
+)
+    requires room { array_vec_len out.old < 16 }
+    requires small { sender.old.next < 2 ^ 32 }
+    requires few { sender.old.draws.count < 2 ^ 32 }
+    requires early { now < 2 ^ 31 }
+    requires valid { AreLinks links.now }
+    ensures { route links.now now job (outgoing sender.old out.old.items) ≡ outgoing sender.new out.new.items }
+{
+    let link = pick_by_model(sender, links);
+    send_over_link(sender, out, &link, now, job);
 }

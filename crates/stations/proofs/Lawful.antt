@@ -1,0 +1,127 @@
+-- What a network promises of the stations that stand in it.
+use Rattle.std.proofs.Common.{◌≡◌, ℕ, zero, suc, ◌+◌, ◌^◌, ◌<◌, ◌≤◌, List, [], ◌∷◌, length, refl, sym, ap, subst, slice_get, Some, unwrap_or, arith}
+use Rattle.std.specs.List.{AllByRecursion}
+use Rattle.net_model.specs.declared.station.Kind.{Kind}
+use Rattle.net_model.specs.declared.station.Kind.TheVariants as kind
+use Rattle.net_model.specs.declared.station.Link.{Link}
+use Rattle.net_model.specs.Net.{Net, Site, site_at, site_of, no_site}
+use Rattle.net_model.specs.Rules.{IsNet, IsSite, IsLink, HasWayOut}
+use Rattle.stations.specs.declared.kind_state.KindState.{KindState}
+use Rattle.stations.specs.declared.kind_state.KindState.TheVariants.{Source, Server, Delay, Router, Sink}
+use Rattle.stations.specs.Fits.{AreLinks, HasLinks, IsOfKind, SuitsNet, FitsState}
+use Rattle.sim_base.specs.declared.message.Msg.{Msg}
+use Rattle.stations.specs.declared.sender.Sender.{Sender}
+use Rattle.stations.specs.Handling.{StationState, handle, handled_as, kind_on, line_of}
+use Rattle.stations.specs.Sending.{Outgoing, outgoing, reaction}
+use Rattle.stations.specs.Sends.{AreSends}
+use Rattle.stations.proofs.Places.{all_at}
+use Rattle.stations.proofs.KindLaws.{good_kind, kind_on-kept, kind_on-fits}
+
+-- a station that is there meets the rules, and its number is in range
+pub site_valid : (net : Net) (s : ℕ) (site : Site) → IsNet net → site_at net s ≡ Some site → IsSite net site
+site_valid net zero site valid is = absurd (cc)
+site_valid net (suc i) site valid is = all_at (IsSite net) net.sites i site valid.sites is
+
+below_length : {X : Type 0} (xs : List X) (i : ℕ) (x : X) → slice_get xs i ≡ Some x → i < length xs
+below_length [] i x is = absurd (cc)
+below_length (y ∷ ys) zero x is = omega arith
+below_length (y ∷ ys) (suc i) x is = (let rest = below_length ys i x is in omega arith)
+
+pub number_in : (net : Net) (s : ℕ) (site : Site) → site_at net s ≡ Some site → (1 ≤ s) × (s ≤ length net.sites)
+number_in net zero site is = absurd (cc)
+number_in net (suc i) site is = (omega arith, (let rest = below_length net.sites i site is in omega arith))
+
+pub site_is : (net : Net) (s : ℕ) (site : Site) → site_at net s ≡ Some site → site_of net s ≡ site
+site_is net s site is = ap (λ o. unwrap_or o no_site) is
+
+links_parts : (net : Net) (links : List Link) → AllByRecursion (IsLink net) links
+    → AllByRecursion (λ l. 1 ≤ l.weight) links × AllByRecursion (λ l. l.weight ≤ 1000) links × AllByRecursion (λ l. l.delay ≤ 1000000) links
+links_parts net [] all = (tt, tt, tt)
+links_parts net (l ∷ ls) all = let rest = links_parts net ls all.1 in ((all.0.heavy, rest.0), (all.0.light, rest.1), (all.0.small, rest.2))
+
+pub are_links : (net : Net) (site : Site) → IsSite net site → 1 ≤ length site.links → AreLinks site.links
+are_links net site valid some =
+    let parts = links_parts net site.links valid.links in
+    record { some = some; few = valid.few; heavy = parts.0; light = parts.1; near = parts.2 }
+
+-- a state of the station's kind has the links that it needs
+has_links : (net : Net) (site : Site) (k : Kind) (st : KindState) → IsSite net site → site.kind ≡ k → IsOfKind site k st → HasLinks st site.links
+has_links net site (kind.Source lo hi jobs class) (Source s) valid is of = are_links net site valid (subst (λ (q : Kind). HasWayOut q site.links) is valid.way)
+has_links net site (kind.Source lo hi jobs class) (Server s) valid is of = absurd of
+has_links net site (kind.Source lo hi jobs class) (Delay s) valid is of = absurd of
+has_links net site (kind.Source lo hi jobs class) (Router s) valid is of = absurd of
+has_links net site (kind.Source lo hi jobs class) (Sink s) valid is of = absurd of
+has_links net site (kind.Server servers room lo hi by_class) (Source s) valid is of = absurd of
+has_links net site (kind.Server servers room lo hi by_class) (Server s) valid is of = are_links net site valid (subst (λ (q : Kind). HasWayOut q site.links) is valid.way)
+has_links net site (kind.Server servers room lo hi by_class) (Delay s) valid is of = absurd of
+has_links net site (kind.Server servers room lo hi by_class) (Router s) valid is of = absurd of
+has_links net site (kind.Server servers room lo hi by_class) (Sink s) valid is of = absurd of
+has_links net site (kind.Delay lo hi) (Source s) valid is of = absurd of
+has_links net site (kind.Delay lo hi) (Server s) valid is of = absurd of
+has_links net site (kind.Delay lo hi) (Delay s) valid is of = are_links net site valid (subst (λ (q : Kind). HasWayOut q site.links) is valid.way)
+has_links net site (kind.Delay lo hi) (Router s) valid is of = absurd of
+has_links net site (kind.Delay lo hi) (Sink s) valid is of = absurd of
+has_links net site (kind.Router turn) (Source s) valid is of = absurd of
+has_links net site (kind.Router turn) (Server s) valid is of = absurd of
+has_links net site (kind.Router turn) (Delay s) valid is of = absurd of
+has_links net site (kind.Router turn) (Router s) valid is of = are_links net site valid (subst (λ (q : Kind). HasWayOut q site.links) is valid.way)
+has_links net site (kind.Router turn) (Sink s) valid is of = absurd of
+has_links net site kind.Sink (Source s) valid is of = absurd of
+has_links net site kind.Sink (Server s) valid is of = absurd of
+has_links net site kind.Sink (Delay s) valid is of = absurd of
+has_links net site kind.Sink (Router s) valid is of = absurd of
+has_links net site kind.Sink (Sink s) valid is of = tt
+
+-- what the handling of a message keeps, and what it sends
+pub record HandlesWell (net : Net) (st : StationState) (m : Msg) : Type 0 where
+  pub fits : FitsState (handle net st m).state
+  pub suits : SuitsNet net (handle net st m).state
+  pub sends : AreSends net m.key.time st.sender.station st.sender.next (handle net st m).sends
+  pub next : (handle net st m).state.sender.next ≡ st.sender.next + length (handle net st m).sends
+  pub few : length (handle net st m).sends ≤ 16
+  pub handled : (handle net st m).state.handled ≡ st.handled + 1
+  pub station : (handle net st m).state.sender.station ≡ st.sender.station
+
+pub handles-well : (net : Net) (st : StationState) (m : Msg) → IsNet net → FitsState st → SuitsNet net st → m.key.time < 2 ^ 31 → HandlesWell net st m
+unfolding handle
+handles-well net st m valid fits suits early =
+    let site = site_of net st.sender.station in
+    let is = site_is net st.sender.station suits.site suits.is_there in
+    let there : site_at net st.sender.station ≡ Some site = rw is suits.is_there in
+    let lawful : IsSite net site = rw is (site_valid net st.sender.station suits.site valid suits.is_there) in
+    let of : IsOfKind site site.kind st.kind = subst (λ (q : Site). IsOfKind q q.kind st.kind) (sym is) suits.kind in
+    let number = number_in net st.sender.station suits.site suits.is_there in
+    let begin : Outgoing = record { sender = st.sender; sends = [] } in
+    let kept = kind_on-kept net site m.key.time lawful.links valid.ahead begin number.0 number.1 site.kind st.handled m.payload st.kind refl of (good_kind st.handled st.kind fits.kind) in
+    let g = kept.grown in
+    let count = ap length g.sends in
+    record {
+      fits = record {
+        sender = record {
+          station = rw g.station number.0;
+          next = omega (arith, g.next, g.few, fits.sender.next);
+          draws = omega (arith, g.draws, fits.sender.draws);
+        };
+        kind = kind_on-fits m.key.time early net site st.handled m.payload st.kind begin fits.kind kept.good;
+      };
+      suits = record { site = site; is_there = rw g.station there; kind = kept.kind };
+      sends = subst (AreSends net m.key.time st.sender.station st.sender.next) (sym g.sends) g.are;
+      next = omega (arith, g.next, count);
+      few = omega (arith, g.few, count);
+      handled = refl;
+      station = g.station;
+    }
+
+no_element : {X : Type 0} (xs : List X) → length xs ≡ 0 → xs ≡ []
+no_element [] none = refl
+no_element (x ∷ xs) none = absurd (omega arith)
+
+-- the code's steps come to the handling of the message
+pub handle-is : (net : Net) (st : StationState) (m : Msg) (site : Site) (before after : List Msg) (kind' : KindState) (sender' : Sender) → site_at net st.sender.station ≡ Some site → length before ≡ 0
+    → kind_on net site m.key.time m.payload st.kind (outgoing st.sender before) ≡ reaction kind' (outgoing sender' after)
+    → handle net st m ≡ record { state = record { sender = sender'; handled = st.handled + 1; kind = kind' }; sends = after; line = line_of kind' }
+unfolding handle
+handle-is net st m site before after kind' sender' there none is =
+    let nothing = no_element before none in
+    let same = site_is net st.sender.station site there in
+    rw same (ap (handled_as (st.handled + 1)) (rw nothing at is))

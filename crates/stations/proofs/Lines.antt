@@ -1,0 +1,19 @@
+-- A waiting line from a place on.
+use Rattle.std.proofs.Common.{◌≡◌, ◌≢◌, ℕ, ◌+◌, List, drop, min, slice_get, Some, not, cond, eq-eqb, ne_eqb, ap, ◌∙◌}
+use Rattle.sim_base.specs.declared.message.Job.{Job as JobOf}
+use Rattle.net_model.specs.Net.{Net}
+use Rattle.stations.specs.Servers.{class_of, least_class, place_of_class}
+use Rattle.stations.proofs.Places.{drop-at}
+
+module _ (net : Net) (jobs : List JobOf) (i : ℕ) (job : JobOf) (at : slice_get jobs i ≡ Some job) where
+  -- the least class goes on behind the job at the place
+  pub least-drop : (n : ℕ) → least_class net n (drop i jobs) ≡ least_class net (min n (class_of net job)) (drop (i + 1) jobs)
+  least-drop n = ap (least_class net n) (drop-at jobs i job at)
+
+  -- the first of a class stands at the place
+  pub place-here : (n : ℕ) → class_of net job ≡ n → place_of_class net n (drop i jobs) ≡ 0
+  place-here n is = ap (place_of_class net n) (drop-at jobs i job at) ∙ ap (λ b. cond (not b) (1 + place_of_class net n (drop (i + 1) jobs)) 0) (eq-eqb (class_of net job) n is)
+
+  -- or it stands behind it
+  pub place-later : (n : ℕ) → class_of net job ≢ n → place_of_class net n (drop i jobs) ≡ 1 + place_of_class net n (drop (i + 1) jobs)
+  place-later n is = ap (place_of_class net n) (drop-at jobs i job at) ∙ ap (λ b. cond (not b) (1 + place_of_class net n (drop (i + 1) jobs)) 0) (ne_eqb (class_of net job) n is)

@@ -1,0 +1,48 @@
+-- The next in line stands in the line.
+use Rattle.std.proofs.Common.{◌≡◌, ℕ, ◌<◌, ◌≤◌, ◌⊎◌, inl, inr, min, List, [], ◌∷◌, length, Bool, true, false, if◌then◌else◌, eqb, eq-eqb, refl, sym, ◌∙◌, arith}
+use Rattle.std.proofs.lemmas.Bool.{cases_Bool, cases_lt, false≢true}
+use Rattle.sim_base.specs.declared.message.Job.{Job as JobOf}
+use Rattle.net_model.specs.Net.{Net, Site, serves_by_class}
+use Rattle.stations.specs.Servers.{class_of, least_class, least_in, place_of_class, next_place}
+
+min_is : (a b : ℕ) → (min a b ≡ a) ⊎ (min a b ≡ b)
+min_is a b = elim (cases_lt a b) [ inl below ↦ inl (omega arith) | inr above ↦ inr (omega arith) ]
+
+module _ (net : Net) where
+  -- one of the jobs has the class n
+  abbrev HasClass : ℕ → List JobOf → Type 0
+  HasClass n [] = ⊥
+  HasClass n (j ∷ js) = (class_of net j ≡ n) ⊎ HasClass n js
+
+  -- the least of a class and of the classes of jobs is that class or one of theirs
+  least_reached : (n : ℕ) (js : List JobOf) → (least_class net n js ≡ n) ⊎ HasClass (least_class net n js) js
+  least_reached n [] = inl refl
+  least_reached n (j ∷ js) = elim (least_reached (min n (class_of net j)) js) [
+    | inl same ↦ elim (min_is n (class_of net j)) [
+      | inl first ↦ inl (same ∙ first)
+      | inr second ↦ inr (inl (sym (same ∙ second)))
+    ]
+    | inr has ↦ inr (inr has)
+  ]
+
+  least_in_line : (jobs : List JobOf) → 1 ≤ length jobs → HasClass (least_in net jobs) jobs
+  least_in_line [] some = absurd (omega arith)
+  least_in_line (j ∷ js) some = elim (least_reached (class_of net j) js) [ inl same ↦ inl (sym same) | inr has ↦ inr has ]
+
+  place_below : (n : ℕ) (jobs : List JobOf) → HasClass n jobs → place_of_class net n jobs < length jobs
+  place_below n [] has = absurd has
+  place_below n (j ∷ js) has = elim (cases_Bool (eqb (class_of net j) n)) [
+    | inl is ↦ rw is (omega arith)
+    | inr other ↦ elim has [
+      | inl same ↦ absurd (false≢true (sym other ∙ eq-eqb (class_of net j) n same))
+      | inr later ↦ (let below = place_below n js later in rw other (omega arith))
+    ]
+  ]
+
+  -- where somebody waits, the next in line is one of them
+  pub next_place-below : (site : Site) (jobs : List JobOf) → 1 ≤ length jobs → next_place net site jobs < length jobs
+  next_place-below site jobs some = by (serves_by_class site.kind)
+    where
+      by : (b : Bool) → (if b then place_of_class net (least_in net jobs) jobs else 0) < length jobs
+      by true = place_below (least_in net jobs) jobs (least_in_line jobs some)
+      by false = omega arith

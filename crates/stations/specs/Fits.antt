@@ -1,0 +1,114 @@
+-- What every state of a station keeps, and when it is one of a station of the network.
+use Rattle.std.specs.Prelude.{◌≡◌, ℕ, ◌+◌, ◌*◌, ◌^◌, ◌≤◌, ◌⊎◌, List, length, Some, Bool, true, false}
+use Rattle.std.specs.List.{AllByRecursion}
+use Rattle.net_model.specs.declared.station.Kind.{Kind}
+use Rattle.net_model.specs.declared.station.Kind.TheVariants as kind
+use Rattle.net_model.specs.declared.station.Link.{Link}
+use Rattle.net_model.specs.Net.{Net, Site, site_at}
+use Rattle.net_model.specs.Rules.{IsRange}
+use Rattle.stations.specs.declared.sender.Sender.{Sender}
+use Rattle.stations.specs.declared.kind_state.KindState.{KindState}
+use Rattle.stations.specs.declared.kind_state.KindState.TheVariants.{Source, Server, Delay, Router, Sink}
+use Rattle.stations.specs.declared.kind_state.SourceState.{SourceState}
+use Rattle.stations.specs.declared.kind_state.ServerState.{ServerState}
+use Rattle.stations.specs.declared.kind_state.DelayState.{DelayState}
+use Rattle.stations.specs.declared.kind_state.RouterState.{RouterState}
+use Rattle.stations.specs.declared.kind_state.SinkState.{SinkState}
+use Rattle.stations.specs.Handling.{StationState}
+
+-- weights by which a link may be picked
+pub record AreWeights (weights : List ℕ) : Type 0 where
+  pub some : 1 ≤ length weights
+  pub few : length weights ≤ 16
+  pub heavy : AllByRecursion (λ w. 1 ≤ w) weights
+  pub light : AllByRecursion (λ w. w ≤ 1000) weights
+
+-- links over which jobs may go
+pub record AreLinks (links : List Link) : Type 0 where
+  pub some : 1 ≤ length links
+  pub few : length links ≤ 16
+  pub heavy : AllByRecursion (λ l. 1 ≤ l.weight) links
+  pub light : AllByRecursion (λ l. l.weight ≤ 1000) links
+  pub near : AllByRecursion (λ l. l.delay ≤ 1000000) links
+
+-- a station that sends has links
+abbrev pub HasLinks : KindState → List Link → Type 0
+HasLinks (Sink s) links = Unit {0}
+HasLinks _ links = AreLinks links
+
+-- after so many messages were handled
+pub record FitsSource (handled : ℕ) (s : SourceState) : Type 0 where
+  pub range : IsRange 1 s.lo s.hi
+  pub jobs : s.jobs ≤ 1000000
+  pub sent : s.sent ≤ handled
+
+-- nobody waits beside a free server
+pub record FitsServer (handled : ℕ) (s : ServerState) : Type 0 where
+  pub some : 1 ≤ s.servers
+  pub most : s.servers ≤ 16
+  pub room : s.room ≤ 4096
+  pub range : IsRange 1 s.lo s.hi
+  pub busy : s.busy ≤ 16
+  pub line : (length s.waiting ≡ 0) ⊎ (s.servers ≤ s.busy)
+  pub short : length s.waiting ≤ 4096
+  pub done : s.done ≤ handled
+  pub lost : s.lost ≤ handled
+
+pub record FitsDelay (handled : ℕ) (s : DelayState) : Type 0 where
+  pub range : IsRange 0 s.lo s.hi
+  pub passed : s.passed ≤ handled
+
+pub record FitsRouter (handled : ℕ) (s : RouterState) : Type 0 where
+  pub weights : AreWeights s.weights.items
+  pub passed : s.passed ≤ handled
+
+pub record FitsSink (handled : ℕ) (s : SinkState) : Type 0 where
+  pub got : s.got ≤ handled
+  pub stay : s.stay ≤ 2 ^ 31 * handled
+
+abbrev pub FitsKind : ℕ → KindState → Type 0
+FitsKind handled (Source s) = FitsSource handled s
+FitsKind handled (Server s) = FitsServer handled s
+FitsKind handled (Delay s) = FitsDelay handled s
+FitsKind handled (Router s) = FitsRouter handled s
+FitsKind handled (Sink s) = FitsSink handled s
+
+-- what a kind keeps whatever the times of the messages are
+abbrev pub GoodKind : ℕ → KindState → Type 0
+GoodKind handled (Sink s) = Unit {0}
+GoodKind handled (Source s) = FitsSource handled s
+GoodKind handled (Server s) = FitsServer handled s
+GoodKind handled (Delay s) = FitsDelay handled s
+GoodKind handled (Router s) = FitsRouter handled s
+
+pub record FitsSender (handled : ℕ) (s : Sender) : Type 0 where
+  pub station : 1 ≤ s.station
+  pub next : s.next ≤ 16 * (handled + 1)
+  pub draws : s.draws.count ≤ 16 * (handled + 1)
+
+pub record FitsState (st : StationState) : Type 0 where
+  pub sender : FitsSender st.handled st.sender
+  pub kind : FitsKind st.handled st.kind
+
+abbrev pub is_server : Kind → Bool
+is_server (kind.Server servers room lo hi by_class) = true
+is_server _ = false
+
+abbrev pub is_router : Kind → Bool
+is_router (kind.Router turn) = true
+is_router _ = false
+
+-- a state is of a station's kind; a router has a weight for each link
+abbrev pub IsOfKind : Site → Kind → KindState → Type 0
+IsOfKind site (kind.Source lo hi jobs class) (Source s) = Unit {0}
+IsOfKind site (kind.Server servers room lo hi by_class) (Server s) = Unit {0}
+IsOfKind site (kind.Delay lo hi) (Delay s) = Unit {0}
+IsOfKind site (kind.Router turn) (Router s) = length s.weights.items ≡ length site.links
+IsOfKind site kind.Sink (Sink s) = Unit {0}
+IsOfKind _ _ _ = ⊥
+
+-- a state is one of a station of the network
+pub record SuitsNet (net : Net) (st : StationState) : Type 0 where
+  pub site : Site
+  pub is_there : site_at net st.sender.station ≡ Some site
+  pub kind : IsOfKind site site.kind st.kind

@@ -1,0 +1,22 @@
+-- States of stations that the laws of runs speak of.
+use Rattle.std.specs.Prelude.{◌≡◌, ℕ}
+use Rattle.sim_base.specs.declared.message.Msg.{Msg}
+use Rattle.net_model.specs.Net.{Net, site_of}
+use Rattle.stations.specs.Fits.{GoodKind, IsOfKind}
+use Rattle.stations.specs.Handling.{StationState}
+
+-- a state of station s: it has the station's number and kind, and keeps what its kind keeps
+pub record IsGood (net : Net) (s : ℕ) (st : StationState) : Type 0 where
+  pub station : st.sender.station ≡ s
+  pub kind : IsOfKind (site_of net s) (site_of net s).kind st.kind
+  pub fits : GoodKind st.handled st.kind
+
+-- the number of the next message that a station sends
+abbrev pub next_number : StationState → ℕ
+next_number st = st.sender.next
+
+abbrev pub sender_of : Msg → ℕ
+sender_of m = m.key.sender
+
+abbrev pub number_of : Msg → ℕ
+number_of m = m.key.number

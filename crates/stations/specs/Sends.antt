@@ -1,0 +1,19 @@
+-- What holds of the messages that a station sends.
+use Rattle.std.specs.Prelude.{◌≡◌, ◌≢◌, ℕ, suc, ◌+◌, ◌<◌, ◌≤◌, List, [], ◌∷◌, length}
+use Rattle.sim_base.specs.declared.message.Msg.{Msg}
+use Rattle.net_model.specs.Net.{Net}
+
+-- a message that station s sends at `now` with the number k: it comes later, to a station that is there,
+-- and to another station no sooner than the lookahead
+pub record IsSend (net : Net) (now s k : ℕ) (m : Msg) : Type 0 where
+  pub sender : m.key.sender ≡ s
+  pub number : m.key.number ≡ k
+  pub later : now < m.key.time
+  pub far : m.to ≢ s → now + net.lookahead ≤ m.key.time
+  pub first : 1 ≤ m.to
+  pub last : m.to ≤ length net.sites
+
+-- messages that station s sends at `now`, with the numbers from k on
+abbrev pub AreSends : Net → ℕ → ℕ → ℕ → List Msg → Type 0
+AreSends net now s k [] = Unit {0}
+AreSends net now s k (m ∷ ms) = IsSend net now s k m × AreSends net now s (suc k) ms

@@ -1,0 +1,279 @@
+//! Servers.
+ghost use Rattle.std.specs.Prelude.{◌≡◌, ◌<◌, ◌≤◌, ◌^◌, length, OnOk, OnErr};
+ghost use Rattle.arrayvec.specs.ArrayVec.{array_vec_len};
+ghost use Rattle.net_model.specs.Net.{serves_by_class};
+ghost use Rattle.net_model.specs.Rules.{IsRange};
+ghost use Rattle.net_model.specs.Sites.{as_site};
+ghost use Rattle.stations.specs.Fits.{AreLinks};
+ghost use Rattle.stations.specs.Sending.{outgoing, reaction};
+ghost use Rattle.stations.specs.Servers.{class_of, least_in, place_of_class, next_place, start, start_next as next_started, start_times, server_job, server_done, server_change, server_set, server_on};
+ghost use Rattle.sim_base.specs.declared.message.Param.TheVariants.{Servers};
+
+use crate::change::takes_change;
+use crate::job_queue::JobQueue;
+use crate::kind_state::ServerState;
+use crate::sender::{Sender, route_job, send_to_itself};
+use arrayvec::ArrayVec;
+use net_model::{Kind, Model, Station};
+use sim_base::{Change, Job, Msg, NoMemory, Param, Payload};
+
+fn job_class(model: &Model, job: &Job) -> u32
+    ensures { result ≡ class_of model.now job.now }
+{
+    if job.source == 0 || job.source > model.len() {
+        return 1;
+    }
+    match model.station(job.source).kind {
+        Kind::Source { class, .. } => class,
+        _ => 1,
+    }
+}
+
+fn least_waiting(model: &Model, jobs: &JobQueue) -> u32
+    requires { 1 ≤ length jobs.now }
+    ensures { result ≡ least_in model.now jobs.now }
+{
+    let mut least = job_class(model, &jobs.get(0));
+    for place in 1..jobs.len() {
+        least = least.min(job_class(model, &jobs.get(place)));
+    }
+    least
+}
+
+fn first_of_class(model: &Model, jobs: &JobQueue, class: u32) -> usize
+    ensures { result ≡ place_of_class model.now class jobs.now }
+{
+    for place in 0..jobs.len() {
+        if job_class(model, &jobs.get(place)) == class {
+            return place;
+        }
+    }
+    jobs.len()
+}
+
+fn is_by_class(kind: &Kind) -> bool
+    ensures { result ≡ serves_by_class kind.now }
+{
+    match *kind {
+        Kind::Server { by_class, .. } => by_class,
+        _ => false,
+    }
+}
+
+fn place_of_next(model: &Model, station: &Station, jobs: &JobQueue) -> usize
+    ensures { result ≡ next_place model.now (as_site station.now) jobs.now }
+{
+    if !is_by_class(&station.kind) || jobs.len() == 0 {
+        return 0;
+    }
+    first_of_class(model, jobs, least_waiting(model, jobs))
+}
+
+fn start_job(
+    server: &mut ServerState,
+    sender: &mut Sender,
+    out: &mut ArrayVec<Msg, 16>,
+    now: u64,
+    job: Job,
+)
+    requires room { array_vec_len out.old < 16 }
+    requires small { sender.old.next < 2 ^ 32 }
+    requires few { sender.old.draws.count < 2 ^ 32 }
+    requires early { now < 2 ^ 31 }
+    requires range { IsRange 1 server.old.lo server.old.hi }
+    requires busy { server.old.busy < 2 ^ 32 }
+    ensures { start now job server.old (outgoing sender.old out.old.items) ≡ reaction server.new (outgoing sender.new out.new.items) }
+{
+    server.busy += 1;
+    send_to_itself(sender, out, now, server.lo, server.hi, Payload::Done(job));
+}
+
+// Where a server is free, the next waiting job is taken into service.
+fn start_next(
+    server: &mut ServerState,
+    sender: &mut Sender,
+    out: &mut ArrayVec<Msg, 16>,
+    model: &Model,
+    station: &Station,
+    now: u64,
+)
+    requires room { array_vec_len out.old < 16 }
+    requires small { sender.old.next < 2 ^ 32 }
+    requires few { sender.old.draws.count < 2 ^ 32 }
+    requires early { now < 2 ^ 31 }
+    requires range { IsRange 1 server.old.lo server.old.hi }
+    ensures { next_started model.now (as_site station.now) now server.old (outgoing sender.old out.old.items) ≡ reaction server.new (outgoing sender.new out.new.items) }
+{
+    if server.busy < u64::from(server.servers) {
+        let place = place_of_next(model, station, &server.waiting);
+        if let Some(job) = server.waiting.take(place) {
+            start_job(server, sender, out, now, job);
+        }
+    }
+}
+
+fn job_comes(
+    server: &mut ServerState,
+    sender: &mut Sender,
+    out: &mut ArrayVec<Msg, 16>,
+    now: u64,
+    job: Job,
+) -> Result<(), NoMemory>
+    requires room { array_vec_len out.old ≡ 0 }
+    requires small { sender.old.next < 2 ^ 31 }
+    requires few { sender.old.draws.count < 2 ^ 31 }
+    requires early { now < 2 ^ 31 }
+    requires range { IsRange 1 server.old.lo server.old.hi }
+    requires lost { server.old.lost < 2 ^ 32 }
+    ensures ok { OnOk result (server_job now job server.old (outgoing sender.old out.old.items) ≡ reaction server.new (outgoing sender.new out.new.items)) }
+    ensures err { OnErr result (reaction server.new (outgoing sender.new out.new.items) ≡ reaction server.old (outgoing sender.old out.old.items)) }
+{
+    if server.busy < u64::from(server.servers) {
+        start_job(server, sender, out, now, job);
+    } else if server.waiting.len() < server.room as usize {
+        server.waiting.push(job)?;
+    } else {
+        server.lost += 1;
+    }
+    Ok(())
+}
+
+fn job_is_done(
+    server: &mut ServerState,
+    sender: &mut Sender,
+    out: &mut ArrayVec<Msg, 16>,
+    model: &Model,
+    station: &Station,
+    now: u64,
+    job: Job,
+)
+    requires room { array_vec_len out.old ≡ 0 }
+    requires small { sender.old.next < 2 ^ 31 }
+    requires few { sender.old.draws.count < 2 ^ 31 }
+    requires early { now < 2 ^ 31 }
+    requires links { AreLinks station.now.links.items }
+    requires range { IsRange 1 server.old.lo server.old.hi }
+    requires done { server.old.done < 2 ^ 32 }
+    ensures { server_done model.now (as_site station.now) now job server.old (outgoing sender.old out.old.items) ≡ reaction server.new (outgoing sender.new out.new.items) }
+{
+    if server.busy == 0 {
+        return;
+    }
+    server.busy -= 1;
+    server.done += 1;
+    route_job(sender, out, station.links.as_slice(), now, job);
+    start_next(server, sender, out, model, station, now);
+}
+
+// So many times: where a server is free, the next waiting job is taken into service.
+fn start_many(
+    server: &mut ServerState,
+    sender: &mut Sender,
+    out: &mut ArrayVec<Msg, 16>,
+    model: &Model,
+    station: &Station,
+    now: u64,
+    times: u64,
+)
+    requires room { array_vec_len out.old ≡ 0 }
+    requires few_times { times ≤ 16 }
+    requires small { sender.old.next < 2 ^ 31 }
+    requires few { sender.old.draws.count < 2 ^ 31 }
+    requires early { now < 2 ^ 31 }
+    requires range { IsRange 1 server.old.lo server.old.hi }
+    ensures { start_times times model.now (as_site station.now) now (reaction server.old (outgoing sender.old out.old.items)) ≡ reaction server.new (outgoing sender.new out.new.items) }
+{
+    'starts: for _ in 0..times {
+        start_next(server, sender, out, model, station, now);
+    }
+}
+
+// Servers that are added take waiting jobs at once.
+fn set_servers(
+    server: &mut ServerState,
+    sender: &mut Sender,
+    out: &mut ArrayVec<Msg, 16>,
+    model: &Model,
+    station: &Station,
+    now: u64,
+    servers: u32,
+)
+    requires room { array_vec_len out.old ≡ 0 }
+    requires few_servers { servers ≤ 16 }
+    requires small { sender.old.next < 2 ^ 31 }
+    requires few { sender.old.draws.count < 2 ^ 31 }
+    requires early { now < 2 ^ 31 }
+    requires range { IsRange 1 server.old.lo server.old.hi }
+    ensures { server_change model.now (as_site station.now) now Servers servers 0 server.old (outgoing sender.old out.old.items) ≡ reaction server.new (outgoing sender.new out.new.items) }
+{
+    server.servers = servers;
+    let free = u64::from(servers).saturating_sub(server.busy);
+    start_many(server, sender, out, model, station, now, free);
+}
+
+fn set_server(
+    server: &mut ServerState,
+    sender: &mut Sender,
+    out: &mut ArrayVec<Msg, 16>,
+    model: &Model,
+    station: &Station,
+    now: u64,
+    change: &Change,
+)
+    requires room { array_vec_len out.old ≡ 0 }
+    requires small { sender.old.next < 2 ^ 31 }
+    requires few { sender.old.draws.count < 2 ^ 31 }
+    requires early { now < 2 ^ 31 }
+    requires range { IsRange 1 server.old.lo server.old.hi }
+    ensures { server_set model.now (as_site station.now) now change.now server.old (outgoing sender.old out.old.items) ≡ reaction server.new (outgoing sender.new out.new.items) }
+{
+    if !takes_change(station, change) {
+        return;
+    }
+    match change.param {
+        Param::Service => {
+            server.lo = change.a;
+            server.hi = change.b;
+        }
+        Param::Room => server.room = change.a as u32,
+        Param::Servers => {
+            set_servers(server, sender, out, model, station, now, change.a as u32);
+        }
+        Param::Every | Param::Hold | Param::Weight => {}
+    }
+}
+
+/// A server handles a message. On want of memory all is unchanged.
+pub(crate) fn server_handles(
+    server: &mut ServerState,
+    sender: &mut Sender,
+    out: &mut ArrayVec<Msg, 16>,
+    model: &Model,
+    station: &Station,
+    now: u64,
+    payload: &Payload,
+) -> Result<(), NoMemory>
+    requires room { array_vec_len out.old ≡ 0 }
+    requires small { sender.old.next < 2 ^ 31 }
+    requires few { sender.old.draws.count < 2 ^ 31 }
+    requires early { now < 2 ^ 31 }
+    requires links { AreLinks station.now.links.items }
+    requires range { IsRange 1 server.old.lo server.old.hi }
+    requires done { server.old.done < 2 ^ 32 }
+    requires lost { server.old.lost < 2 ^ 32 }
+    ensures ok { OnOk result (server_on model.now (as_site station.now) now payload.now server.old (outgoing sender.old out.old.items) ≡ reaction server.new (outgoing sender.new out.new.items)) }
+    ensures err { OnErr result (reaction server.new (outgoing sender.new out.new.items) ≡ reaction server.old (outgoing sender.old out.old.items)) }
+{
+    match payload {
+        Payload::Job(job) => job_comes(server, sender, out, now, *job),
+        Payload::Done(job) => {
+            job_is_done(server, sender, out, model, station, now, *job);
+            Ok(())
+        }
+        Payload::Set(change) => {
+            set_server(server, sender, out, model, station, now, change);
+            Ok(())
+        }
+        Payload::Tick => Ok(()),
+    }
+}

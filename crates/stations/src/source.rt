@@ -1,0 +1,107 @@
+//! Sources and sinks: where jobs come from, and where they leave.
+ghost use Rattle.std.specs.Prelude.{◌≡◌, ◌<◌, ◌^◌};
+ghost use Rattle.arrayvec.specs.ArrayVec.{array_vec_len};
+ghost use Rattle.net_model.specs.Rules.{IsRange};
+ghost use Rattle.net_model.specs.Sites.{as_site};
+ghost use Rattle.stations.specs.Fits.{AreLinks};
+ghost use Rattle.stations.specs.Sending.{outgoing, reaction};
+ghost use Rattle.stations.specs.Sources.{next_tick, source_ticks, source_set, source_on, sink_on};
+
+use crate::change::takes_change;
+use crate::kind_state::{SinkState, SourceState};
+use crate::sender::{Sender, route_job, send_to_itself};
+use arrayvec::ArrayVec;
+use net_model::Station;
+use sim_base::{Change, Job, Msg, Payload};
+
+/// Sends the next tick, where a job is left.
+pub(crate) fn send_tick(
+    source: &SourceState,
+    sender: &mut Sender,
+    out: &mut ArrayVec<Msg, 16>,
+    now: u64,
+)
+    requires room { array_vec_len out.old < 16 }
+    requires small { sender.old.next < 2 ^ 32 }
+    requires few { sender.old.draws.count < 2 ^ 32 }
+    requires early { now < 2 ^ 31 }
+    requires range { IsRange 1 source.now.lo source.now.hi }
+    ensures { next_tick now source.now (outgoing sender.old out.old.items) ≡ outgoing sender.new out.new.items }
+{
+    if source.sent < source.jobs {
+        send_to_itself(sender, out, now, source.lo, source.hi, Payload::Tick);
+    }
+}
+
+fn make_job(
+    source: &mut SourceState,
+    sender: &mut Sender,
+    out: &mut ArrayVec<Msg, 16>,
+    station: &Station,
+    now: u64,
+)
+    requires room { array_vec_len out.old ≡ 0 }
+    requires small { sender.old.next < 2 ^ 31 }
+    requires few { sender.old.draws.count < 2 ^ 31 }
+    requires early { now < 2 ^ 31 }
+    requires links { AreLinks station.now.links.items }
+    requires range { IsRange 1 source.old.lo source.old.hi }
+    requires sent { source.old.sent < 2 ^ 32 }
+    ensures { source_ticks (as_site station.now) now source.old (outgoing sender.old out.old.items) ≡ reaction source.new (outgoing sender.new out.new.items) }
+{
+    let job = Job {
+        source: sender.station,
+        count: source.sent,
+        born: now,
+    };
+    source.sent += 1;
+    route_job(sender, out, station.links.as_slice(), now, job);
+    send_tick(source, sender, out, now);
+}
+
+fn set_source(source: &mut SourceState, station: &Station, change: &Change)
+    ensures { source.new ≡ source_set (as_site station.now) change.now source.old }
+{
+    if takes_change(station, change) {
+        source.lo = change.a;
+        source.hi = change.b;
+    }
+}
+
+/// A source handles a message.
+pub(crate) fn source_handles(
+    source: &mut SourceState,
+    sender: &mut Sender,
+    out: &mut ArrayVec<Msg, 16>,
+    station: &Station,
+    now: u64,
+    payload: &Payload,
+)
+    requires room { array_vec_len out.old ≡ 0 }
+    requires small { sender.old.next < 2 ^ 31 }
+    requires few { sender.old.draws.count < 2 ^ 31 }
+    requires early { now < 2 ^ 31 }
+    requires links { AreLinks station.now.links.items }
+    requires range { IsRange 1 source.old.lo source.old.hi }
+    requires sent { source.old.sent < 2 ^ 32 }
+    ensures { source_on (as_site station.now) now payload.now source.old (outgoing sender.old out.old.items) ≡ reaction source.new (outgoing sender.new out.new.items) }
+{
+    match payload {
+        Payload::Tick => make_job(source, sender, out, station, now),
+        Payload::Set(change) => set_source(source, station, change),
+        Payload::Job(_) | Payload::Done(_) => {}
+    }
+}
+
+/// A sink handles a message.
+pub(crate) fn sink_handles(sink: &mut SinkState, now: u64, payload: &Payload)
+    requires got { sink.old.got < 2 ^ 32 }
+    requires stay { sink.old.stay < 2 ^ 63 }
+    requires early { now < 2 ^ 31 }
+    ensures { sink.new ≡ sink_on now payload.now sink.old }
+{
+    if let Payload::Job(job) = payload {
+        sink.got += 1;
+        sink.stay += now.saturating_sub(job.born);
+    }
+}

@@ -1,0 +1,284 @@
+//! The state of a station, and how it handles messages.
+ghost use Rattle.std.specs.Prelude.{◌≡◌, ◌+◌, ◌<◌, ◌≤◌, ◌^◌, [], length, IfOk, OnErr, OnOk};
+ghost use Rattle.arrayvec.specs.ArrayVec.{array_vec_len};
+ghost use Rattle.net_model.specs.Sites.{as_site};
+ghost use Rattle.stations.specs.Fits.{FitsState, FitsKind, SuitsNet, IsOfKind, HasLinks};
+ghost use Rattle.stations.specs.Handling.{handle as handled_by, kind_on, line_of};
+ghost use Rattle.stations.specs.Opening.{setup as opened_by, opening_kind, first_tick};
+ghost use Rattle.stations.specs.Sending.{outgoing, reaction};
+ghost use Rattle.stations.specs.Sends.{AreSends};
+
+use crate::job_queue::JobQueue;
+use crate::kind_state::{DelayState, KindState, RouterState, ServerState, SinkState, SourceState};
+use crate::passing::{delay_handles, router_handles};
+use crate::sender::{Sender, link_weights};
+use crate::server::server_handles;
+use crate::source::{send_tick, sink_handles, source_handles};
+use arrayvec::ArrayVec;
+use net_model::{Kind, Model, Station};
+use sim_base::{Line, Msg, NoMemory, Payload, Steps};
+use sim_draw::Draws;
+use std::alloc::Global;
+use std::sync::ledger::Ledger;
+
+/// The state of a station: its sender, how many messages it has handled, and what its kind keeps.
+#[derive(Drop)]
+pub struct State {
+    sender: Sender,
+    handled: u64,
+    kind: KindState,
+}
+
+impl std::marker::Model for State {
+    ghost use Rattle.stations.specs.Handling.{StationState};
+    ghost use Rattle.stations.specs.Fits.{FitsState};
+
+    ghost Value = { StationState };
+
+    ghost view = { λ s. record { sender = s.sender; handled = s.handled; kind = s.kind } };
+
+    ghost invariant = { λ s. FitsState (record { sender = s.sender; handled = s.handled; kind = s.kind }) };
+}
+
+fn kind_handles(
+    kind: &mut KindState,
+    sender: &mut Sender,
+    out: &mut ArrayVec<Msg, 16>,
+    model: &Model,
+    station: &Station,
+    now: u64,
+    payload: &Payload,
+) -> Result<(), NoMemory>
+    requires room { array_vec_len out.old ≡ 0 }
+    requires small { sender.old.next < 2 ^ 31 }
+    requires few { sender.old.draws.count < 2 ^ 31 }
+    requires early { now < 2 ^ 31 }
+    requires links { HasLinks kind.old station.now.links.items }
+    requires of_kind { IsOfKind (as_site station.now) station.now.kind kind.old }
+    requires fits { FitsKind 65536 kind.old }
+    ensures ok { OnOk result (kind_on model.now (as_site station.now) now payload.now kind.old (outgoing sender.old out.old.items) ≡ reaction kind.new (outgoing sender.new out.new.items)) }
+    ensures err { OnErr result (reaction kind.new (outgoing sender.new out.new.items) ≡ reaction kind.old (outgoing sender.old out.old.items)) }
+{
+    match kind {
+        KindState::Source(source) => {
+            source_handles(source, sender, out, station, now, payload);
+            Ok(())
+        }
+        KindState::Server(server) => {
+            server_handles(server, sender, out, model, station, now, payload)
+        }
+        KindState::Delay(delay) => {
+            delay_handles(delay, sender, out, station, now, payload);
+            Ok(())
+        }
+        KindState::Router(router) => {
+            router_handles(router, sender, out, station, now, payload);
+            Ok(())
+        }
+        KindState::Sink(sink) => {
+            sink_handles(sink, now, payload);
+            Ok(())
+        }
+    }
+}
+
+fn kind_line(kind: &KindState) -> Line
+    ensures { result ≡ line_of kind.now }
+{
+    match kind {
+        KindState::Source(source) => Line::Source { sent: source.sent },
+        KindState::Server(server) => Line::Server {
+            busy: server.busy,
+            wait: server.waiting.len() as u64,
+            done: server.done,
+            lost: server.lost,
+        },
+        KindState::Delay(delay) => Line::Passed {
+            passed: delay.passed,
+        },
+        KindState::Router(router) => Line::Passed {
+            passed: router.passed,
+        },
+        KindState::Sink(sink) => Line::Sink {
+            got: sink.got,
+            stay: sink.stay,
+        },
+    }
+}
+
+/// A station handles a message: its state changes, what it sends is put into `out`, and the answer is
+/// the counts that its log shows.
+///
+/// On want of memory the state and `out` are unchanged. It ticks once where it answers Ok.
+pub fn handle<L: Ledger>(
+    state: &mut State,
+    model: &Model,
+    msg: &Msg,
+    out: &mut ArrayVec<Msg, 16>,
+    steps: &mut Steps<L>,
+) -> Result<Line, NoMemory>
+    requires suits { SuitsNet model.now state.old }
+    requires room { array_vec_len out.old ≡ 0 }
+    requires own { msg.now.to ≡ state.old.sender.station }
+    requires below { state.old.handled < 65536 }
+    requires early { msg.now.key.time < 2 ^ 31 }
+    ensures ok { IfOk result (λ line. handled_by model.now state.old msg.now ≡ record { state = state.new; sends = out.new.items; line = line }) }
+    ensures sends { OnOk result (AreSends model.now msg.now.key.time state.old.sender.station state.old.sender.next out.new.items) }
+    ensures next { OnOk result (state.new.sender.next ≡ state.old.sender.next + length out.new.items) }
+    ensures suits { SuitsNet model.now state.new }
+    ensures fits { FitsState state.new }
+    ensures counted { OnOk result (steps.new ≡ steps.old + 1) }
+    ensures err { OnErr result (state.new ≡ state.old) }
+    ensures nothing { OnErr result (out.new.items ≡ []) }
+    ensures uncounted { OnErr result (steps.new ≡ steps.old) }
+{
+    let station = model.station(state.sender.station);
+    kind_handles(
+        &mut state.kind,
+        &mut state.sender,
+        out,
+        model,
+        station,
+        msg.key.time,
+        &msg.payload,
+    )?;
+    state.handled += 1;
+    steps.tick();
+    Ok(kind_line(&state.kind))
+}
+
+fn opening_state(alloc: Global, station: &Station) -> KindState
+    requires { length station.now.links.items ≤ 16 }
+    ensures { result ≡ opening_kind (as_site station.now) station.now.kind }
+{
+    match station.kind {
+        Kind::Source { lo, hi, jobs, .. } => KindState::Source(SourceState {
+            lo,
+            hi,
+            jobs,
+            sent: 0,
+        }),
+        Kind::Server {
+            servers,
+            room,
+            lo,
+            hi,
+            ..
+        } => KindState::Server(ServerState {
+            servers,
+            room,
+            lo,
+            hi,
+            busy: 0,
+            waiting: JobQueue::new(alloc),
+            done: 0,
+            lost: 0,
+        }),
+        Kind::Delay { lo, hi } => KindState::Delay(DelayState { lo, hi, passed: 0 }),
+        Kind::Router { .. } => KindState::Router(RouterState {
+            weights: link_weights(station.links.as_slice()),
+            passed: 0,
+        }),
+        Kind::Sink => KindState::Sink(SinkState { got: 0, stay: 0 }),
+    }
+}
+
+// A source sends itself its first tick.
+fn send_first(kind: &KindState, sender: &mut Sender, out: &mut ArrayVec<Msg, 16>)
+    requires room { array_vec_len out.old ≡ 0 }
+    requires small { sender.old.next < 2 ^ 31 }
+    requires few { sender.old.draws.count < 2 ^ 31 }
+    requires fits { FitsKind 0 kind.now }
+    ensures { first_tick kind.now (outgoing sender.old out.old.items) ≡ outgoing sender.new out.new.items }
+{
+    if let KindState::Source(source) = kind {
+        send_tick(source, sender, out, 0);
+    }
+}
+
+/// A station opens: its state, and a source's first tick.
+pub fn setup(alloc: Global, model: &Model, station: u32) -> Result<(State, Option<Msg>), NoMemory>
+    requires low { 1 ≤ station }
+    requires high { station ≤ length model.now.sites }
+    ensures opened { IfOk result (λ p. opened_by model.now station ≡ record { state = p.0; first = p.1 }) }
+    ensures suits { IfOk result (λ p. SuitsNet model.now p.0) }
+    ensures fits { IfOk result (λ p. FitsState p.0) }
+{
+    let place = model.station(station);
+    let mut sender = Sender {
+        station,
+        next: 0,
+        draws: Draws::new(model.seed(), place.stream),
+    };
+    let kind = opening_state(alloc, place);
+    let mut out = ArrayVec::new();
+    send_first(&kind, &mut sender, &mut out);
+    let first = out.first().copied();
+    Ok((
+        State {
+            sender,
+            handled: 0,
+            kind,
+        },
+        first,
+    ))
+}
+
+impl State {
+    /// How many messages the station has handled.
+    pub fn handled(&self) -> u64
+        ensures { result ≡ self.now.handled }
+    {
+        self.handled
+    }
+
+    /// A state of its own, equal to this one.
+    pub fn copy(&self, alloc: Global) -> Result<State, NoMemory>
+        ensures { IfOk result (λ s. s ≡ self.now) }
+    {
+        Ok(State {
+            sender: Sender {
+                station: self.sender.station,
+                next: self.sender.next,
+                draws: self.sender.draws.copy(),
+            },
+            handled: self.handled,
+            kind: copy_kind(&self.kind, alloc)?,
+        })
+    }
+}
+
+fn copy_kind(kind: &KindState, alloc: Global) -> Result<KindState, NoMemory>
+    ensures { IfOk result (λ k. k ≡ kind.now) }
+{
+    match kind {
+        KindState::Source(source) => Ok(KindState::Source(*source)),
+        KindState::Server(server) => Ok(KindState::Server(ServerState {
+            servers: server.servers,
+            room: server.room,
+            lo: server.lo,
+            hi: server.hi,
+            busy: server.busy,
+            waiting: server.waiting.copy(alloc)?,
+            done: server.done,
+            lost: server.lost,
+        })),
+        KindState::Delay(delay) => Ok(KindState::Delay(*delay)),
+        KindState::Router(router) => Ok(KindState::Router(RouterState {
+            weights: copy_weights(router.weights.as_slice()),
+            passed: router.passed,
+        })),
+        KindState::Sink(sink) => Ok(KindState::Sink(*sink)),
+    }
+}
+
+fn copy_weights(weights: &[u32]) -> ArrayVec<u32, 16>
+    requires { length weights.now ≤ 16 }
+    ensures { result.items ≡ weights.now }
+{
+    let mut copied = ArrayVec::new();
+    for weight in weights {
+        copied.push(*weight);
+    }
+    copied
+}
