@@ -1,0 +1,4 @@
+pub mod Pairs
+pub mod OneTurn
+pub mod ToFront
+pub mod Starting

@@ -1,0 +1,7 @@
+use Rattle.std.proofs.Common.{◌≡◌, take}
+use Rattle.run_laws.specs.World.{log_of}
+use Rattle.solo_run.specs.Limit.{receiver}
+use Rattle.solo_run.proofs.solo.Solo.log.Given as goal
+
+abbrev pub invariant-loop-entry : goal.invariant-loop-entry
+invariant-loop-entry l = l.log.items ≡ log_of receiver l.station (take l.entry-index l.self.trace)

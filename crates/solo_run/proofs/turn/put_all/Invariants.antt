@@ -1,0 +1,8 @@
+use Rattle.std.proofs.Common.{◌≡◌, drop}
+use Rattle.sim_base.specs.Order.{msg_cmp}
+use Rattle.run_laws.specs.Queue.{insert_all}
+use Rattle.solo_run.specs.Standing.{messages_of}
+use Rattle.solo_run.proofs.turn.put_all.Given as goal
+
+abbrev pub invariant-loop-msg : goal.invariant-loop-msg
+invariant-loop-msg l = insert_all msg_cmp (drop l.msg-index l.sends) (messages_of l.pending) ≡ insert_all msg_cmp l.sends (messages_of l.fn.pending)

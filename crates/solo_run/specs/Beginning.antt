@@ -1,0 +1,34 @@
+-- How a one-thread run begins.
+use Rattle.std.specs.Prelude.{◌≡◌, ℕ, ◌+◌, List, length, slice_get, Option, Some, None}
+use Rattle.sim_base.specs.Order.{msg_cmp}
+use Rattle.run_laws.specs.Queue.{insert}
+use Rattle.sim_base.specs.declared.decision.Planned.{Planned}
+use Rattle.net_model.specs.Net.{Net}
+use Rattle.run_laws.specs.World.{World, begin}
+use Rattle.run_laws.specs.Machine.{Config}
+use Rattle.sim_base.specs.declared.message.Msg.{Msg}
+use Rattle.sim_base.specs.declared.entry.Line.{Line}
+use Rattle.stations.specs.Fits.{FitsState, SuitsNet}
+use Rattle.stations.specs.Handling.{StationState}
+use Rattle.stations.specs.Opening.{setup}
+use Rattle.stations.specs.Runs.{simulation}
+
+-- the world of a clone with these decisions, before anything was handled
+abbrev pub start_of : Net → List Planned → Config (World StationState Msg Line) Msg
+start_of net plans = begin (simulation net) plans
+
+-- the state at place i is the opening state of the station of number i + 1
+pub record IsOpening (net : Net) (i : ℕ) (st : StationState) : Type 0 where
+  pub is : st ≡ (setup net (i + 1)).state
+  pub fits : FitsState st
+  pub suits : SuitsNet net st
+
+-- the opening states of the stations 1 to n
+pub record AreOpenings (net : Net) (n : ℕ) (states : List StationState) : Type 0 where
+  pub count : length states ≡ n
+  pub each : (i : ℕ) (st : StationState) → slice_get states i ≡ Some st → IsOpening net i st
+
+-- what a station sends first, if anything, becomes pending
+abbrev pub and_put : Option Msg → List Msg → List Msg
+and_put None q = q
+and_put (Some m) q = insert msg_cmp m q

@@ -1,0 +1,4 @@
+pub mod Limit
+pub mod Standing
+pub mod Turns
+pub mod Beginning

@@ -1,0 +1,107 @@
+//! The one-thread run of one clone.
+ghost use Rattle.std.specs.Prelude.{◌≡◌, ◌+◌, ◌≤◌, ◌<◌, length, IfOk, IfErr};
+ghost use Rattle.run_laws.specs.Handlers.{AreForStations};
+ghost use Rattle.run_laws.specs.World.{log_of};
+ghost use Rattle.stations.specs.Runs.{simulation};
+ghost use Rattle.solo_run.specs.Beginning.{start_of};
+ghost use Rattle.solo_run.specs.Limit.{receiver};
+ghost use Rattle.solo_run.specs.Standing.{IsSolo, config_of};
+ghost use Rattle.solo_run.specs.Turns.{Stops, run_from};
+
+use crate::opening::{open_all, plan_all};
+use crate::turn::{SoloFault, advance};
+use net_model::Model;
+use sim_base::{Entry, NoMemory, Pending, Planned, Steps};
+use stations::State;
+use std::alloc::Global;
+use std::sync::ledger::Ledger;
+
+/// Where the run of one clone stands.
+#[derive(Drop)]
+pub struct Solo {
+    states: Vec<State>,
+    pending: Pending<()>,
+    trace: Vec<Entry>,
+}
+
+impl std::marker::Model for Solo {
+    ghost use Rattle.solo_run.specs.Standing.{Standing};
+
+    ghost Value = { Standing };
+
+    ghost view = { λ s. record { states = s.states.items; pending = s.pending; trace = s.trace.items } };
+}
+
+impl Solo {
+    /// The clone of these decisions, before anything is handled.
+    ///
+    /// The decisions are for stations of the model; a change that a station does not take changes nothing.
+    pub fn new(alloc: Global, model: &Model, list: &[Planned]) -> Result<Solo, NoMemory>
+        requires stations { AreForStations (simulation model.now) list.now }
+        ensures begins { IfOk result (λ solo. config_of model.now solo ≡ start_of model.now list.now) }
+        ensures solo { IfOk result (λ solo. IsSolo model.now solo) }
+    {
+        let mut pending = Pending::new(alloc);
+        let states = open_all(alloc, model, &mut pending)?;
+        plan_all(&mut pending, list)?;
+        let _stations = model.len();
+        Ok(Solo {
+            states,
+            pending,
+            trace: Vec::new(alloc),
+        })
+    }
+
+    /// Handles every message before a front, at most the horizon: the run of the clone from where it stands.
+    ///
+    /// Counts a step for each message handled. It stops where a station would handle more messages than the limit,
+    /// and names the station of the first such message; before it, all was handled.
+    pub fn run_to<L: Ledger>(
+        self,
+        model: &Model,
+        front: u64,
+        steps: &mut Steps<L>,
+    ) -> Result<Solo, SoloFault>
+        requires solo { IsSolo model.now self }
+        requires early { front ≤ model.now.horizon }
+        ensures ok { IfOk result (λ solo. config_of model.now solo ≡ run_from model.now self front) }
+        ensures solo { IfOk result (λ solo. IsSolo model.now solo) }
+        ensures steps { IfOk result (λ solo. steps.new + length self.trace ≡ steps.old + length solo.trace) }
+        ensures stops { IfErr result (λ e. Stops model.now self front steps.old steps.new e) }
+    {
+        let Solo {
+            mut states,
+            mut pending,
+            mut trace,
+        } = self;
+        let _stations = model.len();
+        match advance(&mut states, &mut pending, &mut trace, model, front, steps) {
+            Ok(()) => Ok(Solo {
+                states,
+                pending,
+                trace,
+            }),
+            Err(fault) => Err(fault),
+        }
+    }
+
+    /// What one station handled, in order.
+    pub fn log(&self, alloc: Global, station: u32) -> Result<Vec<Entry>, NoMemory>
+        ensures { IfOk result (λ log. log.items ≡ log_of receiver station self.now.trace) }
+    {
+        let mut log = Vec::new(alloc);
+        for entry in self.trace.as_slice() {
+            if entry.msg.to == station {
+                log.push(*entry)?;
+            }
+        }
+        Ok(log)
+    }
+
+    /// The messages that were handled, in order.
+    pub fn trace(&self) -> &[Entry]
+        ensures { result.now ≡ self.now.trace }
+    {
+        self.trace.as_slice()
+    }
+}

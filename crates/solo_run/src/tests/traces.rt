@@ -1,0 +1,183 @@
+//! The traces that the worked examples come to, as in `specs/Examples` of the crate `stations`.
+
+use sim_base::{Change, Entry, Job, Key, Line, Msg, Param, Payload};
+
+fn at(time: u64, to: u32, sender: u32, number: u64, payload: Payload, line: Line) -> Entry {
+    let key = Key {
+        time,
+        sender,
+        number,
+    };
+    Entry {
+        msg: Msg { key, to, payload },
+        line,
+    }
+}
+
+fn tick() -> Payload {
+    Payload::Tick
+}
+
+fn job(source: u32, count: u64, born: u64) -> Payload {
+    Payload::Job(Job {
+        source,
+        count,
+        born,
+    })
+}
+
+fn done(source: u32, count: u64, born: u64) -> Payload {
+    Payload::Done(Job {
+        source,
+        count,
+        born,
+    })
+}
+
+fn change(param: Param, a: u64, b: u64) -> Payload {
+    Payload::Set(Change { param, a, b })
+}
+
+fn source(sent: u64) -> Line {
+    Line::Source { sent }
+}
+
+fn server(busy: u64, wait: u64, done: u64, lost: u64) -> Line {
+    Line::Server {
+        busy,
+        wait,
+        done,
+        lost,
+    }
+}
+
+fn passed(passed: u64) -> Line {
+    Line::Passed { passed }
+}
+
+fn sink(got: u64, stay: u64) -> Line {
+    Line::Sink { got, stay }
+}
+
+/// One job at a time: the second waits until the first is done.
+pub fn one_desk_trace() -> [Entry; 8] {
+    [
+        at(3, 1, 1, 0, tick(), source(1)),
+        at(5, 2, 1, 1, job(1, 0, 3), server(1, 0, 0, 0)),
+        at(6, 1, 1, 2, tick(), source(2)),
+        at(8, 2, 1, 3, job(1, 1, 6), server(1, 1, 0, 0)),
+        at(9, 2, 2, 0, done(1, 0, 3), server(1, 0, 1, 0)),
+        at(11, 3, 2, 1, job(1, 0, 3), sink(1, 8)),
+        at(13, 2, 2, 2, done(1, 1, 6), server(0, 0, 2, 0)),
+        at(15, 3, 2, 3, job(1, 1, 6), sink(2, 17)),
+    ]
+}
+
+/// From 8 on the desk serves for 2; the service that has begun stays.
+pub fn fast_trace() -> [Entry; 9] {
+    [
+        at(3, 1, 1, 0, tick(), source(1)),
+        at(5, 2, 1, 1, job(1, 0, 3), server(1, 0, 0, 0)),
+        at(6, 1, 1, 2, tick(), source(2)),
+        at(8, 2, 0, 0, change(Param::Service, 2, 2), server(1, 0, 0, 0)),
+        at(8, 2, 1, 3, job(1, 1, 6), server(1, 1, 0, 0)),
+        at(9, 2, 2, 0, done(1, 0, 3), server(1, 0, 1, 0)),
+        at(11, 3, 2, 1, job(1, 0, 3), sink(1, 8)),
+        at(11, 2, 2, 2, done(1, 1, 6), server(0, 0, 2, 0)),
+        at(13, 3, 2, 3, job(1, 1, 6), sink(2, 15)),
+    ]
+}
+
+/// The times between jobs are drawn: 4, 8 and 5.
+pub fn drawn_gate_trace() -> [Entry; 6] {
+    [
+        at(4, 1, 1, 0, tick(), source(1)),
+        at(6, 2, 1, 1, job(1, 0, 4), sink(1, 2)),
+        at(12, 1, 1, 2, tick(), source(2)),
+        at(14, 2, 1, 3, job(1, 1, 12), sink(2, 4)),
+        at(17, 1, 1, 4, tick(), source(3)),
+        at(19, 2, 1, 5, job(1, 2, 17), sink(3, 6)),
+    ]
+}
+
+/// Without room, who comes to a busy desk is lost.
+pub fn no_room_trace() -> [Entry; 8] {
+    [
+        at(3, 1, 1, 0, tick(), source(1)),
+        at(3, 2, 2, 0, tick(), source(1)),
+        at(3, 3, 3, 0, tick(), source(1)),
+        at(5, 4, 1, 1, job(1, 0, 3), server(1, 0, 0, 0)),
+        at(5, 4, 2, 1, job(2, 0, 3), server(1, 0, 0, 1)),
+        at(5, 4, 3, 1, job(3, 0, 3), server(1, 0, 0, 2)),
+        at(9, 4, 4, 0, done(1, 0, 3), server(0, 0, 1, 2)),
+        at(11, 5, 4, 1, job(1, 0, 3), sink(1, 8)),
+    ]
+}
+
+/// With three servers from 6 on, those who wait are served at once.
+pub fn more_servers_trace() -> [Entry; 13] {
+    [
+        at(3, 1, 1, 0, tick(), source(1)),
+        at(3, 2, 2, 0, tick(), source(1)),
+        at(3, 3, 3, 0, tick(), source(1)),
+        at(5, 4, 1, 1, job(1, 0, 3), server(1, 0, 0, 0)),
+        at(5, 4, 2, 1, job(2, 0, 3), server(1, 1, 0, 0)),
+        at(5, 4, 3, 1, job(3, 0, 3), server(1, 2, 0, 0)),
+        at(6, 4, 0, 0, change(Param::Servers, 3, 0), server(3, 0, 0, 0)),
+        at(9, 4, 4, 0, done(1, 0, 3), server(2, 0, 1, 0)),
+        at(10, 4, 4, 1, done(2, 0, 3), server(1, 0, 2, 0)),
+        at(10, 4, 4, 2, done(3, 0, 3), server(0, 0, 3, 0)),
+        at(11, 5, 4, 3, job(1, 0, 3), sink(1, 8)),
+        at(12, 5, 4, 4, job(2, 0, 3), sink(2, 17)),
+        at(12, 5, 4, 5, job(3, 0, 3), sink(3, 26)),
+    ]
+}
+
+/// The first job goes by the delay, the second straight on.
+pub fn fan_trace() -> [Entry; 7] {
+    [
+        at(3, 1, 1, 0, tick(), source(1)),
+        at(5, 2, 1, 1, job(1, 0, 3), passed(1)),
+        at(6, 1, 1, 2, tick(), source(2)),
+        at(7, 3, 2, 0, job(1, 0, 3), passed(1)),
+        at(8, 2, 1, 3, job(1, 1, 6), passed(2)),
+        at(10, 4, 3, 0, job(1, 0, 3), sink(1, 7)),
+        at(11, 4, 2, 1, job(1, 1, 6), sink(2, 12)),
+    ]
+}
+
+/// Who waits is served by class.
+pub fn by_class_trace() -> [Entry; 12] {
+    [
+        at(3, 1, 1, 0, tick(), source(1)),
+        at(5, 3, 1, 1, job(1, 0, 3), server(1, 0, 0, 0)),
+        at(6, 1, 1, 2, tick(), source(2)),
+        at(7, 2, 2, 0, tick(), source(1)),
+        at(8, 3, 1, 3, job(1, 1, 6), server(1, 1, 0, 0)),
+        at(9, 3, 2, 1, job(2, 0, 7), server(1, 2, 0, 0)),
+        at(9, 3, 3, 0, done(1, 0, 3), server(1, 1, 1, 0)),
+        at(11, 4, 3, 1, job(1, 0, 3), sink(1, 8)),
+        at(13, 3, 3, 2, done(2, 0, 7), server(1, 0, 2, 0)),
+        at(15, 4, 3, 3, job(2, 0, 7), sink(2, 16)),
+        at(17, 3, 3, 4, done(1, 1, 6), server(0, 0, 3, 0)),
+        at(19, 4, 3, 5, job(1, 1, 6), sink(3, 29)),
+    ]
+}
+
+/// Who waits is served as he came.
+pub fn by_arrival_trace() -> [Entry; 12] {
+    [
+        at(3, 1, 1, 0, tick(), source(1)),
+        at(5, 3, 1, 1, job(1, 0, 3), server(1, 0, 0, 0)),
+        at(6, 1, 1, 2, tick(), source(2)),
+        at(7, 2, 2, 0, tick(), source(1)),
+        at(8, 3, 1, 3, job(1, 1, 6), server(1, 1, 0, 0)),
+        at(9, 3, 2, 1, job(2, 0, 7), server(1, 2, 0, 0)),
+        at(9, 3, 3, 0, done(1, 0, 3), server(1, 1, 1, 0)),
+        at(11, 4, 3, 1, job(1, 0, 3), sink(1, 8)),
+        at(13, 3, 3, 2, done(1, 1, 6), server(1, 0, 2, 0)),
+        at(15, 4, 3, 3, job(1, 1, 6), sink(2, 17)),
+        at(17, 3, 3, 4, done(2, 0, 7), server(0, 0, 3, 0)),
+        at(19, 4, 3, 5, job(2, 0, 7), sink(3, 29)),
+    ]
+}
