@@ -1,0 +1,4 @@
+pub mod WordLaws
+pub mod SetLaws
+pub mod MemberLaws
+pub mod SizeLaws
