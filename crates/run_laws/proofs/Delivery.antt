@@ -6,7 +6,7 @@ use Rattle.sim_base.specs.Clones.{Clone}
 use Rattle.run_laws.specs.Queue.{insert, In}
 use Rattle.run_laws.specs.Simulation.{Simulation}
 use Rattle.run_laws.specs.Handlers.{IsOrder}
-use Rattle.run_laws.specs.Copies.{part, Copy, Carries, Disjoint, SortedMarked, takes, taken, IsGiven, ends_of, IsDelivered}
+use Rattle.run_laws.specs.Copies.{part, Copy, Carries, Disjoint, SortedMarked, takes, taken, IsGiven, SoFarGiven, ends_of, IsDelivered}
 use Rattle.run_laws.proofs.Queue.{all_in, in_insert, insert_old, insert_new}
 use Rattle.run_laws.proofs.Lists.{in_cons_if, cons_if_new, in_append, append_old, append_new}
 use Rattle.run_laws.proofs.Parts.{part-append}
@@ -28,17 +28,8 @@ module _ {M K : Type 0} (takes : M → K → ℕ → Bool) where
   part_push_new c xs x z t e = subst (In z) (sym (part-append takes c xs (x ∷ []))) (append_new (part takes c xs) (part takes c (x ∷ [])) z (cons_if_new (takes x.0 x.1 c) x.0 [] z t e))
 
 module _ {S M N K : Type 0} (sim : Simulation S M N) (has : K → ℕ → Bool) (ends : ℕ → ℕ) where
-  -- what the messages msgs make of the copies
-  pub record SoFarGiven (msgs : List (M × K)) (new done : List (Copy S M N K)) : Type 0 where
-    pub from : (b : Copy S M N K) → In b done → (a : Copy S M N K) × In a new × (b.set ≡ a.set) × (b.log ≡ a.log) × (b.state ≡ a.state)
-        × ((c : ℕ) (z : M) → Carries has a c → In z (taken sim has ends c b.pending) → In z (taken sim has ends c a.pending) ⊎ In z (taken sim has ends c msgs))
-        × ((c : ℕ) (z : M) → Carries has a c → In z (taken sim has ends c a.pending) ⊎ In z (taken sim has ends c msgs) → In z (taken sim has ends c b.pending))
-    pub each : (a : Copy S M N K) → In a new → (b : Copy S M N K) × In b done × (b.set ≡ a.set)
-    pub disjoint : Disjoint has done
-    pub sorted : (a : Copy S M N K) → In a done → SortedMarked sim.order a.pending
-
   -- with no message the copies stay
-  pub given_none : (new : List (Copy S M N K)) → Disjoint has new → ((a : Copy S M N K) → In a new → SortedMarked sim.order a.pending) → SoFarGiven [] new new
+  pub given_none : (new : List (Copy S M N K)) → Disjoint has new → ((a : Copy S M N K) → In a new → SortedMarked sim.order a.pending) → SoFarGiven sim has ends [] new new
   given_none new d s = record {
     from = λ b i. (b, i, refl, refl, refl, λ c z h l. inl l, λ c z h l. elim l [ inl k ↦ k | inr k ↦ absurd k ]);
     each = λ a i. (a, i, refl);

@@ -1,12 +1,12 @@
 -- A step of all copies of a station: copy after copy, each with what comes of it at the bound.
-use Rattle.std.proofs.Common.{◌≡◌, ℕ, ◌≤◌, ◌<◌, List, [], ◌∷◌, ◌++◌, ◌⊎◌, inl, inr, Bool, true, false, nat_lt, refl, sym, ap, ◌∙◌, subst, arith, length}
+use Rattle.std.proofs.Common.{◌≡◌, ℕ, ◌≤◌, ◌<◌, List, [], ◌∷◌, ◌++◌, inl, inr, Bool, true, false, nat_lt, refl, sym, ap, ◌∙◌, subst, arith, length}
 use Rattle.std.proofs.lemmas.Bool.{false≢true}
 use Rattle.run_laws.specs.Queue.{In}
 use Rattle.run_laws.specs.Machine.{Config}
 use Rattle.run_laws.specs.Simulation.{Simulation}
 use Rattle.run_laws.specs.Window.{Part, earlier_than}
 use Rattle.run_laws.specs.Handlers.{HandlesLawfully}
-use Rattle.run_laws.specs.Copies.{Copy, Carries, Disjoint, JoinsMarks, SortedMarked, takes, taken, view, Turns, Settled, GoesOver, Ends, alone_from, IsStepped, AreOver}
+use Rattle.run_laws.specs.Copies.{Copy, Carries, JoinsMarks, SortedMarked, takes, taken, view, Turns, Settled, Ends, alone_from, IsStepped, AreOver, SoFar}
 use Rattle.run_laws.proofs.Bools.{and_cases}
 use Rattle.run_laws.proofs.Lists.{in_append, append_old, append_new, filter_all}
 use Rattle.run_laws.proofs.Parts.{sorted_part, all_part}
@@ -20,20 +20,8 @@ module _ {S M N K : Type 0} (sim : Simulation S M N) (has : K → ℕ → Bool) 
       (all_part (takes sim has ends) c (λ m. nat_lt (sim.time m) (ends c) ≡ true) q (λ x k e. (and_cases (has k c) (nat_lt (sim.time x) (ends c)) e).1))
 
   module _ (s bound : ℕ) where
-    -- the copies stepped so far
-    pub record SoFar (old new : List (Copy S M N K)) (out : List (M × K)) (over0 over : K) : Type 0 where
-      pub inhabited : (b : Copy S M N K) → In b new → (c : ℕ) × Carries has b c
-      pub from : (b : Copy S M N K) → In b new → (a : Copy S M N K) × In a old × ((c : ℕ) → Carries has b c → Carries has a c)
-      pub carried : (a : Copy S M N K) (c : ℕ) → In a old → Carries has a c → ((b : Copy S M N K) × In b new × Carries has b c) ⊎ (has over c ≡ true)
-      pub ran : (a b : Copy S M N K) (c : ℕ) → In a old → In b new → Carries has a c → Carries has b c → Turns sim has ends s bound c (view sim has ends c a []) (view sim has ends c b out) × Settled sim has ends s bound (view sim has ends c b out)
-      pub short : (b : Copy S M N K) → In b new → length b.log ≤ sim.limit
-      pub too_long : (c : ℕ) → has over c ≡ true → (has over0 c ≡ true) ⊎ ((a : Copy S M N K) × In a old × Carries has a c × GoesOver sim has ends s bound a [] c)
-      pub parted : (a b1 b2 : Copy S M N K) (c d : ℕ) → In a old → In b1 new → In b2 new → Carries has a c → Carries has a d → Carries has b1 c → Carries has b2 d → b1.log ≡ b2.log → b1 ≡ b2
-      pub disjoint : Disjoint has new
-      pub idle : (c : ℕ) → ((a : Copy S M N K) → In a old → Carries has a c → ⊥) → taken sim has ends c out ≡ []
-
     -- at first no copy was stepped
-    pub so_far_none : (over : K) → SoFar [] [] [] over over
+    pub so_far_none : (over : K) → SoFar sim has ends s bound [] [] [] over over
     so_far_none over = record {
       inhabited = λ b i. absurd i;
       from = λ b i. absurd i;

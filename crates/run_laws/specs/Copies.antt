@@ -181,6 +181,18 @@ module _ {S M N K : Type 0} (sim : Simulation S M N) (has : K → ℕ → Bool) 
       pub from : (c : ℕ) → has over c ≡ true → (a : Copy S M N K) × In a old × Carries has a c × (sim.limit < length (alone_from a c).at.log)
       pub all : (a : Copy S M N K) (c : ℕ) → In a old → Carries has a c → sim.limit < length (alone_from a c).at.log → has over c ≡ true
 
+    -- the copies stepped so far
+    pub record SoFar (old new : List (Copy S M N K)) (out : List (M × K)) (over0 over : K) : Type 0 where
+      pub inhabited : (b : Copy S M N K) → In b new → (c : ℕ) × Carries has b c
+      pub from : (b : Copy S M N K) → In b new → (a : Copy S M N K) × In a old × ((c : ℕ) → Carries has b c → Carries has a c)
+      pub carried : (a : Copy S M N K) (c : ℕ) → In a old → Carries has a c → ((b : Copy S M N K) × In b new × Carries has b c) ⊎ (has over c ≡ true)
+      pub ran : (a b : Copy S M N K) (c : ℕ) → In a old → In b new → Carries has a c → Carries has b c → Turns c (view c a []) (view c b out) × Settled (view c b out)
+      pub short : (b : Copy S M N K) → In b new → length b.log ≤ sim.limit
+      pub too_long : (c : ℕ) → has over c ≡ true → (has over0 c ≡ true) ⊎ ((a : Copy S M N K) × In a old × Carries has a c × GoesOver a [] c)
+      pub parted : (a b1 b2 : Copy S M N K) (c d : ℕ) → In a old → In b1 new → In b2 new → Carries has a c → Carries has a d → Carries has b1 c → Carries has b2 d → b1.log ≡ b2.log → b1 ≡ b2
+      pub disjoint : Disjoint has new
+      pub idle : (c : ℕ) → ((a : Copy S M N K) → In a old → Carries has a c → ⊥) → taken c out ≡ []
+
   -- the copy b is a, where m is pending besides for the clones that take it
   pub record IsGiven (m : M) (k : K) (a b : Copy S M N K) : Type 0 where
     pub set : b.set ≡ a.set
@@ -188,6 +200,15 @@ module _ {S M N K : Type 0} (sim : Simulation S M N) (has : K → ℕ → Bool) 
     pub state : b.state ≡ a.state
     pub parts : (c : ℕ) → Carries has a c → taken c b.pending ≡ (if takes m k c then insert sim.order m (taken c a.pending) else taken c a.pending)
     pub sorted : SortedMarked sim.order b.pending
+
+  -- what the messages msgs make of the copies
+  pub record SoFarGiven (msgs : List (M × K)) (new done : List (Copy S M N K)) : Type 0 where
+    pub from : (b : Copy S M N K) → In b done → (a : Copy S M N K) × In a new × (b.set ≡ a.set) × (b.log ≡ a.log) × (b.state ≡ a.state)
+        × ((c : ℕ) (z : M) → Carries has a c → In z (taken c b.pending) → In z (taken c a.pending) ⊎ In z (taken c msgs))
+        × ((c : ℕ) (z : M) → Carries has a c → In z (taken c a.pending) ⊎ In z (taken c msgs) → In z (taken c b.pending))
+    pub each : (a : Copy S M N K) → In a new → (b : Copy S M N K) × In b done × (b.set ≡ a.set)
+    pub disjoint : Disjoint has done
+    pub sorted : (a : Copy S M N K) → In a done → SortedMarked sim.order a.pending
 
   -- the copy b is a with the clone `new` beside the clone `old`: what holds of b for new held of a for old, and all
   -- else is as it was

@@ -11,4 +11,5 @@ pub mod Sharing
 pub mod Prefixes
 pub mod Copies
 pub mod CopyLaws
+pub mod StepLaws
 pub mod Examples

@@ -6,6 +6,7 @@ ghost use Rattle.std.specs.declared.cmp.Ordering.{Ordering as Order};
 ghost use Rattle.run_laws.specs.Simulation.{Simulation};
 ghost use Rattle.run_laws.specs.Handlers.{IsTimed, IsLawful, HandlesLawfully, SendsToStations, HandlesFreshly};
 ghost use Rattle.run_laws.specs.Laws.{RunIsReached, RunIsDetermined, RunGoesOn, LateMessageStaysPending, TraceRises, DueIsForStations, StateIsReplay, EqualLogsEqualStates, LogAtFront, LateDecisionAddsDue, LateEndDropsDue, WindowsGiveRuns};
+ghost use Rattle.run_laws.specs.StepLaws.{SettledCopyStays, FullCopyGoesOver, SharedMessageIsHandledOnce, MessageOfNoneIsPassedOver, CopySplits, StepTakesCopies, StepGivesWindows, StepFindsThoseOver, CopiesGainTogether, NothingIsGiven, MessageIsGiven, GivenIsDelivered};
 ghost use Rattle.run_laws.specs.CopyLaws.{StandsAtStart, StandsAfterWindow, StandsAfterDecision, StandsAfterOtherDecision, StandsAfterEnd, StandsAfterFork, CopiesAreLogs, HandledGrows, OverIsBeyond};
 
 /// A machine that stays in good states, and whose sends come later than what it handles.
@@ -75,6 +76,27 @@ pub fn late<S, M, N, T: Stations<S, M, N>>()
 /// Up to the next front each station may go by itself.
 pub fn windows<S, M, N, T: Stations<S, M, N>>()
     ensures { WindowsGiveRuns T.sim }
+{}
+
+/// What comes of a station's copies up to a bound, message by message and copy by copy, and that it is what the
+/// clones' own windows give.
+pub fn stepping<S, M, N, K, T: Stations<S, M, N>>()
+    ensures settled { SettledCopyStays K T.sim T.good }
+    ensures full { FullCopyGoesOver K T.sim T.good }
+    ensures shared { SharedMessageIsHandledOnce K T.sim T.good }
+    ensures passed { MessageOfNoneIsPassedOver K T.sim T.good }
+    ensures splits { CopySplits K T.sim T.good }
+    ensures copies { StepTakesCopies K T.sim T.good }
+    ensures windows { StepGivesWindows K T.sim T.good }
+    ensures over { StepFindsThoseOver K T.sim T.good }
+    ensures gains { CopiesGainTogether K T.sim T.good }
+{}
+
+/// What a station was sent is given to its copies message by message, and then it is delivered.
+pub fn delivering<S, M, N, K, T: Stations<S, M, N>>()
+    ensures nothing { NothingIsGiven K T.sim }
+    ensures message { MessageIsGiven K T.sim }
+    ensures delivered { GivenIsDelivered K T.sim }
 {}
 
 /// From the start on, through windows, decisions, ends and forks, a station's copies stand for the clones.

@@ -11,6 +11,8 @@ pub mod sender;
 mod server;
 mod source;
 pub mod state;
+#[cfg(test)]
+mod tests;
 
 pub use change::ChangeFault;
 pub use job_queue::JobQueue;

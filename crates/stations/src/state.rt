@@ -127,6 +127,8 @@ pub fn handle<L: Ledger>(
     ensures next { OnOk result (state.new.sender.next ≡ state.old.sender.next + length out.new.items) }
     ensures suits { SuitsNet model.now state.new }
     ensures fits { FitsState state.new }
+    ensures own { state.new.sender.station ≡ state.old.sender.station }
+    ensures one_more { OnOk result (state.new.handled ≡ state.old.handled + 1) }
     ensures counted { OnOk result (steps.new ≡ steps.old + 1) }
     ensures err { OnErr result (state.new ≡ state.old) }
     ensures nothing { OnErr result (out.new.items ≡ []) }
@@ -203,6 +205,8 @@ pub fn setup(alloc: Global, model: &Model, station: u32) -> Result<(State, Optio
     ensures opened { IfOk result (λ p. opened_by model.now station ≡ record { state = p.0; first = p.1 }) }
     ensures suits { IfOk result (λ p. SuitsNet model.now p.0) }
     ensures fits { IfOk result (λ p. FitsState p.0) }
+    ensures own { IfOk result (λ p. p.0.sender.station ≡ station) }
+    ensures fresh { IfOk result (λ p. p.0.handled ≡ 0) }
 {
     let place = model.station(station);
     let mut sender = Sender {
