@@ -98,12 +98,22 @@ impl ModelFault {
 }
 
 impl From<AllocError> for ModelFault {
+    ghost use Rattle.net_model.specs.declared.fault.ModelFault.TheVariants.{NoMemory};
+    ghost use Rattle.std.specs.Prelude.{◌≡◌};
+
+    ghost from_gives = { λ _ e. e ≡ NoMemory };
+
     fn from(_error: AllocError) -> ModelFault {
         ModelFault::NoMemory
     }
 }
 
 impl<T: Drop> From<AllocFailed<T>> for ModelFault {
+    ghost use Rattle.net_model.specs.declared.fault.ModelFault.TheVariants.{NoMemory};
+    ghost use Rattle.std.specs.Prelude.{◌≡◌};
+
+    ghost from_gives = { λ _ e. e ≡ NoMemory };
+
     fn from(_error: AllocFailed<T>) -> ModelFault {
         ModelFault::NoMemory
     }
