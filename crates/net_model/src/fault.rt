@@ -1,5 +1,5 @@
 //! Why a model text is refused.
-ghost use Rattle.std.specs.Prelude.{◌≡◌, option_copied};
+ghost use Rattle.std.specs.Prelude.{◌≡◌, ◌≤◌, IfSome, length, option_copied};
 ghost use Rattle.net_model.specs.Faults.{fault_key, fault_number, fault_place};
 
 use crate::field::Field;
@@ -85,7 +85,8 @@ impl ModelFault {
 
     /// The key that it names, None where it names none. Of an unknown key its text.
     pub fn key(&self) -> Option<&str>
-        ensures { option_copied result ≡ fault_key self.now }
+        ensures value { option_copied result ≡ fault_key self.now }
+        ensures short { IfSome result (λ key. length key.now ≤ 32) }
     {
         match self {
             ModelFault::Missing { field, .. }

@@ -1,5 +1,5 @@
 //! The keys of a model file.
-ghost use Rattle.std.specs.Prelude.{◌≡◌};
+ghost use Rattle.std.specs.Prelude.{◌≡◌, ◌≤◌, length};
 ghost use Rattle.net_model.specs.Fields.{key_of};
 
 /// A key that a model file may have.
@@ -54,7 +54,8 @@ pub enum Field {
 impl Field {
     /// The key as it stands in a file.
     pub fn key(&self) -> &'static str
-        ensures { result.now ≡ key_of self.now }
+        ensures value { result.now ≡ key_of self.now }
+        ensures short { length result.now ≤ 32 }
     {
         match self {
             Field::Format => "format",

@@ -1,5 +1,5 @@
 //! The beginning of an unknown key.
-ghost use Rattle.std.specs.Prelude.{◌≡◌, length, map, take, true};
+ghost use Rattle.std.specs.Prelude.{◌≡◌, ◌≤◌, length, map, take, true};
 ghost use Rattle.std.specs.List.{list_all};
 ghost use Rattle.net_model.specs.KeyTexts.{is_shown, key_text, shown};
 
@@ -64,6 +64,7 @@ impl KeyText {
     fn as_bytes(&self) -> &[u8]
         ensures value { result.now ≡ self.now }
         ensures shown { list_all is_shown result.now ≡ true }
+        ensures short { length result.now ≤ 32 }
     {
         &self.bytes[..self.len]
     }
@@ -72,6 +73,7 @@ impl KeyText {
     pub fn text(&self) -> &str
         ensures value { result.now ≡ self.now }
         ensures shown { list_all is_shown result.now ≡ true }
+        ensures short { length result.now ≤ 32 }
     {
         match str::from_utf8(self.as_bytes()) {
             Ok(text) => text,
