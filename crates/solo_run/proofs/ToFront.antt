@@ -125,6 +125,8 @@ module _ (net : Net) (valid : IsNet net) where
         before = here.below;
         first = ap (first_beyond net.limit []) whole ∙ (is ∙ ap Some (sym number));
         is_for = number;
+        first_station = omega (arith, low, number);
+        last_station = let high = here.targets.0.1 in omega (arith, high, number);
         keeps = full.keeps;
         steps = omega (arith, unmoved, count);
         bounded = short w here;

@@ -61,6 +61,8 @@ pub record GoesBeyond (net : Net) (v : Standing) (front old_steps new_steps stat
   pub before : first_beyond net.limit [] done ≡ None
   pub first : first_beyond net.limit [] (run_from net v front).at.trace ≡ Some station
   pub is_for : station ≡ entry.msg.to
+  pub first_station : 1 ≤ station
+  pub last_station : station ≤ length net.sites
   pub keeps : kept ≡ net.limit
   pub steps : new_steps + length v.trace ≡ old_steps + length done
   pub bounded : length done ≤ length net.sites * net.limit
