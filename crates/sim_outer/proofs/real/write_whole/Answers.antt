@@ -1,0 +1,9 @@
+use Rattle.std.proofs.Common.{rules}
+use Rattle.sim_outer.proofs.Written.{Appends-more}
+use Rattle.sim_outer.proofs.real.write_whole.Goals as goal
+
+pub loop-done-preserved : goal.loop-done-preserved
+loop-done-preserved g c = record {
+  front = Appends-more _ _ _ _ _ _ c.loop-done.invariant.front c.in-Ok.ensures.bytes;
+  within = search rules;
+}

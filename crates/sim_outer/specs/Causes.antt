@@ -1,0 +1,10 @@
+-- Counts of faults.
+use Rattle.std.specs.Prelude.{ℕ, ◌+◌, ◌-◌, ◌^◌, ◌≤◌, min}
+
+-- what a count of 64 bits is after one more: it stays at its last value
+abbrev pub next_count : ℕ → ℕ
+next_count n = min (n + 1) (2 ^ 64 - 1)
+
+-- a count rose: it is greater than before, or stands at the last value of 64 bits
+abbrev pub Rose : ℕ → ℕ → Type 0
+Rose before now = next_count before ≤ now

@@ -1,0 +1,46 @@
+//! Inputs.
+ghost use Rattle.std.specs.Prelude.{◌≡◌, ◌≤◌, ◌⊎◌, ℕ, Option, IfOk, IfErr};
+ghost use Rattle.sim_outer.specs.Causes.{Rose};
+ghost use Rattle.sim_outer.specs.Files.{Files, Fetched, Lacks};
+
+use std::alloc::{AllocError, Global};
+
+/// How many bytes of a file a fetch gives at most: 1 MiB and one byte, which tells that there are more.
+pub const MOST_FETCHED: usize = 1_048_577;
+
+/// Why a fetch fails.
+#[derive(Clone, Copy, Debug, PartialEq, Eq)]
+pub enum FetchFault {
+    /// Memory was refused.
+    NoMemory,
+    /// There is no such file, or it could not be read.
+    Failed,
+}
+
+impl From<AllocError> for FetchFault {
+    ghost use Rattle.std.specs.Prelude.{◌≡◌};
+    ghost use Rattle.sim_outer.specs.declared.inputs.FetchFault.{FetchFault};
+
+    ghost from_gives = { λ _ fault. fault ≡ FetchFault.NoMemory };
+
+    fn from(_error: AllocError) -> FetchFault {
+        FetchFault::NoMemory
+    }
+}
+
+/// Files that are fetched by name.
+pub trait Inputs {
+    // the files by their names, where they are told
+    ghost files: { Self → Option Files };
+
+    // how many faults there were
+    ghost faults: { Self → ℕ };
+
+    /// The first 1,048,577 bytes of the file of this name, or the whole file if it is shorter.
+    fn fetch(&mut self, alloc: Global, name: &str) -> Result<Vec<u8>, FetchFault>
+        ensures bytes { IfOk result (λ v. Fetched (files self.old) name.now v.items) }
+        ensures cause { IfErr result (λ e. e ≡ FetchFault.Failed →
+            Rose (faults self.old) (faults self.new) ⊎ Lacks (files self.old) name.now) }
+        ensures later { faults self.old ≤ faults self.new }
+        ensures same { files self.new ≡ files self.old };
+}

@@ -1,0 +1,115 @@
+//! Sinks in memory.
+ghost use Rattle.std.specs.Prelude.{◌≡◌, ◌≤◌, ◌↔◌, ◌&&◌, [], true, min, nat_le, length, is_none, unwrap_or, Some, OnOk, OnErr, IfOk, IsOk};
+ghost use Rattle.sim_outer.specs.Bytes.{Appended, PartAppended};
+ghost use Rattle.sim_outer.specs.Causes.{Rose};
+ghost use Rattle.sim_outer.specs.HeldBytes.{stop_of, next_is_whole, after_put};
+
+use crate::sink::{PutFailed, Sink};
+use sim_base::NoMemory;
+use std::alloc::Global;
+use std::marker::Model;
+
+/// Bytes in memory, up to a fixed room. The calls of the stated numbers fail, counted from 1.
+#[derive(Drop)]
+pub struct MemSink {
+    taken: Vec<u8>,
+    room: usize,
+    failing: Vec<(u32, usize)>,
+    calls: u64,
+    faults: u64,
+}
+
+impl Model for MemSink {
+    ghost use Rattle.std.specs.Prelude.{◌≤◌, length};
+    ghost use Rattle.std.specs.Vec.{vec_capacity};
+    ghost use Rattle.sim_outer.specs.HeldBytes.{HeldBytes};
+
+    ghost Value = { HeldBytes };
+
+    ghost view = { λ s. record {
+      taken = s.taken.items;
+      room = s.room;
+      failing = s.failing.items;
+      calls = s.calls;
+      faults = s.faults;
+    } };
+
+    ghost invariant = { λ s. (length s.taken.items ≤ s.room) × (s.room ≤ vec_capacity s.taken) };
+}
+
+impl MemSink {
+    /// Reserves room for so many bytes. Each pair of `failing` is the number of a call that fails,
+    /// and how many bytes it takes at most.
+    pub fn new(alloc: Global, room: usize, failing: Vec<(u32, usize)>) -> Result<MemSink, NoMemory>
+        ensures { IfOk result (λ s. s ≡ record {
+          taken = [];
+          room = room;
+          failing = failing.items;
+          calls = 0;
+          faults = 0;
+        }) }
+    {
+        Ok(MemSink {
+            taken: Vec::with_capacity(alloc, room)?,
+            room,
+            failing,
+            calls: 0,
+            faults: 0,
+        })
+    }
+
+    /// The bytes that it took.
+    pub fn bytes(&self) -> &[u8]
+        ensures { result.now ≡ self.now.taken }
+    {
+        self.taken.as_slice()
+    }
+}
+
+impl Sink for MemSink {
+    ghost bytes = { λ s. Some s.taken };
+
+    ghost faults = { λ s. s.faults };
+
+    fn put(&mut self, piece: &[u8]) -> Result<(), PutFailed>
+        ensures ok { OnOk result (Appended (Some self.old.taken) piece.now (Some self.new.taken)) }
+        ensures part { OnErr result (PartAppended (Some self.old.taken) piece.now (Some self.new.taken)) }
+        ensures cause { OnErr result (Rose self.old.faults self.new.faults) }
+        ensures later { self.old.faults ≤ self.new.faults }
+
+        // exactly when it succeeds, what is taken, and when the count rises
+        ensures succeeds { IsOk result ↔ (next_is_whole self.old (length piece.now) ≡ true) }
+        ensures after { self.new ≡ after_put self.old piece.now }
+    {
+        self.calls = self.calls.saturating_add(1);
+        let stop = stop_at(self.failing.as_slice(), self.calls);
+        let left = self.room - self.taken.len();
+        let (count, whole) = share(stop, piece.len(), left);
+        let Ok(()) = self.taken.extend_from_slice(&piece[..count]) else {
+            unreachable!()
+        };
+        if whole {
+            return Ok(());
+        }
+        self.faults = self.faults.saturating_add(1);
+        Err(PutFailed)
+    }
+}
+
+// Where the call of this number stops, if it is one that fails.
+fn stop_at(failing: &[(u32, usize)], call: u64) -> Option<usize>
+    ensures { result ≡ stop_of failing.now call }
+{
+    failing.iter().find(|f| u64::from(f.0) == call).map(|f| f.1)
+}
+
+// How many bytes of a piece of this size are taken, and whether that is no fault.
+fn share(stop: Option<usize>, size: usize, left: usize) -> (usize, bool)
+    ensures count { result.0 ≡ min (unwrap_or stop size) (min size left) }
+    ensures whole { result.1 ≡ (is_none stop && nat_le size left) }
+{
+    (
+        stop.unwrap_or(size).min(size).min(left),
+        stop.is_none() && size <= left,
+    )
+}

@@ -1,0 +1,20 @@
+//! The sink that keeps nothing.
+ghost use Rattle.std.specs.Prelude.{None, IsOk};
+
+use crate::sink::{PutFailed, Sink};
+
+/// Takes every piece and tells no bytes.
+#[derive(Clone, Copy, Debug)]
+pub struct NullSink;
+
+impl Sink for NullSink {
+    ghost bytes = { λ _. None };
+
+    ghost faults = { λ _. 0 };
+
+    fn put(&mut self, _piece: &[u8]) -> Result<(), PutFailed>
+        ensures takes { IsOk result }
+    {
+        Ok(())
+    }
+}

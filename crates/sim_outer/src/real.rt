@@ -1,0 +1,186 @@
+//! The real files and streams: the trusted edge. What they give and take no clause can say.
+ghost use Rattle.std.specs.Prelude.{◌≡◌, ℕ, None, take, IfOk, IfSome, OnOk, OnErr};
+ghost use Rattle.std.specs.Io.KnownBytes.{Appends};
+ghost use Rattle.sim_outer.specs.Files.{front_of};
+
+use crate::inputs::{FetchFault, Inputs, MOST_FETCHED};
+use crate::sink::{PutFailed, Sink};
+use std::alloc::Global;
+use std::io::{self, Read, Write};
+use std::marker::Model;
+use std::rt::Files;
+use std::{fs, str};
+
+/// Real files. A value is seen as its count of faults.
+#[derive(Drop)]
+pub struct FileInputs<'a, R: Files> {
+    rt: &'a R,
+    faults: u64,
+}
+
+impl<'a, R: Files> Model for FileInputs<'a, R> {
+    ghost use Rattle.std.specs.Prelude.{ℕ};
+
+    ghost Value = { ℕ };
+
+    ghost view = { λ s. s.faults };
+}
+
+impl<'a, R: Files> FileInputs<'a, R> {
+    /// The files of the system.
+    pub fn new(rt: &'a R) -> FileInputs<'a, R>
+        ensures { result ≡ 0 }
+    {
+        FileInputs { rt, faults: 0 }
+    }
+}
+
+impl<'a, R: Files> Inputs for FileInputs<'a, R> {
+    ghost files = { λ _. None };
+
+    ghost faults = { λ s. s };
+
+    fn fetch(&mut self, alloc: Global, name: &str) -> Result<Vec<u8>, FetchFault> {
+        let read = match fs::open(self.rt, name) {
+            Ok(mut file) => read_front(alloc, &mut file),
+            Err(_) => Err(FetchFault::Failed),
+        };
+        if let Err(FetchFault::Failed) = read {
+            self.faults = self.faults.saturating_add(1);
+        }
+        read
+    }
+}
+
+/// Standard output. A value is seen as its count of faults.
+#[derive(Drop)]
+pub struct OutSink<'a, R: Print> {
+    rt: &'a R,
+    faults: u64,
+}
+
+impl<'a, R: Print> Model for OutSink<'a, R> {
+    ghost use Rattle.std.specs.Prelude.{ℕ};
+
+    ghost Value = { ℕ };
+
+    ghost view = { λ s. s.faults };
+}
+
+impl<'a, R: Print> OutSink<'a, R> {
+    /// The standard output of the system.
+    pub fn new(rt: &'a R) -> OutSink<'a, R>
+        ensures { result ≡ 0 }
+    {
+        OutSink { rt, faults: 0 }
+    }
+}
+
+impl<'a, R: Print> Sink for OutSink<'a, R> {
+    ghost bytes = { λ _. None };
+
+    ghost faults = { λ s. s };
+
+    fn put(&mut self, piece: &[u8]) -> Result<(), PutFailed> {
+        let put = write_whole(&mut io::writer(self.rt), piece);
+        if put.is_err() {
+            self.faults = self.faults.saturating_add(1);
+        }
+        put
+    }
+}
+
+/// Standard error. It takes text alone: of a piece that is no UTF-8 it takes nothing. A value is
+/// seen as its count of faults.
+#[derive(Drop)]
+pub struct ErrSink<'a, R: Eprint> {
+    rt: &'a R,
+    faults: u64,
+}
+
+impl<'a, R: Eprint> Model for ErrSink<'a, R> {
+    ghost use Rattle.std.specs.Prelude.{ℕ};
+
+    ghost Value = { ℕ };
+
+    ghost view = { λ s. s.faults };
+}
+
+impl<'a, R: Eprint> ErrSink<'a, R> {
+    /// The standard error of the system.
+    pub fn new(rt: &'a R) -> ErrSink<'a, R>
+        ensures { result ≡ 0 }
+    {
+        ErrSink { rt, faults: 0 }
+    }
+}
+
+impl<'a, R: Eprint> Sink for ErrSink<'a, R> {
+    ghost bytes = { λ _. None };
+
+    ghost faults = { λ s. s };
+
+    fn put(&mut self, piece: &[u8]) -> Result<(), PutFailed> {
+        let put = write_whole(&mut ErrorWriter { rt: self.rt }, piece);
+        if put.is_err() {
+            self.faults = self.faults.saturating_add(1);
+        }
+        put
+    }
+}
+
+// Standard error as a writer.
+#[derive(Drop)]
+struct ErrorWriter<'a, R: Eprint> {
+    rt: &'a R,
+}
+
+impl<'a, R: Eprint> Write for ErrorWriter<'a, R> {
+    fn write(&mut self, buf: &[u8]) -> io::Result<usize> {
+        match str::from_utf8(buf) {
+            Ok(text) => self.rt.eprint(text)?,
+            Err(_) => return Ok(0),
+        }
+        Ok(buf.len())
+    }
+
+    fn flush(&mut self) -> io::Result<()> {
+        Ok(())
+    }
+}
+
+// The first 1,048,577 bytes, or all. Each turn takes at least one.
+fn read_front<F: Read>(alloc: Global, file: &mut F) -> Result<Vec<u8>, FetchFault>
+    ensures { IfOk result (λ v. IfSome (F.remaining file.old) (λ bytes. v.items ≡ front_of bytes)) }
+{
+    let mut bytes = Vec::new(alloc);
+    let mut buffer = [0u8; 16_384];
+    while bytes.len() < MOST_FETCHED {
+        let most = buffer.len().min(MOST_FETCHED - bytes.len());
+        match file.read(&mut buffer[..most]) {
+            Ok(0) => return Ok(bytes),
+            Ok(count) => bytes.extend_from_slice(&buffer[..count])?,
+            Err(_) => return Err(FetchFault::Failed),
+        }
+    }
+    Ok(bytes)
+}
+
+// Writes a piece. Each turn takes at least one byte.
+fn write_whole<W: Write>(writer: &mut W, piece: &[u8]) -> Result<(), PutFailed>
+    ensures ok { OnOk result (Appends (W.contents writer.old) (W.contents writer.new) piece.now) }
+    ensures part { OnErr result ((n : ℕ) × Appends (W.contents writer.old) (W.contents writer.new) (take n piece.now)) }
+{
+    let mut done = 0;
+    while done < piece.len() {
+        match writer.write(&piece[done..]) {
+            Ok(0) => return Err(PutFailed),
+            Ok(count) => done += count,
+            Err(_) => return Err(PutFailed),
+        }
+    }
+    match writer.flush() {
+        Ok(()) => Ok(()),
+        Err(_) => Err(PutFailed),
+    }
+}

@@ -1,0 +1,25 @@
+//! Sinks.
+ghost use Rattle.std.specs.Prelude.{◌≤◌, ℕ, List, Option, OnOk, OnErr};
+ghost use Rattle.sim_outer.specs.Bytes.{Appended, PartAppended};
+ghost use Rattle.sim_outer.specs.Causes.{Rose};
+
+/// A piece was not taken whole.
+#[derive(Clone, Copy, Debug, PartialEq, Eq)]
+pub struct PutFailed;
+
+/// What takes bytes.
+pub trait Sink {
+    // the bytes that it took, where they are told
+    ghost bytes: { Self → Option (List ℕ) };
+
+    // how many faults there were
+    ghost faults: { Self → ℕ };
+
+    /// Takes a piece, or fails and has taken a front of it. To take nothing of a piece that is not
+    /// empty is a fault. It takes no memory.
+    fn put(&mut self, piece: &[u8]) -> Result<(), PutFailed>
+        ensures ok { OnOk result (Appended (bytes self.old) piece.now (bytes self.new)) }
+        ensures part { OnErr result (PartAppended (bytes self.old) piece.now (bytes self.new)) }
+        ensures cause { OnErr result (Rose (faults self.old) (faults self.new)) }
+        ensures later { faults self.old ≤ faults self.new };
+}
