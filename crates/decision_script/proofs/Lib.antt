@@ -1,0 +1,13 @@
+pub mod OwnDecisions
+pub mod Digits
+pub mod OneLine
+pub mod Kept
+pub mod OwnScript
+pub mod TextParts
+pub mod Words
+pub mod Numbers
+pub mod Saying
+pub mod Again
+pub mod Names
+pub mod Lengths
+pub mod ReadsAgain

@@ -1,0 +1,48 @@
+-- The names of analysts, each of which is the first of its name.
+use Rattle.std.proofs.Common.{◌≡◌, ℕ, ◌-◌, ◌<◌, ◌≤◌, Bool, true, false, List, [], ◌∷◌, ◌++◌, length, get_or, refl, sym, subst, arith, Some, None, append_assoc, length-append}
+use Rattle.std.specs.List.{All, AllPairs, position_or_len}
+use Rattle.std.specs.Str.{bytes_eq}
+use Rattle.std.proofs.lemmas.Grind.{common_steps}
+use Rattle.std.proofs.lemmas.List.{get_or_append_left}
+use Rattle.std.proofs.lemmas.List.Elements.{All-head, All-tail}
+use Rattle.std.proofs.lemmas.List.Sums.{position_or_len_is}
+use Rattle.std.proofs.lemmas.Option.{unwrap_or-slice_get}
+use Rattle.std.proofs.lemmas.Slice.Eq.{bytes_eq-Decides}
+use Rattle.std.proofs.Math.Seq.{get_or-append_seam}
+use Rattle.decision_script.specs.Stating.{IsNamed, analyst_name}
+use Rattle.decision_script.specs.Reading.{place_of}
+use Rattle.decision_script.proofs.Again.{AreNew, AreKnown}
+
+abbrev AreDistinct : List (List ℕ) → Type 0
+AreDistinct names = AllPairs (λ a b. bytes_eq a b ≡ false) names
+
+-- a name behind others has no place among them
+unplaced : (before : List (List ℕ)) (name : List ℕ) (more : List (List ℕ)) → AreDistinct (before ++ name ∷ more) → place_of name before ≡ None
+unplaced before name more h =
+    let p : List ℕ → Bool = λ x. bytes_eq x name in
+    let long = length-append before (name ∷ more) in
+    let none : position_or_len p before ≡ length before = position_or_len_is p before (length before) [] (omega arith)
+    (λ k lt. subst (λ x. bytes_eq x name ≡ false) (get_or_append_left before (name ∷ more) [] k lt)
+    (subst (λ x. bytes_eq (get_or (before ++ name ∷ more) k []) x ≡ false) (get_or-append_seam before name more []) (h k (length before) [] lt (omega (arith, long)))))
+    (λ within. absurd (omega arith)) in
+    grind (arith, common_steps)
+
+pub are_new : (before more : List (List ℕ)) → AreDistinct (before ++ more) → All IsNamed more → AreNew before more
+are_new before [] h named = tt
+are_new before (name ∷ more) h named =
+    (All-head IsNamed name more named, unplaced before name more h, are_new (before ++ name ∷ []) more (rw append_assoc h) (All-tail IsNamed name more named))
+
+pub are_known : (names : List (List ℕ)) → AreDistinct names → All IsNamed names → AreKnown names
+are_known names h named = record {
+  known = λ a low high. known a low high;
+  named = λ a low high. rw (unwrap_or-slice_get names (a - 1) []) (named (a - 1) [] (omega arith));
+}
+  where
+    known : (a : ℕ) → 1 ≤ a → a ≤ length names → place_of (analyst_name names a) names ≡ Some (a - 1)
+    known a low high =
+        let name = analyst_name names a in
+        let p : List ℕ → Bool = λ x. bytes_eq x name in
+        let at : get_or names (a - 1) [] ≡ name = sym (unwrap_or-slice_get names (a - 1) []) in
+        let first : position_or_len p names ≡ a - 1 = position_or_len_is p names (a - 1) [] (omega arith) (λ k lt. subst (λ x. bytes_eq (get_or names k []) x ≡ false) at (h k (a - 1) [] lt (omega arith))) (λ within. subst (λ x. bytes_eq x name ≡ true) (sym at) ((bytes_eq-Decides name name).1 refl)) in
+        let there : a - 1 < length names = omega arith in
+        grind (arith, common_steps)

@@ -1,0 +1,51 @@
+-- The canonical text of every script is read as that script.
+use Rattle.std.proofs.Common.{◌≡◌, ℕ, ◌≤◌, false, nat_lt, List, [], ◌∷◌, ◌++◌, length, map, sym, ap, ◌∙◌, subst, arith, codes, Ok, Err, length-append, cond}
+use Rattle.std.specs.List.{flat_map}
+use Rattle.std.proofs.lemmas.Bool.Decides.{nat_tests}
+use Rattle.std.proofs.lemmas.List.Elements.{All-tail, recursion_from_All}
+use Rattle.decision_script.specs.declared.fault.ScriptFault.TheVariants.{TooLong}
+use Rattle.decision_script.specs.declared.item.Item.{Item}
+use Rattle.decision_script.specs.Lines.{lines}
+use Rattle.decision_script.specs.Laws.{ReadAgain, CanonicalTextReadsAgain}
+use Rattle.decision_script.specs.Printing.{canonical_text, item_lines, line_text, words_of_section}
+use Rattle.decision_script.specs.Reading.{Reading, after_lines, begun, script, stated}
+use Rattle.decision_script.specs.Sentences.{◌>>=◌}
+use Rattle.decision_script.specs.Stating.{IsItem, IsNamed, IsScript, Stated}
+use Rattle.decision_script.proofs.Again.{text_read}
+use Rattle.decision_script.proofs.Lengths.{items_length, sections_length}
+use Rattle.decision_script.proofs.Names.{are_known, are_new}
+use Rattle.decision_script.proofs.TextParts.{text_in_parts}
+
+read_of_text : (text : List ℕ) (t : Reading) → length text ≤ 1048576 → after_lines 1 begun (lines text) ≡ Ok t → script text ≡ Ok (stated t)
+read_of_text text t short read =
+    let fits : nat_lt 1048576 (length text) ≡ false = grind (arith, nat_tests) in
+    ap (λ b. cond b (Err TooLong) (after_lines 1 begun (lines text) >>= λ r. Ok (stated r))) fits ∙ ap (λ x. x >>= λ r. Ok (stated r)) read
+
+-- with main first
+of_main : (more : List (List ℕ)) (items : List Item) → IsScript (record { analysts = codes "main" ∷ more; items = items }) → ReadAgain (record { analysts = codes "main" ∷ more; items = items })
+of_main more items h =
+    let s : Stated = record { analysts = codes "main" ∷ more; items = items } in
+    let new = are_new (codes "main" ∷ []) more h.distinct (All-tail IsNamed (codes "main") more h.named) in
+    let known = are_known (codes "main" ∷ more) h.distinct h.named in
+    let valid = recursion_from_All (IsItem (length (codes "main" ∷ more))) items h.valid in
+    let few : length more ≤ 15 = omega (arith, h.few_analysts) in
+    let front = flat_map line_text (map words_of_section more) in
+    let back = flat_map line_text (item_lines (codes "main" ∷ more) (length (codes "main" ∷ more)) items) in
+    let short : length (front ++ back) ≤ 1048576 = omega (arith, h.few_items, length-append front back, sections_length (codes "main" ∷ []) more new, items_length (codes "main" ∷ more) (length (codes "main" ∷ more)) items known valid) in
+    let (t, read, analysts, same) = text_read more items new known few h.few_items valid in
+    record {
+      again = stated t;
+      read = read_of_text (canonical_text s) t (subst (λ text. length text ≤ 1048576) (text_in_parts s) short) read;
+      analysts = analysts;
+      items = same;
+    }
+
+-- whichever is first
+of_first : (analysts : List (List ℕ)) (items : List Item) → IsScript (record { analysts = analysts; items = items }) → ReadAgain (record { analysts = analysts; items = items })
+of_first [] items h = absurd (let none = h.first in cc)
+of_first (a ∷ more) items h =
+    let main : a ≡ codes "main" = (let first = h.first in cc) in
+    subst (λ a. IsScript (record { analysts = a ∷ more; items = items }) → ReadAgain (record { analysts = a ∷ more; items = items })) (sym main) (of_main more items) h
+
+pub canonical_text_reads_again : CanonicalTextReadsAgain
+canonical_text_reads_again s h = of_first s.analysts s.items h

@@ -1,0 +1,81 @@
+-- The words of an act say that act.
+use Rattle.std.proofs.Common.{◌≡◌, ℕ, ◌<◌, ◌^◌, ◌&&◌, true, nat_le, List, [], ◌∷◌, length, refl, arith, Ok}
+use Rattle.std.specs.List.{list_all, AllByRecursion}
+use Rattle.std.proofs.lemmas.Bool.{and_parts}
+use Rattle.std.proofs.lemmas.Bool.Decides.{nat_tests}
+use Rattle.sim_base.specs.Names.{is_lower, is_name_byte}
+use Rattle.sim_base.specs.declared.decision.Decision.TheVariants.{Fork, Set, End}
+use Rattle.sim_base.specs.declared.message.Param.{Param}
+use Rattle.sim_base.specs.declared.message.Param.TheVariants.{Every, Service, Hold, Servers, Room, Weight}
+use Rattle.decision_script.specs.declared.item.Act.{Act}
+use Rattle.decision_script.specs.declared.item.Act.TheVariants.{Decide, Look}
+use Rattle.decision_script.specs.declared.line.Said.TheVariants.{Says, Section}
+use Rattle.decision_script.specs.Sentences.{said, section, look, fork, end, set, one_value, two_values}
+use Rattle.decision_script.specs.Stating.{IsNamed, IsChange, IsAct}
+use Rattle.decision_script.specs.Printing.{words_of_act, words_of_change, words_of_section}
+use Rattle.decision_script.proofs.Numbers.{numbered-decimal, decimal_is_word}
+use Rattle.decision_script.proofs.Words.{is_letter, IsWord}
+
+pub said-section : (name : List ℕ) → IsNamed name → said (words_of_section name) ≡ Ok (Section name)
+unfolding section
+said-section name h = rw h refl
+
+said-fork : (new old : List ℕ) → IsNamed new → IsNamed old → said (words_of_act (Decide (Fork new old))) ≡ Ok (Says (Decide (Fork new old)))
+unfolding fork
+said-fork new old n o = rw (n, o) refl
+
+said-look : (who station : List ℕ) → IsNamed who → IsNamed station → said (words_of_act (Look who station)) ≡ Ok (Says (Look who station))
+unfolding look
+said-look who station w s = rw (w, s) refl
+
+said-end : (who : List ℕ) (at : ℕ) → IsNamed who → at < 2 ^ 32 → said (words_of_act (Decide (End who at))) ≡ Ok (Says (Decide (End who at)))
+unfolding end
+said-end who at w h = rw (w, numbered-decimal at h) refl
+
+said-set : (who station : List ℕ) (at a b : ℕ) (param : Param) → IsNamed who → at < 2 ^ 32 → IsNamed station → IsChange param a b
+    → said (words_of_act (Decide (Set who at station (record { param = param; a = a; b = b })))) ≡ Ok (Says (Decide (Set who at station (record { param = param; a = a; b = b }))))
+unfolding set one_value two_values
+said-set who station at a b Every w t s c = rw (w, s, numbered-decimal at t, numbered-decimal a c.0, numbered-decimal b c.1) refl
+said-set who station at a b Service w t s c = rw (w, s, numbered-decimal at t, numbered-decimal a c.0, numbered-decimal b c.1) refl
+said-set who station at a b Hold w t s c = rw (w, s, numbered-decimal at t, numbered-decimal a c.0, numbered-decimal b c.1) refl
+said-set who station at a b Servers w t s c = rw (w, s, numbered-decimal at t, numbered-decimal a c.0, c.1) refl
+said-set who station at a b Room w t s c = rw (w, s, numbered-decimal at t, numbered-decimal a c.0, c.1) refl
+said-set who station at a b Weight w t s c = rw (w, s, numbered-decimal at t, numbered-decimal a c.0, numbered-decimal b c.1) refl
+
+pub said-act : (act : Act) → IsAct act → said (words_of_act act) ≡ Ok (Says act)
+said-act (Look who station) h = said-look who station h.0 h.1
+said-act (Decide (Fork new old)) h = said-fork new old h.0 h.1
+said-act (Decide (Set who at station change)) h = said-set who station at change.a change.b change.param h.0 h.1 h.2 h.3
+said-act (Decide (End who at)) h = said-end who at h.0 h.1
+
+letters_of_name : (bs : List ℕ) → list_all is_name_byte bs ≡ true → list_all is_letter bs ≡ true
+letters_of_name [] h = refl
+letters_of_name (b ∷ bs) h =
+    let (byte, rest) = and_parts (is_name_byte b) (list_all is_name_byte bs) h in
+    let letter : is_letter b ≡ true = grind (arith, nat_tests) in
+    rw (letter, letters_of_name bs rest) refl
+
+pub name_is_word : (name : List ℕ) → IsNamed name → IsWord name
+name_is_word [] h = absurd (cc)
+name_is_word (b ∷ bs) h =
+    let (named, short) = and_parts (is_lower b && list_all is_name_byte bs) (nat_le (length bs) 15) h in
+    let (lower, rest) = and_parts (is_lower b) (list_all is_name_byte bs) named in
+    let letter : is_letter b ≡ true = grind (arith, nat_tests) in
+    record { some = grind (arith, nat_tests); letters = rw (letter, letters_of_name bs rest) refl; short = grind (arith, nat_tests) }
+
+change_words : (param : Param) (a b : ℕ) → IsChange param a b → AllByRecursion IsWord (words_of_change param a b)
+change_words Every a b h = (record { some = refl; letters = refl; short = refl }, (decimal_is_word a (omega arith), (decimal_is_word b (omega arith), tt)))
+change_words Service a b h = (record { some = refl; letters = refl; short = refl }, (decimal_is_word a (omega arith), (decimal_is_word b (omega arith), tt)))
+change_words Hold a b h = (record { some = refl; letters = refl; short = refl }, (decimal_is_word a (omega arith), (decimal_is_word b (omega arith), tt)))
+change_words Servers a b h = (record { some = refl; letters = refl; short = refl }, (decimal_is_word a (omega arith), tt))
+change_words Room a b h = (record { some = refl; letters = refl; short = refl }, (decimal_is_word a (omega arith), tt))
+change_words Weight a b h = (record { some = refl; letters = refl; short = refl }, (decimal_is_word a (omega arith), (decimal_is_word b (omega arith), tt)))
+
+pub act_words : (act : Act) → IsAct act → AllByRecursion IsWord (words_of_act act)
+act_words (Look who station) h = (record { some = refl; letters = refl; short = refl }, (name_is_word who h.0, (name_is_word station h.1, tt)))
+act_words (Decide (Fork new old)) h = (record { some = refl; letters = refl; short = refl }, (name_is_word new h.0, (record { some = refl; letters = refl; short = refl }, (name_is_word old h.1, tt))))
+act_words (Decide (Set who at station change)) h = (record { some = refl; letters = refl; short = refl }, (name_is_word who h.0, (record { some = refl; letters = refl; short = refl }, (decimal_is_word at (omega arith), (name_is_word station h.2, change_words change.param change.a change.b h.3)))))
+act_words (Decide (End who at)) h = (record { some = refl; letters = refl; short = refl }, (name_is_word who h.0, (record { some = refl; letters = refl; short = refl }, (decimal_is_word at (omega arith), tt))))
+
+pub section_words : (name : List ℕ) → IsNamed name → AllByRecursion IsWord (words_of_section name)
+section_words name h = (record { some = refl; letters = refl; short = refl }, (name_is_word name h, tt))

@@ -1,0 +1,9 @@
+pub mod Lines
+pub mod Faults
+pub mod Stating
+pub mod Sentences
+pub mod Reading
+pub mod Alone
+pub mod Printing
+pub mod Laws
+pub mod Examples

@@ -1,0 +1,39 @@
+-- The lines of a text, the words of a line, and the number that a word writes.
+use Rattle.std.specs.Prelude.{◌||◌, ◌==◌, ◌&&◌, ℕ, Bool, false, not, nat_le, nat_lt, if◌then◌else◌, List, [], ◌∷◌, length, map, filter, Option, Some, None}
+use Rattle.std.specs.List.{slice_split, list_all}
+use Rattle.std.specs.Str.Lines.{strip_carriage_return}
+use Rattle.std.specs.Str.Parse.{digits_value}
+use Rattle.sim_base.specs.Names.{is_digit}
+
+-- a line feed
+abbrev pub is_newline : ℕ → Bool
+is_newline b = b == 10
+
+-- a space or a tab
+abbrev pub is_blank : ℕ → Bool
+is_blank b = b == 32 || b == 9
+
+abbrev pub has_bytes : List ℕ → Bool
+has_bytes bs = not (length bs == 0)
+
+-- the parts between line feeds, each without the one carriage return at its end; what follows the last line feed is a part too, which says nothing where it is empty
+abbrev pub lines : List ℕ → List (List ℕ)
+lines text = map strip_carriage_return (slice_split is_newline text)
+
+-- the runs of bytes other than blanks
+abbrev pub words : List ℕ → List (List ℕ)
+words line = filter has_bytes (slice_split is_blank line)
+
+-- no byte of 128 or more
+abbrev pub is_ascii : List ℕ → Bool
+is_ascii line = list_all (λ b. nat_lt b 128) line
+
+-- a digit, or several of which the first is not 0
+abbrev pub has_number_form : List ℕ → Bool
+has_number_form [] = false
+has_number_form (d ∷ []) = is_digit d
+has_number_form (d ∷ e ∷ ds) = (nat_le 49 d && nat_le d 57) && list_all is_digit (e ∷ ds)
+
+-- the number of one to ten digits without a leading zero, at most 4,294,967,295
+abbrev pub number : List ℕ → Option ℕ
+number word = if (has_number_form word && nat_le (length word) 10) && nat_le (digits_value 10 word) 4294967295 then Some (digits_value 10 word) else None

@@ -1,0 +1,73 @@
+-- What a script's text states.
+use Rattle.std.specs.Prelude.{ℕ, ◌+◌, nat_lt, codes, if◌then◌else◌, List, [], ◌∷◌, ◌++◌, length, position, Option, Some, None, Result, Ok, Err}
+use Rattle.std.specs.Str.{bytes_eq}
+use Rattle.decision_script.specs.declared.item.Act.{Act}
+use Rattle.decision_script.specs.declared.item.Item.{Item}
+use Rattle.decision_script.specs.declared.line.Said.{Said}
+use Rattle.decision_script.specs.declared.line.Said.TheVariants.{Nothing, Section, Says}
+use Rattle.decision_script.specs.declared.fault.LineFault.{LineFault}
+use Rattle.decision_script.specs.declared.fault.LineFault.TheVariants as broken
+use Rattle.decision_script.specs.declared.fault.ScriptFault.{ScriptFault}
+use Rattle.decision_script.specs.declared.fault.ScriptFault.TheVariants.{TooLong, NotAscii, BadLine, BadNumber, TooManyLines, TooManyAnalysts, NoMemory}
+use Rattle.decision_script.specs.Lines.{lines}
+use Rattle.decision_script.specs.Sentences.{◌>>=◌, line_says}
+use Rattle.decision_script.specs.Stating.{Stated}
+
+-- how far the reading has come: analysts and items up to here, and the number of the analyst in force
+pub record Reading : Type 0 where
+  pub analysts : List (List ℕ)
+  pub current : ℕ
+  pub items : List Item
+
+-- a line's fault, with the line's number
+abbrev pub fault_at : ℕ → LineFault → ScriptFault
+fault_at line broken.NotAscii = NotAscii line
+fault_at line broken.BadLine = BadLine line
+fault_at line broken.BadNumber = BadNumber line
+fault_at line broken.NoMemory = NoMemory
+
+abbrev pub at_line : ℕ → Result Said LineFault → Result Said ScriptFault
+at_line line (Ok said) = Ok said
+at_line line (Err broken) = Err (fault_at line broken)
+
+-- where among the analysts the one of this name is, counted from 0
+abbrev pub place_of : List ℕ → List (List ℕ) → Option ℕ
+place_of name analysts = position (λ other. bytes_eq other name) analysts
+
+-- a section of a known analyst goes on with that one; a new name makes the next analyst, of at most 16
+abbrev pub in_section : ℕ → Reading → List ℕ → Option ℕ → Result Reading ScriptFault
+in_section line r name (Some i) = Ok (record r { current = i + 1 })
+in_section line r name None = if nat_lt (length r.analysts) 16
+    then Ok (record { analysts = r.analysts ++ name ∷ []; current = length r.analysts + 1; items = r.items })
+    else Err (TooManyAnalysts line)
+
+-- a decision or look is an item of the analyst in force, of at most 4,096
+abbrev pub with_act : ℕ → Reading → Act → Result Reading ScriptFault
+with_act line r act = if nat_lt (length r.items) 4096
+    then Ok (record r { items = r.items ++ (record { line = line; analyst = r.current; act = act }) ∷ [] })
+    else Err (TooManyLines line)
+
+abbrev pub after_saying : ℕ → Reading → Said → Result Reading ScriptFault
+after_saying line r Nothing = Ok r
+after_saying line r (Section name) = in_section line r name (place_of name r.analysts)
+after_saying line r (Says act) = with_act line r act
+
+-- after the line of this number
+unfoldable pub after_line : ℕ → Reading → List ℕ → Result Reading ScriptFault
+after_line line r text = at_line line (line_says text) >>= after_saying line r
+
+-- after these lines, the first of which has this number
+unfoldable pub after_lines : ℕ → Reading → List (List ℕ) → Result Reading ScriptFault
+after_lines line r [] = Ok r
+after_lines line r (l ∷ ls) = after_line line r l >>= λ next. after_lines (line + 1) next ls
+
+-- before the first line the analyst main is in force
+abbrev pub begun : Reading
+begun = record { analysts = codes "main" ∷ []; current = 1; items = [] }
+
+abbrev pub stated : Reading → Stated
+stated r = record { analysts = r.analysts; items = r.items }
+
+-- what a text states, or the first rule that it breaks
+abbrev pub script : List ℕ → Result Stated ScriptFault
+script text = if nat_lt 1048576 (length text) then Err TooLong else (after_lines 1 begun (lines text) >>= λ r. Ok (stated r))

@@ -1,0 +1,127 @@
+-- What a line says, by its words.
+use Rattle.std.specs.Prelude.{◌&&◌, ◌==◌, ℕ, Bool, true, false, codes, if◌then◌else◌, List, [], ◌∷◌, length, Result, Ok, Err}
+use Rattle.std.specs.Option.{ok_or}
+use Rattle.std.specs.Str.{bytes_eq}
+use Rattle.sim_base.specs.Names.{is_name}
+use Rattle.sim_base.specs.declared.decision.Decision.TheVariants.{Fork, Set, End}
+use Rattle.sim_base.specs.declared.message.Change.{Change}
+use Rattle.sim_base.specs.declared.message.Param.{Param}
+use Rattle.sim_base.specs.declared.message.Param.TheVariants.{Every, Service, Hold, Servers, Room, Weight}
+use Rattle.decision_script.specs.declared.item.Act.TheVariants.{Decide, Look}
+use Rattle.decision_script.specs.declared.line.Said.{Said}
+use Rattle.decision_script.specs.declared.line.Said.TheVariants.{Nothing, Section, Says}
+use Rattle.decision_script.specs.declared.fault.LineFault.{LineFault}
+use Rattle.decision_script.specs.declared.fault.LineFault.TheVariants.{NotAscii, BadLine, BadNumber}
+use Rattle.decision_script.specs.Lines.{number, words, is_ascii}
+
+infixl 10 ◌>>=◌
+-- one step after another, up to the first fault
+abbrev pub ◌>>=◌ : {A B F : Type 0} → Result A F → (A → Result B F) → Result B F
+(Ok x) >>= f = f x
+(Err e) >>= f = Err e
+
+-- the words are of the form, or the line is bad
+abbrev pub where_form : {A : Type 0} → Bool → Result A LineFault → Result A LineFault
+where_form true r = r
+where_form false r = Err BadLine
+
+-- the number that the word writes, where it writes one
+abbrev pub numbered : List ℕ → Result ℕ LineFault
+numbered word = ok_or (number word) BadNumber
+
+-- the parameter of this name that takes so many values
+abbrev pub param_of : List ℕ → ℕ → Result Param LineFault
+param_of word count = if bytes_eq word (codes "every") && count == 2 then Ok Every
+    else (if bytes_eq word (codes "service") && count == 2 then Ok Service
+    else (if bytes_eq word (codes "hold") && count == 2 then Ok Hold
+    else (if bytes_eq word (codes "servers") && count == 1 then Ok Servers
+    else (if bytes_eq word (codes "room") && count == 1 then Ok Room
+    else (if bytes_eq word (codes "weight") && count == 2 then Ok Weight
+    else Err BadLine)))))
+
+-- the value of a parameter that takes one
+unfoldable pub one_value : Param → List ℕ → Result Change LineFault
+one_value param a = do
+  x ← numbered a
+  Ok (record { param = param; a = x; b = 0 })
+
+-- the values of a parameter that takes two
+unfoldable pub two_values : Param → List ℕ → List ℕ → Result Change LineFault
+two_values param a b = do
+  x ← numbered a
+  y ← numbered b
+  Ok (record { param = param; a = x; b = y })
+
+abbrev pub change_of : Param → List (List ℕ) → Result Change LineFault
+change_of param (a ∷ []) = one_value param a
+change_of param (a ∷ b ∷ []) = two_values param a b
+change_of param _ = Err BadLine
+
+-- analyst NAME
+unfoldable pub section : List ℕ → Result Said LineFault
+section name = where_form (is_name name) (Ok (Section name))
+
+-- look CLONE STATION
+unfoldable pub look : List ℕ → List ℕ → Result Said LineFault
+look who station = where_form (is_name who && is_name station) (Ok (Says (Look who station)))
+
+-- fork NEW from OLD
+unfoldable pub fork : List ℕ → List ℕ → List ℕ → Result Said LineFault
+fork new link old = where_form ((bytes_eq link (codes "from") && is_name new) && is_name old) (Ok (Says (Decide (Fork new old))))
+
+-- end CLONE at TIME
+unfoldable pub end : List ℕ → List ℕ → List ℕ → Result Said LineFault
+end who link time = where_form (bytes_eq link (codes "at") && is_name who) (do
+  at ← numbered time
+  Ok (Says (Decide (End who at))))
+
+-- set CLONE at TIME STATION PARAMETER VALUES
+unfoldable pub set : List ℕ → List ℕ → List ℕ → List ℕ → List ℕ → List (List ℕ) → Result Said LineFault
+set who link time station word values = where_form ((bytes_eq link (codes "at") && is_name who) && is_name station) (do
+  param ← param_of word (length values)
+  at ← numbered time
+  change ← change_of param values
+  Ok (Says (Decide (Set who at station change))))
+
+-- what follows each first word
+abbrev pub after_analyst : List (List ℕ) → Result Said LineFault
+after_analyst (name ∷ []) = section name
+after_analyst _ = Err BadLine
+
+abbrev pub after_look : List (List ℕ) → Result Said LineFault
+after_look (who ∷ station ∷ []) = look who station
+after_look _ = Err BadLine
+
+abbrev pub after_fork : List (List ℕ) → Result Said LineFault
+after_fork (new ∷ link ∷ old ∷ []) = fork new link old
+after_fork _ = Err BadLine
+
+abbrev pub after_end : List (List ℕ) → Result Said LineFault
+after_end (who ∷ link ∷ time ∷ []) = end who link time
+after_end _ = Err BadLine
+
+abbrev pub after_set : List (List ℕ) → Result Said LineFault
+after_set (who ∷ link ∷ time ∷ station ∷ word ∷ values) = set who link time station word values
+after_set _ = Err BadLine
+
+-- by the first word, what the others say
+abbrev pub sentence : List ℕ → List (List ℕ) → Result Said LineFault
+sentence verb rest = if bytes_eq verb (codes "analyst") then after_analyst rest
+    else (if bytes_eq verb (codes "fork") then after_fork rest
+    else (if bytes_eq verb (codes "set") then after_set rest
+    else (if bytes_eq verb (codes "end") then after_end rest
+    else (if bytes_eq verb (codes "look") then after_look rest
+    else Err BadLine))))
+
+abbrev pub begins_comment : List ℕ → Bool
+begins_comment [] = false
+begins_comment (b ∷ bs) = b == 35
+
+-- no words and a comment say nothing
+abbrev pub said : List (List ℕ) → Result Said LineFault
+said [] = Ok Nothing
+said (w ∷ ws) = if begins_comment w then Ok Nothing else sentence w ws
+
+-- what a line says, or the first rule that it breaks
+abbrev pub line_says : List ℕ → Result Said LineFault
+line_says line = if is_ascii line then said (words line) else Err NotAscii

@@ -1,0 +1,55 @@
+-- What a script is, and which rules every script meets.
+use Rattle.std.specs.Prelude.{ℕ, ◌-◌, ◌^◌, ◌<◌, ◌≤◌, ◌≡◌, false, true, codes, List, [], length, slice_get, unwrap_or, Some}
+use Rattle.std.specs.List.{All, AllPairs}
+use Rattle.std.specs.Str.{bytes_eq}
+use Rattle.sim_base.specs.Names.{is_name}
+use Rattle.sim_base.specs.declared.decision.Decision.{Decision}
+use Rattle.sim_base.specs.declared.decision.Decision.TheVariants.{Fork, Set, End}
+use Rattle.sim_base.specs.declared.message.Param.{Param}
+use Rattle.sim_base.specs.declared.message.Param.TheVariants.{Servers, Room}
+use Rattle.decision_script.specs.declared.item.Act.{Act}
+use Rattle.decision_script.specs.declared.item.Act.TheVariants.{Decide, Look}
+use Rattle.decision_script.specs.declared.item.Item.{Item}
+
+-- the names of the analysts in order, and the items in order
+pub record Stated : Type 0 where
+  pub analysts : List (List ℕ)
+  pub items : List Item
+
+-- the name of the analyst of this number, from 1
+abbrev pub analyst_name : List (List ℕ) → ℕ → List ℕ
+analyst_name analysts a = unwrap_or (slice_get analysts (a - 1)) []
+
+abbrev pub IsNamed : List ℕ → Type 0
+IsNamed name = is_name name ≡ true
+
+-- values of a parameter that fit 32 bits; the second value of a parameter with one is 0
+abbrev pub IsChange : Param → ℕ → ℕ → Type 0
+IsChange Servers a b = (a < 2 ^ 32) × (b ≡ 0)
+IsChange Room a b = (a < 2 ^ 32) × (b ≡ 0)
+IsChange _ a b = (a < 2 ^ 32) × (b < 2 ^ 32)
+
+-- names are names, and numbers fit 32 bits
+abbrev pub IsDecision : Decision → Type 0
+IsDecision (Fork new old) = IsNamed new × IsNamed old
+IsDecision (Set who at station change) = IsNamed who × (at < 2 ^ 32) × IsNamed station × IsChange change.param change.a change.b
+IsDecision (End who at) = IsNamed who × (at < 2 ^ 32)
+
+abbrev pub IsAct : Act → Type 0
+IsAct (Decide decision) = IsDecision decision
+IsAct (Look who station) = IsNamed who × IsNamed station
+
+-- an item of one of so many analysts
+pub record IsItem (analysts : ℕ) (item : Item) : Type 0 where
+  pub low : 1 ≤ item.analyst
+  pub high : item.analyst ≤ analysts
+  pub act : IsAct item.act
+
+-- the first analyst is main, no two have one name, and nothing is more than a script may have
+pub record IsScript (s : Stated) : Type 0 where
+  pub first : slice_get s.analysts 0 ≡ Some (codes "main")
+  pub named : All IsNamed s.analysts
+  pub distinct : AllPairs (λ a b. bytes_eq a b ≡ false) s.analysts
+  pub few_analysts : length s.analysts ≤ 16
+  pub few_items : length s.items ≤ 4096
+  pub valid : All (IsItem (length s.analysts)) s.items

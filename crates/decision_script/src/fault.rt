@@ -1,0 +1,99 @@
+//! Why a text is no script.
+ghost use Rattle.std.specs.Prelude.{◌≡◌};
+ghost use Rattle.decision_script.specs.Faults.{fault_line, fault_number};
+
+use sim_base::NoMemory;
+use std::alloc::{AllocError, AllocFailed};
+
+/// The first rule that a text breaks, or want of memory. `line` is the number of the first line that
+/// breaks one, from 1.
+#[derive(Clone, Copy, Debug, PartialEq, Eq)]
+pub enum ScriptFault {
+    /// More than 1,048,576 bytes.
+    TooLong,
+    /// A byte of 128 or more, also in a comment.
+    NotAscii { line: u32 },
+    /// The words are of no form.
+    BadLine { line: u32 },
+    /// The words are of a form, and one in a number's place is none.
+    BadNumber { line: u32 },
+    /// A decision or look after 4,096 others.
+    TooManyLines { line: u32 },
+    /// A section of a 17th analyst.
+    TooManyAnalysts { line: u32 },
+    /// Memory was refused.
+    NoMemory,
+}
+
+impl ScriptFault {
+    /// Its number, from 1 to 7.
+    pub fn number(&self) -> u32
+        ensures { result ≡ fault_number self.now }
+    {
+        match self {
+            ScriptFault::TooLong => 1,
+            ScriptFault::NotAscii { .. } => 2,
+            ScriptFault::BadLine { .. } => 3,
+            ScriptFault::BadNumber { .. } => 4,
+            ScriptFault::TooManyLines { .. } => 5,
+            ScriptFault::TooManyAnalysts { .. } => 6,
+            ScriptFault::NoMemory => 7,
+        }
+    }
+
+    /// The number of the line that it names, or 0.
+    pub fn line(&self) -> u32
+        ensures { result ≡ fault_line self.now }
+    {
+        match self {
+            ScriptFault::TooLong | ScriptFault::NoMemory => 0,
+            ScriptFault::NotAscii { line }
+            | ScriptFault::BadLine { line }
+            | ScriptFault::BadNumber { line }
+            | ScriptFault::TooManyLines { line }
+            | ScriptFault::TooManyAnalysts { line } => *line,
+        }
+    }
+}
+
+impl From<AllocError> for ScriptFault {
+    ghost use Rattle.std.specs.Prelude.{◌≡◌};
+    ghost use Rattle.decision_script.specs.declared.fault.ScriptFault.TheVariants.{NoMemory};
+
+    ghost from_gives = { λ _ e. e ≡ NoMemory };
+
+    fn from(_error: AllocError) -> ScriptFault {
+        ScriptFault::NoMemory
+    }
+}
+
+impl<T: Drop> From<AllocFailed<T>> for ScriptFault {
+    ghost use Rattle.std.specs.Prelude.{◌≡◌};
+    ghost use Rattle.decision_script.specs.declared.fault.ScriptFault.TheVariants.{NoMemory};
+
+    ghost from_gives = { λ _ e. e ≡ NoMemory };
+
+    fn from(_error: AllocFailed<T>) -> ScriptFault {
+        ScriptFault::NoMemory
+    }
+}
+
+impl From<NoMemory> for ScriptFault {
+    ghost use Rattle.std.specs.Prelude.{◌≡◌};
+    ghost use Rattle.decision_script.specs.declared.fault.ScriptFault.TheVariants.{NoMemory};
+
+    ghost from_gives = { λ _ e. e ≡ NoMemory };
+
+    fn from(_error: NoMemory) -> ScriptFault {
+        ScriptFault::NoMemory
+    }
+}
+
+/// The first rule that a line breaks by itself, or want of memory.
+#[derive(Clone, Copy, Debug, PartialEq, Eq)]
+pub(crate) enum LineFault {
+    NotAscii,
+    BadLine,
+    BadNumber,
+    NoMemory,
+}

@@ -1,0 +1,29 @@
+//! What a script asks for.
+ghost use Rattle.std.specs.Prelude.{◌≡◌, ◌++◌, ◌∷◌, [], OnOk, OnErr};
+
+use sim_base::{Decision, Name, NoMemory};
+
+/// What an analyst does.
+#[derive(Clone, Copy, Debug, PartialEq, Eq)]
+pub enum Act {
+    /// A decision on the clones.
+    Decide(Decision),
+    /// A question how far a station has come in a clone.
+    Look { who: Name, station: Name },
+}
+
+/// An act, with the number of its line, from 1, and that of its analyst, from 1.
+#[derive(Clone, Copy, Debug, PartialEq, Eq)]
+pub struct Item {
+    pub line: u32,
+    pub analyst: u32,
+    pub act: Act,
+}
+
+pub(crate) fn push_item(items: &mut Vec<Item>, item: Item) -> Result<(), NoMemory>
+    ensures ok { OnOk result (items.new.items ≡ items.old.items ++ item ∷ []) }
+    ensures err { OnErr result (items.new.items ≡ items.old.items) }
+{
+    items.extend_from_slice(&[item])?;
+    Ok(())
+}

@@ -1,0 +1,267 @@
+//! What one line says.
+ghost use Rattle.std.specs.Prelude.{◌≡◌, ◌≢◌, Ok, Err, map, IfOk, MatchResult};
+ghost use Rattle.sim_base.specs.Names.{is_name};
+ghost use Rattle.decision_script.specs.Lines.{words, is_blank, has_bytes, is_ascii};
+ghost use Rattle.decision_script.specs.Sentences.{change_of, param_of, section, look, fork, end, set, one_value, two_values, after_analyst, after_look, after_fork, after_end, after_set, sentence, begins_comment, said, line_says, where_form};
+
+use crate::fault::LineFault;
+use crate::item::Act;
+use crate::number::number_of;
+use sim_base::{Change, Decision, Name, Param};
+use std::alloc::{AllocError, Global};
+
+/// What a line says.
+#[derive(Clone, Copy, Debug, PartialEq, Eq)]
+pub(crate) enum Said {
+    /// It is empty, or a comment.
+    Nothing,
+    /// The lines from here on are those of the analyst of this name.
+    Section(Name),
+    /// It is a decision or a look.
+    Says(Act),
+}
+
+fn name(word: &[u8]) -> Result<Name, LineFault>
+    ensures { result ≡ where_form (is_name word.now) (Ok word.now) }
+{
+    match Name::read(word) {
+        Some(name) => Ok(name),
+        None => Err(LineFault::BadLine),
+    }
+}
+
+fn param(word: &[u8], count: usize) -> Result<Param, LineFault>
+    ensures { result ≡ param_of word.now count }
+{
+    if word == b"every".as_slice() && count == 2 {
+        Ok(Param::Every)
+    } else if word == b"service".as_slice() && count == 2 {
+        Ok(Param::Service)
+    } else if word == b"hold".as_slice() && count == 2 {
+        Ok(Param::Hold)
+    } else if word == b"servers".as_slice() && count == 1 {
+        Ok(Param::Servers)
+    } else if word == b"room".as_slice() && count == 1 {
+        Ok(Param::Room)
+    } else if word == b"weight".as_slice() && count == 2 {
+        Ok(Param::Weight)
+    } else {
+        Err(LineFault::BadLine)
+    }
+}
+
+#[tactic(auto, unfolding(crate::specs::Sentences::one_value))]
+fn one_value_change(param: Param, a: &[u8]) -> Result<Change, LineFault>
+    ensures { result ≡ one_value param a.now }
+{
+    let a = number_of(a)?;
+    Ok(Change { param, a, b: 0 })
+}
+
+#[tactic(auto, unfolding(crate::specs::Sentences::two_values))]
+fn two_value_change(param: Param, a: &[u8], b: &[u8]) -> Result<Change, LineFault>
+    ensures { result ≡ two_values param a.now b.now }
+{
+    let a = number_of(a)?;
+    let b = number_of(b)?;
+    Ok(Change { param, a, b })
+}
+
+fn change(param: Param, values: &[&[u8]]) -> Result<Change, LineFault>
+    ensures { result ≡ change_of param (map (λ w. w.now) values.now) }
+{
+    match values {
+        [a] => one_value_change(param, a),
+        [a, b] => two_value_change(param, a, b),
+        _ => Err(LineFault::BadLine),
+    }
+}
+
+#[tactic(auto, unfolding(crate::specs::Sentences::section))]
+fn section_line(word: &[u8]) -> Result<Said, LineFault>
+    ensures { result ≡ section word.now }
+{
+    Ok(Said::Section(name(word)?))
+}
+
+#[tactic(auto, unfolding(crate::specs::Sentences::look))]
+fn look_line(who: &[u8], station: &[u8]) -> Result<Said, LineFault>
+    ensures { result ≡ look who.now station.now }
+{
+    let who = name(who)?;
+    let station = name(station)?;
+    Ok(Said::Says(Act::Look { who, station }))
+}
+
+#[tactic(auto, unfolding(crate::specs::Sentences::fork))]
+fn fork_line(new: &[u8], link: &[u8], old: &[u8]) -> Result<Said, LineFault>
+    ensures { result ≡ fork new.now link.now old.now }
+{
+    if link != b"from".as_slice() {
+        return Err(LineFault::BadLine);
+    }
+    let new = name(new)?;
+    let old = name(old)?;
+    Ok(Said::Says(Act::Decide(Decision::Fork { new, old })))
+}
+
+#[tactic(auto, unfolding(crate::specs::Sentences::end))]
+fn end_line(who: &[u8], link: &[u8], time: &[u8]) -> Result<Said, LineFault>
+    ensures { result ≡ end who.now link.now time.now }
+{
+    if link != b"at".as_slice() {
+        return Err(LineFault::BadLine);
+    }
+    let who = name(who)?;
+    let at = number_of(time)?;
+    Ok(Said::Says(Act::Decide(Decision::End { who, at })))
+}
+
+#[tactic(auto, unfolding(crate::specs::Sentences::set))]
+fn set_line(
+    who: &[u8],
+    link: &[u8],
+    time: &[u8],
+    station: &[u8],
+    word: &[u8],
+    values: &[&[u8]],
+) -> Result<Said, LineFault>
+    ensures { result ≡ set who.now link.now time.now station.now word.now (map (λ w. w.now) values.now) }
+{
+    if link != b"at".as_slice() {
+        return Err(LineFault::BadLine);
+    }
+    let who = name(who)?;
+    let station = name(station)?;
+    let param = param(word, values.len())?;
+    let at = number_of(time)?;
+    let change = change(param, values)?;
+    Ok(Said::Says(Act::Decide(Decision::Set {
+        who,
+        at,
+        station,
+        change,
+    })))
+}
+
+fn analyst_words(words: &[&[u8]]) -> Result<Said, LineFault>
+    ensures { result ≡ after_analyst (map (λ w. w.now) words.now) }
+{
+    match words {
+        [name] => section_line(name),
+        _ => Err(LineFault::BadLine),
+    }
+}
+
+fn look_words(words: &[&[u8]]) -> Result<Said, LineFault>
+    ensures { result ≡ after_look (map (λ w. w.now) words.now) }
+{
+    match words {
+        [who, station] => look_line(who, station),
+        _ => Err(LineFault::BadLine),
+    }
+}
+
+fn fork_words(words: &[&[u8]]) -> Result<Said, LineFault>
+    ensures { result ≡ after_fork (map (λ w. w.now) words.now) }
+{
+    match words {
+        [new, link, old] => fork_line(new, link, old),
+        _ => Err(LineFault::BadLine),
+    }
+}
+
+fn end_words(words: &[&[u8]]) -> Result<Said, LineFault>
+    ensures { result ≡ after_end (map (λ w. w.now) words.now) }
+{
+    match words {
+        [who, link, time] => end_line(who, link, time),
+        _ => Err(LineFault::BadLine),
+    }
+}
+
+fn set_words(words: &[&[u8]]) -> Result<Said, LineFault>
+    ensures { result ≡ after_set (map (λ w. w.now) words.now) }
+{
+    match words {
+        [who, link, time, station, word, values @ ..] => {
+            set_line(who, link, time, station, word, values)
+        }
+        _ => Err(LineFault::BadLine),
+    }
+}
+
+fn sentence_of(verb: &[u8], rest: &[&[u8]]) -> Result<Said, LineFault>
+    ensures { result ≡ sentence verb.now (map (λ w. w.now) rest.now) }
+{
+    if verb == b"analyst".as_slice() {
+        analyst_words(rest)
+    } else if verb == b"fork".as_slice() {
+        fork_words(rest)
+    } else if verb == b"set".as_slice() {
+        set_words(rest)
+    } else if verb == b"end".as_slice() {
+        end_words(rest)
+    } else if verb == b"look".as_slice() {
+        look_words(rest)
+    } else {
+        Err(LineFault::BadLine)
+    }
+}
+
+fn is_comment(word: &[u8]) -> bool
+    ensures { result ≡ begins_comment word.now }
+{
+    match word {
+        [first, ..] => *first == b'#',
+        [] => false,
+    }
+}
+
+fn said_by(words: &[&[u8]]) -> Result<Said, LineFault>
+    ensures { result ≡ said (map (λ w. w.now) words.now) }
+{
+    match words {
+        [] => Ok(Said::Nothing),
+        [verb, rest @ ..] => {
+            if is_comment(verb) {
+                Ok(Said::Nothing)
+            } else {
+                sentence_of(verb, rest)
+            }
+        }
+    }
+}
+
+fn is_ascii_line(line: &[u8]) -> bool
+    ensures { result ≡ is_ascii line.now }
+{
+    line.iter().all(|b| *b < 128)
+}
+
+fn separates(byte: u8) -> bool
+    ensures { result ≡ is_blank byte }
+{
+    byte == b' ' || byte == b'\t'
+}
+
+fn words_of(alloc: Global, line: &[u8]) -> Result<Vec<&[u8]>, AllocError>
+    ensures { IfOk result (λ v. map (λ w. w.now) v.items ≡ words line.now) }
+{
+    line.split(|b| separates(*b))
+        .filter(|word| !word.is_empty())
+        .collect(alloc)
+}
+
+/// What a line says.
+pub(crate) fn says(alloc: Global, line: &[u8]) -> Result<Said, LineFault>
+    ensures { MatchResult result (λ s. line_says line.now ≡ Ok s) (λ e. e ≢ LineFault.NoMemory → line_says line.now ≡ Err e) }
+{
+    if !is_ascii_line(line) {
+        return Err(LineFault::NotAscii);
+    }
+    match words_of(alloc, line) {
+        Ok(words) => said_by(words.as_slice()),
+        Err(_) => Err(LineFault::NoMemory),
+    }
+}

@@ -1,0 +1,187 @@
+//! The canonical text of a script.
+ghost use Rattle.std.specs.Prelude.{◌≡◌, ◌++◌, ◌∷◌, [], ◌≤◌, drop, length, map, OnOk, IfOk, decimal, codes};
+ghost use Rattle.std.specs.List.{All, flat_map, join_with_byte};
+ghost use Rattle.decision_script.specs.Printing.{canonical_text, item_lines, line_text, section_before, words_of_act, words_of_change, words_of_section};
+
+use crate::item::{Act, Item};
+use crate::script::Script;
+use itoa::Buffer;
+use sim_base::{Change, Decision, Name, NoMemory, Param};
+use std::alloc::Global;
+
+fn push_name(out: &mut Vec<u8>, name: &Name) -> Result<(), NoMemory>
+    ensures { OnOk result (out.new.items ≡ out.old.items ++ (32 ∷ name.now)) }
+{
+    out.extend_from_slice(b" ")?;
+    out.extend_from_slice(name.as_bytes())?;
+    Ok(())
+}
+
+fn push_number(out: &mut Vec<u8>, number: u64) -> Result<(), NoMemory>
+    ensures { OnOk result (out.new.items ≡ out.old.items ++ (32 ∷ decimal number)) }
+{
+    let mut buffer = Buffer::new();
+    out.extend_from_slice(b" ")?;
+    out.extend_from_slice(buffer.format(number).as_bytes())?;
+    Ok(())
+}
+
+fn push_section(out: &mut Vec<u8>, name: &Name) -> Result<(), NoMemory>
+    ensures { OnOk result (out.new.items ≡ out.old.items ++ line_text (words_of_section name.now)) }
+{
+    out.extend_from_slice(b"analyst")?;
+    push_name(out, name)?;
+    out.extend_from_slice(b"\n")?;
+    Ok(())
+}
+
+fn push_fork(out: &mut Vec<u8>, new: &Name, old: &Name) -> Result<(), NoMemory>
+    ensures { OnOk result (out.new.items ≡ out.old.items ++ line_text (codes "fork" ∷ new.now ∷ codes "from" ∷ old.now ∷ [])) }
+{
+    out.extend_from_slice(b"fork")?;
+    push_name(out, new)?;
+    out.extend_from_slice(b" from")?;
+    push_name(out, old)?;
+    out.extend_from_slice(b"\n")?;
+    Ok(())
+}
+
+fn push_values(out: &mut Vec<u8>, change: &Change) -> Result<(), NoMemory>
+    ensures { OnOk result (out.new.items ≡ out.old.items ++ (32 ∷ join_with_byte 32 (words_of_change change.now.param change.now.a change.now.b))) }
+{
+    match change.param {
+        Param::Every => out.extend_from_slice(b" every")?,
+        Param::Service => out.extend_from_slice(b" service")?,
+        Param::Hold => out.extend_from_slice(b" hold")?,
+        Param::Weight => out.extend_from_slice(b" weight")?,
+        Param::Servers => {
+            out.extend_from_slice(b" servers")?;
+            return push_number(out, change.a);
+        }
+        Param::Room => {
+            out.extend_from_slice(b" room")?;
+            return push_number(out, change.a);
+        }
+    }
+    push_number(out, change.a)?;
+    push_number(out, change.b)
+}
+
+fn push_set(
+    out: &mut Vec<u8>,
+    who: &Name,
+    at: u64,
+    station: &Name,
+    change: &Change,
+) -> Result<(), NoMemory>
+    ensures { OnOk result (out.new.items ≡ out.old.items ++ line_text (codes "set" ∷ who.now ∷ codes "at" ∷ decimal at ∷ station.now ∷ words_of_change change.now.param change.now.a change.now.b)) }
+{
+    out.extend_from_slice(b"set")?;
+    push_name(out, who)?;
+    out.extend_from_slice(b" at")?;
+    push_number(out, at)?;
+    push_name(out, station)?;
+    push_values(out, change)?;
+    out.extend_from_slice(b"\n")?;
+    Ok(())
+}
+
+fn push_end(out: &mut Vec<u8>, who: &Name, at: u64) -> Result<(), NoMemory>
+    ensures { OnOk result (out.new.items ≡ out.old.items ++ line_text (codes "end" ∷ who.now ∷ codes "at" ∷ decimal at ∷ [])) }
+{
+    out.extend_from_slice(b"end")?;
+    push_name(out, who)?;
+    out.extend_from_slice(b" at")?;
+    push_number(out, at)?;
+    out.extend_from_slice(b"\n")?;
+    Ok(())
+}
+
+fn push_look(out: &mut Vec<u8>, who: &Name, station: &Name) -> Result<(), NoMemory>
+    ensures { OnOk result (out.new.items ≡ out.old.items ++ line_text (codes "look" ∷ who.now ∷ station.now ∷ [])) }
+{
+    out.extend_from_slice(b"look")?;
+    push_name(out, who)?;
+    push_name(out, station)?;
+    out.extend_from_slice(b"\n")?;
+    Ok(())
+}
+
+fn push_act(out: &mut Vec<u8>, act: &Act) -> Result<(), NoMemory>
+    ensures { OnOk result (out.new.items ≡ out.old.items ++ line_text (words_of_act act.now)) }
+{
+    match act {
+        Act::Decide(Decision::Fork { new, old }) => push_fork(out, new, old),
+        Act::Decide(
+            Decision::Set {
+                who,
+                at,
+                station,
+                change,
+            },
+        ) => push_set(out, who, *at, station, change),
+        Act::Decide(Decision::End { who, at }) => push_end(out, who, *at),
+        Act::Look { who, station } => push_look(out, who, station),
+    }
+}
+
+fn after_first(analysts: &[Name]) -> &[Name]
+    ensures { result.now ≡ drop 1 analysts.now }
+{
+    match analysts {
+        [_, others @ ..] => others,
+        [] => analysts,
+    }
+}
+
+// A line for each of these analysts.
+fn push_sections(out: &mut Vec<u8>, names: &[Name]) -> Result<(), NoMemory>
+    ensures { OnOk result (out.new.items ≡ out.old.items ++ flat_map line_text (map words_of_section names.now)) }
+{
+    'names: for name in names {
+        push_section(out, name)?;
+    }
+    Ok(())
+}
+
+fn push_section_before(
+    out: &mut Vec<u8>,
+    analysts: &[Name],
+    force: u32,
+    item: &Item,
+) -> Result<(), NoMemory>
+    requires low { 1 ≤ item.now.analyst }
+    requires high { item.now.analyst ≤ length analysts.now }
+    ensures { OnOk result (out.new.items ≡ out.old.items ++ flat_map line_text (section_before analysts.now force item.now)) }
+{
+    if item.analyst == force {
+        return Ok(());
+    }
+    push_section(out, &analysts[item.analyst as usize - 1])
+}
+
+fn push_items(out: &mut Vec<u8>, analysts: &[Name], items: &[Item]) -> Result<(), NoMemory>
+    requires few { length analysts.now ≤ 16 }
+    requires there { All (λ i. (1 ≤ i.analyst) × (i.analyst ≤ length analysts.now)) items.now }
+    ensures { OnOk result (out.new.items ≡ out.old.items ++ flat_map line_text (item_lines analysts.now (length analysts.now) items.now)) }
+{
+    let mut force = analysts.len() as u32;
+    'items: for item in items {
+        push_section_before(out, analysts, force, item)?;
+        push_act(out, &item.act)?;
+        force = item.analyst;
+    }
+    Ok(())
+}
+
+/// The canonical text: a section line for each analyst from the second on, and then the items, with a
+/// section line wherever the analyst changes.
+pub fn print_script(alloc: Global, script: &Script) -> Result<Vec<u8>, NoMemory>
+    ensures { IfOk result (λ v. v.items ≡ canonical_text script.now) }
+{
+    let mut out = Vec::new(alloc);
+    let analysts = script.analysts.as_slice();
+    push_sections(&mut out, after_first(analysts))?;
+    push_items(&mut out, analysts, script.items.as_slice())?;
+    Ok(out)
+}

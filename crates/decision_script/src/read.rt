@@ -1,0 +1,200 @@
+//! Reads a script.
+ghost use Rattle.std.specs.Prelude.{◌≡◌, ◌≢◌, ◌≤◌, length, codes, Ok, Err, IfOk, IfErr};
+ghost use Rattle.std.specs.Str.Lines.{strip_carriage_return};
+ghost use Rattle.decision_script.specs.Lines.{is_newline, lines};
+ghost use Rattle.decision_script.specs.Reading.{place_of, after_lines, fault_at, script, begun};
+
+use crate::fault::{LineFault, ScriptFault};
+use crate::item::{Act, Item, push_item};
+use crate::line::{Said, says};
+use crate::script::Script;
+use sim_base::Name;
+use std::alloc::Global;
+use std::marker::Model;
+
+const MAX_BYTES: usize = 1_048_576;
+
+const MAX_ANALYSTS: usize = 16;
+
+const MAX_ITEMS: usize = 4_096;
+
+// How far the reading has come.
+#[derive(Drop)]
+struct Reader {
+    analysts: Vec<Name>,
+    // the number of the analyst in force
+    current: u32,
+    items: Vec<Item>,
+}
+
+impl Model for Reader {
+    ghost use Rattle.std.specs.Prelude.{◌≤◌, length};
+    ghost use Rattle.decision_script.specs.Reading.{Reading};
+
+    ghost Value = { Reading };
+
+    ghost view = { λ r. record { analysts = r.analysts.items; current = r.current; items = r.items.items } };
+
+    ghost invariant = { λ r. length r.analysts.items ≤ 16 };
+}
+
+impl Reader {
+    ghost use Rattle.std.specs.Prelude.{◌≡◌, ◌≢◌, Ok, Err, OnOk, IfOk, IfErr};
+    ghost use Rattle.decision_script.specs.Stating.{IsScript};
+    ghost use Rattle.decision_script.specs.Reading.{place_of, in_section, with_act, after_saying, after_line, begun, stated};
+
+    fn new(alloc: Global) -> Result<Reader, ScriptFault>
+        ensures ok { IfOk result (λ r. r ≡ begun) }
+        ensures refused { IfErr result (λ e. e ≡ ScriptFault.NoMemory) }
+    {
+        let mut analysts = Vec::new(alloc);
+        analysts.push(main_name())?;
+        Ok(Reader {
+            analysts,
+            current: 1,
+            items: Vec::new(alloc),
+        })
+    }
+
+    fn section(&mut self, line: u32, name: Name) -> Result<(), ScriptFault>
+        ensures ok { OnOk result (in_section line self.old name (place_of name self.old.analysts) ≡ Ok self.new) }
+        ensures refused { IfErr result (λ e. e ≢ ScriptFault.NoMemory → in_section line self.old name (place_of name self.old.analysts) ≡ Err e) }
+    {
+        match place(&name, self.analysts.as_slice()) {
+            Some(i) => {
+                self.current = i as u32 + 1;
+                Ok(())
+            }
+            None => {
+                if self.analysts.len() >= MAX_ANALYSTS {
+                    return Err(ScriptFault::TooManyAnalysts { line });
+                }
+                self.analysts.push(name)?;
+                self.current = self.analysts.len() as u32;
+                Ok(())
+            }
+        }
+    }
+
+    fn act(&mut self, line: u32, act: Act) -> Result<(), ScriptFault>
+        ensures ok { OnOk result (with_act line self.old act ≡ Ok self.new) }
+        ensures refused { IfErr result (λ e. e ≢ ScriptFault.NoMemory → with_act line self.old act ≡ Err e) }
+    {
+        if self.items.len() >= MAX_ITEMS {
+            return Err(ScriptFault::TooManyLines { line });
+        }
+        let item = Item {
+            line,
+            analyst: self.current,
+            act,
+        };
+        push_item(&mut self.items, item)?;
+        Ok(())
+    }
+
+    fn said(&mut self, line: u32, said: Said) -> Result<(), ScriptFault>
+        ensures ok { OnOk result (after_saying line self.old said ≡ Ok self.new) }
+        ensures refused { IfErr result (λ e. e ≢ ScriptFault.NoMemory → after_saying line self.old said ≡ Err e) }
+    {
+        match said {
+            Said::Nothing => Ok(()),
+            Said::Section(name) => self.section(line, name),
+            Said::Says(act) => self.act(line, act),
+        }
+    }
+
+    #[tactic(auto, unfolding(crate::specs::Reading::after_line))]
+    fn line(&mut self, alloc: Global, line: u32, text: &[u8]) -> Result<(), ScriptFault>
+        ensures ok { OnOk result (after_line line self.old text.now ≡ Ok self.new) }
+        ensures refused { IfErr result (λ e. e ≢ ScriptFault.NoMemory → after_line line self.old text.now ≡ Err e) }
+    {
+        match says(alloc, text) {
+            Ok(said) => self.said(line, said),
+            Err(broken) => Err(fault(line, broken)),
+        }
+    }
+
+    fn stated(self) -> Script
+        requires { IsScript (stated self) }
+        ensures { result ≡ stated self }
+    {
+        Script {
+            analysts: self.analysts,
+            items: self.items,
+        }
+    }
+}
+
+fn main_name() -> Name
+    ensures { result ≡ codes "main" }
+{
+    match Name::read(b"main") {
+        Some(name) => name,
+        None => unreachable!(),
+    }
+}
+
+fn place(name: &Name, analysts: &[Name]) -> Option<usize>
+    ensures { result ≡ place_of name.now analysts.now }
+{
+    analysts
+        .iter()
+        .position(|other| other.as_bytes() == name.as_bytes())
+}
+
+fn fault(line: u32, broken: LineFault) -> ScriptFault
+    ensures { result ≡ fault_at line broken }
+{
+    match broken {
+        LineFault::NotAscii => ScriptFault::NotAscii { line },
+        LineFault::BadLine => ScriptFault::BadLine { line },
+        LineFault::BadNumber => ScriptFault::BadNumber { line },
+        LineFault::NoMemory => ScriptFault::NoMemory,
+    }
+}
+
+fn without_return(line: &[u8]) -> &[u8]
+    ensures { result.now ≡ strip_carriage_return line.now }
+{
+    match line {
+        [front @ .., b'\r'] => front,
+        _ => line,
+    }
+}
+
+fn ends_line(byte: u8) -> bool
+    ensures { result ≡ is_newline byte }
+{
+    byte == b'\n'
+}
+
+fn read_lines(alloc: Global, text: &[u8]) -> Result<Reader, ScriptFault>
+    requires { length text.now ≤ 1048576 }
+    ensures ok { IfOk result (λ r. after_lines 1 begun (lines text.now) ≡ Ok r) }
+    ensures refused { IfErr result (λ e. e ≢ ScriptFault.NoMemory → after_lines 1 begun (lines text.now) ≡ Err e) }
+{
+    let mut reader = Reader::new(alloc)?;
+    let mut line: u32 = 0;
+    'lines: for part in text.split(|b| ends_line(*b)) {
+        line += 1;
+        if let Err(fault) = reader.line(alloc, line, without_return(part)) {
+            return Err(fault);
+        }
+    }
+    Ok(reader)
+}
+
+/// Reads the script that a text states. A refusal names the first line with a fault, and of its faults
+/// the first in the order of [`ScriptFault`].
+pub fn read_script(alloc: Global, text: &[u8]) -> Result<Script, ScriptFault>
+    ensures ok { IfOk result (λ s. script text.now ≡ Ok s) }
+    ensures refused { IfErr result (λ e. e ≢ ScriptFault.NoMemory → script text.now ≡ Err e) }
+{
+    if text.len() > MAX_BYTES {
+        return Err(ScriptFault::TooLong);
+    }
+    match read_lines(alloc, text) {
+        Ok(reader) => Ok(reader.stated()),
+        Err(fault) => Err(fault),
+    }
+}

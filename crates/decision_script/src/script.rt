@@ -1,0 +1,70 @@
+//! A script.
+ghost use Rattle.std.specs.Prelude.{◌≡◌, ◌<◌, ◌≤◌, [], length, slice_get, Some, IsTrue, ◌↔◌};
+ghost use Rattle.decision_script.specs.Stating.{analyst_name};
+
+use crate::item::Item;
+use sim_base::Name;
+use std::marker::Model;
+
+/// Who acts, and what is asked for, in order: what a text states, or a part of it.
+#[derive(Drop)]
+pub struct Script {
+    pub(crate) analysts: Vec<Name>,
+    pub(crate) items: Vec<Item>,
+}
+
+impl Model for Script {
+    ghost use Rattle.decision_script.specs.Stating.{Stated, IsScript};
+
+    ghost Value = { Stated };
+
+    ghost view = { λ s. record { analysts = s.analysts.items; items = s.items.items } };
+
+    ghost invariant = { λ s. IsScript (record { analysts = s.analysts.items; items = s.items.items }) };
+}
+
+impl Script {
+    ghost use Rattle.decision_script.specs.Stating.{IsScript};
+
+    /// How many items it has.
+    pub fn len(&self) -> u32
+        ensures value { result ≡ length self.now.items }
+        ensures valid { IsScript self.now }
+    {
+        self.items.len() as u32
+    }
+
+    /// Whether it has none.
+    pub fn is_empty(&self) -> bool
+        ensures { IsTrue result ↔ (self.now.items ≡ []) }
+    {
+        self.items.is_empty()
+    }
+
+    /// The item of an index, from 0.
+    pub fn item(&self, i: u32) -> Item
+        requires { i < length self.now.items }
+        ensures value { slice_get self.now.items i ≡ Some result }
+        ensures valid { IsScript self.now }
+    {
+        self.items[i as usize]
+    }
+
+    /// How many analysts it has.
+    pub fn analysts(&self) -> u32
+        ensures value { result ≡ length self.now.analysts }
+        ensures valid { IsScript self.now }
+    {
+        self.analysts.len() as u32
+    }
+
+    /// The name of the analyst of a number, from 1, which is that of `main`.
+    pub fn analyst(&self, a: u32) -> Name
+        requires low { 1 ≤ a }
+        requires high { a ≤ length self.now.analysts }
+        ensures value { result ≡ analyst_name self.now.analysts a }
+        ensures valid { IsScript self.now }
+    {
+        self.analysts[a as usize - 1]
+    }
+}
