@@ -1,0 +1,99 @@
+-- Worked examples: a trace as people read it, and a report.
+use Rattle.std.specs.Prelude.{ℕ, List, [], ◌∷◌, ◌++◌, codes}
+use Rattle.sim_base.specs.declared.entry.Entry.{Entry}
+use Rattle.sim_base.specs.declared.entry.Line.{Line}
+use Rattle.sim_base.specs.declared.entry.Line.TheVariants.{Source, Server, Sink}
+use Rattle.sim_base.specs.declared.figures.Figures.{Figures}
+use Rattle.sim_base.specs.declared.message.Msg.{Msg}
+use Rattle.sim_base.specs.declared.message.Payload.{Payload}
+use Rattle.sim_base.specs.declared.message.Payload.TheVariants.{Tick, Job, Done}
+use Rattle.net_model.specs.declared.station.Kind.TheVariants.{Source as SourceKind, Sink as SinkKind}
+use Rattle.net_model.specs.Net.{Net}
+
+abbrev pub gate : ℕ
+gate = 1
+
+abbrev pub desk : ℕ
+desk = 2
+
+abbrev pub out : ℕ
+out = 3
+
+-- time, receiver, sender, number, payload, counts
+abbrev pub at : ℕ → ℕ → ℕ → ℕ → Payload → Line → Entry Msg Line
+at time receiver sender number payload line =
+    record { msg = record { key = record { time = time; sender = sender; number = number }; to = receiver; payload = payload }; line = line }
+
+-- source, count and time of birth of the job
+abbrev pub job : ℕ → ℕ → ℕ → Payload
+job source count born = Job (record { source = source; count = count; born = born })
+
+abbrev pub done : ℕ → ℕ → ℕ → Payload
+done source count born = Done (record { source = source; count = count; born = born })
+
+-- two jobs at a desk that serves one at a time
+abbrev pub entries : List (Entry Msg Line)
+entries =
+    at 3 gate gate 0 Tick (Source 1)
+    ∷ at 5 desk gate 1 (job gate 0 3) (Server 1 0 0 0)
+    ∷ at 6 gate gate 2 Tick (Source 2)
+    ∷ at 8 desk gate 3 (job gate 1 6) (Server 1 1 0 0)
+    ∷ at 9 desk desk 0 (done gate 0 3) (Server 1 0 1 0)
+    ∷ at 11 out desk 1 (job gate 0 3) (Sink 1 8)
+    ∷ at 13 desk desk 2 (done gate 1 6) (Server 0 0 2 0)
+    ∷ at 15 out desk 3 (job gate 1 6) (Sink 2 17) ∷ []
+
+abbrev pub entries_text : List ℕ
+entries_text =
+    codes "clone base\n"
+    ++ codes "3 gate gate 0 tick sent=1\n"
+    ++ codes "5 desk gate 1 job gate.0 busy=1 wait=0 done=0 lost=0\n"
+    ++ codes "6 gate gate 2 tick sent=2\n"
+    ++ codes "8 desk gate 3 job gate.1 busy=1 wait=1 done=0 lost=0\n"
+    ++ codes "9 desk desk 0 done gate.0 busy=1 wait=0 done=1 lost=0\n"
+    ++ codes "11 out desk 1 job gate.0 got=1 stay=8\n"
+    ++ codes "13 desk desk 2 done gate.1 busy=0 wait=0 done=2 lost=0\n"
+    ++ codes "15 out desk 3 job gate.1 got=2 stay=17\n"
+
+abbrev pub of_one : ℕ → Figures
+of_one n = record { copies = 1; handled = n; alone = n }
+
+-- the figures of one clone
+abbrev pub figures_alone : List Figures
+figures_alone = of_one 2 ∷ of_one 4 ∷ of_one 2 ∷ []
+
+abbrev pub alone_text : List ℕ
+alone_text =
+    codes "report\n"
+    ++ codes "gate copies=1 handled=2 alone=2\n"
+    ++ codes "desk copies=1 handled=4 alone=4\n"
+    ++ codes "out copies=1 handled=2 alone=2\n"
+    ++ codes "total handled=8 alone=8\n"
+
+-- the figures of two clones, of which one was served faster from a time on
+abbrev pub figures_of_two : List Figures
+figures_of_two =
+    record { copies = 1; handled = 2; alone = 4 }
+    ∷ record { copies = 2; handled = 8; alone = 9 }
+    ∷ record { copies = 2; handled = 3; alone = 4 } ∷ []
+
+abbrev pub text_of_two : List ℕ
+text_of_two =
+    codes "report\n"
+    ++ codes "gate copies=1 handled=2 alone=4\n"
+    ++ codes "desk copies=2 handled=8 alone=9\n"
+    ++ codes "out copies=2 handled=3 alone=4\n"
+    ++ codes "total handled=13 alone=17\n"
+
+-- a source of jobs of class 2, and where they leave
+abbrev pub two_classes : Net
+two_classes = record {
+  format = 2;
+  lookahead = 2;
+  horizon = 20;
+  seed = 0;
+  limit = 16384;
+  sites =
+      record { name = codes "low"; kind = SourceKind 3 3 2 2; stream = 1; links = record { to = 2; delay = 2; weight = 1 } ∷ [] }
+      ∷ record { name = codes "out"; kind = SinkKind; stream = 2; links = [] } ∷ [];
+}

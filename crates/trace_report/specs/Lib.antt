@@ -1,0 +1,4 @@
+pub mod Filling
+pub mod TraceText
+pub mod ReportText
+pub mod Examples

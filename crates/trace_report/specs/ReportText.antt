@@ -1,0 +1,24 @@
+-- The text of a report: what the clones had in common, station by station and in all.
+use Rattle.std.specs.Prelude.{ℕ, ◌++◌, List, codes, decimal, sum_by}
+use Rattle.std.specs.List.{flat_map, zip}
+use Rattle.sim_base.specs.declared.figures.Figures.{Figures}
+use Rattle.net_model.specs.Net.{Net, Site}
+
+-- a station's physical copies, the messages that they handled, and those that the clones alone would have handled
+abbrev pub station_line : Site → Figures → List ℕ
+station_line site figures =
+    site.name
+    ++ codes " copies=" ++ decimal figures.copies
+    ++ codes " handled=" ++ decimal figures.handled
+    ++ codes " alone=" ++ decimal figures.alone ++ codes "\n"
+
+-- the sums over all stations
+abbrev pub total_line : List Figures → List ℕ
+total_line figures =
+    codes "total handled=" ++ decimal (sum_by (λ f. f.handled) figures)
+    ++ codes " alone=" ++ decimal (sum_by (λ f. f.alone) figures) ++ codes "\n"
+
+-- the report text of a network's stations, each beside its figures
+abbrev pub report_text : Net → List Figures → List ℕ
+report_text net figures =
+    codes "report\n" ++ flat_map (λ beside. station_line beside.0 beside.1) (zip net.sites figures) ++ total_line figures

@@ -1,0 +1,85 @@
+-- The text of a clone's trace: a head, and then a line for each message that was handled.
+use Rattle.std.specs.Prelude.{◌==◌, ℕ, ◌++◌, Bool, true, false, if◌then◌else◌, List, [], ◌∷◌, Option, Some, None, codes, decimal}
+use Rattle.std.specs.List.{flat_map, join_with_byte}
+use Rattle.sim_base.specs.declared.entry.Entry.{Entry}
+use Rattle.sim_base.specs.declared.entry.Line.{Line}
+use Rattle.sim_base.specs.declared.entry.Line.TheVariants.{Source, Server, Passed, Sink}
+use Rattle.sim_base.specs.declared.message.Change.{Change}
+use Rattle.sim_base.specs.declared.message.Job.{Job as JobOf}
+use Rattle.sim_base.specs.declared.message.Msg.{Msg}
+use Rattle.sim_base.specs.declared.message.Param.{Param}
+use Rattle.sim_base.specs.declared.message.Param.TheVariants.{Every, Service, Hold, Servers, Room, Weight}
+use Rattle.sim_base.specs.declared.message.Payload.{Payload}
+use Rattle.sim_base.specs.declared.message.Payload.TheVariants.{Tick, Job, Done, Set}
+use Rattle.net_model.specs.Net.{Net, Site, site_at, site_of, class_of_kind}
+
+-- words, with a space between each two and a line feed at the end
+abbrev pub line_of : List (List ℕ) → List ℕ
+line_of words = join_with_byte 32 words ++ codes "\n"
+
+abbrev pub name_or_analyst : Option Site → List ℕ
+name_or_analyst None = codes "analyst"
+name_or_analyst (Some site) = site.name
+
+-- who sends or receives: the station of the number, and else the analyst, whose number is 0
+abbrev pub station_name : Net → ℕ → List ℕ
+station_name net s = name_or_analyst (site_at net s)
+
+-- the class of a source's jobs; only format 2 has classes
+abbrev pub class_text : Net → ℕ → List ℕ
+class_text net source = if net.format == 2 then codes ":" ++ decimal (class_of_kind (site_of net source).kind) else []
+
+-- a job, by its source and its count among that source's jobs
+abbrev pub job_text : Net → JobOf → List ℕ
+job_text net job = station_name net job.source ++ codes "." ++ decimal job.count ++ class_text net job.source
+
+abbrev pub parameter_word : Param → List ℕ
+parameter_word Every = codes "every"
+parameter_word Service = codes "service"
+parameter_word Hold = codes "hold"
+parameter_word Servers = codes "servers"
+parameter_word Room = codes "room"
+parameter_word Weight = codes "weight"
+
+-- whether a parameter takes two values
+abbrev pub takes_two : Param → Bool
+takes_two Servers = false
+takes_two Room = false
+takes_two _ = true
+
+abbrev pub values_text : Change → List ℕ
+values_text change = if takes_two change.param then decimal change.a ++ codes " " ++ decimal change.b else decimal change.a
+
+-- a change, as a script gives it
+abbrev pub change_text : Change → List ℕ
+change_text change = parameter_word change.param ++ codes " " ++ values_text change
+
+-- what a message tells its receiver
+abbrev pub payload_text : Net → Payload → List ℕ
+payload_text net Tick = codes "tick"
+payload_text net (Job job) = codes "job " ++ job_text net job
+payload_text net (Done job) = codes "done " ++ job_text net job
+payload_text net (Set change) = codes "set " ++ change_text change
+
+-- the counts of a station, as they are after the message
+abbrev pub counts_text : Line → List ℕ
+counts_text (Source sent) = codes "sent=" ++ decimal sent
+counts_text (Server busy wait done lost) =
+    codes "busy=" ++ decimal busy ++ codes " wait=" ++ decimal wait ++ codes " done=" ++ decimal done ++ codes " lost=" ++ decimal lost
+counts_text (Passed passed) = codes "passed=" ++ decimal passed
+counts_text (Sink got stay) = codes "got=" ++ decimal got ++ codes " stay=" ++ decimal stay
+
+-- the time, the receiver, the sender, its running count, what the message tells, and the counts after it
+abbrev pub entry_line : Net → Entry Msg Line → List ℕ
+entry_line net entry =
+    line_of (
+    decimal entry.msg.key.time
+    ∷ station_name net entry.msg.to
+    ∷ station_name net entry.msg.key.sender
+    ∷ decimal entry.msg.key.number
+    ∷ payload_text net entry.msg.payload
+    ∷ counts_text entry.line ∷ [])
+
+-- the trace text of a clone of this name with these entries
+abbrev pub trace_text : Net → List ℕ → List (Entry Msg Line) → List ℕ
+trace_text net name entries = codes "clone " ++ name ++ codes "\n" ++ flat_map (entry_line net) entries

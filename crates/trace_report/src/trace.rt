@@ -1,0 +1,32 @@
+//! Trace texts.
+ghost use Rattle.std.specs.Prelude.{◌≡◌, IfOk};
+ghost use Rattle.trace_report.specs.TraceText.{trace_text as trace_of};
+
+use crate::line_buffer::LineBuffer;
+use crate::wording::write_entry;
+use net_model::Model;
+use sim_base::{Entry, Name, NoMemory};
+use std::alloc::Global;
+
+/// The trace text of a clone: its name, and a line for each message that it handled.
+///
+/// A number that is no station, 0 or past the last, is written as `analyst`. In a run senders are
+/// stations or 0, and receivers and sources of jobs are stations.
+pub fn trace_text(
+    alloc: Global,
+    model: &Model,
+    name: &Name,
+    entries: &[Entry],
+) -> Result<Vec<u8>, NoMemory>
+    ensures { IfOk result (λ text. text.items ≡ trace_of model.now name.now entries.now) }
+{
+    let mut text = Vec::from_slice(alloc, b"clone ")?;
+    text.extend_from_slice(name.as_bytes())?;
+    text.extend_from_slice(b"\n")?;
+    let mut line = LineBuffer::new();
+    for entry in entries {
+        write_entry(&mut line, model, entry);
+        text.extend_from_slice(line.as_bytes())?;
+    }
+    Ok(text)
+}
