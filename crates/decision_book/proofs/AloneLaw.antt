@@ -1,0 +1,256 @@
+-- The decisions that reach one clone give it what all decisions give it.
+use Rattle.std.proofs.Common.{◌≡◌, ℕ, ◌+◌, ◌≤◌, Bool, true, false, nat_le, cond, List, [], ◌∷◌, ◌++◌, length, refl, sym, ap, ◌∙◌, arith, Option, Some, None, is_some, option_map, unwrap_or, slice_set, subst, length-set}
+use Rattle.std.proofs.lemmas.List.{length_push}
+use Rattle.std.specs.Prelude.{◌==◌}
+use Rattle.std.specs.Option.{option_or}
+use Rattle.std.specs.Str.{bytes_eq}
+use Rattle.std.proofs.lemmas.Bool.Decides.{nat_tests}
+use Rattle.sim_base.specs.declared.decision.Decision.{Decision}
+use Rattle.sim_base.specs.declared.decision.Decision.TheVariants.{Fork, Set, End}
+use Rattle.sim_base.specs.Clones.{Clone, clone_at, place_of, forked, base}
+use Rattle.net_model.specs.Net.{Net}
+use Rattle.decision_book.specs.declared.call.Reply.{Reply}
+use Rattle.decision_book.specs.declared.call.Reply.TheVariants.{Accepted, Full, Closed, Ended, NameTaken, TooManyClones}
+use Rattle.decision_script.specs.Alone.{kept, kept_if, object, subject}
+use Rattle.decision_book.specs.Journal.{Situation, decided, planned}
+use Rattle.decision_book.specs.Replies.{row, first_row, reply, rows, fork_rows, clone_rows}
+use Rattle.decision_book.specs.Scripted.{next, after_all, first_refused_from}
+use Rattle.decision_book.specs.Laws.{clone_named, AloneSuffices}
+use Rattle.decision_book.proofs.Looking.{placed, unplaced, looked, looked_none, clone_named-push, clone_named-set, same_name, name_itself, name_at}
+use Rattle.decision_book.proofs.Scripts.{accepted_first, next_accepted}
+
+passed : (b : Bool) (r : Reply) (more : List (Option Reply)) → (r ≡ Accepted → ⊥) → first_row (row b r ∷ more) ≡ Accepted → (b ≡ false) × (first_row more ≡ Accepted)
+passed true r more other h = absurd (other h)
+passed false r more other h = (refl, h)
+
+-- what an accepted decision found
+pub record IsOpen (j : Situation) (d : Decision) : Type 0 where
+  pub few : nat_le 4096 j.calls ≡ false
+  pub running : (j.front == j.net.horizon) ≡ false
+  pub clone : ℕ
+  pub place : place_of (subject d) j.clones ≡ Some clone
+  pub going : (clone_at j.clones clone).end ≡ None
+  pub rest : first_row (rows j clone d) ≡ Accepted
+
+not_full : Full ≡ Accepted → ⊥
+not_full h = cc
+
+not_closed : Closed ≡ Accepted → ⊥
+not_closed h = cc
+
+open_end : (end : Option ℕ) (more : List (Option Reply)) → first_row (option_map (λ at. Ended at) end ∷ more) ≡ Accepted → (end ≡ None) × (first_row more ≡ Accepted)
+open_end None more h = (refl, h)
+open_end (Some at) more h = absurd cc
+
+open_clone : (j : Situation) (d : Decision) → nat_le 4096 j.calls ≡ false → (j.front == j.net.horizon) ≡ false → (o : Option ℕ) → place_of (subject d) j.clones ≡ o → first_row (clone_rows j d o) ≡ Accepted → IsOpen j d
+open_clone j d few running None e h = absurd cc
+open_clone j d few running (Some clone) e h =
+    let going = open_end (clone_at j.clones clone).end (rows j clone d) h in
+    record { few = few; running = running; clone = clone; place = e; going = going.0; rest = going.1 }
+
+pub opened : (j : Situation) (d : Decision) → reply j d ≡ Accepted → IsOpen j d
+opened j d h =
+    let one = passed (nat_le 4096 j.calls) Full (row (j.front == j.net.horizon) Closed ∷ clone_rows j d (place_of (subject d) j.clones)) not_full h in
+    let two = passed (j.front == j.net.horizon) Closed (clone_rows j d (place_of (subject d) j.clones)) not_closed one.1 in
+    open_clone j d one.0 two.0 (place_of (subject d) j.clones) refl two.1
+
+pub reopened : (j : Situation) (d : Decision) → IsOpen j d → reply j d ≡ Accepted
+reopened j d o = rw (o.few, o.running, o.place, o.going) o.rest
+
+-- two states, of which the second knows no other clones, no more of them, and the same clone of this name
+pub record Same (t : List ℕ) (full own : List Clone) : Type 0 where
+  pub same : clone_named t full ≡ clone_named t own
+  pub fewer : (n : List ℕ) → clone_named n full ≡ None → clone_named n own ≡ None
+  pub shorter : length own ≤ length full
+
+abbrev at_opening : Net → ℕ → List Clone → Situation
+at_opening net calls clones = record { net = net; clones = clones; front = 0; calls = calls }
+
+-- the same clone in both
+pub record InBoth (j k : Situation) (d : Decision) : Type 0 where
+  pub found : IsOpen j d
+  pub place : ℕ
+  pub placed : place_of (subject d) k.clones ≡ Some place
+  pub clone : clone_at k.clones place ≡ clone_at j.clones found.clone
+
+in_both : (j k : Situation) (d : Decision) → reply j d ≡ Accepted → Same (subject d) j.clones k.clones → InBoth j k d
+in_both j k d h s =
+    let found = opened j d h in
+    let at = placed (subject d) k.clones (clone_at j.clones found.clone) (sym s.same ∙ looked (subject d) j.clones found.clone found.place) in
+    record { found = found; place = at.at; placed = at.place; clone = at.clone }
+
+is_none_from : {X : Type 0} (o : Option X) → is_some o ≡ false → o ≡ None
+is_none_from None h = refl
+is_none_from (Some x) h = absurd cc
+
+not_taken : NameTaken ≡ Accepted → ⊥
+not_taken h = cc
+
+not_many : TooManyClones ≡ Accepted → ⊥
+not_many h = cc
+
+-- the rows of an accepted fork
+pub record IsFresh (clones : List Clone) (new : List ℕ) : Type 0 where
+  pub fresh : place_of new clones ≡ None
+  pub room : nat_le 256 (length clones) ≡ false
+
+fresh_from : (clones : List Clone) (new : List ℕ) → first_row (fork_rows clones new) ≡ Accepted → IsFresh clones new
+fresh_from clones new h =
+    let one = passed (is_some (place_of new clones)) NameTaken (row (nat_le 256 (length clones)) TooManyClones ∷ []) not_taken h in
+    let two = passed (nat_le 256 (length clones)) TooManyClones [] not_many one.1 in
+    record { fresh = is_none_from (place_of new clones) one.0; room = two.0 }
+
+fresh_again : {t : List ℕ} (full own : List Clone) (new : List ℕ) → Same t full own → IsFresh full new → IsFresh own new
+fresh_again full own new s f = record {
+  fresh = unplaced new own (s.fewer new (looked_none new full f.fresh));
+  room = (let room = f.room in let less = s.shorter in grind (arith, nat_tests));
+}
+
+rows_again : (net : Net) (n m : ℕ) (full own : List Clone) (d : Decision) (i k : ℕ) → Same (subject d) full own → clone_at own k ≡ clone_at full i
+    → first_row (rows (at_opening net n full) i d) ≡ Accepted → first_row (rows (at_opening net m own) k d) ≡ Accepted
+rows_again net n m full own (Fork new old) i k s e h =
+    let f = fresh_again full own new s (fresh_from full new h) in
+    rw (f.fresh, f.room) refl
+rows_again net n m full own (Set who at station change) i k s e h = rw e h
+rows_again net n m full own (End who at) i k s e h = h
+
+pub again : (net : Net) (n m : ℕ) (full own : List Clone) (d : Decision) → m ≤ n → Same (subject d) full own → reply (at_opening net n full) d ≡ Accepted → reply (at_opening net m own) d ≡ Accepted
+again net n m full own d less s h =
+    let b = in_both (at_opening net n full) (at_opening net m own) d h s in
+    reopened (at_opening net m own) d (record {
+      few = (let few = b.found.few in grind (arith, nat_tests));
+      running = b.found.running;
+      clone = b.place;
+      place = b.placed;
+      going = ap (λ c. c.end) b.clone ∙ b.found.going;
+      rest = rows_again net n m full own d b.found.clone b.place s b.clone b.found.rest;
+    })
+
+-- what a decision makes of the clone that it is of
+abbrev made : Net → Decision → Clone → Clone
+made net (Fork new old) k = record { name = new; plans = k.plans; end = None }
+made net (Set who at station change) k = record k { plans = k.plans ++ planned net at station change ∷ [] }
+made net (End who at) k = record k { end = Some at }
+
+abbrev grows : Decision → ℕ
+grows (Fork new old) = 1
+grows (Set who at station change) = 0
+grows (End who at) = 0
+
+-- what an accepted decision does to the clones, by their names
+record Effect (net : Net) (d : Decision) (before next : List Clone) (i : ℕ) : Type 0 where
+  pub self : clone_named (object d) next ≡ Some (made net d (clone_at before i))
+  pub others : (m : List ℕ) → bytes_eq (object d) m ≡ false → clone_named m next ≡ clone_named m before
+  pub none : (m : List ℕ) → clone_named m next ≡ None → bytes_eq (object d) m ≡ false
+  pub length_is : length next ≡ length before + grows d
+
+option_or-none : (o : Option Clone) → option_or o None ≡ o
+option_or-none None = refl
+option_or-none (Some k) = refl
+
+pushed_none : (o : Option Clone) (b : Bool) (k : Clone) → option_or o (cond b (Some k) None) ≡ None → b ≡ false
+pushed_none None true k h = absurd cc
+pushed_none None false k h = refl
+pushed_none (Some c) b k h = absurd cc
+
+set_none : (b : Bool) (k : Clone) (o : Option Clone) → cond b (Some k) o ≡ None → b ≡ false
+set_none true k o h = absurd cc
+set_none false k o h = refl
+
+fork_effect : (net : Net) (clones : List Clone) (new old : List ℕ) (i : ℕ) → place_of new clones ≡ None → Effect net (Fork new old) clones (forked clones new i) i
+fork_effect net clones new old i fresh =
+    let k : Clone = record { name = new; plans = (clone_at clones i).plans; end = None } in
+    record {
+      self = clone_named-push new clones k ∙ ap (λ o. option_or o (cond (bytes_eq new new) (Some k) None)) (looked_none new clones fresh) ∙ ap (λ b. cond b (Some k) None) (name_itself new);
+      others = λ m other. clone_named-push m clones k ∙ ap (λ b. option_or (clone_named m clones) (cond b (Some k) None)) other ∙ option_or-none (clone_named m clones);
+      none = λ m gone. pushed_none (clone_named m clones) (bytes_eq new m) k (sym (clone_named-push m clones k) ∙ gone);
+      length_is = length_push clones k;
+    }
+
+-- a set or an end
+change_effect : (net : Net) (d : Decision) (clones : List Clone) (i : ℕ) → grows d ≡ 0 → place_of (object d) clones ≡ Some i → (made net d (clone_at clones i)).name ≡ object d → Effect net d clones (slice_set clones i (made net d (clone_at clones i))) i
+change_effect net d clones i none place name =
+    let k = made net d (clone_at clones i) in
+    record {
+      self = clone_named-set (object d) (object d) clones i k place name ∙ ap (λ b. cond b (Some k) (clone_named (object d) clones)) (name_itself (object d));
+      others = λ m other. clone_named-set m (object d) clones i k place name ∙ ap (λ b. cond b (Some k) (clone_named m clones)) other;
+      none = λ m gone. set_none (bytes_eq (object d) m) k (clone_named m clones) (sym (clone_named-set m (object d) clones i k place name) ∙ gone);
+      length_is = omega (arith, length-set clones i k, none);
+    }
+
+effect : (net : Net) (n : ℕ) (clones : List Clone) (d : Decision) (o : IsOpen (at_opening net n clones) d) → Effect net d clones (decided net clones d) o.clone
+effect net n clones (Fork new old) o =
+    let f = fresh_from clones new o.rest in
+    subst (λ (i : ℕ). Effect net (Fork new old) clones (forked clones new i) o.clone) (sym (ap (λ p. unwrap_or p 0) o.place)) (fork_effect net clones new old o.clone f.fresh)
+effect net n clones (Set who at station change) o =
+    let d : Decision = Set who at station change in
+    subst (λ (i : ℕ). Effect net d clones (slice_set clones i (made net d (clone_at clones i))) o.clone) (sym (ap (λ p. unwrap_or p 0) o.place)) (change_effect net d clones o.clone refl o.place (name_at who clones o.clone o.place))
+effect net n clones (End who at) o =
+    let d : Decision = End who at in
+    subst (λ (i : ℕ). Effect net d clones (slice_set clones i (made net d (clone_at clones i))) o.clone) (sym (ap (λ p. unwrap_or p 0) o.place)) (change_effect net d clones o.clone refl o.place (name_at who clones o.clone o.place))
+
+-- a kept decision keeps the two states alike, at the clone that it makes or changes
+kept_same : (net : Net) (n m : ℕ) (full own : List Clone) (d : Decision) → m ≤ n → Same (subject d) full own → reply (at_opening net n full) d ≡ Accepted → Same (object d) (decided net full d) (decided net own d)
+kept_same net n m full own d less s h =
+    let b = in_both (at_opening net n full) (at_opening net m own) d h s in
+    let mine = opened (at_opening net m own) d (again net n m full own d less s h) in
+    let all = effect net n full d b.found in
+    let part = effect net m own d mine in
+    let place : mine.clone ≡ b.place = cc in
+    let clones : clone_at own mine.clone ≡ clone_at full b.found.clone = ap (clone_at own) place ∙ b.clone in
+    record {
+      same = all.self ∙ sym (part.self ∙ ap (λ k. Some (made net d k)) clones);
+      fewer = λ q gone. (let other = all.none q gone in part.others q other ∙ s.fewer q (sym (all.others q other) ∙ gone));
+      shorter = omega (arith, all.length_is, part.length_is, s.shorter);
+    }
+
+-- another decision leaves them alike
+dropped_same : (net : Net) (n : ℕ) (t : List ℕ) (full own : List Clone) (d : Decision) → bytes_eq (object d) t ≡ false → Same t full own → reply (at_opening net n full) d ≡ Accepted → Same t (decided net full d) own
+dropped_same net n t full own d other s h =
+    let all = effect net n full d (opened (at_opening net n full) d h) in
+    record {
+      same = all.others t other ∙ s.same;
+      fewer = λ q gone. s.fewer q (sym (all.others q (all.none q gone)) ∙ gone);
+      shorter = omega (arith, all.length_is, s.shorter);
+    }
+
+-- what became of the clone's own decisions, from where they stand
+pub record IsAloneFrom (net : Net) (m k : ℕ) (own : List Clone) (ds : List Decision) (who : List ℕ) (end : List Clone) : Type 0 where
+  pub accepted : first_refused_from (at_opening net m own) k ds ≡ None
+  pub same : clone_named who (after_all (at_opening net m own) ds).clones ≡ clone_named who end
+
+-- one kept decision before the others
+kept_first : (net : Net) (m k : ℕ) (own : List Clone) (d : Decision) (ds : List Decision) (who : List ℕ) (end : List Clone) → reply (at_opening net m own) d ≡ Accepted → IsAloneFrom net (m + 1) (k + 1) (decided net own d) ds who end → IsAloneFrom net m k own (d ∷ ds) who end
+kept_first net m k own d ds who end h on =
+    record {
+      accepted = rw h on.accepted;
+      same = subst (λ (t : Situation). clone_named who (after_all t ds).clones ≡ clone_named who end) (sym (next_accepted (at_opening net m own) d h)) on.same;
+    }
+
+alone_by : (net : Net) (n m k : ℕ) (who : List ℕ) (full own end : List Clone) (d : Decision) (rest : List ℕ × List Decision) → m ≤ n → reply (at_opening net n full) d ≡ Accepted
+    → ((l j : ℕ) (mine : List Clone) → l ≤ n + 1 → Same rest.0 (decided net full d) mine → IsAloneFrom net l j mine rest.1 who end)
+    → (b : Bool) → bytes_eq (object d) rest.0 ≡ b → Same (kept_if b d (subject d) rest).0 full own → IsAloneFrom net m k own (kept_if b d (subject d) rest).1 who end
+alone_by net n m k who full own end d rest less h go true e s =
+    let after = kept_same net n m full own d less s h in
+    let on = go (m + 1) (k + 1) (decided net own d) (omega arith) (subst (λ (t : List ℕ). Same t (decided net full d) (decided net own d)) (same_name (object d) rest.0 e) after) in
+    kept_first net m k own d rest.1 who end (again net n m full own d less s h) on
+alone_by net n m k who full own end d rest less h go false e s =
+    go m k own (omega arith) (dropped_same net n rest.0 full own d e s h)
+
+pub alone_from : (net : Net) (n i m k : ℕ) (who : List ℕ) (full own : List Clone) (ds : List Decision) → m ≤ n → Same (kept who ds).0 full own → first_refused_from (at_opening net n full) i ds ≡ None
+    → IsAloneFrom net m k own (kept who ds).1 who (after_all (at_opening net n full) ds).clones
+alone_from net n i m k who full own [] less s h = record { accepted = refl; same = sym s.same }
+alone_from net n i m k who full own (d ∷ ds) less s h =
+    let one = accepted_first i (reply (at_opening net n full) d) (first_refused_from (next (at_opening net n full) d) (i + 1) ds) h in
+    let moved = next_accepted (at_opening net n full) d one.0 in
+    let rest : first_refused_from (at_opening net (n + 1) (decided net full d)) (i + 1) ds ≡ None = subst (λ (t : Situation). first_refused_from t (i + 1) ds ≡ None) moved one.1 in
+    let end = (after_all (at_opening net (n + 1) (decided net full d)) ds).clones in
+    subst (λ (t : Situation). IsAloneFrom net m k own (kept who (d ∷ ds)).1 who (after_all t ds).clones) (sym moved)
+    (alone_by net n m k who full own end d (kept who ds) less one.0
+    (λ l j mine most alike. alone_from net (n + 1) (i + 1) l j who (decided net full d) mine ds most alike rest)
+    (bytes_eq (object d) (kept who ds).0) refl s)
+
+pub alone_suffices : (net : Net) → AloneSuffices net
+alone_suffices net who ds h =
+    let a = alone_from net 0 0 0 0 who (base ∷ []) (base ∷ []) ds (omega arith) (record { same = refl; fewer = λ n gone. gone; shorter = omega arith }) h in
+    record { accepted = a.accepted; same = a.same }

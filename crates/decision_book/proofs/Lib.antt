@@ -1,0 +1,6 @@
+pub mod Planned
+pub mod Growing
+pub mod Booking
+pub mod Scripts
+pub mod Looking
+pub mod AloneLaw

@@ -1,0 +1,81 @@
+-- Journals of decisions and fronts, and how things stand after one.
+use Rattle.std.specs.Prelude.{ℕ, ◌+◌, Bool, true, false, List, [], ◌∷◌, ◌++◌, length, fold, unwrap_or}
+use Rattle.sim_base.specs.declared.decision.Decision.{Decision}
+use Rattle.sim_base.specs.declared.decision.Decision.TheVariants.{Fork, Set, End}
+use Rattle.sim_base.specs.declared.decision.Planned.{Planned}
+use Rattle.sim_base.specs.declared.message.Change.{Change}
+use Rattle.sim_base.specs.Clones.{Clone, base, forked, added, ended, place_of}
+use Rattle.net_model.specs.Net.{Net, number_of}
+use Rattle.decision_book.specs.declared.call.Call.{Call}
+use Rattle.decision_book.specs.declared.call.Reply.{Reply}
+use Rattle.decision_book.specs.declared.call.Reply.TheVariants.{Accepted, Full}
+
+-- a journal is a list of events: a front to which the simulation was raised, or a call
+pub data Event : Type 0 where
+  raised : ℕ → Event
+  asked : Call → Event
+
+-- the calls of a journal
+abbrev pub calls_of : List Event → List Call
+calls_of [] = []
+calls_of (raised f ∷ es) = calls_of es
+calls_of (asked c ∷ es) = c ∷ calls_of es
+
+-- the fronts of a journal
+abbrev pub fronts_of : List Event → List ℕ
+fronts_of [] = []
+fronts_of (raised f ∷ es) = f ∷ fronts_of es
+fronts_of (asked c ∷ es) = fronts_of es
+
+-- what a reply depends on: the network, the clones with their lists, the front, and how many calls there were
+pub record Situation : Type 0 where
+  pub net : Net
+  pub clones : List Clone
+  pub front : ℕ
+  pub calls : ℕ
+
+-- before all decisions: the base clone alone, at front 0
+abbrev pub opening : Net → Situation
+opening net = record { net = net; clones = base ∷ []; front = 0; calls = 0 }
+
+-- the place of the clone of a name (0 where there is none)
+abbrev pub clone_of : List ℕ → List Clone → ℕ
+clone_of name clones = unwrap_or (place_of name clones) 0
+
+-- what a set adds to a decision list
+abbrev pub planned : Net → ℕ → List ℕ → Change → Planned
+planned net at station change = record { at = at; station = unwrap_or (number_of station net) 0; change = change }
+
+-- what an accepted decision makes of the clones
+abbrev pub decided : Net → List Clone → Decision → List Clone
+decided net clones (Fork new old) = forked clones new (clone_of old clones)
+decided net clones (Set who at station change) = added clones (clone_of who clones) (planned net at station change)
+decided net clones (End who at) = ended clones (clone_of who clones) at
+
+-- the new clones where a decision is accepted: a refusal leaves them as they are
+abbrev pub chosen : Reply → List Clone → List Clone → List Clone
+chosen Accepted new old = new
+chosen refusal new old = old
+
+-- the clones after a decision had this reply
+abbrev pub answered : Net → List Clone → Decision → Reply → List Clone
+answered net clones d reply = chosen reply (decided net clones d) clones
+
+-- how things stand after one event more
+abbrev pub after_event : Situation → Event → Situation
+after_event s (raised f) = record s { front = f }
+after_event s (asked call) = record s { clones = answered s.net s.clones call.decision call.reply; calls = s.calls + 1 }
+
+-- how things stand after a journal
+abbrev pub after : Net → List Event → Situation
+after net events = fold after_event (opening net) events
+
+-- the journal after a decision was asked and had this reply: Full leaves it as it was
+abbrev pub with_reply : List Event → ℕ → Decision → Reply → List Event
+with_reply events caller d Full = events
+with_reply events caller d reply = events ++ asked (record { caller = caller; fronts = length (fronts_of events); decision = d; reply = reply }) ∷ []
+
+-- whether it is the reply of a full journal
+abbrev pub is_full : Reply → Bool
+is_full Full = true
+is_full _ = false

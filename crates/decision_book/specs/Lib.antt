@@ -1,0 +1,9 @@
+pub mod Numbers
+pub mod Journal
+pub mod Replies
+pub mod Right
+pub mod Plans
+pub mod Keeping
+pub mod Scripted
+pub mod Laws
+pub mod Examples

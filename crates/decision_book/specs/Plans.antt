@@ -1,0 +1,25 @@
+-- What holds of the decision lists of a right journal.
+use Rattle.std.specs.Prelude.{◌≡◌, ◌<◌, ◌≤◌, List, length, true, IfSome}
+use Rattle.std.specs.List.{AllByRecursion}
+use Rattle.sim_base.specs.declared.decision.Planned.{Planned}
+use Rattle.sim_base.specs.Clones.{Clone}
+use Rattle.net_model.specs.Net.{Net, site_of}
+use Rattle.stations.specs.Changes.{is_accepted}
+
+-- a decision of a list: at a time before the horizon, for a station that is there, a change that it takes
+pub record IsPlan (net : Net) (plan : Planned) : Type 0 where
+  pub early : plan.at < net.horizon
+  pub first : 1 ≤ plan.station
+  pub last : plan.station ≤ length net.sites
+  pub taken : is_accepted (site_of net plan.station) plan.change ≡ true
+
+-- a clone with at most 256 such decisions, and with an end before the horizon if it has one
+pub record IsPlanned (net : Net) (clone : Clone) : Type 0 where
+  pub plans : AllByRecursion (IsPlan net) clone.plans
+  pub short : length clone.plans ≤ 256
+  pub end : IfSome clone.end (λ at. at < net.horizon)
+
+-- at most 256 such clones
+pub record ArePlanned (net : Net) (clones : List Clone) : Type 0 where
+  pub few : length clones ≤ 256
+  pub each : AllByRecursion (IsPlanned net) clones

@@ -1,0 +1,32 @@
+-- Right journals.
+use Rattle.std.specs.Prelude.{◌≡◌, ◌≢◌, ℕ, ◌<◌, ◌≤◌, List, [], ◌∷◌, ◌++◌, length}
+use Rattle.sim_base.specs.declared.decision.Decision.{Decision}
+use Rattle.net_model.specs.Net.{Net}
+use Rattle.decision_book.specs.declared.call.Call.{Call}
+use Rattle.decision_book.specs.declared.call.Reply.TheVariants.{Full}
+use Rattle.decision_book.specs.Journal.{Event, raised, asked, fronts_of, after, with_reply}
+use Rattle.decision_book.specs.Replies.{reply}
+
+-- what a journal becomes when a decision is asked: its reply is the one of the table
+abbrev pub recorded : Net → List Event → ℕ → Decision → List Event
+recorded net events caller d = with_reply events caller d (reply (after net events) d)
+
+-- a call that says how many fronts stood before it, and has the reply of the table, which is not Full
+pub record IsAnswered (net : Net) (before : List Event) (call : Call) : Type 0 where
+  pub fronts : call.fronts ≡ length (fronts_of before)
+  pub answer : call.reply ≡ reply (after net before) call.decision
+  pub kept : call.reply ≢ Full
+
+-- an event that may follow these: a higher front, at most the horizon, or a call that is answered
+abbrev pub MayFollow : Net → List Event → Event → Type 0
+MayFollow net before (raised f) = ((after net before).front < f) × (f ≤ net.horizon)
+MayFollow net before (asked call) = IsAnswered net before call
+
+-- each event of a journal is so, with those before it; these come before all
+abbrev pub EachAfter : (List Event → Event → Type 0) → List Event → List Event → Type 0
+EachAfter P before [] = Unit {0}
+EachAfter P before (e ∷ es) = P before e × EachAfter P (before ++ e ∷ []) es
+
+-- each call has the reply of the table after the events before it, none is Full, and the fronts rise and are at most the horizon
+abbrev pub IsRight : Net → List Event → Type 0
+IsRight net events = EachAfter (MayFollow net) [] events

@@ -1,0 +1,146 @@
+//! The book: the journal of decisions and fronts, and the lists that it leaves.
+ghost use Rattle.std.specs.Prelude.{◌≡◌};
+ghost use Rattle.decision_book.specs.Journal.{is_full};
+
+use crate::call::{Call, Reply};
+use crate::reply::{MOST_CALLS, MOST_CLONES, MOST_PLANS, decide_by_table};
+use net_model::Model;
+use sim_base::{Decision, Lists, NoMemory, Roomy};
+use std::alloc::Global;
+use std::sync::Arc;
+
+/// The journal of a simulation, calls and fronts together, and the lists of the clones after it.
+#[derive(Drop)]
+pub struct Book {
+    model: Arc<Model>,
+    lists: Lists,
+    calls: Roomy<Call>,
+    fronts: Roomy<u64>,
+    front: u64,
+}
+
+impl std::marker::Model for Book {
+    ghost use Rattle.decision_book.specs.Keeping.{Booked, IsBook, journal_of};
+
+    ghost Value = { Booked };
+
+    ghost view = { λ b. record { net = b.model.value; events = journal_of b.calls.items b.fronts.items } };
+
+    ghost invariant = { λ b. IsBook b.model.value b.lists b.calls b.fronts b.front };
+}
+
+fn fills_up(reply: Reply) -> bool
+    ensures { result ≡ is_full reply }
+{
+    match reply {
+        Reply::Full => true,
+        _ => false,
+    }
+}
+
+impl Book {
+    ghost use Rattle.std.specs.Prelude.{◌≡◌, ◌≤◌, ◌<◌, ◌++◌, ◌∷◌, [], length, OnOk, OnErr, IfOk};
+    ghost use Rattle.decision_book.specs.Journal.{after, calls_of, fronts_of, raised};
+    ghost use Rattle.decision_book.specs.Keeping.{journal_of};
+    ghost use Rattle.decision_book.specs.Replies.{reply};
+    ghost use Rattle.decision_book.specs.Right.{recorded, IsRight};
+    ghost use Rattle.decision_book.specs.Plans.{ArePlanned};
+    ghost use Rattle.decision_book.specs.Scripted.{next};
+
+    /// No calls and no fronts: the base clone alone, at front 0.
+    ///
+    /// Takes the room of all calls, clones and decisions.
+    pub fn begin(alloc: Global, model: Arc<Model>) -> Result<Book, NoMemory>
+        ensures { IfOk result (λ book. book ≡ record { net = model.value; events = [] }) }
+    {
+        let lists = Lists::with_room(alloc, MOST_CLONES, MOST_PLANS)?;
+        let calls = Roomy::with_room(alloc, MOST_CALLS)?;
+        let _horizon = model.horizon();
+        Ok(Book {
+            model,
+            lists,
+            calls,
+            fronts: Roomy::new(alloc),
+            front: 0,
+        })
+    }
+
+    /// The reply to a decision, which is in the journal from now on, unless it is Full. Takes no memory.
+    #[tactic(auto, using(crate::proofs::Scripts::recorded_is_next))]
+    pub fn decide(&mut self, caller: u32, d: Decision) -> Reply
+        ensures reply { result ≡ reply (after self.old.net self.old.events) d }
+        ensures journal { self.new ≡ record self.old {
+          events = recorded self.old.net self.old.events caller d;
+        } }
+        ensures next { after self.old.net self.new.events ≡ next (after self.old.net self.old.events) d }
+    {
+        let calls = self.calls.len();
+        let reply = decide_by_table(&self.model, &mut self.lists, self.front, calls, &d);
+        if !fills_up(reply) {
+            let call = Call {
+                caller,
+                fronts: self.fronts.len() as u32,
+                decision: d,
+                reply,
+            };
+            let Ok(()) = self.calls.extend(&[call]) else {
+                unreachable!()
+            };
+        }
+        reply
+    }
+
+    /// Raises the front.
+    pub fn advance(&mut self, front: u64) -> Result<(), NoMemory>
+        requires above { (after self.old.net self.old.events).front < front }
+        requires within { front ≤ self.old.net.horizon }
+        ensures ok { OnOk result (
+            self.new ≡ record self.old { events = self.old.events ++ raised front ∷ [] }) }
+        ensures err { OnErr result (self.new ≡ self.old) }
+    {
+        self.fronts.push(front)?;
+        self.front = front;
+        Ok(())
+    }
+
+    /// The model that the decisions are about.
+    pub fn model(&self) -> &Model
+        ensures { result.now ≡ self.now.net }
+    {
+        &self.model
+    }
+
+    /// The last front, or 0.
+    pub fn front(&self) -> u64
+        ensures value { result ≡ (after self.now.net self.now.events).front }
+        ensures within { result ≤ self.now.net.horizon }
+        // each reply is that of the table after the events before it, and the fronts rise
+        ensures right { IsRight self.now.net self.now.events }
+    {
+        self.front
+    }
+
+    /// The clones with their lists and ends, as the accepted decisions leave them.
+    pub fn lists(&self) -> &Lists
+        ensures value { result.now.clones ≡ (after self.now.net self.now.events).clones }
+        ensures planned { ArePlanned self.now.net result.now.clones }
+    {
+        &self.lists
+    }
+
+    /// The calls, in order.
+    pub fn calls(&self) -> &[Call]
+        ensures value { result.now ≡ calls_of self.now.events }
+        // the journal is the calls and the fronts put together
+        ensures whole { self.now.events ≡ journal_of (calls_of self.now.events) (fronts_of self.now.events) }
+    {
+        self.calls.as_slice()
+    }
+
+    /// The fronts, in order.
+    pub fn fronts(&self) -> &[u64]
+        ensures { result.now ≡ fronts_of self.now.events }
+    {
+        self.fronts.as_slice()
+    }
+}

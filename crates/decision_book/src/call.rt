@@ -1,0 +1,70 @@
+//! Calls and replies.
+ghost use Rattle.std.specs.Prelude.{◌≡◌};
+ghost use Rattle.decision_book.specs.Numbers.{reply_number};
+
+use sim_base::Decision;
+
+/// What a decision is answered: `Accepted`, or the first refusal whose condition holds, in this order.
+#[derive(Clone, Copy, Debug, PartialEq, Eq)]
+pub enum Reply {
+    /// No refusal holds.
+    Accepted,
+    /// The journal holds 4,096 calls. Such a call is not kept.
+    Full,
+    /// The front is the horizon.
+    Closed,
+    /// The clone that is forked, set or ended is not there.
+    UnknownClone,
+    /// That clone has an end.
+    Ended { at: u64 },
+    /// A fork's new name is that of a clone.
+    NameTaken,
+    /// A fork, and there are 256 clones.
+    TooManyClones,
+    /// A set, and the station is not there.
+    UnknownStation,
+    /// A set, and the station has no such parameter.
+    WrongParameter,
+    /// A set, and a value is out of the parameter's range.
+    OutOfRange,
+    /// A set, and the clone's list holds 256 decisions.
+    ListFull,
+    /// The time of a set or an end is the horizon or later.
+    PastHorizon,
+    /// The time of a set or an end is before the front.
+    Late { front: u64 },
+}
+
+impl Reply {
+    /// The number of the refusal, from 1 to 12, or 0 where there is none.
+    pub fn number(&self) -> u32
+        ensures { result ≡ reply_number self.now }
+    {
+        match self {
+            Reply::Accepted => 0,
+            Reply::Full => 1,
+            Reply::Closed => 2,
+            Reply::UnknownClone => 3,
+            Reply::Ended { .. } => 12,
+            Reply::NameTaken => 4,
+            Reply::TooManyClones => 5,
+            Reply::UnknownStation => 6,
+            Reply::WrongParameter => 7,
+            Reply::OutOfRange => 8,
+            Reply::ListFull => 9,
+            Reply::PastHorizon => 10,
+            Reply::Late { .. } => 11,
+        }
+    }
+}
+
+/// A decision that was asked, and its reply.
+#[derive(Clone, Copy, Debug, PartialEq, Eq)]
+pub struct Call {
+    /// Who asked.
+    pub caller: u32,
+    /// How many fronts stood before the call.
+    pub fronts: u32,
+    pub decision: Decision,
+    pub reply: Reply,
+}

@@ -1,0 +1,34 @@
+//! Worked examples, computed by the checker from the definitions alone.
+//!
+//! The decisions, and the clones that are expected, stand in `specs/Examples.antt`. Each function's
+//! contract is a theorem; there is nothing to run.
+ghost use Rattle.std.specs.Prelude.{◌≡◌, Some, None, codes};
+ghost use Rattle.stations.specs.Examples.OneDesk.{one_desk};
+ghost use Rattle.decision_script.specs.Alone.{alone};
+ghost use Rattle.decision_book.specs.Examples.{during_a_run, clones_of_the_run, script, clones_of_the_script, script_of_b, refused_script};
+ghost use Rattle.decision_book.specs.Journal.{after};
+ghost use Rattle.decision_book.specs.Right.{IsRight};
+ghost use Rattle.decision_book.specs.Scripted.{lists_of, first_refused};
+ghost use Rattle.decision_book.specs.declared.call.Reply.TheVariants.{UnknownClone};
+
+/// At front 10 a set at 10 is accepted and a set at 9 is late, and at the horizon nothing is accepted.
+pub fn decisions_during_a_run()
+    ensures right { IsRight one_desk during_a_run }
+    ensures clones { (after one_desk during_a_run).clones ≡ clones_of_the_run }
+{}
+
+/// A fork takes over a set that is not due yet, and the clones go separate ways from there.
+pub fn lists_of_a_script()
+    ensures accepted { first_refused one_desk script ≡ None }
+    ensures lists { lists_of one_desk script ≡ clones_of_the_script }
+{}
+
+/// What reaches a clone: its own decisions, and those of the clone that it branched off before it did.
+pub fn decisions_of_one_clone()
+    ensures { alone (codes "b") script ≡ script_of_b }
+{}
+
+/// Of the decisions that are refused the first is told, by its place from 0.
+pub fn first_refusal()
+    ensures { first_refused one_desk refused_script ≡ Some (2, UnknownClone) }
+{}

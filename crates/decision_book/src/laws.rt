@@ -1,0 +1,34 @@
+//! Laws of decisions: each function's contract is a law, and there is nothing to run.
+//!
+//! `specs/Laws.antt` has the laws in words.
+ghost use Rattle.net_model.specs.Net.{Net};
+ghost use Rattle.decision_book.specs.Laws.{JournalStands, PlansAreForStations, RecordedIsNext, ScriptedStands, ScriptedIsRight, AcceptedAdds, RefusedFirst, AcceptedGoesOn, RefusedIsFirst, AloneSuffices};
+
+/// How things stand after a journal, and how a decision changes that.
+#[tactic(auto, using(crate::proofs::Scripts::journal_stands, crate::proofs::Scripts::recorded_is_next))]
+pub fn journals_stand()
+    ensures stands { (net : Net) → JournalStands net }
+    ensures recorded { (net : Net) → RecordedIsNext net }
+{}
+
+/// The decisions of a book's lists are for stations of the network.
+#[tactic(auto, using(crate::proofs::Planned::plans_are_for_stations))]
+pub fn plans_are_for_stations()
+    ensures { (net : Net) → PlansAreForStations net }
+{}
+
+/// Where things stand after the decisions of a script, decided in order at front 0.
+#[tactic(auto, using(crate::proofs::Scripts::scripted_stands, crate::proofs::Scripts::scripted_is_right, crate::proofs::Scripts::accepted_adds, crate::proofs::Scripts::refused_first, crate::proofs::Scripts::accepted_goes_on, crate::proofs::Scripts::refused_is_first))]
+pub fn scripts_are_decided()
+    ensures stands { (net : Net) → ScriptedStands net }
+    ensures right { (net : Net) → ScriptedIsRight net }
+    ensures accepted { (net : Net) → AcceptedAdds net }
+    ensures refused { (net : Net) → RefusedFirst net }
+    ensures goes_on { (net : Net) → AcceptedGoesOn net }
+    ensures first { (net : Net) → RefusedIsFirst net }
+{}
+
+/// A clone's own decisions give it the same list and the same end as all decisions of a script.
+pub fn alone_suffices()
+    ensures { (net : Net) → AloneSuffices net }
+{}

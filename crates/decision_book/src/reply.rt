@@ -1,0 +1,172 @@
+//! The reply to a decision, and what the decision does to the lists.
+ghost use Rattle.std.specs.Prelude.{◌≡◌, ◌<◌, ◌≤◌, length, IsTrue};
+ghost use Rattle.sim_base.specs.Clones.{clone_at, place_of, forked, added, ended};
+ghost use Rattle.decision_script.specs.Alone.{subject};
+ghost use Rattle.decision_book.specs.Journal.{answered, chosen, planned, Situation};
+ghost use Rattle.decision_book.specs.Plans.{ArePlanned};
+ghost use Rattle.decision_book.specs.Replies.{first_row, fork_rows, set_rows, time_rows, reply as reply_of};
+
+use crate::call::Reply;
+use net_model::Model;
+use sim_base::{Change, Decision, Lists, Name, Planned};
+use stations::change::{ChangeFault, accepts};
+
+/// How many calls a book keeps.
+pub const MOST_CALLS: usize = 4_096;
+/// How many clones there may be, and how many decisions in the list of each.
+pub const MOST_CLONES: u32 = 256;
+
+pub const MOST_PLANS: u32 = 256;
+
+fn subject_of(d: &Decision) -> Name
+    ensures { result ≡ subject d.now }
+{
+    match d {
+        Decision::Fork { old, .. } => *old,
+        Decision::Set { who, .. } => *who,
+        Decision::End { who, .. } => *who,
+    }
+}
+
+#[tactic(auto, using(crate::proofs::Planned::planned_forked))]
+fn decide_fork(model: &Model, lists: &mut Lists, clone: u32, new: Name) -> Reply
+    requires there { clone < length lists.old.clones }
+    requires clones { lists.old.room_clones ≡ 256 }
+    requires plans { lists.old.room_plans ≡ 256 }
+    requires planned { ArePlanned model.now lists.old.clones }
+    ensures reply { result ≡ first_row (fork_rows lists.old.clones new) }
+    ensures lists { lists.new ≡ record lists.old {
+      clones = chosen result (forked lists.old.clones new clone) lists.old.clones;
+    } }
+    ensures planned { ArePlanned model.now lists.new.clones }
+{
+    if lists.find(&new).is_some() {
+        return Reply::NameTaken;
+    }
+    if lists.len() >= MOST_CLONES {
+        return Reply::TooManyClones;
+    }
+    lists.fork_in_room(new, clone);
+    Reply::Accepted
+}
+
+fn time_reply(model: &Model, front: u64, at: u64) -> Reply
+    ensures { result ≡ first_row (time_rows model.now front at) }
+{
+    if at >= model.horizon() {
+        return Reply::PastHorizon;
+    }
+    if at < front {
+        return Reply::Late { front };
+    }
+    Reply::Accepted
+}
+
+#[tactic(auto, using(crate::proofs::Planned::planned_ended))]
+fn decide_end(model: &Model, lists: &mut Lists, front: u64, clone: u32, at: u64) -> Reply
+    requires there { clone < length lists.old.clones }
+    requires once { (clone_at lists.old.clones clone).end ≡ None }
+    requires planned { ArePlanned model.now lists.old.clones }
+    ensures reply { result ≡ first_row (time_rows model.now front at) }
+    ensures lists { lists.new ≡ record lists.old {
+      clones = chosen result (ended lists.old.clones clone at) lists.old.clones;
+    } }
+    ensures planned { ArePlanned model.now lists.new.clones }
+{
+    let reply = time_reply(model, front, at);
+    if reply == Reply::Accepted {
+        lists.end(clone, at);
+    }
+    reply
+}
+
+#[tactic(auto, using(crate::proofs::Planned::planned_added))]
+fn decide_set(
+    model: &Model,
+    lists: &mut Lists,
+    front: u64,
+    clone: u32,
+    at: u64,
+    station: &Name,
+    change: &Change,
+) -> Reply
+    requires there { clone < length lists.old.clones }
+    requires plans { lists.old.room_plans ≡ 256 }
+    requires planned { ArePlanned model.now lists.old.clones }
+    ensures reply { result ≡
+        first_row (set_rows model.now lists.old.clones front clone at station.now change.now) }
+    ensures lists { lists.new ≡ record lists.old {
+      clones = chosen result (added lists.old.clones clone (planned model.now at station.now change.now)) lists.old.clones;
+    } }
+    ensures planned { ArePlanned model.now lists.new.clones }
+{
+    let Some(s) = model.find(station) else {
+        return Reply::UnknownStation;
+    };
+    match accepts(model, s, change) {
+        Err(ChangeFault::WrongParameter) => return Reply::WrongParameter,
+        Err(ChangeFault::OutOfRange) => return Reply::OutOfRange,
+        Ok(()) => {}
+    }
+    if lists.list(clone).len() >= MOST_PLANS as usize {
+        return Reply::ListFull;
+    }
+    let reply = time_reply(model, front, at);
+    if reply == Reply::Accepted {
+        let plan = Planned {
+            at,
+            station: s,
+            change: *change,
+        };
+        let Ok(()) = lists.add(clone, plan) else {
+            unreachable!()
+        };
+    }
+    reply
+}
+
+/// The reply of the table, and what the decision does to the lists.
+pub fn decide_by_table(
+    model: &Model,
+    lists: &mut Lists,
+    front: u64,
+    calls: usize,
+    d: &Decision,
+) -> Reply
+    requires clones { lists.old.room_clones ≡ 256 }
+    requires plans { lists.old.room_plans ≡ 256 }
+    requires planned { ArePlanned model.now lists.old.clones }
+    ensures reply { result ≡ reply_of (record {
+      net = model.now;
+      clones = lists.old.clones;
+      front = front;
+      calls = calls;
+    }) d.now }
+    ensures lists { lists.new ≡ record lists.old {
+      clones = answered model.now lists.old.clones d.now result;
+    } }
+    ensures planned { ArePlanned model.now lists.new.clones }
+{
+    if calls >= MOST_CALLS {
+        return Reply::Full;
+    }
+    if front == model.horizon() {
+        return Reply::Closed;
+    }
+    let Some(clone) = lists.find(&subject_of(d)) else {
+        return Reply::UnknownClone;
+    };
+    if let Some(at) = lists.end_of(clone) {
+        return Reply::Ended { at };
+    }
+    match d {
+        Decision::Fork { new, .. } => decide_fork(model, lists, clone, *new),
+        Decision::Set {
+            at,
+            station,
+            change,
+            ..
+        } => decide_set(model, lists, front, clone, *at, station, change),
+        Decision::End { at, .. } => decide_end(model, lists, front, clone, *at),
+    }
+}
