@@ -4,3 +4,4 @@ pub mod Booking
 pub mod Scripts
 pub mod Looking
 pub mod AloneLaw
+pub mod OwnScripts

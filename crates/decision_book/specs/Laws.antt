@@ -7,7 +7,8 @@ use Rattle.sim_base.specs.declared.decision.Decision.{Decision}
 use Rattle.sim_base.specs.Clones.{Clone, clone_at}
 use Rattle.net_model.specs.Net.{Net}
 use Rattle.decision_book.specs.declared.call.Reply.TheVariants.{Accepted}
-use Rattle.decision_script.specs.Alone.{alone}
+use Rattle.decision_script.specs.Alone.{alone, alone_of, decisions}
+use Rattle.decision_script.specs.Stating.{Stated}
 use Rattle.decision_book.specs.Journal.{Event, opening, decided, after, calls_of, fronts_of}
 use Rattle.decision_book.specs.Plans.{ArePlanned}
 use Rattle.decision_book.specs.Replies.{reply}
@@ -67,3 +68,12 @@ pub record IsAlone (net : Net) (who : List ℕ) (ds : List Decision) : Type 0 wh
 -- where all decisions of a script are accepted
 abbrev pub AloneSuffices : Net → Type 0
 AloneSuffices net = (who : List ℕ) (ds : List Decision) → first_refused net ds ≡ None → IsAlone net who ds
+
+-- the decisions of a clone's own script are all accepted, and give it the same list and the same end
+pub record IsOwnScript (net : Net) (who : List ℕ) (s : Stated) : Type 0 where
+  pub accepted : first_refused net (decisions (alone_of s who).items) ≡ None
+  pub same : clone_named who (lists_of net (decisions (alone_of s who).items)) ≡ clone_named who (lists_of net (decisions s.items))
+
+-- the same for scripts
+abbrev pub OwnScriptSuffices : Net → Type 0
+OwnScriptSuffices net = (who : List ℕ) (s : Stated) → first_refused net (decisions s.items) ≡ None → IsOwnScript net who s

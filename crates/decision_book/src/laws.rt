@@ -2,7 +2,7 @@
 //!
 //! `specs/Laws.antt` has the laws in words.
 ghost use Rattle.net_model.specs.Net.{Net};
-ghost use Rattle.decision_book.specs.Laws.{JournalStands, PlansAreForStations, RecordedIsNext, ScriptedStands, ScriptedIsRight, AcceptedAdds, RefusedFirst, AcceptedGoesOn, RefusedIsFirst, AloneSuffices};
+ghost use Rattle.decision_book.specs.Laws.{JournalStands, PlansAreForStations, RecordedIsNext, ScriptedStands, ScriptedIsRight, AcceptedAdds, RefusedFirst, AcceptedGoesOn, RefusedIsFirst, AloneSuffices, OwnScriptSuffices};
 
 /// How things stand after a journal, and how a decision changes that.
 #[tactic(auto, using(crate::proofs::Scripts::journal_stands, crate::proofs::Scripts::recorded_is_next))]
@@ -31,4 +31,10 @@ pub fn scripts_are_decided()
 /// A clone's own decisions give it the same list and the same end as all decisions of a script.
 pub fn alone_suffices()
     ensures { (net : Net) → AloneSuffices net }
+{}
+
+/// A clone's own script gives it the same list and the same end as the whole script, where all
+/// decisions of that are accepted.
+pub fn own_script_suffices()
+    ensures { (net : Net) → OwnScriptSuffices net }
 {}
