@@ -1,0 +1,12 @@
+pub mod Short
+pub mod Refusing
+pub mod SoloRuns
+pub mod Decisions
+pub mod Traces
+pub mod Putting
+pub mod Joining
+pub mod Endings
+pub mod Working
+pub mod FactLaws
+pub mod LimitLaws
+pub mod OwnScriptLaws

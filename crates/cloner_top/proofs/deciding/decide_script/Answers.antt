@@ -1,0 +1,11 @@
+use Rattle.std.proofs.Common.{ap}
+use Rattle.decision_book.specs.Journal.{after}
+use Rattle.cloner_top.proofs.Decisions.{all_accepted, one_refused}
+use Rattle.cloner_top.proofs.deciding.decide_script.Goals as goal
+
+pub returns-in-Ok-decide_items-clause-ok : goal.returns-in-Ok-decide_items-clause-ok
+returns-in-Ok-decide_items-clause-ok c =
+    all_accepted _ _ _ _ (ap (λ b. after b.net b.events) c.in-Ok.ensures) c.in-Ok-decide_items.ensures.ok (ap (λ s. s.clones) c.in-Ok-decide_items.ensures.stands)
+
+pub returns-in-Err-clause-err : goal.returns-in-Err-clause-err
+returns-in-Err-clause-err c = λ _. one_refused _ _ _ _ (ap (λ b. after b.net b.events) c.in-Ok.ensures) c.in-Err.ensures.err

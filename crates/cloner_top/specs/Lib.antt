@@ -1,0 +1,10 @@
+pub mod Requests
+pub mod Refusals
+pub mod Deciding
+pub mod Outputs
+pub mod Stopping
+pub mod Answers
+pub mod Work
+pub mod Facts
+pub mod Limits
+pub mod OwnScripts

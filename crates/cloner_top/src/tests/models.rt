@@ -1,0 +1,382 @@
+//! The models of the tests.
+
+/// A gate, a desk and a way out.
+pub const ONE_DESK: &str = r#"lookahead = 2
+horizon = 20
+[[station]]
+name = "gate"
+kind = "source"
+every = [3, 3]
+jobs = 2
+link = [{ to = "desk", delay = 2 }]
+[[station]]
+name = "desk"
+kind = "server"
+servers = 1
+room = 5
+service = [4, 4]
+link = [{ to = "out", delay = 2 }]
+[[station]]
+name = "out"
+kind = "sink"
+"#;
+
+/// The same, where a station may handle three messages.
+pub const LIMIT_3: &str = r#"lookahead = 2
+horizon = 20
+limit = 3
+[[station]]
+name = "gate"
+kind = "source"
+every = [3, 3]
+jobs = 2
+link = [{ to = "desk", delay = 2 }]
+[[station]]
+name = "desk"
+kind = "server"
+servers = 1
+room = 5
+service = [4, 4]
+link = [{ to = "out", delay = 2 }]
+[[station]]
+name = "out"
+kind = "sink"
+"#;
+
+/// The same with four.
+pub const LIMIT_4: &str = r#"lookahead = 2
+horizon = 20
+limit = 4
+[[station]]
+name = "gate"
+kind = "source"
+every = [3, 3]
+jobs = 2
+link = [{ to = "desk", delay = 2 }]
+[[station]]
+name = "desk"
+kind = "server"
+servers = 1
+room = 5
+service = [4, 4]
+link = [{ to = "out", delay = 2 }]
+[[station]]
+name = "out"
+kind = "sink"
+"#;
+
+/// The same with a link that is faster than the lookahead.
+pub const SHORT_DELAY: &str = r#"lookahead = 2
+horizon = 20
+[[station]]
+name = "gate"
+kind = "source"
+every = [3, 3]
+jobs = 2
+link = [{ to = "desk", delay = 1 }]
+[[station]]
+name = "desk"
+kind = "server"
+servers = 1
+room = 5
+service = [4, 4]
+link = [{ to = "out", delay = 2 }]
+[[station]]
+name = "out"
+kind = "sink"
+"#;
+
+/// The same with a key that no model has.
+pub const UNKNOWN_KEY: &str = r#"spedd = 3
+lookahead = 2
+horizon = 20
+[[station]]
+name = "gate"
+kind = "source"
+every = [3, 3]
+jobs = 2
+link = [{ to = "desk", delay = 2 }]
+[[station]]
+name = "desk"
+kind = "server"
+servers = 1
+room = 5
+service = [4, 4]
+link = [{ to = "out", delay = 2 }]
+[[station]]
+name = "out"
+kind = "sink"
+"#;
+
+/// Messages of a station to itself that are closer than the lookahead.
+pub const CLOSE_MESSAGES: &str = r#"lookahead = 5
+horizon = 30
+[[station]]
+name = "gate"
+kind = "source"
+every = [1, 1]
+jobs = 3
+link = [{ to = "desk", delay = 5 }]
+[[station]]
+name = "desk"
+kind = "server"
+servers = 1
+room = 5
+service = [1, 1]
+link = [{ to = "out", delay = 5 }]
+[[station]]
+name = "out"
+kind = "sink"
+"#;
+
+/// A source with drawn times.
+pub const DRAWN_GATE: &str = r#"lookahead = 2
+horizon = 20
+seed = 42
+[[station]]
+name = "gate"
+kind = "source"
+stream = 54
+every = [1, 10]
+jobs = 3
+link = [{ to = "out", delay = 2 }]
+[[station]]
+name = "out"
+kind = "sink"
+"#;
+
+/// Three sources before a desk without room.
+pub const NO_ROOM: &str = r#"lookahead = 2
+horizon = 20
+[[station]]
+name = "s1"
+kind = "source"
+every = [3, 3]
+jobs = 1
+link = [{ to = "desk", delay = 2 }]
+[[station]]
+name = "s2"
+kind = "source"
+every = [3, 3]
+jobs = 1
+link = [{ to = "desk", delay = 2 }]
+[[station]]
+name = "s3"
+kind = "source"
+every = [3, 3]
+jobs = 1
+link = [{ to = "desk", delay = 2 }]
+[[station]]
+name = "desk"
+kind = "server"
+servers = 1
+room = 0
+service = [4, 4]
+link = [{ to = "out", delay = 2 }]
+[[station]]
+name = "out"
+kind = "sink"
+"#;
+
+/// The same with room for five.
+pub const SOME_ROOM: &str = r#"lookahead = 2
+horizon = 20
+[[station]]
+name = "s1"
+kind = "source"
+every = [3, 3]
+jobs = 1
+link = [{ to = "desk", delay = 2 }]
+[[station]]
+name = "s2"
+kind = "source"
+every = [3, 3]
+jobs = 1
+link = [{ to = "desk", delay = 2 }]
+[[station]]
+name = "s3"
+kind = "source"
+every = [3, 3]
+jobs = 1
+link = [{ to = "desk", delay = 2 }]
+[[station]]
+name = "desk"
+kind = "server"
+servers = 1
+room = 5
+service = [4, 4]
+link = [{ to = "out", delay = 2 }]
+[[station]]
+name = "out"
+kind = "sink"
+"#;
+
+/// A router by turn, and a delay.
+pub const BY_TURN: &str = r#"lookahead = 2
+horizon = 20
+seed = 42
+[[station]]
+name = "gate"
+kind = "source"
+every = [3, 3]
+jobs = 2
+link = [{ to = "fan", delay = 2 }]
+[[station]]
+name = "fan"
+kind = "router"
+by = "turn"
+link = [{ to = "slow", delay = 2 }, { to = "out", delay = 3 }]
+[[station]]
+name = "slow"
+kind = "delay"
+hold = [1, 1]
+link = [{ to = "out", delay = 2 }]
+[[station]]
+name = "out"
+kind = "sink"
+"#;
+
+/// The same by weights.
+pub const BY_WEIGHTS: &str = r#"lookahead = 2
+horizon = 20
+seed = 42
+[[station]]
+name = "gate"
+kind = "source"
+every = [3, 3]
+jobs = 2
+link = [{ to = "fan", delay = 2 }]
+[[station]]
+name = "fan"
+kind = "router"
+stream = 54
+by = "weights"
+link = [{ to = "slow", delay = 2, weight = 4 }, { to = "out", delay = 3, weight = 6 }]
+[[station]]
+name = "slow"
+kind = "delay"
+hold = [1, 1]
+link = [{ to = "out", delay = 2 }]
+[[station]]
+name = "out"
+kind = "sink"
+"#;
+
+/// Two classes of jobs, and a server by class.
+pub const CLASSES: &str = r#"format = 2
+lookahead = 2
+horizon = 20
+[[station]]
+name = "low"
+kind = "source"
+class = 2
+every = [3, 3]
+jobs = 2
+link = [{ to = "desk", delay = 2 }]
+[[station]]
+name = "high"
+kind = "source"
+class = 1
+every = [7, 7]
+jobs = 1
+link = [{ to = "desk", delay = 2 }]
+[[station]]
+name = "desk"
+kind = "server"
+order = "class"
+servers = 1
+room = 5
+service = [4, 4]
+link = [{ to = "out", delay = 2 }]
+[[station]]
+name = "out"
+kind = "sink"
+"#;
+
+/// A router that sends each job to itself.
+pub const SPINNING: &str = r#"lookahead = 1
+horizon = 100000
+[[station]]
+name = "gate"
+kind = "source"
+every = [1, 1]
+jobs = 1
+link = [{ to = "spin", delay = 1 }]
+[[station]]
+name = "spin"
+kind = "router"
+by = "turn"
+link = [{ to = "spin", delay = 1 }]
+"#;
+
+/// The same up to a nearer horizon.
+pub const SHORT_SPIN: &str = r#"lookahead = 1
+horizon = 16386
+[[station]]
+name = "gate"
+kind = "source"
+every = [1, 1]
+jobs = 1
+link = [{ to = "spin", delay = 1 }]
+[[station]]
+name = "spin"
+kind = "router"
+by = "turn"
+link = [{ to = "spin", delay = 1 }]
+"#;
+
+/// A sink that nothing reaches.
+pub const ONLY_OUT: &str = r#"lookahead = 1
+horizon = 1
+[[station]]
+name = "out"
+kind = "sink"
+"#;
+
+/// `examples/clinic.toml`
+pub const CLINIC: &str = r#"# A walk-in clinic; times in minutes
+lookahead = 1
+horizon = 10000
+seed = 2001
+
+[[station]]
+name = "arrivals"
+kind = "source"
+every = [4, 9]
+jobs = 3000
+link = [{ to = "reception", delay = 1 }]
+
+[[station]]
+name = "reception"
+kind = "server"
+servers = 2
+room = 40
+service = [3, 8]
+link = [{ to = "triage", delay = 1 }]
+
+[[station]]
+name = "triage"
+kind = "router"
+by = "weights"
+link = [{ to = "doctor", delay = 2, weight = 3 }, { to = "xray", delay = 4, weight = 1 }]
+
+[[station]]
+name = "doctor"
+kind = "server"
+servers = 3
+room = 60
+service = [10, 25]
+link = [{ to = "exit", delay = 1 }]
+
+[[station]]
+name = "xray"
+kind = "server"
+servers = 1
+room = 20
+service = [8, 16]
+link = [{ to = "doctor", delay = 3 }]
+
+[[station]]
+name = "exit"
+kind = "sink"
+"#;

@@ -1,0 +1,286 @@
+//! The outputs of the tests.
+
+/// One job at a time.
+pub const BASE: &str = r#"clone base
+3 gate gate 0 tick sent=1
+5 desk gate 1 job gate.0 busy=1 wait=0 done=0 lost=0
+6 gate gate 2 tick sent=2
+8 desk gate 3 job gate.1 busy=1 wait=1 done=0 lost=0
+9 desk desk 0 done gate.0 busy=1 wait=0 done=1 lost=0
+11 out desk 1 job gate.0 got=1 stay=8
+13 desk desk 2 done gate.1 busy=0 wait=0 done=2 lost=0
+15 out desk 3 job gate.1 got=2 stay=17
+"#;
+
+/// A branch whose desk serves faster from 8 on.
+pub const BASE_AND_FAST: &str = r#"clone base
+3 gate gate 0 tick sent=1
+5 desk gate 1 job gate.0 busy=1 wait=0 done=0 lost=0
+6 gate gate 2 tick sent=2
+8 desk gate 3 job gate.1 busy=1 wait=1 done=0 lost=0
+9 desk desk 0 done gate.0 busy=1 wait=0 done=1 lost=0
+11 out desk 1 job gate.0 got=1 stay=8
+13 desk desk 2 done gate.1 busy=0 wait=0 done=2 lost=0
+15 out desk 3 job gate.1 got=2 stay=17
+clone fast
+3 gate gate 0 tick sent=1
+5 desk gate 1 job gate.0 busy=1 wait=0 done=0 lost=0
+6 gate gate 2 tick sent=2
+8 desk analyst 0 set service 2 2 busy=1 wait=0 done=0 lost=0
+8 desk gate 3 job gate.1 busy=1 wait=1 done=0 lost=0
+9 desk desk 0 done gate.0 busy=1 wait=0 done=1 lost=0
+11 out desk 1 job gate.0 got=1 stay=8
+11 desk desk 2 done gate.1 busy=0 wait=0 done=2 lost=0
+13 out desk 3 job gate.1 got=2 stay=15
+"#;
+
+/// A fork after an accepted set that is not due yet.
+pub const FAST_TWINS: &str = r#"clone base
+3 gate gate 0 tick sent=1
+5 desk gate 1 job gate.0 busy=1 wait=0 done=0 lost=0
+6 gate gate 2 tick sent=2
+8 desk analyst 0 set service 2 2 busy=1 wait=0 done=0 lost=0
+8 desk gate 3 job gate.1 busy=1 wait=1 done=0 lost=0
+9 desk desk 0 done gate.0 busy=1 wait=0 done=1 lost=0
+11 out desk 1 job gate.0 got=1 stay=8
+11 desk desk 2 done gate.1 busy=0 wait=0 done=2 lost=0
+13 out desk 3 job gate.1 got=2 stay=15
+clone twin
+3 gate gate 0 tick sent=1
+5 desk gate 1 job gate.0 busy=1 wait=0 done=0 lost=0
+6 gate gate 2 tick sent=2
+8 desk analyst 0 set service 2 2 busy=1 wait=0 done=0 lost=0
+8 desk gate 3 job gate.1 busy=1 wait=1 done=0 lost=0
+9 desk desk 0 done gate.0 busy=1 wait=0 done=1 lost=0
+11 out desk 1 job gate.0 got=1 stay=8
+11 desk desk 2 done gate.1 busy=0 wait=0 done=2 lost=0
+13 out desk 3 job gate.1 got=2 stay=15
+"#;
+
+/// Two branches with equal decisions.
+pub const EQUAL_BRANCHES: &str = r#"clone base
+3 gate gate 0 tick sent=1
+5 desk gate 1 job gate.0 busy=1 wait=0 done=0 lost=0
+6 gate gate 2 tick sent=2
+8 desk gate 3 job gate.1 busy=1 wait=1 done=0 lost=0
+9 desk desk 0 done gate.0 busy=1 wait=0 done=1 lost=0
+11 out desk 1 job gate.0 got=1 stay=8
+13 desk desk 2 done gate.1 busy=0 wait=0 done=2 lost=0
+15 out desk 3 job gate.1 got=2 stay=17
+clone a
+3 gate gate 0 tick sent=1
+5 desk gate 1 job gate.0 busy=1 wait=0 done=0 lost=0
+6 gate gate 2 tick sent=2
+8 desk analyst 0 set service 2 2 busy=1 wait=0 done=0 lost=0
+8 desk gate 3 job gate.1 busy=1 wait=1 done=0 lost=0
+9 desk desk 0 done gate.0 busy=1 wait=0 done=1 lost=0
+11 out desk 1 job gate.0 got=1 stay=8
+11 desk desk 2 done gate.1 busy=0 wait=0 done=2 lost=0
+13 out desk 3 job gate.1 got=2 stay=15
+clone b
+3 gate gate 0 tick sent=1
+5 desk gate 1 job gate.0 busy=1 wait=0 done=0 lost=0
+6 gate gate 2 tick sent=2
+8 desk analyst 0 set service 2 2 busy=1 wait=0 done=0 lost=0
+8 desk gate 3 job gate.1 busy=1 wait=1 done=0 lost=0
+9 desk desk 0 done gate.0 busy=1 wait=0 done=1 lost=0
+11 out desk 1 job gate.0 got=1 stay=8
+11 desk desk 2 done gate.1 busy=0 wait=0 done=2 lost=0
+13 out desk 3 job gate.1 got=2 stay=15
+"#;
+
+/// One of them has another decision before that one.
+pub const BRANCHES_APART: &str = r#"clone base
+3 gate gate 0 tick sent=1
+5 desk gate 1 job gate.0 busy=1 wait=0 done=0 lost=0
+6 gate gate 2 tick sent=2
+8 desk gate 3 job gate.1 busy=1 wait=1 done=0 lost=0
+9 desk desk 0 done gate.0 busy=1 wait=0 done=1 lost=0
+11 out desk 1 job gate.0 got=1 stay=8
+13 desk desk 2 done gate.1 busy=0 wait=0 done=2 lost=0
+15 out desk 3 job gate.1 got=2 stay=17
+clone a
+3 gate gate 0 tick sent=1
+5 desk gate 1 job gate.0 busy=1 wait=0 done=0 lost=0
+6 gate gate 2 tick sent=2
+8 desk analyst 1 set service 2 2 busy=1 wait=0 done=0 lost=0
+8 desk gate 3 job gate.1 busy=1 wait=1 done=0 lost=0
+9 desk desk 0 done gate.0 busy=1 wait=0 done=1 lost=0
+11 out desk 1 job gate.0 got=1 stay=8
+11 desk desk 2 done gate.1 busy=0 wait=0 done=2 lost=0
+13 out desk 3 job gate.1 got=2 stay=15
+15 desk analyst 0 set room 9 busy=0 wait=0 done=2 lost=0
+clone b
+3 gate gate 0 tick sent=1
+5 desk gate 1 job gate.0 busy=1 wait=0 done=0 lost=0
+6 gate gate 2 tick sent=2
+8 desk analyst 0 set service 2 2 busy=1 wait=0 done=0 lost=0
+8 desk gate 3 job gate.1 busy=1 wait=1 done=0 lost=0
+9 desk desk 0 done gate.0 busy=1 wait=0 done=1 lost=0
+11 out desk 1 job gate.0 got=1 stay=8
+11 desk desk 2 done gate.1 busy=0 wait=0 done=2 lost=0
+13 out desk 3 job gate.1 got=2 stay=15
+"#;
+
+/// One branch by itself.
+pub const ONE_BRANCH: &str = r#"clone b
+3 gate gate 0 tick sent=1
+5 desk gate 1 job gate.0 busy=1 wait=0 done=0 lost=0
+6 gate gate 2 tick sent=2
+8 desk analyst 0 set service 2 2 busy=1 wait=0 done=0 lost=0
+8 desk gate 3 job gate.1 busy=1 wait=1 done=0 lost=0
+9 desk desk 0 done gate.0 busy=1 wait=0 done=1 lost=0
+11 out desk 1 job gate.0 got=1 stay=8
+11 desk desk 2 done gate.1 busy=0 wait=0 done=2 lost=0
+13 out desk 3 job gate.1 got=2 stay=15
+"#;
+
+/// A set at the very start.
+pub const SET_AT_START: &str = r#"clone base
+0 desk analyst 0 set service 4 4 busy=0 wait=0 done=0 lost=0
+3 gate gate 0 tick sent=1
+5 desk gate 1 job gate.0 busy=1 wait=0 done=0 lost=0
+6 gate gate 2 tick sent=2
+8 desk gate 3 job gate.1 busy=1 wait=1 done=0 lost=0
+9 desk desk 0 done gate.0 busy=1 wait=0 done=1 lost=0
+11 out desk 1 job gate.0 got=1 stay=8
+13 desk desk 2 done gate.1 busy=0 wait=0 done=2 lost=0
+15 out desk 3 job gate.1 got=2 stay=17
+"#;
+
+/// A set at the last time before the horizon.
+pub const SET_AT_LAST: &str = r#"clone base
+3 gate gate 0 tick sent=1
+5 desk gate 1 job gate.0 busy=1 wait=0 done=0 lost=0
+6 gate gate 2 tick sent=2
+8 desk gate 3 job gate.1 busy=1 wait=1 done=0 lost=0
+9 desk desk 0 done gate.0 busy=1 wait=0 done=1 lost=0
+11 out desk 1 job gate.0 got=1 stay=8
+13 desk desk 2 done gate.1 busy=0 wait=0 done=2 lost=0
+15 out desk 3 job gate.1 got=2 stay=17
+19 desk analyst 0 set room 5 busy=0 wait=0 done=2 lost=0
+"#;
+
+/// Messages of a station to itself that are closer than the lookahead.
+pub const CLOSE_MESSAGES: &str = r#"clone base
+1 gate gate 0 tick sent=1
+2 gate gate 2 tick sent=2
+3 gate gate 4 tick sent=3
+6 desk gate 1 job gate.0 busy=1 wait=0 done=0 lost=0
+7 desk gate 3 job gate.1 busy=1 wait=1 done=0 lost=0
+7 desk desk 0 done gate.0 busy=1 wait=0 done=1 lost=0
+8 desk gate 5 job gate.2 busy=1 wait=1 done=1 lost=0
+8 desk desk 2 done gate.1 busy=1 wait=0 done=2 lost=0
+9 desk desk 4 done gate.2 busy=0 wait=0 done=3 lost=0
+12 out desk 1 job gate.0 got=1 stay=11
+13 out desk 3 job gate.1 got=2 stay=22
+14 out desk 5 job gate.2 got=3 stay=33
+"#;
+
+/// Drawn times.
+pub const DRAWN_GATE: &str = r#"clone base
+4 gate gate 0 tick sent=1
+6 out gate 1 job gate.0 got=1 stay=2
+12 gate gate 2 tick sent=2
+14 out gate 3 job gate.1 got=2 stay=4
+17 gate gate 4 tick sent=3
+19 out gate 5 job gate.2 got=3 stay=6
+"#;
+
+/// Two jobs are lost where there is no room.
+pub const NO_ROOM: &str = r#"clone base
+3 s1 s1 0 tick sent=1
+3 s2 s2 0 tick sent=1
+3 s3 s3 0 tick sent=1
+5 desk s1 1 job s1.0 busy=1 wait=0 done=0 lost=0
+5 desk s2 1 job s2.0 busy=1 wait=0 done=0 lost=1
+5 desk s3 1 job s3.0 busy=1 wait=0 done=0 lost=2
+9 desk desk 0 done s1.0 busy=0 wait=0 done=1 lost=2
+11 out desk 1 job s1.0 got=1 stay=8
+"#;
+
+/// More servers serve those who wait.
+pub const MORE_SERVERS: &str = r#"clone base
+3 s1 s1 0 tick sent=1
+3 s2 s2 0 tick sent=1
+3 s3 s3 0 tick sent=1
+5 desk s1 1 job s1.0 busy=1 wait=0 done=0 lost=0
+5 desk s2 1 job s2.0 busy=1 wait=1 done=0 lost=0
+5 desk s3 1 job s3.0 busy=1 wait=2 done=0 lost=0
+6 desk analyst 0 set servers 3 busy=3 wait=0 done=0 lost=0
+9 desk desk 0 done s1.0 busy=2 wait=0 done=1 lost=0
+10 desk desk 1 done s2.0 busy=1 wait=0 done=2 lost=0
+10 desk desk 2 done s3.0 busy=0 wait=0 done=3 lost=0
+11 out desk 3 job s1.0 got=1 stay=8
+12 out desk 4 job s2.0 got=2 stay=17
+12 out desk 5 job s3.0 got=3 stay=26
+"#;
+
+/// A router and a delay.
+pub const FAN: &str = r#"clone base
+3 gate gate 0 tick sent=1
+5 fan gate 1 job gate.0 passed=1
+6 gate gate 2 tick sent=2
+7 slow fan 0 job gate.0 passed=1
+8 fan gate 3 job gate.1 passed=2
+10 out slow 0 job gate.0 got=1 stay=7
+11 out fan 1 job gate.1 got=2 stay=12
+"#;
+
+/// The lesser class first.
+pub const CLASSES: &str = r#"clone base
+3 low low 0 tick sent=1
+5 desk low 1 job low.0:2 busy=1 wait=0 done=0 lost=0
+6 low low 2 tick sent=2
+7 high high 0 tick sent=1
+8 desk low 3 job low.1:2 busy=1 wait=1 done=0 lost=0
+9 desk high 1 job high.0:1 busy=1 wait=2 done=0 lost=0
+9 desk desk 0 done low.0:2 busy=1 wait=1 done=1 lost=0
+11 out desk 1 job low.0:2 got=1 stay=8
+13 desk desk 2 done high.0:1 busy=1 wait=0 done=2 lost=0
+15 out desk 3 job high.0:1 got=2 stay=16
+17 desk desk 4 done low.1:2 busy=0 wait=0 done=3 lost=0
+19 out desk 5 job low.1:2 got=3 stay=29
+"#;
+
+/// A branch that ends at 9.
+pub const BRIEF: &str = r#"clone base
+3 gate gate 0 tick sent=1
+5 desk gate 1 job gate.0 busy=1 wait=0 done=0 lost=0
+6 gate gate 2 tick sent=2
+8 desk gate 3 job gate.1 busy=1 wait=1 done=0 lost=0
+9 desk desk 0 done gate.0 busy=1 wait=0 done=1 lost=0
+11 out desk 1 job gate.0 got=1 stay=8
+13 desk desk 2 done gate.1 busy=0 wait=0 done=2 lost=0
+15 out desk 3 job gate.1 got=2 stay=17
+clone brief
+3 gate gate 0 tick sent=1
+5 desk gate 1 job gate.0 busy=1 wait=0 done=0 lost=0
+6 gate gate 2 tick sent=2
+8 desk gate 3 job gate.1 busy=1 wait=1 done=0 lost=0
+"#;
+
+/// A clone that handles nothing.
+pub const NOTHING: &str = r#"clone base
+"#;
+
+/// The decisions of three analysts on the clinic.
+pub const CLINIC_SCRIPT: &str = r#"analyst ada
+fork more_staff from base
+set more_staff at 2000 reception servers 3
+fork night from more_staff
+set night at 6000 doctor servers 2
+look night doctor
+analyst ben
+fork fast_xray from base
+set fast_xray at 1500 xray service 4 8
+fork two_xray from base
+set two_xray at 1500 xray servers 2
+analyst cyd
+fork rush from base
+set rush at 3000 arrivals every 2 5
+fork rush_staff from rush
+set rush_staff at 3000 doctor servers 5
+fork no_room from base
+set no_room at 500 doctor room 5
+"#;
