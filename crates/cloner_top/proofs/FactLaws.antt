@@ -135,7 +135,7 @@ finished_of before after a _ (refused r low high refuses same) is fs e = absurd 
 of_form : (words : Option Asked) (before after : Outside) (status : ℕ) (a : Asked) → words ≡ Some a → IsAnswer words before after status → Kind before after a status
 of_form words before after status a is answer = kind before after a status (subst (λ w. IsAnswer w before after status) is answer)
 
-pub finished : (words : Option Asked) (before after : Outside) (status : ℕ) → IsAnswer words before after status → status ≡ 0 → IsFinished words before after
+pub finished : (words : Option Asked) (before after : Outside) (status : ℕ) → IsAnswer words before after status → status ≡ 0 → IsFinished words before.files before.output after.output
 finished words before after status answer zero = λ a is fs e. finished_of before after a status (of_form words before after status a is answer) zero fs e
 
 kept_of : (before after : Outside) (a : Asked) (status : ℕ) → Kind before after a status → status ≢ 0 → status ≢ 8 → after.output ≡ before.output
@@ -175,7 +175,7 @@ unread_of before after a _ (no_model unread same) three = inl unread
 unread_of before after a _ (no_script has unread same) three = inr unread
 unread_of before after a _ (refused r low high refuses same) three = absurd (omega (arith, three, low))
 
-pub unread : (words : Option Asked) (before after : Outside) (status : ℕ) → IsAnswer words before after status → status ≡ 3 → IsUnreadFor words before after
+pub unread : (words : Option Asked) (before after : Outside) (status : ℕ) → IsAnswer words before after status → status ≡ 3 → IsUnreadFor words before.files (InputsFailed before after)
 unread None before after status answer three = absurd (let two = (of_none before after status answer).0 in omega (arith, two, three))
 unread (Some a) before after status answer three = (a, refl, unread_of before after a status (kind before after a status answer) three)
 
@@ -187,7 +187,7 @@ refused_of before after a _ (no_model unread same) low high = absurd (omega (ari
 refused_of before after a _ (no_script has unread same) low high = absurd (omega (arith, low))
 refused_of before after a _ (refused r l h refuses same) low high = (r, refl, refuses)
 
-pub refused_cause : (words : Option Asked) (before after : Outside) (status : ℕ) → IsAnswer words before after status → 4 ≤ status → status ≤ 7 → IsRefusedFor words before status
+pub refused_cause : (words : Option Asked) (before after : Outside) (status : ℕ) → IsAnswer words before after status → 4 ≤ status → status ≤ 7 → IsRefusedFor words before.files status
 refused_cause None before after status answer low high = absurd (let two = (of_none before after status answer).0 in omega (arith, two, low))
 refused_cause (Some a) before after status answer low high = (a, refl, refused_of before after a status (kind before after a status answer) low high)
 
@@ -227,6 +227,6 @@ complete_of before after a _ (no_script has unread same) fs e fine =
     inr (subst (λ r. Meets r (OutputFailed before after) 3) (sym (no_script_expected fs a m.0 m.1 (absent fs a.script (InputsFailed before after) before.files e fine unread))) refl)
 complete_of before after a _ (refused r low high refuses same) fs e fine = inr (subst (λ x. Meets x (OutputFailed before after) (status_of r)) (sym (refuses fs e)) refl)
 
-pub completes : (words : Option Asked) (before after : Outside) (status : ℕ) → IsAnswer words before after status → Completes words before after status
+pub completes : (words : Option Asked) (before after : Outside) (status : ℕ) → IsAnswer words before after status → Completes words before.files (InputsFailed before after) (OutputFailed before after) status
 completes None before after status answer = (of_none before after status answer).0
 completes (Some a) before after status answer = complete_of before after a status (kind before after a status answer)

@@ -15,7 +15,7 @@ use Rattle.cloner_top.specs.Requests.{Asked}
 use Rattle.cloner_top.specs.Refusals.{status_of}
 use Rattle.cloner_top.specs.Deciding.{decided}
 use Rattle.cloner_top.specs.Outputs.{beyond, clone_text, goes_beyond, traces}
-use Rattle.cloner_top.specs.Answers.{InputsFailed, IsUnread, Outside, OutputFailed, Refuses, expected, told}
+use Rattle.cloner_top.specs.Answers.{IsUnread, Refuses, expected, told}
 
 -- the two files are a model and a script whose decisions are all accepted, and leave these clones
 pub record Makes (files : Files) (a : Asked) (net : Net) (clones : List Clone) : Type 0 where
@@ -51,25 +51,24 @@ Writes Run files a old new = WritesAll files a old new
 Writes (Solo name) files a old new = WritesOne files a name old new
 
 -- status 0: the whole output is appended
-abbrev pub IsFinished : Option Asked → Outside → Outside → Type 0
-IsFinished words before after = (a : Asked) → words ≡ Some a → (fs : Files) → before.files ≡ Some fs → Writes a.mode fs a before.output after.output
+abbrev pub IsFinished : Option Asked → Option Files → Option (List ℕ) → Option (List ℕ) → Type 0
+IsFinished words files old new = (a : Asked) → words ≡ Some a → (fs : Files) → files ≡ Some fs → Writes a.mode fs a old new
 
 -- status 3: one of the files was not read
-abbrev pub IsUnreadFor : Option Asked → Outside → Outside → Type 0
-IsUnreadFor words before after = (a : Asked) × (words ≡ Some a)
-    × (IsUnread (InputsFailed before after) before.files a.model ⊎ IsUnread (InputsFailed before after) before.files a.script)
+abbrev pub IsUnreadFor : Option Asked → Option Files → Type 0 → Type 0
+IsUnreadFor words files inputs_failed = (a : Asked) × (words ≡ Some a) × (IsUnread inputs_failed files a.model ⊎ IsUnread inputs_failed files a.script)
 
 -- statuses 4 to 7: the files ask for something that is refused
-abbrev pub IsRefusedFor : Option Asked → Outside → ℕ → Type 0
-IsRefusedFor words before status = (a : Asked) × (words ≡ Some a) × ((r : Refusal) × (status ≡ status_of r) × Refuses before.files a r)
+abbrev pub IsRefusedFor : Option Asked → Option Files → ℕ → Type 0
+IsRefusedFor words files status = (a : Asked) × (words ≡ Some a) × ((r : Refusal) × (status ≡ status_of r) × Refuses files a r)
 
 -- what is expected comes, or the output's fault
 abbrev pub Meets : Result (List ℕ) Refusal → Type 0 → ℕ → Type 0
-Meets (Ok text) failed status = (status ≡ 0) ⊎ ((status ≡ 8) × failed)
-Meets (Err refusal) failed status = status ≡ status_of refusal
+Meets (Ok text) output_failed status = (status ≡ 0) ⊎ ((status ≡ 8) × output_failed)
+Meets (Err refusal) output_failed status = status ≡ status_of refusal
 
 -- where the files are told and the inputs have no fault, what is expected comes, or want of memory
-abbrev pub Completes : Option Asked → Outside → Outside → ℕ → Type 0
-Completes None before after status = status ≡ 2
-Completes (Some a) before after status = (fs : Files) → before.files ≡ Some fs → ¬ InputsFailed before after
-    → (status ≡ 1) ⊎ Meets (expected a fs) (OutputFailed before after) status
+abbrev pub Completes : Option Asked → Option Files → Type 0 → Type 0 → ℕ → Type 0
+Completes None files inputs_failed output_failed status = status ≡ 2
+Completes (Some a) files inputs_failed output_failed status = (fs : Files) → files ≡ Some fs → ¬ inputs_failed
+    → (status ≡ 1) ⊎ Meets (expected a fs) output_failed status

@@ -27,6 +27,7 @@ use std::alloc::Global;
 use std::sync::Arc;
 use std::sync::ledger::Ledger;
 
+// The texts of the clones that are asked for.
 fn texts_of<L: Ledger>(
     alloc: Global,
     mode: &Mode,
@@ -129,6 +130,7 @@ fn write_texts<O: Sink, E: Sink>(out: &mut O, err: &mut E, texts: &[Vec<u8>]) ->
     }
 }
 
+// The status, with the output or the line that tells why there is none.
 fn answer<I: Inputs, O: Sink, E: Sink, L: Ledger>(
     alloc: Global,
     words: &[Word],
@@ -137,7 +139,24 @@ fn answer<I: Inputs, O: Sink, E: Sink, L: Ledger>(
     err: &mut E,
     steps: &mut Steps<L>,
 ) -> u8
-    ensures answer { IsAnswer (form words.now) (record { files = I.files inputs.old; input_faults = I.faults inputs.old; output = O.bytes out.old; output_faults = O.faults out.old; errors = E.bytes err.old; error_faults = E.faults err.old }) (record { files = I.files inputs.new; input_faults = I.faults inputs.new; output = O.bytes out.new; output_faults = O.faults out.new; errors = E.bytes err.new; error_faults = E.faults err.new }) result }
+    ensures answer { IsAnswer (form words.now)
+        (record {
+          files = I.files inputs.old;
+          input_faults = I.faults inputs.old;
+          output = O.bytes out.old;
+          output_faults = O.faults out.old;
+          errors = E.bytes err.old;
+          error_faults = E.faults err.old;
+        })
+        (record {
+          files = I.files inputs.new;
+          input_faults = I.faults inputs.new;
+          output = O.bytes out.new;
+          output_faults = O.faults out.new;
+          errors = E.bytes err.new;
+          error_faults = E.faults err.new;
+        })
+        result }
     ensures work { IsWorkOf (form words.now) (I.files inputs.old) steps.old steps.new result }
 {
     let Some(request) = read_words(words) else {
@@ -175,15 +194,32 @@ pub fn cloner<R, I: Inputs, O: Sink, E: Sink, G: Gate, L: Ledger>(
     _gate: &G,
     steps: &mut Steps<L>,
 ) -> u8
-    ensures answer { IsAnswer (form words.now) (record { files = I.files inputs.old; input_faults = I.faults inputs.old; output = O.bytes out.old; output_faults = O.faults out.old; errors = E.bytes err.old; error_faults = E.faults err.old }) (record { files = I.files inputs.new; input_faults = I.faults inputs.new; output = O.bytes out.new; output_faults = O.faults out.new; errors = E.bytes err.new; error_faults = E.faults err.new }) result }
-    ensures finished { result ≡ 0 → IsFinished (form words.now) (record { files = I.files inputs.old; input_faults = I.faults inputs.old; output = O.bytes out.old; output_faults = O.faults out.old; errors = E.bytes err.old; error_faults = E.faults err.old }) (record { files = I.files inputs.new; input_faults = I.faults inputs.new; output = O.bytes out.new; output_faults = O.faults out.new; errors = E.bytes err.new; error_faults = E.faults err.new }) }
+    ensures finished { result ≡ 0 → IsFinished (form words.now) (I.files inputs.old) (O.bytes out.old) (O.bytes out.new) }
     ensures kept { result ≢ 0 → result ≢ 8 → O.bytes out.new ≡ O.bytes out.old }
     ensures usage { (result ≡ 2) ↔ (form words.now ≡ None) }
-    ensures unread { result ≡ 3 → IsUnreadFor (form words.now) (record { files = I.files inputs.old; input_faults = I.faults inputs.old; output = O.bytes out.old; output_faults = O.faults out.old; errors = E.bytes err.old; error_faults = E.faults err.old }) (record { files = I.files inputs.new; input_faults = I.faults inputs.new; output = O.bytes out.new; output_faults = O.faults out.new; errors = E.bytes err.new; error_faults = E.faults err.new }) }
-    ensures refused { 4 ≤ result → result ≤ 7 → IsRefusedFor (form words.now) (record { files = I.files inputs.old; input_faults = I.faults inputs.old; output = O.bytes out.old; output_faults = O.faults out.old; errors = E.bytes err.old; error_faults = E.faults err.old }) result }
+    ensures unread { result ≡ 3 → IsUnreadFor (form words.now) (I.files inputs.old) (Rose (I.faults inputs.old) (I.faults inputs.new)) }
+    ensures refused { 4 ≤ result → result ≤ 7 → IsRefusedFor (form words.now) (I.files inputs.old) result }
     ensures cut { result ≡ 8 → Rose (O.faults out.old) (O.faults out.new) }
-    ensures complete { Completes (form words.now) (record { files = I.files inputs.old; input_faults = I.faults inputs.old; output = O.bytes out.old; output_faults = O.faults out.old; errors = E.bytes err.old; error_faults = E.faults err.old }) (record { files = I.files inputs.new; input_faults = I.faults inputs.new; output = O.bytes out.new; output_faults = O.faults out.new; errors = E.bytes err.new; error_faults = E.faults err.new }) result }
+    ensures complete { Completes (form words.now) (I.files inputs.old) (Rose (I.faults inputs.old) (I.faults inputs.new)) (Rose (O.faults out.old) (O.faults out.new)) result }
     ensures work { IsWorkOf (form words.now) (I.files inputs.old) steps.old steps.new result }
+    ensures answer { IsAnswer (form words.now)
+        (record {
+          files = I.files inputs.old;
+          input_faults = I.faults inputs.old;
+          output = O.bytes out.old;
+          output_faults = O.faults out.old;
+          errors = E.bytes err.old;
+          error_faults = E.faults err.old;
+        })
+        (record {
+          files = I.files inputs.new;
+          input_faults = I.faults inputs.new;
+          output = O.bytes out.new;
+          output_faults = O.faults out.new;
+          errors = E.bytes err.new;
+          error_faults = E.faults err.new;
+        })
+        result }
 {
     answer(alloc, words, inputs, out, err, steps)
 }
