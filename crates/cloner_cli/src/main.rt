@@ -1,7 +1,8 @@
 //! The program `cloner`.
 #![tactic(auto)]
 
-ghost use Rattle.std.specs.Prelude.{◌≡◌, ◌<◌};
+ghost use Rattle.std.specs.Prelude.{◌≡◌, ◌↔◌, ◌<◌, None};
+ghost use Rattle.cloner_top.specs.Requests.{form};
 
 use cloner_top::{Refusal, cloner};
 use crew_pool::NoGate;
@@ -30,6 +31,7 @@ fn words<R: Env + AllocGlobal>(rt: &R) -> Result<Vec<Word>, NoMemory> {
     Ok(words)
 }
 
+// Runs the program over the real files and streams.
 fn run<L: Ledger, R: Files + Print + Eprint>(
     rt: &R,
     alloc: Global,
@@ -39,6 +41,7 @@ fn run<L: Ledger, R: Files + Print + Eprint>(
     requires name { blank.name ≡ L.name }
     requires parts { blank.parts ≡ L.parts }
     requires some { 0 < L.parts }
+    ensures usage { (result ≡ 2) ↔ (form words.now ≡ None) }
 {
     let mut steps = Steps::<L>::new(blank);
     let mut inputs = FileInputs::new(rt);
