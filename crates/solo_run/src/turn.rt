@@ -75,6 +75,7 @@ fn take_turn<L: Ledger>(
     trace: &mut Vec<Entry>,
     model: &Model,
     msg: &Msg,
+    out: &mut ArrayVec<Msg, 16>,
     steps: &mut Steps<L>,
 ) -> Result<(), SoloFault>
     requires solo { IsSolo model.now (record { states = states.old.items; pending = (msg.now, tt) ∷ pending.old; trace = trace.old.items }) }
@@ -85,8 +86,8 @@ fn take_turn<L: Ledger>(
     ensures longer { OnOk result (length trace.new.items ≡ length trace.old.items + 1) }
     ensures full { IfErr result (λ e. StopsAt model.now (msg.now.to - 1) states.old.items steps.old steps.new e) }
 {
-    let mut out = ArrayVec::new();
-    let line = handle_at(states, model, msg, &mut out, steps)?;
+    out.clear();
+    let line = handle_at(states, model, msg, out, steps)?;
     let Ok(()) = put_all(pending, out.as_slice()) else {
         return Err(SoloFault::NoMemory);
     };
@@ -126,8 +127,10 @@ pub(crate) fn advance<L: Ledger>(
     ensures steps { OnOk result (steps.new + length trace.old.items ≡ steps.old + length trace.new.items) }
     ensures stops { IfErr result (λ e. Stops model.now (record { states = states.old.items; pending = pending.old; trace = trace.old.items }) front steps.old steps.new e) }
 {
+    // One buffer for what each turn sends.
+    let mut out = ArrayVec::new();
     while let Some(msg) = due(pending, front) {
-        match take_turn(states, pending, trace, model, &msg, steps) {
+        match take_turn(states, pending, trace, model, &msg, &mut out, steps) {
             Ok(()) => {}
             Err(fault) => return Err(fault),
         }
