@@ -175,6 +175,7 @@ module _ (net : Net) (valid : IsNet net) (states new : List StationState) (pendi
       let longer = length-append trace (e ∷ []) in
       let total = solo.total in
       record {
+        valid = valid;
         count = ap (λ t. length t) h.changed ∙ (length-set states (m.to - 1) h.after ∙ solo.count);
         states = standing_is;
         sorted = subst (Sorted msg_cmp) (sym is) (sorted_insert_all order sends (messages_of pending) solo.sorted.1);

@@ -90,6 +90,7 @@ module _ (net : Net) (valid : IsNet net) (list : List Planned) (states : List St
       let none = sum_most (λ st. st.handled) 0 states (λ i st at. let h = ap (λ d. d.handled) (opened.each i st at).is in omega (arith, h)) in
       let limit = valid.limit in
       record {
+        valid = valid;
         count = opened.count;
         states = λ i st at.
             let o = opened.each i st at in

@@ -9,6 +9,7 @@ use Rattle.run_laws.specs.Queue.{Sorted}
 use Rattle.run_laws.specs.Machine.{Config}
 use Rattle.run_laws.specs.World.{World, log_of}
 use Rattle.net_model.specs.Net.{Net}
+use Rattle.net_model.specs.Rules.{IsNet}
 use Rattle.stations.specs.Fits.{FitsState, SuitsNet}
 use Rattle.stations.specs.Handling.{StationState}
 use Rattle.stations.specs.Opening.{setup}
@@ -42,8 +43,9 @@ pub record IsStanding (net : Net) (trace : List (Entry Msg Line)) (i : ℕ) (st 
 abbrev pub IsForStation : Net → Msg → Type 0
 IsForStation net m = (1 ≤ m.to) × (m.to ≤ length net.sites)
 
--- a run of this network, in which no log is beyond the limit
+-- a run of a model's network, in which no log is beyond the limit
 pub record IsSolo (net : Net) (v : Standing) : Type 0 where
+  pub valid : IsNet net
   pub count : length v.states ≡ length net.sites
   pub states : (i : ℕ) (st : StationState) → slice_get v.states i ≡ Some st → IsStanding net v.trace i st
   pub sorted : Sorted msg_cmp (messages_of v.pending)

@@ -2,6 +2,7 @@
 ghost use Rattle.std.specs.Prelude.{◌≡◌, ◌+◌, ◌<◌, length, IfOk, OnOk};
 ghost use Rattle.sim_base.specs.Order.{msg_cmp};
 ghost use Rattle.net_model.specs.Net.{Net};
+ghost use Rattle.net_model.specs.Rules.{IsNet};
 ghost use Rattle.run_laws.specs.Queue.{insert_all};
 ghost use Rattle.run_laws.specs.World.{openings, planned};
 ghost use Rattle.stations.specs.Runs.{simulation};
@@ -29,6 +30,7 @@ pub(crate) fn open_all(
     model: &Model,
     pending: &mut Pending<()>,
 ) -> Result<Vec<State>, NoMemory>
+    ensures valid { IsNet model.now }
     ensures opened { IfOk result (λ states. AreOpenings model.now (length model.now.sites) states.items) }
     ensures first { OnOk result (messages_of pending.new ≡ insert_all msg_cmp (openings (simulation model.now) (length model.now.sites)) (messages_of pending.old)) }
 {

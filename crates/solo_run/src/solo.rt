@@ -44,7 +44,6 @@ impl Solo {
         let mut pending = Pending::new(alloc);
         let states = open_all(alloc, model, &mut pending)?;
         plan_all(&mut pending, list)?;
-        let _stations = model.len();
         Ok(Solo {
             states,
             pending,
@@ -74,7 +73,6 @@ impl Solo {
             mut pending,
             mut trace,
         } = self;
-        let _stations = model.len();
         match advance(&mut states, &mut pending, &mut trace, model, front, steps) {
             Ok(()) => Ok(Solo {
                 states,

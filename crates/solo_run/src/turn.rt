@@ -2,7 +2,6 @@
 ghost use Rattle.std.specs.Prelude.{◌≡◌, ◌+◌, ◌-◌, ◌≤◌, ◌<◌, ◌^◌, ◌∷◌, ℕ, length, IfErr, IfOk, IfNone, IfSome, OnOk, slice_get, Some};
 ghost use Rattle.arrayvec.specs.ArrayVec.{array_vec_len};
 ghost use Rattle.sim_base.specs.Order.{msg_cmp};
-ghost use Rattle.net_model.specs.Rules.{IsNet};
 ghost use Rattle.run_laws.specs.Queue.{insert_all};
 ghost use Rattle.stations.specs.Fits.{SuitsNet};
 ghost use Rattle.stations.specs.Handling.{StationState};
@@ -80,7 +79,6 @@ fn take_turn<L: Ledger>(
 ) -> Result<(), SoloFault>
     requires solo { IsSolo model.now (record { states = states.old.items; pending = (msg.now, tt) ∷ pending.old; trace = trace.old.items }) }
     requires early { msg.now.key.time < 2 ^ 31 }
-    requires valid { IsNet model.now }
     ensures turned { OnOk result (Turned model.now (record { states = states.old.items; pending = (msg.now, tt) ∷ pending.old; trace = trace.old.items }) msg.now (messages_of pending.old) (record { states = states.new.items; pending = pending.new; trace = trace.new.items })) }
     ensures counted { OnOk result (steps.new ≡ steps.old + 1) }
     ensures longer { OnOk result (length trace.new.items ≡ length trace.old.items + 1) }
@@ -121,7 +119,6 @@ pub(crate) fn advance<L: Ledger>(
 ) -> Result<(), SoloFault>
     requires solo { IsSolo model.now (record { states = states.old.items; pending = pending.old; trace = trace.old.items }) }
     requires early { front ≤ model.now.horizon }
-    requires valid { IsNet model.now }
     ensures ok { OnOk result (config_of model.now (record { states = states.new.items; pending = pending.new; trace = trace.new.items }) ≡ run_from model.now (record { states = states.old.items; pending = pending.old; trace = trace.old.items }) front) }
     ensures solo { OnOk result (IsSolo model.now (record { states = states.new.items; pending = pending.new; trace = trace.new.items })) }
     ensures steps { OnOk result (steps.new + length trace.old.items ≡ steps.old + length trace.new.items) }

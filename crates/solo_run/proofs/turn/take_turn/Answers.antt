@@ -10,4 +10,4 @@ handle_at-requires-clause-numbers g c i st is = (c.requires.solo.states i st is)
 pub returns-in-Ok-push-clause-turned : goal.returns-in-Ok-push-clause-turned
 returns-in-Ok-push-clause-turned g c =
     rw c.in-Ok-push.ensures.items
-    (turned c.args.model.now c.requires.valid c.args.states.now.items c.handle_at.new.states.items c.args.pending.now c.put_all.new.pending c.args.trace.now.items c.args.msg.now _ _ c.requires.early c.requires.solo c.in_ok-line.ensures.ok (rw c.as_slice.ensures.value at c.in-Ok.ensures))
+    (turned c.args.model.now c.requires.solo.valid c.args.states.now.items c.handle_at.new.states.items c.args.pending.now c.put_all.new.pending c.args.trace.now.items c.args.msg.now _ _ c.requires.early c.requires.solo c.in_ok-line.ensures.ok (rw c.as_slice.ensures.value at c.in-Ok.ensures))

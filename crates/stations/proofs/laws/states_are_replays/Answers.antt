@@ -3,7 +3,7 @@ use Rattle.stations.proofs.GoodLaws.{lawful-stations}
 use Rattle.stations.proofs.laws.states_are_replays.Goals as goal
 
 pub returns-clause-replay : goal.returns-clause-replay
-returns-clause-replay c = state_is_replay (lawful-stations c.args.model.now c.len-stations.ensures.valid)
+returns-clause-replay c net valid = state_is_replay (lawful-stations net valid)
 
 pub returns-clause-equal : goal.returns-clause-equal
-returns-clause-equal c = equal_logs_equal_states (lawful-stations c.args.model.now c.len-stations.ensures.valid)
+returns-clause-equal c net valid = equal_logs_equal_states (lawful-stations net valid)

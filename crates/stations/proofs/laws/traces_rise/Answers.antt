@@ -3,6 +3,4 @@ use Rattle.stations.proofs.GoodLaws.{lawful-stations, stations-to_stations, fres
 use Rattle.stations.proofs.laws.traces_rise.Goals as goal
 
 pub returns : goal.returns
-returns c =
-    let valid = c.len-stations.ensures.valid in
-    trace_rises (lawful-stations c.args.model.now valid) (stations-to_stations c.args.model.now valid) (fresh-stations c.args.model.now valid)
+returns c net valid = trace_rises (lawful-stations net valid) (stations-to_stations net valid) (fresh-stations net valid)
