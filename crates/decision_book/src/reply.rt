@@ -13,9 +13,9 @@ use stations::change::{ChangeFault, accepts};
 
 /// How many calls a book keeps.
 pub const MOST_CALLS: usize = 4_096;
-/// How many clones there may be, and how many decisions in the list of each.
+/// How many clones there may be.
 pub const MOST_CLONES: u32 = 256;
-
+/// How many decisions the list of a clone may hold.
 pub const MOST_PLANS: u32 = 256;
 
 fn subject_of(d: &Decision) -> Name
