@@ -2,9 +2,9 @@
 use Rattle.std.proofs.Common.{◌≡◌, ℕ, ◌+◌, ◌-◌, ◌≤◌, List, [], ◌∷◌, ◌++◌, length, map, take, drop, fold, refl, sym, ap, ◌∙◌, subst, arith, append_assoc, append-nil, length-drop}
 use Rattle.std.proofs.lemmas.List.{drop_all, take_all, take-append-le, drop-append-le, take-append-drop, map_push}
 use Rattle.decision_book.specs.declared.call.Call.{Call}
-use Rattle.decision_book.specs.Journal.{Event, raised, asked, calls_of, fronts_of, Situation, after_event, answered}
+use Rattle.decision_book.specs.Journal.{Event, raised, asked, calls_of, fronts_of, Situation, after_event, clones_after_reply}
 use Rattle.decision_book.specs.Right.{EachAfter}
-use Rattle.decision_book.specs.Keeping.{journal_from, AreStamped}
+use Rattle.decision_book.specs.Books.{journal_from, AreStamped}
 
 -- what holds of each event with those before it holds with one more
 pub each_push : (P : List Event → Event → Type 0) (before es : List Event) (e : Event) → EachAfter P before es → P (before ++ es) e → EachAfter P before (es ++ e ∷ [])
@@ -77,6 +77,6 @@ pub stands_by : (s : Situation) (es : List Event) → fold after_event s es ≡ 
 stands_by s [] = let none : s.calls ≡ s.calls + 0 = omega arith in ap (λ n. record s { calls = n }) none
 stands_by s (raised f ∷ es) = stands_by (record s { front = f }) es
 stands_by s (asked c ∷ es) =
-    let t : Situation = record s { clones = answered s.net s.clones c.decision c.reply; calls = s.calls + 1 } in
+    let t : Situation = record s { clones = clones_after_reply s.net s.clones c.decision c.reply; calls = s.calls + 1 } in
     let one : s.calls + 1 + length (calls_of es) ≡ s.calls + length (calls_of (asked c ∷ es)) = omega arith in
     stands_by t es ∙ ap (λ n. record { net = s.net; clones = (fold after_event t es).clones; front = fold (λ last n. n) s.front (fronts_of es); calls = n }) one

@@ -2,6 +2,6 @@ pub mod Planned
 pub mod Growing
 pub mod Booking
 pub mod Scripts
-pub mod Looking
+pub mod ClonesByName
 pub mod AloneLaw
 pub mod OwnScripts

@@ -4,7 +4,7 @@ use Rattle.net_model.specs.Net.{Net}
 use Rattle.decision_script.specs.Alone.{decisions}
 use Rattle.decision_script.proofs.OwnDecisions.{decisions_of_alone}
 use Rattle.decision_book.specs.Laws.{OwnScriptSuffices, clone_named}
-use Rattle.decision_book.specs.Scripted.{first_refused, lists_of}
+use Rattle.decision_book.specs.Scripts.{first_refusal, lists_of}
 use Rattle.decision_book.proofs.AloneLaw.{alone_suffices}
 
 pub own_script_suffices : (net : Net) → OwnScriptSuffices net
@@ -12,6 +12,6 @@ own_script_suffices net who s ok =
     let own = alone_suffices net who (decisions s.items) ok in
     let same = decisions_of_alone s who in
     record {
-      accepted = ap (first_refused net) same ∙ own.accepted;
+      accepted = ap (first_refusal net) same ∙ own.accepted;
       same = ap (λ ds. clone_named who (lists_of net ds)) same ∙ own.same;
     }

@@ -4,7 +4,8 @@ use Rattle.std.specs.List.{AllByRecursion}
 use Rattle.std.proofs.lemmas.List.{length_push}
 use Rattle.sim_base.specs.declared.decision.Planned.{Planned}
 use Rattle.sim_base.specs.Clones.{Clone, clone_at, forked, added, ended}
-use Rattle.sim_base.proofs.Room.{all_push}
+use Rattle.sim_base.specs.declared.lists.TheConstants.{MOST_CLONES, MOST_DECISIONS}
+use Rattle.sim_base.proofs.ListLaws.{all_push, all_set}
 use Rattle.std.specs.Str.{bytes_eq}
 use Rattle.sim_base.specs.declared.message.Change.{Change}
 use Rattle.net_model.specs.Net.{Net, number_of, site_of}
@@ -18,15 +19,7 @@ planned_at net [] c h = record { plans = tt; short = omega arith; end = tt }
 planned_at net (k ∷ ks) zero h = h.0
 planned_at net (k ∷ ks) (suc c) h = planned_at net ks c h.1
 
-planned_set : (net : Net) (clones : List Clone) (c : ℕ) (k : Clone) → AllByRecursion (IsPlanned net) clones → IsPlanned net k → AllByRecursion (IsPlanned net) (slice_set clones c k)
-planned_set net [] c k h s = tt
-planned_set net (x ∷ xs) zero k h s = (s, h.1)
-planned_set net (x ∷ xs) (suc c) k h s = (h.0, planned_set net xs c k h.1 s)
-
-pub short_at : (net : Net) (clones : List Clone) (c : ℕ) → ArePlanned net clones → length (clone_at clones c).plans ≤ 256
-short_at net clones c h = (planned_at net clones c h.each).short
-
-pub planned_forked : (net : Net) (clones : List Clone) (new : List ℕ) (old : ℕ) → ArePlanned net clones → length clones < 256 → ArePlanned net (forked clones new old)
+pub planned_forked : (net : Net) (clones : List Clone) (new : List ℕ) (old : ℕ) → ArePlanned net clones → length clones < MOST_CLONES → ArePlanned net (forked clones new old)
 planned_forked net clones new old h few =
     let from = planned_at net clones old h.each in
     let fork : Clone = record { name = new; plans = (clone_at clones old).plans; end = None } in
@@ -36,14 +29,14 @@ planned_forked net clones new old h few =
     }
 
 replaced : (net : Net) (clones : List Clone) (c : ℕ) (k : Clone) → ArePlanned net clones → IsPlanned net k → ArePlanned net (slice_set clones c k)
-replaced net clones c k h p = record { few = rw length-set h.few; each = planned_set net clones c k h.each p }
+replaced net clones c k h p = record { few = rw length-set h.few; each = all_set (IsPlanned net) clones c k h.each p }
 
 pub planned_ended : (net : Net) (clones : List Clone) (c at : ℕ) → ArePlanned net clones → at < net.horizon → ArePlanned net (ended clones c at)
 planned_ended net clones c at h early =
     let from = planned_at net clones c h.each in
     replaced net clones c (record (clone_at clones c) { end = Some at }) h (record { plans = from.plans; short = from.short; end = early })
 
-pub planned_added : (net : Net) (clones : List Clone) (c : ℕ) (plan : Planned) → ArePlanned net clones → length (clone_at clones c).plans < 256 → IsPlan net plan → ArePlanned net (added clones c plan)
+pub planned_added : (net : Net) (clones : List Clone) (c : ℕ) (plan : Planned) → ArePlanned net clones → length (clone_at clones c).plans < MOST_DECISIONS → IsPlan net plan → ArePlanned net (added clones c plan)
 planned_added net clones c plan h s p =
     let from = planned_at net clones c h.each in
     replaced net clones c (record (clone_at clones c) { plans = (clone_at clones c).plans ++ plan ∷ [] }) h

@@ -39,32 +39,32 @@ abbrev pub opening : Net → Situation
 opening net = record { net = net; clones = base ∷ []; front = 0; calls = 0 }
 
 -- the place of the clone of a name (0 where there is none)
-abbrev pub clone_of : List ℕ → List Clone → ℕ
-clone_of name clones = unwrap_or (place_of name clones) 0
+abbrev pub clone_place : List ℕ → List Clone → ℕ
+clone_place name clones = unwrap_or (place_of name clones) 0
 
 -- what a set adds to a decision list
-abbrev pub planned : Net → ℕ → List ℕ → Change → Planned
-planned net at station change = record { at = at; station = unwrap_or (number_of station net) 0; change = change }
+abbrev pub plan_of_set : Net → ℕ → List ℕ → Change → Planned
+plan_of_set net at station change = record { at = at; station = unwrap_or (number_of station net) 0; change = change }
 
 -- what an accepted decision makes of the clones
-abbrev pub decided : Net → List Clone → Decision → List Clone
-decided net clones (Fork new old) = forked clones new (clone_of old clones)
-decided net clones (Set who at station change) = added clones (clone_of who clones) (planned net at station change)
-decided net clones (End who at) = ended clones (clone_of who clones) at
+abbrev pub clones_after : Net → List Clone → Decision → List Clone
+clones_after net clones (Fork new old) = forked clones new (clone_place old clones)
+clones_after net clones (Set who at station change) = added clones (clone_place who clones) (plan_of_set net at station change)
+clones_after net clones (End who at) = ended clones (clone_place who clones) at
 
 -- the new clones where a decision is accepted: a refusal leaves them as they are
-abbrev pub chosen : Reply → List Clone → List Clone → List Clone
-chosen Accepted new old = new
-chosen refusal new old = old
+abbrev pub if_accepted : Reply → List Clone → List Clone → List Clone
+if_accepted Accepted new old = new
+if_accepted refusal new old = old
 
 -- the clones after a decision had this reply
-abbrev pub answered : Net → List Clone → Decision → Reply → List Clone
-answered net clones d reply = chosen reply (decided net clones d) clones
+abbrev pub clones_after_reply : Net → List Clone → Decision → Reply → List Clone
+clones_after_reply net clones d reply = if_accepted reply (clones_after net clones d) clones
 
 -- how things stand after one event more
 abbrev pub after_event : Situation → Event → Situation
 after_event s (raised f) = record s { front = f }
-after_event s (asked call) = record s { clones = answered s.net s.clones call.decision call.reply; calls = s.calls + 1 }
+after_event s (asked call) = record s { clones = clones_after_reply s.net s.clones call.decision call.reply; calls = s.calls + 1 }
 
 -- how things stand after a journal
 abbrev pub after : Net → List Event → Situation

@@ -8,12 +8,12 @@ use Rattle.sim_base.specs.Clones.{Clone, clone_at}
 use Rattle.net_model.specs.Net.{Net}
 use Rattle.decision_book.specs.declared.call.Reply.TheVariants.{Accepted}
 use Rattle.decision_script.specs.Alone.{alone, alone_of, decisions}
-use Rattle.decision_script.specs.Stating.{Stated}
-use Rattle.decision_book.specs.Journal.{Event, opening, decided, after, calls_of, fronts_of}
+use Rattle.decision_script.specs.Stating.{ScriptView}
+use Rattle.decision_book.specs.Journal.{Event, opening, clones_after, after, calls_of, fronts_of}
 use Rattle.decision_book.specs.Plans.{ArePlanned}
 use Rattle.decision_book.specs.Replies.{reply}
-use Rattle.decision_book.specs.Right.{recorded, IsRight}
-use Rattle.decision_book.specs.Scripted.{Question, scripted, next, after_all, lists_of, first_refused, first_refused_from}
+use Rattle.decision_book.specs.Right.{journal_with, IsRight}
+use Rattle.decision_book.specs.Scripts.{Question, journal_of_script, next, after_all, lists_of, first_refusal, first_refusal_from}
 
 -- the last of these numbers, or 0
 abbrev pub last_of : List ℕ → ℕ
@@ -28,33 +28,33 @@ abbrev pub PlansAreForStations : Net → Type 0
 PlansAreForStations net = (clones : List Clone) (c : ℕ) → ArePlanned net clones → AllByRecursion (λ p. (0 < p.station) × (p.station ≤ length net.sites)) (clone_at clones c).plans
 
 -- a decision that is asked takes things to where they stand next, whoever asks
-abbrev pub RecordedIsNext : Net → Type 0
-RecordedIsNext net = (events : List Event) (caller : ℕ) (d : Decision) → after net (recorded net events caller d) ≡ next (after net events) d
+abbrev pub AskingIsNext : Net → Type 0
+AskingIsNext net = (events : List Event) (caller : ℕ) (d : Decision) → after net (journal_with net events caller d) ≡ next (after net events) d
 
 -- after the journal of a script, things stand where its decisions lead
-abbrev pub ScriptedStands : Net → Type 0
-ScriptedStands net = (questions : List Question) → after net (scripted net questions) ≡ after_all (opening net) (map (λ q. q.decision) questions)
+abbrev pub ScriptStands : Net → Type 0
+ScriptStands net = (questions : List Question) → after net (journal_of_script net questions) ≡ after_all (opening net) (map (λ q. q.decision) questions)
 
 -- the journal of a script is right
-abbrev pub ScriptedIsRight : Net → Type 0
-ScriptedIsRight net = (questions : List Question) → IsRight net (scripted net questions)
+abbrev pub ScriptIsRight : Net → Type 0
+ScriptIsRight net = (questions : List Question) → IsRight net (journal_of_script net questions)
 
 -- a decision more that is accepted does to the lists what it says
 abbrev pub AcceptedAdds : Net → Type 0
-AcceptedAdds net = (ds : List Decision) (d : Decision) → reply (after_all (opening net) ds) d ≡ Accepted → lists_of net (ds ++ d ∷ []) ≡ decided net (lists_of net ds) d
+AcceptedAdds net = (ds : List Decision) (d : Decision) → reply (after_all (opening net) ds) d ≡ Accepted → lists_of net (ds ++ d ∷ []) ≡ clones_after net (lists_of net ds) d
 
 -- the first refusal among more decisions is the first among those before, if there is one, and else the first among the others
 abbrev pub RefusedFirst : Net → Type 0
-RefusedFirst net = (ds more : List Decision) → first_refused net (ds ++ more) ≡ option_or (first_refused net ds) (first_refused_from (after_all (opening net) ds) (length ds) more)
+RefusedFirst net = (ds more : List Decision) → first_refusal net (ds ++ more) ≡ option_or (first_refusal net ds) (first_refusal_from (after_all (opening net) ds) (length ds) more)
 
 -- so a decision more that is accepted leaves no refusal, where there was none
 abbrev pub AcceptedGoesOn : Net → Type 0
-AcceptedGoesOn net = (ds : List Decision) (d : Decision) → first_refused net ds ≡ None → reply (after_all (opening net) ds) d ≡ Accepted → first_refused net (ds ++ d ∷ []) ≡ None
+AcceptedGoesOn net = (ds : List Decision) (d : Decision) → first_refusal net ds ≡ None → reply (after_all (opening net) ds) d ≡ Accepted → first_refusal net (ds ++ d ∷ []) ≡ None
 
 -- and one that is refused is the first, whatever comes after it
 abbrev pub RefusedIsFirst : Net → Type 0
-RefusedIsFirst net = (ds : List Decision) (d : Decision) (more : List Decision) → first_refused net ds ≡ None → reply (after_all (opening net) ds) d ≢ Accepted
-    → first_refused net (ds ++ d ∷ more) ≡ Some (length ds, reply (after_all (opening net) ds) d)
+RefusedIsFirst net = (ds : List Decision) (d : Decision) (more : List Decision) → first_refusal net ds ≡ None → reply (after_all (opening net) ds) d ≢ Accepted
+    → first_refusal net (ds ++ d ∷ more) ≡ Some (length ds, reply (after_all (opening net) ds) d)
 
 -- the clone of a name
 abbrev pub clone_named : List ℕ → List Clone → Option Clone
@@ -62,18 +62,18 @@ clone_named name clones = find (λ c. bytes_eq c.name name) clones
 
 -- the decisions that reach a clone are all accepted, and give it the same list and the same end
 pub record IsAlone (net : Net) (who : List ℕ) (ds : List Decision) : Type 0 where
-  pub accepted : first_refused net (alone who ds) ≡ None
+  pub accepted : first_refusal net (alone who ds) ≡ None
   pub same : clone_named who (lists_of net (alone who ds)) ≡ clone_named who (lists_of net ds)
 
 -- where all decisions of a script are accepted
 abbrev pub AloneSuffices : Net → Type 0
-AloneSuffices net = (who : List ℕ) (ds : List Decision) → first_refused net ds ≡ None → IsAlone net who ds
+AloneSuffices net = (who : List ℕ) (ds : List Decision) → first_refusal net ds ≡ None → IsAlone net who ds
 
 -- the decisions of a clone's own script are all accepted, and give it the same list and the same end
-pub record IsOwnScript (net : Net) (who : List ℕ) (s : Stated) : Type 0 where
-  pub accepted : first_refused net (decisions (alone_of s who).items) ≡ None
+pub record IsOwnScript (net : Net) (who : List ℕ) (s : ScriptView) : Type 0 where
+  pub accepted : first_refusal net (decisions (alone_of s who).items) ≡ None
   pub same : clone_named who (lists_of net (decisions (alone_of s who).items)) ≡ clone_named who (lists_of net (decisions s.items))
 
 -- the same for scripts
 abbrev pub OwnScriptSuffices : Net → Type 0
-OwnScriptSuffices net = (who : List ℕ) (s : Stated) → first_refused net (decisions s.items) ≡ None → IsOwnScript net who s
+OwnScriptSuffices net = (who : List ℕ) (s : ScriptView) → first_refusal net (decisions s.items) ≡ None → IsOwnScript net who s

@@ -3,7 +3,7 @@ pub mod Journal
 pub mod Replies
 pub mod Right
 pub mod Plans
-pub mod Keeping
-pub mod Scripted
+pub mod Books
+pub mod Scripts
 pub mod Laws
 pub mod Examples

@@ -2,6 +2,7 @@
 use Rattle.std.specs.Prelude.{◌≡◌, ◌<◌, ◌≤◌, List, length, true, IfSome}
 use Rattle.std.specs.List.{AllByRecursion}
 use Rattle.sim_base.specs.declared.decision.Planned.{Planned}
+use Rattle.sim_base.specs.declared.lists.TheConstants.{MOST_CLONES, MOST_DECISIONS}
 use Rattle.sim_base.specs.Clones.{Clone}
 use Rattle.net_model.specs.Net.{Net, site_of}
 use Rattle.stations.specs.Changes.{is_accepted}
@@ -13,13 +14,13 @@ pub record IsPlan (net : Net) (plan : Planned) : Type 0 where
   pub last : plan.station ≤ length net.sites
   pub taken : is_accepted (site_of net plan.station) plan.change ≡ true
 
--- a clone with at most 256 such decisions, and with an end before the horizon if it has one
+-- a clone with such decisions, of which there are not too many, and with an end before the horizon if it has one
 pub record IsPlanned (net : Net) (clone : Clone) : Type 0 where
   pub plans : AllByRecursion (IsPlan net) clone.plans
-  pub short : length clone.plans ≤ 256
+  pub short : length clone.plans ≤ MOST_DECISIONS
   pub end : IfSome clone.end (λ at. at < net.horizon)
 
--- at most 256 such clones
+-- such clones, of which there are not too many
 pub record ArePlanned (net : Net) (clones : List Clone) : Type 0 where
-  pub few : length clones ≤ 256
+  pub few : length clones ≤ MOST_CLONES
   pub each : AllByRecursion (IsPlanned net) clones

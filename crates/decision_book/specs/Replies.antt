@@ -3,6 +3,7 @@ use Rattle.std.specs.Prelude.{ℕ, ◌==◌, Bool, true, false, nat_lt, nat_le, 
 use Rattle.sim_base.specs.declared.decision.Decision.{Decision}
 use Rattle.sim_base.specs.declared.decision.Decision.TheVariants.{Fork, Set, End}
 use Rattle.sim_base.specs.declared.message.Change.{Change}
+use Rattle.sim_base.specs.declared.lists.TheConstants.{MOST_CLONES, MOST_DECISIONS}
 use Rattle.sim_base.specs.Clones.{Clone, clone_at, place_of}
 use Rattle.net_model.specs.Net.{Net, number_of, site_of}
 use Rattle.stations.specs.declared.change.ChangeFault.{ChangeFault}
@@ -10,7 +11,8 @@ use Rattle.stations.specs.declared.change.ChangeFault.TheVariants as refused
 use Rattle.stations.specs.Changes.{accepts}
 use Rattle.decision_book.specs.declared.call.Reply.{Reply}
 use Rattle.decision_book.specs.declared.call.Reply.TheVariants.{Accepted, Full, Closed, UnknownClone, Ended, NameTaken, TooManyClones, UnknownStation, WrongParameter, OutOfRange, ListFull, PastHorizon, Late}
-use Rattle.decision_script.specs.Alone.{subject}
+use Rattle.sim_base.specs.Decisions.{subject}
+use Rattle.decision_book.specs.declared.call.TheConstants.{MOST_CALLS}
 use Rattle.decision_book.specs.Journal.{Situation}
 
 -- a row: the refusal, where its condition holds
@@ -27,7 +29,7 @@ first_row (None ∷ more) = first_row more
 -- the rows of a fork
 abbrev pub fork_rows : List Clone → List ℕ → List (Option Reply)
 fork_rows clones new = row (is_some (place_of new clones)) NameTaken
-    ∷ row (nat_le 256 (length clones)) TooManyClones
+    ∷ row (nat_le MOST_CLONES (length clones)) TooManyClones
     ∷ []
 
 -- the rows of the time of a set or an end
@@ -51,7 +53,7 @@ change_row net (Some s) change = fault_row (accepts (site_of net s) change)
 abbrev pub set_rows : Net → List Clone → ℕ → ℕ → ℕ → List ℕ → Change → List (Option Reply)
 set_rows net clones front clone at station change = row (is_none (number_of station net)) UnknownStation
     ∷ change_row net (number_of station net) change
-    ∷ row (nat_le 256 (length (clone_at clones clone).plans)) ListFull
+    ∷ row (nat_le MOST_DECISIONS (length (clone_at clones clone).plans)) ListFull
     ∷ time_rows net front at
 
 -- the rows of a decision on the clone at this place
@@ -67,6 +69,6 @@ clone_rows s d (Some clone) = option_map (λ at. Ended at) (clone_at s.clones cl
 
 -- the reply: the first row of the whole table, in its order
 abbrev pub reply : Situation → Decision → Reply
-reply s d = first_row (row (nat_le 4096 s.calls) Full
+reply s d = first_row (row (nat_le MOST_CALLS s.calls) Full
     ∷ row (s.front == s.net.horizon) Closed
     ∷ clone_rows s d (place_of (subject d) s.clones))

@@ -8,16 +8,16 @@ use Rattle.decision_book.specs.Journal.{Event, raised, asked, fronts_of, after, 
 use Rattle.decision_book.specs.Replies.{reply}
 
 -- what a journal becomes when a decision is asked: its reply is the one of the table
-abbrev pub recorded : Net → List Event → ℕ → Decision → List Event
-recorded net events caller d = with_reply events caller d (reply (after net events) d)
+abbrev pub journal_with : Net → List Event → ℕ → Decision → List Event
+journal_with net events caller d = with_reply events caller d (reply (after net events) d)
 
 -- a call that says how many fronts stood before it, and has the reply of the table, which is not Full
 pub record IsAnswered (net : Net) (before : List Event) (call : Call) : Type 0 where
   pub fronts : call.fronts ≡ length (fronts_of before)
   pub answer : call.reply ≡ reply (after net before) call.decision
-  pub kept : call.reply ≢ Full
+  pub not_full : call.reply ≢ Full
 
--- an event that may follow these: a higher front, at most the horizon, or a call that is answered
+-- an event that may follow these: a higher front, at most the horizon, or a call with the right reply
 abbrev pub MayFollow : Net → List Event → Event → Type 0
 MayFollow net before (raised f) = ((after net before).front < f) × (f ≤ net.horizon)
 MayFollow net before (asked call) = IsAnswered net before call

@@ -2,10 +2,10 @@
 ghost use Rattle.std.specs.Prelude.{◌≡◌};
 ghost use Rattle.decision_book.specs.Journal.{is_full};
 
-use crate::call::{Call, Reply};
-use crate::reply::{MOST_CALLS, MOST_CLONES, MOST_PLANS, decide_by_table};
+use crate::call::{Call, MOST_CALLS, Reply};
+use crate::reply::decide_by_table;
 use net_model::Model;
-use sim_base::{Decision, Lists, NoMemory, Roomy};
+use sim_base::{Decision, Lists, MOST_CLONES, MOST_DECISIONS, NoMemory, Reserved};
 use std::alloc::Global;
 use std::sync::Arc;
 
@@ -14,15 +14,15 @@ use std::sync::Arc;
 pub struct Book {
     model: Arc<Model>,
     lists: Lists,
-    calls: Roomy<Call>,
-    fronts: Roomy<u64>,
+    calls: Reserved<Call>,
+    fronts: Reserved<u64>,
     front: u64,
 }
 
 impl std::marker::Model for Book {
-    ghost use Rattle.decision_book.specs.Keeping.{Booked, IsBook, journal_of};
+    ghost use Rattle.decision_book.specs.Books.{BookView, IsBook, journal_of};
 
-    ghost Value = { Booked };
+    ghost Value = { BookView };
 
     ghost view = { λ b. record { net = b.model.value; events = journal_of b.calls.items b.fronts.items } };
 
@@ -30,7 +30,7 @@ impl std::marker::Model for Book {
 }
 
 fn fills_up(reply: Reply) -> bool
-    ensures { result ≡ is_full reply }
+    ensures value { result ≡ is_full reply }
 {
     match reply {
         Reply::Full => true,
@@ -41,37 +41,40 @@ fn fills_up(reply: Reply) -> bool
 impl Book {
     ghost use Rattle.std.specs.Prelude.{◌≡◌, ◌≤◌, ◌<◌, ◌++◌, ◌∷◌, [], length, OnOk, OnErr, IfOk};
     ghost use Rattle.decision_book.specs.Journal.{after, calls_of, fronts_of, raised};
-    ghost use Rattle.decision_book.specs.Keeping.{journal_of};
+    ghost use Rattle.decision_book.specs.Books.{journal_of};
     ghost use Rattle.decision_book.specs.Replies.{reply};
-    ghost use Rattle.decision_book.specs.Right.{recorded, IsRight};
+    ghost use Rattle.decision_book.specs.Right.{journal_with, IsRight};
     ghost use Rattle.decision_book.specs.Plans.{ArePlanned};
-    ghost use Rattle.decision_book.specs.Scripted.{next};
+    ghost use Rattle.decision_book.specs.Scripts.{next};
 
     /// No calls and no fronts: the base clone alone, at front 0.
     ///
-    /// Takes the room of all calls, clones and decisions.
+    /// Reserves the memory of all calls, clones and decisions, so that `decide` takes none.
     pub fn begin(alloc: Global, model: Arc<Model>) -> Result<Book, NoMemory>
-        ensures { IfOk result (λ book. book ≡ record { net = model.value; events = [] }) }
+        ensures value { IfOk result (λ book. book ≡ record { net = model.value; events = [] }) }
     {
-        let lists = Lists::with_room(alloc, MOST_CLONES, MOST_PLANS)?;
-        let calls = Roomy::with_room(alloc, MOST_CALLS)?;
+        let lists = Lists::with_room(alloc, MOST_CLONES, MOST_DECISIONS)?;
+        let calls = Reserved::with_capacity(alloc, MOST_CALLS)?;
         let _horizon = model.horizon();
         Ok(Book {
             model,
             lists,
             calls,
-            fronts: Roomy::new(alloc),
+            fronts: Reserved::new(alloc),
             front: 0,
         })
     }
 
     /// The reply to a decision, which is in the journal from now on, unless it is Full. Takes no memory.
-    #[tactic(auto, using(crate::proofs::Scripts::recorded_is_next))]
+    #[tactic(auto, using(crate::proofs::Scripts::asking_is_next))]
     pub fn decide(&mut self, caller: u32, d: Decision) -> Reply
+        // the reply of the table
         ensures reply { result ≡ reply (after self.old.net self.old.events) d }
+        // the journal has the call, unless it was full
         ensures journal { self.new ≡ record self.old {
-          events = recorded self.old.net self.old.events caller d;
+          events = journal_with self.old.net self.old.events caller d;
         } }
+        // and the situation is the one that the decision leads to
         ensures next { after self.old.net self.new.events ≡ next (after self.old.net self.old.events) d }
     {
         let calls = self.calls.len();
@@ -90,7 +93,7 @@ impl Book {
         reply
     }
 
-    /// Raises the front.
+    /// Raises the front; out of memory leaves all unchanged.
     pub fn advance(&mut self, front: u64) -> Result<(), NoMemory>
         requires above { (after self.old.net self.old.events).front < front }
         requires within { front ≤ self.old.net.horizon }
@@ -105,7 +108,7 @@ impl Book {
 
     /// The model that the decisions are about.
     pub fn model(&self) -> &Model
-        ensures { result.now ≡ self.now.net }
+        ensures value { result.now ≡ self.now.net }
     {
         &self.model
     }
@@ -139,7 +142,7 @@ impl Book {
 
     /// The fronts, in order.
     pub fn fronts(&self) -> &[u64]
-        ensures { result.now ≡ fronts_of self.now.events }
+        ensures value { result.now ≡ fronts_of self.now.events }
     {
         self.fronts.as_slice()
     }

@@ -4,12 +4,15 @@ ghost use Rattle.decision_book.specs.Numbers.{reply_number};
 
 use sim_base::Decision;
 
-/// What a decision is answered: `Accepted`, or the first refusal whose condition holds, in this order.
+/// How many calls a journal holds.
+pub const MOST_CALLS: usize = 4_096;
+
+/// The reply to a decision: `Accepted`, or the first refusal whose condition holds, in this order.
 #[derive(Clone, Copy, Debug, PartialEq, Eq)]
 pub enum Reply {
     /// No refusal holds.
     Accepted,
-    /// The journal holds 4,096 calls. Such a call is not kept.
+    /// The journal holds [`MOST_CALLS`] calls. Such a call is left out of it.
     Full,
     /// The front is the horizon.
     Closed,
@@ -19,7 +22,7 @@ pub enum Reply {
     Ended { at: u64 },
     /// A fork's new name is that of a clone.
     NameTaken,
-    /// A fork, and there are 256 clones.
+    /// A fork, and there are as many clones as there may be, 256.
     TooManyClones,
     /// A set, and the station is not there.
     UnknownStation,
@@ -27,7 +30,7 @@ pub enum Reply {
     WrongParameter,
     /// A set, and a value is out of the parameter's range.
     OutOfRange,
-    /// A set, and the clone's list holds 256 decisions.
+    /// A set, and the clone's list holds as many decisions as it may, 256.
     ListFull,
     /// The time of a set or an end is the horizon or later.
     PastHorizon,
@@ -38,7 +41,7 @@ pub enum Reply {
 impl Reply {
     /// The number of the refusal, from 1 to 12, or 0 where there is none.
     pub fn number(&self) -> u32
-        ensures { result ≡ reply_number self.now }
+        ensures value { result ≡ reply_number self.now }
     {
         match self {
             Reply::Accepted => 0,

@@ -8,7 +8,7 @@ ghost use Rattle.decision_script.specs.Alone.{alone};
 ghost use Rattle.decision_book.specs.Examples.{during_a_run, clones_of_the_run, script, clones_of_the_script, script_of_b, refused_script};
 ghost use Rattle.decision_book.specs.Journal.{after};
 ghost use Rattle.decision_book.specs.Right.{IsRight};
-ghost use Rattle.decision_book.specs.Scripted.{lists_of, first_refused};
+ghost use Rattle.decision_book.specs.Scripts.{lists_of, first_refusal};
 ghost use Rattle.decision_book.specs.declared.call.Reply.TheVariants.{UnknownClone};
 
 /// At front 10 a set at 10 is accepted and a set at 9 is late, and at the horizon nothing is accepted.
@@ -19,7 +19,7 @@ pub fn decisions_during_a_run()
 
 /// A fork takes over a set that is not due yet, and the clones go separate ways from there.
 pub fn lists_of_a_script()
-    ensures accepted { first_refused one_desk script ≡ None }
+    ensures accepted { first_refusal one_desk script ≡ None }
     ensures lists { lists_of one_desk script ≡ clones_of_the_script }
 {}
 
@@ -30,5 +30,5 @@ pub fn decisions_of_one_clone()
 
 /// Of the decisions that are refused the first is told, by its place from 0.
 pub fn first_refusal()
-    ensures { first_refused one_desk refused_script ≡ Some (2, UnknownClone) }
+    ensures { first_refusal one_desk refused_script ≡ Some (2, UnknownClone) }
 {}

@@ -2,13 +2,13 @@
 //!
 //! `specs/Laws.antt` has the laws in words.
 ghost use Rattle.net_model.specs.Net.{Net};
-ghost use Rattle.decision_book.specs.Laws.{JournalStands, PlansAreForStations, RecordedIsNext, ScriptedStands, ScriptedIsRight, AcceptedAdds, RefusedFirst, AcceptedGoesOn, RefusedIsFirst, AloneSuffices, OwnScriptSuffices};
+ghost use Rattle.decision_book.specs.Laws.{JournalStands, PlansAreForStations, AskingIsNext, ScriptStands, ScriptIsRight, AcceptedAdds, RefusedFirst, AcceptedGoesOn, RefusedIsFirst, AloneSuffices, OwnScriptSuffices};
 
 /// How things stand after a journal, and how a decision changes that.
-#[tactic(auto, using(crate::proofs::Scripts::journal_stands, crate::proofs::Scripts::recorded_is_next))]
+#[tactic(auto, using(crate::proofs::Scripts::journal_stands, crate::proofs::Scripts::asking_is_next))]
 pub fn journals_stand()
     ensures stands { (net : Net) → JournalStands net }
-    ensures recorded { (net : Net) → RecordedIsNext net }
+    ensures journal_with { (net : Net) → AskingIsNext net }
 {}
 
 /// The decisions of a book's lists are for stations of the network.
@@ -17,11 +17,11 @@ pub fn plans_are_for_stations()
     ensures { (net : Net) → PlansAreForStations net }
 {}
 
-/// Where things stand after the decisions of a script, decided in order at front 0.
-#[tactic(auto, using(crate::proofs::Scripts::scripted_stands, crate::proofs::Scripts::scripted_is_right, crate::proofs::Scripts::accepted_adds, crate::proofs::Scripts::refused_first, crate::proofs::Scripts::accepted_goes_on, crate::proofs::Scripts::refused_is_first))]
+/// Where things stand after the decisions of a script, made in order at front 0.
+#[tactic(auto, using(crate::proofs::Scripts::script_stands, crate::proofs::Scripts::script_is_right, crate::proofs::Scripts::accepted_adds, crate::proofs::Scripts::refused_first, crate::proofs::Scripts::accepted_goes_on, crate::proofs::Scripts::refused_is_first))]
 pub fn scripts_are_decided()
-    ensures stands { (net : Net) → ScriptedStands net }
-    ensures right { (net : Net) → ScriptedIsRight net }
+    ensures stands { (net : Net) → ScriptStands net }
+    ensures right { (net : Net) → ScriptIsRight net }
     ensures accepted { (net : Net) → AcceptedAdds net }
     ensures refused { (net : Net) → RefusedFirst net }
     ensures goes_on { (net : Net) → AcceptedGoesOn net }

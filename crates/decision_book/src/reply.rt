@@ -1,42 +1,25 @@
 //! The reply to a decision, and what the decision does to the lists.
 ghost use Rattle.std.specs.Prelude.{◌≡◌, ◌<◌, ◌≤◌, length, IsTrue};
 ghost use Rattle.sim_base.specs.Clones.{clone_at, place_of, forked, added, ended};
-ghost use Rattle.decision_script.specs.Alone.{subject};
-ghost use Rattle.decision_book.specs.Journal.{answered, chosen, planned, Situation};
+ghost use Rattle.decision_book.specs.Journal.{clones_after_reply, if_accepted, plan_of_set, Situation};
 ghost use Rattle.decision_book.specs.Plans.{ArePlanned};
 ghost use Rattle.decision_book.specs.Replies.{first_row, fork_rows, set_rows, time_rows, reply as reply_of};
 
-use crate::call::Reply;
+use crate::call::{MOST_CALLS, Reply};
 use net_model::Model;
-use sim_base::{Change, Decision, Lists, Name, Planned};
+use sim_base::{Change, Decision, Lists, MOST_CLONES, MOST_DECISIONS, Name, Planned};
 use stations::change::{ChangeFault, accepts};
-
-/// How many calls a book keeps.
-pub const MOST_CALLS: usize = 4_096;
-/// How many clones there may be.
-pub const MOST_CLONES: u32 = 256;
-/// How many decisions the list of a clone may hold.
-pub const MOST_PLANS: u32 = 256;
-
-fn subject_of(d: &Decision) -> Name
-    ensures { result ≡ subject d.now }
-{
-    match d {
-        Decision::Fork { old, .. } => *old,
-        Decision::Set { who, .. } => *who,
-        Decision::End { who, .. } => *who,
-    }
-}
 
 #[tactic(auto, using(crate::proofs::Planned::planned_forked))]
 fn decide_fork(model: &Model, lists: &mut Lists, clone: u32, new: Name) -> Reply
     requires there { clone < length lists.old.clones }
-    requires clones { lists.old.room_clones ≡ 256 }
-    requires plans { lists.old.room_plans ≡ 256 }
+    requires clones { lists.old.reserved_clones ≡ MOST_CLONES }
+    requires plans { lists.old.reserved_plans ≡ MOST_DECISIONS }
     requires planned { ArePlanned model.now lists.old.clones }
     ensures reply { result ≡ first_row (fork_rows lists.old.clones new) }
+    // the lists, which stay as they are where it is refused
     ensures lists { lists.new ≡ record lists.old {
-      clones = chosen result (forked lists.old.clones new clone) lists.old.clones;
+      clones = if_accepted result (forked lists.old.clones new clone) lists.old.clones;
     } }
     ensures planned { ArePlanned model.now lists.new.clones }
 {
@@ -46,12 +29,12 @@ fn decide_fork(model: &Model, lists: &mut Lists, clone: u32, new: Name) -> Reply
     if lists.len() >= MOST_CLONES {
         return Reply::TooManyClones;
     }
-    lists.fork_in_room(new, clone);
+    lists.fork_in_reserved(new, clone);
     Reply::Accepted
 }
 
 fn time_reply(model: &Model, front: u64, at: u64) -> Reply
-    ensures { result ≡ first_row (time_rows model.now front at) }
+    ensures value { result ≡ first_row (time_rows model.now front at) }
 {
     if at >= model.horizon() {
         return Reply::PastHorizon;
@@ -68,8 +51,9 @@ fn decide_end(model: &Model, lists: &mut Lists, front: u64, clone: u32, at: u64)
     requires once { (clone_at lists.old.clones clone).end ≡ None }
     requires planned { ArePlanned model.now lists.old.clones }
     ensures reply { result ≡ first_row (time_rows model.now front at) }
+    // the lists, which stay as they are where it is refused
     ensures lists { lists.new ≡ record lists.old {
-      clones = chosen result (ended lists.old.clones clone at) lists.old.clones;
+      clones = if_accepted result (ended lists.old.clones clone at) lists.old.clones;
     } }
     ensures planned { ArePlanned model.now lists.new.clones }
 {
@@ -91,12 +75,14 @@ fn decide_set(
     change: &Change,
 ) -> Reply
     requires there { clone < length lists.old.clones }
-    requires plans { lists.old.room_plans ≡ 256 }
+    requires plans { lists.old.reserved_plans ≡ MOST_DECISIONS }
     requires planned { ArePlanned model.now lists.old.clones }
     ensures reply { result ≡
         first_row (set_rows model.now lists.old.clones front clone at station.now change.now) }
+    // the lists, which stay as they are where it is refused
     ensures lists { lists.new ≡ record lists.old {
-      clones = chosen result (added lists.old.clones clone (planned model.now at station.now change.now)) lists.old.clones;
+      clones = if_accepted result
+          (added lists.old.clones clone (plan_of_set model.now at station.now change.now)) lists.old.clones;
     } }
     ensures planned { ArePlanned model.now lists.new.clones }
 {
@@ -108,7 +94,7 @@ fn decide_set(
         Err(ChangeFault::OutOfRange) => return Reply::OutOfRange,
         Ok(()) => {}
     }
-    if lists.list(clone).len() >= MOST_PLANS as usize {
+    if lists.list(clone).len() >= MOST_DECISIONS as usize {
         return Reply::ListFull;
     }
     let reply = time_reply(model, front, at);
@@ -133,17 +119,19 @@ pub fn decide_by_table(
     calls: usize,
     d: &Decision,
 ) -> Reply
-    requires clones { lists.old.room_clones ≡ 256 }
-    requires plans { lists.old.room_plans ≡ 256 }
+    requires clones { lists.old.reserved_clones ≡ MOST_CLONES }
+    requires plans { lists.old.reserved_plans ≡ MOST_DECISIONS }
     requires planned { ArePlanned model.now lists.old.clones }
+    // the first row of the table whose condition holds
     ensures reply { result ≡ reply_of (record {
       net = model.now;
       clones = lists.old.clones;
       front = front;
       calls = calls;
     }) d.now }
+    // what it makes of the lists
     ensures lists { lists.new ≡ record lists.old {
-      clones = answered model.now lists.old.clones d.now result;
+      clones = clones_after_reply model.now lists.old.clones d.now result;
     } }
     ensures planned { ArePlanned model.now lists.new.clones }
 {
@@ -153,7 +141,7 @@ pub fn decide_by_table(
     if front == model.horizon() {
         return Reply::Closed;
     }
-    let Some(clone) = lists.find(&subject_of(d)) else {
+    let Some(clone) = lists.find(&d.subject()) else {
         return Reply::UnknownClone;
     };
     if let Some(at) = lists.end_of(clone) {

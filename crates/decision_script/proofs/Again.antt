@@ -3,17 +3,19 @@ use Rattle.std.proofs.Common.{◌≡◌, ℕ, ◌+◌, ◌-◌, ◌<◌, ◌≤�
 use Rattle.std.proofs.lemmas.List.{map-append, length_push}
 use Rattle.std.specs.List.{AllByRecursion, join_with_byte}
 use Rattle.std.proofs.lemmas.Bool.Decides.{nat_tests}
+use Rattle.sim_base.proofs.ListLaws.{all_append}
 use Rattle.decision_script.specs.declared.fault.ScriptFault.{ScriptFault}
 use Rattle.decision_script.specs.declared.item.Act.{Act}
 use Rattle.decision_script.specs.declared.item.Item.{Item}
-use Rattle.decision_script.specs.Sentences.{◌>>=◌, said}
+use Rattle.sim_base.specs.Chain.{◌>>=◌}
+use Rattle.decision_script.specs.Sentences.{saying}
 use Rattle.decision_script.specs.Stating.{IsNamed, IsAct, IsItem, analyst_name}
-use Rattle.decision_script.specs.Reading.{Reading, after_line, after_lines, after_saying, at_line, place_of, in_section, begun}
+use Rattle.decision_script.specs.Reading.{Reading, after_line, after_lines, after_saying, at_line, place_of, in_section, opening}
 use Rattle.decision_script.specs.Printing.{words_of_act, words_of_section, item_lines, canonical_text}
-use Rattle.decision_script.specs.Laws.{unnumbered}
-use Rattle.decision_script.proofs.Words.{IsWord, line_says-join, lines-text}
+use Rattle.decision_script.specs.Laws.{without_line}
+use Rattle.decision_script.proofs.Words.{IsWord, line_saying-join, lines-text}
 use Rattle.decision_script.specs.Lines.{lines}
-use Rattle.decision_script.proofs.Saying.{said-act, said-section, act_words, section_words}
+use Rattle.decision_script.proofs.Saying.{saying-act, saying-section, act_words, section_words}
 
 -- no earlier name is named again, where these stand before them
 abbrev pub AreNew : List (List ℕ) → List (List ℕ) → Type 0
@@ -21,18 +23,18 @@ AreNew before [] = Unit {0}
 AreNew before (name ∷ more) = IsNamed name × (place_of name before ≡ None) × AreNew (before ++ name ∷ []) more
 
 -- one line that is written of words
-after_words : (line : ℕ) (r : Reading) (ws : List (List ℕ)) → AllByRecursion IsWord ws → after_line line r (join_with_byte 32 ws) ≡ (at_line line (said ws) >>= after_saying line r)
+after_words : (line : ℕ) (r : Reading) (ws : List (List ℕ)) → AllByRecursion IsWord ws → after_line line r (join_with_byte 32 ws) ≡ (at_line line (saying ws) >>= after_saying line r)
 unfolding after_line
-after_words line r ws h = ap (λ x. at_line line x >>= after_saying line r) (line_says-join ws h)
+after_words line r ws h = ap (λ x. at_line line x >>= after_saying line r) (line_saying-join ws h)
 
 after_act : (line : ℕ) (r : Reading) (act : Act) → IsAct act → length r.items < 4096
     → after_line line r (join_with_byte 32 (words_of_act act)) ≡ Ok (record r { items = r.items ++ (record { line = line; analyst = r.current; act = act }) ∷ [] })
 after_act line r act h few =
     let lt : nat_lt (length r.items) 4096 ≡ true = grind (arith, nat_tests) in
-    after_words line r (words_of_act act) (act_words act h) ∙ ap (λ x. at_line line x >>= after_saying line r) (said-act act h) ∙ rw lt refl
+    after_words line r (words_of_act act) (act_words act h) ∙ ap (λ x. at_line line x >>= after_saying line r) (saying-act act h) ∙ rw lt refl
 
 after_section : (line : ℕ) (r : Reading) (name : List ℕ) → IsNamed name → after_line line r (join_with_byte 32 (words_of_section name)) ≡ in_section line r name (place_of name r.analysts)
-after_section line r name h = after_words line r (words_of_section name) (section_words name h) ∙ ap (λ x. at_line line x >>= after_saying line r) (said-section name h)
+after_section line r name h = after_words line r (words_of_section name) (section_words name h) ∙ ap (λ x. at_line line x >>= after_saying line r) (saying-section name h)
 
 -- a new name
 after_new : (line : ℕ) (r : Reading) (name : List ℕ) → IsNamed name → place_of name r.analysts ≡ None → length r.analysts < 16
@@ -68,7 +70,7 @@ pub record Read (before : Reading) (given : Result Reading ScriptFault) (more : 
   pub after : Reading
   pub read : given ≡ Ok after
   pub analysts : after.analysts ≡ before.analysts
-  pub items : map unnumbered after.items ≡ map unnumbered before.items ++ map unnumbered more
+  pub items : map without_line after.items ≡ map without_line before.items ++ map without_line more
 
 -- each is the first of its name
 pub record AreKnown (analysts : List (List ℕ)) : Type 0 where
@@ -82,9 +84,9 @@ act_read line r item more rest h few same read = record {
   after = read.after;
   read = then line _ _ _ _ (after_act line r item.act h few) ∙ read.read;
   analysts = read.analysts;
-  items = read.items ∙ ap (λ front. front ++ map unnumbered more) (map-append unnumbered r.items (record { line = line; analyst = r.current; act = item.act } ∷ []))
-      ∙ append_assoc (map unnumbered r.items) ((r.current, item.act) ∷ []) (map unnumbered more)
-      ∙ ap (λ a. map unnumbered r.items ++ ((a, item.act) ∷ map unnumbered more)) same;
+  items = read.items ∙ ap (λ front. front ++ map without_line more) (map-append without_line r.items (record { line = line; analyst = r.current; act = item.act } ∷ []))
+      ∙ append_assoc (map without_line r.items) ((r.current, item.act) ∷ []) (map without_line more)
+      ∙ ap (λ a. map without_line r.items ++ ((a, item.act) ∷ map without_line more)) same;
 }
 
 -- the lines of one item, where the analyst in force is its own or not
@@ -107,7 +109,7 @@ item_read line force r item more rest known e h few go false other =
 pub items_read : (line force : ℕ) (r : Reading) (items : List Item) → AreKnown r.analysts → r.current ≡ force → AllByRecursion (IsItem (length r.analysts)) items → length r.items + length items ≤ 4096
     → Read r (after_lines line r (map (join_with_byte 32) (item_lines r.analysts force items) ++ ([] ∷ []))) items
 unfolding after_lines after_line
-items_read line force r [] known e h few = record { after = r; read = refl; analysts = refl; items = sym (append-nil (map unnumbered r.items)) }
+items_read line force r [] known e h few = record { after = r; read = refl; analysts = refl; items = sym (append-nil (map without_line r.items)) }
 items_read line force r (item ∷ items) known e h few =
     item_read line force r item items (item_lines r.analysts item.analyst items) known e h.0 (omega arith)
     (λ n c same. act_read n (record r { current = c }) item items (map (join_with_byte 32) (item_lines r.analysts item.analyst items) ++ ([] ∷ [])) h.0.act (omega arith) same
@@ -129,13 +131,9 @@ item_words analysts force [] known h = tt
 item_words analysts force (item ∷ items) known h =
     one_item_words analysts item (item_lines analysts item.analyst items) known h.0 (item_words analysts item.analyst items known h.1) (item.analyst == force)
 
-pub all_append : {X : Type 0} (P : X → Type 0) (xs ys : List X) → AllByRecursion P xs → AllByRecursion P ys → AllByRecursion P (xs ++ ys)
-all_append P [] ys h k = k
-all_append P (x ∷ xs) ys h k = (h.0, all_append P xs ys h.1 k)
-
 -- the canonical text is read as the script, but for the numbers of the lines
 pub text_read : (more : List (List ℕ)) (items : List Item) → AreNew (codes "main" ∷ []) more → AreKnown (codes "main" ∷ more) → length more ≤ 15 → length items ≤ 4096 → AllByRecursion (IsItem (length (codes "main" ∷ more))) items
-    → (t : Reading) × (after_lines 1 begun (lines (canonical_text (record { analysts = codes "main" ∷ more; items = items }))) ≡ Ok t) × (t.analysts ≡ codes "main" ∷ more) × (map unnumbered t.items ≡ map unnumbered items)
+    → (t : Reading) × (after_lines 1 opening (lines (canonical_text (record { analysts = codes "main" ∷ more; items = items }))) ≡ Ok t) × (t.analysts ≡ codes "main" ∷ more) × (map without_line t.items ≡ map without_line items)
 unfolding canonical_text
 text_read more items new known few many all =
     let ls = item_lines (codes "main" ∷ more) (length (codes "main" ∷ more)) items in

@@ -1,7 +1,7 @@
 pub mod OwnDecisions
 pub mod Digits
 pub mod OneLine
-pub mod Kept
+pub mod Readings
 pub mod OwnScript
 pub mod TextParts
 pub mod Words

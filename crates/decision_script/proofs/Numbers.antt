@@ -10,7 +10,7 @@ use Rattle.sim_base.specs.Names.{is_digit}
 use Rattle.decision_script.specs.Lines.{has_number_form, number}
 use Rattle.std.specs.Option.{ok_or}
 use Rattle.decision_script.specs.declared.fault.LineFault.TheVariants.{BadNumber}
-use Rattle.decision_script.specs.Sentences.{numbered}
+use Rattle.decision_script.specs.Sentences.{word_number}
 use Rattle.decision_script.proofs.Words.{is_letter, IsWord}
 
 tells : IsDigitsTest (λ ds. list_all is_digit ds ≡ true)
@@ -43,8 +43,8 @@ number-decimal n h =
     let short : length (decimal n) ≤ 10 = length-decimal-le 10 n (omega arith) (omega arith) wide in
     rw (form, value) (grind (arith, nat_tests))
 
-pub numbered-decimal : (n : ℕ) → n < 2 ^ 32 → numbered (decimal n) ≡ Ok n
-numbered-decimal n h = ap (λ o. ok_or o BadNumber) (number-decimal n h)
+pub word_number-decimal : (n : ℕ) → n < 2 ^ 32 → word_number (decimal n) ≡ Ok n
+word_number-decimal n h = ap (λ o. ok_or o BadNumber) (number-decimal n h)
 
 letters_of_digits : (ds : List ℕ) → list_all is_digit ds ≡ true → list_all is_letter ds ≡ true
 letters_of_digits [] h = refl

@@ -5,7 +5,7 @@ use Rattle.std.specs.Str.Lines.{strip_carriage_return}
 use Rattle.std.proofs.lemmas.List.{at_drop_more, get_or-map, length-map, drop_all}
 use Rattle.decision_script.specs.declared.fault.ScriptFault.{ScriptFault}
 use Rattle.decision_script.specs.Lines.{lines, is_newline}
-use Rattle.decision_script.specs.Sentences.{◌>>=◌}
+use Rattle.sim_base.specs.Chain.{◌>>=◌}
 use Rattle.decision_script.specs.Reading.{Reading, after_line, after_lines}
 
 -- the part at n of the text is this one

@@ -8,23 +8,23 @@ use Rattle.decision_script.specs.declared.item.Item.{Item}
 use Rattle.decision_script.specs.Lines.{lines}
 use Rattle.decision_script.specs.Laws.{ReadAgain, CanonicalTextReadsAgain}
 use Rattle.decision_script.specs.Printing.{canonical_text, item_lines, line_text, words_of_section}
-use Rattle.decision_script.specs.Reading.{Reading, after_lines, begun, script, stated}
-use Rattle.decision_script.specs.Sentences.{◌>>=◌}
-use Rattle.decision_script.specs.Stating.{IsItem, IsNamed, IsScript, Stated}
+use Rattle.decision_script.specs.Reading.{Reading, after_lines, opening, script, script_of}
+use Rattle.sim_base.specs.Chain.{◌>>=◌}
+use Rattle.decision_script.specs.Stating.{IsItem, IsNamed, IsScript, ScriptView}
 use Rattle.decision_script.proofs.Again.{text_read}
 use Rattle.decision_script.proofs.Lengths.{items_length, sections_length}
 use Rattle.decision_script.proofs.Names.{are_known, are_new}
 use Rattle.decision_script.proofs.TextParts.{text_in_parts}
 
-read_of_text : (text : List ℕ) (t : Reading) → length text ≤ 1048576 → after_lines 1 begun (lines text) ≡ Ok t → script text ≡ Ok (stated t)
+read_of_text : (text : List ℕ) (t : Reading) → length text ≤ 1048576 → after_lines 1 opening (lines text) ≡ Ok t → script text ≡ Ok (script_of t)
 read_of_text text t short read =
     let fits : nat_lt 1048576 (length text) ≡ false = grind (arith, nat_tests) in
-    ap (λ b. cond b (Err TooLong) (after_lines 1 begun (lines text) >>= λ r. Ok (stated r))) fits ∙ ap (λ x. x >>= λ r. Ok (stated r)) read
+    ap (λ b. cond b (Err TooLong) (after_lines 1 opening (lines text) >>= λ r. Ok (script_of r))) fits ∙ ap (λ x. x >>= λ r. Ok (script_of r)) read
 
 -- with main first
 of_main : (more : List (List ℕ)) (items : List Item) → IsScript (record { analysts = codes "main" ∷ more; items = items }) → ReadAgain (record { analysts = codes "main" ∷ more; items = items })
 of_main more items h =
-    let s : Stated = record { analysts = codes "main" ∷ more; items = items } in
+    let s : ScriptView = record { analysts = codes "main" ∷ more; items = items } in
     let new = are_new (codes "main" ∷ []) more h.distinct (All-tail IsNamed (codes "main") more h.named) in
     let known = are_known (codes "main" ∷ more) h.distinct h.named in
     let valid = recursion_from_All (IsItem (length (codes "main" ∷ more))) items h.valid in
@@ -34,7 +34,7 @@ of_main more items h =
     let short : length (front ++ back) ≤ 1048576 = omega (arith, h.few_items, length-append front back, sections_length (codes "main" ∷ []) more new, items_length (codes "main" ∷ more) (length (codes "main" ∷ more)) items known valid) in
     let (t, read, analysts, same) = text_read more items new known few h.few_items valid in
     record {
-      again = stated t;
+      again = script_of t;
       read = read_of_text (canonical_text s) t (subst (λ text. length text ≤ 1048576) (text_in_parts s) short) read;
       analysts = analysts;
       items = same;

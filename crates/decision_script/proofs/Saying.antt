@@ -10,43 +10,43 @@ use Rattle.sim_base.specs.declared.message.Param.TheVariants.{Every, Service, Ho
 use Rattle.decision_script.specs.declared.item.Act.{Act}
 use Rattle.decision_script.specs.declared.item.Act.TheVariants.{Decide, Look}
 use Rattle.decision_script.specs.declared.line.Said.TheVariants.{Says, Section}
-use Rattle.decision_script.specs.Sentences.{said, section, look, fork, end, set, one_value, two_values}
+use Rattle.decision_script.specs.Sentences.{saying, section, look, fork, end, set, one_value, two_values}
 use Rattle.decision_script.specs.Stating.{IsNamed, IsChange, IsAct}
 use Rattle.decision_script.specs.Printing.{words_of_act, words_of_change, words_of_section}
-use Rattle.decision_script.proofs.Numbers.{numbered-decimal, decimal_is_word}
+use Rattle.decision_script.proofs.Numbers.{word_number-decimal, decimal_is_word}
 use Rattle.decision_script.proofs.Words.{is_letter, IsWord}
 
-pub said-section : (name : List ℕ) → IsNamed name → said (words_of_section name) ≡ Ok (Section name)
+pub saying-section : (name : List ℕ) → IsNamed name → saying (words_of_section name) ≡ Ok (Section name)
 unfolding section
-said-section name h = rw h refl
+saying-section name h = rw h refl
 
-said-fork : (new old : List ℕ) → IsNamed new → IsNamed old → said (words_of_act (Decide (Fork new old))) ≡ Ok (Says (Decide (Fork new old)))
+saying-fork : (new old : List ℕ) → IsNamed new → IsNamed old → saying (words_of_act (Decide (Fork new old))) ≡ Ok (Says (Decide (Fork new old)))
 unfolding fork
-said-fork new old n o = rw (n, o) refl
+saying-fork new old n o = rw (n, o) refl
 
-said-look : (who station : List ℕ) → IsNamed who → IsNamed station → said (words_of_act (Look who station)) ≡ Ok (Says (Look who station))
+saying-look : (who station : List ℕ) → IsNamed who → IsNamed station → saying (words_of_act (Look who station)) ≡ Ok (Says (Look who station))
 unfolding look
-said-look who station w s = rw (w, s) refl
+saying-look who station w s = rw (w, s) refl
 
-said-end : (who : List ℕ) (at : ℕ) → IsNamed who → at < 2 ^ 32 → said (words_of_act (Decide (End who at))) ≡ Ok (Says (Decide (End who at)))
+saying-end : (who : List ℕ) (at : ℕ) → IsNamed who → at < 2 ^ 32 → saying (words_of_act (Decide (End who at))) ≡ Ok (Says (Decide (End who at)))
 unfolding end
-said-end who at w h = rw (w, numbered-decimal at h) refl
+saying-end who at w h = rw (w, word_number-decimal at h) refl
 
-said-set : (who station : List ℕ) (at a b : ℕ) (param : Param) → IsNamed who → at < 2 ^ 32 → IsNamed station → IsChange param a b
-    → said (words_of_act (Decide (Set who at station (record { param = param; a = a; b = b })))) ≡ Ok (Says (Decide (Set who at station (record { param = param; a = a; b = b }))))
+saying-set : (who station : List ℕ) (at a b : ℕ) (param : Param) → IsNamed who → at < 2 ^ 32 → IsNamed station → IsChange param a b
+    → saying (words_of_act (Decide (Set who at station (record { param = param; a = a; b = b })))) ≡ Ok (Says (Decide (Set who at station (record { param = param; a = a; b = b }))))
 unfolding set one_value two_values
-said-set who station at a b Every w t s c = rw (w, s, numbered-decimal at t, numbered-decimal a c.0, numbered-decimal b c.1) refl
-said-set who station at a b Service w t s c = rw (w, s, numbered-decimal at t, numbered-decimal a c.0, numbered-decimal b c.1) refl
-said-set who station at a b Hold w t s c = rw (w, s, numbered-decimal at t, numbered-decimal a c.0, numbered-decimal b c.1) refl
-said-set who station at a b Servers w t s c = rw (w, s, numbered-decimal at t, numbered-decimal a c.0, c.1) refl
-said-set who station at a b Room w t s c = rw (w, s, numbered-decimal at t, numbered-decimal a c.0, c.1) refl
-said-set who station at a b Weight w t s c = rw (w, s, numbered-decimal at t, numbered-decimal a c.0, numbered-decimal b c.1) refl
+saying-set who station at a b Every w t s c = rw (w, s, word_number-decimal at t, word_number-decimal a c.0, word_number-decimal b c.1) refl
+saying-set who station at a b Service w t s c = rw (w, s, word_number-decimal at t, word_number-decimal a c.0, word_number-decimal b c.1) refl
+saying-set who station at a b Hold w t s c = rw (w, s, word_number-decimal at t, word_number-decimal a c.0, word_number-decimal b c.1) refl
+saying-set who station at a b Servers w t s c = rw (w, s, word_number-decimal at t, word_number-decimal a c.0, c.1) refl
+saying-set who station at a b Room w t s c = rw (w, s, word_number-decimal at t, word_number-decimal a c.0, c.1) refl
+saying-set who station at a b Weight w t s c = rw (w, s, word_number-decimal at t, word_number-decimal a c.0, word_number-decimal b c.1) refl
 
-pub said-act : (act : Act) → IsAct act → said (words_of_act act) ≡ Ok (Says act)
-said-act (Look who station) h = said-look who station h.0 h.1
-said-act (Decide (Fork new old)) h = said-fork new old h.0 h.1
-said-act (Decide (Set who at station change)) h = said-set who station at change.a change.b change.param h.0 h.1 h.2 h.3
-said-act (Decide (End who at)) h = said-end who at h.0 h.1
+pub saying-act : (act : Act) → IsAct act → saying (words_of_act act) ≡ Ok (Says act)
+saying-act (Look who station) h = saying-look who station h.0 h.1
+saying-act (Decide (Fork new old)) h = saying-fork new old h.0 h.1
+saying-act (Decide (Set who at station change)) h = saying-set who station at change.a change.b change.param h.0 h.1 h.2 h.3
+saying-act (Decide (End who at)) h = saying-end who at h.0 h.1
 
 letters_of_name : (bs : List ℕ) → list_all is_name_byte bs ≡ true → list_all is_letter bs ≡ true
 letters_of_name [] h = refl

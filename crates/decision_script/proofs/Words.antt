@@ -7,7 +7,7 @@ use Rattle.std.proofs.lemmas.List.Splits.{slice_split-cons_yes, slice_split-cons
 use Rattle.std.proofs.lemmas.Bool.{and_parts}
 use Rattle.std.proofs.lemmas.Bool.Decides.{nat_tests}
 use Rattle.decision_script.specs.Lines.{is_blank, is_newline, has_bytes, words, lines, is_ascii}
-use Rattle.decision_script.specs.Sentences.{said, line_says}
+use Rattle.decision_script.specs.Sentences.{saying, line_saying}
 use Rattle.decision_script.specs.Printing.{line_text}
 
 -- ASCII above the space
@@ -86,8 +86,8 @@ printed_at (b ∷ bs) (suc i) h = printed_at bs i (and_parts (is_printed b) (lis
 pub strip-printed : (bs : List ℕ) → list_all is_printed bs ≡ true → strip_carriage_return bs ≡ bs
 strip-printed bs h = rw (printed_at bs (length bs - 1) h) refl
 
-pub line_says-join : (ws : List (List ℕ)) → AllByRecursion IsWord ws → line_says (join_with_byte 32 ws) ≡ said ws
-line_says-join ws h = rw (printed_is_ascii (join_with_byte 32 ws) (printed_join ws h), words-join ws h) refl
+pub line_saying-join : (ws : List (List ℕ)) → AllByRecursion IsWord ws → line_saying (join_with_byte 32 ws) ≡ saying ws
+line_saying-join ws h = rw (printed_is_ascii (join_with_byte 32 ws) (printed_join ws h), words-join ws h) refl
 
 -- the lines of a text that is written line by line
 pub lines-text : (ls : List (List (List ℕ))) → AllByRecursion (AllByRecursion IsWord) ls → lines (flat_map line_text ls) ≡ map (join_with_byte 32) ls ++ ([] ∷ [])

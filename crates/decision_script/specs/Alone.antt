@@ -3,10 +3,11 @@ use Rattle.std.specs.Prelude.{◌≡◌, ℕ, Bool, true, false, List, [], ◌�
 use Rattle.std.specs.Str.{bytes_eq}
 use Rattle.sim_base.specs.declared.decision.Decision.{Decision}
 use Rattle.sim_base.specs.declared.decision.Decision.TheVariants.{Fork, Set, End}
+use Rattle.sim_base.specs.Decisions.{subject}
 use Rattle.decision_script.specs.declared.item.Act.{Act}
 use Rattle.decision_script.specs.declared.item.Act.TheVariants.{Decide, Look}
 use Rattle.decision_script.specs.declared.item.Item.{Item}
-use Rattle.decision_script.specs.Stating.{Stated}
+use Rattle.decision_script.specs.Stating.{ScriptView}
 
 -- the clone that a decision makes or changes
 abbrev pub object : Decision → List ℕ
@@ -14,38 +15,32 @@ object (Fork new old) = new
 object (Set who at station change) = who
 object (End who at) = who
 
--- the clone that a decision starts from
-abbrev pub subject : Decision → List ℕ
-subject (Fork new old) = old
-subject (Set who at station change) = who
-subject (End who at) = who
+-- one decision before the others: where it belongs to them, the clone before it is the one that it speaks of
+abbrev pub history_if : {A : Type 0} → Bool → A → List ℕ → List ℕ × List A → List ℕ × List A
+history_if true x target later = (target, x ∷ later.1)
+history_if false x target later = later
 
--- one decision before the others: where it is kept, the target before it is the clone that it starts from
-abbrev pub kept_if : {A : Type 0} → Bool → A → List ℕ → List ℕ × List A → List ℕ × List A
-kept_if true x target later = (target, x ∷ later.1)
-kept_if false x target later = later
-
--- from the last decision to the first: the target before these decisions, and those that are kept, each for being on the target
-abbrev pub kept : List ℕ → List Decision → List ℕ × List Decision
-kept who [] = (who, [])
-kept who (d ∷ ds) = kept_if (bytes_eq (object d) (kept who ds).0) d (subject d) (kept who ds)
+-- the history of a clone: the clone that it goes back to before these decisions, and those of them that it has, each for being on the clone of that time
+abbrev pub history : List ℕ → List Decision → List ℕ × List Decision
+history who [] = (who, [])
+history who (d ∷ ds) = history_if (bytes_eq (object d) (history who ds).0) d (subject d) (history who ds)
 
 -- the decisions that reach the clone
 abbrev pub alone : List ℕ → List Decision → List Decision
-alone who ds = (kept who ds).1
+alone who ds = (history who ds).1
 
--- the same over items: looks are dropped, and what is kept stays with its line and analyst
-abbrev pub kept_act : Item → Act → List ℕ × List Item → List ℕ × List Item
-kept_act item (Decide d) later = kept_if (bytes_eq (object d) later.0) item (subject d) later
-kept_act item (Look who station) later = later
+-- the same over items: looks are left out, and decisions keep their line and analyst
+abbrev pub act_history : Item → Act → List ℕ × List Item → List ℕ × List Item
+act_history item (Decide d) later = history_if (bytes_eq (object d) later.0) item (subject d) later
+act_history item (Look who station) later = later
 
-abbrev pub kept_items : List ℕ → List Item → List ℕ × List Item
-kept_items who [] = (who, [])
-kept_items who (i ∷ is) = kept_act i i.act (kept_items who is)
+abbrev pub item_history : List ℕ → List Item → List ℕ × List Item
+item_history who [] = (who, [])
+item_history who (i ∷ is) = act_history i i.act (item_history who is)
 
 -- the script with these items alone; the analysts stay
-abbrev pub alone_of : Stated → List ℕ → Stated
-alone_of s who = record s { items = (kept_items who s.items).1 }
+abbrev pub alone_of : ScriptView → List ℕ → ScriptView
+alone_of s who = record s { items = (item_history who s.items).1 }
 
 -- the decisions among the items, in order
 abbrev pub decisions_onto : Act → List Decision → List Decision
@@ -58,4 +53,4 @@ decisions (i ∷ is) = decisions_onto i.act (decisions is)
 
 -- the decisions of the clone's own script are those of the whole script that reach the clone
 abbrev pub AloneIsOfDecisions : Type 0
-AloneIsOfDecisions = (s : Stated) (who : List ℕ) → decisions (alone_of s who).items ≡ alone who (decisions s.items)
+AloneIsOfDecisions = (s : ScriptView) (who : List ℕ) → decisions (alone_of s who).items ≡ alone who (decisions s.items)

@@ -6,7 +6,7 @@ use Rattle.sim_base.specs.declared.message.Param.TheVariants.{Service, Room}
 use Rattle.decision_script.specs.declared.item.Act.{Act}
 use Rattle.decision_script.specs.declared.item.Act.TheVariants.{Decide, Look}
 use Rattle.decision_script.specs.declared.item.Item.{Item}
-use Rattle.decision_script.specs.Stating.{Stated}
+use Rattle.decision_script.specs.Stating.{ScriptView}
 
 -- lines that end with a line feed each
 abbrev pub text_of : List (List ℕ) → List ℕ
@@ -22,7 +22,7 @@ set_service who at a b = Decide (Set who at (codes "desk") (record { param = Ser
 abbrev pub two_clones_text : List ℕ
 two_clones_text = text_of (codes "fork a from base" ∷ codes "fork b from base" ∷ codes "set a at 8 desk service 2 2" ∷ codes "set b at 8 desk service 2 2" ∷ [])
 
-abbrev pub two_clones : Stated
+abbrev pub two_clones : ScriptView
 two_clones = record {
   analysts = codes "main" ∷ [];
   items = item_at 1 1 (Decide (Fork (codes "a") (codes "base")))
@@ -39,7 +39,7 @@ b_alone_text = text_of (codes "fork b from base" ∷ codes "set b at 8 desk serv
 abbrev pub clone_of_clone_text : List ℕ
 clone_of_clone_text = text_of (codes "fork a from base" ∷ codes "set a at 8 desk service 2 2" ∷ codes "fork b from a" ∷ codes "set a at 9 desk service 3 3" ∷ codes "look b desk" ∷ codes "end b at 12" ∷ [])
 
-abbrev pub clone_of_clone : Stated
+abbrev pub clone_of_clone : ScriptView
 clone_of_clone = record {
   analysts = codes "main" ∷ [];
   items = item_at 1 1 (Decide (Fork (codes "a") (codes "base")))
@@ -57,7 +57,7 @@ clone_of_clone_alone_text = text_of (codes "fork a from base" ∷ codes "set a a
 abbrev pub two_planners_text : List ℕ
 two_planners_text = text_of (codes "# two planners" ∷ codes "fork fast from base" ∷ codes "analyst ben" ∷ codes "look   fast desk" ∷ [])
 
-abbrev pub two_planners : Stated
+abbrev pub two_planners : ScriptView
 two_planners = record {
   analysts = codes "main" ∷ codes "ben" ∷ [];
   items = item_at 2 1 (Decide (Fork (codes "fast") (codes "base"))) ∷ item_at 4 2 (Look (codes "fast") (codes "desk")) ∷ [];
@@ -70,7 +70,7 @@ two_planners_canonical = text_of (codes "analyst ben" ∷ codes "analyst main" �
 abbrev pub loose_text : List ℕ
 loose_text = codes "fork fast from base\r\n\n\tanalyst \t ada\r\n# set\n\tset fast at 8 desk  room 7 \r"
 
-abbrev pub loose : Stated
+abbrev pub loose : ScriptView
 loose = record {
   analysts = codes "main" ∷ codes "ada" ∷ [];
   items = item_at 1 1 (Decide (Fork (codes "fast") (codes "base")))

@@ -4,20 +4,19 @@ use Rattle.std.specs.List.{join_with_byte, flat_map}
 use Rattle.sim_base.specs.declared.decision.Decision.{Decision}
 use Rattle.sim_base.specs.declared.decision.Decision.TheVariants.{Fork, Set, End}
 use Rattle.sim_base.specs.declared.message.Param.{Param}
-use Rattle.sim_base.specs.declared.message.Param.TheVariants.{Every, Service, Hold, Servers, Room, Weight}
+use Rattle.sim_base.specs.Params.{param_word, param_values}
 use Rattle.decision_script.specs.declared.item.Act.{Act}
 use Rattle.decision_script.specs.declared.item.Act.TheVariants.{Decide, Look}
 use Rattle.decision_script.specs.declared.item.Item.{Item}
-use Rattle.decision_script.specs.Stating.{Stated, analyst_name}
+use Rattle.decision_script.specs.Stating.{ScriptView, analyst_name}
+
+-- one value or two
+abbrev pub value_words : ℕ → ℕ → ℕ → List (List ℕ)
+value_words count a b = if count == 1 then decimal a ∷ [] else (decimal a ∷ decimal b ∷ [])
 
 -- a parameter and its values
 abbrev pub words_of_change : Param → ℕ → ℕ → List (List ℕ)
-words_of_change Every a b = codes "every" ∷ decimal a ∷ decimal b ∷ []
-words_of_change Service a b = codes "service" ∷ decimal a ∷ decimal b ∷ []
-words_of_change Hold a b = codes "hold" ∷ decimal a ∷ decimal b ∷ []
-words_of_change Servers a b = codes "servers" ∷ decimal a ∷ []
-words_of_change Room a b = codes "room" ∷ decimal a ∷ []
-words_of_change Weight a b = codes "weight" ∷ decimal a ∷ decimal b ∷ []
+words_of_change param a b = param_word param ∷ value_words (param_values param) a b
 
 -- the words of a decision's line
 abbrev pub words_of_decision : Decision → List (List ℕ)
@@ -43,12 +42,12 @@ item_lines analysts force [] = []
 item_lines analysts force (i ∷ is) = section_before analysts force i ++ (words_of_act i.act ∷ item_lines analysts i.analyst is)
 
 -- a section line for each analyst from the second on, and then the items
-abbrev pub script_lines : Stated → List (List (List ℕ))
+abbrev pub script_lines : ScriptView → List (List (List ℕ))
 script_lines s = map words_of_section (drop 1 s.analysts) ++ item_lines s.analysts (length s.analysts) s.items
 
 -- words with one space between them, and a line feed
 abbrev pub line_text : List (List ℕ) → List ℕ
 line_text words = join_with_byte 32 words ++ 10 ∷ []
 
-unfoldable pub canonical_text : Stated → List ℕ
+unfoldable pub canonical_text : ScriptView → List ℕ
 canonical_text s = flat_map line_text (script_lines s)

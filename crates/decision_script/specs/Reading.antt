@@ -9,9 +9,11 @@ use Rattle.decision_script.specs.declared.fault.LineFault.{LineFault}
 use Rattle.decision_script.specs.declared.fault.LineFault.TheVariants as broken
 use Rattle.decision_script.specs.declared.fault.ScriptFault.{ScriptFault}
 use Rattle.decision_script.specs.declared.fault.ScriptFault.TheVariants.{TooLong, NotAscii, BadLine, BadNumber, TooManyLines, TooManyAnalysts, NoMemory}
+use Rattle.decision_script.specs.declared.script.TheConstants.{MOST_BYTES, MOST_ANALYSTS, MOST_ITEMS}
 use Rattle.decision_script.specs.Lines.{lines}
-use Rattle.decision_script.specs.Sentences.{◌>>=◌, line_says}
-use Rattle.decision_script.specs.Stating.{Stated}
+use Rattle.sim_base.specs.Chain.{◌>>=◌}
+use Rattle.decision_script.specs.Sentences.{line_saying}
+use Rattle.decision_script.specs.Stating.{ScriptView}
 
 -- how far the reading has come: analysts and items up to here, and the number of the analyst in force
 pub record Reading : Type 0 where
@@ -34,16 +36,16 @@ at_line line (Err broken) = Err (fault_at line broken)
 abbrev pub place_of : List ℕ → List (List ℕ) → Option ℕ
 place_of name analysts = position (λ other. bytes_eq other name) analysts
 
--- a section of a known analyst goes on with that one; a new name makes the next analyst, of at most 16
+-- a section of a known analyst goes on with that one; a new name makes the next analyst, where there are not too many
 abbrev pub in_section : ℕ → Reading → List ℕ → Option ℕ → Result Reading ScriptFault
 in_section line r name (Some i) = Ok (record r { current = i + 1 })
-in_section line r name None = if nat_lt (length r.analysts) 16
+in_section line r name None = if nat_lt (length r.analysts) MOST_ANALYSTS
     then Ok (record { analysts = r.analysts ++ name ∷ []; current = length r.analysts + 1; items = r.items })
     else Err (TooManyAnalysts line)
 
--- a decision or look is an item of the analyst in force, of at most 4,096
+-- a decision or look is an item of the analyst in force, where there are not too many
 abbrev pub with_act : ℕ → Reading → Act → Result Reading ScriptFault
-with_act line r act = if nat_lt (length r.items) 4096
+with_act line r act = if nat_lt (length r.items) MOST_ITEMS
     then Ok (record r { items = r.items ++ (record { line = line; analyst = r.current; act = act }) ∷ [] })
     else Err (TooManyLines line)
 
@@ -54,7 +56,7 @@ after_saying line r (Says act) = with_act line r act
 
 -- after the line of this number
 unfoldable pub after_line : ℕ → Reading → List ℕ → Result Reading ScriptFault
-after_line line r text = at_line line (line_says text) >>= after_saying line r
+after_line line r text = at_line line (line_saying text) >>= after_saying line r
 
 -- after these lines, the first of which has this number
 unfoldable pub after_lines : ℕ → Reading → List (List ℕ) → Result Reading ScriptFault
@@ -62,12 +64,12 @@ after_lines line r [] = Ok r
 after_lines line r (l ∷ ls) = after_line line r l >>= λ next. after_lines (line + 1) next ls
 
 -- before the first line the analyst main is in force
-abbrev pub begun : Reading
-begun = record { analysts = codes "main" ∷ []; current = 1; items = [] }
+abbrev pub opening : Reading
+opening = record { analysts = codes "main" ∷ []; current = 1; items = [] }
 
-abbrev pub stated : Reading → Stated
-stated r = record { analysts = r.analysts; items = r.items }
+abbrev pub script_of : Reading → ScriptView
+script_of r = record { analysts = r.analysts; items = r.items }
 
 -- what a text states, or the first rule that it breaks
-abbrev pub script : List ℕ → Result Stated ScriptFault
-script text = if nat_lt 1048576 (length text) then Err TooLong else (after_lines 1 begun (lines text) >>= λ r. Ok (stated r))
+abbrev pub script : List ℕ → Result ScriptView ScriptFault
+script text = if nat_lt MOST_BYTES (length text) then Err TooLong else (after_lines 1 opening (lines text) >>= λ r. Ok (script_of r))

@@ -1,12 +1,13 @@
 -- What a line says, by its words.
-use Rattle.std.specs.Prelude.{◌&&◌, ◌==◌, ℕ, Bool, true, false, codes, if◌then◌else◌, List, [], ◌∷◌, length, Result, Ok, Err}
+use Rattle.std.specs.Prelude.{◌&&◌, ◌==◌, ℕ, Bool, true, false, codes, if◌then◌else◌, List, [], ◌∷◌, length, Result, Ok, Err, Option, Some, None}
 use Rattle.std.specs.Option.{ok_or}
 use Rattle.std.specs.Str.{bytes_eq}
+use Rattle.sim_base.specs.Chain.{◌>>=◌}
 use Rattle.sim_base.specs.Names.{is_name}
+use Rattle.sim_base.specs.Params.{param_values, param_of_word}
 use Rattle.sim_base.specs.declared.decision.Decision.TheVariants.{Fork, Set, End}
 use Rattle.sim_base.specs.declared.message.Change.{Change}
 use Rattle.sim_base.specs.declared.message.Param.{Param}
-use Rattle.sim_base.specs.declared.message.Param.TheVariants.{Every, Service, Hold, Servers, Room, Weight}
 use Rattle.decision_script.specs.declared.item.Act.TheVariants.{Decide, Look}
 use Rattle.decision_script.specs.declared.line.Said.{Said}
 use Rattle.decision_script.specs.declared.line.Said.TheVariants.{Nothing, Section, Says}
@@ -14,42 +15,35 @@ use Rattle.decision_script.specs.declared.fault.LineFault.{LineFault}
 use Rattle.decision_script.specs.declared.fault.LineFault.TheVariants.{NotAscii, BadLine, BadNumber}
 use Rattle.decision_script.specs.Lines.{number, words, is_ascii}
 
-infixl 10 ◌>>=◌
--- one step after another, up to the first fault
-abbrev pub ◌>>=◌ : {A B F : Type 0} → Result A F → (A → Result B F) → Result B F
-(Ok x) >>= f = f x
-(Err e) >>= f = Err e
-
--- the words are of the form, or the line is bad
+-- the result of a line that has the form; any other line is bad
 abbrev pub where_form : {A : Type 0} → Bool → Result A LineFault → Result A LineFault
 where_form true r = r
 where_form false r = Err BadLine
 
 -- the number that the word writes, where it writes one
-abbrev pub numbered : List ℕ → Result ℕ LineFault
-numbered word = ok_or (number word) BadNumber
+abbrev pub word_number : List ℕ → Result ℕ LineFault
+word_number word = ok_or (number word) BadNumber
 
--- the parameter of this name that takes so many values
+-- a parameter that takes so many values
+abbrev pub with_values : Option Param → ℕ → Result Param LineFault
+with_values (Some param) count = where_form (param_values param == count) (Ok param)
+with_values None count = Err BadLine
+
+-- the parameter of this word, where it takes so many values
 abbrev pub param_of : List ℕ → ℕ → Result Param LineFault
-param_of word count = if bytes_eq word (codes "every") && count == 2 then Ok Every
-    else (if bytes_eq word (codes "service") && count == 2 then Ok Service
-    else (if bytes_eq word (codes "hold") && count == 2 then Ok Hold
-    else (if bytes_eq word (codes "servers") && count == 1 then Ok Servers
-    else (if bytes_eq word (codes "room") && count == 1 then Ok Room
-    else (if bytes_eq word (codes "weight") && count == 2 then Ok Weight
-    else Err BadLine)))))
+param_of word count = with_values (param_of_word word) count
 
 -- the value of a parameter that takes one
 unfoldable pub one_value : Param → List ℕ → Result Change LineFault
 one_value param a = do
-  x ← numbered a
+  x ← word_number a
   Ok (record { param = param; a = x; b = 0 })
 
 -- the values of a parameter that takes two
 unfoldable pub two_values : Param → List ℕ → List ℕ → Result Change LineFault
 two_values param a b = do
-  x ← numbered a
-  y ← numbered b
+  x ← word_number a
+  y ← word_number b
   Ok (record { param = param; a = x; b = y })
 
 abbrev pub change_of : Param → List (List ℕ) → Result Change LineFault
@@ -72,14 +66,14 @@ fork new link old = where_form ((bytes_eq link (codes "from") && is_name new) &&
 -- end CLONE at TIME
 unfoldable pub end : List ℕ → List ℕ → List ℕ → Result Said LineFault
 end who link time = where_form (bytes_eq link (codes "at") && is_name who) (do
-  at ← numbered time
+  at ← word_number time
   Ok (Says (Decide (End who at))))
 
 -- set CLONE at TIME STATION PARAMETER VALUES
 unfoldable pub set : List ℕ → List ℕ → List ℕ → List ℕ → List ℕ → List (List ℕ) → Result Said LineFault
 set who link time station word values = where_form ((bytes_eq link (codes "at") && is_name who) && is_name station) (do
   param ← param_of word (length values)
-  at ← numbered time
+  at ← word_number time
   change ← change_of param values
   Ok (Says (Decide (Set who at station change))))
 
@@ -118,10 +112,10 @@ begins_comment [] = false
 begins_comment (b ∷ bs) = b == 35
 
 -- no words and a comment say nothing
-abbrev pub said : List (List ℕ) → Result Said LineFault
-said [] = Ok Nothing
-said (w ∷ ws) = if begins_comment w then Ok Nothing else sentence w ws
+abbrev pub saying : List (List ℕ) → Result Said LineFault
+saying [] = Ok Nothing
+saying (w ∷ ws) = if begins_comment w then Ok Nothing else sentence w ws
 
 -- what a line says, or the first rule that it breaks
-abbrev pub line_says : List ℕ → Result Said LineFault
-line_says line = if is_ascii line then said (words line) else Err NotAscii
+abbrev pub line_saying : List ℕ → Result Said LineFault
+line_saying line = if is_ascii line then saying (words line) else Err NotAscii

@@ -10,9 +10,10 @@ use Rattle.sim_base.specs.declared.message.Param.TheVariants.{Servers, Room}
 use Rattle.decision_script.specs.declared.item.Act.{Act}
 use Rattle.decision_script.specs.declared.item.Act.TheVariants.{Decide, Look}
 use Rattle.decision_script.specs.declared.item.Item.{Item}
+use Rattle.decision_script.specs.declared.script.TheConstants.{MOST_ANALYSTS, MOST_ITEMS}
 
 -- the names of the analysts in order, and the items in order
-pub record Stated : Type 0 where
+pub record ScriptView : Type 0 where
   pub analysts : List (List ℕ)
   pub items : List Item
 
@@ -46,10 +47,10 @@ pub record IsItem (analysts : ℕ) (item : Item) : Type 0 where
   pub act : IsAct item.act
 
 -- the first analyst is main, no two have one name, and nothing is more than a script may have
-pub record IsScript (s : Stated) : Type 0 where
+pub record IsScript (s : ScriptView) : Type 0 where
   pub first : slice_get s.analysts 0 ≡ Some (codes "main")
   pub named : All IsNamed s.analysts
   pub distinct : AllPairs (λ a b. bytes_eq a b ≡ false) s.analysts
-  pub few_analysts : length s.analysts ≤ 16
-  pub few_items : length s.items ≤ 4096
+  pub few_analysts : length s.analysts ≤ MOST_ANALYSTS
+  pub few_items : length s.items ≤ MOST_ITEMS
   pub valid : All (IsItem (length s.analysts)) s.items

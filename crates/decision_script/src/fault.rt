@@ -5,30 +5,30 @@ ghost use Rattle.decision_script.specs.Faults.{fault_line, fault_number};
 use sim_base::NoMemory;
 use std::alloc::{AllocError, AllocFailed};
 
-/// The first rule that a text breaks, or want of memory. `line` is the number of the first line that
+/// The first rule that a text breaks, or out of memory. `line` is the number of the first line that
 /// breaks one, from 1.
 #[derive(Clone, Copy, Debug, PartialEq, Eq)]
 pub enum ScriptFault {
-    /// More than 1,048,576 bytes.
+    /// More bytes than [`MOST_BYTES`](crate::MOST_BYTES).
     TooLong,
     /// A byte of 128 or more, also in a comment.
     NotAscii { line: u32 },
-    /// The words are of no form.
+    /// The line has no known form.
     BadLine { line: u32 },
-    /// The words are of a form, and one in a number's place is none.
+    /// The line has a known form, but where a number is to stand there is none of 32 bits.
     BadNumber { line: u32 },
-    /// A decision or look after 4,096 others.
+    /// A decision or look after [`MOST_ITEMS`](crate::MOST_ITEMS) others.
     TooManyLines { line: u32 },
-    /// A section of a 17th analyst.
+    /// A section of one analyst more than [`MOST_ANALYSTS`](crate::MOST_ANALYSTS).
     TooManyAnalysts { line: u32 },
-    /// Memory was refused.
+    /// Out of memory.
     NoMemory,
 }
 
 impl ScriptFault {
     /// Its number, from 1 to 7.
     pub fn number(&self) -> u32
-        ensures { result ≡ fault_number self.now }
+        ensures value { result ≡ fault_number self.now }
     {
         match self {
             ScriptFault::TooLong => 1,
@@ -43,7 +43,7 @@ impl ScriptFault {
 
     /// The number of the line that it names, or 0.
     pub fn line(&self) -> u32
-        ensures { result ≡ fault_line self.now }
+        ensures value { result ≡ fault_line self.now }
     {
         match self {
             ScriptFault::TooLong | ScriptFault::NoMemory => 0,
@@ -89,7 +89,7 @@ impl From<NoMemory> for ScriptFault {
     }
 }
 
-/// The first rule that a line breaks by itself, or want of memory.
+/// The first rule that a line breaks by itself, or out of memory.
 #[derive(Clone, Copy, Debug, PartialEq, Eq)]
 pub(crate) enum LineFault {
     NotAscii,

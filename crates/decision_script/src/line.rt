@@ -2,7 +2,7 @@
 ghost use Rattle.std.specs.Prelude.{◌≡◌, ◌≢◌, Ok, Err, map, IfOk, MatchResult};
 ghost use Rattle.sim_base.specs.Names.{is_name};
 ghost use Rattle.decision_script.specs.Lines.{words, is_blank, has_bytes, is_ascii};
-ghost use Rattle.decision_script.specs.Sentences.{change_of, param_of, section, look, fork, end, set, one_value, two_values, after_analyst, after_look, after_fork, after_end, after_set, sentence, begins_comment, said, line_says, where_form};
+ghost use Rattle.decision_script.specs.Sentences.{change_of, param_of, section, look, fork, end, set, one_value, two_values, after_analyst, after_look, after_fork, after_end, after_set, sentence, begins_comment, saying, line_saying, where_form};
 
 use crate::fault::LineFault;
 use crate::item::Act;
@@ -22,7 +22,7 @@ pub(crate) enum Said {
 }
 
 fn name(word: &[u8]) -> Result<Name, LineFault>
-    ensures { result ≡ where_form (is_name word.now) (Ok word.now) }
+    ensures value { result ≡ where_form (is_name word.now) (Ok word.now) }
 {
     match Name::read(word) {
         Some(name) => Ok(name),
@@ -31,28 +31,17 @@ fn name(word: &[u8]) -> Result<Name, LineFault>
 }
 
 fn param(word: &[u8], count: usize) -> Result<Param, LineFault>
-    ensures { result ≡ param_of word.now count }
+    ensures value { result ≡ param_of word.now count }
 {
-    if word == b"every".as_slice() && count == 2 {
-        Ok(Param::Every)
-    } else if word == b"service".as_slice() && count == 2 {
-        Ok(Param::Service)
-    } else if word == b"hold".as_slice() && count == 2 {
-        Ok(Param::Hold)
-    } else if word == b"servers".as_slice() && count == 1 {
-        Ok(Param::Servers)
-    } else if word == b"room".as_slice() && count == 1 {
-        Ok(Param::Room)
-    } else if word == b"weight".as_slice() && count == 2 {
-        Ok(Param::Weight)
-    } else {
-        Err(LineFault::BadLine)
+    match Param::of_word(word) {
+        Some(param) if param.values() as usize == count => Ok(param),
+        _ => Err(LineFault::BadLine),
     }
 }
 
 #[tactic(auto, unfolding(crate::specs::Sentences::one_value))]
 fn one_value_change(param: Param, a: &[u8]) -> Result<Change, LineFault>
-    ensures { result ≡ one_value param a.now }
+    ensures value { result ≡ one_value param a.now }
 {
     let a = number_of(a)?;
     Ok(Change { param, a, b: 0 })
@@ -60,7 +49,7 @@ fn one_value_change(param: Param, a: &[u8]) -> Result<Change, LineFault>
 
 #[tactic(auto, unfolding(crate::specs::Sentences::two_values))]
 fn two_value_change(param: Param, a: &[u8], b: &[u8]) -> Result<Change, LineFault>
-    ensures { result ≡ two_values param a.now b.now }
+    ensures value { result ≡ two_values param a.now b.now }
 {
     let a = number_of(a)?;
     let b = number_of(b)?;
@@ -68,7 +57,7 @@ fn two_value_change(param: Param, a: &[u8], b: &[u8]) -> Result<Change, LineFaul
 }
 
 fn change(param: Param, values: &[&[u8]]) -> Result<Change, LineFault>
-    ensures { result ≡ change_of param (map (λ w. w.now) values.now) }
+    ensures value { result ≡ change_of param (map (λ w. w.now) values.now) }
 {
     match values {
         [a] => one_value_change(param, a),
@@ -79,14 +68,14 @@ fn change(param: Param, values: &[&[u8]]) -> Result<Change, LineFault>
 
 #[tactic(auto, unfolding(crate::specs::Sentences::section))]
 fn section_line(word: &[u8]) -> Result<Said, LineFault>
-    ensures { result ≡ section word.now }
+    ensures value { result ≡ section word.now }
 {
     Ok(Said::Section(name(word)?))
 }
 
 #[tactic(auto, unfolding(crate::specs::Sentences::look))]
 fn look_line(who: &[u8], station: &[u8]) -> Result<Said, LineFault>
-    ensures { result ≡ look who.now station.now }
+    ensures value { result ≡ look who.now station.now }
 {
     let who = name(who)?;
     let station = name(station)?;
@@ -95,7 +84,7 @@ fn look_line(who: &[u8], station: &[u8]) -> Result<Said, LineFault>
 
 #[tactic(auto, unfolding(crate::specs::Sentences::fork))]
 fn fork_line(new: &[u8], link: &[u8], old: &[u8]) -> Result<Said, LineFault>
-    ensures { result ≡ fork new.now link.now old.now }
+    ensures value { result ≡ fork new.now link.now old.now }
 {
     if link != b"from".as_slice() {
         return Err(LineFault::BadLine);
@@ -107,7 +96,7 @@ fn fork_line(new: &[u8], link: &[u8], old: &[u8]) -> Result<Said, LineFault>
 
 #[tactic(auto, unfolding(crate::specs::Sentences::end))]
 fn end_line(who: &[u8], link: &[u8], time: &[u8]) -> Result<Said, LineFault>
-    ensures { result ≡ end who.now link.now time.now }
+    ensures value { result ≡ end who.now link.now time.now }
 {
     if link != b"at".as_slice() {
         return Err(LineFault::BadLine);
@@ -126,7 +115,7 @@ fn set_line(
     word: &[u8],
     values: &[&[u8]],
 ) -> Result<Said, LineFault>
-    ensures { result ≡ set who.now link.now time.now station.now word.now (map (λ w. w.now) values.now) }
+    ensures value { result ≡ set who.now link.now time.now station.now word.now (map (λ w. w.now) values.now) }
 {
     if link != b"at".as_slice() {
         return Err(LineFault::BadLine);
@@ -145,7 +134,7 @@ fn set_line(
 }
 
 fn analyst_words(words: &[&[u8]]) -> Result<Said, LineFault>
-    ensures { result ≡ after_analyst (map (λ w. w.now) words.now) }
+    ensures value { result ≡ after_analyst (map (λ w. w.now) words.now) }
 {
     match words {
         [name] => section_line(name),
@@ -154,7 +143,7 @@ fn analyst_words(words: &[&[u8]]) -> Result<Said, LineFault>
 }
 
 fn look_words(words: &[&[u8]]) -> Result<Said, LineFault>
-    ensures { result ≡ after_look (map (λ w. w.now) words.now) }
+    ensures value { result ≡ after_look (map (λ w. w.now) words.now) }
 {
     match words {
         [who, station] => look_line(who, station),
@@ -163,7 +152,7 @@ fn look_words(words: &[&[u8]]) -> Result<Said, LineFault>
 }
 
 fn fork_words(words: &[&[u8]]) -> Result<Said, LineFault>
-    ensures { result ≡ after_fork (map (λ w. w.now) words.now) }
+    ensures value { result ≡ after_fork (map (λ w. w.now) words.now) }
 {
     match words {
         [new, link, old] => fork_line(new, link, old),
@@ -172,7 +161,7 @@ fn fork_words(words: &[&[u8]]) -> Result<Said, LineFault>
 }
 
 fn end_words(words: &[&[u8]]) -> Result<Said, LineFault>
-    ensures { result ≡ after_end (map (λ w. w.now) words.now) }
+    ensures value { result ≡ after_end (map (λ w. w.now) words.now) }
 {
     match words {
         [who, link, time] => end_line(who, link, time),
@@ -181,7 +170,7 @@ fn end_words(words: &[&[u8]]) -> Result<Said, LineFault>
 }
 
 fn set_words(words: &[&[u8]]) -> Result<Said, LineFault>
-    ensures { result ≡ after_set (map (λ w. w.now) words.now) }
+    ensures value { result ≡ after_set (map (λ w. w.now) words.now) }
 {
     match words {
         [who, link, time, station, word, values @ ..] => {
@@ -192,7 +181,7 @@ fn set_words(words: &[&[u8]]) -> Result<Said, LineFault>
 }
 
 fn sentence_of(verb: &[u8], rest: &[&[u8]]) -> Result<Said, LineFault>
-    ensures { result ≡ sentence verb.now (map (λ w. w.now) rest.now) }
+    ensures value { result ≡ sentence verb.now (map (λ w. w.now) rest.now) }
 {
     if verb == b"analyst".as_slice() {
         analyst_words(rest)
@@ -210,7 +199,7 @@ fn sentence_of(verb: &[u8], rest: &[&[u8]]) -> Result<Said, LineFault>
 }
 
 fn is_comment(word: &[u8]) -> bool
-    ensures { result ≡ begins_comment word.now }
+    ensures value { result ≡ begins_comment word.now }
 {
     match word {
         [first, ..] => *first == b'#',
@@ -218,8 +207,8 @@ fn is_comment(word: &[u8]) -> bool
     }
 }
 
-fn said_by(words: &[&[u8]]) -> Result<Said, LineFault>
-    ensures { result ≡ said (map (λ w. w.now) words.now) }
+fn saying_of_words(words: &[&[u8]]) -> Result<Said, LineFault>
+    ensures value { result ≡ saying (map (λ w. w.now) words.now) }
 {
     match words {
         [] => Ok(Said::Nothing),
@@ -234,19 +223,19 @@ fn said_by(words: &[&[u8]]) -> Result<Said, LineFault>
 }
 
 fn is_ascii_line(line: &[u8]) -> bool
-    ensures { result ≡ is_ascii line.now }
+    ensures value { result ≡ is_ascii line.now }
 {
     line.iter().all(|b| *b < 128)
 }
 
 fn separates(byte: u8) -> bool
-    ensures { result ≡ is_blank byte }
+    ensures value { result ≡ is_blank byte }
 {
     byte == b' ' || byte == b'\t'
 }
 
 fn words_of(alloc: Global, line: &[u8]) -> Result<Vec<&[u8]>, AllocError>
-    ensures { IfOk result (λ v. map (λ w. w.now) v.items ≡ words line.now) }
+    ensures value { IfOk result (λ v. map (λ w. w.now) v.items ≡ words line.now) }
 {
     line.split(|b| separates(*b))
         .filter(|word| !word.is_empty())
@@ -254,14 +243,15 @@ fn words_of(alloc: Global, line: &[u8]) -> Result<Vec<&[u8]>, AllocError>
 }
 
 /// What a line says.
-pub(crate) fn says(alloc: Global, line: &[u8]) -> Result<Said, LineFault>
-    ensures { MatchResult result (λ s. line_says line.now ≡ Ok s) (λ e. e ≢ LineFault.NoMemory → line_says line.now ≡ Err e) }
+pub(crate) fn saying_of_line(alloc: Global, line: &[u8]) -> Result<Said, LineFault>
+    ensures value { MatchResult result (λ s. line_saying line.now ≡ Ok s)
+        (λ e. e ≢ LineFault.NoMemory → line_saying line.now ≡ Err e) }
 {
     if !is_ascii_line(line) {
         return Err(LineFault::NotAscii);
     }
     match words_of(alloc, line) {
-        Ok(words) => said_by(words.as_slice()),
+        Ok(words) => saying_of_words(words.as_slice()),
         Err(_) => Err(LineFault::NoMemory),
     }
 }

@@ -4,34 +4,34 @@ ghost use Rattle.std.specs.List.{list_all};
 ghost use Rattle.std.specs.Str.Parse.{digits_value};
 ghost use Rattle.sim_base.specs.Names.{is_digit};
 ghost use Rattle.decision_script.specs.Lines.{has_number_form};
-ghost use Rattle.decision_script.specs.Sentences.{numbered};
+ghost use Rattle.decision_script.specs.Sentences.{word_number};
 
 use crate::fault::LineFault;
 
-const MAX_DIGITS: usize = 10;
+const MOST_DIGITS: usize = 10;
 
-const MAX_NUMBER: u64 = 4_294_967_295;
+const GREATEST: u64 = 4_294_967_295;
 
 fn is_digit_byte(byte: u8) -> bool
-    ensures { result ≡ is_digit byte }
+    ensures value { result ≡ is_digit byte }
 {
     b'0' <= byte && byte <= b'9'
 }
 
 fn are_digits(word: &[u8]) -> bool
-    ensures { result ≡ list_all is_digit word.now }
+    ensures value { result ≡ list_all is_digit word.now }
 {
     word.iter().all(|b| is_digit_byte(*b))
 }
 
 fn may_lead(byte: u8) -> bool
-    ensures { result ≡ (nat_le 49 byte && nat_le byte 57) }
+    ensures value { result ≡ (nat_le 49 byte && nat_le byte 57) }
 {
     b'1' <= byte && byte <= b'9'
 }
 
 fn may_be_number(word: &[u8]) -> bool
-    ensures { result ≡ has_number_form word.now }
+    ensures value { result ≡ has_number_form word.now }
 {
     match word {
         [] => false,
@@ -42,8 +42,8 @@ fn may_be_number(word: &[u8]) -> bool
 
 fn value(digits: &[u8]) -> u64
     requires all { list_all is_digit digits.now ≡ true }
-    requires few { length digits.now ≤ 10 }
-    ensures { result ≡ digits_value 10 digits.now }
+    requires few { length digits.now ≤ MOST_DIGITS }
+    ensures value { result ≡ digits_value 10 digits.now }
 {
     let mut value: u64 = 0;
     for digit in digits {
@@ -54,13 +54,13 @@ fn value(digits: &[u8]) -> u64
 
 /// The number that the word writes.
 pub(crate) fn number_of(word: &[u8]) -> Result<u64, LineFault>
-    ensures { result ≡ numbered word.now }
+    ensures value { result ≡ word_number word.now }
 {
-    if !may_be_number(word) || word.len() > MAX_DIGITS {
+    if !may_be_number(word) || word.len() > MOST_DIGITS {
         return Err(LineFault::BadNumber);
     }
     let number = value(word);
-    if number > MAX_NUMBER {
+    if number > GREATEST {
         return Err(LineFault::BadNumber);
     }
     Ok(number)

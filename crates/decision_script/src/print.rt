@@ -6,11 +6,11 @@ ghost use Rattle.decision_script.specs.Printing.{canonical_text, item_lines, lin
 use crate::item::{Act, Item};
 use crate::script::Script;
 use itoa::Buffer;
-use sim_base::{Change, Decision, Name, NoMemory, Param};
+use sim_base::{Change, Decision, Name, NoMemory};
 use std::alloc::Global;
 
 fn push_name(out: &mut Vec<u8>, name: &Name) -> Result<(), NoMemory>
-    ensures { OnOk result (out.new.items ≡ out.old.items ++ (32 ∷ name.now)) }
+    ensures value { OnOk result (out.new.items ≡ out.old.items ++ (32 ∷ name.now)) }
 {
     out.extend_from_slice(b" ")?;
     out.extend_from_slice(name.as_bytes())?;
@@ -18,7 +18,7 @@ fn push_name(out: &mut Vec<u8>, name: &Name) -> Result<(), NoMemory>
 }
 
 fn push_number(out: &mut Vec<u8>, number: u64) -> Result<(), NoMemory>
-    ensures { OnOk result (out.new.items ≡ out.old.items ++ (32 ∷ decimal number)) }
+    ensures value { OnOk result (out.new.items ≡ out.old.items ++ (32 ∷ decimal number)) }
 {
     let mut buffer = Buffer::new();
     out.extend_from_slice(b" ")?;
@@ -27,7 +27,7 @@ fn push_number(out: &mut Vec<u8>, number: u64) -> Result<(), NoMemory>
 }
 
 fn push_section(out: &mut Vec<u8>, name: &Name) -> Result<(), NoMemory>
-    ensures { OnOk result (out.new.items ≡ out.old.items ++ line_text (words_of_section name.now)) }
+    ensures value { OnOk result (out.new.items ≡ out.old.items ++ line_text (words_of_section name.now)) }
 {
     out.extend_from_slice(b"analyst")?;
     push_name(out, name)?;
@@ -36,7 +36,8 @@ fn push_section(out: &mut Vec<u8>, name: &Name) -> Result<(), NoMemory>
 }
 
 fn push_fork(out: &mut Vec<u8>, new: &Name, old: &Name) -> Result<(), NoMemory>
-    ensures { OnOk result (out.new.items ≡ out.old.items ++ line_text (codes "fork" ∷ new.now ∷ codes "from" ∷ old.now ∷ [])) }
+    ensures value { OnOk result (out.new.items ≡
+        out.old.items ++ line_text (codes "fork" ∷ new.now ∷ codes "from" ∷ old.now ∷ [])) }
 {
     out.extend_from_slice(b"fork")?;
     push_name(out, new)?;
@@ -46,24 +47,16 @@ fn push_fork(out: &mut Vec<u8>, new: &Name, old: &Name) -> Result<(), NoMemory>
     Ok(())
 }
 
-fn push_values(out: &mut Vec<u8>, change: &Change) -> Result<(), NoMemory>
-    ensures { OnOk result (out.new.items ≡ out.old.items ++ (32 ∷ join_with_byte 32 (words_of_change change.now.param change.now.a change.now.b))) }
+fn push_change(out: &mut Vec<u8>, change: &Change) -> Result<(), NoMemory>
+    ensures value { OnOk result (out.new.items ≡ out.old.items
+        ++ (32 ∷ join_with_byte 32 (words_of_change change.now.param change.now.a change.now.b))) }
 {
-    match change.param {
-        Param::Every => out.extend_from_slice(b" every")?,
-        Param::Service => out.extend_from_slice(b" service")?,
-        Param::Hold => out.extend_from_slice(b" hold")?,
-        Param::Weight => out.extend_from_slice(b" weight")?,
-        Param::Servers => {
-            out.extend_from_slice(b" servers")?;
-            return push_number(out, change.a);
-        }
-        Param::Room => {
-            out.extend_from_slice(b" room")?;
-            return push_number(out, change.a);
-        }
-    }
+    out.extend_from_slice(b" ")?;
+    out.extend_from_slice(change.param.word().as_bytes())?;
     push_number(out, change.a)?;
+    if change.param.values() == 1 {
+        return Ok(());
+    }
     push_number(out, change.b)
 }
 
@@ -74,20 +67,23 @@ fn push_set(
     station: &Name,
     change: &Change,
 ) -> Result<(), NoMemory>
-    ensures { OnOk result (out.new.items ≡ out.old.items ++ line_text (codes "set" ∷ who.now ∷ codes "at" ∷ decimal at ∷ station.now ∷ words_of_change change.now.param change.now.a change.now.b)) }
+    ensures value { OnOk result (out.new.items ≡ out.old.items
+        ++ line_text (codes "set" ∷ who.now ∷ codes "at" ∷ decimal at ∷ station.now
+        ∷ words_of_change change.now.param change.now.a change.now.b)) }
 {
     out.extend_from_slice(b"set")?;
     push_name(out, who)?;
     out.extend_from_slice(b" at")?;
     push_number(out, at)?;
     push_name(out, station)?;
-    push_values(out, change)?;
+    push_change(out, change)?;
     out.extend_from_slice(b"\n")?;
     Ok(())
 }
 
 fn push_end(out: &mut Vec<u8>, who: &Name, at: u64) -> Result<(), NoMemory>
-    ensures { OnOk result (out.new.items ≡ out.old.items ++ line_text (codes "end" ∷ who.now ∷ codes "at" ∷ decimal at ∷ [])) }
+    ensures value { OnOk result (out.new.items ≡
+        out.old.items ++ line_text (codes "end" ∷ who.now ∷ codes "at" ∷ decimal at ∷ [])) }
 {
     out.extend_from_slice(b"end")?;
     push_name(out, who)?;
@@ -98,7 +94,7 @@ fn push_end(out: &mut Vec<u8>, who: &Name, at: u64) -> Result<(), NoMemory>
 }
 
 fn push_look(out: &mut Vec<u8>, who: &Name, station: &Name) -> Result<(), NoMemory>
-    ensures { OnOk result (out.new.items ≡ out.old.items ++ line_text (codes "look" ∷ who.now ∷ station.now ∷ [])) }
+    ensures value { OnOk result (out.new.items ≡ out.old.items ++ line_text (codes "look" ∷ who.now ∷ station.now ∷ [])) }
 {
     out.extend_from_slice(b"look")?;
     push_name(out, who)?;
@@ -108,7 +104,7 @@ fn push_look(out: &mut Vec<u8>, who: &Name, station: &Name) -> Result<(), NoMemo
 }
 
 fn push_act(out: &mut Vec<u8>, act: &Act) -> Result<(), NoMemory>
-    ensures { OnOk result (out.new.items ≡ out.old.items ++ line_text (words_of_act act.now)) }
+    ensures value { OnOk result (out.new.items ≡ out.old.items ++ line_text (words_of_act act.now)) }
 {
     match act {
         Act::Decide(Decision::Fork { new, old }) => push_fork(out, new, old),
@@ -125,18 +121,18 @@ fn push_act(out: &mut Vec<u8>, act: &Act) -> Result<(), NoMemory>
     }
 }
 
-fn after_first(analysts: &[Name]) -> &[Name]
-    ensures { result.now ≡ drop 1 analysts.now }
+fn others(analysts: &[Name]) -> &[Name]
+    ensures value { result.now ≡ drop 1 analysts.now }
 {
     match analysts {
-        [_, others @ ..] => others,
+        [_main, others @ ..] => others,
         [] => analysts,
     }
 }
 
-// A line for each of these analysts.
+// A section line for each of these analysts.
 fn push_sections(out: &mut Vec<u8>, names: &[Name]) -> Result<(), NoMemory>
-    ensures { OnOk result (out.new.items ≡ out.old.items ++ flat_map line_text (map words_of_section names.now)) }
+    ensures value { OnOk result (out.new.items ≡ out.old.items ++ flat_map line_text (map words_of_section names.now)) }
 {
     'names: for name in names {
         push_section(out, name)?;
@@ -152,7 +148,8 @@ fn push_section_before(
 ) -> Result<(), NoMemory>
     requires low { 1 ≤ item.now.analyst }
     requires high { item.now.analyst ≤ length analysts.now }
-    ensures { OnOk result (out.new.items ≡ out.old.items ++ flat_map line_text (section_before analysts.now force item.now)) }
+    ensures value { OnOk result (out.new.items ≡ out.old.items
+        ++ flat_map line_text (section_before analysts.now force item.now)) }
 {
     if item.analyst == force {
         return Ok(());
@@ -163,7 +160,8 @@ fn push_section_before(
 fn push_items(out: &mut Vec<u8>, analysts: &[Name], items: &[Item]) -> Result<(), NoMemory>
     requires few { length analysts.now ≤ 16 }
     requires there { All (λ i. (1 ≤ i.analyst) × (i.analyst ≤ length analysts.now)) items.now }
-    ensures { OnOk result (out.new.items ≡ out.old.items ++ flat_map line_text (item_lines analysts.now (length analysts.now) items.now)) }
+    ensures value { OnOk result (out.new.items ≡ out.old.items
+        ++ flat_map line_text (item_lines analysts.now (length analysts.now) items.now)) }
 {
     let mut force = analysts.len() as u32;
     'items: for item in items {
@@ -177,11 +175,11 @@ fn push_items(out: &mut Vec<u8>, analysts: &[Name], items: &[Item]) -> Result<()
 /// The canonical text: a section line for each analyst from the second on, and then the items, with a
 /// section line wherever the analyst changes.
 pub fn print_script(alloc: Global, script: &Script) -> Result<Vec<u8>, NoMemory>
-    ensures { IfOk result (λ v. v.items ≡ canonical_text script.now) }
+    ensures value { IfOk result (λ v. v.items ≡ canonical_text script.now) }
 {
     let mut out = Vec::new(alloc);
     let analysts = script.analysts.as_slice();
-    push_sections(&mut out, after_first(analysts))?;
+    push_sections(&mut out, others(analysts))?;
     push_items(&mut out, analysts, script.items.as_slice())?;
     Ok(out)
 }

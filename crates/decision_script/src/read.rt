@@ -2,21 +2,15 @@
 ghost use Rattle.std.specs.Prelude.{◌≡◌, ◌≢◌, ◌≤◌, length, codes, Ok, Err, IfOk, IfErr};
 ghost use Rattle.std.specs.Str.Lines.{strip_carriage_return};
 ghost use Rattle.decision_script.specs.Lines.{is_newline, lines};
-ghost use Rattle.decision_script.specs.Reading.{place_of, after_lines, fault_at, script, begun};
+ghost use Rattle.decision_script.specs.Reading.{after_lines, fault_at, script, opening};
 
 use crate::fault::{LineFault, ScriptFault};
 use crate::item::{Act, Item, push_item};
-use crate::line::{Said, says};
-use crate::script::Script;
+use crate::line::{Said, saying_of_line};
+use crate::script::{MOST_ANALYSTS, MOST_BYTES, MOST_ITEMS, Script};
 use sim_base::Name;
 use std::alloc::Global;
 use std::marker::Model;
-
-const MAX_BYTES: usize = 1_048_576;
-
-const MAX_ANALYSTS: usize = 16;
-
-const MAX_ITEMS: usize = 4_096;
 
 // How far the reading has come.
 #[derive(Drop)]
@@ -30,21 +24,22 @@ struct Reader {
 impl Model for Reader {
     ghost use Rattle.std.specs.Prelude.{◌≤◌, length};
     ghost use Rattle.decision_script.specs.Reading.{Reading};
+    ghost use Rattle.decision_script.specs.declared.script.TheConstants.{MOST_ANALYSTS};
 
     ghost Value = { Reading };
 
     ghost view = { λ r. record { analysts = r.analysts.items; current = r.current; items = r.items.items } };
 
-    ghost invariant = { λ r. length r.analysts.items ≤ 16 };
+    ghost invariant = { λ r. length r.analysts.items ≤ MOST_ANALYSTS };
 }
 
 impl Reader {
     ghost use Rattle.std.specs.Prelude.{◌≡◌, ◌≢◌, Ok, Err, OnOk, IfOk, IfErr};
     ghost use Rattle.decision_script.specs.Stating.{IsScript};
-    ghost use Rattle.decision_script.specs.Reading.{place_of, in_section, with_act, after_saying, after_line, begun, stated};
+    ghost use Rattle.decision_script.specs.Reading.{place_of, in_section, with_act, after_saying, after_line, opening, script_of};
 
     fn new(alloc: Global) -> Result<Reader, ScriptFault>
-        ensures ok { IfOk result (λ r. r ≡ begun) }
+        ensures ok { IfOk result (λ r. r ≡ opening) }
         ensures refused { IfErr result (λ e. e ≡ ScriptFault.NoMemory) }
     {
         let mut analysts = Vec::new(alloc);
@@ -56,17 +51,18 @@ impl Reader {
         })
     }
 
-    fn section(&mut self, line: u32, name: Name) -> Result<(), ScriptFault>
+    fn begin_section(&mut self, line: u32, name: Name) -> Result<(), ScriptFault>
         ensures ok { OnOk result (in_section line self.old name (place_of name self.old.analysts) ≡ Ok self.new) }
-        ensures refused { IfErr result (λ e. e ≢ ScriptFault.NoMemory → in_section line self.old name (place_of name self.old.analysts) ≡ Err e) }
+        ensures refused { IfErr result (λ e. e ≢ ScriptFault.NoMemory
+            → in_section line self.old name (place_of name self.old.analysts) ≡ Err e) }
     {
-        match place(&name, self.analysts.as_slice()) {
+        match name.position_in(self.analysts.as_slice()) {
             Some(i) => {
                 self.current = i as u32 + 1;
                 Ok(())
             }
             None => {
-                if self.analysts.len() >= MAX_ANALYSTS {
+                if self.analysts.len() >= MOST_ANALYSTS {
                     return Err(ScriptFault::TooManyAnalysts { line });
                 }
                 self.analysts.push(name)?;
@@ -76,11 +72,11 @@ impl Reader {
         }
     }
 
-    fn act(&mut self, line: u32, act: Act) -> Result<(), ScriptFault>
+    fn add_act(&mut self, line: u32, act: Act) -> Result<(), ScriptFault>
         ensures ok { OnOk result (with_act line self.old act ≡ Ok self.new) }
         ensures refused { IfErr result (λ e. e ≢ ScriptFault.NoMemory → with_act line self.old act ≡ Err e) }
     {
-        if self.items.len() >= MAX_ITEMS {
+        if self.items.len() >= MOST_ITEMS {
             return Err(ScriptFault::TooManyLines { line });
         }
         let item = Item {
@@ -92,31 +88,31 @@ impl Reader {
         Ok(())
     }
 
-    fn said(&mut self, line: u32, said: Said) -> Result<(), ScriptFault>
+    fn take(&mut self, line: u32, said: Said) -> Result<(), ScriptFault>
         ensures ok { OnOk result (after_saying line self.old said ≡ Ok self.new) }
         ensures refused { IfErr result (λ e. e ≢ ScriptFault.NoMemory → after_saying line self.old said ≡ Err e) }
     {
         match said {
             Said::Nothing => Ok(()),
-            Said::Section(name) => self.section(line, name),
-            Said::Says(act) => self.act(line, act),
+            Said::Section(name) => self.begin_section(line, name),
+            Said::Says(act) => self.add_act(line, act),
         }
     }
 
     #[tactic(auto, unfolding(crate::specs::Reading::after_line))]
-    fn line(&mut self, alloc: Global, line: u32, text: &[u8]) -> Result<(), ScriptFault>
+    fn read_line(&mut self, alloc: Global, line: u32, text: &[u8]) -> Result<(), ScriptFault>
         ensures ok { OnOk result (after_line line self.old text.now ≡ Ok self.new) }
         ensures refused { IfErr result (λ e. e ≢ ScriptFault.NoMemory → after_line line self.old text.now ≡ Err e) }
     {
-        match says(alloc, text) {
-            Ok(said) => self.said(line, said),
+        match saying_of_line(alloc, text) {
+            Ok(said) => self.take(line, said),
             Err(broken) => Err(fault(line, broken)),
         }
     }
 
-    fn stated(self) -> Script
-        requires { IsScript (stated self) }
-        ensures { result ≡ stated self }
+    fn into_script(self) -> Script
+        requires valid { IsScript (script_of self) }
+        ensures value { result ≡ script_of self }
     {
         Script {
             analysts: self.analysts,
@@ -126,7 +122,7 @@ impl Reader {
 }
 
 fn main_name() -> Name
-    ensures { result ≡ codes "main" }
+    ensures value { result ≡ codes "main" }
 {
     match Name::read(b"main") {
         Some(name) => name,
@@ -134,16 +130,8 @@ fn main_name() -> Name
     }
 }
 
-fn place(name: &Name, analysts: &[Name]) -> Option<usize>
-    ensures { result ≡ place_of name.now analysts.now }
-{
-    analysts
-        .iter()
-        .position(|other| other.as_bytes() == name.as_bytes())
-}
-
 fn fault(line: u32, broken: LineFault) -> ScriptFault
-    ensures { result ≡ fault_at line broken }
+    ensures value { result ≡ fault_at line broken }
 {
     match broken {
         LineFault::NotAscii => ScriptFault::NotAscii { line },
@@ -154,30 +142,30 @@ fn fault(line: u32, broken: LineFault) -> ScriptFault
 }
 
 fn without_return(line: &[u8]) -> &[u8]
-    ensures { result.now ≡ strip_carriage_return line.now }
+    ensures value { result.now ≡ strip_carriage_return line.now }
 {
     match line {
-        [front @ .., b'\r'] => front,
+        [text @ .., b'\r'] => text,
         _ => line,
     }
 }
 
 fn ends_line(byte: u8) -> bool
-    ensures { result ≡ is_newline byte }
+    ensures value { result ≡ is_newline byte }
 {
     byte == b'\n'
 }
 
 fn read_lines(alloc: Global, text: &[u8]) -> Result<Reader, ScriptFault>
-    requires { length text.now ≤ 1048576 }
-    ensures ok { IfOk result (λ r. after_lines 1 begun (lines text.now) ≡ Ok r) }
-    ensures refused { IfErr result (λ e. e ≢ ScriptFault.NoMemory → after_lines 1 begun (lines text.now) ≡ Err e) }
+    requires short { length text.now ≤ MOST_BYTES }
+    ensures ok { IfOk result (λ r. after_lines 1 opening (lines text.now) ≡ Ok r) }
+    ensures refused { IfErr result (λ e. e ≢ ScriptFault.NoMemory → after_lines 1 opening (lines text.now) ≡ Err e) }
 {
     let mut reader = Reader::new(alloc)?;
     let mut line: u32 = 0;
     'lines: for part in text.split(|b| ends_line(*b)) {
         line += 1;
-        if let Err(fault) = reader.line(alloc, line, without_return(part)) {
+        if let Err(fault) = reader.read_line(alloc, line, without_return(part)) {
             return Err(fault);
         }
     }
@@ -187,14 +175,16 @@ fn read_lines(alloc: Global, text: &[u8]) -> Result<Reader, ScriptFault>
 /// Reads the script that a text states. A refusal names the first line with a fault, and of its faults
 /// the first in the order of [`ScriptFault`].
 pub fn read_script(alloc: Global, text: &[u8]) -> Result<Script, ScriptFault>
+    // what the text states
     ensures ok { IfOk result (λ s. script text.now ≡ Ok s) }
+    // or the first rule that it breaks; only out of memory says nothing of the text
     ensures refused { IfErr result (λ e. e ≢ ScriptFault.NoMemory → script text.now ≡ Err e) }
 {
-    if text.len() > MAX_BYTES {
+    if text.len() > MOST_BYTES {
         return Err(ScriptFault::TooLong);
     }
     match read_lines(alloc, text) {
-        Ok(reader) => Ok(reader.stated()),
+        Ok(reader) => Ok(reader.into_script()),
         Err(fault) => Err(fault),
     }
 }

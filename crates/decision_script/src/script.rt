@@ -6,6 +6,13 @@ use crate::item::Item;
 use sim_base::Name;
 use std::marker::Model;
 
+/// How many bytes a text may have.
+pub const MOST_BYTES: usize = 1_048_576;
+/// How many analysts may act in a script, `main` among them.
+pub const MOST_ANALYSTS: usize = 16;
+/// How many decisions and looks a script may have.
+pub const MOST_ITEMS: usize = 4_096;
+
 /// Who acts, and what is asked for, in order: what a text states, or a part of it.
 #[derive(Drop)]
 pub struct Script {
@@ -14,9 +21,9 @@ pub struct Script {
 }
 
 impl Model for Script {
-    ghost use Rattle.decision_script.specs.Stating.{Stated, IsScript};
+    ghost use Rattle.decision_script.specs.Stating.{ScriptView, IsScript};
 
-    ghost Value = { Stated };
+    ghost Value = { ScriptView };
 
     ghost view = { λ s. record { analysts = s.analysts.items; items = s.items.items } };
 
@@ -36,14 +43,14 @@ impl Script {
 
     /// Whether it has none.
     pub fn is_empty(&self) -> bool
-        ensures { IsTrue result ↔ (self.now.items ≡ []) }
+        ensures value { IsTrue result ↔ (self.now.items ≡ []) }
     {
         self.items.is_empty()
     }
 
     /// The item of an index, from 0.
     pub fn item(&self, i: u32) -> Item
-        requires { i < length self.now.items }
+        requires there { i < length self.now.items }
         ensures value { slice_get self.now.items i ≡ Some result }
         ensures valid { IsScript self.now }
     {

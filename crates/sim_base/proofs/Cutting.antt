@@ -1,61 +1,68 @@
--- Entries that come in their order are appended.
-use Rattle.std.proofs.Common.{◌≡◌, refl, ap, List, [], ◌∷◌, ◌++◌, Option, Some, None, Ordering, Less, Greater, append_assoc, ◌∙◌, subst}
-use Rattle.std.specs.List.{AllByRecursion}
-use Rattle.std.specs.Cmp.{IsTotalOrder}
-use Rattle.std.specs.Ordering.{ordering_reverse}
-use Rattle.std.specs.Map.{keys_of}
-use Rattle.std.specs.BTreeMap.{insert_entry}
-use Rattle.std.specs.List.Sorted.{IsStrictlySortedBy}
-use Rattle.sim_base.specs.declared.message.Msg.{Msg}
-use Rattle.sim_base.specs.Order.{msg_cmp}
-use Rattle.sim_base.specs.Pending.{cut_by}
-use Rattle.sim_base.proofs.OrderLaws.{msg_total}
-
-module _ {K S : Type 0} where
-  all_middle : (P : K → Type 0) (es : List (K × S)) (e : K × S) (rest : List (K × S)) → AllByRecursion P (keys_of (es ++ e ∷ rest)) → P e.0
-  all_middle P [] e rest all = all.0
-  all_middle P (x ∷ es) e rest all = all_middle P es e rest all.1
-
-  all_without : (P : K → Type 0) (es : List (K × S)) (e : K × S) (rest : List (K × S)) → AllByRecursion P (keys_of (es ++ e ∷ rest)) → AllByRecursion P (keys_of (es ++ rest))
-  all_without P [] e rest all = all.1
-  all_without P (x ∷ es) e rest all = (all.0, all_without P es e rest all.1)
-
-  -- keys stay in order without one of them
-  pub sorted_without : (R : K → K → Ordering) (es : List (K × S)) (e : K × S) (rest : List (K × S)) → IsStrictlySortedBy R (keys_of (es ++ e ∷ rest)) → IsStrictlySortedBy R (keys_of (es ++ rest))
-  unfolding IsStrictlySortedBy
-  sorted_without R [] e rest up = up.1
-  sorted_without R (x ∷ es) e rest up = (all_without (λ y. R x.0 y ≡ Less) es e rest up.0, sorted_without R es e rest up.1)
-
-  same_keys : (es : List (K × S)) (k : K) (v w : S) (rest : List (K × S)) → keys_of (es ++ (k, w) ∷ rest) ≡ keys_of ((es ++ (k, v) ∷ []) ++ rest)
-  same_keys [] k v w rest = refl
-  same_keys (x ∷ es) k v w rest = ap (λ ks. x.0 ∷ ks) (same_keys es k v w rest)
-
-  -- keys stay in order whatever their values
-  pub sorted_with : (R : K → K → Ordering) (es : List (K × S)) (k : K) (v w : S) (rest : List (K × S)) → IsStrictlySortedBy R (keys_of (es ++ (k, w) ∷ rest)) → IsStrictlySortedBy R (keys_of ((es ++ (k, v) ∷ []) ++ rest))
-  sorted_with R es k v w rest up = subst (λ (ks : List K). IsStrictlySortedBy R ks) (same_keys es k v w rest) up
-
-  -- a key above all others goes to the end
-  pub insert_last : {R : K → K → Ordering} → IsTotalOrder R → (es : List (K × S)) (k : K) (v w : S) (rest : List (K × S)) → IsStrictlySortedBy R (keys_of (es ++ (k, w) ∷ rest)) → insert_entry R es k v ≡ es ++ (k, v) ∷ []
-  unfolding IsStrictlySortedBy
-  insert_last total [] k v w rest up = refl
-  insert_last {R = R} total (x ∷ es) k v w rest up =
-      let below : R x.0 k ≡ Less = all_middle (λ y. R x.0 y ≡ Less) es (k, w) rest up.0 in
-      let above : R k x.0 ≡ Greater = total.antisymm k x.0 ∙ ap ordering_reverse below in
-      rw above (ap (λ t. x ∷ t) (insert_last total es k v w rest up.1))
+-- Messages whose marks meet some marks: of lists together, in order still; and marks that are spread.
+use Rattle.std.proofs.Common.{◌≡◌, ℕ, suc, ◌<◌, ◌≤◌, refl, sym, ap, ◌∙◌, List, [], ◌∷◌, ◌++◌, Option, Some, None, Ordering, Less, length, map, option_map, is_some, if◌then◌else◌, arith}
+use Rattle.std.specs.Prelude.{slice_get}
+use Rattle.std.specs.List.{AllByRecursion, cons_option}
+use Rattle.std.proofs.lemmas.List.Elements.{filter_map-append}
+use Rattle.sim_base.specs.Pending.{met_by, cut_by, spread_marks}
+use Rattle.sim_base.specs.Marked.{Above, SortedMarked}
 
 module _ {M K : Type 0} (meet : K → K → Option K) (by : K) where
   -- a message whose marks share v with `by` is kept with v
-  pub cut_kept : (done rest all : List (M × K)) (m : M) (v w : K) → done ++ cut_by meet by ((m, w) ∷ rest) ≡ all → meet w by ≡ Some v → (done ++ (m, v) ∷ []) ++ cut_by meet by rest ≡ all
-  cut_kept done rest all m v w so_far shared = append_assoc done ((m, v) ∷ []) (cut_by meet by rest) ∙ (rw shared at so_far)
+  pub cut_kept : (x : M × K) (v : K) (rest : List (M × K)) → meet x.1 by ≡ Some v → cut_by meet by (x ∷ rest) ≡ (x.0, v) ∷ cut_by meet by rest
+  cut_kept x v rest e = rw e refl
 
   -- a message whose marks share nothing is left out
-  pub cut_dropped : (done rest all : List (M × K)) (m : M) (w : K) → done ++ cut_by meet by ((m, w) ∷ rest) ≡ all → meet w by ≡ None → done ++ cut_by meet by rest ≡ all
-  cut_dropped done rest all m w so_far nothing = rw nothing at so_far
+  pub cut_dropped : (x : M × K) (rest : List (M × K)) → meet x.1 by ≡ None → cut_by meet by (x ∷ rest) ≡ cut_by meet by rest
+  cut_dropped x rest e = rw e refl
 
--- along an equal order
-pub last_along : {S : Type 0} (R : Msg → Msg → Ordering) → msg_cmp ≡ R → (es : List (Msg × S)) (k : Msg) (v w : S) (rest : List (Msg × S)) → IsStrictlySortedBy msg_cmp (keys_of (es ++ (k, w) ∷ rest)) → insert_entry R es k v ≡ es ++ (k, v) ∷ []
-last_along R same es k v w rest up =
-    subst (λ (Q : Msg → Msg → Ordering). insert_entry Q es k v ≡ es ++ (k, v) ∷ []) same (insert_last msg_total es k v w rest up)
+  -- what meets of two lists
+  pub cut-append : (xs ys : List (M × K)) → cut_by meet by (xs ++ ys) ≡ cut_by meet by xs ++ cut_by meet by ys
+  cut-append xs ys = filter_map-append (met_by meet by) xs ys
 
-pub ordered_along : (R : Msg → Msg → Ordering) → R ≡ msg_cmp → (ks : List Msg) → IsStrictlySortedBy R ks → IsStrictlySortedBy msg_cmp ks
-ordered_along R same ks up = subst (λ (Q : Msg → Msg → Ordering). IsStrictlySortedBy Q ks) same up
+  length_one : (r : Option K) (x : M × K) (rest : List (M × K)) (n : ℕ) → length rest ≤ n → length (cons_option (option_map (λ k. (x.0, k)) r) rest) ≤ suc n
+  length_one None x rest n l = omega arith
+  length_one (Some k) x rest n l = omega arith
+
+  -- no more messages meet than there are
+  pub length_cut : (xs : List (M × K)) → length (cut_by meet by xs) ≤ length xs
+  length_cut [] = omega arith
+  length_cut (x ∷ xs) = length_one (meet x.1 by) x (cut_by meet by xs) (length xs) (length_cut xs)
+
+  module _ (cmp : M → M → Ordering) where
+    above_one : (r : Option K) (m : M) (x : M × K) (rest : List (M × K)) → cmp m x.0 ≡ Less → Above cmp m rest → Above cmp m (cons_option (option_map (λ k. (x.0, k)) r) rest)
+    above_one None m x rest l h = h
+    above_one (Some k) m x rest l h = (l, h)
+
+    above_cut : (m : M) (xs : List (M × K)) → Above cmp m xs → Above cmp m (cut_by meet by xs)
+    above_cut m [] h = tt
+    above_cut m (x ∷ xs) h = above_one (meet x.1 by) m x (cut_by meet by xs) h.0 (above_cut m xs h.1)
+
+    sorted_one : (r : Option K) (x : M × K) (rest : List (M × K)) → Above cmp x.0 rest → SortedMarked cmp rest → SortedMarked cmp (cons_option (option_map (λ k. (x.0, k)) r) rest)
+    sorted_one None x rest a s = s
+    sorted_one (Some k) x rest a s = (a, s)
+
+    -- what meets is in order
+    pub sorted_cut : (xs : List (M × K)) → SortedMarked cmp xs → SortedMarked cmp (cut_by meet by xs)
+    sorted_cut [] s = tt
+    sorted_cut (x ∷ xs) s = sorted_one (meet x.1 by) x (cut_by meet by xs) (above_cut x.0 xs s.0) (sorted_cut xs s.1)
+
+module _ {M K : Type 0} (join : K → K → K) (meet : K → K → Option K) (by more : K) (cmp : M → M → Ordering) where
+  above_spread : (m : M) (xs : List (M × K)) → Above cmp m xs → Above cmp m (spread_marks join meet by more xs)
+  above_spread m [] h = tt
+  above_spread m (x ∷ xs) h = (h.0, above_spread m xs h.1)
+
+  -- other marks keep the order
+  pub sorted_spread : (xs : List (M × K)) → SortedMarked cmp xs → SortedMarked cmp (spread_marks join meet by more xs)
+  sorted_spread [] s = tt
+  sorted_spread (x ∷ xs) s = (above_spread x.0 xs s.0, sorted_spread xs s.1)
+
+module _ {X : Type 0} where
+  -- the first of two lists is the first of the one
+  pub first_of_some : (xs ys : List X) (x : X) → slice_get xs 0 ≡ Some x → slice_get (xs ++ ys) 0 ≡ Some x
+  first_of_some [] ys x e = absurd (cc)
+  first_of_some (y ∷ xs) ys x e = e
+
+  -- or of the other, where the one is empty
+  pub first_of_none : (xs ys : List X) → slice_get xs 0 ≡ None → xs ++ ys ≡ ys
+  first_of_none [] ys e = refl
+  first_of_none (y ∷ xs) ys e = absurd (cc)

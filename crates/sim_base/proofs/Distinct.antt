@@ -1,16 +1,17 @@
 -- No two clones have one name.
-use Rattle.std.proofs.Common.{◌≡◌, ℕ, ◌+◌, ◌^◌, ◌<◌, ◌≤◌, List, [], ◌∷◌, ◌++◌, length, map, refl, ap, ◌∙◌, sym, arith, zero, suc, Some, None, slice_set, length-set, Bool, false, position, get_or}
+use Rattle.std.proofs.Common.{◌≡◌, ℕ, ◌+◌, ◌^◌, ◌<◌, List, [], ◌∷◌, ◌++◌, length, map, refl, ap, ◌∙◌, sym, arith, zero, suc, Some, None, slice_set, length-set, Bool, false, get_or}
 use Rattle.std.proofs.lemmas.Grind.{common_steps}
 use Rattle.std.specs.Str.{bytes_eq}
 use Rattle.std.specs.List.{position_or_len}
 use Rattle.std.proofs.lemmas.List.{length_push, map_push, length-map}
 use Rattle.std.proofs.lemmas.List.Quantifiers.{all_pairs_push}
-use Rattle.std.proofs.lemmas.List.Sums.{fails_before_first, position_or_len_is}
+use Rattle.std.proofs.lemmas.List.Sums.{position_or_len_is}
 use Rattle.std.proofs.lemmas.Slice.Eq.{bytes_eq-Decides}
 use Rattle.sim_base.specs.declared.decision.Planned.{Planned}
 use Rattle.sim_base.specs.Clones.{Clone, clone_at, forked, place_of}
-use Rattle.sim_base.specs.KeptClones.{AreClones, names, Kept, clone_of, kept_fork, kept_added, kept_ended}
-use Rattle.sim_base.proofs.Room.{position-map, seen_fork, seen_added, seen_ended}
+use Rattle.sim_base.specs.CloneListViews.{AreClones, names, CloneListView, clone_of, list_fork, lists_with_plan, lists_with_end}
+use Rattle.sim_base.proofs.ListLaws.{position-map, none_passes}
+use Rattle.sim_base.proofs.CloneLists.{seen_fork, seen_added, seen_ended}
 
 -- the name at a place
 name_there : (clones : List Clone) (c : ℕ) → get_or (names clones) c [] ≡ (clone_at clones c).name
@@ -23,12 +24,6 @@ names_set : (clones : List Clone) (c : ℕ) (k : Clone) → k.name ≡ (clone_at
 names_set [] c k e = refl
 names_set (x ∷ xs) zero k e = ap (λ n. n ∷ names xs) e
 names_set (x ∷ xs) (suc c) k e = ap (λ ns. x.name ∷ ns) (names_set xs c k e)
-
--- where no element passes, each fails
-none_passes : {X : Type 0} (p : X → Bool) (xs : List X) → position p xs ≡ None → (k : ℕ) (d : X) → k < length xs → p (get_or xs k d) ≡ false
-none_passes p xs none k d b =
-    let past : length xs ≤ position_or_len p xs = grind (arith, common_steps) in
-    fails_before_first p xs k d (omega arith)
 
 -- a clone in another's place, of the same name
 AreClones-set : (clones : List Clone) (c : ℕ) (k : Clone) → k.name ≡ (clone_at clones c).name → AreClones clones → AreClones (slice_set clones c k)
@@ -59,26 +54,26 @@ place_of_name clones c h b =
     sym (position-map p (λ k. k.name) clones) ∙ grind (arith, common_steps)
 
 -- the clones after a fork
-pub clones_after_fork : (kept : List Kept) (seen : List Clone) (new : List ℕ) (old room : ℕ) → map clone_of kept ≡ seen → place_of new seen ≡ None → length seen + 1 < 2 ^ 32 → AreClones (map clone_of kept) → AreClones (map clone_of (kept ++ kept_fork kept new old room ∷ []))
-clones_after_fork kept seen new old room same unused few h = rw (seen_fork kept new old room) (AreClones-forked (map clone_of kept) new old (rw same unused) (rw same few) h)
+pub clones_after_fork : (lists : List CloneListView) (seen : List Clone) (new : List ℕ) (old reserved : ℕ) → map clone_of lists ≡ seen → place_of new seen ≡ None → length seen + 1 < 2 ^ 32 → AreClones (map clone_of lists) → AreClones (map clone_of (lists ++ list_fork lists new old reserved ∷ []))
+clones_after_fork lists seen new old reserved same unused few h = rw (seen_fork lists new old reserved) (AreClones-forked (map clone_of lists) new old (rw same unused) (rw same few) h)
 
 -- after a decision
-pub clones_after_plan : (kept : List Kept) (c : ℕ) (plan : Planned) → AreClones (map clone_of kept) → AreClones (map clone_of (kept_added kept c plan))
-clones_after_plan kept c plan h = rw (seen_added kept c plan) (AreClones-set (map clone_of kept) c _ refl h)
+pub clones_after_plan : (lists : List CloneListView) (c : ℕ) (plan : Planned) → AreClones (map clone_of lists) → AreClones (map clone_of (lists_with_plan lists c plan))
+clones_after_plan lists c plan h = rw (seen_added lists c plan) (AreClones-set (map clone_of lists) c _ refl h)
 
 -- after an end
-pub clones_after_end : (kept : List Kept) (c at : ℕ) → AreClones (map clone_of kept) → AreClones (map clone_of (kept_ended kept c at))
-clones_after_end kept c at h = rw (seen_ended kept c at) (AreClones-set (map clone_of kept) c _ refl h)
+pub clones_after_end : (lists : List CloneListView) (c at : ℕ) → AreClones (map clone_of lists) → AreClones (map clone_of (lists_with_end lists c at))
+clones_after_end lists c at h = rw (seen_ended lists c at) (AreClones-set (map clone_of lists) c _ refl h)
 
--- the kept clone that was read is the one at its place
-name_read : (kept : List Kept) (c : ℕ) (k : Kept) → c < length kept → k ≡ get_or kept c k → k.name ≡ (clone_at (map clone_of kept) c).name
+-- the clone that was read is the one at its place
+name_read : (lists : List CloneListView) (c : ℕ) (k : CloneListView) → c < length lists → k ≡ get_or lists c k → k.name ≡ (clone_at (map clone_of lists) c).name
 name_read [] c k b e = absurd (omega arith)
 name_read (x ∷ xs) zero k b e = ap (λ k. k.name) e
 name_read (x ∷ xs) (suc c) k b e = name_read xs c k (omega arith) e
 
 -- what contracts see of a place by the name that was read there
-pub seen_by_name : (kept : List Kept) (seen : List Clone) (c : ℕ) (k : Kept) → map clone_of kept ≡ seen → AreClones (map clone_of kept) → c < length seen → k ≡ get_or kept c k → place_of k.name seen ≡ Some c
-seen_by_name kept seen c k same h b read =
-    let there : c < length kept = rw (← same, length-map) at b in
-    let found = place_of_name (map clone_of kept) c h (rw same b) in
-    rw (← same, name_read kept c k there read) found
+pub seen_by_name : (lists : List CloneListView) (seen : List Clone) (c : ℕ) (k : CloneListView) → map clone_of lists ≡ seen → AreClones (map clone_of lists) → c < length seen → k ≡ get_or lists c k → place_of k.name seen ≡ Some c
+seen_by_name lists seen c k same h b read =
+    let there : c < length lists = rw (← same, length-map) at b in
+    let found = place_of_name (map clone_of lists) c h (rw same b) in
+    rw (← same, name_read lists c k there read) found

@@ -1,8 +1,15 @@
+pub mod ListLaws
+pub mod Chain
 pub mod OrderLaws
 pub mod OrderEqual
+pub mod SameEntry
 pub mod Derived
 pub mod NameBytes
-pub mod Inserting
+pub mod Placing
+pub mod Blocks
+pub mod Halving
+pub mod Putting
 pub mod Cutting
-pub mod Room
+pub mod CloneLists
+pub mod Turning
 pub mod Distinct

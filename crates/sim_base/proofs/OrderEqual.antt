@@ -12,17 +12,19 @@ use Rattle.sim_base.specs.declared.message.Payload.{Payload}
 use Rattle.sim_base.specs.declared.message.Payload.TheVariants.{Tick, Job, Done, Set}
 use Rattle.sim_base.specs.Order.{key_cmp, job_cmp, param_index, change_cmp, payload_cmp, msg_cmp}
 
-then_equal : (o p : Ordering) → ordering_then o p ≡ Equal → (o ≡ Equal) × (p ≡ Equal)
-then_equal Less p e = absurd (cc)
-then_equal Equal p e = (refl, e)
-then_equal Greater p e = absurd (cc)
+-- where two orders one after the other tie, each does
+pub both_equal : (o p : Ordering) → ordering_then o p ≡ Equal → (o ≡ Equal) × (p ≡ Equal)
+both_equal Less p e = absurd (cc)
+both_equal Equal p e = (refl, e)
+both_equal Greater p e = absurd (cc)
 
 then_less : (o p : Ordering) → ordering_then o p ≡ Less → (o ≡ Less) ⊎ (o ≡ Equal)
 then_less Less p e = inl refl
 then_less Equal p e = inr refl
 then_less Greater p e = absurd (cc)
 
-nat_same : (x y : ℕ) → nat_cmp x y ≡ Equal → x ≡ y
+-- numbers that tie are equal
+pub nat_same : (x y : ℕ) → nat_cmp x y ≡ Equal → x ≡ y
 nat_same x y e = subst (λ r. MatchOrdering r (x < y) (x ≡ y) (y < x)) e (ranks x y)
 
 nat_below : (x y : ℕ) → nat_cmp x y ≡ Less → x < y
@@ -30,8 +32,8 @@ nat_below x y e = subst (λ r. MatchOrdering r (x < y) (x ≡ y) (y < x)) e (ran
 
 three_same : (a b c x y z : ℕ) → ordering_then (nat_cmp a x) (ordering_then (nat_cmp b y) (nat_cmp c z)) ≡ Equal → (a ≡ x) × (b ≡ y) × (c ≡ z)
 three_same a b c x y z e =
-    let first = then_equal (nat_cmp a x) (ordering_then (nat_cmp b y) (nat_cmp c z)) e in
-    let second = then_equal (nat_cmp b y) (nat_cmp c z) first.1 in
+    let first = both_equal (nat_cmp a x) (ordering_then (nat_cmp b y) (nat_cmp c z)) e in
+    let second = both_equal (nat_cmp b y) (nat_cmp c z) first.1 in
     (nat_same a x first.0, nat_same b y second.0, nat_same c z second.1)
 
 key_same : (a b : Key) → key_cmp a b ≡ Equal → a ≡ b
@@ -87,8 +89,8 @@ payload_same (Set a) (Done b) e = absurd (cc)
 -- messages that are not ordered are one message
 pub msg_same : (a b : Msg) → msg_cmp a b ≡ Equal → a ≡ b
 msg_same a b e =
-    let first = then_equal (key_cmp a.key b.key) (ordering_then (nat_cmp a.to b.to) (payload_cmp a.payload b.payload)) e in
-    let second = then_equal (nat_cmp a.to b.to) (payload_cmp a.payload b.payload) first.1 in
+    let first = both_equal (key_cmp a.key b.key) (ordering_then (nat_cmp a.to b.to) (payload_cmp a.payload b.payload)) e in
+    let second = both_equal (nat_cmp a.to b.to) (payload_cmp a.payload b.payload) first.1 in
     let key = key_same a.key b.key first.0 in
     let to = nat_same a.to b.to second.0 in
     let payload = payload_same a.payload b.payload second.1 in

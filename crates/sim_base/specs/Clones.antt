@@ -9,11 +9,11 @@ pub record Clone : Type 0 where
   pub plans : List Planned
   pub end : Option ℕ
 
--- the clones in order of making, and room for so many clones of so many decisions each
-pub record CloneLists : Type 0 where
+-- the clones in order of making; memory is reserved for so many clones of so many decisions each
+pub record ListsView : Type 0 where
   pub clones : List Clone
-  pub room_clones : ℕ
-  pub room_plans : ℕ
+  pub reserved_clones : ℕ
+  pub reserved_plans : ℕ
 
 -- the clone that is there from the start
 abbrev pub base : Clone

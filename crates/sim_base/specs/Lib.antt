@@ -2,7 +2,13 @@ pub mod Names
 pub mod Padding
 pub mod Order
 pub mod Same
+pub mod Params
+pub mod Decisions
+pub mod Chain
 pub mod Pending
+pub mod Counts
+pub mod Marked
 pub mod Clones
-pub mod Roomy
-pub mod KeptClones
+pub mod Reserved
+pub mod CloneListViews
+pub mod Blocks

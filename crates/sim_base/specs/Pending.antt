@@ -1,8 +1,9 @@
 -- Pending messages: a list in the order of messages, each message once, with its marks.
-use Rattle.std.specs.Prelude.{Option, List, [], ◌∷◌, map, option_map, is_some, if◌then◌else◌}
+use Rattle.std.specs.Prelude.{ℕ, ◌≤◌, Option, List, [], ◌∷◌, map, option_map, is_some, if◌then◌else◌, slice_get, ⊤}
 use Rattle.std.specs.List.{filter_map}
 use Rattle.std.specs.declared.cmp.Ordering.{Ordering}
 use Rattle.std.specs.declared.cmp.Ordering.TheVariants.{Less, Equal, Greater}
+use Rattle.sim_base.specs.declared.message.Msg.{Msg}
 
 module _ {M K : Type 0} (join : K → K → K) where
   -- m before y ∷ ys, with its marks joined to those of y, or in the rest after y
@@ -28,3 +29,12 @@ module _ {M K : Type 0} (meet : K → K → Option K) where
   -- the messages whose marks meet `by`, each with what they share
   abbrev pub cut_by : K → List (M × K) → List (M × K)
   cut_by by xs = filter_map (met_by by) xs
+
+-- the time of the first message
+abbrev pub first_time : {K : Type 0} → List (Msg × K) → Option ℕ
+first_time xs = option_map (λ x. x.0.key.time) (slice_get xs 0)
+
+-- nothing is pending, or the first message is at the bound or later
+abbrev pub NothingBefore : {K : Type 0} → ℕ → List (Msg × K) → Type 0
+NothingBefore bound [] = ⊤
+NothingBefore bound (x ∷ xs) = bound ≤ x.0.key.time

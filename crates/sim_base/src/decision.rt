@@ -1,4 +1,8 @@
 //! Decisions, and what a clone has of them.
+ghost use Rattle.std.specs.Prelude.{◌≡◌};
+ghost use Rattle.std.specs.Bool.{Decides};
+ghost use Rattle.sim_base.specs.Decisions.{subject};
+
 use crate::message::Change;
 use crate::name::Name;
 
@@ -24,10 +28,30 @@ pub enum Decision {
     },
 }
 
+impl Decision {
+    /// The clone that it speaks of: the one that is forked, set or ended.
+    pub fn subject(&self) -> Name
+        ensures value { result ≡ subject self.now }
+    {
+        match self {
+            Decision::Fork { old, .. } => *old,
+            Decision::Set { who, .. } => *who,
+            Decision::End { who, .. } => *who,
+        }
+    }
+}
+
 /// One element of a clone's decision list: at a time, a station takes new values of a parameter.
 #[derive(Clone, Copy, Debug, PartialEq, Eq)]
 pub struct Planned {
     pub at: u64,
     pub station: u32,
     pub change: Change,
+}
+
+/// Whether two planned decisions are equal: in their time, their station, the parameter and its values.
+pub fn same_plan(a: &Planned, b: &Planned) -> bool
+    ensures equal { Decides result (a.now ≡ b.now) }
+{
+    a == b
 }

@@ -1,4 +1,7 @@
 //! Entries of a log.
+ghost use Rattle.std.specs.Prelude.{◌≡◌};
+ghost use Rattle.std.specs.Bool.{Decides};
+
 use crate::message::Msg;
 
 /// The counts of a station after it has handled a message.
@@ -8,7 +11,7 @@ pub enum Line {
     Source {
         sent: u64,
     },
-    /// A server: jobs in service, jobs that wait, jobs done, jobs lost for want of room.
+    /// A server: jobs in service, jobs that wait, jobs done, jobs lost because the queue was full.
     Server {
         busy: u64,
         wait: u64,
@@ -31,4 +34,11 @@ pub enum Line {
 pub struct Entry<M = Msg, N = Line> {
     pub msg: M,
     pub line: N,
+}
+
+/// Whether two entries are equal: the message with its receiver and payload, and every count.
+pub fn same_entry(a: &Entry, b: &Entry) -> bool
+    ensures equal { Decides result (a.now ≡ b.now) }
+{
+    a.msg == b.msg && a.line == b.line
 }

@@ -1,29 +1,59 @@
-//! The words of the subject: names, messages and their order, log entries, decisions and the
-//! decision lists of the clones, pending messages, want of memory, and the counter of steps.
+//! The words that all crates speak: names, messages and their order, log entries, decisions, the decision
+//! lists of the clones, and pending messages.
+//!
+//! A simulation is a set of stations (the literature's *logical processes*) that change state only when they
+//! handle a message with a time stamp. A `Msg` is ordered by time, then by its sender, then by the sender's
+//! running count (a *sequence number*), so no two runs can disagree on ties. What is still to be handled is
+//! `Pending` (the *future event list*); what was handled is a log of `Entry`s, each a message with the counts
+//! of its station after it.
+//!
+//! A clone is a branch of the simulation. It differs from the others only by its decisions: `Lists` keeps for
+//! each clone its name, its list of `Planned` changes in order of arrival, and its end, if it has one:
+//!
+//! ```text
+//! base   service of desk at 40          <- decided first, so `fast` has it too
+//! fast   service of desk at 40, servers of desk at 60
+//! ```
+//!
+//! An example:
+//!
+//! ```text
+//! let mut lists = Lists::with_room(alloc, MOST_CLONES, MOST_DECISIONS)?;
+//! lists.fork_in_reserved(name, 0);          // a second clone, with what base has by now
+//! lists.add(1, plan)?;                      // a decision of the second clone alone
+//! ```
+//!
+//! What is reserved is taken once, so that a decision in the middle of a run needs no memory: a fork copies the
+//! old clone's list into a spare one, and a decision is a push. To find a clone by its name is a walk over the
+//! clones, 256 at most.
+//!
+//! Here stand the facts that the promises of exact sharing rest on: the order of messages is total, messages
+//! that tie in it are equal, and two entries are the same exactly where they are equal, every count included.
 #![tactic(auto)]
 
 pub mod decision;
 pub mod entry;
 pub mod figures;
+pub mod laws;
 pub mod lists;
 pub mod marks;
 pub mod memory;
 pub mod message;
 pub mod name;
 pub mod pending;
-pub mod roomy;
+pub mod reserved;
 pub mod steps;
 #[cfg(test)]
 mod tests;
 
-pub use decision::{Decision, Planned};
-pub use entry::{Entry, Line};
+pub use decision::{Decision, Planned, same_plan};
+pub use entry::{Entry, Line, same_entry};
 pub use figures::Figures;
-pub use lists::Lists;
+pub use lists::{Lists, MOST_CLONES, MOST_DECISIONS};
 pub use marks::Marks;
 pub use memory::NoMemory;
 pub use message::{Change, Job, Key, Msg, Param, Payload};
 pub use name::Name;
 pub use pending::Pending;
-pub use roomy::Roomy;
+pub use reserved::Reserved;
 pub use steps::Steps;

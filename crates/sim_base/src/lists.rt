@@ -2,26 +2,31 @@
 ghost use Rattle.std.specs.Prelude.{◌≡◌, ◌++◌, ◌∷◌, [], ◌<◌, ◌≤◌, length, map, OnOk, OnErr, IfOk, IsOk, vec_len, vec_capacity, codes, position};
 ghost use Rattle.std.specs.List.{AllByRecursion};
 ghost use Rattle.std.specs.Str.{bytes_eq};
-ghost use Rattle.sim_base.specs.KeptClones.{clone_of, kept_at, kept_base, kept_fork, kept_added, kept_ended};
+ghost use Rattle.sim_base.specs.CloneListViews.{clone_of, list_at, base_list, list_fork, lists_with_plan, lists_with_end};
 
 use crate::decision::Planned;
 use crate::memory::NoMemory;
 use crate::name::Name;
-use crate::roomy::Roomy;
+use crate::reserved::Reserved;
 use std::alloc::Global;
 use std::marker::Model;
+
+/// How many clones there may be.
+pub const MOST_CLONES: u32 = 256;
+/// How many decisions the list of a clone may hold.
+pub const MOST_DECISIONS: u32 = 256;
 
 #[derive(Drop)]
 struct CloneList {
     name: Name,
-    plans: Roomy<Planned>,
+    plans: Reserved<Planned>,
     end: Option<u64>,
 }
 
 impl Model for CloneList {
-    ghost use Rattle.sim_base.specs.KeptClones.{Kept};
+    ghost use Rattle.sim_base.specs.CloneListViews.{CloneListView};
 
-    ghost Value = { Kept };
+    ghost Value = { CloneListView };
 
     ghost view = { λ c. record { name = c.name; plans = c.plans; end = c.end } };
 }
@@ -30,27 +35,27 @@ impl Model for CloneList {
 #[derive(Drop)]
 pub struct Lists {
     clones: Vec<CloneList>,
-    room_clones: u32,
-    // an empty list for each fork within the room
-    spare: Roomy<Roomy<Planned>>,
-    room_plans: u32,
+    reserved_clones: u32,
+    // an empty list for each fork within what is reserved
+    spare: Reserved<Reserved<Planned>>,
+    reserved_plans: u32,
 }
 
 impl Model for Lists {
     ghost use Rattle.std.specs.Prelude.{map, ◌≤◌, vec_capacity};
-    ghost use Rattle.sim_base.specs.Clones.{CloneLists};
-    ghost use Rattle.sim_base.specs.KeptClones.{clone_of, HasRoom, AreClones};
+    ghost use Rattle.sim_base.specs.Clones.{ListsView};
+    ghost use Rattle.sim_base.specs.CloneListViews.{clone_of, AreReserved, AreClones};
 
-    ghost Value = { CloneLists };
+    ghost Value = { ListsView };
 
     ghost view = { λ l. record {
       clones = map clone_of l.clones.items;
-      room_clones = l.room_clones;
-      room_plans = l.room_plans;
+      reserved_clones = l.reserved_clones;
+      reserved_plans = l.reserved_plans;
     } };
 
-    ghost invariant = { λ l. HasRoom l.clones.items l.room_clones l.spare l.room_plans
-        × (l.room_clones ≤ vec_capacity l.clones)
+    ghost invariant = { λ l. AreReserved l.clones.items l.reserved_clones l.spare l.reserved_plans
+        × (l.reserved_clones ≤ vec_capacity l.clones)
         × AreClones (map clone_of l.clones.items) };
 }
 
@@ -58,47 +63,47 @@ impl Lists {
     ghost use Rattle.std.specs.Prelude.{◌≡◌, ◌∷◌, [], ◌+◌, ◌^◌, ◌<◌, ◌≤◌, length, OnOk, OnErr, IfOk, IsOk, None, Some, IfSome};
     ghost use Rattle.sim_base.specs.Clones.{forked, added, ended, clone_at, place_of, base};
 
-    /// The base clone alone, with no room.
+    /// The base clone alone, with no memory reserved.
     pub fn new(alloc: Global) -> Result<Lists, NoMemory>
-        ensures { IfOk result (λ l.
-            l ≡ record { clones = base ∷ []; room_clones = 0; room_plans = 0 }) }
+        ensures value { IfOk result (λ l.
+            l ≡ record { clones = base ∷ []; reserved_clones = 0; reserved_plans = 0 }) }
     {
         Ok(Lists {
-            clones: base_alone(alloc, 0, Roomy::new(alloc))?,
-            room_clones: 0,
-            spare: Roomy::new(alloc),
-            room_plans: 0,
+            clones: base_alone(alloc, 0, Reserved::new(alloc))?,
+            reserved_clones: 0,
+            spare: Reserved::new(alloc),
+            reserved_plans: 0,
         })
     }
 
-    /// The base clone alone, with room for so many clones of so many decisions each.
+    /// The base clone alone, with memory reserved for so many clones of so many decisions each.
     pub fn with_room(alloc: Global, clones: u32, plans: u32) -> Result<Lists, NoMemory>
         requires one { 1 ≤ clones }
-        requires few { clones ≤ 256 }
-        requires short { plans ≤ 256 }
-        ensures { IfOk result (λ l.
-            l ≡ record { clones = base ∷ []; room_clones = clones; room_plans = plans }) }
+        requires few { clones ≤ MOST_CLONES }
+        requires short { plans ≤ MOST_DECISIONS }
+        ensures value { IfOk result (λ l.
+            l ≡ record { clones = base ∷ []; reserved_clones = clones; reserved_plans = plans }) }
     {
         let spare = spare_lists(alloc, clones as usize - 1, plans as usize)?;
-        let list = Roomy::with_room(alloc, plans as usize)?;
+        let list = Reserved::with_capacity(alloc, plans as usize)?;
         Ok(Lists {
             clones: base_alone(alloc, clones as usize, list)?,
-            room_clones: clones,
+            reserved_clones: clones,
             spare,
-            room_plans: plans,
+            reserved_plans: plans,
         })
     }
 
-    /// The same clones, with no room.
+    /// The same clones, with no memory reserved.
     pub fn copy(&self, alloc: Global) -> Result<Lists, NoMemory>
-        ensures { IfOk result (λ l.
-            l ≡ record { clones = self.now.clones; room_clones = 0; room_plans = 0 }) }
+        ensures value { IfOk result (λ l.
+            l ≡ record { clones = self.now.clones; reserved_clones = 0; reserved_plans = 0 }) }
     {
         Ok(Lists {
             clones: copied(alloc, self.clones.as_slice())?,
-            room_clones: 0,
-            spare: Roomy::new(alloc),
-            room_plans: 0,
+            reserved_clones: 0,
+            spare: Reserved::new(alloc),
+            reserved_plans: 0,
         })
     }
 
@@ -111,7 +116,7 @@ impl Lists {
     }
 
     /// The place of the clone of this name.
-    #[tactic(auto, using(crate::proofs::Room::seen_place))]
+    #[tactic(auto, using(crate::proofs::CloneLists::seen_place))]
     pub fn find(&self, name: &Name) -> Option<u32>
         ensures value { result ≡ place_of name.now self.now.clones }
         ensures there { IfSome result (λ c. c < length self.now.clones) }
@@ -121,9 +126,9 @@ impl Lists {
     }
 
     /// A clone's name.
-    #[tactic(auto, using(crate::proofs::Room::seen_at))]
+    #[tactic(auto, using(crate::proofs::CloneLists::seen_at))]
     pub fn name(&self, c: u32) -> Name
-        requires { c < length self.now.clones }
+        requires there { c < length self.now.clones }
         ensures value { result ≡ (clone_at self.now.clones c).name }
         // no two clones have one name
         ensures only { place_of result self.now.clones ≡ Some c }
@@ -134,48 +139,50 @@ impl Lists {
 
     /// A clone's decisions.
     pub fn list(&self, c: u32) -> &[Planned]
-        requires { c < length self.now.clones }
-        ensures { result.now ≡ (clone_at self.now.clones c).plans }
+        requires there { c < length self.now.clones }
+        ensures value { result.now ≡ (clone_at self.now.clones c).plans }
     {
         let clone = &self.clones.as_slice()[c as usize];
         clone.plans.as_slice()
     }
 
     /// A clone's end.
-    #[tactic(auto, using(crate::proofs::Room::seen_end))]
+    #[tactic(auto, using(crate::proofs::CloneLists::seen_end))]
     pub fn end_of(&self, c: u32) -> Option<u64>
-        requires { c < length self.now.clones }
-        ensures { result ≡ (clone_at self.now.clones c).end }
+        requires there { c < length self.now.clones }
+        ensures value { result ≡ (clone_at self.now.clones c).end }
     {
         let clone = &self.clones[c as usize];
         clone.end
     }
 
     /// Gives a clone its end.
-    #[tactic(auto, using(crate::proofs::Room::seen_ended))]
+    #[tactic(auto, using(crate::proofs::CloneLists::seen_ended))]
     pub fn end(&mut self, c: u32, at: u64)
         requires there { c < length self.old.clones }
         requires once { (clone_at self.old.clones c).end ≡ None }
-        ensures { self.new ≡ record self.old { clones = ended self.old.clones c at } }
+        ensures value { self.new ≡ record self.old { clones = ended self.old.clones c at } }
     {
         set_end(&mut self.clones, c as usize, at);
     }
 
-    /// Adds a decision to a clone's list. Within the room it takes no memory.
-    #[tactic(auto, using(crate::proofs::Room::seen_added))]
+    /// Adds a decision to a clone's list; out of memory leaves all unchanged. Within what is reserved it
+    /// takes no memory.
+    #[tactic(auto, using(crate::proofs::CloneLists::seen_added))]
     pub fn add(&mut self, c: u32, plan: Planned) -> Result<(), NoMemory>
-        requires { c < length self.old.clones }
+        requires there { c < length self.old.clones }
         ensures ok { OnOk result (
             self.new ≡ record self.old { clones = added self.old.clones c plan }) }
         ensures err { OnErr result (self.new ≡ self.old) }
-        ensures room { length (clone_at self.old.clones c).plans < self.old.room_plans
+        ensures reserved { length (clone_at self.old.clones c).plans < self.old.reserved_plans
             → IsOk result }
     {
         push_plan(&mut self.clones, c as usize, plan)
     }
 
-    /// A further clone with an old one's decisions and no end. Within the room it takes no memory.
-    #[tactic(auto, using(crate::proofs::Room::seen_fork))]
+    /// A further clone with an old one's decisions and no end; out of memory leaves all unchanged. Within
+    /// what is reserved it takes no memory.
+    #[tactic(auto, using(crate::proofs::CloneLists::seen_fork))]
     pub fn fork(&mut self, alloc: Global, new: Name, old: u32) -> Result<(), NoMemory>
         requires there { old < length self.old.clones }
         requires unused { place_of new self.old.clones ≡ None }
@@ -183,26 +190,28 @@ impl Lists {
         ensures ok { OnOk result (
             self.new ≡ record self.old { clones = forked self.old.clones new old }) }
         ensures err { OnErr result (self.new ≡ self.old) }
-        ensures room { length self.old.clones < self.old.room_clones
-            → length (clone_at self.old.clones old).plans ≤ self.old.room_plans
+        ensures reserved { length self.old.clones < self.old.reserved_clones
+            → length (clone_at self.old.clones old).plans ≤ self.old.reserved_plans
             → IsOk result }
     {
-        if self.len() < self.room_clones && self.list(old).len() <= self.room_plans as usize {
-            self.fork_in_room(new, old);
+        if self.len() < self.reserved_clones
+            && self.list(old).len() <= self.reserved_plans as usize
+        {
+            self.fork_in_reserved(new, old);
             return Ok(());
         }
-        let plans = Roomy::with_room(alloc, self.room_plans as usize)?;
+        let plans = Reserved::with_capacity(alloc, self.reserved_plans as usize)?;
         push_fork(&mut self.clones, plans, new, old as usize)
     }
 
-    /// The same within the room: it takes no memory.
-    #[tactic(auto, using(crate::proofs::Room::seen_fork))]
-    pub fn fork_in_room(&mut self, new: Name, old: u32)
+    /// The same within what is reserved: it takes no memory.
+    #[tactic(auto, using(crate::proofs::CloneLists::seen_fork))]
+    pub fn fork_in_reserved(&mut self, new: Name, old: u32)
         requires there { old < length self.old.clones }
         requires unused { place_of new self.old.clones ≡ None }
-        requires few { length self.old.clones < self.old.room_clones }
-        requires short { length (clone_at self.old.clones old).plans ≤ self.old.room_plans }
-        ensures { self.new ≡ record self.old { clones = forked self.old.clones new old } }
+        requires few { length self.old.clones < self.old.reserved_clones }
+        requires short { length (clone_at self.old.clones old).plans ≤ self.old.reserved_plans }
+        ensures value { self.new ≡ record self.old { clones = forked self.old.clones new old } }
     {
         let Some(plans) = self.spare.pop() else {
             unreachable!()
@@ -214,7 +223,7 @@ impl Lists {
 }
 
 fn place(clones: &[CloneList], name: &Name) -> Option<usize>
-    ensures { result ≡ position (λ k. bytes_eq k.name name.now) clones.now }
+    ensures value { result ≡ position (λ k. bytes_eq k.name name.now) clones.now }
 {
     clones
         .iter()
@@ -222,7 +231,7 @@ fn place(clones: &[CloneList], name: &Name) -> Option<usize>
 }
 
 fn base_name() -> Name
-    ensures { result ≡ codes "base" }
+    ensures value { result ≡ codes "base" }
 {
     match Name::read(b"base") {
         Some(name) => name,
@@ -230,11 +239,15 @@ fn base_name() -> Name
     }
 }
 
-fn base_alone(alloc: Global, room: usize, plans: Roomy<Planned>) -> Result<Vec<CloneList>, NoMemory>
-    requires { plans.items ≡ [] }
-    ensures { IfOk result (λ v. (v.items ≡ kept_base plans.room ∷ []) × (room ≤ vec_capacity v)) }
+fn base_alone(
+    alloc: Global,
+    capacity: usize,
+    plans: Reserved<Planned>,
+) -> Result<Vec<CloneList>, NoMemory>
+    requires empty { plans.items ≡ [] }
+    ensures value { IfOk result (λ v. (v.items ≡ base_list plans.reserved ∷ []) × (capacity ≤ vec_capacity v)) }
 {
-    let mut clones = Vec::with_capacity(alloc, room)?;
+    let mut clones = Vec::with_capacity(alloc, capacity)?;
     clones.push(CloneList {
         name: base_name(),
         plans,
@@ -243,24 +256,28 @@ fn base_alone(alloc: Global, room: usize, plans: Roomy<Planned>) -> Result<Vec<C
     Ok(clones)
 }
 
-#[tactic(auto, using(crate::proofs::Room::all_push))]
-fn spare_lists(alloc: Global, count: usize, room: usize) -> Result<Roomy<Roomy<Planned>>, NoMemory>
-    ensures { IfOk result (λ s. AllByRecursion (λ l. (l.items ≡ []) × (room ≤ l.room)) s.items
+#[tactic(auto, using(crate::proofs::ListLaws::all_push))]
+fn spare_lists(
+    alloc: Global,
+    count: usize,
+    reserved: usize,
+) -> Result<Reserved<Reserved<Planned>>, NoMemory>
+    ensures value { IfOk result (λ s. AllByRecursion (λ l. (l.items ≡ []) × (reserved ≤ l.reserved)) s.items
         × (length s.items ≡ count)) }
 {
-    let mut spare = Roomy::with_room(alloc, count)?;
+    let mut spare = Reserved::with_capacity(alloc, count)?;
     for _ in 0..count {
-        spare.push(Roomy::with_room(alloc, room)?)?;
+        spare.push(Reserved::with_capacity(alloc, reserved)?)?;
     }
     Ok(spare)
 }
 
 fn copied(alloc: Global, clones: &[CloneList]) -> Result<Vec<CloneList>, NoMemory>
-    ensures { IfOk result (λ v. map clone_of v.items ≡ map clone_of clones.now) }
+    ensures value { IfOk result (λ v. map clone_of v.items ≡ map clone_of clones.now) }
 {
     let mut copies = Vec::with_capacity(alloc, clones.len())?;
     for clone in clones {
-        let mut plans = Roomy::new(alloc);
+        let mut plans = Reserved::new(alloc);
         plans.extend(clone.plans.as_slice())?;
         copies.push(CloneList {
             name: clone.name,
@@ -273,17 +290,17 @@ fn copied(alloc: Global, clones: &[CloneList]) -> Result<Vec<CloneList>, NoMemor
 
 fn push_fork(
     clones: &mut Vec<CloneList>,
-    plans: Roomy<Planned>,
+    plans: Reserved<Planned>,
     new: Name,
     old: usize,
 ) -> Result<(), NoMemory>
     requires there { old < length clones.old.items }
     requires empty { plans.items ≡ [] }
     ensures ok { OnOk result (clones.new.items ≡
-        clones.old.items ++ kept_fork clones.old.items new old plans.room ∷ []) }
+        clones.old.items ++ list_fork clones.old.items new old plans.reserved ∷ []) }
     ensures err { OnErr result (clones.new.items ≡ clones.old.items) }
-    ensures room { vec_len clones.old < vec_capacity clones.old
-        → length (kept_at clones.old.items old).plans.items ≤ plans.room
+    ensures reserved { vec_len clones.old < vec_capacity clones.old
+        → length (list_at clones.old.items old).plans.items ≤ plans.reserved
         → IsOk result }
     ensures capacity { vec_capacity clones.old ≤ vec_capacity clones.new }
 {
@@ -299,8 +316,8 @@ fn push_fork(
 }
 
 fn set_end(clones: &mut Vec<CloneList>, c: usize, at: u64)
-    requires { c < length clones.old.items }
-    ensures ok { clones.new.items ≡ kept_ended clones.old.items c at }
+    requires there { c < length clones.old.items }
+    ensures ok { clones.new.items ≡ lists_with_end clones.old.items c at }
     ensures capacity { vec_capacity clones.old ≤ vec_capacity clones.new }
 {
     let clone = &mut clones[c];
@@ -308,11 +325,11 @@ fn set_end(clones: &mut Vec<CloneList>, c: usize, at: u64)
 }
 
 fn push_plan(clones: &mut Vec<CloneList>, c: usize, plan: Planned) -> Result<(), NoMemory>
-    requires { c < length clones.old.items }
-    ensures ok { OnOk result (clones.new.items ≡ kept_added clones.old.items c plan) }
+    requires there { c < length clones.old.items }
+    ensures ok { OnOk result (clones.new.items ≡ lists_with_plan clones.old.items c plan) }
     ensures err { OnErr result (clones.new.items ≡ clones.old.items) }
-    ensures room { length (kept_at clones.old.items c).plans.items
-        < (kept_at clones.old.items c).plans.room → IsOk result }
+    ensures reserved { length (list_at clones.old.items c).plans.items
+        < (list_at clones.old.items c).plans.reserved → IsOk result }
     ensures capacity { vec_capacity clones.old ≤ vec_capacity clones.new }
 {
     let clone = &mut clones[c];

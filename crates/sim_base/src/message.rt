@@ -1,6 +1,7 @@
 //! Messages and their order.
 ghost use Rattle.std.specs.Prelude.{◌≡◌};
 ghost use Rattle.sim_base.specs.Order.{msg_cmp};
+ghost use Rattle.sim_base.specs.Params.{param_word, param_values, param_of_word};
 
 use std::cmp::Ordering;
 
@@ -40,6 +41,52 @@ pub enum Param {
     Weight,
 }
 
+impl Param {
+    /// All parameters.
+    pub const ALL: [Param; 6] = [
+        Param::Every,
+        Param::Service,
+        Param::Hold,
+        Param::Servers,
+        Param::Room,
+        Param::Weight,
+    ];
+
+    /// Its word in scripts and traces, which is also its key in a model file.
+    pub fn word(self) -> &'static str
+        ensures value { result.now ≡ param_word self }
+    {
+        match self {
+            Param::Every => "every",
+            Param::Service => "service",
+            Param::Hold => "hold",
+            Param::Servers => "servers",
+            Param::Room => "room",
+            Param::Weight => "weight",
+        }
+    }
+
+    /// How many numbers a change of it has: the two ends of a range, a link and its weight, or one number.
+    pub fn values(self) -> u32
+        ensures value { result ≡ param_values self }
+    {
+        match self {
+            Param::Every | Param::Service | Param::Hold | Param::Weight => 2,
+            Param::Servers | Param::Room => 1,
+        }
+    }
+
+    /// The parameter of this word, or None where the word is no parameter's.
+    pub fn of_word(word: &[u8]) -> Option<Param>
+        ensures value { result ≡ param_of_word word.now }
+    {
+        Param::ALL
+            .iter()
+            .copied()
+            .find(|param| param.word().as_bytes() == word)
+    }
+}
+
 /// New values of a parameter; where it takes one value, `b` is 0.
 #[derive(Clone, Copy, Debug, Default, PartialEq, Eq, PartialOrd, Ord)]
 pub struct Change {
@@ -74,7 +121,7 @@ pub struct Msg {
 
 /// Which of two messages comes first: the order by which every station handles its messages.
 pub fn compare(a: &Msg, b: &Msg) -> Ordering
-    ensures { result ≡ msg_cmp a.now b.now }
+    ensures value { result ≡ msg_cmp a.now b.now }
 {
     a.cmp(b)
 }

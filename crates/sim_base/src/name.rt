@@ -1,6 +1,7 @@
 //! Names.
-ghost use Rattle.std.specs.Prelude.{◌≡◌, ℕ, ◌<◌, ◌≤◌, List, length, take, IsTrue, MatchOption, Bool, true, false};
+ghost use Rattle.std.specs.Prelude.{◌≡◌, ℕ, ◌<◌, ◌≤◌, List, length, take, IsTrue, MatchOption, Bool, true, false, position};
 ghost use Rattle.std.specs.List.{list_all};
+ghost use Rattle.std.specs.Str.{bytes_eq};
 ghost use Rattle.sim_base.specs.Names.{is_name, is_lower, is_name_byte};
 
 use std::marker::Model;
@@ -32,20 +33,20 @@ impl Model for Name {
 }
 
 fn is_lower_byte(byte: u8) -> bool
-    ensures { result ≡ is_lower byte }
+    ensures value { result ≡ is_lower byte }
 {
     b'a' <= byte && byte <= b'z'
 }
 
 fn may_follow(byte: u8) -> bool
-    ensures { result ≡ is_name_byte byte }
+    ensures value { result ≡ is_name_byte byte }
 {
     is_lower_byte(byte) || (b'0' <= byte && byte <= b'9') || byte == b'_'
 }
 
 /// Whether the bytes are a name.
 pub fn are_name(text: &[u8]) -> bool
-    ensures { result ≡ is_name text.now }
+    ensures value { result ≡ is_name text.now }
 {
     match text {
         [] => false,
@@ -54,7 +55,7 @@ pub fn are_name(text: &[u8]) -> bool
 }
 
 fn all_may_follow(rest: &[u8]) -> bool
-    ensures { result ≡ list_all is_name_byte rest.now }
+    ensures value { result ≡ list_all is_name_byte rest.now }
 {
     rest.iter().all(|b| may_follow(*b))
 }
@@ -62,7 +63,7 @@ fn all_may_follow(rest: &[u8]) -> bool
 impl Name {
     /// The name that the bytes are.
     pub fn read(text: &[u8]) -> Option<Name>
-        ensures { MatchOption result (is_name text.now ≡ false) (λ n. (n ≡ text.now) × (is_name text.now ≡ true)) }
+        ensures value { MatchOption result (is_name text.now ≡ false) (λ n. (n ≡ text.now) × (is_name text.now ≡ true)) }
     {
         if !are_name(text) {
             return None;
@@ -75,12 +76,38 @@ impl Name {
         })
     }
 
+    /// The place of the first name in the list that is this one.
+    pub fn position_in(&self, names: &[Name]) -> Option<usize>
+        ensures value { result ≡ position (λ n. bytes_eq n self.now) names.now }
+    {
+        names
+            .iter()
+            .position(|name| name.as_bytes() == self.as_bytes())
+    }
+
     /// Its bytes.
     pub fn as_bytes(&self) -> &[u8]
         ensures value { result.now ≡ self.now }
         ensures named { is_name result.now ≡ true }
     {
         &self.bytes[..self.len]
+    }
+
+    /// Its bytes, and others behind them that fill up 16.
+    #[inline(always)]
+    pub fn padded(&self) -> &[u8; 16]
+        ensures { take (length self.now) result.now ≡ self.now }
+    {
+        &self.bytes
+    }
+
+    /// How many bytes it has, at most 16.
+    #[inline(always)]
+    pub fn len(&self) -> usize
+        ensures value { result ≡ length self.now }
+        ensures short { result ≤ 16 }
+    {
+        self.len
     }
 
     /// Its text.

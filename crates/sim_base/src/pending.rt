@@ -1,61 +1,88 @@
-//! Pending messages.
-ghost use Rattle.std.specs.Prelude.{◌≡◌, Option, List, [], ◌∷◌, OnOk, OnErr, IfOk, IfNone, IfSome, Some, None, slice_get};
-ghost use Rattle.sim_base.specs.Pending.{insert_marked, spread_marks, cut_by};
+//! Pending messages: the future event list.
+//!
+//! They stand in blocks of at most 64, each in order and all before the next. Most lists have one block, which is
+//! never looked for; in a long list an insert halves over the blocks and then within one, and moves at most 64 messages:
+//!
+//!     first [3 5 8 ..]   later [21 22 25 ..] [40 41 ..] ..
+ghost use Rattle.std.specs.Prelude.{◌≡◌, ◌<◌, ◌≤◌, ◌==◌, Option, List, [], ◌∷◌, ◌++◌, length, OnOk, OnErr, IfOk, IfNone, IfSome, Some, None, slice_get};
+ghost use Rattle.sim_base.specs.Pending.{insert_marked, spread_marks, cut_by, first_time, NothingBefore};
 ghost use Rattle.sim_base.specs.Order.{msg_cmp};
+ghost use Rattle.sim_base.specs.Marked.{SortedMarked};
+ghost use Rattle.sim_base.specs.Blocks.{of_blocks, AreBlocks};
 ghost use Rattle.sim_base.specs.declared.message.Msg.{Msg};
 
 use crate::marks::Marks;
 use crate::memory::NoMemory;
 use crate::message::Msg;
+use block::Block;
+use blocks::{add_block, block_of, keep_later, make_room, next_block, put, spread_later};
 use std::alloc::Global;
-use std::collections::BTreeMap;
+use std::collections::VecDeque;
 use std::marker::Model;
+
+mod block;
+mod blocks;
+#[cfg(test)]
+mod tests;
 
 /// Pending messages with their marks, in the order of messages, each once.
 #[derive(Drop)]
 pub struct Pending<S: Marks> {
-    map: BTreeMap<Msg, S>,
+    first: Block<S>,
+    later: VecDeque<Block<S>>,
 }
 
 impl<S: Marks> Model for Pending<S> {
     ghost Value = { List (Msg × S) };
 
-    ghost view = { λ p. p.map.entries };
+    ghost view = { λ p. of_blocks (p.first ∷ p.later.items) };
+
+    ghost invariant = { λ p. AreBlocks msg_cmp p.first p.later.items };
 }
 
 impl<S: Marks> Pending<S> {
-    /// Nothing is pending.
+    /// Nothing is pending. It takes no memory.
     pub fn new(alloc: Global) -> Pending<S>
-        ensures { result ≡ [] }
+        ensures value { result ≡ [] }
     {
         Pending {
-            map: BTreeMap::new(alloc),
+            first: Block::new(alloc),
+            later: VecDeque::new(alloc),
         }
+    }
+
+    /// Whether nothing is pending.
+    pub fn is_empty(&self) -> bool
+        ensures value { result ≡ (length self.now == 0) }
+    {
+        self.first.is_empty()
     }
 
     /// Adds a message, or joins the marks to those that it has where it is there already.
     ///
-    /// On want of memory all is unchanged.
+    /// Out of memory leaves all unchanged.
     pub fn insert(&mut self, msg: Msg, marks: S) -> Result<(), NoMemory>
         ensures ok { OnOk result (self.new ≡ insert_marked S.joined msg_cmp msg marks self.old) }
         ensures err { OnErr result (self.new ≡ self.old) }
     {
-        if let Some(before) = self.map.insert(msg, marks)? {
-            let Ok(_) = self.map.insert(msg, before.join(marks)) else {
-                unreachable!()
-            };
-        }
-        Ok(())
+        let at = block_of(&self.later, &msg);
+        let at = make_room(&mut self.first, &mut self.later, at, &msg)?;
+        put(&mut self.first, &mut self.later, at, msg, marks)
     }
 
     /// The least message with its marks, None exactly where nothing is pending.
     pub fn least(&self) -> Option<(Msg, S)>
-        ensures { result ≡ slice_get self.now 0 }
+        ensures value { result ≡ slice_get self.now 0 }
+        ensures ordered { SortedMarked msg_cmp self.now }
     {
-        match self.map.first_key_value() {
-            Some((msg, marks)) => Some((*msg, *marks)),
-            None => None,
-        }
+        self.first.first()
+    }
+
+    /// The time of the least message, None exactly where nothing is pending. No message is copied.
+    pub fn least_time(&self) -> Option<u64>
+        ensures value { result ≡ first_time self.now }
+    {
+        self.first.first_time()
     }
 
     /// Takes the least message out, None exactly where nothing is pending.
@@ -63,16 +90,34 @@ impl<S: Marks> Pending<S> {
         ensures some { IfSome result (λ p. self.old ≡ p ∷ self.new) }
         ensures none { IfNone result ((self.old ≡ []) × (self.new ≡ [])) }
     {
-        self.map.pop_first()
+        let taken = self.first.take_first();
+        if self.first.is_empty() {
+            next_block(&mut self.first, &mut self.later);
+        }
+        taken
+    }
+
+    /// Takes the least message out if its time is before the bound. None changes nothing.
+    pub fn take_before(&mut self, bound: u64) -> Option<(Msg, S)>
+        ensures some { IfSome result (λ p. (self.old ≡ p ∷ self.new) × (p.0.key.time < bound)) }
+        ensures none { IfNone result ((self.new ≡ self.old) × NothingBefore bound self.old) }
+    {
+        match self.least_time() {
+            Some(time) if time < bound => self.take_least(),
+            _ => None,
+        }
     }
 
     /// The least message whose marks meet `by`, with what they share, None exactly where there is none.
     pub fn least_with(&self, by: S) -> Option<(Msg, S)>
-        ensures { result ≡ slice_get (cut_by S.met by self.now) 0 }
+        ensures value { result ≡ slice_get (cut_by S.met by self.now) 0 }
     {
-        for (msg, marks) in self.map.iter() {
-            if let Some(shared) = marks.meet(by) {
-                return Some((*msg, shared));
+        if let Some(found) = self.first.first_with(by) {
+            return Some(found);
+        }
+        for block in self.later.iter() {
+            if let Some(found) = block.first_with(by) {
+                return Some(found);
             }
         }
         None
@@ -80,26 +125,44 @@ impl<S: Marks> Pending<S> {
 
     /// The messages whose marks meet `by`, each with what they share.
     pub fn cut(&self, alloc: Global, by: S) -> Result<Pending<S>, NoMemory>
-        ensures { IfOk result (λ p. p ≡ cut_by S.met by self.now) }
+        ensures value { IfOk result (λ p. p ≡ cut_by S.met by self.now) }
     {
-        let mut map = BTreeMap::new(alloc);
-        for (msg, marks) in self.map.iter() {
-            if let Some(shared) = marks.meet(by) {
-                map.insert(*msg, shared)?;
-            }
+        let mut first = self.first.cut(alloc, by)?;
+        let mut later = VecDeque::new(alloc);
+        for block in self.later.iter() {
+            add_block(&mut first, &mut later, block.cut(alloc, by)?)?;
         }
-        Ok(Pending { map })
+        Ok(Pending { first, later })
+    }
+
+    /// The same messages and marks once more.
+    pub fn copy(&self, alloc: Global) -> Result<Pending<S>, NoMemory>
+        ensures value { IfOk result (λ p. p ≡ self.now) }
+    {
+        let first = self.first.copy(alloc)?;
+        let mut later = VecDeque::with_capacity(alloc, self.later.len())?;
+        for block in self.later.iter() {
+            later.push_back(block.copy(alloc)?)?;
+        }
+        Ok(Pending { first, later })
+    }
+
+    /// Keeps the messages whose marks meet `by`, each with what they share. It takes no memory.
+    pub fn keep(&mut self, by: S)
+        ensures value { self.new ≡ cut_by S.met by self.old }
+    {
+        self.first.keep(by);
+        keep_later(&mut self.later, by);
+        if self.first.is_empty() {
+            next_block(&mut self.first, &mut self.later);
+        }
     }
 
     /// Joins `more` to the marks of each message whose marks meet `by`.
     pub fn spread(&mut self, by: S, more: S)
-        ensures { self.new ≡ spread_marks S.joined S.met by more self.old }
+        ensures value { self.new ≡ spread_marks S.joined S.met by more self.old }
     {
-        self.map.retain(|_, marks| {
-            if marks.meet(by).is_some() {
-                *marks = marks.join(more);
-            }
-            true
-        });
+        self.first.spread(by, more);
+        spread_later(&mut self.later, by, more);
     }
 }

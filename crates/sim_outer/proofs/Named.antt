@@ -8,7 +8,7 @@ use Rattle.std.specs.FinMap.{find}
 use Rattle.std.specs.Ordering.{nat_cmp}
 use Rattle.std.specs.Str.{bytes_eq}
 use Rattle.std.specs.declared.vec.Vec.{Vec}
-use Rattle.sim_outer.specs.HeldFiles.{named_bytes}
+use Rattle.sim_outer.specs.MemInputsView.{named_bytes}
 
 -- from a file on, that one is found, or what is found behind it
 pub find-drop : {Z : Type 0} (name : List ℕ) (files : List (List ℕ × Vec ℕ Z)) (i : ℕ) (f : List ℕ × Vec ℕ Z) → i < length files

@@ -1,4 +1,4 @@
--- A front of a piece was written, and then more of it.
+-- A prefix of a piece was written, and then more of it.
 use Rattle.std.proofs.Common.{ℕ, ◌+◌, ◌-◌, List, length, take, drop, sym, subst}
 use Rattle.std.proofs.KnownBytes.{Appends-trans}
 use Rattle.std.proofs.Math.Seq.{take-add}
@@ -8,5 +8,5 @@ use Rattle.std.specs.declared.option.Option.{Option}
 
 pub Appends-more : (a b c : Option (List ℕ)) (piece : List ℕ) (done n : ℕ) → Appends a b (take done piece)
     → Appends b c (take n (take (length piece - done) (drop done piece))) → Appends a c (take (done + n) piece)
-Appends-more a b c piece done n front more =
-    subst (Appends a c) (sym (take-add done n piece)) (Appends-trans a b c _ _ front (subst (λ l. Appends b c (take n l)) (take_rest piece done) more))
+Appends-more a b c piece done n prefix more =
+    subst (Appends a c) (sym (take-add done n piece)) (Appends-trans a b c _ _ prefix (subst (λ l. Appends b c (take n l)) (take_rest piece done) more))

@@ -6,7 +6,7 @@ abbrev pub Appended : Option (List ℕ) → List ℕ → Option (List ℕ) → T
 Appended None piece new = new ≡ None
 Appended (Some old) piece new = new ≡ Some (old ++ piece)
 
--- a front of the piece was appended
+-- a prefix of the piece was appended
 abbrev pub PartAppended : Option (List ℕ) → List ℕ → Option (List ℕ) → Type 0
 PartAppended None piece new = new ≡ None
 PartAppended (Some old) piece new = (n : ℕ) × (new ≡ Some (old ++ take n piece))

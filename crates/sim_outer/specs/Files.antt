@@ -3,19 +3,20 @@ use Rattle.std.specs.Prelude.{◌≡◌, ℕ, List, take, Option, Some, None}
 use Rattle.std.specs.FinMap as map
 use Rattle.std.specs.Ordering.{nat_cmp}
 use Rattle.std.specs.Cmp.Lexicographic.{slice_cmp}
+use Rattle.sim_outer.specs.declared.inputs.TheConstants.{MOST_FETCHED}
 
 -- the bytes of each file, by the bytes of its name
 abbrev pub Files : Type 0
 Files = map.FinMap (slice_cmp nat_cmp) (List ℕ)
 
--- the first 1,048,577 bytes of a file, or the whole file if it is shorter
-unfoldable pub front_of : List ℕ → List ℕ
-front_of file = take 1048577 file
+-- the bytes of a file that a fetch gives: as many as it gives at most, or the whole file if it is shorter
+unfoldable pub prefix_of : List ℕ → List ℕ
+prefix_of file = take MOST_FETCHED file
 
--- these bytes are the front of the file of this name, which is there
+-- these bytes are those that a fetch gives of the file of this name, which is there
 abbrev pub Fetched : Option Files → List ℕ → List ℕ → Type 0
 Fetched None name bytes = Unit {0}
-Fetched (Some files) name bytes = (file : List ℕ) × (map.get files name ≡ Some file) × (bytes ≡ front_of file)
+Fetched (Some files) name bytes = (file : List ℕ) × (map.get files name ≡ Some file) × (bytes ≡ prefix_of file)
 
 -- the files are told, and none has this name
 abbrev pub Lacks : Option Files → List ℕ → Type 0

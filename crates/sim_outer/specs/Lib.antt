@@ -1,5 +1,5 @@
 pub mod Bytes
 pub mod Causes
 pub mod Files
-pub mod HeldBytes
-pub mod HeldFiles
+pub mod MemSinkView
+pub mod MemInputsView

@@ -11,7 +11,7 @@ pub const MOST_FETCHED: usize = 1_048_577;
 /// Why a fetch fails.
 #[derive(Clone, Copy, Debug, PartialEq, Eq)]
 pub enum FetchFault {
-    /// Memory was refused.
+    /// Out of memory.
     NoMemory,
     /// There is no such file, or it could not be read.
     Failed,
@@ -30,13 +30,16 @@ impl From<AllocError> for FetchFault {
 
 /// Files that are fetched by name.
 pub trait Inputs {
-    // the files by their names, where they are told
+    // the files by their names, where the contract knows them
     ghost files: { Self → Option Files };
 
     // how many faults there were
     ghost faults: { Self → ℕ };
 
-    /// The first 1,048,577 bytes of the file of this name, or the whole file if it is shorter.
+    /// The first [`MOST_FETCHED`] bytes of the file of this name, or the whole file if it is shorter.
+    ///
+    /// It fails only where the count of faults rises in this call, or where the contract knows the files and
+    /// none has this name.
     fn fetch(&mut self, alloc: Global, name: &str) -> Result<Vec<u8>, FetchFault>
         ensures bytes { IfOk result (λ v. Fetched (files self.old) name.now v.items) }
         ensures cause { IfErr result (λ e. e ≡ FetchFault.Failed →

@@ -1,5 +1,31 @@
-//! The outside: the words of the command line, inputs that are read by name, and sinks that take
-//! bytes. A fault of the outside raises a count that clauses see.
+//! The outside: the words of the command line, inputs that are read by name, and sinks that take bytes.
+//!
+//! A program that is proved still meets files that are not there and pipes that break. What a file holds no
+//! clause can say; so a count of faults stands in its place. `Inputs` and `Sink` say what a caller may rely on:
+//! a fetch that fails raised the count, or the file is known not to exist; a put that fails raised the count,
+//! and a prefix of the piece was taken. The top call is written over these two traits:
+//!
+//! ```text
+//!              Inputs                        Sink
+//!            /        \                  /     |     \
+//!   FileInputs      MemInputs     OutSink   ErrSink   MemSink, NullSink
+//!   real files      in tests      real streams        in tests
+//! ```
+//!
+//! An example of a fault in a test:
+//!
+//! ```text
+//! let mut out = MemSink::new(alloc, 4_096, failing)?;   // call 2 takes 10 bytes and fails
+//! out.put(text)?;
+//! let written = out.bytes();
+//! ```
+//!
+//! A fetch copies the file once, 1 MiB and a byte at most, which tells that there are more; a put takes no
+//! memory. `MemInputs` looks its files through one by one.
+//!
+//! The types over real files and streams are the trusted edge, a few lines each; that they raise the count at
+//! each fault is proved. Here rests the promise that a status of the program has a cause: a file that was not
+//! read or an output that was cut off is told, never passed over.
 #![tactic(auto)]
 
 pub mod inputs;

@@ -4,8 +4,8 @@ ghost use Rattle.std.specs.FinMap as finite;
 ghost use Rattle.std.specs.List.{list_any};
 ghost use Rattle.std.specs.Option.{option_map};
 ghost use Rattle.sim_outer.specs.Causes.{Rose};
-ghost use Rattle.sim_outer.specs.Files.{Fetched, Lacks, front_of};
-ghost use Rattle.sim_outer.specs.HeldFiles.{named_bytes, files_by_name, front_by_name, next_front, after_fetch};
+ghost use Rattle.sim_outer.specs.Files.{Fetched, Lacks, prefix_of};
+ghost use Rattle.sim_outer.specs.MemInputsView.{named_bytes, files_by_name, prefix_by_name, next_prefix, after_fetch};
 
 use crate::inputs::{FetchFault, Inputs, MOST_FETCHED};
 use crate::word::Word;
@@ -23,9 +23,9 @@ pub struct MemInputs {
 }
 
 impl Model for MemInputs {
-    ghost use Rattle.sim_outer.specs.HeldFiles.{HeldFiles, named_bytes};
+    ghost use Rattle.sim_outer.specs.MemInputsView.{MemInputsView, named_bytes};
 
-    ghost Value = { HeldFiles };
+    ghost Value = { MemInputsView };
 
     ghost view = { λ m. record {
       files = named_bytes m.files.items;
@@ -42,7 +42,7 @@ impl MemInputs {
         files: Vec<(Word, Vec<u8>)>,
         failing: Vec<u32>,
     ) -> Result<MemInputs, NoMemory>
-        ensures { IfOk result (λ m. m ≡ record {
+        ensures value { IfOk result (λ m. m ≡ record {
           files = named_bytes files.items;
           failing = failing.items;
           calls = 0;
@@ -71,8 +71,8 @@ impl Inputs for MemInputs {
         ensures same { Some (files_by_name self.new.files) ≡ Some (files_by_name self.old.files) }
 
         // exactly what is found, and exactly when the count rises
-        ensures ok { IfOk result (λ v. next_front self.old name.now ≡ Some v.items) }
-        ensures failed { (result ≡ Err FetchFault.Failed) ↔ (next_front self.old name.now ≡ None) }
+        ensures ok { IfOk result (λ v. next_prefix self.old name.now ≡ Some v.items) }
+        ensures failed { (result ≡ Err FetchFault.Failed) ↔ (next_prefix self.old name.now ≡ None) }
         ensures after { self.new ≡ after_fetch self.old }
     {
         self.calls = self.calls.saturating_add(1);
@@ -80,35 +80,35 @@ impl Inputs for MemInputs {
             self.faults = self.faults.saturating_add(1);
             return Err(FetchFault::Failed);
         }
-        front_by_name(alloc, self.files.as_slice(), name)
+        prefix_by_name(alloc, self.files.as_slice(), name)
     }
 }
 
 fn contains(numbers: &[u32], call: u64) -> bool
-    ensures { result ≡ list_any (λ number. number == call) numbers.now }
+    ensures value { result ≡ list_any (λ number. number == call) numbers.now }
 {
     numbers.iter().any(|number| u64::from(*number) == call)
 }
 
-// The front of the first file of this name.
-fn front_by_name(
+// What a fetch gives of the first file of this name.
+fn prefix_by_name(
     alloc: Global,
     files: &[(Word, Vec<u8>)],
     name: &str,
 ) -> Result<Vec<u8>, FetchFault>
-    ensures ok { IfOk result (λ v. front_by_name (named_bytes files.now) name.now ≡ Some v.items) }
+    ensures ok { IfOk result (λ v. prefix_by_name (named_bytes files.now) name.now ≡ Some v.items) }
     ensures failed { (result ≡ Err FetchFault.Failed)
-        ↔ (front_by_name (named_bytes files.now) name.now ≡ None) }
+        ↔ (prefix_by_name (named_bytes files.now) name.now ≡ None) }
 {
     let Some(file) = look_up(files, name) else {
         return Err(FetchFault::Failed);
     };
-    Ok(Vec::from_slice(alloc, front(file))?)
+    Ok(Vec::from_slice(alloc, prefix(file))?)
 }
 
 // The bytes of the first file of this name.
 fn look_up<'a>(files: &'a [(Word, Vec<u8>)], name: &str) -> Option<&'a [u8]>
-    ensures { option_map (λ b. b.now) result
+    ensures value { option_map (λ b. b.now) result
         ≡ finite.get (files_by_name (named_bytes files.now)) name.now }
 {
     for (word, bytes) in files {
@@ -119,9 +119,9 @@ fn look_up<'a>(files: &'a [(Word, Vec<u8>)], name: &str) -> Option<&'a [u8]>
     None
 }
 
-#[tactic(auto, using(crate::proofs::Fronts::take_front_of))]
-fn front(file: &[u8]) -> &[u8]
-    ensures { result.now ≡ front_of file.now }
+#[tactic(auto, using(crate::proofs::Prefixes::take_prefix_of))]
+fn prefix(file: &[u8]) -> &[u8]
+    ensures value { result.now ≡ prefix_of file.now }
 {
     &file[..file.len().min(MOST_FETCHED)]
 }

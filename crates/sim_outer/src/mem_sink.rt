@@ -2,18 +2,18 @@
 ghost use Rattle.std.specs.Prelude.{◌≡◌, ◌≤◌, ◌↔◌, ◌&&◌, [], true, min, nat_le, length, is_none, unwrap_or, Some, OnOk, OnErr, IfOk, IsOk};
 ghost use Rattle.sim_outer.specs.Bytes.{Appended, PartAppended};
 ghost use Rattle.sim_outer.specs.Causes.{Rose};
-ghost use Rattle.sim_outer.specs.HeldBytes.{stop_of, next_is_whole, after_put};
+ghost use Rattle.sim_outer.specs.MemSinkView.{stop_of, next_is_whole, after_put};
 
 use crate::sink::{PutFailed, Sink};
 use sim_base::NoMemory;
 use std::alloc::Global;
 use std::marker::Model;
 
-/// Bytes in memory, up to a fixed room. The calls of the stated numbers fail, counted from 1.
+/// A sink in memory that takes so many bytes. The calls of the stated numbers fail, counted from 1.
 #[derive(Drop)]
 pub struct MemSink {
     taken: Vec<u8>,
-    room: usize,
+    capacity: usize,
     failing: Vec<(u32, usize)>,
     calls: u64,
     faults: u64,
@@ -22,36 +22,40 @@ pub struct MemSink {
 impl Model for MemSink {
     ghost use Rattle.std.specs.Prelude.{◌≤◌, length};
     ghost use Rattle.std.specs.Vec.{vec_capacity};
-    ghost use Rattle.sim_outer.specs.HeldBytes.{HeldBytes};
+    ghost use Rattle.sim_outer.specs.MemSinkView.{MemSinkView};
 
-    ghost Value = { HeldBytes };
+    ghost Value = { MemSinkView };
 
     ghost view = { λ s. record {
       taken = s.taken.items;
-      room = s.room;
+      capacity = s.capacity;
       failing = s.failing.items;
       calls = s.calls;
       faults = s.faults;
     } };
 
-    ghost invariant = { λ s. (length s.taken.items ≤ s.room) × (s.room ≤ vec_capacity s.taken) };
+    ghost invariant = { λ s. (length s.taken.items ≤ s.capacity) × (s.capacity ≤ vec_capacity s.taken) };
 }
 
 impl MemSink {
-    /// Reserves room for so many bytes. Each pair of `failing` is the number of a call that fails,
+    /// Reserves the memory of so many bytes. Each pair of `failing` is the number of a call that fails,
     /// and how many bytes it takes at most.
-    pub fn new(alloc: Global, room: usize, failing: Vec<(u32, usize)>) -> Result<MemSink, NoMemory>
-        ensures { IfOk result (λ s. s ≡ record {
+    pub fn new(
+        alloc: Global,
+        capacity: usize,
+        failing: Vec<(u32, usize)>,
+    ) -> Result<MemSink, NoMemory>
+        ensures value { IfOk result (λ s. s ≡ record {
           taken = [];
-          room = room;
+          capacity = capacity;
           failing = failing.items;
           calls = 0;
           faults = 0;
         }) }
     {
         Ok(MemSink {
-            taken: Vec::with_capacity(alloc, room)?,
-            room,
+            taken: Vec::with_capacity(alloc, capacity)?,
+            capacity,
             failing,
             calls: 0,
             faults: 0,
@@ -60,7 +64,7 @@ impl MemSink {
 
     /// The bytes that it took.
     pub fn bytes(&self) -> &[u8]
-        ensures { result.now ≡ self.now.taken }
+        ensures value { result.now ≡ self.now.taken }
     {
         self.taken.as_slice()
     }
@@ -83,7 +87,7 @@ impl Sink for MemSink {
     {
         self.calls = self.calls.saturating_add(1);
         let stop = stop_at(self.failing.as_slice(), self.calls);
-        let left = self.room - self.taken.len();
+        let left = self.capacity - self.taken.len();
         let (count, whole) = share(stop, piece.len(), left);
         let Ok(()) = self.taken.extend_from_slice(&piece[..count]) else {
             unreachable!()
@@ -98,7 +102,7 @@ impl Sink for MemSink {
 
 // Where the call of this number stops, if it is one that fails.
 fn stop_at(failing: &[(u32, usize)], call: u64) -> Option<usize>
-    ensures { result ≡ stop_of failing.now call }
+    ensures value { result ≡ stop_of failing.now call }
 {
     failing.iter().find(|f| u64::from(f.0) == call).map(|f| f.1)
 }

@@ -1,7 +1,7 @@
 //! The real files and streams: the trusted edge. What they give and take no clause can say.
 ghost use Rattle.std.specs.Prelude.{◌≡◌, ℕ, None, take, IfOk, IfSome, OnOk, OnErr};
 ghost use Rattle.std.specs.Io.KnownBytes.{Appends};
-ghost use Rattle.sim_outer.specs.Files.{front_of};
+ghost use Rattle.sim_outer.specs.Files.{prefix_of};
 
 use crate::inputs::{FetchFault, Inputs, MOST_FETCHED};
 use crate::sink::{PutFailed, Sink};
@@ -29,7 +29,7 @@ impl<'a, R: Files> Model for FileInputs<'a, R> {
 impl<'a, R: Files> FileInputs<'a, R> {
     /// The files of the system.
     pub fn new(rt: &'a R) -> FileInputs<'a, R>
-        ensures { result ≡ 0 }
+        ensures value { result ≡ 0 }
     {
         FileInputs { rt, faults: 0 }
     }
@@ -42,7 +42,7 @@ impl<'a, R: Files> Inputs for FileInputs<'a, R> {
 
     fn fetch(&mut self, alloc: Global, name: &str) -> Result<Vec<u8>, FetchFault> {
         let read = match fs::open(self.rt, name) {
-            Ok(mut file) => read_front(alloc, &mut file),
+            Ok(mut file) => read_prefix(alloc, &mut file),
             Err(_) => Err(FetchFault::Failed),
         };
         if let Err(FetchFault::Failed) = read {
@@ -70,7 +70,7 @@ impl<'a, R: Print> Model for OutSink<'a, R> {
 impl<'a, R: Print> OutSink<'a, R> {
     /// The standard output of the system.
     pub fn new(rt: &'a R) -> OutSink<'a, R>
-        ensures { result ≡ 0 }
+        ensures value { result ≡ 0 }
     {
         OutSink { rt, faults: 0 }
     }
@@ -109,7 +109,7 @@ impl<'a, R: Eprint> Model for ErrSink<'a, R> {
 impl<'a, R: Eprint> ErrSink<'a, R> {
     /// The standard error of the system.
     pub fn new(rt: &'a R) -> ErrSink<'a, R>
-        ensures { result ≡ 0 }
+        ensures value { result ≡ 0 }
     {
         ErrSink { rt, faults: 0 }
     }
@@ -149,9 +149,9 @@ impl<'a, R: Eprint> Write for ErrorWriter<'a, R> {
     }
 }
 
-// The first 1,048,577 bytes, or all. Each turn takes at least one.
-fn read_front<F: Read>(alloc: Global, file: &mut F) -> Result<Vec<u8>, FetchFault>
-    ensures { IfOk result (λ v. IfSome (F.remaining file.old) (λ bytes. v.items ≡ front_of bytes)) }
+// The bytes that a fetch gives of a file. Each read takes at least one.
+fn read_prefix<F: Read>(alloc: Global, file: &mut F) -> Result<Vec<u8>, FetchFault>
+    ensures value { IfOk result (λ v. IfSome (F.remaining file.old) (λ bytes. v.items ≡ prefix_of bytes)) }
 {
     let mut bytes = Vec::new(alloc);
     let mut buffer = [0u8; 16_384];
@@ -166,7 +166,7 @@ fn read_front<F: Read>(alloc: Global, file: &mut F) -> Result<Vec<u8>, FetchFaul
     Ok(bytes)
 }
 
-// Writes a piece. Each turn takes at least one byte.
+// Writes a piece. Each write takes at least one byte.
 fn write_whole<W: Write>(writer: &mut W, piece: &[u8]) -> Result<(), PutFailed>
     ensures ok { OnOk result (Appends (W.contents writer.old) (W.contents writer.new) piece.now) }
     ensures part { OnErr result ((n : ℕ) × Appends (W.contents writer.old) (W.contents writer.new) (take n piece.now)) }

@@ -9,13 +9,13 @@ pub struct PutFailed;
 
 /// What takes bytes.
 pub trait Sink {
-    // the bytes that it took, where they are told
+    // the bytes that it took, where the contract knows them
     ghost bytes: { Self → Option (List ℕ) };
 
     // how many faults there were
     ghost faults: { Self → ℕ };
 
-    /// Takes a piece, or fails and has taken a front of it. To take nothing of a piece that is not
+    /// Takes a piece, or fails and has taken a prefix of it. To take nothing of a piece that is not
     /// empty is a fault. It takes no memory.
     fn put(&mut self, piece: &[u8]) -> Result<(), PutFailed>
         ensures ok { OnOk result (Appended (bytes self.old) piece.now (bytes self.new)) }

@@ -70,8 +70,8 @@ fn a_long_file_is_cut(rt: HostRuntime) -> Result<(), Fail> {
         long_file(alloc, MOST_FETCHED + 1)?,
     ))?;
     let mut inputs = MemInputs::new(alloc, files, Vec::new(alloc))?;
-    let front = long_file(alloc, MOST_FETCHED)?;
-    assert!(rt; inputs.fetch(alloc, "long")?.as_slice() == front.as_slice());
+    let prefix = long_file(alloc, MOST_FETCHED)?;
+    assert!(rt; inputs.fetch(alloc, "long")?.as_slice() == prefix.as_slice());
     Ok(())
 }
 
@@ -103,7 +103,7 @@ fn real_files_are_read(rt: HostRuntime) -> Result<(), Fail> {
     let alloc = rt.alloc();
     let path = path_of_own(&rt, "sim_outer")?;
     let long = long_file(alloc, MOST_FETCHED + 1)?;
-    let front = long_file(alloc, MOST_FETCHED)?;
+    let prefix = long_file(alloc, MOST_FETCHED)?;
     let mut inputs = FileInputs::new(&rt);
     assert!(rt; matches!(inputs.fetch(alloc, path.as_str()), Err(FetchFault::Failed)));
     fs::write(&rt, &path, b"short".as_slice())?;
@@ -112,7 +112,7 @@ fn real_files_are_read(rt: HostRuntime) -> Result<(), Fail> {
         b"short".as_slice()
     );
     fs::write(&rt, &path, long.as_slice())?;
-    assert!(rt; inputs.fetch(alloc, path.as_str())?.as_slice() == front.as_slice());
+    assert!(rt; inputs.fetch(alloc, path.as_str())?.as_slice() == prefix.as_slice());
     fs::remove_file(&rt, &path)?;
     let directory = env::temp_dir(&rt)?;
     assert!(rt;

@@ -23,7 +23,7 @@ impl Model for Word {
 impl Word {
     /// A word with this text.
     pub fn new(alloc: Global, text: &str) -> Result<Word, NoMemory>
-        ensures { IfOk result (λ w. w ≡ text.now) }
+        ensures value { IfOk result (λ w. w ≡ text.now) }
     {
         Ok(Word {
             text: String::from_str(alloc, text)?,
@@ -32,7 +32,7 @@ impl Word {
 
     /// Its text.
     pub fn text(&self) -> &str
-        ensures { result.now ≡ self.now }
+        ensures value { result.now ≡ self.now }
     {
         self.text.as_str()
     }

@@ -2,7 +2,7 @@ use super::Lists;
 use crate::decision::Planned;
 use crate::message::{Change, Param};
 use crate::name::Name;
-use crate::roomy::Roomy;
+use crate::reserved::Reserved;
 use std::test::Fail;
 
 fn plan(at: u64, station: u32) -> Planned {
@@ -49,7 +49,7 @@ fn copies_stay_as_they_were(rt: HostRuntime) -> Result<(), Fail> {
     lists.add(0, plan(5, 1))?;
     let before = lists.copy(rt.alloc())?;
     assert_eq!(rt; lists.find(&left), None);
-    lists.fork_in_room(left, 0);
+    lists.fork_in_reserved(left, 0);
     assert_eq!(rt; lists.end_of(1), None);
     lists.end(1, 40);
     let after = lists.copy(rt.alloc())?;
@@ -66,9 +66,9 @@ fn copies_stay_as_they_were(rt: HostRuntime) -> Result<(), Fail> {
 }
 
 #[test]
-fn roomy_lists_grow_at_the_end(rt: HostRuntime) -> Result<(), Fail> {
-    let mut list = Roomy::with_room(rt.alloc(), 2)?;
-    assert_eq!(rt; (list.room(), list.is_empty()), (2, true));
+fn reserved_lists_grow_at_the_end(rt: HostRuntime) -> Result<(), Fail> {
+    let mut list = Reserved::with_capacity(rt.alloc(), 2)?;
+    assert_eq!(rt; (list.reserved(), list.is_empty()), (2, true));
     assert_eq!(rt; list.push(4u32), Ok(()));
     assert_eq!(rt; list.extend(&[5, 6, 7]), Ok(()));
     assert_eq!(rt; (list.pop(), list.len()), (Some(7), 3));

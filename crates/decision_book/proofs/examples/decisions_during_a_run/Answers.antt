@@ -9,11 +9,11 @@ returns-clause-right c = (
     (
       (omega arith, omega arith),
       (
-        record { fronts = refl; answer = refl; kept = λ full. cc },
+        record { fronts = refl; answer = refl; not_full = λ full. cc },
         (
-          record { fronts = refl; answer = refl; kept = λ full. cc },
+          record { fronts = refl; answer = refl; not_full = λ full. cc },
           (
-            record { fronts = refl; answer = refl; kept = λ full. cc },
+            record { fronts = refl; answer = refl; not_full = λ full. cc },
             (
               (omega arith, omega arith),
               (
@@ -22,7 +22,7 @@ returns-clause-right c = (
                   (omega arith, omega arith),
                   (
                     (omega arith, omega arith),
-                    (record { fronts = refl; answer = refl; kept = λ full. cc }, tt),
+                    (record { fronts = refl; answer = refl; not_full = λ full. cc }, tt),
                   ),
                 ),
               ),

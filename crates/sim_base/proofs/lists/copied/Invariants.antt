@@ -1,5 +1,5 @@
 use Rattle.std.proofs.Common.{◌≡◌, map, take}
-use Rattle.sim_base.specs.KeptClones.{clone_of}
+use Rattle.sim_base.specs.CloneListViews.{clone_of}
 use Rattle.sim_base.proofs.lists.copied.Given as goal
 
 abbrev pub invariant-loop-clone : goal.invariant-loop-clone

@@ -12,7 +12,7 @@ pub returns-then-eq : goal.returns-then-eq
 returns-then-eq c =
     let here : bytes_eq c.args.name.now c.loop-word-item.result.0 ≡ true = search rules in
     let found = find-drop c.args.name.now c.args.files.now c.loop-word.word-index c.loop-word-item.result c.loop-word-test.true c.loop-word-item.is in
-    rw c.as_slice.ensures.value (sym (c.loop-word.invariant ∙ rw here at found))
+    record { value = rw c.as_slice.ensures.value (sym (c.loop-word.invariant ∙ rw here at found)) }
 
 pub loop-word-preserved : goal.loop-word-preserved
 loop-word-preserved c =

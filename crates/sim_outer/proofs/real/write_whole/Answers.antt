@@ -4,6 +4,6 @@ use Rattle.sim_outer.proofs.real.write_whole.Goals as goal
 
 pub loop-done-preserved : goal.loop-done-preserved
 loop-done-preserved g c = record {
-  front = Appends-more _ _ _ _ _ _ c.loop-done.invariant.front c.in-Ok.ensures.bytes;
+  prefix = Appends-more _ _ _ _ _ _ c.loop-done.invariant.prefix c.in-Ok.ensures.bytes;
   within = search rules;
 }

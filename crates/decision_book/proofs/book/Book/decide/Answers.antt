@@ -1,7 +1,7 @@
 use Rattle.std.proofs.Common.{◌∙◌, ap, sym, List}
 use Rattle.decision_book.specs.Journal.{Event, after}
-use Rattle.decision_book.specs.Keeping.{journal_of}
-use Rattle.decision_book.proofs.Scripts.{recorded_is_next}
+use Rattle.decision_book.specs.Books.{journal_of}
+use Rattle.decision_book.proofs.Scripts.{asking_is_next}
 use Rattle.decision_book.proofs.Booking.{called, journal_called}
 use Rattle.decision_book.proofs.book.Book.decide.Goals as goal
 
@@ -9,18 +9,18 @@ pub invariant_of-self : goal.invariant_of-self
 invariant_of-self c =
     let b = c.self.inside in
     rw c.in-Ok.ensures.ok (called b.model.value b.lists _ b.calls b.fronts b.front _ c.self.invariant
-    (record { stamp = c.len.ensures; answer = rw (← c.len-calls.ensures, ← c.deref.ensures) c.decide_by_table-reply.ensures.reply; kept_call = sym c.if-not-fills_up.ensures })
+    (record { stamp = c.len.ensures.value; answer = rw (← c.len-calls.ensures.value, ← c.deref.ensures) c.decide_by_table-reply.ensures.reply; not_full = sym c.if-not-fills_up.ensures.value })
     (rw (← c.deref.ensures) c.decide_by_table-reply.ensures.lists) (rw (← c.deref.ensures) c.decide_by_table-reply.ensures.planned))
 
 pub returns-in-Ok-clause-journal : goal.returns-in-Ok-clause-journal
 returns-in-Ok-clause-journal c =
     let b = c.self.inside in
     rw (c.in-Ok.ensures.ok, ← c.self.view_is) (ap (λ (es : List Event). record { net = b.model.value; events = es }) (journal_called b.model.value b.lists b.calls b.fronts b.front _ c.self.invariant
-    (record { stamp = c.len.ensures; answer = rw (← c.len-calls.ensures, ← c.deref.ensures) c.decide_by_table-reply.ensures.reply; kept_call = sym c.if-not-fills_up.ensures })))
+    (record { stamp = c.len.ensures.value; answer = rw (← c.len-calls.ensures.value, ← c.deref.ensures) c.decide_by_table-reply.ensures.reply; not_full = sym c.if-not-fills_up.ensures.value })))
 
 pub returns-in-Ok-clause-next : goal.returns-in-Ok-clause-next
 returns-in-Ok-clause-next c =
     let b = c.self.inside in
     rw (c.in-Ok.ensures.ok, ← c.self.view_is) (ap (after b.model.value) (journal_called b.model.value b.lists b.calls b.fronts b.front _ c.self.invariant
-    (record { stamp = c.len.ensures; answer = rw (← c.len-calls.ensures, ← c.deref.ensures) c.decide_by_table-reply.ensures.reply; kept_call = sym c.if-not-fills_up.ensures }))
-    ∙ recorded_is_next b.model.value (journal_of b.calls.items b.fronts.items) c.args.caller c.args.d)
+    (record { stamp = c.len.ensures.value; answer = rw (← c.len-calls.ensures.value, ← c.deref.ensures) c.decide_by_table-reply.ensures.reply; not_full = sym c.if-not-fills_up.ensures.value }))
+    ∙ asking_is_next b.model.value (journal_of b.calls.items b.fronts.items) c.args.caller c.args.d)

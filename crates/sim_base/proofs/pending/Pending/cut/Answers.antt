@@ -1,32 +1,51 @@
-use Rattle.std.proofs.Common.{refl, sym, ◌∙◌}
-use Rattle.sim_base.proofs.Derived.{derived}
-use Rattle.sim_base.proofs.Cutting.{cut_kept, cut_dropped, last_along, ordered_along, sorted_with, sorted_without}
+use Rattle.std.proofs.Common.{◌≡◌, ◌∷◌, ◌++◌, ◌<◌, [], ap, sym, ◌∙◌, subst, arith, length}
+use Rattle.std.proofs.lemmas.List.{append-nil}
+use Rattle.std.specs.VecDeque.Iter.{deque_iter_rest}
+use Rattle.sim_base.specs.Pending.{cut_by}
 use Rattle.sim_base.specs.Order.{msg_cmp}
+use Rattle.sim_base.specs.Marked.{SortedMarked}
+use Rattle.sim_base.specs.Blocks.{of_blocks, AreFilled, AreSized}
+use Rattle.sim_base.proofs.Cutting.{cut-append, sorted_cut, length_cut}
+use Rattle.sim_base.proofs.Turning.{cut_more, cut_end}
 use Rattle.sim_base.proofs.pending.Pending.cut.Goals as goal
 
-pub loop-msg-init : goal.loop-msg-init
-loop-msg-init g c =
-    let rest = c.into_iter-msg-iterator.ensures.into_iter_gives ∙ c.iter-msg-items.ensures.rest in
-    rw (c.new-map.ensures.empty, rest) (record { can = tt; ends = tt; rest = rw (← c.self.view_is) refl; ordered = ordered_along _ derived _ c.iter-msg-items.ensures.ordered })
-
-pub loop-msg-preserved-in_ok-insert : goal.loop-msg-preserved-in_ok-insert
-loop-msg-preserved-in_ok-insert g c =
-    let before = c.loop-msg.invariant in
-    let ordered = rw c.in-Some.ensures.steps at before.ordered in
-    let entries = c.in_ok-insert.ensures.entries ∙ last_along _ (sym derived) c.loop-msg.map.entries c.in-Some.msg.now c.in-Some-meet.shared c.in-Some.marks.now c.next.new.self ordered in
+pub loop-block-init : goal.loop-block-init
+loop-block-init g c =
+    let met = g.S.Marks.met in
+    let first = c.self.inside.first in
+    let later = c.self.inside.later.items in
+    let rest = ap deque_iter_rest c.into_iter-block-iterator.ensures.into_iter_gives ∙ c.iter-block-items.ensures.rest in
+    let none = c.new-later.ensures.items in
+    let short = length_cut met c.args.by first in
+    let long = ap length c.in_ok-first.ensures.value in
     record {
-      can = tt;
-      ends = tt;
-      rest = rw entries (cut_kept g.S.Marks.met c.args.by c.loop-msg.map.entries c.next.new.self _ c.in-Some.msg.now c.in-Some-meet.shared c.in-Some.marks.now (rw c.in-Some.ensures.steps at before.rest) (sym c.in-Some-meet.ensures));
-      ordered = rw entries (sorted_with msg_cmp c.loop-msg.map.entries c.in-Some.msg.now c.in-Some-meet.shared c.in-Some.marks.now c.next.new.self ordered);
+      all =
+          ap (λ bs. (c.in_ok-first.first ++ of_blocks bs) ++ cut_by met c.args.by (of_blocks (deque_iter_rest c.into_iter-block-iterator.result))) none
+          ∙ ap (λ xs. xs ++ cut_by met c.args.by (of_blocks (deque_iter_rest c.into_iter-block-iterator.result))) (append-nil c.in_ok-first.first ∙ c.in_ok-first.ensures.value)
+          ∙ ap (λ bs. cut_by met c.args.by first ++ cut_by met c.args.by (of_blocks bs)) rest ∙ sym (cut-append met c.args.by first (of_blocks later)) ∙ ap (cut_by met c.args.by) c.self.view_is;
+      sized = subst (λ bs. AreSized c.in_ok-first.first bs) (sym none) (record { first_filled = λ l. absurd (omega arith); first_small = omega (arith, c.self.invariant.sized.first_small); later_filled = tt });
+      rest = subst AreFilled (sym rest) c.self.invariant.sized.later_filled;
     }
 
-pub loop-msg-preserved : goal.loop-msg-preserved
-loop-msg-preserved g c =
-    let before = c.loop-msg.invariant in
+pub add_block-requires-clause-small : goal.add_block-requires-clause-small
+add_block-requires-clause-small g c =
+    let filled = subst AreFilled c.in-Some.ensures.steps c.loop-block.invariant.rest in
+    let short = length_cut g.S.Marks.met c.args.by c.in-Some.block.now in
+    let long = ap length c.in_ok-cut.ensures.value in
+    omega (arith, filled.0.1)
+
+pub loop-block-preserved : goal.loop-block-preserved
+loop-block-preserved g c =
+    let filled = subst AreFilled c.in-Some.ensures.steps c.loop-block.invariant.rest in
     record {
-      can = tt;
-      ends = tt;
-      rest = cut_dropped g.S.Marks.met c.args.by c.loop-msg.map.entries c.next.new.self _ c.in-Some.msg.now c.in-Some.marks.now (rw c.in-Some.ensures.steps at before.rest) (sym c.in_default.ensures);
-      ordered = sorted_without msg_cmp c.loop-msg.map.entries (c.in-Some.msg.now, c.in-Some.marks.now) c.next.new.self (rw c.in-Some.ensures.steps at before.ordered);
+      all = cut_more g.S.Marks.met c.args.by (c.loop-block.first ++ of_blocks c.loop-block.later.items) (c.add_block.new.first ++ of_blocks c.add_block.new.later.items) c.in-Some.block.now c.in_ok-cut.field-0 _ _ _ c.in_ok-add_block.ensures.all c.in_ok-cut.ensures.value c.in-Some.ensures.steps c.loop-block.invariant.all;
+      sized = c.in_ok-add_block.ensures.sized;
+      rest = filled.1;
     }
+
+pub invariant_of-result : goal.invariant_of-result
+invariant_of-result g c =
+    let met = g.S.Marks.met in
+    let all = cut_end met c.args.by (c.loop-block.first ++ of_blocks c.loop-block.later.items) _ _ c.in-None.ensures.steps.0 c.loop-block.invariant.all in
+    let sorted = subst (SortedMarked msg_cmp) c.self.view_is c.self.invariant.sorted in
+    record { sorted = subst (SortedMarked msg_cmp) (sym all) (sorted_cut met c.args.by msg_cmp c.args.self.now sorted); sized = c.loop-block.invariant.sized }

@@ -1,10 +1,24 @@
-use Rattle.std.proofs.Common.{rules, if◌then◌else◌}
-use Rattle.std.specs.Prelude.{is_some}
-use Rattle.std.proofs.lemmas.Map.Made.{map_same_pairs}
+use Rattle.std.proofs.Common.{◌≡◌, ◌∷◌, ◌++◌, [], ap, sym, ◌∙◌, subst, arith, length}
+use Rattle.std.proofs.lemmas.List.{map-append, length-map}
+use Rattle.sim_base.specs.Pending.{spread_marks}
+use Rattle.sim_base.specs.Order.{msg_cmp}
+use Rattle.sim_base.specs.Marked.{SortedMarked}
+use Rattle.sim_base.specs.Blocks.{of_blocks}
+use Rattle.sim_base.proofs.Cutting.{sorted_spread}
 use Rattle.sim_base.proofs.pending.Pending.spread.Goals as goal
 
-pub returns : goal.returns
-returns g c =
-    let meet = g.S.Marks.met in
-    let join = g.S.Marks.joined in
-    rw (← c.self.view_is) (map_same_pairs _ (λ m. if is_some (meet m c.args.by) then join m c.args.more else m) _ (λ k v b w f' t. search rules) _ _ c.retain.ensures.filtered)
+pub invariant_of-self : goal.invariant_of-self
+invariant_of-self g c =
+    let spread = spread_marks g.S.Marks.joined g.S.Marks.met c.args.by c.args.more in
+    let first = c.self.inside.first in
+    let rest = of_blocks c.self.inside.later.items in
+    let all = ap (λ xs. xs ++ of_blocks c.spread_later.new.later.items) c.spread.ensures.value ∙ ap (λ ys. spread first ++ ys) c.spread_later.ensures.value ∙ sym (map-append _ first rest) in
+    let long = ap length c.spread.ensures.value ∙ length-map first _ in
+    record {
+      sorted = subst (SortedMarked msg_cmp) (sym all) (sorted_spread g.S.Marks.joined g.S.Marks.met c.args.by c.args.more msg_cmp (first ++ rest) c.self.invariant.sorted);
+      sized = record {
+        first_filled = λ l. let old = c.self.invariant.sized.first_filled (omega (arith, c.spread_later.ensures.count)) in omega arith;
+        first_small = omega (arith, c.self.invariant.sized.first_small);
+        later_filled = c.spread_later.ensures.filled;
+      };
+    }

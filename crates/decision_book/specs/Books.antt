@@ -1,0 +1,43 @@
+-- What contracts see of a book, and what a book keeps.
+use Rattle.std.specs.Prelude.{◌≡◌, ℕ, ◌-◌, ◌≤◌, List, [], ◌∷◌, ◌++◌, length, map, take, drop}
+use Rattle.sim_base.specs.Reserved.{ReservedView}
+use Rattle.sim_base.specs.Clones.{ListsView}
+use Rattle.sim_base.specs.declared.lists.TheConstants.{MOST_CLONES, MOST_DECISIONS}
+use Rattle.net_model.specs.Net.{Net}
+use Rattle.decision_book.specs.declared.call.Call.{Call}
+use Rattle.decision_book.specs.declared.call.TheConstants.{MOST_CALLS}
+use Rattle.decision_book.specs.Journal.{Event, raised, asked, after}
+use Rattle.decision_book.specs.Right.{IsRight}
+use Rattle.decision_book.specs.Plans.{ArePlanned}
+
+-- what contracts see of a book: the network and the journal
+pub record BookView : Type 0 where
+  pub net : Net
+  pub events : List Event
+
+-- the journal of these calls and fronts, where so many fronts stood before it; each call says how many stood before the call
+abbrev pub journal_from : ℕ → List Call → List ℕ → List Event
+journal_from n [] fronts = map raised fronts
+journal_from n (c ∷ cs) fronts = map raised (take (c.fronts - n) fronts) ++ (asked c ∷ journal_from c.fronts cs (drop (c.fronts - n) fronts))
+
+-- the whole journal of calls and fronts
+abbrev pub journal_of : List Call → List ℕ → List Event
+journal_of calls fronts = journal_from 0 calls fronts
+
+-- each call stands behind no fewer fronts than the one before, and than n, and behind no more than there are
+abbrev pub AreStamped : ℕ → ℕ → List Call → Type 0
+AreStamped n all [] = n ≤ all
+AreStamped n all (c ∷ cs) = (n ≤ c.fronts) × AreStamped c.fronts all cs
+
+-- lists, front and number of calls are those of the journal, which is right, and memory is reserved for all calls, clones and decisions
+pub record IsBook (net : Net) (lists : ListsView) (calls : ReservedView Call) (fronts : ReservedView ℕ) (last : ℕ) : Type 0 where
+  pub stands : after net (journal_of calls.items fronts.items) ≡ record { net = net; clones = lists.clones; front = last; calls = length calls.items }
+  pub right : IsRight net (journal_of calls.items fronts.items)
+  pub stamps : AreStamped 0 (length fronts.items) calls.items
+  pub few : length fronts.items ≤ last
+  pub early : last ≤ net.horizon
+  pub soon : net.horizon ≤ 1000000000
+  pub planned : ArePlanned net lists.clones
+  pub reserved_clones : lists.reserved_clones ≡ MOST_CLONES
+  pub reserved_plans : lists.reserved_plans ≡ MOST_DECISIONS
+  pub reserved_calls : calls.reserved ≡ MOST_CALLS

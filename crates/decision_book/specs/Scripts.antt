@@ -1,0 +1,50 @@
+-- The decisions of a script, made in order at front 0.
+use Rattle.std.specs.Prelude.{ℕ, ◌+◌, List, [], ◌∷◌, fold, Option, Some, None}
+use Rattle.sim_base.specs.declared.decision.Decision.{Decision}
+use Rattle.sim_base.specs.Clones.{Clone}
+use Rattle.net_model.specs.Net.{Net}
+use Rattle.decision_book.specs.declared.call.Reply.{Reply}
+use Rattle.decision_book.specs.declared.call.Reply.TheVariants.{Accepted, Full}
+use Rattle.decision_book.specs.Journal.{Event, Situation, opening, clones_after_reply}
+use Rattle.decision_book.specs.Replies.{reply}
+use Rattle.decision_book.specs.Right.{journal_with}
+
+-- who asks, and what
+pub record Question : Type 0 where
+  pub caller : ℕ
+  pub decision : Decision
+
+-- the journal without fronts that has these decisions in order, each with its reply after those before it
+abbrev pub journal_of_script : Net → List Question → List Event
+journal_of_script net questions = fold (λ events q. journal_with net events q.caller q.decision) [] questions
+
+-- Full counts no call
+abbrev pub calls_after : Reply → ℕ → ℕ
+calls_after Full calls = calls
+calls_after _ calls = calls + 1
+
+-- how things stand after a decision; who asked makes no difference
+abbrev pub next : Situation → Decision → Situation
+next s d = record s { clones = clones_after_reply s.net s.clones d (reply s d); calls = calls_after (reply s d) s.calls }
+
+-- how things stand after these decisions
+abbrev pub after_all : Situation → List Decision → Situation
+after_all s ds = fold next s ds
+
+-- the clones that the decisions of a script leave
+abbrev pub lists_of : Net → List Decision → List Clone
+lists_of net ds = (after_all (opening net) ds).clones
+
+-- the refusal at this place, or else one of a later place
+abbrev pub refusal_or : ℕ → Reply → Option (ℕ × Reply) → Option (ℕ × Reply)
+refusal_or place Accepted later = later
+refusal_or place refusal later = Some (place, refusal)
+
+-- the first of the decisions that is refused, where the first of them has this place: its place and the refusal
+abbrev pub first_refusal_from : Situation → ℕ → List Decision → Option (ℕ × Reply)
+first_refusal_from s place [] = None
+first_refusal_from s place (d ∷ ds) = refusal_or place (reply s d) (first_refusal_from (next s d) (place + 1) ds)
+
+-- the first decision of a script that is refused: its place, from 0, and the refusal
+abbrev pub first_refusal : Net → List Decision → Option (ℕ × Reply)
+first_refusal net ds = first_refusal_from (opening net) 0 ds

@@ -1,0 +1,18 @@
+use Rattle.std.proofs.Common.{◌≡◌, ℕ, ◌+◌, ◌<◌, [], ap, sym, ◌∙◌, subst, true, false, get_or, length, arith}
+use Rattle.std.proofs.lemmas.List.{get_or_read}
+use Rattle.sim_base.specs.Blocks.{IsBlockOf, StartsAfter}
+use Rattle.sim_base.specs.Order.{msg_cmp}
+use Rattle.sim_base.proofs.Halving.{starts_there}
+use Rattle.sim_base.proofs.pending.blocks.block_of.Goals as goal
+
+pub returns : goal.returns
+returns g c =
+    let inv = c.loop-low.invariant in
+    let same : c.loop-low.high ≡ c.loop-low.low = omega arith in
+    record {
+      value = record {
+        within = omega (arith, inv.within);
+        before = inv.before;
+        behind = λ l. subst (λ i. StartsAfter msg_cmp c.args.msg.now (get_or c.args.later.now.items i []) true) same (inv.behind (omega arith));
+      };
+    }

@@ -1,0 +1,60 @@
+-- Pending messages in blocks: a first block, and later ones behind it.
+use Rattle.std.specs.Prelude.{◌≡◌, ℕ, zero, suc, ◌+◌, ◌<◌, ◌≤◌, List, [], ◌∷◌, ◌++◌, length, take, drop, Bool, true, false, slice_index_or, ⊤, Option, Some, None}
+use Rattle.std.specs.List.{AllByRecursion}
+use Rattle.std.specs.Ordering.{is_lt, is_eq, is_gt}
+use Rattle.std.specs.declared.cmp.Ordering.{Ordering}
+use Rattle.sim_base.specs.Marked.{SortedMarked}
+
+-- the messages of blocks, one block after another
+abbrev pub of_blocks : {X : Type 0} → List (List X) → List X
+of_blocks [] = []
+of_blocks (b ∷ bs) = b ++ of_blocks bs
+
+module _ {X : Type 0} where
+  -- the block of this number: the first is 0
+  abbrev pub block_at : List X → List (List X) → ℕ → List X
+  block_at first later at = slice_index_or (first ∷ later) at []
+
+  -- the block of this number is cut in two halves
+  abbrev pub halved : ℕ → List (List X) → List (List X)
+  halved at [] = []
+  halved zero (b ∷ bs) = take 32 b ∷ drop 32 b ∷ bs
+  halved (suc at) (b ∷ bs) = b ∷ halved at bs
+
+  -- no block is empty, and none has more than 64 messages
+  abbrev pub AreFilled : List (List X) → Type 0
+  AreFilled blocks = AllByRecursion (λ b. (0 < length b) × (length b ≤ 64)) blocks
+
+  -- the first block may be empty, but only where it is alone
+  pub record AreSized (first : List X) (later : List (List X)) : Type 0 where
+    pub first_filled : 0 < length later → 0 < length first
+    pub first_small : length first ≤ 64
+    pub later_filled : AreFilled later
+
+module _ {M K : Type 0} (cmp : M → M → Ordering) where
+  -- all messages together are in order
+  pub record AreBlocks (first : List (M × K)) (later : List (List (M × K))) : Type 0 where
+    pub sorted : SortedMarked cmp (first ++ of_blocks later)
+    pub sized : AreSized first later
+
+  -- i messages are before m: the last of them is, and the one at i, if there is one, is not
+  pub record IsPlaceOf (m : M) (xs : List (M × K)) (i : ℕ) : Type 0 where
+    pub within : i ≤ length xs
+    pub before : (d : M × K) (j : ℕ) → j + 1 ≡ i → is_gt (cmp m (slice_index_or xs j d).0) ≡ true
+    pub behind : (d : M × K) → i < length xs → is_gt (cmp m (slice_index_or xs i d).0) ≡ false
+
+  -- whether this is m
+  abbrev pub is_there : M → Option (M × K) → Bool
+  is_there m None = false
+  is_there m (Some x) = is_eq (cmp m x.0)
+
+  -- whether the first of the messages comes after m
+  abbrev pub StartsAfter : M → List (M × K) → Bool → Type 0
+  StartsAfter m [] b = ⊤
+  StartsAfter m (y ∷ ys) b = b ≡ is_lt (cmp m y.0)
+
+  -- where m goes among later blocks: the last of those before `at` starts with m or before it, the one at `at` after it
+  pub record IsBlockOf (m : M) (later : List (List (M × K))) (at : ℕ) : Type 0 where
+    pub within : at ≤ length later
+    pub before : (j : ℕ) → j + 1 ≡ at → StartsAfter m (slice_index_or later j []) false
+    pub behind : at < length later → StartsAfter m (slice_index_or later at []) true

@@ -1,0 +1,61 @@
+-- How the decision lists of the clones are kept in memory.
+use Rattle.std.specs.Prelude.{◌≡◌, ℕ, ◌+◌, ◌^◌, ◌<◌, ◌≤◌, List, [], ◌∷◌, ◌++◌, length, map, false, AllPairs, Option, Some, None, slice_get, slice_set, unwrap_or, codes}
+use Rattle.std.specs.List.{AllByRecursion}
+use Rattle.std.specs.Str.{bytes_eq}
+use Rattle.sim_base.specs.declared.decision.Planned.{Planned}
+use Rattle.sim_base.specs.Reserved.{ReservedView}
+use Rattle.sim_base.specs.Clones.{Clone}
+
+-- a clone with its list
+pub record CloneListView : Type 0 where
+  pub name : List ℕ
+  pub plans : ReservedView Planned
+  pub end : Option ℕ
+
+-- what contracts see of it
+abbrev pub clone_of : CloneListView → Clone
+clone_of k = record { name = k.name; plans = k.plans.items; end = k.end }
+
+-- so many decisions are reserved in each list, and a spare list for each fork up to so many clones
+pub record AreReserved (lists : List CloneListView) (reserved_clones : ℕ) (spare : ReservedView (ReservedView Planned)) (reserved_plans : ℕ) : Type 0 where
+  pub plans : AllByRecursion (λ k. reserved_plans ≤ k.plans.reserved) lists
+  pub spare_plans : AllByRecursion (λ s. (s.items ≡ []) × (reserved_plans ≤ s.reserved)) spare.items
+  pub clones : reserved_clones ≤ length lists + length spare.items
+
+-- the names of the clones
+abbrev pub names : List Clone → List (List ℕ)
+names clones = map (λ c. c.name) clones
+
+-- there is a clone, their number fits a u32, and no two have one name
+pub record AreClones (clones : List Clone) : Type 0 where
+  pub some : 1 ≤ length clones
+  pub few : length clones < 2 ^ 32
+  pub distinct : AllPairs (λ a b. bytes_eq a b ≡ false) (names clones)
+
+-- what stands for a list at a place where there is none
+abbrev pub no_list : CloneListView
+no_list = record { name = []; plans = record { items = []; reserved = 0 }; end = None }
+
+-- the list at this place
+abbrev pub list_at : List CloneListView → ℕ → CloneListView
+list_at lists c = unwrap_or (slice_get lists c) no_list
+
+-- the base clone with so many decisions reserved
+abbrev pub base_list : ℕ → CloneListView
+base_list reserved = record { name = codes "base"; plans = record { items = []; reserved = reserved }; end = None }
+
+-- a fork of the old clone with so many decisions reserved
+abbrev pub list_fork : List CloneListView → List ℕ → ℕ → ℕ → CloneListView
+list_fork lists new old reserved = record { name = new; plans = record { items = (list_at lists old).plans.items; reserved = reserved }; end = None }
+
+-- a list with one decision more
+abbrev pub list_with_plan : CloneListView → Planned → CloneListView
+list_with_plan k plan = record k { plans = record { items = k.plans.items ++ plan ∷ []; reserved = k.plans.reserved } }
+
+-- one decision more for the list at this place
+abbrev pub lists_with_plan : List CloneListView → ℕ → Planned → List CloneListView
+lists_with_plan lists c plan = slice_set lists c (list_with_plan (list_at lists c) plan)
+
+-- the clone at this place has this end
+abbrev pub lists_with_end : List CloneListView → ℕ → ℕ → List CloneListView
+lists_with_end lists c at = slice_set lists c (record (list_at lists c) { end = Some at })

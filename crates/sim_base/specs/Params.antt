@@ -1,0 +1,32 @@
+-- The parameters of stations: their words in scripts and traces, and how many values each takes.
+use Rattle.std.specs.Prelude.{ℕ, List, [], ◌∷◌, codes, Option}
+use Rattle.std.specs.List.{find}
+use Rattle.std.specs.Str.{bytes_eq}
+use Rattle.sim_base.specs.declared.message.Param.{Param}
+use Rattle.sim_base.specs.declared.message.Param.TheVariants.{Every, Service, Hold, Servers, Room, Weight}
+
+-- its word
+abbrev pub param_word : Param → List ℕ
+param_word Every = codes "every"
+param_word Service = codes "service"
+param_word Hold = codes "hold"
+param_word Servers = codes "servers"
+param_word Room = codes "room"
+param_word Weight = codes "weight"
+
+-- how many values it takes: a range has two, a weight of a link has the link's place too
+abbrev pub param_values : Param → ℕ
+param_values Every = 2
+param_values Service = 2
+param_values Hold = 2
+param_values Servers = 1
+param_values Room = 1
+param_values Weight = 2
+
+-- all of them
+abbrev pub all_params : List Param
+all_params = Every ∷ Service ∷ Hold ∷ Servers ∷ Room ∷ Weight ∷ []
+
+-- the parameter of this word
+abbrev pub param_of_word : List ℕ → Option Param
+param_of_word word = find (λ p. bytes_eq (param_word p) word) all_params

@@ -1,0 +1,226 @@
+//! One block of pending messages.
+ghost use Rattle.std.specs.Prelude.{◌≡◌, ℕ, ◌+◌, ◌-◌, ◌<◌, ◌≤◌, ◌==◌, List, [], ◌++◌, length, take, drop, slice_get, OnOk, OnErr, IfOk};
+ghost use Rattle.sim_base.specs.Pending.{insert_marked, spread_marks, cut_by, first_time};
+ghost use Rattle.sim_base.specs.Order.{msg_cmp};
+ghost use Rattle.sim_base.specs.Marked.{SortedMarked};
+ghost use Rattle.sim_base.specs.Blocks.{IsPlaceOf, is_there, StartsAfter};
+ghost use Rattle.sim_base.specs.declared.message.Msg.{Msg};
+
+use crate::marks::Marks;
+use crate::memory::NoMemory;
+use crate::message::{Msg, compare};
+use std::alloc::Global;
+use std::collections::VecDeque;
+use std::marker::Model;
+
+/// How many messages are looked through one by one before halving begins.
+const FEW: usize = 8;
+
+/// Messages with their marks, one after another in a ring, so that the first is taken out without a shift.
+#[derive(Drop)]
+pub(crate) struct Block<S: Marks> {
+    items: VecDeque<(Msg, S)>,
+}
+
+impl<S: Marks> Model for Block<S> {
+    ghost Value = { List (Msg × S) };
+
+    ghost view = { λ b. b.items.items };
+}
+
+impl<S: Marks> Block<S> {
+    /// A block with no message, which takes no memory.
+    pub(crate) fn new(alloc: Global) -> Block<S>
+        ensures value { result ≡ [] }
+    {
+        Block {
+            items: VecDeque::new(alloc),
+        }
+    }
+
+    /// How many messages there are.
+    pub(crate) fn len(&self) -> usize
+        ensures value { result ≡ length self.now }
+    {
+        self.items.len()
+    }
+
+    /// Whether there is no message.
+    pub(crate) fn is_empty(&self) -> bool
+        ensures value { result ≡ (length self.now == 0) }
+    {
+        self.items.is_empty()
+    }
+
+    /// The first message with its marks.
+    pub(crate) fn first(&self) -> Option<(Msg, S)>
+        ensures value { result ≡ slice_get self.now 0 }
+    {
+        self.items.front().copied()
+    }
+
+    /// The time of the first message.
+    pub(crate) fn first_time(&self) -> Option<u64>
+        ensures value { result ≡ first_time self.now }
+    {
+        match self.items.front() {
+            Some(item) => Some(item.0.key.time),
+            None => None,
+        }
+    }
+
+    /// Whether the first message comes after this one.
+    pub(crate) fn starts_after(&self, msg: &Msg) -> bool
+        ensures value { StartsAfter msg_cmp msg.now self.now result }
+    {
+        match self.items.front() {
+            Some(item) => compare(msg, &item.0).is_lt(),
+            None => false,
+        }
+    }
+
+    /// Takes the first message out.
+    pub(crate) fn take_first(&mut self) -> Option<(Msg, S)>
+        ensures value { result ≡ slice_get self.old 0 }
+        ensures rest { self.new ≡ drop 1 self.old }
+    {
+        self.items.pop_front()
+    }
+
+    /// How many messages come before this one.
+    fn place(&self, msg: &Msg) -> usize
+        ensures value { IsPlaceOf msg_cmp msg.now self.now result }
+    {
+        let mut low = 0;
+        let mut high = self.items.len();
+        while low < high {
+            let middle = next_look(low, high);
+            if compare(msg, &self.items[middle].0).is_gt() {
+                low = middle + 1;
+            } else {
+                high = middle;
+            }
+        }
+        low
+    }
+
+    /// Whether this message stands at the place.
+    fn has_at(&self, place: usize, msg: &Msg) -> bool
+        ensures value { result ≡ is_there msg_cmp msg.now (slice_get self.now place) }
+    {
+        if place >= self.items.len() {
+            return false;
+        }
+        compare(msg, &self.items[place].0).is_eq()
+    }
+
+    /// Adds a message, or joins the marks to those that it has where it is there already.
+    pub(crate) fn insert(&mut self, msg: Msg, marks: S) -> Result<(), NoMemory>
+        requires sorted { SortedMarked msg_cmp self.old }
+        ensures ok { OnOk result (self.new ≡ insert_marked S.joined msg_cmp msg marks self.old) }
+        ensures err { OnErr result (self.new ≡ self.old) }
+    {
+        let place = self.place(&msg);
+        if self.has_at(place, &msg) {
+            let item = &mut self.items[place];
+            item.1 = item.1.join(marks);
+            return Ok(());
+        }
+        self.items.insert(place, (msg, marks))?;
+        Ok(())
+    }
+
+    /// Gives the messages from this place on to a block of their own. Out of memory leaves all unchanged.
+    pub(crate) fn split_off(&mut self, place: usize) -> Result<Block<S>, NoMemory>
+        requires within { place ≤ length self.old }
+        ensures rest { OnOk result (self.new ≡ take place self.old) }
+        ensures ok { IfOk result (λ b. b ≡ drop place self.old) }
+        ensures err { OnErr result (self.new ≡ self.old) }
+    {
+        match self.items.split_off(place) {
+            Ok(items) => Ok(Block { items }),
+            Err(_) => Err(NoMemory),
+        }
+    }
+
+    /// The first message whose marks meet `by`, with what they share.
+    pub(crate) fn first_with(&self, by: S) -> Option<(Msg, S)>
+        ensures value { result ≡ slice_get (cut_by S.met by self.now) 0 }
+    {
+        for item in self.items.iter() {
+            if let Some(shared) = item.1.meet(by) {
+                return Some((item.0, shared));
+            }
+        }
+        None
+    }
+
+    /// A block of the messages whose marks meet `by`, each with what they share.
+    pub(crate) fn cut(&self, alloc: Global, by: S) -> Result<Block<S>, NoMemory>
+        ensures value { IfOk result (λ b. b ≡ cut_by S.met by self.now) }
+    {
+        let mut items = VecDeque::with_capacity(alloc, self.items.len())?;
+        for item in self.items.iter() {
+            if let Some(shared) = item.1.meet(by) {
+                items.push_back((item.0, shared))?;
+            }
+        }
+        Ok(Block { items })
+    }
+
+    /// A block with the same messages and marks.
+    pub(crate) fn copy(&self, alloc: Global) -> Result<Block<S>, NoMemory>
+        ensures value { IfOk result (λ b. b ≡ self.now) }
+    {
+        let (front, back) = self.items.as_slices();
+        let mut items = Vec::with_capacity(alloc, self.items.len())?;
+        items.extend_from_slice(front)?;
+        items.extend_from_slice(back)?;
+        Ok(Block {
+            items: VecDeque::from_vec(items),
+        })
+    }
+
+    /// Keeps the messages whose marks meet `by`, each with what they share. It takes no memory.
+    pub(crate) fn keep(&mut self, by: S)
+        ensures value { self.new ≡ cut_by S.met by self.old }
+    {
+        // each message leaves at the front, and comes in again at the back if it stays
+        for _ in 0..self.items.len() {
+            let Some(item) = self.items.pop_front() else {
+                unreachable!()
+            };
+            if let Some(shared) = item.1.meet(by) {
+                let Ok(_) = self.items.push_back((item.0, shared)) else {
+                    unreachable!()
+                };
+            }
+        }
+    }
+
+    /// Joins `more` to the marks of each message whose marks meet `by`.
+    pub(crate) fn spread(&mut self, by: S, more: S)
+        ensures value { self.new ≡ spread_marks S.joined S.met by more self.old }
+    {
+        for i in 0..self.items.len() {
+            let item = &mut self.items[i];
+            if item.1.meet(by).is_some() {
+                item.1 = item.1.join(more);
+            }
+        }
+    }
+}
+
+/// At which of the places from `low` on and before `high` to look next: new messages are mostly late.
+fn next_look(low: usize, high: usize) -> usize
+    requires some { low < high }
+    ensures from { low ≤ result }
+    ensures below { result < high }
+{
+    let count = high - low;
+    if count <= FEW {
+        high - 1
+    } else {
+        low + count / 2
+    }
+}

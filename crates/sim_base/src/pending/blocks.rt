@@ -1,0 +1,180 @@
+//! The blocks of pending messages: a first one, which is empty only where nothing is pending, and later ones.
+ghost use Rattle.std.specs.Prelude.{◌≡◌, ℕ, ◌<◌, ◌≤◌, List, [], ◌∷◌, ◌++◌, length, OnOk, OnErr, IfOk};
+ghost use Rattle.sim_base.specs.Pending.{insert_marked, spread_marks, cut_by};
+ghost use Rattle.sim_base.specs.Order.{msg_cmp};
+ghost use Rattle.sim_base.specs.Blocks.{of_blocks, block_at, halved, AreBlocks, AreSized, AreFilled, IsBlockOf};
+
+use super::block::Block;
+use crate::marks::Marks;
+use crate::memory::NoMemory;
+use crate::message::Msg;
+use std::collections::VecDeque;
+
+/// The most messages of a block.
+const MOST: usize = 64;
+
+/// To which block a message goes: 0 for the first, and 1 more than the place of a later one.
+pub(crate) fn block_of<S: Marks>(later: &VecDeque<Block<S>>, msg: &Msg) -> usize
+    ensures value { IsBlockOf msg_cmp msg.now later.now.items result }
+{
+    let mut low = 0;
+    let mut high = later.len();
+    while low < high {
+        let middle = low + (high - low) / 2;
+        if later[middle].starts_after(msg) {
+            high = middle;
+        } else {
+            low = middle + 1;
+        }
+    }
+    low
+}
+
+/// How many messages the block has.
+fn len_at<S: Marks>(first: &Block<S>, later: &VecDeque<Block<S>>, at: usize) -> usize
+    requires within { at ≤ length later.now.items }
+    ensures value { result ≡ length (block_at first.now later.now.items at) }
+{
+    if at == 0 {
+        first.len()
+    } else {
+        later[at - 1].len()
+    }
+}
+
+/// Cuts a full block in two halves.
+fn halve<S: Marks>(
+    first: &mut Block<S>,
+    later: &mut VecDeque<Block<S>>,
+    at: usize,
+) -> Result<(), NoMemory>
+    requires within { at ≤ length later.old.items }
+    requires full { length (block_at first.old later.old.items at) ≡ 64 }
+    ensures ok { OnOk result ((first.new ∷ later.new.items) ≡ halved at (first.old ∷ later.old.items)) }
+    ensures err { OnErr result ((first.new ≡ first.old) × (later.new.items ≡ later.old.items)) }
+{
+    later.reserve(1)?;
+    let half = if at == 0 {
+        first.split_off(MOST / 2)?
+    } else {
+        later[at - 1].split_off(MOST / 2)?
+    };
+    let Ok(_) = later.insert(at, half) else {
+        unreachable!()
+    };
+    Ok(())
+}
+
+/// Makes room in the block to which a message goes, and says which that is then.
+pub(crate) fn make_room<S: Marks>(
+    first: &mut Block<S>,
+    later: &mut VecDeque<Block<S>>,
+    at: usize,
+    msg: &Msg,
+) -> Result<usize, NoMemory>
+    requires blocks { AreBlocks msg_cmp first.old later.old.items }
+    requires place { IsBlockOf msg_cmp msg.now later.old.items at }
+    ensures same { of_blocks (first.new ∷ later.new.items) ≡ of_blocks (first.old ∷ later.old.items) }
+    ensures blocks { AreBlocks msg_cmp first.new later.new.items }
+    ensures place { IfOk result (λ to. IsBlockOf msg_cmp msg.now later.new.items to) }
+    ensures room { IfOk result (λ to. length (block_at first.new later.new.items to) < 64) }
+{
+    if len_at(first, later, at) < MOST {
+        return Ok(at);
+    }
+    halve(first, later, at)?;
+    if later[at].starts_after(msg) {
+        Ok(at)
+    } else {
+        Ok(at + 1)
+    }
+}
+
+/// Puts a message into the block to which it goes. Out of memory leaves all unchanged.
+pub(crate) fn put<S: Marks>(
+    first: &mut Block<S>,
+    later: &mut VecDeque<Block<S>>,
+    at: usize,
+    msg: Msg,
+    marks: S,
+) -> Result<(), NoMemory>
+    requires blocks { AreBlocks msg_cmp first.old later.old.items }
+    requires place { IsBlockOf msg_cmp msg later.old.items at }
+    requires room { length (block_at first.old later.old.items at) < 64 }
+    ensures blocks { AreBlocks msg_cmp first.new later.new.items }
+    ensures ok { OnOk result (of_blocks (first.new ∷ later.new.items) ≡ insert_marked S.joined msg_cmp msg marks (of_blocks (first.old ∷ later.old.items))) }
+    ensures err { OnErr result (of_blocks (first.new ∷ later.new.items) ≡ of_blocks (first.old ∷ later.old.items)) }
+{
+    if at == 0 {
+        first.insert(msg, marks)
+    } else {
+        later[at - 1].insert(msg, marks)
+    }
+}
+
+/// The next block, if there is one, in place of a first block with no message.
+pub(crate) fn next_block<S: Marks>(first: &mut Block<S>, later: &mut VecDeque<Block<S>>)
+    requires empty { first.old ≡ [] }
+    requires later { AreFilled later.old.items }
+    ensures same { of_blocks (first.new ∷ later.new.items) ≡ of_blocks later.old.items }
+    ensures sized { AreSized first.new later.new.items }
+{
+    if let Some(next) = later.pop_front() {
+        *first = next;
+    }
+}
+
+/// Adds a block at the end, unless it has no message.
+pub(crate) fn add_block<S: Marks>(
+    first: &mut Block<S>,
+    later: &mut VecDeque<Block<S>>,
+    block: Block<S>,
+) -> Result<(), NoMemory>
+    requires sized { AreSized first.old later.old.items }
+    requires small { length block ≤ 64 }
+    ensures all { OnOk result (of_blocks (first.new ∷ later.new.items) ≡ of_blocks (first.old ∷ later.old.items) ++ block) }
+    ensures sized { OnOk result (AreSized first.new later.new.items) }
+{
+    if block.is_empty() {
+        return Ok(());
+    }
+    if first.is_empty() {
+        *first = block;
+        return Ok(());
+    }
+    later.push_back(block)?;
+    Ok(())
+}
+
+/// Keeps of each later block what meets `by`, and no block without a message.
+pub(crate) fn keep_later<S: Marks>(later: &mut VecDeque<Block<S>>, by: S)
+    requires filled { AreFilled later.old.items }
+    ensures value { of_blocks later.new.items ≡ cut_by S.met by (of_blocks later.old.items) }
+    ensures filled { AreFilled later.new.items }
+{
+    // each block leaves at the front, and comes in again at the back if a message stays
+    for _ in 0..later.len() {
+        let Some(mut block) = later.pop_front() else {
+            unreachable!()
+        };
+        block.keep(by);
+        if block.is_empty() {
+            continue;
+        }
+        let Ok(_) = later.push_back(block) else {
+            unreachable!()
+        };
+    }
+}
+
+/// Joins `more` to the marks of each message of later blocks whose marks meet `by`.
+pub(crate) fn spread_later<S: Marks>(later: &mut VecDeque<Block<S>>, by: S, more: S)
+    requires filled { AreFilled later.old.items }
+    ensures value { of_blocks later.new.items ≡ spread_marks S.joined S.met by more (of_blocks later.old.items) }
+    ensures filled { AreFilled later.new.items }
+    ensures count { length later.new.items ≡ length later.old.items }
+{
+    for i in 0..later.len() {
+        later[i].spread(by, more);
+    }
+}

@@ -1,0 +1,107 @@
+//! Lists with reserved memory: a push within what is reserved takes no more memory.
+ghost use Rattle.std.specs.Prelude.{◌≡◌, ◌++◌, ◌∷◌, [], ◌<◌, ◌≤◌, ◌+◌, length, IsTrue, OnOk, OnErr, IfOk, IsOk, IfSome, IfNone, ◌↔◌};
+
+use crate::memory::NoMemory;
+use std::alloc::Global;
+use std::marker::Model;
+
+/// A list with memory reserved for so many elements at least.
+///
+/// It may grow beyond that. What is reserved stays reserved when elements are taken out.
+#[derive(Drop)]
+pub struct Reserved<T: Drop> {
+    items: Vec<T>,
+    reserved: usize,
+}
+
+impl<T: Drop> Model for Reserved<T> {
+    ghost use Rattle.std.specs.Prelude.{◌≤◌, vec_capacity};
+    ghost use Rattle.sim_base.specs.Reserved.{ReservedView};
+
+    ghost Value = { ReservedView T };
+
+    ghost view = { λ r. record { items = r.items.items; reserved = r.reserved } };
+
+    ghost invariant = { λ r. r.reserved ≤ vec_capacity r.items };
+}
+
+impl<T: Drop> Reserved<T> {
+    /// Nothing, with no memory reserved.
+    pub fn new(alloc: Global) -> Reserved<T>
+        ensures value { result ≡ record { items = []; reserved = 0 } }
+    {
+        Reserved {
+            items: Vec::new(alloc),
+            reserved: 0,
+        }
+    }
+
+    /// Nothing, with memory reserved for so many elements.
+    pub fn with_capacity(alloc: Global, reserved: usize) -> Result<Reserved<T>, NoMemory>
+        ensures value { IfOk result (λ r. r ≡ record { items = []; reserved = reserved }) }
+    {
+        let items = Vec::with_capacity(alloc, reserved)?;
+        Ok(Reserved { items, reserved })
+    }
+
+    /// Adds an element at the end; out of memory leaves all unchanged.
+    pub fn push(&mut self, item: T) -> Result<(), NoMemory>
+        ensures ok { OnOk result (
+            self.new ≡ record self.old { items = self.old.items ++ item ∷ [] }) }
+        ensures err { OnErr result (self.new ≡ self.old) }
+        ensures reserved { length self.old.items < self.old.reserved → IsOk result }
+    {
+        self.items.push(item)?;
+        Ok(())
+    }
+
+    /// Takes the last element out.
+    pub fn pop(&mut self) -> Option<T>
+        ensures some { IfSome result (λ x. self.old.items ≡ self.new.items ++ x ∷ []) }
+        ensures none { IfNone result ((self.old.items ≡ []) × (self.new.items ≡ [])) }
+        ensures reserved { self.new.reserved ≡ self.old.reserved }
+    {
+        self.items.pop()
+    }
+
+    /// How many elements it has.
+    pub fn len(&self) -> usize
+        ensures value { result ≡ length self.now.items }
+    {
+        self.items.len()
+    }
+
+    /// Whether it has none.
+    pub fn is_empty(&self) -> bool
+        ensures value { IsTrue result ↔ (self.now.items ≡ []) }
+    {
+        self.items.is_empty()
+    }
+
+    /// For how many elements memory is reserved.
+    pub fn reserved(&self) -> usize
+        ensures value { result ≡ self.now.reserved }
+    {
+        self.reserved
+    }
+
+    /// Its elements.
+    pub fn as_slice(&self) -> &[T]
+        ensures value { result.now ≡ self.now.items }
+    {
+        self.items.as_slice()
+    }
+}
+
+impl<T: Copy> Reserved<T> {
+    /// Adds elements at the end; out of memory leaves all unchanged.
+    pub fn extend(&mut self, more: &[T]) -> Result<(), NoMemory>
+        ensures ok { OnOk result (
+            self.new ≡ record self.old { items = self.old.items ++ more.now }) }
+        ensures err { OnErr result (self.new ≡ self.old) }
+        ensures reserved { length self.old.items + length more.now ≤ self.old.reserved → IsOk result }
+    {
+        self.items.extend_from_slice(more)?;
+        Ok(())
+    }
+}
