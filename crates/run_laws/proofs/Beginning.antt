@@ -9,7 +9,8 @@ use Rattle.run_laws.specs.Simulation.{Simulation}
 use Rattle.run_laws.specs.World.{and_first, openings, begin}
 use Rattle.run_laws.specs.Runs.{run, end_of, run_of, log_at, state_at, all_due, due_at}
 use Rattle.run_laws.specs.Handlers.{IsStation, HandlesLawfully, SendsToStations}
-use Rattle.run_laws.specs.Copies.{Copy, Carries, SortedMarked, takes, taken, first_pending, first_copy, ends_of, Stands}
+use Rattle.sim_base.specs.Marked.{SortedMarked}
+use Rattle.run_laws.specs.Copies.{Copy, Carries, takes, taken, first_pending, first_copy, ends_of, Stands}
 use Rattle.run_laws.proofs.Bools.{and_cases}
 use Rattle.run_laws.proofs.Queue.{in_insert_all, insert_all_new, same_elements}
 use Rattle.run_laws.proofs.Lists.{in_filter, filter_keeps, sorted_filter, in_own, own_from, in_append, append_old, append_new}
@@ -37,13 +38,14 @@ module _ {S M N : Type 0} (sim : Simulation S M N) where
   ]
 
   -- before 0 nothing is handled
-  run_at_0 : (c : Clone) → run_of sim c 0 ≡ begin sim c.plans
+  pub run_at_0 : (c : Clone) → run_of sim c 0 ≡ begin sim c.plans
   unfolding run_to
   run_at_0 c = let e : min 0 (end_of sim c) ≡ 0 = omega arith in ap (run sim c.plans) e
 
 module _ {S M N K : Type 0} (sim : Simulation S M N) (has : K → ℕ → Bool) (only : K) (ends : ℕ → ℕ) (c : ℕ) where
   -- what a clone takes of what a station opens with
-  in_first_pending : (f : Option M) (z : M) → In z (taken sim has ends c (first_pending sim only f)) → (f ≡ Some z) × (takes sim has ends z only c ≡ true)
+  in_first_pending : (f : Option M) (z : M) → In z (taken sim has ends c (first_pending sim only f)) →
+      (f ≡ Some z) × (takes sim has ends z only c ≡ true)
   in_first_pending None z i = absurd i
   in_first_pending (Some m) z i = elim (cases_Bool (takes sim has ends m only c)) [
     | inl t ↦ elim (subst (In z) (part_yes (takes sim has ends) c (m, only) [] t) i) [
@@ -54,15 +56,19 @@ module _ {S M N K : Type 0} (sim : Simulation S M N) (has : K → ℕ → Bool) 
   ]
 
   -- it takes the first message, where its marks have it and it comes before its end
-  first_pending_has : (f : Option M) (z : M) → f ≡ Some z → takes sim has ends z only c ≡ true → In z (taken sim has ends c (first_pending sim only f))
-  first_pending_has f z e t = subst (λ f. In z (taken sim has ends c (first_pending sim only f))) (sym e) (subst (In z) (sym (part_yes (takes sim has ends) c (z, only) [] t)) (inl refl))
+  first_pending_has : (f : Option M) (z : M) → f ≡ Some z → takes sim has ends z only c ≡ true →
+      In z (taken sim has ends c (first_pending sim only f))
+  first_pending_has f z e t = subst (λ f. In z (taken sim has ends c (first_pending sim only f))) (sym e)
+      (subst (In z) (sym (part_yes (takes sim has ends) c (z, only) [] t)) (inl refl))
 
   -- one message is in order
   first_sorted : (f : Option M) → SortedMarked sim.order (first_pending sim only f)
   first_sorted None = tt
   first_sorted (Some m) = (tt, tt)
 
-module _ {S M N K : Type 0} {sim : Simulation S M N} {Good : ℕ → S → Type 0} (law : HandlesLawfully sim Good) (to_stations : SendsToStations sim Good) (has : K → ℕ → Bool) (only : K) (first_alone : (c : ℕ) → (has only c ≡ true) ↔ (c ≡ 0)) (s : ℕ) (here : IsStation sim s) where
+module _ {S M N K : Type 0} {sim : Simulation S M N} {Good : ℕ → S → Type 0} (law : HandlesLawfully sim Good)
+    (to_stations : SendsToStations sim Good) (has : K → ℕ → Bool) (only : K)
+    (first_alone : (c : ℕ) → (has only c ≡ true) ↔ (c ≡ 0)) (s : ℕ) (here : IsStation sim s) where
   -- what the first clone takes of it is what is due to it
   due_first : taken sim has (ends_of sim (base ∷ [])) 0 (first_pending sim only (sim.setup s).first) ≡ due_at sim base s 0
   due_first =

@@ -20,13 +20,15 @@ module _ {S M N : Type 0} (sim : Simulation S M N) where
   window_end_horizon (Some t) = omega arith
 
   -- a bound within the lesser of two times is within each
-  within_both : (b : ℕ) (t u : Option ℕ) → b ≤ window_end sim (earlier t u) → (b ≤ window_end sim t) × (b ≤ window_end sim u)
+  within_both : (b : ℕ) (t u : Option ℕ) → b ≤ window_end sim (earlier t u) →
+      (b ≤ window_end sim t) × (b ≤ window_end sim u)
   within_both b None u h = let l = window_end_horizon u in (omega arith, h)
   within_both b (Some t) None h = (h, omega arith)
   within_both b (Some t) (Some u) h = (omega arith, omega arith)
 
   -- a bound within the least time is by the lookahead at most past each message
-  within_least : (b : ℕ) (q : List M) (z : M) → b ≤ window_end sim (least_time sim.time q) → In z q → b ≤ sim.time z + sim.lookahead
+  within_least : (b : ℕ) (q : List M) (z : M) → b ≤ window_end sim (least_time sim.time q) → In z q →
+      b ≤ sim.time z + sim.lookahead
   within_least b [] z h i = absurd i
   within_least b (m ∷ q) z h (inl e) =
       let l = (within_both b (Some (sim.time m)) (least_time sim.time q) h).0 in
@@ -35,14 +37,17 @@ module _ {S M N : Type 0} (sim : Simulation S M N) where
   within_least b (m ∷ q) z h (inr j) = within_least b q z (within_both b (Some (sim.time m)) (least_time sim.time q) h).1 j
 
   -- a bound within the next front is so for each clone
-  within_next : (b : ℕ) (cs : List Clone) (c : Clone) (front : ℕ) → b ≤ next_front sim cs front → In c cs → b ≤ window_end sim (least_of sim c front)
+  within_next : (b : ℕ) (cs : List Clone) (c : Clone) (front : ℕ) → b ≤ next_front sim cs front → In c cs →
+      b ≤ window_end sim (least_of sim c front)
   within_next b [] c front h i = absurd i
-  within_next b (x ∷ cs) c front h (inl e) = subst (λ d. b ≤ window_end sim (least_of sim d front)) (sym e) (within_both b (least_of sim x front) (least sim cs front) h).0
+  within_next b (x ∷ cs) c front h (inl e) = subst (λ d. b ≤ window_end sim (least_of sim d front)) (sym e)
+      (within_both b (least_of sim x front) (least sim cs front) h).0
   within_next b (x ∷ cs) c front h (inr j) = within_next b cs c front (within_both b (least_of sim x front) (least sim cs front) h).1 j
 
 module _ {S M N : Type 0} {sim : Simulation S M N} {Good : ℕ → S → Type 0} (law : HandlesLawfully sim Good) where
   -- at a front the windows of a clone may open, up to its end
-  windows_open : (c : Clone) (front bound : ℕ) → bound ≤ window_end sim (least_of sim c front) → Opens sim (min bound (end_of sim c)) (end_of sim c) (λ s. due_at sim c s front) (run_of sim c front)
+  windows_open : (c : Clone) (front bound : ℕ) → bound ≤ window_end sim (least_of sim c front) →
+      Opens sim (min bound (end_of sim c)) (end_of sim c) (λ s. due_at sim c s front) (run_of sim c front)
   windows_open c front bound b =
       let early : M → Bool = λ m. nat_lt (sim.time m) (end_of sim c) in
       let q : List M = (run_of sim c front).pending in
@@ -56,7 +61,8 @@ module _ {S M N : Type 0} {sim : Simulation S M N} {Good : ℕ → S → Type 0}
       }
 
   -- from a front to a bound that is not past the next front, the windows of each clone give its run
-  pub windows_give_run : (cs : List Clone) (c : Clone) (front bound : ℕ) → In c cs → front ≤ bound → bound ≤ next_front sim cs front → WindowsGive sim c front bound
+  pub windows_give_run : (cs : List Clone) (c : Clone) (front bound : ℕ) → In c cs → front ≤ bound →
+      bound ≤ next_front sim cs front → WindowsGive sim c front bound
   windows_give_run cs c front bound i l b =
       let end : ℕ = end_of sim c in
       let early : M → Bool = λ m. nat_lt (sim.time m) (end_of sim c) in

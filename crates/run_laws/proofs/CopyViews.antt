@@ -11,7 +11,8 @@ use Rattle.run_laws.specs.Simulation.{Simulation}
 use Rattle.run_laws.specs.World.{to_it}
 use Rattle.run_laws.specs.Window.{Part, to_others, earlier_than, part_step}
 use Rattle.run_laws.specs.Handlers.{IsTimed}
-use Rattle.run_laws.specs.Copies.{Copy, Carries, JoinsMarks, SortedMarked, insert_marked_all, handle_until, handled_by, laid_aside, takes, taken, view}
+use Rattle.sim_base.specs.Marked.{JoinsMarks, SortedMarked}
+use Rattle.run_laws.specs.Copies.{Copy, Carries, insert_marked_all, handle_until, handled_by, laid_aside, takes, taken, view}
 use Rattle.run_laws.proofs.Queue.{all_in, all_from}
 use Rattle.run_laws.proofs.Lists.{filter_swap, filter-congr, filter_none}
 use Rattle.run_laws.proofs.Machine.{reach_first, done_no_next, done_stays}
@@ -32,7 +33,8 @@ module _ {S M N : Type 0} (sim : Simulation S M N) (s bound : ℕ) where
   new_entry st m = record { msg = m; line = (sim.handle s st m).line }
 
   -- the log only grows
-  pub log_grows : (end : ℕ) {c d : Config (Part S M N) M} → TurnsUntil end c d → (l : List (Entry M N)) × (d.at.log ≡ c.at.log ++ l)
+  pub log_grows : (end : ℕ) {c d : Config (Part S M N) M} → TurnsUntil end c d →
+      (l : List (Entry M N)) × (d.at.log ≡ c.at.log ++ l)
   log_grows end {c} stay = ([], sym (append-nil c.at.log))
   log_grows end {c} {d} (go {d = e} r n) =
       let h = log_grows end r in
@@ -40,7 +42,9 @@ module _ {S M N : Type 0} (sim : Simulation S M N) (s bound : ℕ) where
       (h.0 ++ x ∷ [], ap (λ u. u.at.log) n.is ∙ (ap (λ l. l ++ x ∷ []) h.1 ∙ append_assoc c.at.log h.0 (x ∷ [])))
 
   -- where there is a message to handle, what the log gains begins with it
-  pub log_begins : (end : ℕ) (c d : Config (Part S M N) M) (m : M) (q : List M) → c.pending ≡ m ∷ q → sim.time m < bound → TurnsUntil end c d → Done sim.time bound d → (l : List (Entry M N)) × (d.at.log ≡ c.at.log ++ new_entry c.at.state m ∷ l)
+  pub log_begins : (end : ℕ) (c d : Config (Part S M N) M) (m : M) (q : List M) → c.pending ≡ m ∷ q → sim.time m < bound →
+      TurnsUntil end c d → Done sim.time bound d →
+      (l : List (Entry M N)) × (d.at.log ≡ c.at.log ++ new_entry c.at.state m ∷ l)
   log_begins end c d m q p early r f =
       let e : Config (Part S M N) M = after sim.order (part_step sim.to (handle_until sim end) s) c.at m q in
       let n : Next sim.order sim.time (part_step sim.to (handle_until sim end) s) bound c e = record { m = m; q = q; pending = p; early = early; is = refl } in
@@ -54,7 +58,8 @@ module _ {S M N : Type 0} (sim : Simulation S M N) (s bound : ℕ) where
   SettledOrNext d = Done sim.time bound d ⊎ ((y : M) × (ys : List M) × (d.pending ≡ y ∷ ys) × (sim.time y < bound))
 
   -- so it is by the pending messages
-  settled_or_next_by : IsTimed sim.order sim.time → (d : Config (Part S M N) M) (q : List M) → d.pending ≡ q → Sorted sim.order q → SettledOrNext d
+  settled_or_next_by : IsTimed sim.order sim.time → (d : Config (Part S M N) M) (q : List M) → d.pending ≡ q →
+      Sorted sim.order q → SettledOrNext d
   settled_or_next_by o d [] e k = inl (subst (AllByRecursion (λ m. bound ≤ sim.time m)) (sym e) tt)
   settled_or_next_by o d (y ∷ ys) e k = elim (cases_lt (sim.time y) bound) [
     | inl l ↦ inr (y, ys, e, l)
@@ -62,13 +67,16 @@ module _ {S M N : Type 0} (sim : Simulation S M N) (s bound : ℕ) where
   ]
 
   -- one of the two holds of a station with its messages in order
-  pub settled_or_next : IsTimed sim.order sim.time → (d : Config (Part S M N) M) → Sorted sim.order d.pending → SettledOrNext d
+  pub settled_or_next : IsTimed sim.order sim.time → (d : Config (Part S M N) M) → Sorted sim.order d.pending →
+      SettledOrNext d
   settled_or_next o d sorted = settled_or_next_by o d d.pending refl sorted
 
   -- two stations with one log: the first has m to handle, the second has no m; so their logs part
-  pub logs_part : (end1 end2 : ℕ) (c d c2 d2 : Config (Part S M N) M) (m : M) (q : List M) → c.at.log ≡ d.at.log → c.pending ≡ m ∷ q → sim.time m < bound →
+  pub logs_part : (end1 end2 : ℕ) (c d c2 d2 : Config (Part S M N) M) (m : M) (q : List M) → c.at.log ≡ d.at.log →
+      c.pending ≡ m ∷ q → sim.time m < bound →
       ((z : M) → In z d.pending → z ≡ m → ⊥) → SettledOrNext d →
-      TurnsUntil end1 c c2 → Done sim.time bound c2 → TurnsUntil end2 d d2 → Done sim.time bound d2 → c2.at.log ≡ d2.at.log → ⊥
+      TurnsUntil end1 c c2 → Done sim.time bound c2 → TurnsUntil end2 d d2 → Done sim.time bound d2 →
+      c2.at.log ≡ d2.at.log → ⊥
   logs_part end1 end2 c d c2 d2 m q e p early other w r f t g same =
       let a = log_begins end1 c c2 m q p early r f in
       let x : Entry M N = new_entry c.at.state m in
@@ -86,9 +94,11 @@ module _ {S M N : Type 0} (sim : Simulation S M N) (s bound : ℕ) where
       ]
 
   -- the same, and what each gained first is another entry
-  pub firsts_part : (end1 end2 : ℕ) (c d c2 d2 : Config (Part S M N) M) (m : M) (q : List M) (e : Entry M N) (u v : List (Entry M N)) → c.at.log ≡ d.at.log → c.pending ≡ m ∷ q → sim.time m < bound →
+  pub firsts_part : (end1 end2 : ℕ) (c d c2 d2 : Config (Part S M N) M) (m : M) (q : List M) (e : Entry M N)
+      (u v : List (Entry M N)) → c.at.log ≡ d.at.log → c.pending ≡ m ∷ q → sim.time m < bound →
       ((z : M) → In z d.pending → z ≡ m → ⊥) → SettledOrNext d →
-      TurnsUntil end1 c c2 → Done sim.time bound c2 → TurnsUntil end2 d d2 → Done sim.time bound d2 → c2.at.log ≡ c.at.log ++ e ∷ u → d2.at.log ≡ d.at.log ++ e ∷ v → ⊥
+      TurnsUntil end1 c c2 → Done sim.time bound c2 → TurnsUntil end2 d d2 → Done sim.time bound d2 →
+      c2.at.log ≡ c.at.log ++ e ∷ u → d2.at.log ≡ d.at.log ++ e ∷ v → ⊥
   firsts_part end1 end2 c d c2 d2 m q e u v eq p early other w r f t g has1 has2 =
       let a = log_begins end1 c c2 m q p early r f in
       let x : Entry M N = new_entry c.at.state m in
@@ -118,22 +128,28 @@ both_or false true false = refl
 both_or false false true = refl
 both_or false false false = refl
 
-module _ {S M N K : Type 0} (sim : Simulation S M N) {has : K → ℕ → Bool} {join : K → K → K} (j : JoinsMarks has join) (ends : ℕ → ℕ) where
+module _ {S M N K : Type 0} (sim : Simulation S M N) {has : K → ℕ → Bool} {join : K → K → K} (j : JoinsMarks has join)
+    (ends : ℕ → ℕ) where
   -- joined marks are taken by the clones that take either
-  pub takes_join : (m : M) (a b : K) (c : ℕ) → takes sim has ends m (join a b) c ≡ (takes sim has ends m a c || takes sim has ends m b c)
-  takes_join m a b c = ap (λ x. x && nat_lt (sim.time m) (ends c)) (j.joined a b c) ∙ both_or (has a c) (has b c) (nat_lt (sim.time m) (ends c))
+  pub takes_join : (m : M) (a b : K) (c : ℕ) →
+      takes sim has ends m (join a b) c ≡ (takes sim has ends m a c || takes sim has ends m b c)
+  takes_join m a b c = ap (λ x. x && nat_lt (sim.time m) (ends c)) (j.joined a b c) ∙ both_or (has a c) (has b c)
+      (nat_lt (sim.time m) (ends c))
 
 module _ {S M N K : Type 0} (sim : Simulation S M N) (has : K → ℕ → Bool) (ends : ℕ → ℕ) where
   -- of messages for a set that has it, a clone takes those before its end
-  pub taken_within : (k : K) (c : ℕ) (xs : List M) → has k c ≡ true → filter (λ x. takes sim has ends x k c) xs ≡ earlier_than sim.time (ends c) xs
-  taken_within k c xs e = filter-congr (λ x. takes sim has ends x k c) (λ x. nat_lt (sim.time x) (ends c)) xs (λ x. ap (λ b. b && nat_lt (sim.time x) (ends c)) e)
+  pub taken_within : (k : K) (c : ℕ) (xs : List M) → has k c ≡ true →
+      filter (λ x. takes sim has ends x k c) xs ≡ earlier_than sim.time (ends c) xs
+  taken_within k c xs e = filter-congr (λ x. takes sim has ends x k c)
+      (λ x. nat_lt (sim.time x) (ends c)) xs (λ x. ap (λ b. b && nat_lt (sim.time x) (ends c)) e)
 
   -- of others it takes none
   pub taken_without : (k : K) (c : ℕ) (xs : List M) → has k c ≡ false → filter (λ x. takes sim has ends x k c) xs ≡ []
   taken_without k c xs e = filter_none (λ x. takes sim has ends x k c) xs (all_from (λ x. takes sim has ends x k c ≡ false) xs (λ x i. ap (λ b. b && nat_lt (sim.time x) (ends c)) e))
 
   -- what is sent in a handling for other clones, clone c doesn't see
-  pub others_sent : (s c : ℕ) (a : Copy S M N K) (m : M) (sent : List (M × K)) → has a.set c ≡ false → taken sim has ends c (sent ++ laid_aside sim s a m) ≡ taken sim has ends c sent
+  pub others_sent : (s c : ℕ) (a : Copy S M N K) (m : M) (sent : List (M × K)) → has a.set c ≡ false →
+      taken sim has ends c (sent ++ laid_aside sim s a m) ≡ taken sim has ends c sent
   others_sent s c a m sent e =
       let xs : List M = to_others sim.to s (sim.handle s a.state m).sends in
       part-append (takes sim has ends) c sent (laid_aside sim s a m)
@@ -156,7 +172,8 @@ station_parts : {S M N : Type 0} (st : S) (log : List (Entry M N)) (a b p q : Li
     ◌≡◌ {A = Config (Part S M N) M} (record { at = record { state = st; log = log; aside = a }; pending = p }) (record { at = record { state = st; log = log; aside = b }; pending = q })
 station_parts st log a b p q e f = cc
 
-module _ {S M N K : Type 0} (sim : Simulation S M N) {has : K → ℕ → Bool} {join : K → K → K} (j : JoinsMarks has join) (ends : ℕ → ℕ) (o : IsTimed sim.order sim.time) (s : ℕ) where
+module _ {S M N K : Type 0} (sim : Simulation S M N) {has : K → ℕ → Bool} {join : K → K → K} (j : JoinsMarks has join)
+    (ends : ℕ → ℕ) (o : IsTimed sim.order sim.time) (s : ℕ) where
   -- what is sent to itself for a set that has it, a clone has pending, before its end
   taken_queue : (c : ℕ) (k : K) (sends : List M) (q : List (M × K)) → SortedMarked sim.order q → has k c ≡ true →
       taken sim has ends c (insert_marked_all join sim.order (to_it sim.to s sends) k q) ≡ insert_all sim.order (to_it sim.to s (earlier_than sim.time (ends c) sends)) (taken sim has ends c q)
@@ -166,7 +183,8 @@ module _ {S M N K : Type 0} (sim : Simulation S M N) {has : K → ℕ → Bool} 
       (taken_within sim has ends k c (to_it sim.to s sends) e ∙ filter_swap (λ m. nat_lt (sim.time m) (ends c)) (λ m. sim.to m == s) sends)
 
   -- one shared handling is a turn of each clone of the copy that takes the message
-  pub handled_view : (bound c : ℕ) (a : Copy S M N K) (m : M) (k : K) (q sent : List (M × K)) → a.pending ≡ (m, k) ∷ q → SortedMarked sim.order a.pending → Carries has a c → takes sim has ends m k c ≡ true → sim.time m < bound →
+  pub handled_view : (bound c : ℕ) (a : Copy S M N K) (m : M) (k : K) (q sent : List (M × K)) → a.pending ≡ (m, k) ∷ q →
+      SortedMarked sim.order a.pending → Carries has a c → takes sim has ends m k c ≡ true → sim.time m < bound →
       Next sim.order sim.time (part_step sim.to (handle_until sim (ends c)) s) bound (view sim has ends c a sent) (view sim has ends c (handled_by sim join s a m q) (sent ++ laid_aside sim s a m))
   handled_view bound c a m k q sent p sorted in_set takes_it early =
       let sq : SortedMarked sim.order ((m, k) ∷ q) = subst (SortedMarked sim.order) p sorted in

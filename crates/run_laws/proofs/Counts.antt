@@ -1,9 +1,11 @@
 -- The numbers of different logs and of different prefixes, as counts.
-use Rattle.std.proofs.Common.{◌≡◌, suc, List, [], ◌∷◌, ◌++◌, inl, inr, Bool, true, cond, refl, sym, ap, ◌∙◌, subst, length, map}
+use Rattle.std.proofs.Common.{◌≡◌, ℕ, suc, ◌*◌, ◌≤◌, List, [], ◌∷◌, ◌++◌, inl, inr, Bool, true, cond, refl, sym, ap, ◌∙◌, subst, arith, length, length-append, map, take}
 use Rattle.std.specs.Bool.{Decides}
 use Rattle.std.specs.List.{flat_map}
 use Rattle.std.specs.Set.{is_member, unique_keys, distinct_count}
+use Rattle.std.proofs.Math.Nat.{suc-mul}
 use Rattle.std.proofs.lemmas.Bool.{cases_Bool, false≢true}
+use Rattle.std.proofs.lemmas.List.{take_all, length-take, length-map}
 use Rattle.run_laws.specs.Queue.{In}
 use Rattle.run_laws.specs.Prefixes.{IsCount, IsGained}
 use Rattle.run_laws.specs.Sharing.{prefixes, same_list}
@@ -81,7 +83,8 @@ map_has f (y ∷ xs) x (inl e) = inl (ap f e)
 map_has f (y ∷ xs) x (inr i) = inr (map_has f xs x i)
 
 -- what is in the lists of the elements is in one of them
-in_flat_map : {X Y : Type 0} (f : X → List Y) (xs : List X) (y : Y) → In y (flat_map f xs) → (x : X) × In x xs × In y (f x)
+in_flat_map : {X Y : Type 0} (f : X → List Y) (xs : List X) (y : Y) → In y (flat_map f xs) →
+    (x : X) × In x xs × In y (f x)
 in_flat_map f [] y i = absurd i
 in_flat_map f (x ∷ xs) y i = elim (in_append (f x) (flat_map f xs) y i) [
   | inl a ↦ (x, inl refl, a)
@@ -96,7 +99,8 @@ flat_map_has f (z ∷ xs) x y (inr i) l = append_new (f z) (flat_map f xs) y (fl
 
 module _ {E : Type 0} where
   -- a listed prefix is a nonempty beginning of the list
-  in_prefixes : (log p : List E) → In p (prefixes log) → (first : E) × (more : List E) × (rest : List E) × (p ≡ first ∷ more) × (log ≡ p ++ rest)
+  in_prefixes : (log p : List E) → In p (prefixes log) →
+      (first : E) × (more : List E) × (rest : List E) × (p ≡ first ∷ more) × (log ≡ p ++ rest)
   in_prefixes [] p i = absurd i
   in_prefixes (e ∷ es) p (inl d) = (e, [], es, d, ap (λ u. u ++ es) (sym d))
   in_prefixes (e ∷ es) p (inr i) =
@@ -110,20 +114,48 @@ module _ {E : Type 0} where
   prefixes_have first (m ∷ more) rest = inr (map_has (λ p. first ∷ p) (prefixes (m ∷ (more ++ rest))) (m ∷ more) (prefixes_have m more rest))
 
   -- the prefixes of several logs
-  pub prefix_of_logs : (logs : List (List E)) (p : List E) → In p (flat_map prefixes logs) → IsGained (λ l. In l logs) [] p
+  pub prefix_of_logs : (logs : List (List E)) (p : List E) → In p (flat_map prefixes logs) →
+      IsGained (λ l. In l logs) [] p
   prefix_of_logs logs p i =
       let h = in_flat_map prefixes logs p i in
       let k = in_prefixes h.0 p h.2 in
       record { log = h.0; is_log = h.1; first = k.0; more = k.1; rest = k.2; longer = k.3; prefix = k.4 }
 
   -- each prefix of one of them is listed
-  pub logs_have_prefix : (logs : List (List E)) (p : List E) → IsGained (λ l. In l logs) [] p → In p (flat_map prefixes logs)
+  pub logs_have_prefix : (logs : List (List E)) (p : List E) → IsGained (λ l. In l logs) [] p →
+      In p (flat_map prefixes logs)
   logs_have_prefix logs p g =
       let here : In (g.first ∷ g.more) (prefixes (g.first ∷ (g.more ++ g.rest))) = prefixes_have g.first g.more g.rest in
       let is : g.log ≡ g.first ∷ (g.more ++ g.rest) = g.prefix ∙ ap (λ u. u ++ g.rest) g.longer in
       flat_map_has prefixes logs g.log p g.is_log (subst (λ l. In p (prefixes l)) (sym is) (subst (λ u. In u (prefixes (g.first ∷ (g.more ++ g.rest)))) (sym g.longer) here))
 
   -- the number of different nonempty prefixes of several logs
-  pub prefixes_count : (same : E → E → Bool) (decides : (x y : E) → Decides (same x y) (x ≡ y)) (logs : List (List E)) → IsCount (IsGained (λ l. In l logs) []) (distinct_count (same_list same) (flat_map prefixes logs))
-  prefixes_count same decides logs = count_same (λ p. In p (flat_map prefixes logs)) (IsGained (λ l. In l logs) []) (distinct_count (same_list same) (flat_map prefixes logs))
+  pub prefixes_count : (same : E → E → Bool) (decides : (x y : E) → Decides (same x y) (x ≡ y)) (logs : List (List E)) →
+      IsCount (IsGained (λ l. In l logs) []) (distinct_count (same_list same) (flat_map prefixes logs))
+  prefixes_count same decides logs = count_same (λ p. In p (flat_map prefixes logs)) (IsGained (λ l. In l logs) [])
+      (distinct_count (same_list same) (flat_map prefixes logs))
       (prefix_of_logs logs) (logs_have_prefix logs) (distinct_is_count (same_list same) (same_list-Decides same decides) (flat_map prefixes logs))
+
+  -- a list has as many nonempty prefixes as elements
+  length-prefixes : (l : List E) → length (prefixes l) ≡ length l
+  length-prefixes [] = refl
+  length-prefixes (e ∷ es) = ap suc (length-map (prefixes es) (λ p. e ∷ p) ∙ length-prefixes es)
+
+  -- so many lists, cut to a length, have at most so many together
+  pub few_prefixes : (n : ℕ) (logs : List (List E)) → length (flat_map prefixes (map (take n) logs)) ≤ length logs * n
+  few_prefixes n [] = omega arith
+  few_prefixes n (l ∷ logs) =
+      let h = few_prefixes n logs in
+      let a = length-append (prefixes (take n l)) (flat_map prefixes (map (take n) logs)) in
+      let b = length-prefixes (take n l) in
+      let d = length-take n l in
+      let m = suc-mul (length logs) n in
+      omega (arith, h, a, b, d, m)
+
+  -- lists that are short enough are not cut
+  pub none_cut : (n : ℕ) (logs : List (List E)) → ((l : List E) → In l logs → length l ≤ n) → map (take n) logs ≡ logs
+  none_cut n [] f = refl
+  none_cut n (l ∷ logs) f =
+      let a : take n l ≡ l = take_all n l (f l (inl refl)) in
+      let b : map (take n) logs ≡ logs = none_cut n logs (λ k i. f k (inr i)) in
+      cc

@@ -1,5 +1,5 @@
 -- Copies stand for the clones after a decision, an end and a fork, where they stood for them before.
-use Rattle.std.proofs.Common.{◌≡◌, ℕ, ◌+◌, ◌≤◌, ◌<◌, List, [], ◌∷◌, ◌++◌, inl, inr, Bool, true, false, cond, ◌==◌, ◌&&◌, nat_lt, min, unwrap_or, None, refl, sym, ap, ◌∙◌, subst, arith, length, length-set, eq-eqb}
+use Rattle.std.proofs.Common.{◌≡◌, ℕ, ◌+◌, ◌≤◌, ◌<◌, List, [], ◌∷◌, ◌++◌, inl, inr, Bool, true, false, cond, ◌==◌, ◌&&◌, nat_lt, min, None, refl, sym, ap, ◌∙◌, subst, arith, length, length-set, eq-eqb}
 use Rattle.std.specs.List.{AllByRecursion, AllZip}
 use Rattle.std.proofs.lemmas.Bool.{cases_Bool, cases_eq, ne_eqb, lt-ltb, ltb-true, false≢true}
 use Rattle.std.proofs.lemmas.List.{length_push}
@@ -12,7 +12,9 @@ use Rattle.run_laws.specs.Window.{earlier_than}
 use Rattle.run_laws.specs.Runs.{run, end_of, run_of, log_at, state_at, due_at}
 use Rattle.run_laws.specs.Handlers.{HandlesLawfully}
 use Rattle.run_laws.specs.Laws.{with_plan, with_end, AddsDue, DropsDue}
-use Rattle.run_laws.specs.Copies.{Copy, Carries, Disjoint, SortedMarked, takes, taken, takes_as, origin_of, IsGiven, IsForked, ends_of, Stands}
+use Rattle.sim_base.specs.Marked.{SortedMarked}
+use Rattle.run_laws.specs.Copies.{Copy, Carries, Disjoint, takes, taken, takes_as, origin_of, IsGiven, IsForked, ends_of, Stands}
+use Rattle.run_laws.proofs.Forks.{end_of-fork}
 use Rattle.run_laws.proofs.Queue.{all_in}
 use Rattle.run_laws.proofs.Parts.{part-congr, part-filter}
 use Rattle.run_laws.proofs.Late.{late_decision_adds_due, late_end_drops_due}
@@ -22,7 +24,8 @@ use Rattle.run_laws.proofs.Delivery.{zip_from, zip_each, one_of, disjoint_given}
 module _ {S M N K : Type 0} (sim : Simulation S M N) (has : K → ℕ → Bool) where
   -- what a clone takes depends on its own end alone
   taken_ends : (e f : ℕ → ℕ) (c : ℕ) (xs : List (M × K)) → e c ≡ f c → taken sim has e c xs ≡ taken sim has f c xs
-  taken_ends e f c xs same = part-congr (takes sim has e) (takes sim has f) c c xs (λ m k. ap (λ t. has k c && nat_lt (sim.time m) t) same)
+  taken_ends e f c xs same = part-congr (takes sim has e)
+      (takes sim has f) c c xs (λ m k. ap (λ t. has k c && nat_lt (sim.time m) t) same)
 
   -- of two ends the earlier decides
   earlier_test : (k : Bool) (t at end : ℕ) → at ≤ end → (k && nat_lt t at) ≡ ((k && nat_lt t end) && nat_lt t at)
@@ -37,8 +40,10 @@ module _ {S M N K : Type 0} (sim : Simulation S M N) (has : K → ℕ → Bool) 
       and_false false = refl
 
   -- with an earlier end a clone takes what comes before it
-  taken_earlier : (e f : ℕ → ℕ) (c : ℕ) (xs : List (M × K)) → f c ≤ e c → taken sim has f c xs ≡ earlier_than sim.time (f c) (taken sim has e c xs)
-  taken_earlier e f c xs l = part-filter (takes sim has e) (takes sim has f) (λ m. nat_lt (sim.time m) (f c)) c xs (λ m k. earlier_test (has k c) (sim.time m) (f c) (e c) l)
+  taken_earlier : (e f : ℕ → ℕ) (c : ℕ) (xs : List (M × K)) → f c ≤ e c →
+      taken sim has f c xs ≡ earlier_than sim.time (f c) (taken sim has e c xs)
+  taken_earlier e f c xs l = part-filter (takes sim has e) (takes sim has f)
+      (λ m. nat_lt (sim.time m) (f c)) c xs (λ m k. earlier_test (has k c) (sim.time m) (f c) (e c) l)
 
   -- a copy for the changed clones, against what it was
   record Matches (cs : List Clone) (front s : ℕ) (a b : Copy S M N K) : Type 0 where
@@ -50,8 +55,10 @@ module _ {S M N K : Type 0} (sim : Simulation S M N) (has : K → ℕ → Bool) 
 
   -- copies that match those that stood for the clones stand for the changed clones
   stands_matched : (cs next : List Clone) (front s : ℕ) (copies done : List (Copy S M N K)) → length next ≡ length cs →
-      ((c : ℕ) → log_at sim (clone_at next c) s front ≡ log_at sim (clone_at cs c) s front) → ((c : ℕ) → state_at sim (clone_at next c) s front ≡ state_at sim (clone_at cs c) s front) →
-      ((b : Copy S M N K) → In b done → (a : Copy S M N K) × In a copies × Matches next front s a b) → ((a : Copy S M N K) → In a copies → (b : Copy S M N K) × In b done × (b.set ≡ a.set)) → Disjoint has done →
+      ((c : ℕ) → log_at sim (clone_at next c) s front ≡ log_at sim (clone_at cs c) s front) →
+      ((c : ℕ) → state_at sim (clone_at next c) s front ≡ state_at sim (clone_at cs c) s front) →
+      ((b : Copy S M N K) → In b done → (a : Copy S M N K) × In a copies × Matches next front s a b) →
+      ((a : Copy S M N K) → In a copies → (b : Copy S M N K) × In b done × (b.set ≡ a.set)) → Disjoint has done →
       Stands sim has cs front s copies → Stands sim has next front s done
   stands_matched cs next front s copies done many logs states was each apart st =
       let own : (b : Copy S M N K) (c : ℕ) (i : In b done) → Carries has b c → Carries has (was b i).0 c = λ b c i h. subst (λ u. has u c ≡ true) (was b i).2.set h in
@@ -76,7 +83,8 @@ and_swap true true e = refl
 and_swap true false e = refl
 and_swap false b e = absurd (false≢true e)
 
-module _ {S M N K : Type 0} {sim : Simulation S M N} {Good : ℕ → S → Type 0} (law : HandlesLawfully sim Good) (has : K → ℕ → Bool) (cs : List Clone) (front s who : ℕ) (is_there : who < length cs) where
+module _ {S M N K : Type 0} {sim : Simulation S M N} {Good : ℕ → S → Type 0} (law : HandlesLawfully sim Good)
+    (has : K → ℕ → Bool) (cs : List Clone) (front s who : ℕ) (is_there : who < length cs) where
   module _ (p : Planned) (late : front ≤ sim.time (sim.decided (length (clone_at cs who).plans) p)) where
     -- the decision as a message
     abbrev message : M
@@ -88,18 +96,21 @@ module _ {S M N K : Type 0} {sim : Simulation S M N} {Good : ℕ → S → Type 
 
     -- each log stays
     logs_added : (c : ℕ) → log_at sim (clone_at (added cs who p) c) s front ≡ log_at sim (clone_at cs c) s front
-    logs_added = set_cases (λ c k. log_at sim k s front ≡ log_at sim (clone_at cs c) s front) cs who (with_plan (clone_at cs who) p) is_there (ap (λ w. log_of sim.to s w.trace) adds.world) (λ c n. refl)
+    logs_added = set_cases (λ c k. log_at sim k s front ≡ log_at sim (clone_at cs c) s front) cs who (with_plan (clone_at cs who) p) is_there (ap (λ w. log_of sim.to s w.trace) adds.world)
+        (λ c n. refl)
 
     -- each state stays
     states_added : (c : ℕ) → state_at sim (clone_at (added cs who p) c) s front ≡ state_at sim (clone_at cs c) s front
-    states_added = set_cases (λ c k. state_at sim k s front ≡ state_at sim (clone_at cs c) s front) cs who (with_plan (clone_at cs who) p) is_there (ap (λ w. w.states s) adds.world) (λ c n. refl)
+    states_added = set_cases (λ c k. state_at sim k s front ≡ state_at sim (clone_at cs c) s front) cs who (with_plan (clone_at cs who) p) is_there (ap (λ w. w.states s) adds.world)
+        (λ c n. refl)
 
     -- each end stays
     ends_added : (c : ℕ) → ends_of sim (added cs who p) c ≡ ends_of sim cs c
     ends_added = set_cases (λ c k. end_of sim k ≡ end_of sim (clone_at cs c)) cs who (with_plan (clone_at cs who) p) is_there refl (λ c n. refl)
 
     -- a late decision for another station leaves the copies of a station as they are
-    pub stands_other_decision : (copies : List (Copy S M N K)) → (sim.to message ≡ s → ⊥) → Stands sim has cs front s copies → Stands sim has (added cs who p) front s copies
+    pub stands_other_decision : (copies : List (Copy S M N K)) → (sim.to message ≡ s → ⊥) →
+        Stands sim has cs front s copies → Stands sim has (added cs who p) front s copies
     stands_other_decision copies not st =
         stands_matched sim has cs (added cs who p) front s copies copies (length-set cs who (with_plan (clone_at cs who) p)) logs_added states_added
         (λ b i. (
@@ -124,8 +135,10 @@ module _ {S M N K : Type 0} {sim : Simulation S M N} {Good : ℕ → S → Type 
         never false b e = refl
 
     -- a late decision for a station is given to the clone that it is for, and to no other
-    pub stands_decision : (copies done : List (Copy S M N K)) (k : K) → sim.to message ≡ s → has k who ≡ true → ((c : ℕ) → (c ≡ who → ⊥) → has k c ≡ false) →
-        AllZip (IsGiven sim has (ends_of sim cs) message k) copies done → Stands sim has cs front s copies → Stands sim has (added cs who p) front s done
+    pub stands_decision : (copies done : List (Copy S M N K)) (k : K) → sim.to message ≡ s → has k who ≡ true →
+        ((c : ℕ) → (c ≡ who → ⊥) → has k c ≡ false) →
+        AllZip (IsGiven sim has (ends_of sim cs) message k) copies done → Stands sim has cs front s copies →
+        Stands sim has (added cs who p) front s done
     stands_decision copies done k to_s for_it for_no_other zip st =
         let apart = disjoint_given sim has (ends_of sim cs) message k copies done zip st.disjoint in
         stands_matched sim has cs (added cs who p) front s copies done (length-set cs who (with_plan (clone_at cs who) p)) logs_added states_added
@@ -145,14 +158,16 @@ module _ {S M N K : Type 0} {sim : Simulation S M N} {Good : ℕ → S → Type 
         ))
         (λ a i. let y = zip_each (IsGiven sim has (ends_of sim cs) message k) copies done a zip i in (y.0, y.1, y.2.set)) apart st
       where
-        given : (c : ℕ) → due_at sim (clone_at (added cs who p) c) s front ≡ cond (takes sim has (ends_of sim cs) message k c) (insert sim.order message (due_at sim (clone_at cs c) s front)) (due_at sim (clone_at cs c) s front)
+        given : (c : ℕ) →
+            due_at sim (clone_at (added cs who p) c) s front ≡ cond (takes sim has (ends_of sim cs) message k c) (insert sim.order message (due_at sim (clone_at cs c) s front)) (due_at sim (clone_at cs c) s front)
         given = set_cases (λ c x. due_at sim x s front ≡ cond (takes sim has (ends_of sim cs) message k c) (insert sim.order message (due_at sim (clone_at cs c) s front)) (due_at sim (clone_at cs c) s front)) cs who (with_plan (clone_at cs who) p) is_there
             (adds.due_here s ∙ ap (λ t. cond t (insert sim.order message (due_at sim (clone_at cs who) s front)) (due_at sim (clone_at cs who) s front))
             (ap (λ b. nat_lt (sim.time message) (end_of sim (clone_at cs who)) && b) (eq-eqb (sim.to message) s to_s) ∙ and_swap (has k who) (nat_lt (sim.time message) (end_of sim (clone_at cs who))) for_it))
             (λ c n. ap (λ b. cond (b && nat_lt (sim.time message) (ends_of sim cs c)) (insert sim.order message (due_at sim (clone_at cs c) s front)) (due_at sim (clone_at cs c) s front)) (sym (for_no_other c n)))
 
   -- an end at or after the front leaves the copies as they are
-  pub stands_end : (copies : List (Copy S M N K)) (at : ℕ) → front ≤ at → at ≤ end_of sim (clone_at cs who) → Stands sim has cs front s copies → Stands sim has (ended cs who at) front s copies
+  pub stands_end : (copies : List (Copy S M N K)) (at : ℕ) → front ≤ at → at ≤ end_of sim (clone_at cs who) →
+      Stands sim has cs front s copies → Stands sim has (ended cs who at) front s copies
   stands_end copies at late within st =
       let drops : DropsDue sim (clone_at cs who) at front = late_end_drops_due law (clone_at cs who) at front late within in
       stands_matched sim has cs (ended cs who at) front s copies copies (length-set cs who (with_end (clone_at cs who) at))
@@ -165,7 +180,8 @@ module _ {S M N K : Type 0} {sim : Simulation S M N} {Good : ℕ → S → Type 
           set = refl;
           log = refl;
           state = refl;
-          due = λ c g. taken_ends sim has (ends_of sim (ended cs who at)) (λ t. end_of sim (clone_at (ended cs who at) c)) c b.pending refl
+          due = λ c g. taken_ends sim has (ends_of sim (ended cs who at))
+              (λ t. end_of sim (clone_at (ended cs who at) c)) c b.pending refl
               ∙ set_cases (λ c k. Carries has b c → taken sim has (λ t. end_of sim k) c b.pending ≡ due_at sim k s front) cs who (with_end (clone_at cs who) at) is_there
               (λ g. taken_earlier sim has (ends_of sim cs) (λ t. at) who b.pending within ∙ ap (earlier_than sim.time at) (st.due b who i g) ∙ sym (drops.due_here s))
               (λ c n g. taken_ends sim has (λ t. end_of sim (clone_at cs c)) (ends_of sim cs) c b.pending refl ∙ st.due b c i g)
@@ -175,15 +191,20 @@ module _ {S M N K : Type 0} {sim : Simulation S M N} {Good : ℕ → S → Type 
       ))
       (λ a i. (a, i, refl)) st.disjoint st
 
-module _ {S M N K : Type 0} (sim : Simulation S M N) (has : K → ℕ → Bool) (cs : List Clone) (old : ℕ) (name : List ℕ) where
+module _ {S M N K : Type 0} (sim : Simulation S M N) (has : K → ℕ → Bool) (cs : List Clone) (old : ℕ)
+    (name : List ℕ) where
   -- forked copies stay apart
-  disjoint_forked : (ends : ℕ → ℕ) (new : ℕ) (xs ys : List (Copy S M N K)) → AllZip (IsForked sim has ends old new) xs ys → Disjoint has xs → Disjoint has ys
+  disjoint_forked : (ends : ℕ → ℕ) (new : ℕ) (xs ys : List (Copy S M N K)) →
+      AllZip (IsForked sim has ends old new) xs ys → Disjoint has xs → Disjoint has ys
   disjoint_forked ends new [] [] h d = tt
   disjoint_forked ends new [] (v ∷ ys) h d = absurd h
   disjoint_forked ends new (u ∷ xs) [] h d = absurd h
-  disjoint_forked ends new (u ∷ xs) (v ∷ ys) h d = (apart ys (λ b i. zip_from (IsForked sim has ends old new) xs ys b h.1 i), disjoint_forked ends new xs ys h.1 d.1)
+  disjoint_forked ends new (u ∷ xs)
+      (v ∷ ys) h d = (apart ys (λ b i. zip_from (IsForked sim has ends old new) xs ys b h.1 i), disjoint_forked ends new xs ys h.1 d.1)
     where
-      apart : (zs : List (Copy S M N K)) → ((b : Copy S M N K) → In b zs → (x : Copy S M N K) × In x xs × IsForked sim has ends old new x b) → AllByRecursion (λ b. (c : ℕ) → Carries has v c → Carries has b c → ⊥) zs
+      apart : (zs : List (Copy S M N K)) →
+          ((b : Copy S M N K) → In b zs → (x : Copy S M N K) × In x xs × IsForked sim has ends old new x b) →
+          AllByRecursion (λ b. (c : ℕ) → Carries has v c → Carries has b c → ⊥) zs
       apart [] f = tt
       apart (b ∷ zs) f = (
         (λ c i l. let x = f b (inl refl) in
@@ -192,7 +213,9 @@ module _ {S M N K : Type 0} (sim : Simulation S M N) (has : K → ℕ → Bool) 
       )
 
   -- what holds of the new clone, which was the old one, and of the others, holds of each
-  fork_cases : (P : Clone → Clone → Type 0) → P (record { name = name; plans = (clone_at cs old).plans; end = None }) (clone_at cs old) → ((k : Clone) → P k k) → (c : ℕ) → P (clone_at (forked cs name old) c) (clone_at cs (origin_of old (length cs) c))
+  fork_cases : (P : Clone → Clone → Type 0) →
+      P (record { name = name; plans = (clone_at cs old).plans; end = None }) (clone_at cs old) → ((k : Clone) → P k k) →
+      (c : ℕ) → P (clone_at (forked cs name old) c) (clone_at cs (origin_of old (length cs) c))
   fork_cases P a b c =
       let k : Clone = record { name = name; plans = (clone_at cs old).plans; end = None } in
       elim (cases_eq c (length cs)) [
@@ -203,12 +226,14 @@ module _ {S M N K : Type 0} (sim : Simulation S M N) (has : K → ℕ → Bool) 
       ]
 
   -- a new clone beside its old one, which has no end
-  pub stands_fork : (front s : ℕ) (copies done : List (Copy S M N K)) → old < length cs → (clone_at cs old).end ≡ None → AllZip (IsForked sim has (ends_of sim cs) old (length cs)) copies done → Stands sim has cs front s copies → Stands sim has (forked cs name old) front s done
+  pub stands_fork : (front s : ℕ) (copies done : List (Copy S M N K)) → old < length cs → (clone_at cs old).end ≡ None →
+      AllZip (IsForked sim has (ends_of sim cs) old (length cs)) copies done → Stands sim has cs front s copies →
+      Stands sim has (forked cs name old) front s done
   stands_fork front s copies done there no_end zip st =
       let new : ℕ = length cs in
       let k : Clone = record { name = name; plans = (clone_at cs old).plans; end = None } in
       let many : length (forked cs name old) ≡ length cs + 1 = length_push cs k in
-      let same_end : end_of sim k ≡ end_of sim (clone_at cs old) = ap (λ e. unwrap_or e sim.horizon) (sym no_end) in
+      let same_end : end_of sim k ≡ end_of sim (clone_at cs old) = end_of-fork sim (clone_at cs old) name no_end in
       let same_run : run_of sim k front ≡ run_of sim (clone_at cs old) front = ap (λ e. run sim (clone_at cs old).plans (min front e)) same_end in
       let apart = disjoint_forked (ends_of sim cs) new copies done zip st.disjoint in
       let was : (b : Copy S M N K) → In b done → (a : Copy S M N K) × In a copies × IsForked sim has (ends_of sim cs) old new a b = λ b i. zip_from (IsForked sim has (ends_of sim cs) old new) copies done b zip i in
@@ -229,8 +254,10 @@ module _ {S M N K : Type 0} (sim : Simulation S M N) (has : K → ℕ → Bool) 
             (y.0, y.1, y.2.set c ∙ x.2);
         living = λ b c i h. let a = was b i in let l = back c (st.living a.0 (origin_of old new c) a.1 (sym (a.2.set c) ∙ h)) in omega (arith, many, l);
         disjoint = apart;
-        log = λ b c i h. let a = was b i in a.2.log ∙ (st.log a.0 (origin_of old new c) a.1 (sym (a.2.set c) ∙ h) ∙ sym (logs c));
-        state = λ b c i h. let a = was b i in a.2.state ∙ (st.state a.0 (origin_of old new c) a.1 (sym (a.2.set c) ∙ h) ∙ sym (states c));
+        log = λ b c i h. let a = was b i in a.2.log
+            ∙ (st.log a.0 (origin_of old new c) a.1 (sym (a.2.set c) ∙ h) ∙ sym (logs c));
+        state = λ b c i h. let a = was b i in a.2.state
+            ∙ (st.state a.0 (origin_of old new c) a.1 (sym (a.2.set c) ∙ h) ∙ sym (states c));
         due = λ b c i h. let a = was b i in
             part-congr (takes sim has (ends_of sim (forked cs name old))) (takes_as sim has (ends_of sim cs) old new) c c b.pending (λ m k. ap (λ t. has k c && nat_lt (sim.time m) t) (ends_are c))
             ∙ a.2.parts c ∙ st.due a.0 (origin_of old new c) a.1 (sym (a.2.set c) ∙ h) ∙ sym (dues c);
@@ -259,17 +286,23 @@ module _ {S M N K : Type 0} (sim : Simulation S M N) (has : K → ℕ → Bool) 
         | inr n ↦ let h : c < length cs = subst (λ b. cond b old c < length cs) (ne_eqb c (length cs) n) k in omega arith
       ]
 
-module _ {S M N K : Type 0} {sim : Simulation S M N} {Good : ℕ → S → Type 0} (law : HandlesLawfully sim Good) (has : K → ℕ → Bool) (cs : List Clone) (front s who : ℕ) (p : Planned) (m : M) where
+module _ {S M N K : Type 0} {sim : Simulation S M N} {Good : ℕ → S → Type 0} (law : HandlesLawfully sim Good)
+    (has : K → ℕ → Bool) (cs : List Clone) (front s who : ℕ) (p : Planned) (m : M) where
   -- the same, of a message that is the decision's
-  pub stands_after_decision : (k : K) (copies done : List (Copy S M N K)) → who < length cs → m ≡ sim.decided (length (clone_at cs who).plans) p → front ≤ sim.time m → sim.to m ≡ s →
-      has k who ≡ true → ((c : ℕ) → (c ≡ who → ⊥) → has k c ≡ false) → AllZip (IsGiven sim has (ends_of sim cs) m k) copies done → Stands sim has cs front s copies → Stands sim has (added cs who p) front s done
+  pub stands_after_decision : (k : K) (copies done : List (Copy S M N K)) → who < length cs →
+      m ≡ sim.decided (length (clone_at cs who).plans) p → front ≤ sim.time m → sim.to m ≡ s →
+      has k who ≡ true → ((c : ℕ) → (c ≡ who → ⊥) → has k c ≡ false) →
+      AllZip (IsGiven sim has (ends_of sim cs) m k) copies done → Stands sim has cs front s copies →
+      Stands sim has (added cs who p) front s done
   stands_after_decision k copies done there is late to_s for_it for_no_other zip st =
       subst (λ m. front ≤ sim.time m → sim.to m ≡ s → AllZip (IsGiven sim has (ends_of sim cs) m k) copies done → Stands sim has (added cs who p) front s done) (sym is)
       (λ late to_s zip. stands_decision law has cs front s who there p late copies done k to_s for_it for_no_other zip st)
       late to_s zip
 
   -- and of one for another station
-  pub stands_after_other_decision : (copies : List (Copy S M N K)) → who < length cs → m ≡ sim.decided (length (clone_at cs who).plans) p → front ≤ sim.time m → (sim.to m ≡ s → ⊥) → Stands sim has cs front s copies → Stands sim has (added cs who p) front s copies
+  pub stands_after_other_decision : (copies : List (Copy S M N K)) → who < length cs →
+      m ≡ sim.decided (length (clone_at cs who).plans) p → front ≤ sim.time m → (sim.to m ≡ s → ⊥) →
+      Stands sim has cs front s copies → Stands sim has (added cs who p) front s copies
   stands_after_other_decision copies there is late not st =
       subst (λ m. front ≤ sim.time m → (sim.to m ≡ s → ⊥) → Stands sim has (added cs who p) front s copies) (sym is)
       (λ late not. stands_other_decision law has cs front s who there p late copies not st)

@@ -6,30 +6,37 @@ use Rattle.sim_base.specs.Clones.{Clone}
 use Rattle.run_laws.specs.Queue.{insert, In}
 use Rattle.run_laws.specs.Simulation.{Simulation}
 use Rattle.run_laws.specs.Handlers.{IsOrder}
-use Rattle.run_laws.specs.Copies.{part, Copy, Carries, Disjoint, SortedMarked, takes, taken, IsGiven, SoFarGiven, ends_of, IsDelivered}
+use Rattle.sim_base.specs.Marked.{SortedMarked}
+use Rattle.run_laws.specs.Copies.{part, Copy, Carries, Disjoint, takes, taken, IsGiven, SoFarGiven, ends_of, IsDelivered}
 use Rattle.run_laws.proofs.Queue.{all_in, in_insert, insert_old, insert_new}
 use Rattle.run_laws.proofs.Lists.{in_cons_if, cons_if_new, in_append, append_old, append_new}
 use Rattle.run_laws.proofs.Parts.{part-append}
 
 module _ {M K : Type 0} (takes : M → K → ℕ → Bool) where
   -- what a clone takes of a list with one message more
-  in_part_push : (c : ℕ) (xs : List (M × K)) (x : M × K) (z : M) → In z (part takes c (xs ++ x ∷ [])) → In z (part takes c xs) ⊎ ((takes x.0 x.1 c ≡ true) × (z ≡ x.0))
+  in_part_push : (c : ℕ) (xs : List (M × K)) (x : M × K) (z : M) → In z (part takes c (xs ++ x ∷ [])) →
+      In z (part takes c xs) ⊎ ((takes x.0 x.1 c ≡ true) × (z ≡ x.0))
   in_part_push c xs x z i = elim (in_append (part takes c xs) (part takes c (x ∷ [])) z (subst (In z) (part-append takes c xs (x ∷ [])) i)) [
     | inl a ↦ inl a
     | inr a ↦ elim (in_cons_if (takes x.0 x.1 c) x.0 [] z a) [ inl b ↦ inr b | inr b ↦ absurd b ]
   ]
 
   -- it takes what it took
-  part_push_old : (c : ℕ) (xs : List (M × K)) (x : M × K) (z : M) → In z (part takes c xs) → In z (part takes c (xs ++ x ∷ []))
-  part_push_old c xs x z i = subst (In z) (sym (part-append takes c xs (x ∷ []))) (append_old (part takes c xs) (part takes c (x ∷ [])) z i)
+  part_push_old : (c : ℕ) (xs : List (M × K)) (x : M × K) (z : M) → In z (part takes c xs) →
+      In z (part takes c (xs ++ x ∷ []))
+  part_push_old c xs x z i = subst (In z) (sym (part-append takes c xs (x ∷ [])))
+      (append_old (part takes c xs) (part takes c (x ∷ [])) z i)
 
   -- and the message, where it does
-  part_push_new : (c : ℕ) (xs : List (M × K)) (x : M × K) (z : M) → takes x.0 x.1 c ≡ true → z ≡ x.0 → In z (part takes c (xs ++ x ∷ []))
-  part_push_new c xs x z t e = subst (In z) (sym (part-append takes c xs (x ∷ []))) (append_new (part takes c xs) (part takes c (x ∷ [])) z (cons_if_new (takes x.0 x.1 c) x.0 [] z t e))
+  part_push_new : (c : ℕ) (xs : List (M × K)) (x : M × K) (z : M) → takes x.0 x.1 c ≡ true → z ≡ x.0 →
+      In z (part takes c (xs ++ x ∷ []))
+  part_push_new c xs x z t e = subst (In z) (sym (part-append takes c xs (x ∷ [])))
+      (append_new (part takes c xs) (part takes c (x ∷ [])) z (cons_if_new (takes x.0 x.1 c) x.0 [] z t e))
 
 module _ {S M N K : Type 0} (sim : Simulation S M N) (has : K → ℕ → Bool) (ends : ℕ → ℕ) where
   -- with no message the copies stay
-  pub given_none : (new : List (Copy S M N K)) → Disjoint has new → ((a : Copy S M N K) → In a new → SortedMarked sim.order a.pending) → SoFarGiven sim has ends [] new new
+  pub given_none : (new : List (Copy S M N K)) → Disjoint has new →
+      ((a : Copy S M N K) → In a new → SortedMarked sim.order a.pending) → SoFarGiven sim has ends [] new new
   given_none new d s = record {
     from = λ b i. (b, i, refl, refl, refl, λ c z h l. inl l, λ c z h l. elim l [ inl k ↦ k | inr k ↦ absurd k ]);
     each = λ a i. (a, i, refl);
@@ -38,7 +45,8 @@ module _ {S M N K : Type 0} (sim : Simulation S M N) (has : K → ℕ → Bool) 
   }
 
 -- of two lists that match place by place, each element has its match
-pub zip_from : {X Y : Type 0} (R : X → Y → Type 0) (xs : List X) (ys : List Y) (y : Y) → AllZip R xs ys → In y ys → (x : X) × In x xs × R x y
+pub zip_from : {X Y : Type 0} (R : X → Y → Type 0) (xs : List X) (ys : List Y) (y : Y) → AllZip R xs ys → In y ys →
+    (x : X) × In x xs × R x y
 zip_from R [] [] y h i = absurd i
 zip_from R [] (v ∷ ys) y h i = absurd h
 zip_from R (u ∷ xs) [] y h i = absurd h
@@ -46,7 +54,8 @@ zip_from R (u ∷ xs) (v ∷ ys) y h (inl e) = (u, inl refl, subst (R u) (sym e)
 zip_from R (u ∷ xs) (v ∷ ys) y h (inr i) = let r = zip_from R xs ys y h.1 i in (r.0, inr r.1, r.2)
 
 -- and each of the first list in the second
-pub zip_each : {X Y : Type 0} (R : X → Y → Type 0) (xs : List X) (ys : List Y) (x : X) → AllZip R xs ys → In x xs → (y : Y) × In y ys × R x y
+pub zip_each : {X Y : Type 0} (R : X → Y → Type 0) (xs : List X) (ys : List Y) (x : X) → AllZip R xs ys → In x xs →
+    (y : Y) × In y ys × R x y
 zip_each R [] [] x h i = absurd i
 zip_each R [] (v ∷ ys) x h i = absurd h
 zip_each R (u ∷ xs) [] x h i = absurd h
@@ -55,7 +64,8 @@ zip_each R (u ∷ xs) (v ∷ ys) x h (inr i) = let r = zip_each R xs ys x h.1 i 
 
 module _ {S M N K : Type 0} (has : K → ℕ → Bool) where
   -- of disjoint copies one alone carries a clone
-  pub one_of : (xs : List (Copy S M N K)) (a b : Copy S M N K) (c : ℕ) → Disjoint has xs → In a xs → In b xs → Carries has a c → Carries has b c → a ≡ b
+  pub one_of : (xs : List (Copy S M N K)) (a b : Copy S M N K) (c : ℕ) → Disjoint has xs → In a xs → In b xs →
+      Carries has a c → Carries has b c → a ≡ b
   one_of [] a b c d i l h k = absurd i
   one_of (x ∷ xs) a b c d (inl e) (inl f) h k = e ∙ sym f
   one_of (x ∷ xs) a b c d (inl e) (inr l) h k = absurd (all_in (λ b. (c : ℕ) → Carries has x c → Carries has b c → ⊥) xs b d.0 l c (subst (λ t. Carries has t c) e h) k)
@@ -64,13 +74,17 @@ module _ {S M N K : Type 0} (has : K → ℕ → Bool) where
 
 module _ {S M N K : Type 0} (sim : Simulation S M N) (has : K → ℕ → Bool) (ends : ℕ → ℕ) where
   -- copies that are given a message stay apart
-  pub disjoint_given : (m : M) (k : K) (xs ys : List (Copy S M N K)) → AllZip (IsGiven sim has ends m k) xs ys → Disjoint has xs → Disjoint has ys
+  pub disjoint_given : (m : M) (k : K) (xs ys : List (Copy S M N K)) → AllZip (IsGiven sim has ends m k) xs ys →
+      Disjoint has xs → Disjoint has ys
   disjoint_given m k [] [] h d = tt
   disjoint_given m k [] (v ∷ ys) h d = absurd h
   disjoint_given m k (u ∷ xs) [] h d = absurd h
-  disjoint_given m k (u ∷ xs) (v ∷ ys) h d = (apart ys (λ b i. zip_from (IsGiven sim has ends m k) xs ys b h.1 i), disjoint_given m k xs ys h.1 d.1)
+  disjoint_given m k (u ∷ xs)
+      (v ∷ ys) h d = (apart ys (λ b i. zip_from (IsGiven sim has ends m k) xs ys b h.1 i), disjoint_given m k xs ys h.1 d.1)
     where
-      apart : (zs : List (Copy S M N K)) → ((b : Copy S M N K) → In b zs → (x : Copy S M N K) × In x xs × IsGiven sim has ends m k x b) → AllByRecursion (λ b. (c : ℕ) → Carries has v c → Carries has b c → ⊥) zs
+      apart : (zs : List (Copy S M N K)) →
+          ((b : Copy S M N K) → In b zs → (x : Copy S M N K) × In x xs × IsGiven sim has ends m k x b) →
+          AllByRecursion (λ b. (c : ℕ) → Carries has v c → Carries has b c → ⊥) zs
       apart [] f = tt
       apart (b ∷ zs) f = (
         (λ c i l. let x = f b (inl refl) in
@@ -80,7 +94,8 @@ module _ {S M N K : Type 0} (sim : Simulation S M N) (has : K → ℕ → Bool) 
 
   -- one message more
   pub given_more : IsOrder sim.order → (msgs : List (M × K)) (new done next : List (Copy S M N K)) (m : M) (k : K) →
-      SoFarGiven sim has ends msgs new done → AllZip (IsGiven sim has ends m k) done next → SoFarGiven sim has ends (msgs ++ (m, k) ∷ []) new next
+      SoFarGiven sim has ends msgs new done → AllZip (IsGiven sim has ends m k) done next →
+      SoFarGiven sim has ends (msgs ++ (m, k) ∷ []) new next
   given_more o msgs new done next m k h zip = record {
     from = λ b i.
         let y = zip_from (IsGiven sim has ends m k) done next b zip i in
@@ -125,7 +140,8 @@ module _ {S M N K : Type 0} (sim : Simulation S M N) (has : K → ℕ → Bool) 
   }
 
 -- where the messages are, for each clone, those that the stations sent to s, all is delivered
-pub delivered : {S M N K : Type 0} (sim : Simulation S M N) (has : K → ℕ → Bool) (cs : List Clone) (s : ℕ) (sent : ℕ → List (M × K)) (msgs : List (M × K)) (new done : List (Copy S M N K)) →
+pub delivered : {S M N K : Type 0} (sim : Simulation S M N) (has : K → ℕ → Bool) (cs : List Clone) (s : ℕ)
+    (sent : ℕ → List (M × K)) (msgs : List (M × K)) (new done : List (Copy S M N K)) →
     ((c : ℕ) (z : M) → In z (taken sim has (ends_of sim cs) c msgs) → (r : ℕ) × In z (taken sim has (ends_of sim cs) c (sent r)) × (sim.to z ≡ s)) →
     ((c r : ℕ) (z : M) → In z (taken sim has (ends_of sim cs) c (sent r)) → sim.to z ≡ s → In z (taken sim has (ends_of sim cs) c msgs)) →
     SoFarGiven sim has (ends_of sim cs) msgs new done → IsDelivered sim has cs s sent new done

@@ -11,9 +11,10 @@ use Rattle.run_laws.specs.World.{to_it}
 use Rattle.run_laws.specs.Window.{Part, earlier_than, part_step}
 use Rattle.run_laws.specs.Handlers.{IsLawful, HandlesLawfully}
 use Rattle.run_laws.specs.Prefixes.{IsCount, IsGained}
-use Rattle.run_laws.specs.Copies.{Copy, Carries, Disjoint, JoinsMarks, SortedMarked, handle_until, handled_by, laid_aside, takes, taken, view, Narrowed, Turns, Settled, IsCutLog, Ends}
+use Rattle.sim_base.specs.Marked.{JoinsMarks, SortedMarked}
+use Rattle.run_laws.specs.Copies.{Copy, Carries, Disjoint, handle_until, handled_by, laid_aside, takes, taken, view, Narrowed, Turns, Settled, IsCutLog, Ends}
 use Rattle.run_laws.proofs.Bools.{or_cases, or_first, or_second}
-use Rattle.run_laws.proofs.Queue.{all_in, all_from, all_weaker, not_below_itself}
+use Rattle.run_laws.proofs.Queue.{all_in, all_from, not_below_itself}
 use Rattle.run_laws.proofs.Lists.{in_filter, in_own, in_append, append_old, append_new}
 use Rattle.run_laws.proofs.Machine.{reach_first, reach_trans, done_no_next}
 use Rattle.run_laws.proofs.Running.{all_from_zero, run_reach}
@@ -23,7 +24,9 @@ use Rattle.run_laws.proofs.CopyViews.{logs_part, settled_or_next, handled_view, 
 use Rattle.run_laws.proofs.Limits.{cut_done, cut_full, goes_over, cut_split, cut_handle}
 
 -- copies that are apart in two lists, and from list to list
-pub disjoint_append : {S M N K : Type 0} (has : K → ℕ → Bool) (xs ys : List (Copy S M N K)) → Disjoint has xs → Disjoint has ys → ((a b : Copy S M N K) (c : ℕ) → In a xs → In b ys → Carries has a c → Carries has b c → ⊥) → Disjoint has (xs ++ ys)
+pub disjoint_append : {S M N K : Type 0} (has : K → ℕ → Bool) (xs ys : List (Copy S M N K)) → Disjoint has xs →
+    Disjoint has ys → ((a b : Copy S M N K) (c : ℕ) → In a xs → In b ys → Carries has a c → Carries has b c → ⊥) →
+    Disjoint has (xs ++ ys)
 disjoint_append has [] ys f g h = g
 disjoint_append {S} {M} {N} {K} has (x ∷ xs) ys f g h = (
   all_from (λ b. (c : ℕ) → Carries has x c → Carries has b c → ⊥) (xs ++ ys) (λ b i. elim (in_append xs ys b i) [
@@ -37,17 +40,20 @@ disjoint_append {S} {M} {N} {K} has (x ∷ xs) ys f g h = (
 pub not_has : {K : Type 0} (has : K → ℕ → Bool) (k : K) (c : ℕ) → (has k c ≡ true → ⊥) → has k c ≡ false
 not_has has k c f = elim (cases_Bool (has k c)) [ inl e ↦ absurd (f e) | inr e ↦ e ]
 
-module _ {S M N : Type 0} {sim : Simulation S M N} {Good : ℕ → S → Type 0} (law : HandlesLawfully sim Good) (end s : ℕ) where
+module _ {S M N : Type 0} {sim : Simulation S M N} {Good : ℕ → S → Type 0} (law : HandlesLawfully sim Good)
+    (end s : ℕ) where
   -- a station that drops what it sends at an end or later is lawful too
   pub until_lawful : IsLawful sim.time (part_step sim.to (handle_until sim end) s) (λ p. Good s p.state)
   until_lawful = record {
     keeps = λ p m g. law.keeps s p.state m g;
-    later = λ p m g. all_from (λ x. sim.time m < sim.time x) (to_it sim.to s (earlier_than sim.time end (sim.handle s p.state m).sends)) (λ z i.
+    later = λ p m g. all_from (λ x. sim.time m < sim.time x)
+        (to_it sim.to s (earlier_than sim.time end (sim.handle s p.state m).sends)) (λ z i.
         all_in (λ x. sim.time m < sim.time x) (sim.handle s p.state m).sends z (law.later s p.state m g)
         (in_filter (λ m. nat_lt (sim.time m) end) (sim.handle s p.state m).sends z (in_own sim.to s (earlier_than sim.time end (sim.handle s p.state m).sends) z i).0).0);
   }
 
-module _ {S M N K : Type 0} {sim : Simulation S M N} {Good : ℕ → S → Type 0} (law : HandlesLawfully sim Good) {has : K → ℕ → Bool} {join : K → K → K} (j : JoinsMarks has join) (ends : ℕ → ℕ) (s bound : ℕ) where
+module _ {S M N K : Type 0} {sim : Simulation S M N} {Good : ℕ → S → Type 0} (law : HandlesLawfully sim Good)
+    {has : K → ℕ → Bool} {join : K → K → K} (j : JoinsMarks has join) (ends : ℕ → ℕ) (s bound : ℕ) where
   -- what clone c sees
   abbrev seen : ℕ → Copy S M N K → List (M × K) → Config (Part S M N) M
   seen c r sent = view sim has ends c r sent
@@ -65,26 +71,22 @@ module _ {S M N K : Type 0} {sim : Simulation S M N} {Good : ℕ → S → Type 
   Cut = IsCutLog sim has ends s bound
 
   -- each clone of a copy comes to an end of its turns
-  pub comes_to_end : (r : Copy S M N K) (sent : List (M × K)) (c : ℕ) → Good s r.state → SortedMarked sim.order r.pending → (d : Config (Part S M N) M) × Goes c (seen c r sent) d × IsSettled d
+  pub comes_to_end : (r : Copy S M N K) (sent : List (M × K)) (c : ℕ) → Good s r.state →
+      SortedMarked sim.order r.pending → (d : Config (Part S M N) M) × Goes c (seen c r sent) d × IsSettled d
   comes_to_end r sent c g sorted =
       let h = run_reach law.order (until_lawful law (ends c) s) bound bound (seen c r sent) (omega arith)
       (record { good = g; sorted = sorted_part (takes sim has ends) sim.order c r.pending sorted; from_t = all_from_zero sim.time (taken sim has ends c r.pending) }) in
       (run_to sim.order (part_step sim.to (handle_until sim (ends c)) s) sim.time (seen c r sent) bound, h.0, h.1.from_t)
 
-  -- with nothing pending every clone is settled
-  pub settled_if_empty : (r : Copy S M N K) (sent : List (M × K)) (c : ℕ) → r.pending ≡ [] → IsSettled (seen c r sent)
-  settled_if_empty r sent c e = subst (AllByRecursion (λ m. bound ≤ sim.time m)) (sym (ap (taken sim has ends c) e)) tt
-
-  -- with the least message at the bound or later every clone is settled
-  pub settled_if_late : (r : Copy S M N K) (sent : List (M × K)) (c : ℕ) (m : M) (k : K) (q : List (M × K)) → r.pending ≡ (m, k) ∷ q → SortedMarked sim.order r.pending → bound ≤ sim.time m → IsSettled (seen c r sent)
-  settled_if_late r sent c m k q p sorted late =
-      let s : SortedMarked sim.order ((m, k) ∷ q) = subst (SortedMarked sim.order) p sorted in
-      subst (AllByRecursion (λ m. bound ≤ sim.time m)) (sym (ap (taken sim has ends c) p))
-      (all_part_of (takes sim has ends) c (λ m. bound ≤ sim.time m) ((m, k) ∷ q)
-      (late, all_weaker (λ y. sim.order m y.0 ≡ Less) (λ y. bound ≤ sim.time y.0) q (λ y l. let t = law.order.timed m y.0 l in omega arith) s.0))
+  -- with all that is pending at the bound or later every clone is settled
+  pub settled_if_late : (r : Copy S M N K) (sent : List (M × K)) (c : ℕ) →
+      AllByRecursion (λ x. bound ≤ sim.time x.0) r.pending → IsSettled (seen c r sent)
+  settled_if_late r sent c late = all_part_of (takes sim has ends) c (λ m. bound ≤ sim.time m) r.pending late
 
   -- a copy whose clones are settled stays
-  pub ends_done : (r : Copy S M N K) (sent : List (M × K)) (over : K) → (c : ℕ) × Carries has r c → length r.log ≤ sim.limit → ((c : ℕ) → Carries has r c → IsSettled (seen c r sent)) → Ends sim has ends s bound r (r ∷ []) sent sent over over 0
+  pub ends_done : (r : Copy S M N K) (sent : List (M × K)) (over : K) → (c : ℕ) × Carries has r c →
+      length r.log ≤ sim.limit → ((c : ℕ) → Carries has r c → IsSettled (seen c r sent)) →
+      Ends sim has ends s bound r (r ∷ []) sent sent over over 0
   ends_done r sent over any short f = record {
     inhabited = λ b i. elim i [ inl e ↦ (any.0, subst (λ x. Carries has x any.0) (sym e) any.1) | inr n ↦ absurd n ];
     gained = cut_done sim has ends s bound r sent short f;
@@ -101,7 +103,8 @@ module _ {S M N K : Type 0} {sim : Simulation S M N} {Good : ℕ → S → Type 
 
   -- a copy at the limit whose clones all take a message before the bound is over it
   pub ends_over : (r : Copy S M N K) (m : M) (k : K) (q sent : List (M × K)) (over : K) → length r.log ≡ sim.limit →
-      r.pending ≡ (m, k) ∷ q → ((c : ℕ) → Carries has r c → takes sim has ends m k c ≡ true) → sim.time m < bound → Ends sim has ends s bound r [] sent sent over (join over r.set) 0
+      r.pending ≡ (m, k) ∷ q → ((c : ℕ) → Carries has r c → takes sim has ends m k c ≡ true) → sim.time m < bound →
+      Ends sim has ends s bound r [] sent sent over (join over r.set) 0
   ends_over r m k q sent over full p all early = record {
     inhabited = λ b i. absurd i;
     gained = cut_full sim has ends s bound r sent full;
@@ -120,9 +123,12 @@ module _ {S M N K : Type 0} {sim : Simulation S M N} {Good : ℕ → S → Type 
   }
 
   -- a copy whose clones all take its least message handles it once
-  pub ends_handle : (r : Copy S M N K) (m : M) (k : K) (q sent : List (M × K)) (results : List (Copy S M N K)) (after : List (M × K)) (over over_after : K) (n : ℕ) → (c : ℕ) × Carries has r c →
-      Good s r.state → length r.log < sim.limit → r.pending ≡ (m, k) ∷ q → SortedMarked sim.order r.pending → ((c : ℕ) → Carries has r c → takes sim has ends m k c ≡ true) → sim.time m < bound →
-      Ends sim has ends s bound (handled_by sim join s r m q) results (sent ++ laid_aside sim s r m) after over over_after n → Ends sim has ends s bound r results sent after over over_after (n + 1)
+  pub ends_handle : (r : Copy S M N K) (m : M) (k : K) (q sent : List (M × K)) (results : List (Copy S M N K))
+      (after : List (M × K)) (over over_after : K) (n : ℕ) → (c : ℕ) × Carries has r c →
+      Good s r.state → length r.log < sim.limit → r.pending ≡ (m, k) ∷ q → SortedMarked sim.order r.pending →
+      ((c : ℕ) → Carries has r c → takes sim has ends m k c ≡ true) → sim.time m < bound →
+      Ends sim has ends s bound (handled_by sim join s r m q) results (sent ++ laid_aside sim s r m) after over over_after n →
+      Ends sim has ends s bound r results sent after over over_after (n + 1)
   ends_handle r m k q sent results after over over_after n any good room p sorted all early h =
       let new : Copy S M N K = handled_by sim join s r m q in
       let out : List (M × K) = sent ++ laid_aside sim s r m in
@@ -154,15 +160,19 @@ module _ {S M N K : Type 0} {sim : Simulation S M N} {Good : ℕ → S → Type 
       }
 
   -- some of the clones of a copy see what they saw
-  narrowed_view : (r some : Copy S M N K) (sent : List (M × K)) (c : ℕ) → Narrowed sim has ends r some → Carries has some c → seen c some sent ≡ seen c r sent
+  narrowed_view : (r some : Copy S M N K) (sent : List (M × K)) (c : ℕ) → Narrowed sim has ends r some →
+      Carries has some c → seen c some sent ≡ seen c r sent
   narrowed_view r some sent c n h = let a = n.state in let b = n.log in let d = n.parts c h in cc
 
   -- with other messages laid aside that it doesn't see, a clone sees the same
-  pub moved_view : (c : ℕ) (b : Copy S M N K) (x y : List (M × K)) → taken sim has ends c x ≡ taken sim has ends c y → seen c b x ≡ seen c b y
+  pub moved_view : (c : ℕ) (b : Copy S M N K) (x y : List (M × K)) → taken sim has ends c x ≡ taken sim has ends c y →
+      seen c b x ≡ seen c b y
   moved_view c b x y e = ap (λ l. record { at = record { state = b.state; log = b.log; aside = l }; pending = taken sim has ends c b.pending }) e
 
   -- the cut logs of some clones are cut logs of the copy
-  pub cut_of_some : (r some : Copy S M N K) (sent mid : List (M × K)) → Narrowed sim has ends r some → ((c : ℕ) → Carries has some c → taken sim has ends c mid ≡ taken sim has ends c sent) → (l : List (Entry M N)) → Cut some mid l → Cut r sent l
+  pub cut_of_some : (r some : Copy S M N K) (sent mid : List (M × K)) → Narrowed sim has ends r some →
+      ((c : ℕ) → Carries has some c → taken sim has ends c mid ≡ taken sim has ends c sent) → (l : List (Entry M N)) →
+      Cut some mid l → Cut r sent l
   cut_of_some r some sent mid n same l g = record {
     clone = g.clone;
     is_in = n.within g.clone g.is_in;
@@ -173,7 +183,9 @@ module _ {S M N K : Type 0} {sim : Simulation S M N} {Good : ℕ → S → Type 
   }
 
   -- and the cut logs of those clones are theirs
-  cut_in_some : (r some : Copy S M N K) (sent mid : List (M × K)) → Narrowed sim has ends r some → ((c : ℕ) → Carries has some c → taken sim has ends c mid ≡ taken sim has ends c sent) → (l : List (Entry M N)) (g : Cut r sent l) → Carries has some g.clone → Cut some mid l
+  cut_in_some : (r some : Copy S M N K) (sent mid : List (M × K)) → Narrowed sim has ends r some →
+      ((c : ℕ) → Carries has some c → taken sim has ends c mid ≡ taken sim has ends c sent) → (l : List (Entry M N))
+      (g : Cut r sent l) → Carries has some g.clone → Cut some mid l
   cut_in_some r some sent mid n same l g is_in = record {
     clone = g.clone;
     is_in = is_in;
@@ -184,7 +196,8 @@ module _ {S M N K : Type 0} {sim : Simulation S M N} {Good : ℕ → S → Type 
   }
 
   -- of a message that none of its clones takes, a copy may be rid
-  pub skipped : (r : Copy S M N K) (m : M) (k : K) (q : List (M × K)) → r.pending ≡ (m, k) ∷ q → ((c : ℕ) → Carries has r c → takes sim has ends m k c ≡ false) → Narrowed sim has ends r (record r { pending = q })
+  pub skipped : (r : Copy S M N K) (m : M) (k : K) (q : List (M × K)) → r.pending ≡ (m, k) ∷ q →
+      ((c : ℕ) → Carries has r c → takes sim has ends m k c ≡ false) → Narrowed sim has ends r (record r { pending = q })
   skipped r m k q p none = record {
     state = refl;
     log = refl;
@@ -193,8 +206,10 @@ module _ {S M N K : Type 0} {sim : Simulation S M N} {Good : ℕ → S → Type 
   }
 
   -- a copy of the same clones, that see the same, comes to the same
-  pub ends_same : (r some : Copy S M N K) (results : List (Copy S M N K)) (before after : List (M × K)) (over over_after : K) (n : ℕ) → Narrowed sim has ends r some → ((c : ℕ) → Carries has r c → Carries has some c) →
-      Ends sim has ends s bound some results before after over over_after n → Ends sim has ends s bound r results before after over over_after n
+  pub ends_same : (r some : Copy S M N K) (results : List (Copy S M N K)) (before after : List (M × K))
+      (over over_after : K) (n : ℕ) → Narrowed sim has ends r some → ((c : ℕ) → Carries has r c → Carries has some c) →
+      Ends sim has ends s bound some results before after over over_after n →
+      Ends sim has ends s bound r results before after over over_after n
   ends_same r some results before after over over_after n nar all h =
       let v : (c : ℕ) → Carries has some c → seen c some before ≡ seen c r before = λ c i. narrowed_view r some before c nar i in
       record {
@@ -215,11 +230,16 @@ module _ {S M N K : Type 0} {sim : Simulation S M N} {Good : ℕ → S → Type 
       }
 
   -- a copy of which some clones take the least message and some do not comes to what its halves come to
-  pub ends_split : (r r1 r2 : Copy S M N K) (m : M) (k : K) (q before mid after : List (M × K)) (e1 e2 : List (Copy S M N K)) (over over1 over2 : K) (x1 x2 : ℕ) →
+  pub ends_split : (r r1 r2 : Copy S M N K) (m : M) (k : K) (q before mid after : List (M × K))
+      (e1 e2 : List (Copy S M N K)) (over over1 over2 : K) (x1 x2 : ℕ) →
       length r.log ≤ sim.limit → r.pending ≡ (m, k) ∷ q → SortedMarked sim.order r.pending → sim.time m < bound →
       Narrowed sim has ends r r1 → Narrowed sim has ends r r2 →
-      ((c : ℕ) → Carries has r1 c → takes sim has ends m k c ≡ true) → ((c : ℕ) → Carries has r2 c → takes sim has ends m k c ≡ false) → ((c : ℕ) → Carries has r c → Carries has r1 c ⊎ Carries has r2 c) →
-      Ends sim has ends s bound r1 e1 before mid over over1 x1 → Ends sim has ends s bound r2 e2 mid after over1 over2 x2 → Ends sim has ends s bound r (e1 ++ e2) before after over over2 (x1 + x2)
+      ((c : ℕ) → Carries has r1 c → takes sim has ends m k c ≡ true) →
+      ((c : ℕ) → Carries has r2 c → takes sim has ends m k c ≡ false) →
+      ((c : ℕ) → Carries has r c → Carries has r1 c ⊎ Carries has r2 c) →
+      Ends sim has ends s bound r1 e1 before mid over over1 x1 →
+      Ends sim has ends s bound r2 e2 mid after over1 over2 x2 →
+      Ends sim has ends s bound r (e1 ++ e2) before after over over2 (x1 + x2)
   unfolding cut_of_some
   ends_split r r1 r2 m k q before mid after e1 e2 over over1 over2 x1 x2 room p sorted early n1 n2 in_k out_k cover f g =
       let o = law.order in

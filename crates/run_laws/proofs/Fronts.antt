@@ -36,7 +36,7 @@ module _ {S M N : Type 0} {sim : Simulation S M N} {Good : ℕ → S → Type 0}
       ∙ append-nil (before sim front es)
 
   -- the trace at a front is that part of a later trace which comes before it
-  trace_at_front : (plans : List Planned) (front bound : ℕ) → front ≤ bound → before sim front (run sim plans bound).at.trace ≡ (run sim plans front).at.trace
+  pub trace_at_front : (plans : List Planned) (front bound : ℕ) → front ≤ bound → before sim front (run sim plans bound).at.trace ≡ (run sim plans front).at.trace
   trace_at_front plans front bound l =
       let w = run sim plans front in
       fine_keeps law.order (world_lawful law) front (λ d. before sim front d.at.trace ≡ w.at.trace)
@@ -46,7 +46,7 @@ module _ {S M N : Type 0} {sim : Simulation S M N} {Good : ℕ → S → Type 0}
       (run_goes_on law plans front bound l)
 
   -- the same of a clone, which may have ended
-  clone_trace_at_front : (c : Clone) (front bound : ℕ) → front ≤ bound → before sim front (run_of sim c bound).at.trace ≡ (run_of sim c front).at.trace
+  pub clone_trace_at_front : (c : Clone) (front bound : ℕ) → front ≤ bound → before sim front (run_of sim c bound).at.trace ≡ (run_of sim c front).at.trace
   clone_trace_at_front c front bound l = elim (cases_lt front (end_of sim c)) [
     | inl a ↦
         let e : min front (end_of sim c) ≡ front = omega arith in

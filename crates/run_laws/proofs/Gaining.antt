@@ -1,11 +1,13 @@
 -- Handled once: the number of different prefixes of the clones' logs grows by what the copies gain, and there are as
 -- many copies as different logs.
-use Rattle.std.proofs.Common.{◌≡◌, ◌↔◌, ℕ, suc, ◌+◌, ◌≤◌, ◌<◌, min, List, [], ◌∷◌, ◌++◌, ◌⊎◌, inl, inr, Bool, true, nat_lt, ◌==◌, refl, sym, ap, ◌∙◌, subst, arith, length, map, take, drop, append_assoc, append-nil}
+use Rattle.std.proofs.Common.{◌≡◌, ◌↔◌, ℕ, ◌+◌, ◌-◌, ◌*◌, ◌≤◌, ◌<◌, min, List, [], ◌∷◌, ◌++◌, ◌⊎◌, inl, inr, Bool, true, nat_lt, ◌==◌, refl, sym, ap, ◌∙◌, subst, arith, length, length-append, map, take, drop, append_assoc, append-nil}
 use Rattle.std.specs.Bool.{Decides}
-use Rattle.std.specs.List.{AllByRecursion}
+use Rattle.std.specs.List.{AllByRecursion, flat_map}
+use Rattle.std.specs.Set.{distinct_count}
 use Rattle.std.proofs.lemmas.Bool.{lt-ltb, ltb-true}
-use Rattle.std.proofs.lemmas.List.{take_all, take-append-drop, length-map}
+use Rattle.std.proofs.lemmas.List.{take-append-drop, length-map}
 use Rattle.std.proofs.lemmas.List.Elements.{filter-append}
+use Rattle.std.proofs.lemmas.Map.Made.{distinct_count-le}
 use Rattle.sim_base.specs.Clones.{Clone, clone_at}
 use Rattle.sim_base.specs.declared.entry.Entry.{Entry}
 use Rattle.run_laws.specs.Queue.{In}
@@ -15,11 +17,12 @@ use Rattle.run_laws.specs.World.{World, log_of, world_step}
 use Rattle.run_laws.specs.Window.{Part, local}
 use Rattle.run_laws.specs.Runs.{end_of, run_of, log_at, state_at, all_due, due_at}
 use Rattle.run_laws.specs.Fronts.{next_front}
-use Rattle.run_laws.specs.Sharing.{same_list, logs_at, copies, handled, IsBeyond}
+use Rattle.run_laws.specs.Sharing.{prefixes, same_list, logs_at, copies, handled, handled_to_limit, IsBeyond}
 use Rattle.run_laws.specs.Handlers.{HandlesLawfully}
 use Rattle.run_laws.specs.Laws.{before}
 use Rattle.run_laws.specs.Prefixes.{Apart, IsCount, IsGained}
-use Rattle.run_laws.specs.Copies.{Copy, Carries, Disjoint, JoinsMarks, SortedMarked, takes, taken, view, Narrowed, Turns, Settled, IsCutLog, Gains, GainedBy, GainTogether, alone_from, AreOver, ends_of, Stands}
+use Rattle.sim_base.specs.Marked.{JoinsMarks, SortedMarked}
+use Rattle.run_laws.specs.Copies.{Copy, Carries, Disjoint, takes, taken, view, Narrowed, Turns, Settled, IsCutLog, Gains, GainedBy, GainTogether, alone_from, AreOver, ends_of, Stands}
 use Rattle.run_laws.proofs.Queue.{all_in, all_from}
 use Rattle.run_laws.proofs.Lists.{in_filter, in_own, append_old, filter_all}
 use Rattle.run_laws.proofs.Machine.{reach_keeps}
@@ -33,7 +36,9 @@ use Rattle.run_laws.proofs.Prefixes.{count_same, count_both, count_unique, gaine
 use Rattle.run_laws.proofs.Ends.{until_lawful, comes_to_end, cut_of_some}
 use Rattle.run_laws.proofs.Steps.{ends_alone}
 use Rattle.run_laws.proofs.Stands.{clone_in}
-use Rattle.run_laws.proofs.Counts.{distinct_is_count, same_list-Decides, in_map, map_has, prefixes_count}
+use Rattle.run_laws.proofs.Places.{place_in}
+use Rattle.run_laws.proofs.Limits.{cut_goes_on}
+use Rattle.run_laws.proofs.Counts.{distinct_is_count, same_list-Decides, in_map, map_has, prefixes_count, few_prefixes, none_cut}
 
 -- where two lists together are empty, the first is
 nothing_first : {X : Type 0} (xs ys : List X) → xs ++ ys ≡ [] → xs ≡ []
@@ -41,12 +46,14 @@ nothing_first [] ys e = refl
 nothing_first (x ∷ xs) ys e = absurd (cc)
 
 -- a list that goes on is not empty
-begins_somehow : {X : Type 0} (xs p : List X) (f : X) (m : List X) → p ≡ xs ++ f ∷ m → (g : X) × (n : List X) × (p ≡ g ∷ n)
+pub begins_somehow : {X : Type 0} (xs p : List X) (f : X) (m : List X) → p ≡ xs ++ f ∷ m →
+    (g : X) × (n : List X) × (p ≡ g ∷ n)
 begins_somehow [] p f m e = (f, m, e)
 begins_somehow (x ∷ xs) p f m e = (x, xs ++ f ∷ m, e)
 
 -- of two beginnings of a list, one is a beginning of the other
-one_goes_on : {X : Type 0} (xs h p rest : List X) → xs ++ h ≡ p ++ rest → ((r : List X) × (xs ≡ p ++ r)) ⊎ ((f : X) × (m : List X) × (p ≡ xs ++ f ∷ m))
+one_goes_on : {X : Type 0} (xs h p rest : List X) → xs ++ h ≡ p ++ rest →
+    ((r : List X) × (xs ≡ p ++ r)) ⊎ ((f : X) × (m : List X) × (p ≡ xs ++ f ∷ m))
 one_goes_on [] h [] rest e = inl ([], refl)
 one_goes_on [] h (f ∷ m) rest e = inr (f, m, refl)
 one_goes_on (x ∷ xs) h [] rest e = inl (x ∷ xs, refl)
@@ -58,42 +65,42 @@ one_goes_on (x ∷ xs) h (y ∷ p) rest e =
       | inr r ↦ let u = r.2 in inr (r.0, r.1, cc)
     ]
 
--- a list that is short enough is itself where it is cut
-uncut : {X : Type 0} (limit : ℕ) (log short : List X) → length short ≤ limit → log ≡ short → short ≡ take limit log
-uncut limit log short l e = sym (take_all limit short l) ∙ ap (take limit) (sym e)
-
--- a prefix of a cut list is one of the list
-prefix_uncut : {X : Type 0} (limit : ℕ) (log whole cut p rest : List X) → log ≡ whole → cut ≡ take limit log → cut ≡ p ++ rest → whole ≡ p ++ (rest ++ drop limit log)
-prefix_uncut limit log whole cut p rest e f g = sym e ∙ sym (take-append-drop limit log) ∙ ap (λ l. l ++ drop limit log) (sym f ∙ g) ∙ append_assoc p rest (drop limit log)
-
--- one of the clones has a place
-place_in : (cs : List Clone) (k : Clone) → In k cs → (c : ℕ) × (c < length cs) × (clone_at cs c ≡ k)
-place_in [] k i = absurd i
-place_in (x ∷ xs) k (inl e) = (0, omega arith, sym e)
-place_in (x ∷ xs) k (inr i) = let h = place_in xs k i in let l = h.1 in (suc h.0, omega arith, h.2)
-
 module _ {S M N : Type 0} {sim : Simulation S M N} {Good : ℕ → S → Type 0} (law : HandlesLawfully sim Good) where
   -- a trace only grows
-  trace_grows : {bound : ℕ} (c d : Config (World S M N) M) → Reach sim.order sim.time (world_step sim.to sim.handle) bound c d → (l : List (Entry M N)) × (d.at.trace ≡ c.at.trace ++ l)
-  trace_grows c d r = reach_keeps (λ d. (l : List (Entry M N)) × (d.at.trace ≡ c.at.trace ++ l)) ([], sym (append-nil c.at.trace))
+  trace_grows : {bound : ℕ} (c d : Config (World S M N) M) →
+      Reach sim.order sim.time (world_step sim.to sim.handle) bound c d →
+      (l : List (Entry M N)) × (d.at.trace ≡ c.at.trace ++ l)
+  trace_grows c d r = reach_keeps (λ d. (l : List (Entry M N)) × (d.at.trace ≡ c.at.trace ++ l))
+      ([], sym (append-nil c.at.trace))
       (λ x m q early h. let e : Entry M N = entry_of sim (sim.to m) (x.states (sim.to m)) m in (h.0 ++ e ∷ [], ap (λ l. l ++ e ∷ []) h.1 ∙ append_assoc c.at.trace h.0 (e ∷ [])))
       r
 
   -- all that a station handled before a front comes before it
-  log_below : (c : Clone) (s front : ℕ) → AllByRecursion (λ e. nat_lt (sim.time e.msg) front ≡ true) (log_at sim c s front)
+  pub log_below : (c : Clone) (s front : ℕ) →
+      AllByRecursion (λ e. nat_lt (sim.time e.msg) front ≡ true) (log_at sim c s front)
   log_below c s front = all_from (λ e. nat_lt (sim.time e.msg) front ≡ true) (log_at sim c s front) (λ e i.
       let t : sim.time e.msg < min front (end_of sim c) = all_in (λ e. sim.time e.msg < min front (end_of sim c)) (run_of sim c front).at.trace e (trace_below law c.plans (min front (end_of sim c))) (in_filter (λ e. sim.to e.msg == s) (run_of sim c front).at.trace e i).0 in
       lt-ltb (sim.time e.msg) front (omega arith))
 
   -- a log at a front goes on to a later one
-  pub log_goes_on : (c : Clone) (s front bound : ℕ) → front ≤ bound → (l : List (Entry M N)) × (log_at sim c s bound ≡ log_at sim c s front ++ l)
+  pub log_goes_on : (c : Clone) (s front bound : ℕ) → front ≤ bound →
+      (l : List (Entry M N)) × (log_at sim c s bound ≡ log_at sim c s front ++ l)
   log_goes_on c s front bound l =
       let later : min front (end_of sim c) ≤ min bound (end_of sim c) = omega arith in
       let h = trace_grows (run_of sim c front) (run_of sim c bound) (run_goes_on law c.plans (min front (end_of sim c)) (min bound (end_of sim c)) later) in
       (log_of sim.to s h.0, ap (log_of sim.to s) h.1 ∙ filter-append (λ e. sim.to e.msg == s) (run_of sim c front).at.trace h.0)
 
+  -- and is no longer there than it is later
+  pub shorter_before : (c : Clone) (s front bound n : ℕ) → front ≤ bound → length (log_at sim c s bound) ≤ n →
+      length (log_at sim c s front) ≤ n
+  shorter_before c s front bound n l short =
+      let h = log_goes_on c s front bound l in
+      let e = ap length h.1 in
+      let k = length-append (log_at sim c s front) h.0 in
+      omega (arith, e, k)
+
   -- what is due at a front does not come before it
-  due_from_front : (c : Clone) (s front : ℕ) → AllByRecursion (λ m. front ≤ sim.time m) (due_at sim c s front)
+  pub due_from_front : (c : Clone) (s front : ℕ) → AllByRecursion (λ m. front ≤ sim.time m) (due_at sim c s front)
   due_from_front c s front = all_from (λ m. front ≤ sim.time m) (due_at sim c s front) (λ z i.
       let h = in_own sim.to s (all_due sim c front) z i in
       let k = in_filter (λ m. nat_lt (sim.time m) (end_of sim c)) (run_of sim c front).pending z h.0 in
@@ -101,7 +108,8 @@ module _ {S M N : Type 0} {sim : Simulation S M N} {Good : ℕ → S → Type 0}
       let l : min front (end_of sim c) ≤ sim.time z = all_in (λ m. min front (end_of sim c) ≤ sim.time m) (run_of sim c front).pending z (run_reached law c.plans (min front (end_of sim c))).1.from_t k.0 in
       omega arith)
 
-module _ {S M N K : Type 0} {sim : Simulation S M N} {Good : ℕ → S → Type 0} (law : HandlesLawfully sim Good) {has : K → ℕ → Bool} {join : K → K → K} (j : JoinsMarks has join) (ends : ℕ → ℕ) (s front bound : ℕ) where
+module _ {S M N K : Type 0} {sim : Simulation S M N} {Good : ℕ → S → Type 0} (law : HandlesLawfully sim Good)
+    {has : K → ℕ → Bool} {join : K → K → K} (j : JoinsMarks has join) (ends : ℕ → ℕ) (s front bound : ℕ) where
   -- a copy stands at the front for one of its clones
   pub record AtFront (a : Copy S M N K) (c : ℕ) : Type 0 where
     pub good : Good s a.state
@@ -110,7 +118,8 @@ module _ {S M N K : Type 0} {sim : Simulation S M N} {Good : ℕ → S → Type 
     pub from_front : AllByRecursion (λ m. front ≤ sim.time m) (taken sim has ends c a.pending)
 
   -- what a copy had before the front shows in what it gained
-  pub gained_before : (a : Copy S M N K) (p : List (Entry M N)) → ((c : ℕ) → Carries has a c → AtFront a c) → Gains sim has ends s bound a p → before sim front p ≡ a.log
+  pub gained_before : (a : Copy S M N K) (p : List (Entry M N)) → ((c : ℕ) → Carries has a c → AtFront a c) →
+      Gains sim has ends s bound a p → before sim front p ≡ a.log
   gained_before a p at g =
       let cut = g.is_log in
       let c : ℕ = cut.clone in
@@ -134,8 +143,11 @@ module _ {S M N K : Type 0} {sim : Simulation S M N} {Good : ℕ → S → Type 
   counted_none = record { members = []; apart = tt; exact = λ x i. absurd i; all = λ x i. absurd i.1; number = refl }
 
   -- one copy more, whose log differs from those of the others
-  counted_more : (a : Copy S M N K) (old : List (Copy S M N K)) (m n : ℕ) → ((b : Copy S M N K) (c : ℕ) → In b (a ∷ old) → Carries has b c → AtFront b c) → ((b : Copy S M N K) (c d : ℕ) → In b old → Carries has a c → Carries has b d → a.log ≡ b.log → ⊥) →
-      IsCount (Gains sim has ends s bound a) m → IsCount (GainedBy sim has ends s bound old) n → IsCount (GainedBy sim has ends s bound (a ∷ old)) (m + n)
+  counted_more : (a : Copy S M N K) (old : List (Copy S M N K)) (m n : ℕ) →
+      ((b : Copy S M N K) (c : ℕ) → In b (a ∷ old) → Carries has b c → AtFront b c) →
+      ((b : Copy S M N K) (c d : ℕ) → In b old → Carries has a c → Carries has b d → a.log ≡ b.log → ⊥) →
+      IsCount (Gains sim has ends s bound a) m → IsCount (GainedBy sim has ends s bound old) n →
+      IsCount (GainedBy sim has ends s bound (a ∷ old)) (m + n)
   counted_more a old m n at differ x y =
       count_same (λ p. Gains sim has ends s bound a p ⊎ GainedBy sim has ends s bound old p) (GainedBy sim has ends s bound (a ∷ old)) (m + n)
       (λ p h. elim h [ inl g ↦ (a, inl refl, g) | inr g ↦ (g.0, inr g.1, g.2) ])
@@ -146,39 +158,50 @@ module _ {S M N K : Type 0} {sim : Simulation S M N} {Good : ℕ → S → Type 
       differ h.0 g.is_log.clone h.2.is_log.clone h.1 g.is_log.is_in h.2.is_log.is_in (sym e ∙ f)) x y)
 
   -- copies that gain together, and one more
-  pub together_push : (old : List (Copy S M N K)) (r : Copy S M N K) (n m : ℕ) → GainTogether sim has ends s bound old n → IsCount (Gains sim has ends s bound r) m → GainTogether sim has ends s bound (old ++ r ∷ []) (n + m)
+  pub together_push : (old : List (Copy S M N K)) (r : Copy S M N K) (n m : ℕ) → GainTogether sim has ends s bound old n →
+      IsCount (Gains sim has ends s bound r) m → GainTogether sim has ends s bound (old ++ r ∷ []) (n + m)
   together_push [] r n m e x = (m, 0, x, refl, omega (arith, e))
   together_push (a ∷ old) r n m h x = let e = h.4 in (h.0, h.1 + m, h.2, together_push old r h.1 m h.3 x, omega (arith, e))
 
   -- what a copy gained is the same whatever others have laid aside
-  pub gained_alone : (r : Copy S M N K) (out : List (M × K)) (n : ℕ) → ((c : ℕ) → Carries has r c → taken sim has ends c out ≡ []) → IsCount (IsGained (IsCutLog sim has ends s bound r out) r.log) n → IsCount (Gains sim has ends s bound r) n
+  pub gained_alone : (r : Copy S M N K) (out : List (M × K)) (n : ℕ) →
+      ((c : ℕ) → Carries has r c → taken sim has ends c out ≡ []) →
+      IsCount (IsGained (IsCutLog sim has ends s bound r out) r.log) n → IsCount (Gains sim has ends s bound r) n
   gained_alone r out n none h =
       let same : Narrowed sim has ends r r = record { state = refl; log = refl; within = λ c i. i; parts = λ c i. refl } in
       gained_same (IsCutLog sim has ends s bound r out) (IsCutLog sim has ends s bound r []) r.log n
       (λ l g. cut_of_some law j ends s bound r r [] out same none l g)
       (λ l g. cut_of_some law j ends s bound r r out [] same (λ c i. sym (none c i)) l g) h
 
-module _ {S M N K : Type 0} {sim : Simulation S M N} {Good : ℕ → S → Type 0} (law : HandlesLawfully sim Good) {has : K → ℕ → Bool} {join : K → K → K} (j : JoinsMarks has join) (cs : List Clone) (s front bound : ℕ) (old : List (Copy S M N K)) (st : Stands sim has cs front s old) where
+module _ {S M N K : Type 0} {sim : Simulation S M N} {Good : ℕ → S → Type 0} (law : HandlesLawfully sim Good)
+    {has : K → ℕ → Bool} {join : K → K → K} (j : JoinsMarks has join) (cs : List Clone) (s front bound : ℕ)
+    (old : List (Copy S M N K)) (st : Stands sim has cs front s old) where
   -- a copy's state is good
   pub good_state : (a : Copy S M N K) (c : ℕ) → In a old → Carries has a c → Good s a.state
-  good_state a c i h = subst (Good s) (sym (st.state a c i h)) ((run_reached law (clone_at cs c).plans (min front (end_of sim (clone_at cs c)))).1.good s)
+  good_state a c i h = subst (Good s) (sym (st.state a c i h))
+      ((run_reached law (clone_at cs c).plans (min front (end_of sim (clone_at cs c)))).1.good s)
 
   -- copies that stand for clones stand at the front
-  pub at_front : (a : Copy S M N K) (c : ℕ) → In a old → Carries has a c → AtFront law j (ends_of sim cs) s front bound a c
+  pub at_front : (a : Copy S M N K) (c : ℕ) → In a old → Carries has a c →
+      AtFront law j (ends_of sim cs) s front bound a c
   at_front a c i h = record {
     good = good_state a c i h;
     sorted = st.sorted a i;
-    log_before = ap (before sim front) (st.log a c i h) ∙ log_at_front law (clone_at cs c) s front front (omega arith) ∙ sym (st.log a c i h);
+    log_before = ap (before sim front) (st.log a c i h) ∙ log_at_front law (clone_at cs c) s front front (omega arith)
+        ∙ sym (st.log a c i h);
     from_front = subst (AllByRecursion (λ m. front ≤ sim.time m)) (sym (st.due a c i h)) (due_from_front law (clone_at cs c) s front);
   }
 
   -- copies with one log are one copy
-  pub one_copy : (a b : Copy S M N K) (c d : ℕ) → In a old → In b old → Carries has a c → Carries has b d → a.log ≡ b.log → a ≡ b
+  pub one_copy : (a b : Copy S M N K) (c d : ℕ) → In a old → In b old → Carries has a c → Carries has b d →
+      a.log ≡ b.log → a ≡ b
   one_copy a b c d i l h k e = st.shared a b c d i l h k (sym (st.log a c i h) ∙ e ∙ st.log b d l k)
 
   -- what the copies gain together is what one of them gains
-  counted_together : (xs : List (Copy S M N K)) (n : ℕ) → ((a : Copy S M N K) → In a xs → In a old) → Disjoint has xs → GainTogether sim has (ends_of sim cs) s bound xs n → IsCount (GainedBy sim has (ends_of sim cs) s bound xs) n
-  counted_together [] n within d e = subst (IsCount (GainedBy sim has (ends_of sim cs) s bound [])) (sym e) (counted_none law j (ends_of sim cs) s front bound)
+  counted_together : (xs : List (Copy S M N K)) (n : ℕ) → ((a : Copy S M N K) → In a xs → In a old) → Disjoint has xs →
+      GainTogether sim has (ends_of sim cs) s bound xs n → IsCount (GainedBy sim has (ends_of sim cs) s bound xs) n
+  counted_together [] n within d e = subst (IsCount (GainedBy sim has (ends_of sim cs) s bound [])) (sym e)
+      (counted_none law j (ends_of sim cs) s front bound)
   counted_together (a ∷ xs) n within d h =
       subst (IsCount (GainedBy sim has (ends_of sim cs) s bound (a ∷ xs))) (sym h.4)
       (counted_more law j (ends_of sim cs) s front bound a xs h.0 h.1 (λ b c i k. at_front b c (within b i) k)
@@ -189,7 +212,8 @@ module _ {S M N K : Type 0} {sim : Simulation S M N} {Good : ℕ → S → Type 
 
   module _ (later : front ≤ bound) (within : bound ≤ next_front sim cs front) where
     -- a copy's window for a clone gives the clone's log at the bound
-    alone_log : (a : Copy S M N K) (c : ℕ) → In a old → Carries has a c → (alone_from sim has (ends_of sim cs) s bound a c).at.log ≡ log_at sim (clone_at cs c) s bound
+    pub alone_log : (a : Copy S M N K) (c : ℕ) → In a old → Carries has a c →
+        (alone_from sim has (ends_of sim cs) s bound a c).at.log ≡ log_at sim (clone_at cs c) s bound
     alone_log a c i h =
         let k : Clone = clone_at cs c in
         let e : ℕ = ends_of sim cs c in
@@ -200,39 +224,60 @@ module _ {S M N K : Type 0} {sim : Simulation S M N} {Good : ℕ → S → Type 
         ∙ sym (w.log s)
 
     -- and so do the clone's turns
-    last_log : (a : Copy S M N K) (c : ℕ) (d : Config (Part S M N) M) → In a old → Carries has a c → Turns sim has (ends_of sim cs) s bound c (view sim has (ends_of sim cs) c a []) d → Settled sim has (ends_of sim cs) s bound d → d.at.log ≡ log_at sim (clone_at cs c) s bound
-    last_log a c d i h ran done = (ends_alone law j (ends_of sim cs) s bound a c d (good_state a c i h) (st.sorted a i) ran done).log ∙ alone_log a c i h
+    pub last_log : (a : Copy S M N K) (c : ℕ) (d : Config (Part S M N) M) → In a old → Carries has a c →
+        Turns sim has (ends_of sim cs) s bound c (view sim has (ends_of sim cs) c a []) d →
+        Settled sim has (ends_of sim cs) s bound d → d.at.log ≡ log_at sim (clone_at cs c) s bound
+    last_log a c d i h ran done = (ends_alone law j (ends_of sim cs) s bound a c d (good_state a c i h) (st.sorted a i) ran done).log
+        ∙ alone_log a c i h
 
     -- those over the limit are the clones whose logs at the bound are beyond it
-    pub over_is_beyond : (over : K) → AreOver sim has (ends_of sim cs) s bound old over → (c : ℕ) → (has over c ≡ true) ↔ ((c < length cs) × IsBeyond sim s bound (clone_at cs c))
+    pub over_is_beyond : (over : K) → AreOver sim has (ends_of sim cs) s bound old over → (c : ℕ) →
+        (has over c ≡ true) ↔ ((c < length cs) × IsBeyond sim s bound (clone_at cs c))
     over_is_beyond over h c = (
       (λ o. let x = h.from c o in (st.living x.0 c x.1 x.2, subst (λ l. sim.limit < length l) (alone_log x.0 c x.1 x.2) x.3)),
       (λ b. let x = st.carried c b.0 in h.all x.0 c x.1 x.2 (subst (λ l. sim.limit < length l) (sym (alone_log x.0 c x.1 x.2)) b.1)),
     )
 
-    -- the prefixes at the front, those at the bound, and those that were gained
+    -- the logs at the bound, each cut to the limit
+    abbrev cut_logs : List (List (Entry M N))
+    cut_logs = map (take sim.limit) (logs_at sim cs s bound)
+
+    -- the prefixes at the front, those of the cut logs at the bound, and those that were gained
     abbrev Early : List (Entry M N) → Type 0
     Early = IsGained (λ l. In l (logs_at sim cs s front)) []
 
-    -- those at the bound
+    -- those of the cut logs
     abbrev Late : List (Entry M N) → Type 0
-    Late = IsGained (λ l. In l (logs_at sim cs s bound)) []
+    Late = IsGained (λ l. In l cut_logs) []
 
     -- those that were gained
     abbrev New : List (Entry M N) → Type 0
     New = GainedBy sim has (ends_of sim cs) s bound old
 
-    -- handled once at the bound: what was at the front, and what the copies gained
-    pub handled_grows : (same : Entry M N → Entry M N → Bool) (total : ℕ) → ((x y : Entry M N) → Decides (same x y) (x ≡ y)) → ((c : ℕ) → c < length cs → length (log_at sim (clone_at cs c) s bound) ≤ sim.limit) →
-        GainTogether sim has (ends_of sim cs) s bound old total → handled sim same cs s bound ≡ handled sim same cs s front + total
-    handled_grows same total decides short together =
-        count_unique Late (handled sim same cs s bound) (handled sim same cs s front + total)
-        (prefixes_count same decides (logs_at sim cs s bound))
+    -- handled once at the bound, of no log more than the limit: what was at the front, and what the copies gained
+    pub handled_grows_to_limit : (same : Entry M N → Entry M N → Bool) (total : ℕ) →
+        ((x y : Entry M N) → Decides (same x y) (x ≡ y)) →
+        ((c : ℕ) → c < length cs → length (log_at sim (clone_at cs c) s front) ≤ sim.limit) →
+        GainTogether sim has (ends_of sim cs) s bound old total →
+        handled_to_limit sim same cs s bound ≡ handled sim same cs s front + total
+    handled_grows_to_limit same total decides short together =
+        count_unique Late (handled_to_limit sim same cs s bound) (handled sim same cs s front + total)
+        (prefixes_count same decides cut_logs)
         (count_same (λ p. Early p ⊎ New p) Late (handled sim same cs s front + total) (λ p h. elim h [ inl g ↦ late_if_early p g | inr g ↦ late_if_new p g ]) late_is
         (count_both Early New (handled sim same cs s front) total apart (prefixes_count same decides (logs_at sim cs s front)) (counted_together old total (λ a i. i) st.disjoint together)))
       where
         log_there : (f c : ℕ) → c < length cs → In (log_at sim (clone_at cs c) s f) (logs_at sim cs s f)
         log_there f c l = map_has (λ k. log_at sim k s f) cs (clone_at cs c) (clone_in cs c l)
+
+        cut_there : (c : ℕ) → c < length cs → In (take sim.limit (log_at sim (clone_at cs c) s bound)) cut_logs
+        cut_there c l = map_has (take sim.limit) (logs_at sim cs s bound) (log_at sim (clone_at cs c) s bound)
+            (log_there bound c l)
+
+        -- a cut log is the log at the front and what is left of the rest
+        cut_on : (c : ℕ) → c < length cs → (h : List (Entry M N)) →
+            log_at sim (clone_at cs c) s bound ≡ log_at sim (clone_at cs c) s front ++ h →
+            take sim.limit (log_at sim (clone_at cs c) s bound) ≡ log_at sim (clone_at cs c) s front ++ take (sim.limit - length (log_at sim (clone_at cs c) s front)) h
+        cut_on c l h e = ap (take sim.limit) e ∙ cut_goes_on sim.limit (log_at sim (clone_at cs c) s front) h (short c l)
 
         apart : (p : List (Entry M N)) → Early p → New p → ⊥
         apart p g h =
@@ -246,15 +291,18 @@ module _ {S M N K : Type 0} {sim : Simulation S M N} {Good : ℕ → S → Type 
         late_if_early : (p : List (Entry M N)) → Early p → Late p
         late_if_early p g =
             let k = in_map (λ k. log_at sim k s front) cs g.log g.is_log in
-            let h = log_goes_on law k.0 s front bound later in
+            let c = place_in cs k.0 k.1 in
+            let is : g.log ≡ log_at sim (clone_at cs c.0) s front = k.2 ∙ ap (λ k. log_at sim k s front) (sym c.2) in
+            let h = log_goes_on law (clone_at cs c.0) s front bound later in
+            let more : List (Entry M N) = take (sim.limit - length (log_at sim (clone_at cs c.0) s front)) h.0 in
             record {
-              log = log_at sim k.0 s bound;
-              is_log = map_has (λ k. log_at sim k s bound) cs k.0 k.1;
+              log = take sim.limit (log_at sim (clone_at cs c.0) s bound);
+              is_log = cut_there c.0 c.1;
               first = g.first;
               more = g.more;
-              rest = g.rest ++ h.0;
+              rest = g.rest ++ more;
               longer = g.longer;
-              prefix = h.1 ∙ ap (λ l. l ++ h.0) (sym k.2 ∙ g.prefix) ∙ append_assoc p g.rest h.0;
+              prefix = cut_on c.0 c.1 h.0 h.1 ∙ ap (λ l. l ++ more) (sym is ∙ g.prefix) ∙ append_assoc p g.rest more;
             }
 
         late_if_new : (p : List (Entry M N)) → New p → Late p
@@ -263,24 +311,27 @@ module _ {S M N K : Type 0} {sim : Simulation S M N} {Good : ℕ → S → Type 
             let cut = g.is_log in
             let n = begins_somehow h.0.log p g.first g.more g.longer in
             record {
-              log = log_at sim (clone_at cs cut.clone) s bound;
-              is_log = log_there bound cut.clone (st.living h.0 cut.clone h.1 cut.is_in);
+              log = take sim.limit (log_at sim (clone_at cs cut.clone) s bound);
+              is_log = cut_there cut.clone (st.living h.0 cut.clone h.1 cut.is_in);
               first = n.0;
               more = n.1;
-              rest = g.rest ++ drop sim.limit cut.last.at.log;
+              rest = g.rest;
               longer = n.2;
-              prefix = prefix_uncut sim.limit cut.last.at.log (log_at sim (clone_at cs cut.clone) s bound) g.log p g.rest (last_log h.0 cut.clone cut.last h.1 cut.is_in cut.ran cut.settled) cut.is g.prefix;
+              prefix = ap (take sim.limit) (sym (last_log h.0 cut.clone cut.last h.1 cut.is_in cut.ran cut.settled))
+                  ∙ sym cut.is ∙ g.prefix;
             }
 
         late_is : (p : List (Entry M N)) → Late p → Early p ⊎ New p
         late_is p g =
-            let k = in_map (λ k. log_at sim k s bound) cs g.log g.is_log in
+            let w = in_map (take sim.limit) (logs_at sim cs s bound) g.log g.is_log in
+            let k = in_map (λ k. log_at sim k s bound) cs w.0 w.1 in
             let c = place_in cs k.0 k.1 in
             let a = st.carried c.0 c.1 in
-            let is : g.log ≡ log_at sim (clone_at cs c.0) s bound = k.2 ∙ ap (λ k. log_at sim k s bound) (sym c.2) in
+            let is : g.log ≡ take sim.limit (log_at sim (clone_at cs c.0) s bound) = w.2 ∙ ap (take sim.limit) (k.2 ∙ ap (λ k. log_at sim k s bound) (sym c.2)) in
             let h = log_goes_on law (clone_at cs c.0) s front bound later in
-            let e : log_at sim (clone_at cs c.0) s front ++ h.0 ≡ p ++ g.rest = sym h.1 ∙ sym is ∙ g.prefix in
-            elim (one_goes_on (log_at sim (clone_at cs c.0) s front) h.0 p g.rest e) [
+            let more : List (Entry M N) = take (sim.limit - length (log_at sim (clone_at cs c.0) s front)) h.0 in
+            let e : log_at sim (clone_at cs c.0) s front ++ more ≡ p ++ g.rest = sym (cut_on c.0 c.1 h.0 h.1) ∙ sym is ∙ g.prefix in
+            elim (one_goes_on (log_at sim (clone_at cs c.0) s front) more p g.rest e) [
               | inl r ↦ inl (record { log = log_at sim (clone_at cs c.0) s front; is_log = log_there front c.0 c.1; first = g.first; more = g.more; rest = r.0; longer = g.longer; prefix = r.1 })
               | inr r ↦
                   let d = comes_to_end law j (ends_of sim cs) s bound a.0 [] c.0 (good_state a.0 c.0 a.1 a.2) (st.sorted a.0 a.1) in
@@ -289,20 +340,49 @@ module _ {S M N K : Type 0} {sim : Simulation S M N} {Good : ℕ → S → Type 
                     a.0,
                     a.1,
                     record {
-                      log = log_at sim (clone_at cs c.0) s bound;
-                      is_log = record { clone = c.0; is_in = a.2; last = d.0; ran = d.1; settled = d.2; is = uncut sim.limit d.0.at.log (log_at sim (clone_at cs c.0) s bound) (short c.0 c.1) there };
+                      log = g.log;
+                      is_log = record { clone = c.0; is_in = a.2; last = d.0; ran = d.1; settled = d.2; is = is ∙ ap (take sim.limit) (sym there) };
                       first = r.0;
                       more = r.1;
                       rest = g.rest;
                       longer = r.2 ∙ ap (λ l. l ++ r.0 ∷ r.1) (sym (st.log a.0 c.0 a.1 a.2));
-                      prefix = sym is ∙ g.prefix;
+                      prefix = g.prefix;
                     },
                   )
             ]
 
-module _ {S M N K : Type 0} {sim : Simulation S M N} {Good : ℕ → S → Type 0} (law : HandlesLawfully sim Good) {has : K → ℕ → Bool} {join : K → K → K} (j : JoinsMarks has join) (cs : List Clone) (s front : ℕ) (old : List (Copy S M N K)) (st : Stands sim has cs front s old) where
+    -- where no log gets too long, nothing is cut
+    pub handled_grows : (same : Entry M N → Entry M N → Bool) (total : ℕ) →
+        ((x y : Entry M N) → Decides (same x y) (x ≡ y)) →
+        ((c : ℕ) → c < length cs → length (log_at sim (clone_at cs c) s bound) ≤ sim.limit) →
+        GainTogether sim has (ends_of sim cs) s bound old total →
+        handled sim same cs s bound ≡ handled sim same cs s front + total
+    handled_grows same total decides short together =
+        ap (λ l. distinct_count (same_list same) (flat_map prefixes l)) (sym (none_cut sim.limit (logs_at sim cs s bound) (λ l i.
+        let k = in_map (λ k. log_at sim k s bound) cs l i in
+        let c = place_in cs k.0 k.1 in
+        subst (λ t. length t ≤ sim.limit) (ap (λ k. log_at sim k s bound) c.2 ∙ sym k.2) (short c.0 c.1))))
+        ∙ handled_grows_to_limit same total decides (λ c l. shorter_before law (clone_at cs c) s front bound sim.limit later (short c l)) together
+
+    -- and at most so much is handled once: as much as logs cut to the limit have
+    pub handled_is_few : (same : Entry M N → Entry M N → Bool) (total : ℕ) →
+        ((x y : Entry M N) → Decides (same x y) (x ≡ y)) →
+        ((c : ℕ) → c < length cs → length (log_at sim (clone_at cs c) s front) ≤ sim.limit) →
+        GainTogether sim has (ends_of sim cs) s bound old total →
+        handled sim same cs s front + total ≤ length cs * sim.limit
+    handled_is_few same total decides short together =
+        let e = handled_grows_to_limit same total decides short together in
+        let d : distinct_count (same_list same) (flat_map prefixes cut_logs) ≤ length (flat_map prefixes cut_logs) = distinct_count-le (same_list same) (flat_map prefixes cut_logs) in
+        let f : length (flat_map prefixes cut_logs) ≤ length (logs_at sim cs s bound) * sim.limit = few_prefixes sim.limit (logs_at sim cs s bound) in
+        let n : length (logs_at sim cs s bound) * sim.limit ≡ length cs * sim.limit = ap (λ k. k * sim.limit) (length-map cs (λ c. log_at sim c s bound)) in
+        omega (arith, e, d, f, n)
+
+module _ {S M N K : Type 0} {sim : Simulation S M N} {Good : ℕ → S → Type 0} (law : HandlesLawfully sim Good)
+    {has : K → ℕ → Bool} {join : K → K → K} (j : JoinsMarks has join) (cs : List Clone) (s front : ℕ)
+    (old : List (Copy S M N K)) (st : Stands sim has cs front s old) where
   -- copies that are apart have different logs
-  logs_apart : (xs : List (Copy S M N K)) → ((a : Copy S M N K) → In a xs → In a old) → Disjoint has xs → Apart (map (λ a. a.log) xs)
+  logs_apart : (xs : List (Copy S M N K)) → ((a : Copy S M N K) → In a xs → In a old) → Disjoint has xs →
+      Apart (map (λ a. a.log) xs)
   logs_apart [] within d = tt
   logs_apart (x ∷ xs) within d = (
     (λ i.
@@ -315,7 +395,8 @@ module _ {S M N K : Type 0} {sim : Simulation S M N} {Good : ℕ → S → Type 
   )
 
   -- there are as many copies as different logs
-  pub copies_are_logs : (same : Entry M N → Entry M N → Bool) → ((x y : Entry M N) → Decides (same x y) (x ≡ y)) → copies sim same cs s front ≡ length old
+  pub copies_are_logs : (same : Entry M N → Entry M N → Bool) → ((x y : Entry M N) → Decides (same x y) (x ≡ y)) →
+      copies sim same cs s front ≡ length old
   copies_are_logs same decides =
       count_unique (λ l. In l (logs_at sim cs s front)) (copies sim same cs s front) (length old)
       (distinct_is_count (same_list same) (same_list-Decides same decides) (logs_at sim cs s front))

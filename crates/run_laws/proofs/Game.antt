@@ -51,11 +51,14 @@ one_of_two x y z false true (inr n) = absurd n
 one_of_two x y z false false i = absurd i
 
 -- what is sent is the ball, thrown back, or its bounce
-thrown : (s : ℕ) (m z : Ball) → In z (thrown_back s m) → (z ≡ ball (m.time + 3) 0 (3 - s)) ⊎ (z ≡ ball (m.time + 1) (m.number + 10) s)
-thrown s m z i = one_of_two (ball (m.time + 3) 0 (3 - s)) (ball (m.time + 1) (m.number + 10) s) z (m.number == 0) (nat_lt m.number 10) i
+thrown : (s : ℕ) (m z : Ball) → In z (thrown_back s m) →
+    (z ≡ ball (m.time + 3) 0 (3 - s)) ⊎ (z ≡ ball (m.time + 1) (m.number + 10) s)
+thrown s m z i = one_of_two (ball (m.time + 3) 0 (3 - s)) (ball (m.time + 1) (m.number + 10) s) z (m.number == 0)
+    (nat_lt m.number 10) i
 
 -- what is sent comes later
-all_later : (t : ℕ) (x y : Ball) (b c : Bool) → t < x.time → t < y.time → AllByRecursion (λ z. t < z.time) (cond b (x ∷ []) (cond c (y ∷ []) []))
+all_later : (t : ℕ) (x y : Ball) (b c : Bool) → t < x.time → t < y.time →
+    AllByRecursion (λ z. t < z.time) (cond b (x ∷ []) (cond c (y ∷ []) []))
 all_later t x y true c h k = (h, tt)
 all_later t x y false true h k = (k, tt)
 all_later t x y false false h k = tt
@@ -74,7 +77,8 @@ game_is_lawful = record {
 }
 
 -- the one ball that is there at the start
-first_ball : (s : ℕ) (m : Ball) (b : Bool) → (s == 1) ≡ b → cond b (Some (ball 2 0 1)) None ≡ Some m → (s ≡ 1) × (m ≡ ball 2 0 1)
+first_ball : (s : ℕ) (m : Ball) (b : Bool) → (s == 1) ≡ b → cond b (Some (ball 2 0 1)) None ≡ Some m →
+    (s ≡ 1) × (m ≡ ball 2 0 1)
 first_ball s m true e f = elim (cases_eq s 1) [
   | inl is ↦ (is, cc)
   | inr n ↦ let h = sym (ne_eqb s 1 n) ∙ e in let k : ⊥ = cc in absurd k

@@ -20,12 +20,15 @@ use Rattle.run_laws.proofs.Worlds.{world_lawful, begins_fine, run_fine}
 
 module _ {S M N : Type 0} (sim : Simulation S M N) where
   -- the last decision has the place after the others
-  planned-push : (k : ℕ) (plans : List Planned) (p : Planned) → planned sim k (plans ++ p ∷ []) ≡ planned sim k plans ++ sim.decided (k + length plans) p ∷ []
+  planned-push : (k : ℕ) (plans : List Planned) (p : Planned) →
+      planned sim k (plans ++ p ∷ []) ≡ planned sim k plans ++ sim.decided (k + length plans) p ∷ []
   planned-push k [] p = ap (λ n. sim.decided n p ∷ []) (let e : k ≡ k + 0 = omega arith in e)
-  planned-push k (x ∷ plans) p = ap (λ l. sim.decided k x ∷ l) (planned-push (suc k) plans p ∙ ap (λ n. planned sim (suc k) plans ++ sim.decided n p ∷ []) (let e : suc k + length plans ≡ k + suc (length plans) = omega arith in e))
+  planned-push k (x ∷ plans) p = ap (λ l. sim.decided k x ∷ l)
+      (planned-push (suc k) plans p ∙ ap (λ n. planned sim (suc k) plans ++ sim.decided n p ∷ []) (let e : suc k + length plans ≡ k + suc (length plans) = omega arith in e))
 
   -- a world with one decision more begins with one message more
-  begin-push : (plans : List Planned) (p : Planned) → begin sim (plans ++ p ∷ []) ≡ and_pending sim.order (sim.decided (length plans) p) (begin sim plans)
+  begin-push : (plans : List Planned) (p : Planned) →
+      begin sim (plans ++ p ∷ []) ≡ and_pending sim.order (sim.decided (length plans) p) (begin sim plans)
   begin-push plans p =
       let m = sim.decided (length plans) p in
       let first = openings sim sim.stations in
@@ -37,12 +40,14 @@ module _ {S M N : Type 0} (sim : Simulation S M N) where
       ap (λ q. record { at = (begin sim plans).at; pending = q }) all
 
 -- a message that passes two tests, one after the other
-both_tests : {M : Type 0} (cmp : M → M → Ordering) (b a : Bool) (m : M) (d l r : List M) → l ≡ cond a (insert cmp m r) r → cond b l r ≡ cond (b && a) (insert cmp m r) r
+both_tests : {M : Type 0} (cmp : M → M → Ordering) (b a : Bool) (m : M) (d l r : List M) → l ≡ cond a (insert cmp m r) r →
+    cond b l r ≡ cond (b && a) (insert cmp m r) r
 both_tests cmp true a m d l r e = e
 both_tests cmp false a m d l r e = refl
 
 -- a test of a list that depends on a condition
-filter-cond : {X : Type 0} (p : X → Bool) (b : Bool) (l r : List X) → filter p (cond b l r) ≡ cond b (filter p l) (filter p r)
+filter-cond : {X : Type 0} (p : X → Bool) (b : Bool) (l r : List X) →
+    filter p (cond b l r) ≡ cond b (filter p l) (filter p r)
 filter-cond p true l r = refl
 filter-cond p false l r = refl
 
@@ -56,10 +61,12 @@ module _ {S M N : Type 0} {sim : Simulation S M N} {Good : ℕ → S → Type 0}
 
   -- what is due is in order
   pub due_sorted : (c : Clone) (front : ℕ) → Sorted sim.order (all_due sim c front)
-  due_sorted c front = sorted_filter sim.order (λ m. nat_lt (sim.time m) (end_of sim c)) (run_of sim c front).pending (run_fine law c.plans (min front (end_of sim c))).sorted
+  due_sorted c front = sorted_filter sim.order (λ m. nat_lt (sim.time m) (end_of sim c))
+      (run_of sim c front).pending (run_fine law c.plans (min front (end_of sim c))).sorted
 
   -- a decision at or after a front adds its message to what is due there
-  pub late_decision_adds_due : (c : Clone) (p : Planned) (front : ℕ) → front ≤ sim.time (sim.decided (length c.plans) p) → AddsDue sim c p (sim.decided (length c.plans) p) front
+  pub late_decision_adds_due : (c : Clone) (p : Planned) (front : ℕ) → front ≤ sim.time (sim.decided (length c.plans) p) →
+      AddsDue sim c p (sim.decided (length c.plans) p) front
   late_decision_adds_due c p front l =
       let m = sim.decided (length c.plans) p in
       let end : ℕ = end_of sim c in
@@ -79,8 +86,10 @@ module _ {S M N : Type 0} {sim : Simulation S M N} {Good : ℕ → S → Type 0}
       }
 
   -- of two ends the earlier counts
-  earlier_end : (q : List M) (at end : ℕ) → at ≤ end → Sorted sim.order q → earlier_than sim.time at q ≡ earlier_than sim.time at (earlier_than sim.time end q)
-  earlier_end q at end l s = same_elements law.order.order (earlier_than sim.time at q) (earlier_than sim.time at (earlier_than sim.time end q))
+  earlier_end : (q : List M) (at end : ℕ) → at ≤ end → Sorted sim.order q →
+      earlier_than sim.time at q ≡ earlier_than sim.time at (earlier_than sim.time end q)
+  earlier_end q at end l s = same_elements law.order.order (earlier_than sim.time at q)
+      (earlier_than sim.time at (earlier_than sim.time end q))
       (sorted_filter sim.order (λ m. nat_lt (sim.time m) at) q s)
       (sorted_filter sim.order (λ m. nat_lt (sim.time m) at) (earlier_than sim.time end q) (sorted_filter sim.order (λ m. nat_lt (sim.time m) end) q s))
       (λ z i. let h = in_filter (λ m. nat_lt (sim.time m) at) q z i in
@@ -100,5 +109,6 @@ module _ {S M N : Type 0} {sim : Simulation S M N} {Good : ℕ → S → Type 0}
       record {
         world = ap (λ w. w.at) is;
         due = d;
-        due_here = λ s. ap (to_it sim.to s) d ∙ filter_swap (λ m. sim.to m == s) (λ m. nat_lt (sim.time m) at) (all_due sim c front);
+        due_here = λ s. ap (to_it sim.to s) d
+            ∙ filter_swap (λ m. sim.to m == s) (λ m. nat_lt (sim.time m) at) (all_due sim c front);
       }

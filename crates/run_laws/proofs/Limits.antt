@@ -8,21 +8,25 @@ use Rattle.run_laws.specs.Simulation.{Simulation}
 use Rattle.run_laws.specs.Window.{part_step}
 use Rattle.run_laws.specs.Handlers.{IsTimed}
 use Rattle.run_laws.specs.Prefixes.{IsCount, IsGained}
-use Rattle.run_laws.specs.Copies.{Copy, Carries, JoinsMarks, SortedMarked, handle_until, handled_by, laid_aside, takes, taken, view, Settled, IsCutLog, GoesOver}
+use Rattle.sim_base.specs.Marked.{JoinsMarks, SortedMarked}
+use Rattle.run_laws.specs.Copies.{Copy, Carries, handle_until, handled_by, laid_aside, takes, taken, view, Settled, IsCutLog, GoesOver}
 use Rattle.run_laws.proofs.Machine.{reach_first, reach_trans, done_stays, done_no_next}
 use Rattle.run_laws.proofs.Parts.{sorted_part}
 use Rattle.run_laws.proofs.Prefixes.{gained_none, gained_more, gained_both, gained_same}
 use Rattle.run_laws.proofs.CopyViews.{append_cancel, new_entry, log_grows, log_begins, firsts_part, settled_or_next, handled_view}
 
 -- a list that goes on, cut where its first part is not longer than the limit
-cut_goes_on : {E : Type 0} (limit : ℕ) (xs g : List E) → length xs ≤ limit → take limit (xs ++ g) ≡ xs ++ take (limit - length xs) g
+pub cut_goes_on : {E : Type 0} (limit : ℕ) (xs g : List E) → length xs ≤ limit →
+    take limit (xs ++ g) ≡ xs ++ take (limit - length xs) g
 cut_goes_on limit [] g l = ap (λ n. take n g) (let e : limit ≡ limit - 0 = omega arith in e)
 cut_goes_on zero (x ∷ xs) g l = absurd (omega arith)
-cut_goes_on (suc limit) (x ∷ xs) g l = ap (λ u. x ∷ u) (cut_goes_on limit xs g (omega arith) ∙ ap (λ n. xs ++ take n g) (let e : limit - length xs ≡ suc limit - suc (length xs) = omega arith in e))
+cut_goes_on (suc limit) (x ∷ xs) g l = ap (λ u. x ∷ u)
+    (cut_goes_on limit xs g (omega arith) ∙ ap (λ n. xs ++ take n g) (let e : limit - length xs ≡ suc limit - suc (length xs) = omega arith in e))
 
 -- cut where its first part ends, a list is that part
 cut_at : {E : Type 0} (limit : ℕ) (xs g : List E) → length xs ≡ limit → take limit (xs ++ g) ≡ xs
-cut_at limit xs g e = cut_goes_on limit xs g (omega (arith, e)) ∙ (ap (λ n. xs ++ take n g) (let d : limit - length xs ≡ 0 = omega (arith, e) in d) ∙ append-nil xs)
+cut_at limit xs g e = cut_goes_on limit xs g (omega (arith, e))
+    ∙ (ap (λ n. xs ++ take n g) (let d : limit - length xs ≡ 0 = omega (arith, e) in d) ∙ append-nil xs)
 
 -- a cut list begins as the list
 first_of_cut : {E : Type 0} (n : ℕ) (g : List E) (x : E) (u : List E) → take n g ≡ x ∷ u → (v : List E) × (g ≡ x ∷ v)
@@ -31,7 +35,8 @@ first_of_cut (suc n) [] x u e = absurd (cc)
 first_of_cut (suc n) (y ∷ g) x u e = let h : y ≡ x = cc in (g, ap (λ t. t ∷ g) h)
 
 -- a log that goes on behind one entry more, cut
-cut_more : {E : Type 0} (limit : ℕ) (short : List E) (x : E) (log l : List E) → length short < limit → l ≡ take limit log → (g : List E) × (log ≡ (short ++ x ∷ []) ++ g) → (g : List E) × (l ≡ (short ++ x ∷ []) ++ g)
+cut_more : {E : Type 0} (limit : ℕ) (short : List E) (x : E) (log l : List E) → length short < limit →
+    l ≡ take limit log → (g : List E) × (log ≡ (short ++ x ∷ []) ++ g) → (g : List E) × (l ≡ (short ++ x ∷ []) ++ g)
 cut_more limit short x log l room e h =
     let b = length-append short (x ∷ []) in
     let c : length (x ∷ []) ≡ 1 = refl in
@@ -40,18 +45,22 @@ cut_more limit short x log l room e h =
 
 module _ {S M N K : Type 0} (sim : Simulation S M N) (has : K → ℕ → Bool) (ends : ℕ → ℕ) (s bound : ℕ) where
   -- a copy whose clones are settled gains nothing
-  pub cut_done : (r : Copy S M N K) (sent : List (M × K)) → length r.log ≤ sim.limit → ((c : ℕ) → Carries has r c → Settled sim has ends s bound (view sim has ends c r sent)) → IsCount (IsGained (IsCutLog sim has ends s bound r sent) r.log) 0
+  pub cut_done : (r : Copy S M N K) (sent : List (M × K)) → length r.log ≤ sim.limit →
+      ((c : ℕ) → Carries has r c → Settled sim has ends s bound (view sim has ends c r sent)) →
+      IsCount (IsGained (IsCutLog sim has ends s bound r sent) r.log) 0
   cut_done r sent l f = gained_none (IsCutLog sim has ends s bound r sent) r.log (λ k h.
       let e = done_stays (f h.clone h.is_in) h.ran in
       h.is ∙ (ap (λ u. take sim.limit u.at.log) e ∙ take_all sim.limit r.log l))
 
   -- a copy whose log is as long as it may be gains nothing
-  pub cut_full : (r : Copy S M N K) (sent : List (M × K)) → length r.log ≡ sim.limit → IsCount (IsGained (IsCutLog sim has ends s bound r sent) r.log) 0
+  pub cut_full : (r : Copy S M N K) (sent : List (M × K)) → length r.log ≡ sim.limit →
+      IsCount (IsGained (IsCutLog sim has ends s bound r sent) r.log) 0
   cut_full r sent e = gained_none (IsCutLog sim has ends s bound r sent) r.log (λ k h.
       let g = log_grows sim s bound (ends h.clone) h.ran in h.is ∙ (ap (take sim.limit) g.1 ∙ cut_at sim.limit r.log g.0 e))
 
   -- a clone of such a copy that takes a message before the bound goes over the limit
-  pub goes_over : (r : Copy S M N K) (sent : List (M × K)) (c : ℕ) (m : M) (q : List M) → length r.log ≡ sim.limit → taken sim has ends c r.pending ≡ m ∷ q → sim.time m < bound → GoesOver sim has ends s bound r sent c
+  pub goes_over : (r : Copy S M N K) (sent : List (M × K)) (c : ℕ) (m : M) (q : List M) → length r.log ≡ sim.limit →
+      taken sim has ends c r.pending ≡ m ∷ q → sim.time m < bound → GoesOver sim has ends s bound r sent c
   goes_over r sent c m q e p early d ran done =
       let h = log_begins sim s bound (ends c) (view sim has ends c r sent) d m q p early ran done in
       let x : Entry M N = new_entry sim s bound r.state m in
@@ -61,7 +70,9 @@ module _ {S M N K : Type 0} (sim : Simulation S M N) (has : K → ℕ → Bool) 
       omega (arith, e, a, b, k)
 
   -- what a cut log gained first, the log gained first
-  first_gained : (r : Copy S M N K) (sent : List (M × K)) (t : List (Entry M N)) (g : IsCutLog sim has ends s bound r sent t) (x : Entry M N) (u : List (Entry M N)) → length r.log ≤ sim.limit → t ≡ r.log ++ x ∷ u → (v : List (Entry M N)) × (g.last.at.log ≡ r.log ++ x ∷ v)
+  first_gained : (r : Copy S M N K) (sent : List (M × K)) (t : List (Entry M N))
+      (g : IsCutLog sim has ends s bound r sent t) (x : Entry M N) (u : List (Entry M N)) → length r.log ≤ sim.limit →
+      t ≡ r.log ++ x ∷ u → (v : List (Entry M N)) × (g.last.at.log ≡ r.log ++ x ∷ v)
   first_gained r sent t g x u l e =
       let h = log_grows sim s bound (ends g.clone) g.ran in
       let k : x ∷ u ≡ take (sim.limit - length r.log) h.0 = append_cancel r.log (x ∷ u) (take (sim.limit - length r.log) h.0) (sym e ∙ (g.is ∙ (ap (take sim.limit) h.1 ∙ cut_goes_on sim.limit r.log h.0 l))) in
@@ -69,12 +80,16 @@ module _ {S M N K : Type 0} (sim : Simulation S M N) (has : K → ℕ → Bool) 
       (f.0, h.1 ∙ ap (λ w. r.log ++ w) f.1)
 
   -- the clones that take m and those that do not gain different prefixes
-  pub cut_split : (o : IsTimed sim.order sim.time) (r : Copy S M N K) (sent : List (M × K)) (One Two : List (Entry M N) → Type 0) (i j : ℕ) (m : M) → length r.log ≤ sim.limit → sim.time m < bound →
+  pub cut_split : (o : IsTimed sim.order sim.time) (r : Copy S M N K) (sent : List (M × K))
+      (One Two : List (Entry M N) → Type 0) (i j : ℕ) (m : M) → length r.log ≤ sim.limit → sim.time m < bound →
       ((l : List (Entry M N)) → One l → (g : IsCutLog sim has ends s bound r sent l) × (q : List M) × (taken sim has ends g.clone r.pending ≡ m ∷ q)) →
       ((l : List (Entry M N)) → Two l → (g : IsCutLog sim has ends s bound r sent l) × ((z : M) → In z (taken sim has ends g.clone r.pending) → z ≡ m → ⊥)) →
-      ((l : List (Entry M N)) → IsCutLog sim has ends s bound r sent l → One l ⊎ Two l) → SortedMarked sim.order r.pending →
-      IsCount (IsGained One r.log) i → IsCount (IsGained Two r.log) j → IsCount (IsGained (IsCutLog sim has ends s bound r sent) r.log) (i + j)
-  cut_split o r sent One Two i j m l early f g both sorted a b = gained_same (λ k. One k ⊎ Two k) (IsCutLog sim has ends s bound r sent) r.log (i + j)
+      ((l : List (Entry M N)) → IsCutLog sim has ends s bound r sent l → One l ⊎ Two l) →
+      SortedMarked sim.order r.pending →
+      IsCount (IsGained One r.log) i → IsCount (IsGained Two r.log) j →
+      IsCount (IsGained (IsCutLog sim has ends s bound r sent) r.log) (i + j)
+  cut_split o r sent One Two i j m l early f g both sorted a b = gained_same (λ k. One k ⊎ Two k)
+      (IsCutLog sim has ends s bound r sent) r.log (i + j)
       (λ k h. elim h [ inl x ↦ (f k x).0 | inr x ↦ (g k x).0 ]) both
       (gained_both One Two r.log i j (λ x u v p1 p2.
       let h1 = f (r.log ++ x ∷ u) p1 in
@@ -85,11 +100,15 @@ module _ {S M N K : Type 0} (sim : Simulation S M N) (has : K → ℕ → Bool) 
       (settled_or_next sim s bound o (view sim has ends h2.0.clone r sent) (sorted_part (takes sim has ends) sim.order h2.0.clone r.pending sorted))
       h1.0.ran h1.0.settled h2.0.ran h2.0.settled k1.1 k2.1) a b)
 
-module _ {S M N K : Type 0} (sim : Simulation S M N) {has : K → ℕ → Bool} {join : K → K → K} (j : JoinsMarks has join) (ends : ℕ → ℕ) (o : IsTimed sim.order sim.time) (s bound : ℕ) where
+module _ {S M N K : Type 0} (sim : Simulation S M N) {has : K → ℕ → Bool} {join : K → K → K} (j : JoinsMarks has join)
+    (ends : ℕ → ℕ) (o : IsTimed sim.order sim.time) (s bound : ℕ) where
   -- one shared handling gains one prefix
-  pub cut_handle : (r : Copy S M N K) (m : M) (k : K) (q sent : List (M × K)) (n : ℕ) (some : (l : List (Entry M N)) × IsCutLog sim has ends s bound r sent l) → length r.log < sim.limit →
-      r.pending ≡ (m, k) ∷ q → SortedMarked sim.order r.pending → ((c : ℕ) → Carries has r c → takes sim has ends m k c ≡ true) → sim.time m < bound →
-      IsCount (IsGained (IsCutLog sim has ends s bound (handled_by sim join s r m q) (sent ++ laid_aside sim s r m)) (handled_by sim join s r m q).log) n → IsCount (IsGained (IsCutLog sim has ends s bound r sent) r.log) (n + 1)
+  pub cut_handle : (r : Copy S M N K) (m : M) (k : K) (q sent : List (M × K)) (n : ℕ)
+      (some : (l : List (Entry M N)) × IsCutLog sim has ends s bound r sent l) → length r.log < sim.limit →
+      r.pending ≡ (m, k) ∷ q → SortedMarked sim.order r.pending →
+      ((c : ℕ) → Carries has r c → takes sim has ends m k c ≡ true) → sim.time m < bound →
+      IsCount (IsGained (IsCutLog sim has ends s bound (handled_by sim join s r m q) (sent ++ laid_aside sim s r m)) (handled_by sim join s r m q).log) n →
+      IsCount (IsGained (IsCutLog sim has ends s bound r sent) r.log) (n + 1)
   cut_handle r m k q sent n some l p sorted all early h =
       let x : Entry M N = new_entry sim s bound r.state m in
       let new : Copy S M N K = handled_by sim join s r m q in

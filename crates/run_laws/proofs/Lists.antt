@@ -11,7 +11,8 @@ use Rattle.run_laws.specs.Window.{to_others}
 use Rattle.run_laws.proofs.Queue.{all_in, all_from, in_insert, insert_old, insert_new, sorted_insert, same_elements}
 
 -- what is in a list with one element more, on a condition
-pub in_cons_if : {X : Type 0} (b : Bool) (x : X) (xs : List X) (z : X) → In z (cond b (x ∷ xs) xs) → ((b ≡ true) × (z ≡ x)) ⊎ In z xs
+pub in_cons_if : {X : Type 0} (b : Bool) (x : X) (xs : List X) (z : X) → In z (cond b (x ∷ xs) xs) →
+    ((b ≡ true) × (z ≡ x)) ⊎ In z xs
 in_cons_if true x xs z (inl e) = inl (refl, e)
 in_cons_if true x xs z (inr j) = inr j
 in_cons_if false x xs z j = inr j
@@ -41,14 +42,18 @@ filter_keeps p (x ∷ xs) z (inl e) t = cons_if_new (p x) x (filter p xs) z (ap 
 filter_keeps p (x ∷ xs) z (inr j) t = cons_if_old (p x) x (filter p xs) z (filter_keeps p xs z j t)
 
 -- a first element that comes before all keeps the order, on any condition
-sorted_cons_if : {X : Type 0} (cmp : X → X → Ordering) (b : Bool) (x : X) (xs : List X) → AllByRecursion (λ y. cmp x y ≡ Less) xs → Sorted cmp xs → Sorted cmp (cond b (x ∷ xs) xs)
+sorted_cons_if : {X : Type 0} (cmp : X → X → Ordering) (b : Bool) (x : X) (xs : List X) →
+    AllByRecursion (λ y. cmp x y ≡ Less) xs → Sorted cmp xs → Sorted cmp (cond b (x ∷ xs) xs)
 sorted_cons_if cmp true x xs f s = (f, s)
 sorted_cons_if cmp false x xs f s = s
 
 -- a test keeps the order
-pub sorted_filter : {X : Type 0} (cmp : X → X → Ordering) (p : X → Bool) (xs : List X) → Sorted cmp xs → Sorted cmp (filter p xs)
+pub sorted_filter : {X : Type 0} (cmp : X → X → Ordering) (p : X → Bool) (xs : List X) → Sorted cmp xs →
+    Sorted cmp (filter p xs)
 sorted_filter cmp p [] s = tt
-sorted_filter cmp p (x ∷ xs) s = sorted_cons_if cmp (p x) x (filter p xs) (all_from (λ y. cmp x y ≡ Less) (filter p xs) (λ z i. all_in (λ y. cmp x y ≡ Less) xs z s.0 (in_filter p xs z i).0)) (sorted_filter cmp p xs s.1)
+sorted_filter cmp p (x ∷ xs) s = sorted_cons_if cmp (p x) x (filter p xs)
+    (all_from (λ y. cmp x y ≡ Less) (filter p xs) (λ z i. all_in (λ y. cmp x y ≡ Less) xs z s.0 (in_filter p xs z i).0))
+    (sorted_filter cmp p xs s.1)
 
 -- where all pass, nothing is left out
 pub filter_all : {X : Type 0} (p : X → Bool) (xs : List X) → AllByRecursion (λ x. p x ≡ true) xs → filter p xs ≡ xs
@@ -61,7 +66,8 @@ filter_none p [] f = refl
 filter_none p (x ∷ xs) f = ap (λ b. cond b (x ∷ filter p xs) (filter p xs)) f.0 ∙ filter_none p xs f.1
 
 -- a test of a list with one element more, on a condition
-filter_if : {X : Type 0} (p : X → Bool) (b : Bool) (x : X) (xs : List X) → filter p (cond b (x ∷ xs) xs) ≡ cond b (cond (p x) (x ∷ filter p xs) (filter p xs)) (filter p xs)
+filter_if : {X : Type 0} (p : X → Bool) (b : Bool) (x : X) (xs : List X) →
+    filter p (cond b (x ∷ xs) xs) ≡ cond b (cond (p x) (x ∷ filter p xs) (filter p xs)) (filter p xs)
 filter_if p true x xs = refl
 filter_if p false x xs = refl
 
@@ -81,7 +87,8 @@ filter_swap p r (x ∷ xs) =
     ∙ if_if (p x) (r x) x (filter r (filter p xs))
     ∙ sym (filter_if r (p x) x (filter p xs))
 
-module _ {X : Type 0} {cmp : X → X → Ordering} (o : IsOrder cmp) (p : X → Bool) (x : X) (q : List X) (s : Sorted cmp q) where
+module _ {X : Type 0} {cmp : X → X → Ordering} (o : IsOrder cmp) (p : X → Bool) (x : X) (q : List X)
+    (s : Sorted cmp q) where
   -- by whether the new element passes
   filter_insert_by : (b : Bool) → p x ≡ b → filter p (insert cmp x q) ≡ cond b (insert cmp x (filter p q)) (filter p q)
   filter_insert_by true e = same_elements o (filter p (insert cmp x q)) (insert cmp x (filter p q))
@@ -111,20 +118,19 @@ module _ {X : Type 0} {cmp : X → X → Ordering} (o : IsOrder cmp) (p : X → 
 -- tests that agree leave the same
 pub filter-congr : {X : Type 0} (p r : X → Bool) (xs : List X) → ((x : X) → p x ≡ r x) → filter p xs ≡ filter r xs
 filter-congr p r [] f = refl
-filter-congr p r (x ∷ xs) f = ap (λ l. cond (p x) (x ∷ l) l) (filter-congr p r xs f) ∙ ap (λ b. cond b (x ∷ filter r xs) (filter r xs)) (f x)
-
--- a test twice is the test once
-pub filter_twice : {X : Type 0} (p : X → Bool) (xs : List X) → filter p (filter p xs) ≡ filter p xs
-filter_twice p xs = filter_all p (filter p xs) (all_from (λ x. p x ≡ true) (filter p xs) (λ x i. (in_filter p xs x i).1))
+filter-congr p r (x ∷ xs) f = ap (λ l. cond (p x) (x ∷ l) l) (filter-congr p r xs f)
+    ∙ ap (λ b. cond b (x ∷ filter r xs) (filter r xs)) (f x)
 
 module _ {X : Type 0} {cmp : X → X → Ordering} (o : IsOrder cmp) (p : X → Bool) where
   -- an insertion on a condition goes first or not at all
-  insert_all-cond : (b : Bool) (x : X) (xs q : List X) → insert_all cmp xs (cond b (insert cmp x q) q) ≡ insert_all cmp (cond b (x ∷ xs) xs) q
+  insert_all-cond : (b : Bool) (x : X) (xs q : List X) →
+      insert_all cmp xs (cond b (insert cmp x q) q) ≡ insert_all cmp (cond b (x ∷ xs) xs) q
   insert_all-cond true x xs q = refl
   insert_all-cond false x xs q = refl
 
   -- what a test leaves of the insertion of several
-  pub filter-insert_all : (xs q : List X) → Sorted cmp q → filter p (insert_all cmp xs q) ≡ insert_all cmp (filter p xs) (filter p q)
+  pub filter-insert_all : (xs q : List X) → Sorted cmp q →
+      filter p (insert_all cmp xs q) ≡ insert_all cmp (filter p xs) (filter p q)
   filter-insert_all [] q s = refl
   filter-insert_all (x ∷ xs) q s =
       filter-insert_all xs (insert cmp x q) (sorted_insert o x q s)
@@ -149,12 +155,14 @@ append_new [] ys z i = i
 append_new (x ∷ xs) ys z i = inr (append_new xs ys z i)
 
 -- what holds of all, and of one more
-pub all_append : {X : Type 0} (P : X → Type 0) (xs : List X) (y : X) → AllByRecursion P xs → P y → AllByRecursion P (xs ++ y ∷ [])
+pub all_append : {X : Type 0} (P : X → Type 0) (xs : List X) (y : X) → AllByRecursion P xs → P y →
+    AllByRecursion P (xs ++ y ∷ [])
 all_append P [] y f p = (p, tt)
 all_append P (x ∷ xs) y f p = (f.0, all_append P xs y f.1 p)
 
 -- an element behind all is in order at the end
-pub sorted_append : {X : Type 0} (cmp : X → X → Ordering) (xs : List X) (y : X) → Sorted cmp xs → AllByRecursion (λ x. cmp x y ≡ Less) xs → Sorted cmp (xs ++ y ∷ [])
+pub sorted_append : {X : Type 0} (cmp : X → X → Ordering) (xs : List X) (y : X) → Sorted cmp xs →
+    AllByRecursion (λ x. cmp x y ≡ Less) xs → Sorted cmp (xs ++ y ∷ [])
 sorted_append cmp [] y s f = (tt, tt)
 sorted_append cmp (x ∷ xs) y s f = (all_append (λ z. cmp x z ≡ Less) xs y s.0 f.0, sorted_append cmp xs y s.1 f.1)
 

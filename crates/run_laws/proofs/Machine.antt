@@ -14,12 +14,14 @@ module _ {X M : Type 0} {cmp : M → M → Ordering} {time : M → ℕ} {handle 
       n.is ∙ ap (λ m. after cmp handle d.at m n.q) a ∙ ap (λ q. after cmp handle d.at k.m q) b ∙ sym k.is
 
   -- turns after turns are turns
-  pub reach_trans : {c d e : Config X M} → Reach cmp time handle bound c d → Reach cmp time handle bound d e → Reach cmp time handle bound c e
+  pub reach_trans : {c d e : Config X M} → Reach cmp time handle bound c d → Reach cmp time handle bound d e →
+      Reach cmp time handle bound c e
   reach_trans r stay = r
   reach_trans r (go s n) = go (reach_trans r s) n
 
   -- turns are none, or begin with the one that there is
-  pub reach_first : {c d e : Config X M} → Reach cmp time handle bound c d → Next cmp time handle bound c e → (d ≡ c) ⊎ Reach cmp time handle bound e d
+  pub reach_first : {c d e : Config X M} → Reach cmp time handle bound c d → Next cmp time handle bound c e →
+      (d ≡ c) ⊎ Reach cmp time handle bound e d
   reach_first stay k = inl refl
   reach_first {c} {d} {e} (go {d = before} r n) k = elim (reach_first r k) [
     | inl p ↦ inr (subst (λ x. Reach cmp time handle bound e x) (next_unique k (subst (λ x. Next cmp time handle bound x d) p n)) stay)
@@ -27,7 +29,8 @@ module _ {X M : Type 0} {cmp : M → M → Ordering} {time : M → ℕ} {handle 
   ]
 
   -- of two that are reached, one is reached from the other
-  pub reach_line : {c d e : Config X M} → Reach cmp time handle bound c d → Reach cmp time handle bound c e → Reach cmp time handle bound d e ⊎ Reach cmp time handle bound e d
+  pub reach_line : {c d e : Config X M} → Reach cmp time handle bound c d → Reach cmp time handle bound c e →
+      Reach cmp time handle bound d e ⊎ Reach cmp time handle bound e d
   reach_line r stay = inr r
   reach_line {c} {d} {e} r (go {d = before} s n) = elim (reach_line r s) [
     | inl t ↦ inl (go t n)
@@ -44,13 +47,18 @@ module _ {X M : Type 0} {cmp : M → M → Ordering} {time : M → ℕ} {handle 
   -- with nothing left before the bound there is no turn
   pub done_stays : {c d : Config X M} → Done time bound c → Reach cmp time handle bound c d → d ≡ c
   done_stays f stay = refl
-  done_stays {c} {d} f (go {d = before} r n) = absurd (done_no_next c d f (subst (λ x. Next cmp time handle bound x d) (done_stays f r) n))
+  done_stays {c}
+      {d} f (go {d = before} r n) = absurd (done_no_next c d f (subst (λ x. Next cmp time handle bound x d) (done_stays f r) n))
 
   -- two that are reached and have nothing left are one
-  pub ends_same : {c d e : Config X M} → Reach cmp time handle bound c d → Done time bound d → Reach cmp time handle bound c e → Done time bound e → d ≡ e
+  pub ends_same : {c d e : Config X M} → Reach cmp time handle bound c d → Done time bound d →
+      Reach cmp time handle bound c e → Done time bound e → d ≡ e
   ends_same r f s g = elim (reach_line r s) [ inl t ↦ sym (done_stays f t) | inr t ↦ done_stays g t ]
 
   -- what holds at the start and is kept by each turn holds at the end
-  pub reach_keeps : {c d : Config X M} (P : Config X M → Type 0) → P c → ((x : X) (m : M) (q : List M) → time m < bound → P (record { at = x; pending = m ∷ q }) → P (after cmp handle x m q)) → Reach cmp time handle bound c d → P d
+  pub reach_keeps : {c d : Config X M} (P : Config X M → Type 0) → P c →
+      ((x : X) (m : M) (q : List M) → time m < bound → P (record { at = x; pending = m ∷ q }) → P (after cmp handle x m q)) →
+      Reach cmp time handle bound c d → P d
   reach_keeps P a f stay = a
-  reach_keeps {c} {d} P a f (go {d = e} r n) = subst P (sym n.is) (f e.at n.m n.q n.early (subst (λ q. P (record { at = e.at; pending = q })) n.pending (reach_keeps P a f r)))
+  reach_keeps {c} {d} P a f (go {d = e} r n) = subst P (sym n.is)
+      (f e.at n.m n.q n.early (subst (λ q. P (record { at = e.at; pending = q })) n.pending (reach_keeps P a f r)))

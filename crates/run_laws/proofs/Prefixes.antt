@@ -6,16 +6,19 @@ use Rattle.run_laws.proofs.Lists.{in_append, append_old, append_new}
 use Rattle.run_laws.proofs.CopyViews.{append_cancel}
 
 -- two lists without repeats that share nothing have no repeats together
-apart_append : {X : Type 0} (xs ys : List X) → Apart xs → Apart ys → ((z : X) → In z xs → In z ys → ⊥) → Apart (xs ++ ys)
+pub apart_append : {X : Type 0} (xs ys : List X) → Apart xs → Apart ys → ((z : X) → In z xs → In z ys → ⊥) →
+    Apart (xs ++ ys)
 apart_append [] ys a b f = b
 apart_append (x ∷ xs) ys a b f = (λ i. elim (in_append xs ys x i) [ inl j ↦ a.0 j | inr j ↦ f x (inl refl) j ], apart_append xs ys a.1 b (λ z i j. f z (inr i) j))
 
 -- what holds of the same elements has the same count
-pub count_same : {X : Type 0} (P Q : X → Type 0) (n : ℕ) → ((x : X) → P x → Q x) → ((x : X) → Q x → P x) → IsCount P n → IsCount Q n
+pub count_same : {X : Type 0} (P Q : X → Type 0) (n : ℕ) → ((x : X) → P x → Q x) → ((x : X) → Q x → P x) → IsCount P n →
+    IsCount Q n
 count_same P Q n f g h = record { members = h.members; apart = h.apart; exact = λ x i. f x (h.exact x i); all = λ x q. h.all x (g x q); number = h.number }
 
 -- two that hold of no common element count together
-pub count_both : {X : Type 0} (P Q : X → Type 0) (m n : ℕ) → ((x : X) → P x → Q x → ⊥) → IsCount P m → IsCount Q n → IsCount (λ x. P x ⊎ Q x) (m + n)
+pub count_both : {X : Type 0} (P Q : X → Type 0) (m n : ℕ) → ((x : X) → P x → Q x → ⊥) → IsCount P m → IsCount Q n →
+    IsCount (λ x. P x ⊎ Q x) (m + n)
 count_both P Q m n f a b = record {
   members = a.members ++ b.members;
   apart = apart_append a.members b.members a.apart b.apart (λ z i j. f z (a.exact z i) (b.exact z j));
@@ -25,14 +28,15 @@ count_both P Q m n f a b = record {
 }
 
 -- a list without one of its elements is shorter by one
-drop_one : {X : Type 0} (x : X) (ys : List X) → In x ys → (zs : List X) × (length ys ≡ suc (length zs)) × ((z : X) → In z ys → (z ≡ x) ⊎ In z zs)
+drop_one : {X : Type 0} (x : X) (ys : List X) → In x ys →
+    (zs : List X) × (length ys ≡ suc (length zs)) × ((z : X) → In z ys → (z ≡ x) ⊎ In z zs)
 drop_one x [] i = absurd i
 drop_one x (y ∷ ys) (inl e) = (ys, refl, λ z i. elim i [ inl d ↦ inl (d ∙ sym e) | inr j ↦ inr j ])
 drop_one x (y ∷ ys) (inr i) = let h = drop_one x ys i in
     (y ∷ h.0, ap suc h.1, λ z j. elim j [ inl d ↦ inr (inl d) | inr k ↦ elim (h.2 z k) [ inl d ↦ inl d | inr l ↦ inr (inr l) ] ])
 
 -- a list without repeats inside another is no longer
-no_longer : {X : Type 0} (xs ys : List X) → Apart xs → ((z : X) → In z xs → In z ys) → length xs ≤ length ys
+pub no_longer : {X : Type 0} (xs ys : List X) → Apart xs → ((z : X) → In z xs → In z ys) → length xs ≤ length ys
 no_longer [] ys a f = omega arith
 no_longer (x ∷ xs) ys a f =
     let h = drop_one x ys (f x (inl refl)) in
@@ -52,11 +56,13 @@ module _ {E : Type 0} where
   too_long xs x ys e = let h = ap length e in let k = length-append xs (x ∷ ys) in let l : length (x ∷ ys) ≡ suc (length ys) = refl in omega (arith, h, k, l)
 
   -- what was gained stands in the log behind what was there
-  gained_by : (short p log : List E) (x : E) (q t : List E) → p ≡ short ++ x ∷ q → log ≡ p ++ t → log ≡ short ++ x ∷ (q ++ t)
+  gained_by : (short p log : List E) (x : E) (q t : List E) → p ≡ short ++ x ∷ q → log ≡ p ++ t →
+      log ≡ short ++ x ∷ (q ++ t)
   gained_by short p log x q t e f = f ∙ (ap (λ u. u ++ t) e ∙ append_assoc short (x ∷ q) t)
 
   -- nothing was gained
-  pub gained_none : (Log : List E → Type 0) (short : List E) → ((l : List E) → Log l → l ≡ short) → IsCount (IsGained Log short) 0
+  pub gained_none : (Log : List E → Type 0) (short : List E) → ((l : List E) → Log l → l ≡ short) →
+      IsCount (IsGained Log short) 0
   gained_none Log short f = record {
     members = [];
     apart = tt;
@@ -66,7 +72,9 @@ module _ {E : Type 0} where
   }
 
   -- one entry that all of the logs share
-  pub gained_more : (Log : List E → Type 0) (short : List E) (e : E) (n : ℕ) (some : (l : List E) × Log l) → ((l : List E) → Log l → (g : List E) × (l ≡ (short ++ e ∷ []) ++ g)) → IsCount (IsGained Log (short ++ e ∷ [])) n → IsCount (IsGained Log short) (n + 1)
+  pub gained_more : (Log : List E → Type 0) (short : List E) (e : E) (n : ℕ) (some : (l : List E) × Log l) →
+      ((l : List E) → Log l → (g : List E) × (l ≡ (short ++ e ∷ []) ++ g)) → IsCount (IsGained Log (short ++ e ∷ [])) n →
+      IsCount (IsGained Log short) (n + 1)
   gained_more Log short e n some f h = record {
     members = (short ++ e ∷ []) ∷ h.members;
     apart = (λ i. let g = h.exact (short ++ e ∷ []) i in too_long (short ++ e ∷ []) g.first g.more (sym g.longer), h.apart);
@@ -87,12 +95,16 @@ module _ {E : Type 0} where
       by_more (y ∷ q) p log t a b c = inr (h.all p (record { log = log; is_log = b; first = y; more = q; rest = t; longer = a ∙ sym (append_assoc short (e ∷ []) (y ∷ q)); prefix = c }))
 
   -- what is gained of some logs is gained of more
-  moved : (Log Log2 : List E → Type 0) (short p : List E) → ((l : List E) → Log l → Log2 l) → IsGained Log short p → IsGained Log2 short p
+  moved : (Log Log2 : List E → Type 0) (short p : List E) → ((l : List E) → Log l → Log2 l) → IsGained Log short p →
+      IsGained Log2 short p
   moved Log Log2 short p f g = record { log = g.log; is_log = f g.log g.is_log; first = g.first; more = g.more; rest = g.rest; longer = g.longer; prefix = g.prefix }
 
   -- the logs of two sets that part at once
-  pub gained_both : (Log1 Log2 : List E → Type 0) (short : List E) (m n : ℕ) → ((x : E) (u v : List E) → Log1 (short ++ x ∷ u) → Log2 (short ++ x ∷ v) → ⊥) → IsCount (IsGained Log1 short) m → IsCount (IsGained Log2 short) n → IsCount (IsGained (λ l. Log1 l ⊎ Log2 l) short) (m + n)
-  gained_both Log1 Log2 short m n f a b = count_same (λ p. IsGained Log1 short p ⊎ IsGained Log2 short p) (IsGained (λ l. Log1 l ⊎ Log2 l) short) (m + n)
+  pub gained_both : (Log1 Log2 : List E → Type 0) (short : List E) (m n : ℕ) →
+      ((x : E) (u v : List E) → Log1 (short ++ x ∷ u) → Log2 (short ++ x ∷ v) → ⊥) → IsCount (IsGained Log1 short) m →
+      IsCount (IsGained Log2 short) n → IsCount (IsGained (λ l. Log1 l ⊎ Log2 l) short) (m + n)
+  gained_both Log1 Log2 short m n f a b = count_same (λ p. IsGained Log1 short p ⊎ IsGained Log2 short p)
+      (IsGained (λ l. Log1 l ⊎ Log2 l) short) (m + n)
       (λ p h. elim h [
         | inl g ↦ moved Log1 (λ l. Log1 l ⊎ Log2 l) short p (λ l i. inl i) g
         | inr g ↦ moved Log2 (λ l. Log1 l ⊎ Log2 l) short p (λ l i. inr i) g
@@ -109,5 +121,7 @@ module _ {E : Type 0} where
       (subst Log2 (gained_by short p h.log h.first h.more h.rest h.longer h.prefix ∙ ap (λ x. short ++ x ∷ (h.more ++ h.rest)) d) h.is_log)) a b)
 
   -- the same logs gained the same prefixes
-  pub gained_same : (Log Log2 : List E → Type 0) (short : List E) (n : ℕ) → ((l : List E) → Log l → Log2 l) → ((l : List E) → Log2 l → Log l) → IsCount (IsGained Log short) n → IsCount (IsGained Log2 short) n
-  gained_same Log Log2 short n f g h = count_same (IsGained Log short) (IsGained Log2 short) n (λ p. moved Log Log2 short p f) (λ p. moved Log2 Log short p g) h
+  pub gained_same : (Log Log2 : List E → Type 0) (short : List E) (n : ℕ) → ((l : List E) → Log l → Log2 l) →
+      ((l : List E) → Log2 l → Log l) → IsCount (IsGained Log short) n → IsCount (IsGained Log2 short) n
+  gained_same Log Log2 short n f g h = count_same (IsGained Log short)
+      (IsGained Log2 short) n (λ p. moved Log Log2 short p f) (λ p. moved Log2 Log short p g) h

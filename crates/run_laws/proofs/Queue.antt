@@ -20,26 +20,30 @@ all_from P [] f = tt
 all_from P (y ∷ ys) f = (f y (inl refl), all_from P ys (λ x i. f x (inr i)))
 
 -- what is said of all may be weakened
-pub all_weaker : {X : Type 0} (P Q : X → Type 0) (xs : List X) → ((x : X) → P x → Q x) → AllByRecursion P xs → AllByRecursion Q xs
+pub all_weaker : {X : Type 0} (P Q : X → Type 0) (xs : List X) → ((x : X) → P x → Q x) → AllByRecursion P xs →
+    AllByRecursion Q xs
 all_weaker P Q [] f h = tt
 all_weaker P Q (x ∷ xs) f h = (f x h.0, all_weaker P Q xs f h.1)
 
 -- what is in a list after an element was put in its place
-in_place : {X : Type 0} (r : Ordering) (x y : X) (ys rest : List X) (z : X) → (In z rest → (z ≡ x) ⊎ In z ys) → In z (place r x y ys rest) → (z ≡ x) ⊎ In z (y ∷ ys)
+in_place : {X : Type 0} (r : Ordering) (x y : X) (ys rest : List X) (z : X) → (In z rest → (z ≡ x) ⊎ In z ys) →
+    In z (place r x y ys rest) → (z ≡ x) ⊎ In z (y ∷ ys)
 in_place Less x y ys rest z f i = i
 in_place Equal x y ys rest z f i = inr i
 in_place Greater x y ys rest z f (inl e) = inr (inl e)
 in_place Greater x y ys rest z f (inr j) = elim (f j) [ inl e ↦ inl e | inr k ↦ inr (inr k) ]
 
 -- what was there stays
-place_old : {X : Type 0} (r : Ordering) (x y : X) (ys rest : List X) (z : X) → (In z ys → In z rest) → In z (y ∷ ys) → In z (place r x y ys rest)
+place_old : {X : Type 0} (r : Ordering) (x y : X) (ys rest : List X) (z : X) → (In z ys → In z rest) → In z (y ∷ ys) →
+    In z (place r x y ys rest)
 place_old Less x y ys rest z f i = inr i
 place_old Equal x y ys rest z f i = i
 place_old Greater x y ys rest z f (inl e) = inl e
 place_old Greater x y ys rest z f (inr j) = inr (f j)
 
 -- and the new element is there
-place_new : {X : Type 0} (r : Ordering) (x y : X) (ys rest : List X) → (r ≡ Equal → x ≡ y) → In x rest → In x (place r x y ys rest)
+place_new : {X : Type 0} (r : Ordering) (x y : X) (ys rest : List X) → (r ≡ Equal → x ≡ y) → In x rest →
+    In x (place r x y ys rest)
 place_new Less x y ys rest f i = inl refl
 place_new Equal x y ys rest f i = inl (f refl)
 place_new Greater x y ys rest f i = inr i
@@ -73,14 +77,16 @@ module _ {X : Type 0} {cmp : X → X → Ordering} (o : IsOrder cmp) where
   insert_new x (y ∷ ys) = place_new (cmp x y) x y ys (insert cmp x ys) (o.same x y) (insert_new x ys)
 
   -- y comes before x and before all of ys
-  above_insert : (x y : X) (ys : List X) → cmp y x ≡ Less → AllByRecursion (λ z. cmp y z ≡ Less) ys → AllByRecursion (λ z. cmp y z ≡ Less) (insert cmp x ys)
+  above_insert : (x y : X) (ys : List X) → cmp y x ≡ Less → AllByRecursion (λ z. cmp y z ≡ Less) ys →
+      AllByRecursion (λ z. cmp y z ≡ Less) (insert cmp x ys)
   above_insert x y ys e l = all_from (λ z. cmp y z ≡ Less) (insert cmp x ys) (λ z i. elim (in_insert x ys z i) [
     | inl q ↦ subst (λ w. cmp y w ≡ Less) (sym q) e
     | inr j ↦ all_in (λ z. cmp y z ≡ Less) ys z l j
   ])
 
   -- the order is kept, wherever the element goes
-  sorted_place : (r : Ordering) (x y : X) (ys : List X) → cmp x y ≡ r → Sorted cmp (y ∷ ys) → Sorted cmp (insert cmp x ys) → Sorted cmp (place r x y ys (insert cmp x ys))
+  sorted_place : (r : Ordering) (x y : X) (ys : List X) → cmp x y ≡ r → Sorted cmp (y ∷ ys) →
+      Sorted cmp (insert cmp x ys) → Sorted cmp (place r x y ys (insert cmp x ys))
   sorted_place Less x y ys e s t = ((e, all_weaker (λ z. cmp y z ≡ Less) (λ z. cmp x z ≡ Less) ys (λ z l. o.total.trans x y z e l) s.0), s)
   sorted_place Equal x y ys e s t = s
   sorted_place Greater x y ys e s t = (above_insert x y ys (less_if_greater x y e) s.0, t)
@@ -115,21 +121,24 @@ module _ {X : Type 0} {cmp : X → X → Ordering} (o : IsOrder cmp) where
   sorted_insert_all (x ∷ xs) q s = sorted_insert_all xs (insert cmp x q) (sorted_insert x q s)
 
   -- what holds of the new and of the old elements holds of all after an insertion
-  pub all_insert_all : (P : X → Type 0) (xs q : List X) → AllByRecursion P xs → AllByRecursion P q → AllByRecursion P (insert_all cmp xs q)
+  pub all_insert_all : (P : X → Type 0) (xs q : List X) → AllByRecursion P xs → AllByRecursion P q →
+      AllByRecursion P (insert_all cmp xs q)
   all_insert_all P xs q f g = all_from P (insert_all cmp xs q) (λ z i. elim (in_insert_all xs q z i) [
     | inl j ↦ all_in P xs z f j
     | inr j ↦ all_in P q z g j
   ])
 
   -- behind equal heads the rests have the same elements
-  rest_in : (x y : X) (p q : List X) → x ≡ y → AllByRecursion (λ z. cmp x z ≡ Less) p → ((z : X) → In z (x ∷ p) → In z (y ∷ q)) → (z : X) → In z p → In z q
+  rest_in : (x y : X) (p q : List X) → x ≡ y → AllByRecursion (λ z. cmp x z ≡ Less) p →
+      ((z : X) → In z (x ∷ p) → In z (y ∷ q)) → (z : X) → In z p → In z q
   rest_in x y p q e l f z i = elim (f z (inr i)) [
     | inl k ↦ absurd (not_below_itself x (subst (λ w. cmp x w ≡ Less) (k ∙ sym e) (all_in (λ z. cmp x z ≡ Less) p z l i)))
     | inr j ↦ j
   ]
 
   -- two lists in order with the same elements are one
-  pub same_elements : (p q : List X) → Sorted cmp p → Sorted cmp q → ((z : X) → In z p → In z q) → ((z : X) → In z q → In z p) → p ≡ q
+  pub same_elements : (p q : List X) → Sorted cmp p → Sorted cmp q → ((z : X) → In z p → In z q) →
+      ((z : X) → In z q → In z p) → p ≡ q
   same_elements [] [] s t f g = refl
   same_elements [] (y ∷ q) s t f g = absurd (g y (inl refl))
   same_elements (x ∷ p) [] s t f g = absurd (f x (inl refl))
@@ -149,7 +158,8 @@ module _ {X : Type 0} {cmp : X → X → Ordering} (o : IsOrder cmp) where
   not_head m q z s i e = not_below_itself m (subst (λ y. cmp m y ≡ Less) e (all_in (λ y. cmp m y ≡ Less) q z s.0 i))
 
   -- the least of a list, where a part has it, is the head of the part
-  pub same_head : (m : X) (q p : List X) → Sorted cmp (m ∷ q) → Sorted cmp p → In m p → ((z : X) → In z p → In z (m ∷ q)) → (r : List X) × (p ≡ m ∷ r)
+  pub same_head : (m : X) (q p : List X) → Sorted cmp (m ∷ q) → Sorted cmp p → In m p →
+      ((z : X) → In z p → In z (m ∷ q)) → (r : List X) × (p ≡ m ∷ r)
   same_head m q [] s t i f = absurd i
   same_head m q (y ∷ ys) s t i f =
       let e : y ≡ m = elim (f y (inl refl)) [
@@ -162,7 +172,8 @@ module _ {X : Type 0} {cmp : X → X → Ordering} (o : IsOrder cmp) where
       (ys, ap (λ x. x ∷ ys) e)
 
   -- the order in which elements are inserted makes no difference
-  pub insert_swap : (x : X) (xs q : List X) → Sorted cmp q → insert_all cmp xs (insert cmp x q) ≡ insert cmp x (insert_all cmp xs q)
+  pub insert_swap : (x : X) (xs q : List X) → Sorted cmp q →
+      insert_all cmp xs (insert cmp x q) ≡ insert cmp x (insert_all cmp xs q)
   insert_swap x xs q s = same_elements (insert_all cmp xs (insert cmp x q)) (insert cmp x (insert_all cmp xs q))
       (sorted_insert_all xs (insert cmp x q) (sorted_insert x q s))
       (sorted_insert x (insert_all cmp xs q) (sorted_insert_all xs q s))
@@ -182,6 +193,7 @@ module _ {X : Type 0} {cmp : X → X → Ordering} (o : IsOrder cmp) where
       ])
 
 -- one element more at the end is inserted last
-pub insert_all-push : {X : Type 0} (cmp : X → X → Ordering) (xs : List X) (x : X) (q : List X) → insert_all cmp (xs ++ x ∷ []) q ≡ insert cmp x (insert_all cmp xs q)
+pub insert_all-push : {X : Type 0} (cmp : X → X → Ordering) (xs : List X) (x : X) (q : List X) →
+    insert_all cmp (xs ++ x ∷ []) q ≡ insert cmp x (insert_all cmp xs q)
 insert_all-push cmp [] x q = refl
 insert_all-push cmp (y ∷ xs) x q = insert_all-push cmp xs x (insert cmp y q)

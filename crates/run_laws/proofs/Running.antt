@@ -12,7 +12,8 @@ use Rattle.run_laws.proofs.Queue.{all_in, all_from, all_weaker, all_insert_all, 
 use Rattle.run_laws.proofs.Machine.{reach_trans, ends_same}
 
 -- a machine in a good state, whose pending messages are in order and not before a time
-pub record Fine {X M : Type 0} (cmp : M → M → Ordering) (time : M → ℕ) (Good : X → Type 0) (t : ℕ) (c : Config X M) : Type 0 where
+pub record Fine {X M : Type 0} (cmp : M → M → Ordering) (time : M → ℕ) (Good : X → Type 0) (t : ℕ)
+    (c : Config X M) : Type 0 where
   pub good : Good c.at
   pub sorted : Sorted cmp c.pending
   pub from_t : AllByRecursion (λ m. t ≤ time m) c.pending
@@ -32,7 +33,8 @@ module _ {M : Type 0} (time : M → ℕ) where
   count_no t m q n = rw (ne_eqb (time m) t n)
 
   -- where none comes at a time, all come after it
-  none_at : (t : ℕ) (q : List M) → count_at time t q ≡ 0 → AllByRecursion (λ m. t ≤ time m) q → AllByRecursion (λ m. suc t ≤ time m) q
+  none_at : (t : ℕ) (q : List M) → count_at time t q ≡ 0 → AllByRecursion (λ m. t ≤ time m) q →
+      AllByRecursion (λ m. suc t ≤ time m) q
   none_at t [] e f = tt
   none_at t (m ∷ q) e f = elim (cases_eq (time m) t) [
     | inl p ↦ let h = sym (count_yes t m q p) ∙ e in absurd (omega (arith, h))
@@ -48,7 +50,8 @@ module _ {M : Type 0} (time : M → ℕ) where
   ]
 
   -- a message of another time counts for nothing, wherever it goes
-  count_place : (t : ℕ) (r : Ordering) (x y : M) (ys rest : List M) → (time x ≡ t → ⊥) → count_at time t rest ≡ count_at time t ys → count_at time t (place r x y ys rest) ≡ count_at time t (y ∷ ys)
+  count_place : (t : ℕ) (r : Ordering) (x y : M) (ys rest : List M) → (time x ≡ t → ⊥) →
+      count_at time t rest ≡ count_at time t ys → count_at time t (place r x y ys rest) ≡ count_at time t (y ∷ ys)
   count_place t Less x y ys rest n e = count_no t x (y ∷ ys) n
   count_place t Equal x y ys rest n e = refl
   count_place t Greater x y ys rest n e = ap (λ k. cond (time y == t) (suc k) k) e
@@ -60,9 +63,11 @@ module _ {M : Type 0} (time : M → ℕ) where
     count_insert t x (y ∷ ys) n = count_place t (cmp x y) x y ys (insert cmp x ys) n (count_insert t x ys n)
 
     -- later messages count for nothing
-    count_insert_all : (t : ℕ) (xs q : List M) → AllByRecursion (λ m. t < time m) xs → count_at time t (insert_all cmp xs q) ≡ count_at time t q
+    count_insert_all : (t : ℕ) (xs q : List M) → AllByRecursion (λ m. t < time m) xs →
+        count_at time t (insert_all cmp xs q) ≡ count_at time t q
     count_insert_all t [] q l = refl
-    count_insert_all t (x ∷ xs) q l = count_insert_all t xs (insert cmp x q) l.1 ∙ count_insert t x q (λ e. let a : t < time x = l.0 in omega arith)
+    count_insert_all t (x ∷ xs) q l = count_insert_all t xs (insert cmp x q) l.1
+        ∙ count_insert t x q (λ e. let a : t < time x = l.0 in omega arith)
 
 module _ {M : Type 0} {cmp : M → M → Ordering} {time : M → ℕ} (o : IsTimed cmp time) where
   -- the head of a list in order has the least time
@@ -76,9 +81,11 @@ module _ {M : Type 0} {cmp : M → M → Ordering} {time : M → ℕ} (o : IsTim
   later_place Equal x m q rest e l = let h = ap time (o.order.same x m e) in absurd (omega (arith, h))
   later_place Greater x m q rest e l = refl
 
-module _ {X M : Type 0} {cmp : M → M → Ordering} {time : M → ℕ} {handle : X → M → X × List M} {Good : X → Type 0} (o : IsTimed cmp time) (law : IsLawful time handle Good) where
+module _ {X M : Type 0} {cmp : M → M → Ordering} {time : M → ℕ} {handle : X → M → X × List M} {Good : X → Type 0}
+    (o : IsTimed cmp time) (law : IsLawful time handle Good) where
   -- a turn keeps a machine fine
-  fine_after : (t : ℕ) (x : X) (m : M) (q : List M) → Good x → Sorted cmp (m ∷ q) → AllByRecursion (λ m. t ≤ time m) (m ∷ q) → Fine cmp time Good t (after cmp handle x m q)
+  fine_after : (t : ℕ) (x : X) (m : M) (q : List M) → Good x → Sorted cmp (m ∷ q) →
+      AllByRecursion (λ m. t ≤ time m) (m ∷ q) → Fine cmp time Good t (after cmp handle x m q)
   fine_after t x m q g s f = record {
     good = law.keeps x m g;
     sorted = sorted_insert_all o.order (handle x m).1 q s.1;
@@ -87,11 +94,14 @@ module _ {X M : Type 0} {cmp : M → M → Ordering} {time : M → ℕ} {handle 
   }
 
   -- a turn before a bound does
-  fine_next : (bound t : ℕ) (c d : Config X M) → Fine cmp time Good t c → Next cmp time handle bound c d → Fine cmp time Good t d
-  fine_next bound t c d f n = subst (Fine cmp time Good t) (sym n.is) (fine_after t c.at n.m n.q f.good (subst (Sorted cmp) n.pending f.sorted) (subst (AllByRecursion (λ m. t ≤ time m)) n.pending f.from_t))
+  fine_next : (bound t : ℕ) (c d : Config X M) → Fine cmp time Good t c → Next cmp time handle bound c d →
+      Fine cmp time Good t d
+  fine_next bound t c d f n = subst (Fine cmp time Good t) (sym n.is)
+      (fine_after t c.at n.m n.q f.good (subst (Sorted cmp) n.pending f.sorted) (subst (AllByRecursion (λ m. t ≤ time m)) n.pending f.from_t))
 
   -- turns keep a machine fine
-  pub fine_reach : {bound : ℕ} {c d : Config X M} (t : ℕ) → Fine cmp time Good t c → Reach cmp time handle bound c d → Fine cmp time Good t d
+  pub fine_reach : {bound : ℕ} {c d : Config X M} (t : ℕ) → Fine cmp time Good t c → Reach cmp time handle bound c d →
+      Fine cmp time Good t d
   fine_reach t f stay = f
   fine_reach {bound} {c} {d} t f (go {d = e} r n) = fine_next bound t e d (fine_reach t f r) n
 
@@ -107,7 +117,9 @@ module _ {X M : Type 0} {cmp : M → M → Ordering} {time : M → ℕ} {handle 
       (subst (λ q. P (record { at = e.at; pending = q })) n.pending (fine_keeps t P a f g r)))
 
   -- as many turns as there are messages of a time handle just those
-  turns_reach : (bound t n : ℕ) (x : X) (q : List M) → t < bound → Fine cmp time Good t (record { at = x; pending = q }) → count_at time t q ≡ n → Reach cmp time handle bound (record { at = x; pending = q }) (turns cmp handle n (record { at = x; pending = q })) × Fine cmp time Good (suc t) (turns cmp handle n (record { at = x; pending = q }))
+  turns_reach : (bound t n : ℕ) (x : X) (q : List M) → t < bound → Fine cmp time Good t (record { at = x; pending = q }) →
+      count_at time t q ≡ n →
+      Reach cmp time handle bound (record { at = x; pending = q }) (turns cmp handle n (record { at = x; pending = q })) × Fine cmp time Good (suc t) (turns cmp handle n (record { at = x; pending = q }))
   turns_reach bound t zero x q b f e = (stay, record { good = f.good; sorted = f.sorted; from_t = none_at time t q e f.from_t })
   turns_reach bound t (suc n) x [] b f e = absurd (omega (arith, e))
   turns_reach bound t (suc n) x (m ∷ q) b f e =
@@ -122,7 +134,8 @@ module _ {X M : Type 0} {cmp : M → M → Ordering} {time : M → ℕ} {handle 
       (reach_trans (go stay (record { m = m; q = q; pending = refl; early = omega arith; is = refl })) r.0, r.1)
 
   -- the run to a time is reached by turns, and has nothing before the time left
-  pub run_reach : (bound t : ℕ) (c : Config X M) → t ≤ bound → Fine cmp time Good 0 c → Reach cmp time handle bound c (run_to cmp handle time c t) × Fine cmp time Good t (run_to cmp handle time c t)
+  pub run_reach : (bound t : ℕ) (c : Config X M) → t ≤ bound → Fine cmp time Good 0 c →
+      Reach cmp time handle bound c (run_to cmp handle time c t) × Fine cmp time Good t (run_to cmp handle time c t)
   unfolding run_to
   run_reach bound zero c b f = (stay, f)
   run_reach bound (suc t) c b f =
@@ -132,11 +145,13 @@ module _ {X M : Type 0} {cmp : M → M → Ordering} {time : M → ℕ} {handle 
       (reach_trans h.0 r.0, r.1)
 
   -- whatever turns lead to where nothing before the bound is left, that is the run
-  pub run_is : (bound : ℕ) (c d : Config X M) → Fine cmp time Good 0 c → Reach cmp time handle bound c d → Done time bound d → d ≡ run_to cmp handle time c bound
+  pub run_is : (bound : ℕ) (c d : Config X M) → Fine cmp time Good 0 c → Reach cmp time handle bound c d →
+      Done time bound d → d ≡ run_to cmp handle time c bound
   run_is bound c d f r e = let h = run_reach bound bound c (omega arith) f in ends_same r e h.0 h.1.from_t
 
   -- a run to one bound goes on to a later one
-  pub run_on : (front bound : ℕ) (c : Config X M) → front ≤ bound → Fine cmp time Good 0 c → run_to cmp handle time (run_to cmp handle time c front) bound ≡ run_to cmp handle time c bound
+  pub run_on : (front bound : ℕ) (c : Config X M) → front ≤ bound → Fine cmp time Good 0 c →
+      run_to cmp handle time (run_to cmp handle time c front) bound ≡ run_to cmp handle time c bound
   run_on front bound c l f =
       let d = run_to cmp handle time c front in
       let g = run_reach bound front c l f in
@@ -144,7 +159,8 @@ module _ {X M : Type 0} {cmp : M → M → Ordering} {time : M → ℕ} {handle 
       run_is bound c (run_to cmp handle time d bound) f (reach_trans g.0 h.0) h.1.from_t
 
   -- turns before a bound are turns with a later message pending too
-  add_reach : {bound : ℕ} {c d : Config X M} (x : M) → bound ≤ time x → Fine cmp time Good 0 c → Reach cmp time handle bound c d → Reach cmp time handle bound (and_pending cmp x c) (and_pending cmp x d)
+  add_reach : {bound : ℕ} {c d : Config X M} (x : M) → bound ≤ time x → Fine cmp time Good 0 c →
+      Reach cmp time handle bound c d → Reach cmp time handle bound (and_pending cmp x c) (and_pending cmp x d)
   add_reach x l f stay = stay
   add_reach {bound} {c} {d} x l f (go {d = e} r n) =
       let g = fine_reach 0 f r in
@@ -155,11 +171,13 @@ module _ {X M : Type 0} {cmp : M → M → Ordering} {time : M → ℕ} {handle 
         q = insert cmp x n.q;
         pending = ap (insert cmp x) n.pending ∙ later_place o (cmp x n.m) x n.m n.q (insert cmp x n.q) refl (omega arith);
         early = n.early;
-        is = ap (and_pending cmp x) n.is ∙ ap (λ q. record { at = (handle e.at n.m).0; pending = q }) (sym (insert_swap o.order x (handle e.at n.m).1 n.q s.1));
+        is = ap (and_pending cmp x) n.is
+            ∙ ap (λ q. record { at = (handle e.at n.m).0; pending = q }) (sym (insert_swap o.order x (handle e.at n.m).1 n.q s.1));
       })
 
   -- a message at or after the bound changes nothing but that it is pending
-  pub run_late : (bound : ℕ) (c : Config X M) (x : M) → bound ≤ time x → Fine cmp time Good 0 c → run_to cmp handle time (and_pending cmp x c) bound ≡ and_pending cmp x (run_to cmp handle time c bound)
+  pub run_late : (bound : ℕ) (c : Config X M) (x : M) → bound ≤ time x → Fine cmp time Good 0 c →
+      run_to cmp handle time (and_pending cmp x c) bound ≡ and_pending cmp x (run_to cmp handle time c bound)
   run_late bound c x l f =
       let d = run_to cmp handle time c bound in
       let h = run_reach bound bound c (omega arith) f in

@@ -46,7 +46,8 @@ station_or_not sim r = elim (cases_lt 0 r) [
 
 module _ {S M N : Type 0} {sim : Simulation S M N} {Good : ℕ → S → Type 0} (law : HandlesLawfully sim Good) where
   -- a station with nothing due lays nothing aside
-  pub idle_window : (c : Clone) (r front bound : ℕ) → due_at sim c r front ≡ [] → (window sim c r front bound).at.aside ≡ []
+  pub idle_window : (c : Clone) (r front bound : ℕ) → due_at sim c r front ≡ [] →
+      (window sim c r front bound).at.aside ≡ []
   idle_window c r front bound e =
       let x : Config (Part S M N) M = alone_at (log_at sim c r front) (state_at sim c r front) (due_at sim c r front) in
       sym (ap (λ u. u.at.aside) (run_is law.order (part_lawful law r) (min bound (end_of sim c)) x x
@@ -57,10 +58,14 @@ module _ {S M N : Type 0} {sim : Simulation S M N} {Good : ℕ → S → Type 0}
       })
       stay (subst (AllByRecursion (λ m. min bound (end_of sim c) ≤ sim.time m)) (sym e) tt)))
 
-module _ {S M N K : Type 0} {sim : Simulation S M N} {Good : ℕ → S → Type 0} (law : HandlesLawfully sim Good) (to_stations : SendsToStations sim Good) (has : K → ℕ → Bool) (cs : List Clone) (front bound : ℕ)
-    (for_stations : (c : ℕ) → c < length cs → AreForStations sim (clone_at cs c).plans) (later : front ≤ bound) (within : bound ≤ next_front sim cs front)
-    (s : ℕ) (here : IsStation sim s) (olds : ℕ → List (Copy S M N K)) (sent : ℕ → List (M × K)) (new done : List (Copy S M N K))
-    (stood : (r : ℕ) → IsStation sim r → Stands sim has cs front r (olds r)) (step : IsStepped sim has (ends_of sim cs) s bound (olds s) new (sent s))
+module _ {S M N K : Type 0} {sim : Simulation S M N} {Good : ℕ → S → Type 0} (law : HandlesLawfully sim Good)
+    (to_stations : SendsToStations sim Good) (has : K → ℕ → Bool) (cs : List Clone) (front bound : ℕ)
+    (for_stations : (c : ℕ) → c < length cs → AreForStations sim (clone_at cs c).plans) (later : front ≤ bound)
+    (within : bound ≤ next_front sim cs front)
+    (s : ℕ) (here : IsStation sim s) (olds : ℕ → List (Copy S M N K)) (sent : ℕ → List (M × K))
+    (new done : List (Copy S M N K))
+    (stood : (r : ℕ) → IsStation sim r → Stands sim has cs front r (olds r))
+    (step : IsStepped sim has (ends_of sim cs) s bound (olds s) new (sent s))
     (senders : (r c : ℕ) (z : M) → In z (taken sim has (ends_of sim cs) c (sent r)) → IsStation sim r)
     (out : (r : ℕ) → IsStation sim r → (x : Copy S M N K) (c : ℕ) → In x (olds r) → Carries has x c → taken sim has (ends_of sim cs) c (sent r) ≡ earlier_than sim.time (ends_of sim cs c) (alone_from sim has (ends_of sim cs) r bound x c).at.aside)
     (got : IsDelivered sim has cs s sent new done) where
@@ -87,7 +92,8 @@ module _ {S M N K : Type 0} {sim : Simulation S M N} {Good : ℕ → S → Type 
       record { mid = d.0; in_new = d.1; received = d.2; has_mid = g; old = e.0; in_old = e.1; has_old = e.2 c g }
 
   -- a copy's window for a clone is the clone's window
-  is_window : (r : ℕ) (is : IsStation sim r) (x : Copy S M N K) (c : ℕ) → In x (olds r) → Carries has x c → alone_from sim has (ends_of sim cs) r bound x c ≡ window sim (clone_at cs c) r front bound
+  is_window : (r : ℕ) (is : IsStation sim r) (x : Copy S M N K) (c : ℕ) → In x (olds r) → Carries has x c →
+      alone_from sim has (ends_of sim cs) r bound x c ≡ window sim (clone_at cs c) r front bound
   is_window r is x c i h =
       let k : Clone = clone_at cs c in
       let e : ℕ = ends_of sim cs c in
@@ -112,19 +118,22 @@ module _ {S M N K : Type 0} {sim : Simulation S M N} {Good : ℕ → S → Type 
       g.received.state ∙ (step.state g.old g.mid c g.in_old g.in_new g.has_old g.has_mid ∙ (ap (λ u. u.at.state) (is_window s here g.old c g.in_old g.has_old) ∙ sym ((gives c (alive b c i h)).state s)))
 
   -- what station r laid aside for clone c
-  laid : (r c : ℕ) → IsStation sim r → c < length cs → taken sim has (ends_of sim cs) c (sent r) ≡ earlier_than sim.time (ends_of sim cs c) (window sim (clone_at cs c) r front bound).at.aside
+  laid : (r c : ℕ) → IsStation sim r → c < length cs →
+      taken sim has (ends_of sim cs) c (sent r) ≡ earlier_than sim.time (ends_of sim cs c) (window sim (clone_at cs c) r front bound).at.aside
   laid r c is l =
       let x = (stood r is).carried c l in
       out r is x.0 c x.1 x.2 ∙ ap (λ u. earlier_than sim.time (ends_of sim cs c) u.at.aside) (is_window r is x.0 c x.1 x.2)
 
   -- what is no station lays nothing aside
-  idle_there : (r c : ℕ) → (IsStation sim r → ⊥) → c < length cs → (window sim (clone_at cs c) r front bound).at.aside ≡ []
+  idle_there : (r c : ℕ) → (IsStation sim r → ⊥) → c < length cs →
+      (window sim (clone_at cs c) r front bound).at.aside ≡ []
   idle_there r c not l = idle_window law (clone_at cs c) r front bound (nothing_in (due_at sim (clone_at cs c) r front) (λ z i.
       let h = in_own sim.to r (all_due sim (clone_at cs c) front) z i in
       not (subst (IsStation sim) h.1 (due_is_for_stations law to_stations (clone_at cs c) front z (for_stations c l) h.0))))
 
   -- and what is due to them
-  due_there : (b : Copy S M N K) (c : ℕ) → In b done → Carries has b c → taken sim has (ends_of sim cs) c b.pending ≡ due_at sim (clone_at cs c) s bound
+  due_there : (b : Copy S M N K) (c : ℕ) → In b done → Carries has b c →
+      taken sim has (ends_of sim cs) c b.pending ≡ due_at sim (clone_at cs c) s bound
   due_there b c i h =
       let k : Clone = clone_at cs c in
       let end : ℕ = end_of sim k in
@@ -177,8 +186,13 @@ module _ {S M N K : Type 0} {sim : Simulation S M N} {Good : ℕ → S → Type 
   }
 
 -- the same, of all stations together
-pub stands_after_window : {S M N K : Type 0} {sim : Simulation S M N} {Good : ℕ → S → Type 0} (law : HandlesLawfully sim Good) (to_stations : SendsToStations sim Good) (has : K → ℕ → Bool) (cs : List Clone) (front bound : ℕ) (olds news : ℕ → List (Copy S M N K)) (sent : ℕ → List (M × K)) (s : ℕ) (done : List (Copy S M N K)) →
-    ((c : ℕ) → c < length cs → AreForStations sim (clone_at cs c).plans) → front ≤ bound → bound ≤ next_front sim cs front → AllStepped sim has cs front bound olds news sent → IsStation sim s → IsDelivered sim has cs s sent (news s) done → Stands sim has cs bound s done
+pub stands_after_window : {S M N K : Type 0} {sim : Simulation S M N} {Good : ℕ → S → Type 0}
+    (law : HandlesLawfully sim Good) (to_stations : SendsToStations sim Good) (has : K → ℕ → Bool) (cs : List Clone)
+    (front bound : ℕ) (olds news : ℕ → List (Copy S M N K)) (sent : ℕ → List (M × K)) (s : ℕ)
+    (done : List (Copy S M N K)) →
+    ((c : ℕ) → c < length cs → AreForStations sim (clone_at cs c).plans) → front ≤ bound →
+    bound ≤ next_front sim cs front → AllStepped sim has cs front bound olds news sent → IsStation sim s →
+    IsDelivered sim has cs s sent (news s) done → Stands sim has cs bound s done
 stands_after_window {S} {M} {N} {K} {sim} {Good} law to_stations has cs front bound olds news sent s done for_stations later within all here got =
     stands_window law to_stations has cs front bound for_stations later within s here olds sent (news s) done all.stood (all.stepped s here)
     (λ r c z i. elim (station_or_not sim r) [

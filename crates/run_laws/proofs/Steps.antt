@@ -6,7 +6,8 @@ use Rattle.run_laws.specs.Machine.{Config}
 use Rattle.run_laws.specs.Simulation.{Simulation}
 use Rattle.run_laws.specs.Window.{Part, earlier_than}
 use Rattle.run_laws.specs.Handlers.{HandlesLawfully}
-use Rattle.run_laws.specs.Copies.{Copy, Carries, JoinsMarks, SortedMarked, takes, taken, view, Turns, Settled, Ends, alone_from, IsStepped, AreOver, SoFar}
+use Rattle.sim_base.specs.Marked.{JoinsMarks, SortedMarked}
+use Rattle.run_laws.specs.Copies.{Copy, Carries, takes, taken, view, Turns, Settled, Ends, alone_from, IsStepped, AreOver, SoFar}
 use Rattle.run_laws.proofs.Bools.{and_cases}
 use Rattle.run_laws.proofs.Lists.{in_append, append_old, append_new, filter_all}
 use Rattle.run_laws.proofs.Parts.{sorted_part, all_part}
@@ -15,7 +16,8 @@ use Rattle.run_laws.proofs.Ends.{disjoint_append, not_has, moved_view, comes_to_
 
 module _ {S M N K : Type 0} (sim : Simulation S M N) (has : K → ℕ → Bool) (ends : ℕ → ℕ) where
   -- what a clone takes comes before its end
-  pub taken_early : (c : ℕ) (q : List (M × K)) → earlier_than sim.time (ends c) (taken sim has ends c q) ≡ taken sim has ends c q
+  pub taken_early : (c : ℕ) (q : List (M × K)) →
+      earlier_than sim.time (ends c) (taken sim has ends c q) ≡ taken sim has ends c q
   taken_early c q = filter_all (λ m. nat_lt (sim.time m) (ends c)) (taken sim has ends c q)
       (all_part (takes sim has ends) c (λ m. nat_lt (sim.time m) (ends c) ≡ true) q (λ x k e. (and_cases (has k c) (nat_lt (sim.time x) (ends c)) e).1))
 
@@ -34,7 +36,8 @@ module _ {S M N K : Type 0} (sim : Simulation S M N) (has : K → ℕ → Bool) 
       idle = λ c f. refl;
     }
 
-module _ {S M N K : Type 0} {sim : Simulation S M N} {Good : ℕ → S → Type 0} (law : HandlesLawfully sim Good) {has : K → ℕ → Bool} {join : K → K → K} (j : JoinsMarks has join) (ends : ℕ → ℕ) (s bound : ℕ) where
+module _ {S M N K : Type 0} {sim : Simulation S M N} {Good : ℕ → S → Type 0} (law : HandlesLawfully sim Good)
+    {has : K → ℕ → Bool} {join : K → K → K} (j : JoinsMarks has join) (ends : ℕ → ℕ) (s bound : ℕ) where
   -- what clone c sees
   abbrev seen : ℕ → Copy S M N K → List (M × K) → Config (Part S M N) M
   seen c r sent = view sim has ends c r sent
@@ -48,8 +51,11 @@ module _ {S M N K : Type 0} {sim : Simulation S M N} {Good : ℕ → S → Type 
   IsSettled = Settled sim has ends s bound
 
   -- one copy more
-  pub so_far_more : (old new results : List (Copy S M N K)) (r : Copy S M N K) (out next : List (M × K)) (over0 over over_after : K) (n : ℕ) → ((a : Copy S M N K) (c : ℕ) → In a old → Carries has a c → Carries has r c → ⊥) →
-      SoFar sim has ends s bound old new out over0 over → Ends sim has ends s bound r results out next over over_after n → SoFar sim has ends s bound (old ++ r ∷ []) (new ++ results) next over0 over_after
+  pub so_far_more : (old new results : List (Copy S M N K)) (r : Copy S M N K) (out next : List (M × K))
+      (over0 over over_after : K) (n : ℕ) →
+      ((a : Copy S M N K) (c : ℕ) → In a old → Carries has a c → Carries has r c → ⊥) →
+      SoFar sim has ends s bound old new out over0 over → Ends sim has ends s bound r results out next over over_after n →
+      SoFar sim has ends s bound (old ++ r ∷ []) (new ++ results) next over0 over_after
   so_far_more old new results r out next over0 over over_after n apart h e =
       let in_old : (b : Copy S M N K) (c : ℕ) → In b new → Carries has b c → Carries has r c → ⊥ = λ b c i l k. let x = h.from b i in apart x.0 c x.1 (x.2 c l) k in
       let same_out : (c : ℕ) → (Carries has r c → ⊥) → taken sim has ends c next ≡ taken sim has ends c out = λ c f. e.others c (not_has has r.set c f) in
@@ -102,15 +108,22 @@ module _ {S M N K : Type 0} {sim : Simulation S M N} {Good : ℕ → S → Type 
           ]
         ];
         disjoint = disjoint_append has new results h.disjoint e.disjoint (λ a b c i l k t. in_old a c i k (e.within b c l t));
-        idle = λ c f. same_out c (f r (append_new old (r ∷ []) r (inl refl))) ∙ h.idle c (λ a i. f a (append_old old (r ∷ []) a i));
+        idle = λ c f. same_out c (f r (append_new old (r ∷ []) r (inl refl)))
+            ∙ h.idle c (λ a i. f a (append_old old (r ∷ []) a i));
       }
 
   -- where a clone's turns end, its window by itself gives this, before its end
-  pub ends_alone : (a : Copy S M N K) (c : ℕ) (d : Config (Part S M N) M) → Good s a.state → SortedMarked sim.order a.pending → Goes c (seen c a []) d → IsSettled d → IsCutOf sim (ends c) (alone_from sim has ends s bound a c) d
-  ends_alone a c d good sorted ran done = cut_of_local law (ends c) s bound a.log a.state (taken sim has ends c a.pending) d good (sorted_part (takes sim has ends) sim.order c a.pending sorted) (taken_early sim has ends c a.pending) ran done
+  pub ends_alone : (a : Copy S M N K) (c : ℕ) (d : Config (Part S M N) M) → Good s a.state →
+      SortedMarked sim.order a.pending → Goes c (seen c a []) d → IsSettled d →
+      IsCutOf sim (ends c) (alone_from sim has ends s bound a c) d
+  ends_alone a c d good sorted ran done = cut_of_local law (ends c) s bound a.log a.state (taken sim has ends c a.pending) d good (sorted_part (takes sim has ends) sim.order c a.pending sorted)
+      (taken_early sim has ends c a.pending) ran done
 
   -- where no clone is over the limit, each has what its window by itself gives
-  pub stepped : (old new : List (Copy S M N K)) (out : List (M × K)) (over0 over : K) → ((a : Copy S M N K) → In a old → Good s a.state × SortedMarked sim.order a.pending) → ((c : ℕ) → has over c ≡ false) → SoFar sim has ends s bound old new out over0 over → IsStepped sim has ends s bound old new out
+  pub stepped : (old new : List (Copy S M N K)) (out : List (M × K)) (over0 over : K) →
+      ((a : Copy S M N K) → In a old → Good s a.state × SortedMarked sim.order a.pending) →
+      ((c : ℕ) → has over c ≡ false) → SoFar sim has ends s bound old new out over0 over →
+      IsStepped sim has ends s bound old new out
   stepped old new out over0 over fine none h =
       let carried : (a : Copy S M N K) (c : ℕ) → In a old → Carries has a c → (b : Copy S M N K) × In b new × Carries has b c = λ a c i k. elim (h.carried a c i k) [
         | inl x ↦ x
@@ -131,7 +144,10 @@ module _ {S M N K : Type 0} {sim : Simulation S M N} {Good : ℕ → S → Type 
       }
 
   -- those over the limit are the clones whose logs are too long
-  pub are_over : (old new : List (Copy S M N K)) (out : List (M × K)) (over0 over : K) → ((a : Copy S M N K) → In a old → Good s a.state × SortedMarked sim.order a.pending) → ((c : ℕ) → has over0 c ≡ false) → SoFar sim has ends s bound old new out over0 over → AreOver sim has ends s bound old over
+  pub are_over : (old new : List (Copy S M N K)) (out : List (M × K)) (over0 over : K) →
+      ((a : Copy S M N K) → In a old → Good s a.state × SortedMarked sim.order a.pending) →
+      ((c : ℕ) → has over0 c ≡ false) → SoFar sim has ends s bound old new out over0 over →
+      AreOver sim has ends s bound old over
   are_over old new out over0 over fine none h = record {
     from = λ c g. elim (h.too_long c g) [
       | inl x ↦ absurd (false≢true (sym (none c) ∙ x))

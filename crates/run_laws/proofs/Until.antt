@@ -18,7 +18,9 @@ use Rattle.run_laws.proofs.Running.{Fine, fine_reach, all_from_zero, run_is}
 use Rattle.run_laws.proofs.Worlds.{part_lawful}
 
 -- the head of what is left of a list in order before an end is the head of the list
-head_before : {M : Type 0} {cmp : M → M → Ordering} {time : M → ℕ} (o : IsTimed cmp time) (end : ℕ) (p : List M) (m : M) (q : List M) → Sorted cmp p → earlier_than time end p ≡ m ∷ q → (r : List M) × (p ≡ m ∷ r) × (earlier_than time end r ≡ q)
+head_before : {M : Type 0} {cmp : M → M → Ordering} {time : M → ℕ} (o : IsTimed cmp time) (end : ℕ) (p : List M) (m : M)
+    (q : List M) → Sorted cmp p → earlier_than time end p ≡ m ∷ q →
+    (r : List M) × (p ≡ m ∷ r) × (earlier_than time end r ≡ q)
 head_before o end [] m q s e = let h : ⊥ = cc in absurd h
 head_before {M} {cmp} {time} o end (y ∷ ys) m q s e = elim (cases_Bool (nat_lt (time y) end)) [
   | inl t ↦
@@ -42,9 +44,11 @@ module _ {S M N : Type 0} (sim : Simulation S M N) (end : ℕ) where
     pub aside : d.at.aside ≡ earlier_than sim.time end c.at.aside
     pub pending : d.pending ≡ earlier_than sim.time end c.pending
 
-module _ {S M N : Type 0} {sim : Simulation S M N} {Good : ℕ → S → Type 0} (law : HandlesLawfully sim Good) (end s bound : ℕ) where
+module _ {S M N : Type 0} {sim : Simulation S M N} {Good : ℕ → S → Type 0} (law : HandlesLawfully sim Good)
+    (end s bound : ℕ) where
   -- a turn of the one is a turn of the other
-  cut_step : (c d e : Config (Part S M N) M) → Sorted sim.order c.pending → IsCutOf sim end c d → Next sim.order sim.time (part_step sim.to (handle_until sim end) s) bound d e →
+  cut_step : (c d e : Config (Part S M N) M) → Sorted sim.order c.pending → IsCutOf sim end c d →
+      Next sim.order sim.time (part_step sim.to (handle_until sim end) s) bound d e →
       (f : Config (Part S M N) M) × Next sim.order sim.time (part_step sim.to sim.handle s) (min bound end) c f × IsCutOf sim end f e
   cut_step c d e sorted h n =
       let o = law.order.order in
@@ -63,7 +67,8 @@ module _ {S M N : Type 0} {sim : Simulation S M N} {Good : ℕ → S → Type 0}
         record { m = m; q = r; pending = hd.1; early = omega arith; is = refl },
         record {
           state = ap (λ u. u.at.state) n.is ∙ ap (λ u. u.state) ge;
-          log = ap (λ u. u.at.log) n.is ∙ ap (λ l. l ++ record { msg = m; line = g.line } ∷ []) h.log ∙ ap (λ u. c.at.log ++ record { msg = m; line = u.line } ∷ []) ge;
+          log = ap (λ u. u.at.log) n.is ∙ ap (λ l. l ++ record { msg = m; line = g.line } ∷ []) h.log
+              ∙ ap (λ u. c.at.log ++ record { msg = m; line = u.line } ∷ []) ge;
           aside = ap (λ u. u.at.aside) n.is
               ∙ ap (λ l. l ++ to_others sim.to s (earlier_than sim.time end g.sends)) h.aside
               ∙ ap (λ u. earlier_than sim.time end c.at.aside ++ to_others sim.to s (earlier_than sim.time end u.sends)) ge
@@ -78,7 +83,9 @@ module _ {S M N : Type 0} {sim : Simulation S M N} {Good : ℕ → S → Type 0}
       )
 
   -- and so with several turns
-  cut_reach : {d e : Config (Part S M N) M} (c : Config (Part S M N) M) → Fine sim.order sim.time (λ p. Good s p.state) 0 c → IsCutOf sim end c d → Reach sim.order sim.time (part_step sim.to (handle_until sim end) s) bound d e →
+  cut_reach : {d e : Config (Part S M N) M} (c : Config (Part S M N) M) →
+      Fine sim.order sim.time (λ p. Good s p.state) 0 c → IsCutOf sim end c d →
+      Reach sim.order sim.time (part_step sim.to (handle_until sim end) s) bound d e →
       (f : Config (Part S M N) M) × Reach sim.order sim.time (part_step sim.to sim.handle s) (min bound end) c f × IsCutOf sim end f e
   cut_reach c fine h stay = (c, stay, h)
   cut_reach {d} {e} c fine h (go {d = d0} r n) =
@@ -87,8 +94,10 @@ module _ {S M N : Type 0} {sim : Simulation S M N} {Good : ℕ → S → Type 0}
       (b.0, go a.1 b.1, b.2)
 
   -- where such a station has nothing left before the bound, its window gives this, before the end
-  pub cut_of_local : (log : List (Entry M N)) (st : S) (q : List M) (e : Config (Part S M N) M) → Good s st → Sorted sim.order q → earlier_than sim.time end q ≡ q →
-      Reach sim.order sim.time (part_step sim.to (handle_until sim end) s) bound (alone_at log st q) e → Done sim.time bound e → IsCutOf sim end (local sim s log st q bound end) e
+  pub cut_of_local : (log : List (Entry M N)) (st : S) (q : List M) (e : Config (Part S M N) M) → Good s st →
+      Sorted sim.order q → earlier_than sim.time end q ≡ q →
+      Reach sim.order sim.time (part_step sim.to (handle_until sim end) s) bound (alone_at log st q) e →
+      Done sim.time bound e → IsCutOf sim end (local sim s log st q bound end) e
   cut_of_local log st q e good sorted early r done =
       let c : Config (Part S M N) M = alone_at log st q in
       let fine : Fine sim.order sim.time (λ p. Good s p.state) 0 c = record { good = good; sorted = sorted; from_t = all_from_zero sim.time q } in

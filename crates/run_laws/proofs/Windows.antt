@@ -51,9 +51,11 @@ module _ {S M N : Type 0} (sim : Simulation S M N) (bound end : ℕ) (due : ℕ 
     pub log : (s : ℕ) → log_of sim.to s d.at.trace ≡ (ran_alone w s).at.log
     pub left : (s : ℕ) (z : M) → In z (ran_alone w s).pending → (sim.to z ≡ s) × In z d.pending
     pub sent : (r : ℕ) (z : M) → In z (ran_alone w r).at.aside → In z d.pending
-    pub all : (z : M) → In z d.pending → sim.time z < end → In z (ran_alone w (sim.to z)).pending ⊎ ((r : ℕ) × In z (ran_alone w r).at.aside)
+    pub all : (z : M) → In z d.pending → sim.time z < end →
+        In z (ran_alone w (sim.to z)).pending ⊎ ((r : ℕ) × In z (ran_alone w r).at.aside)
 
-module _ {S M N : Type 0} {sim : Simulation S M N} {Good : ℕ → S → Type 0} (law : HandlesLawfully sim Good) (bound end : ℕ) (before_end : bound ≤ end) (due : ℕ → List M) where
+module _ {S M N : Type 0} {sim : Simulation S M N} {Good : ℕ → S → Type 0} (law : HandlesLawfully sim Good)
+    (bound end : ℕ) (before_end : bound ≤ end) (due : ℕ → List M) where
   -- with a turn of the world, the receiver's window takes one
   split_step : (w0 : Config (World S M N) M) (x : World S M N) (m : M) (q : List M) (k : ℕ → Config (Part S M N) M) →
       AllGood Good x → Sorted sim.order (m ∷ q) → sim.time m < bound →
@@ -137,7 +139,8 @@ module _ {S M N : Type 0} {sim : Simulation S M N} {Good : ℕ → S → Type 0}
         },
       )
     where
-      stays : (z : M) → (bound ≤ sim.time z) × (In z (m ∷ q)) → (bound ≤ sim.time z) × In z (insert_all sim.order (sim.handle (sim.to m) (x.states (sim.to m)) m).sends q)
+      stays : (z : M) → (bound ≤ sim.time z) × (In z (m ∷ q)) →
+          (bound ≤ sim.time z) × In z (insert_all sim.order (sim.handle (sim.to m) (x.states (sim.to m)) m).sends q)
       stays z b = (
         b.0,
         elim b.1 [
@@ -147,7 +150,8 @@ module _ {S M N : Type 0} {sim : Simulation S M N} {Good : ℕ → S → Type 0}
       )
 
   -- at first the windows are as they open
-  split_begin : (w : Config (World S M N) M) → Opens sim bound end due w → Split sim bound end due w w (opened sim bound end due w)
+  split_begin : (w : Config (World S M N) M) → Opens sim bound end due w →
+      Split sim bound end due w w (opened sim bound end due w)
   split_begin w h = record {
     state = λ s. refl;
     log = λ s. refl;
@@ -160,7 +164,9 @@ module _ {S M N : Type 0} {sim : Simulation S M N} {Good : ℕ → S → Type 0}
   }
 
   -- where the turns of a world lead, the windows of its stations are
-  split_reach : (w d : Config (World S M N) M) → Fine sim.order sim.time (AllGood Good) 0 w → Opens sim bound end due w → Reach sim.order sim.time (world_step sim.to sim.handle) bound w d → (k : ℕ → Config (Part S M N) M) × Split sim bound end due w d k
+  split_reach : (w d : Config (World S M N) M) → Fine sim.order sim.time (AllGood Good) 0 w → Opens sim bound end due w →
+      Reach sim.order sim.time (world_step sim.to sim.handle) bound w d →
+      (k : ℕ → Config (Part S M N) M) × Split sim bound end due w d k
   split_reach w d f h r =
       fine_keeps law.order (world_lawful law) 0 (λ d. (k : ℕ → Config (Part S M N) M) × Split sim bound end due w d k)
       (opened sim bound end due w, split_begin w h)
@@ -168,7 +174,8 @@ module _ {S M N : Type 0} {sim : Simulation S M N} {Good : ℕ → S → Type 0}
       f r
 
   -- where the windows are at the bound, they give what the world has
-  windows_of : (w d : Config (World S M N) M) (k : ℕ → Config (Part S M N) M) → Split sim bound end due w d k → ((s : ℕ) → k s ≡ ran_alone sim bound end due w s) → Windows sim bound end due w d
+  windows_of : (w d : Config (World S M N) M) (k : ℕ → Config (Part S M N) M) → Split sim bound end due w d k →
+      ((s : ℕ) → k s ≡ ran_alone sim bound end due w s) → Windows sim bound end due w d
   windows_of w d k h is = record {
     state = λ s. subst (λ c. c.at.state ≡ d.at.states s) (is s) (h.state s);
     log = λ s. subst (λ c. log_of sim.to s d.at.trace ≡ c.at.log) (is s) (h.log s);
@@ -181,7 +188,9 @@ module _ {S M N : Type 0} {sim : Simulation S M N} {Good : ℕ → S → Type 0}
   }
 
   -- where the turns of a world lead and nothing before the bound is left, the windows give what the world has
-  pub windows_give : (w d : Config (World S M N) M) → Fine sim.order sim.time (AllGood Good) 0 w → Opens sim bound end due w → Reach sim.order sim.time (world_step sim.to sim.handle) bound w d → Done sim.time bound d → Windows sim bound end due w d
+  pub windows_give : (w d : Config (World S M N) M) → Fine sim.order sim.time (AllGood Good) 0 w →
+      Opens sim bound end due w → Reach sim.order sim.time (world_step sim.to sim.handle) bound w d →
+      Done sim.time bound d → Windows sim bound end due w d
   windows_give w d f h r done =
       let a = split_reach w d f h r in
       windows_of w d a.0 a.1 (λ s. run_is law.order (part_lawful law s) bound (opened sim bound end due w s) (a.0 s)

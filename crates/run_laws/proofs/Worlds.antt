@@ -24,7 +24,8 @@ pub put_other : {A : Type 0} (f : ℕ → A) (r : ℕ) (v : A) (s : ℕ) → (s 
 put_other f r v s n = rw (ne_eqb s r n)
 
 -- what holds of the new value, and of the others as they were, holds of each
-pub put_cases : {A : Type 0} (P : ℕ → A → Type 0) (f : ℕ → A) (r : ℕ) (v : A) → P r v → ((s : ℕ) → (s ≡ r → ⊥) → P s (f s)) → (s : ℕ) → P s (put f r v s)
+pub put_cases : {A : Type 0} (P : ℕ → A → Type 0) (f : ℕ → A) (r : ℕ) (v : A) → P r v →
+    ((s : ℕ) → (s ≡ r → ⊥) → P s (f s)) → (s : ℕ) → P s (put f r v s)
 put_cases P f r v a b s = elim (cases_eq s r) [
   | inl e ↦ subst (P s) (sym (put_same f r v s e)) (subst (λ t. P t v) (sym e) a)
   | inr n ↦ subst (P s) (sym (put_other f r v s n)) (b s n)
@@ -32,12 +33,16 @@ put_cases P f r v a b s = elim (cases_eq s r) [
 
 module _ {M N : Type 0} (to : M → ℕ) where
   -- a station's log has its own new entry
-  pub log_here : (s : ℕ) (es : List (Entry M N)) (e : Entry M N) → to e.msg ≡ s → log_of to s (es ++ e ∷ []) ≡ log_of to s es ++ e ∷ []
-  log_here s es e h = filter-append (λ e. to e.msg == s) es (e ∷ []) ∙ ap (λ b. log_of to s es ++ cond b (e ∷ []) []) (eq-eqb (to e.msg) s h)
+  pub log_here : (s : ℕ) (es : List (Entry M N)) (e : Entry M N) → to e.msg ≡ s →
+      log_of to s (es ++ e ∷ []) ≡ log_of to s es ++ e ∷ []
+  log_here s es e h = filter-append (λ e. to e.msg == s) es (e ∷ []) ∙ ap (λ b. log_of to s es ++ cond b (e ∷ []) [])
+      (eq-eqb (to e.msg) s h)
 
   -- and not another's
-  pub log_there : (s : ℕ) (es : List (Entry M N)) (e : Entry M N) → (to e.msg ≡ s → ⊥) → log_of to s (es ++ e ∷ []) ≡ log_of to s es
-  log_there s es e h = filter-append (λ e. to e.msg == s) es (e ∷ []) ∙ ap (λ b. log_of to s es ++ cond b (e ∷ []) []) (ne_eqb (to e.msg) s h) ∙ append-nil (log_of to s es)
+  pub log_there : (s : ℕ) (es : List (Entry M N)) (e : Entry M N) → (to e.msg ≡ s → ⊥) →
+      log_of to s (es ++ e ∷ []) ≡ log_of to s es
+  log_there s es e h = filter-append (λ e. to e.msg == s) es (e ∷ []) ∙ ap (λ b. log_of to s es ++ cond b (e ∷ []) [])
+      (ne_eqb (to e.msg) s h) ∙ append-nil (log_of to s es)
 
 module _ {S M N : Type 0} (sim : Simulation S M N) where
   -- the entry of a message that is handled in a state
@@ -53,7 +58,8 @@ module _ {S M N : Type 0} (sim : Simulation S M N) where
   ]
 
   -- an opening is the first message of a station
-  pub in_openings : (n : ℕ) (z : M) → In z (openings sim n) → (s : ℕ) × ((0 < s) × (s ≤ n)) × ((sim.setup s).first ≡ Some z)
+  pub in_openings : (n : ℕ) (z : M) → In z (openings sim n) →
+      (s : ℕ) × ((0 < s) × (s ≤ n)) × ((sim.setup s).first ≡ Some z)
   in_openings zero z i = absurd i
   in_openings (suc n) z i = elim (first_in (openings sim n) (sim.setup (suc n)).first z i) [
     | inl j ↦ let h = in_openings n z j in let above : 0 < h.0 = h.1.0 in let most : h.0 ≤ n = h.1.1 in (h.0, (omega arith, omega arith), h.2)
@@ -61,7 +67,8 @@ module _ {S M N : Type 0} (sim : Simulation S M N) where
   ]
 
   -- a planned message is a decision at its place
-  pub in_planned : (k : ℕ) (plans : List Planned) (z : M) → In z (planned sim k plans) → (i : ℕ) × (p : Planned) × (k ≤ i) × In p plans × (z ≡ sim.decided i p)
+  pub in_planned : (k : ℕ) (plans : List Planned) (z : M) → In z (planned sim k plans) →
+      (i : ℕ) × (p : Planned) × (k ≤ i) × In p plans × (z ≡ sim.decided i p)
   in_planned k [] z i = absurd i
   in_planned k (p ∷ ps) z (inl e) = (k, p, omega arith, inl refl, e)
   in_planned k (p ∷ ps) z (inr j) = let h = in_planned (suc k) ps z j in let l = h.2 in (h.0, h.1, omega arith, inr h.3, h.4)
@@ -90,15 +97,18 @@ module _ {S M N : Type 0} {sim : Simulation S M N} {Good : ℕ → S → Type 0}
   }
 
   -- a run to a front is reached by turns before the front, and has none left
-  pub run_reached : (plans : List Planned) (front : ℕ) → Reach sim.order sim.time (world_step sim.to sim.handle) front (begin sim plans) (run sim plans front) × Fine sim.order sim.time (AllGood Good) front (run sim plans front)
-  run_reached plans front = run_reach law.order world_lawful front front (begin sim plans) (omega arith) (begins_fine plans)
+  pub run_reached : (plans : List Planned) (front : ℕ) →
+      Reach sim.order sim.time (world_step sim.to sim.handle) front (begin sim plans) (run sim plans front) × Fine sim.order sim.time (AllGood Good) front (run sim plans front)
+  run_reached plans front = run_reach law.order world_lawful front front (begin sim plans) (omega arith)
+      (begins_fine plans)
 
   -- a fine world may begin at an earlier time
   pub run_fine : (plans : List Planned) (front : ℕ) → Fine sim.order sim.time (AllGood Good) 0 (run sim plans front)
   run_fine plans front = let h = (run_reached plans front).1 in record { good = h.good; sorted = h.sorted; from_t = all_from_zero sim.time (run sim plans front).pending }
 
   -- from a front, the run to a later one goes on
-  pub run_goes_on : (plans : List Planned) (front bound : ℕ) → front ≤ bound → Reach sim.order sim.time (world_step sim.to sim.handle) bound (run sim plans front) (run sim plans bound)
+  pub run_goes_on : (plans : List Planned) (front bound : ℕ) → front ≤ bound →
+      Reach sim.order sim.time (world_step sim.to sim.handle) bound (run sim plans front) (run sim plans bound)
   run_goes_on plans front bound l =
       subst (Reach sim.order sim.time (world_step sim.to sim.handle) bound (run sim plans front))
       (run_on law.order world_lawful front bound (begin sim plans) l (begins_fine plans))

@@ -1,13 +1,14 @@
 -- Copies of one station: a copy stands for a set of clones, and each of its pending messages is marked with clones.
 --
 -- A clone takes the messages whose marks have it and that come before its end. What it takes of a copy makes it
--- a station by itself, one whose sends at its end or later are dropped.
-use Rattle.std.specs.Prelude.{◌≡◌, ◌⊎◌, ℕ, ◌+◌, ◌<◌, ◌≤◌, List, [], ◌∷◌, ◌++◌, if◌then◌else◌, Bool, true, false, ◌==◌, ◌&&◌, ◌||◌, map, length, take, nat_lt, Option, Some, None, ⊤}
+-- a station by itself, one whose sends at its end or later are dropped. So what is sent at a clone's end or later may
+-- be marked with it or not: nothing that is said here tells the two apart.
+use Rattle.std.specs.Prelude.{◌≡◌, ◌⊎◌, ℕ, ◌+◌, ◌<◌, ◌≤◌, List, [], ◌∷◌, ◌++◌, if◌then◌else◌, Bool, true, false, ◌==◌, ◌&&◌, map, length, take, nat_lt, Option, Some, None, ⊤}
 use Rattle.std.specs.List.{AllByRecursion}
 use Rattle.std.specs.declared.cmp.Ordering.{Ordering}
-use Rattle.std.specs.declared.cmp.Ordering.TheVariants.{Less}
 use Rattle.sim_base.specs.Clones.{Clone, clone_at}
 use Rattle.sim_base.specs.Pending.{insert_marked}
+use Rattle.sim_base.specs.Marked.{SortedMarked}
 use Rattle.sim_base.specs.declared.entry.Entry.{Entry}
 use Rattle.run_laws.specs.Queue.{insert, In}
 use Rattle.run_laws.specs.Machine.{Config, Reach, Done}
@@ -29,20 +30,6 @@ module _ {M K : Type 0} (join : K → K → K) (cmp : M → M → Ordering) wher
   abbrev pub insert_marked_all : List M → K → List (M × K) → List (M × K)
   insert_marked_all [] k q = q
   insert_marked_all (x ∷ xs) k q = insert_marked_all xs k (insert_marked join cmp x k q)
-
-module _ {M K : Type 0} (cmp : M → M → Ordering) where
-  -- m comes before all of the messages
-  abbrev pub Above : M → List (M × K) → Type 0
-  Above m xs = AllByRecursion (λ y. cmp m y.0 ≡ Less) xs
-
-  -- each message comes before all that follow it
-  abbrev pub SortedMarked : List (M × K) → Type 0
-  SortedMarked [] = ⊤
-  SortedMarked (x ∷ xs) = Above x.0 xs × SortedMarked xs
-
--- marks that are joined are those of both
-pub record JoinsMarks {K : Type 0} (has : K → ℕ → Bool) (join : K → K → K) : Type 0 where
-  pub joined : (a b : K) (c : ℕ) → has (join a b) c ≡ (has a c || has b c)
 
 -- a copy of a station: the clones that it stands for, their state and log, and what is pending to them
 pub record Copy (S M N K : Type 0) : Type 0 where
@@ -143,20 +130,25 @@ module _ {S M N K : Type 0} (sim : Simulation S M N) (has : K → ℕ → Bool) 
 
     -- the log of clone c gets longer than the limit
     abbrev pub GoesOver : Copy S M N K → List (M × K) → ℕ → Type 0
-    GoesOver r sent c = (last : Config (Part S M N) M) → Turns c (view c r sent) last → Settled last → sim.limit < length last.at.log
+    GoesOver r sent c = (last : Config (Part S M N) M) → Turns c (view c r sent) last → Settled last →
+        sim.limit < length last.at.log
 
     -- the copies that come of r at the bound: with each, its clones have taken their turns; clones whose logs
     -- get too long are put with those over the limit; n prefixes were gained, of logs cut to the limit
-    pub record Ends (r : Copy S M N K) (results : List (Copy S M N K)) (before after : List (M × K)) (over over_after : K) (n : ℕ) : Type 0 where
+    pub record Ends (r : Copy S M N K) (results : List (Copy S M N K)) (before after : List (M × K)) (over over_after : K)
+        (n : ℕ) : Type 0 where
       pub inhabited : (b : Copy S M N K) → In b results → (c : ℕ) × Carries has b c
       pub gained : IsCount (IsGained (IsCutLog r before) r.log) n
       pub within : (b : Copy S M N K) (c : ℕ) → In b results → Carries has b c → Carries has r c
-      pub ran : (b : Copy S M N K) (c : ℕ) → In b results → Carries has b c → Turns c (view c r before) (view c b after) × Settled (view c b after)
+      pub ran : (b : Copy S M N K) (c : ℕ) → In b results → Carries has b c →
+          Turns c (view c r before) (view c b after) × Settled (view c b after)
       pub short : (b : Copy S M N K) → In b results → length b.log ≤ sim.limit
-      pub some : (c : ℕ) → Carries has r c → ((b : Copy S M N K) × In b results × Carries has b c) ⊎ (has over_after c ≡ true)
+      pub some : (c : ℕ) → Carries has r c →
+          ((b : Copy S M N K) × In b results × Carries has b c) ⊎ (has over_after c ≡ true)
       pub too_long : (c : ℕ) → has over_after c ≡ true → (has over c ≡ true) ⊎ (Carries has r c × GoesOver r before c)
       pub still_over : (c : ℕ) → has over c ≡ true → has over_after c ≡ true
-      pub parted : (a b : Copy S M N K) (c d : ℕ) → In a results → In b results → Carries has a c → Carries has b d → a.log ≡ b.log → a ≡ b
+      pub parted : (a b : Copy S M N K) (c d : ℕ) → In a results → In b results → Carries has a c → Carries has b d →
+          a.log ≡ b.log → a ≡ b
       pub disjoint : Disjoint has results
       pub others : (c : ℕ) → has r.set c ≡ false → taken c after ≡ taken c before
 
@@ -167,29 +159,43 @@ module _ {S M N K : Type 0} (sim : Simulation S M N) (has : K → ℕ → Bool) 
     -- what a step of a station's copies gives: for each clone what its window by itself gives, before its end
     pub record IsStepped (old new : List (Copy S M N K)) (out : List (M × K)) : Type 0 where
       pub inhabited : (b : Copy S M N K) → In b new → (c : ℕ) × Carries has b c
-      pub from : (b : Copy S M N K) → In b new → (a : Copy S M N K) × In a old × ((c : ℕ) → Carries has b c → Carries has a c)
-      pub carried : (a : Copy S M N K) (c : ℕ) → In a old → Carries has a c → (b : Copy S M N K) × In b new × Carries has b c
-      pub log : (a b : Copy S M N K) (c : ℕ) → In a old → In b new → Carries has a c → Carries has b c → b.log ≡ (alone_from a c).at.log
-      pub state : (a b : Copy S M N K) (c : ℕ) → In a old → In b new → Carries has a c → Carries has b c → b.state ≡ (alone_from a c).at.state
-      pub pending : (a b : Copy S M N K) (c : ℕ) → In a old → In b new → Carries has a c → Carries has b c → taken c b.pending ≡ earlier_than sim.time (ends c) (alone_from a c).pending
-      pub sent : (a : Copy S M N K) (c : ℕ) → In a old → Carries has a c → taken c out ≡ earlier_than sim.time (ends c) (alone_from a c).at.aside
-      pub parted : (a b1 b2 : Copy S M N K) (c d : ℕ) → In a old → In b1 new → In b2 new → Carries has a c → Carries has a d → Carries has b1 c → Carries has b2 d → b1.log ≡ b2.log → b1 ≡ b2
+      pub from : (b : Copy S M N K) → In b new →
+          (a : Copy S M N K) × In a old × ((c : ℕ) → Carries has b c → Carries has a c)
+      pub carried : (a : Copy S M N K) (c : ℕ) → In a old → Carries has a c →
+          (b : Copy S M N K) × In b new × Carries has b c
+      pub log : (a b : Copy S M N K) (c : ℕ) → In a old → In b new → Carries has a c → Carries has b c →
+          b.log ≡ (alone_from a c).at.log
+      pub state : (a b : Copy S M N K) (c : ℕ) → In a old → In b new → Carries has a c → Carries has b c →
+          b.state ≡ (alone_from a c).at.state
+      pub pending : (a b : Copy S M N K) (c : ℕ) → In a old → In b new → Carries has a c → Carries has b c →
+          taken c b.pending ≡ earlier_than sim.time (ends c) (alone_from a c).pending
+      pub sent : (a : Copy S M N K) (c : ℕ) → In a old → Carries has a c →
+          taken c out ≡ earlier_than sim.time (ends c) (alone_from a c).at.aside
+      pub parted : (a b1 b2 : Copy S M N K) (c d : ℕ) → In a old → In b1 new → In b2 new → Carries has a c →
+          Carries has a d → Carries has b1 c → Carries has b2 d → b1.log ≡ b2.log → b1 ≡ b2
       pub disjoint : Disjoint has new
 
     -- those over the limit are the clones of the copies whose windows by themselves give logs that are too long
     pub record AreOver (old : List (Copy S M N K)) (over : K) : Type 0 where
-      pub from : (c : ℕ) → has over c ≡ true → (a : Copy S M N K) × In a old × Carries has a c × (sim.limit < length (alone_from a c).at.log)
-      pub all : (a : Copy S M N K) (c : ℕ) → In a old → Carries has a c → sim.limit < length (alone_from a c).at.log → has over c ≡ true
+      pub from : (c : ℕ) → has over c ≡ true →
+          (a : Copy S M N K) × In a old × Carries has a c × (sim.limit < length (alone_from a c).at.log)
+      pub all : (a : Copy S M N K) (c : ℕ) → In a old → Carries has a c → sim.limit < length (alone_from a c).at.log →
+          has over c ≡ true
 
     -- the copies stepped so far
     pub record SoFar (old new : List (Copy S M N K)) (out : List (M × K)) (over0 over : K) : Type 0 where
       pub inhabited : (b : Copy S M N K) → In b new → (c : ℕ) × Carries has b c
-      pub from : (b : Copy S M N K) → In b new → (a : Copy S M N K) × In a old × ((c : ℕ) → Carries has b c → Carries has a c)
-      pub carried : (a : Copy S M N K) (c : ℕ) → In a old → Carries has a c → ((b : Copy S M N K) × In b new × Carries has b c) ⊎ (has over c ≡ true)
-      pub ran : (a b : Copy S M N K) (c : ℕ) → In a old → In b new → Carries has a c → Carries has b c → Turns c (view c a []) (view c b out) × Settled (view c b out)
+      pub from : (b : Copy S M N K) → In b new →
+          (a : Copy S M N K) × In a old × ((c : ℕ) → Carries has b c → Carries has a c)
+      pub carried : (a : Copy S M N K) (c : ℕ) → In a old → Carries has a c →
+          ((b : Copy S M N K) × In b new × Carries has b c) ⊎ (has over c ≡ true)
+      pub ran : (a b : Copy S M N K) (c : ℕ) → In a old → In b new → Carries has a c → Carries has b c →
+          Turns c (view c a []) (view c b out) × Settled (view c b out)
       pub short : (b : Copy S M N K) → In b new → length b.log ≤ sim.limit
-      pub too_long : (c : ℕ) → has over c ≡ true → (has over0 c ≡ true) ⊎ ((a : Copy S M N K) × In a old × Carries has a c × GoesOver a [] c)
-      pub parted : (a b1 b2 : Copy S M N K) (c d : ℕ) → In a old → In b1 new → In b2 new → Carries has a c → Carries has a d → Carries has b1 c → Carries has b2 d → b1.log ≡ b2.log → b1 ≡ b2
+      pub too_long : (c : ℕ) → has over c ≡ true →
+          (has over0 c ≡ true) ⊎ ((a : Copy S M N K) × In a old × Carries has a c × GoesOver a [] c)
+      pub parted : (a b1 b2 : Copy S M N K) (c d : ℕ) → In a old → In b1 new → In b2 new → Carries has a c →
+          Carries has a d → Carries has b1 c → Carries has b2 d → b1.log ≡ b2.log → b1 ≡ b2
       pub disjoint : Disjoint has new
       pub idle : (c : ℕ) → ((a : Copy S M N K) → In a old → Carries has a c → ⊥) → taken c out ≡ []
 
@@ -198,12 +204,14 @@ module _ {S M N K : Type 0} (sim : Simulation S M N) (has : K → ℕ → Bool) 
     pub set : b.set ≡ a.set
     pub log : b.log ≡ a.log
     pub state : b.state ≡ a.state
-    pub parts : (c : ℕ) → Carries has a c → taken c b.pending ≡ (if takes m k c then insert sim.order m (taken c a.pending) else taken c a.pending)
+    pub parts : (c : ℕ) → Carries has a c →
+        taken c b.pending ≡ (if takes m k c then insert sim.order m (taken c a.pending) else taken c a.pending)
     pub sorted : SortedMarked sim.order b.pending
 
   -- what the messages msgs make of the copies
   pub record SoFarGiven (msgs : List (M × K)) (new done : List (Copy S M N K)) : Type 0 where
-    pub from : (b : Copy S M N K) → In b done → (a : Copy S M N K) × In a new × (b.set ≡ a.set) × (b.log ≡ a.log) × (b.state ≡ a.state)
+    pub from : (b : Copy S M N K) → In b done →
+        (a : Copy S M N K) × In a new × (b.set ≡ a.set) × (b.log ≡ a.log) × (b.state ≡ a.state)
         × ((c : ℕ) (z : M) → Carries has a c → In z (taken c b.pending) → In z (taken c a.pending) ⊎ In z (taken c msgs))
         × ((c : ℕ) (z : M) → Carries has a c → In z (taken c a.pending) ⊎ In z (taken c msgs) → In z (taken c b.pending))
     pub each : (a : Copy S M N K) → In a new → (b : Copy S M N K) × In b done × (b.set ≡ a.set)
@@ -243,9 +251,12 @@ module _ {S M N K : Type 0} (sim : Simulation S M N) (has : K → ℕ → Bool) 
     pub living : (a : Copy S M N K) (c : ℕ) → In a copies → Carries has a c → c < length cs
     pub disjoint : Disjoint has copies
     pub log : (a : Copy S M N K) (c : ℕ) → In a copies → Carries has a c → a.log ≡ log_at sim (clone_at cs c) s front
-    pub state : (a : Copy S M N K) (c : ℕ) → In a copies → Carries has a c → a.state ≡ state_at sim (clone_at cs c) s front
-    pub due : (a : Copy S M N K) (c : ℕ) → In a copies → Carries has a c → taken sim has (ends_of sim cs) c a.pending ≡ due_at sim (clone_at cs c) s front
-    pub shared : (a b : Copy S M N K) (c d : ℕ) → In a copies → In b copies → Carries has a c → Carries has b d → log_at sim (clone_at cs c) s front ≡ log_at sim (clone_at cs d) s front → a ≡ b
+    pub state : (a : Copy S M N K) (c : ℕ) → In a copies → Carries has a c →
+        a.state ≡ state_at sim (clone_at cs c) s front
+    pub due : (a : Copy S M N K) (c : ℕ) → In a copies → Carries has a c →
+        taken sim has (ends_of sim cs) c a.pending ≡ due_at sim (clone_at cs c) s front
+    pub shared : (a b : Copy S M N K) (c d : ℕ) → In a copies → In b copies → Carries has a c → Carries has b d →
+        log_at sim (clone_at cs c) s front ≡ log_at sim (clone_at cs d) s front → a ≡ b
     pub sorted : (a : Copy S M N K) → In a copies → SortedMarked sim.order a.pending
 
   -- what came of the copies of each station up to a bound, and what each station sent
@@ -261,8 +272,10 @@ module _ {S M N K : Type 0} (sim : Simulation S M N) (has : K → ℕ → Bool) 
     pub state : b.state ≡ a.state
     pub from : (c : ℕ) (z : M) → Carries has a c → In z (taken sim has (ends_of sim cs) c b.pending) →
         In z (taken sim has (ends_of sim cs) c a.pending) ⊎ ((r : ℕ) × In z (taken sim has (ends_of sim cs) c (sent r)) × (sim.to z ≡ s))
-    pub kept : (c : ℕ) (z : M) → Carries has a c → In z (taken sim has (ends_of sim cs) c a.pending) → In z (taken sim has (ends_of sim cs) c b.pending)
-    pub got : (c r : ℕ) (z : M) → Carries has a c → In z (taken sim has (ends_of sim cs) c (sent r)) → sim.to z ≡ s → In z (taken sim has (ends_of sim cs) c b.pending)
+    pub kept : (c : ℕ) (z : M) → Carries has a c → In z (taken sim has (ends_of sim cs) c a.pending) →
+        In z (taken sim has (ends_of sim cs) c b.pending)
+    pub got : (c r : ℕ) (z : M) → Carries has a c → In z (taken sim has (ends_of sim cs) c (sent r)) → sim.to z ≡ s →
+        In z (taken sim has (ends_of sim cs) c b.pending)
 
   -- what the stations sent to station s has reached its copies
   pub record IsDelivered (s : ℕ) (sent : ℕ → List (M × K)) (new done : List (Copy S M N K)) : Type 0 where

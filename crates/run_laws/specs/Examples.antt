@@ -3,13 +3,14 @@
 use Rattle.std.specs.Prelude.{ℕ, ◌+◌, ◌-◌, ◌==◌, nat_lt, if◌then◌else◌, List, [], ◌∷◌, Some, None, Bool, ◌&&◌, codes, ⊤}
 use Rattle.std.specs.Ordering.{nat_cmp, ordering_then}
 use Rattle.std.specs.declared.cmp.Ordering.{Ordering}
-use Rattle.sim_base.specs.Clones.{Clone, base}
+use Rattle.sim_base.specs.Clones.{Clone, base, forked}
 use Rattle.sim_base.specs.declared.decision.Planned.{Planned}
 use Rattle.sim_base.specs.declared.message.Param.TheVariants.{Room}
 use Rattle.sim_base.specs.declared.entry.Entry.{Entry}
 use Rattle.run_laws.specs.Machine.{Config}
 use Rattle.run_laws.specs.Simulation.{Simulation}
 use Rattle.run_laws.specs.Window.{Part, local}
+use Rattle.run_laws.specs.Merges.{merge_of_logs}
 use Rattle.run_laws.specs.Runs.{log_at, state_at, due_at, end_of}
 
 -- the number is 0 for the ball that goes to and fro
@@ -75,12 +76,28 @@ brief = record { name = codes "brief"; plans = throw_in 7 1 ∷ []; end = Some 8
 abbrev pub brief_trace : List (Entry Ball ℕ)
 brief_trace = caught 2 0 1 1 ∷ caught 5 0 2 1 ∷ caught 7 1 1 2 ∷ []
 
+-- a ball at 11 is still caught, one at the horizon no more
+abbrev pub last_minute : Clone
+last_minute = record { name = codes "last-minute"; plans = throw_in 12 1 ∷ throw_in 11 1 ∷ []; end = None }
+
+abbrev pub last_minute_trace : List (Entry Ball ℕ)
+last_minute_trace = caught 2 0 1 1 ∷ caught 5 0 2 1 ∷ caught 8 0 1 2 ∷ caught 11 0 2 2 ∷ caught 11 2 1 3 ∷ []
+
 abbrev pub all_three : List Clone
 all_three = base ∷ busy ∷ brief ∷ []
+
+-- with a twin of busy, the clone at place 1
+abbrev pub with_twin : List Clone
+with_twin = forked all_three (codes "twin") 1
+
+-- a clone's trace, out of its two stations' logs: nobody is the sender, and numbers tell balls of a time apart
+abbrev pub merged_trace : Clone → List (Entry Ball ℕ)
+merged_trace c = merge_of_logs game (λ b. 0) (λ b. b.number) c 12 2
 
 abbrev pub same_catch : Entry Ball ℕ → Entry Ball ℕ → Bool
 same_catch e f = ((e.msg.time == f.msg.time && e.msg.number == f.msg.number) && e.msg.to == f.msg.to) && e.line == f.line
 
 -- one station's window by itself, from how it stands in a clone at a front
 abbrev pub window_of : Clone → ℕ → ℕ → ℕ → Config (Part ℕ Ball ℕ) Ball
-window_of c s front bound = local game s (log_at game c s front) (state_at game c s front) (due_at game c s front) bound (end_of game c)
+window_of c s front bound = local game s (log_at game c s front) (state_at game c s front)
+    (due_at game c s front) bound (end_of game c)

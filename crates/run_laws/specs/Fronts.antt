@@ -1,5 +1,5 @@
 -- The window rule: how far all stations may go side by side.
-use Rattle.std.specs.Prelude.{◌≡◌, ℕ, ◌+◌, List, [], ◌∷◌, min, Option, Some, None}
+use Rattle.std.specs.Prelude.{◌≡◌, ℕ, ◌+◌, ◌<◌, ◌≤◌, List, [], ◌∷◌, min, Option, Some, None}
 use Rattle.sim_base.specs.Clones.{Clone}
 use Rattle.run_laws.specs.Simulation.{Simulation}
 use Rattle.run_laws.specs.Runs.{all_due}
@@ -35,7 +35,12 @@ module _ {S M N : Type 0} (sim : Simulation S M N) where
   abbrev pub next_front : List Clone → ℕ → ℕ
   next_front cs front = window_end (least cs front)
 
-  -- from a front on, each is the next front of the one before, and the last is the horizon
+  -- a window of all stations: from a front to a bound that is not past the next front
+  pub record IsWindow (cs : List Clone) (front bound : ℕ) : Type 0 where
+    pub later : front ≤ bound
+    pub within : bound ≤ next_front cs front
+
+  -- from a front on, each is the next front of the one before, which lies below the horizon; the last is the horizon
   abbrev pub AreFronts : List Clone → ℕ → List ℕ → Type 0
   AreFronts cs front [] = front ≡ sim.horizon
-  AreFronts cs front (f ∷ fs) = (f ≡ next_front cs front) × AreFronts cs f fs
+  AreFronts cs front (f ∷ fs) = (front < sim.horizon) × (f ≡ next_front cs front) × AreFronts cs f fs

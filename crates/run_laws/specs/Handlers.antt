@@ -30,7 +30,8 @@ pub record IsLawful {X M : Type 0} (time : M → ℕ) (handle : X → M → X ×
 
 -- by time, then sender, then number
 abbrev pub key_order : {M : Type 0} → (M → ℕ) → (M → ℕ) → (M → ℕ) → M → M → Ordering
-key_order time sender number x y = ordering_then (nat_cmp (time x) (time y)) (ordering_then (nat_cmp (sender x) (sender y)) (nat_cmp (number x) (number y)))
+key_order time sender number x y = ordering_then (nat_cmp (time x) (time y))
+    (ordering_then (nat_cmp (sender x) (sender y)) (nat_cmp (number x) (number y)))
 
 module _ {S M N : Type 0} where
   -- each station of a world is in a good state
@@ -52,27 +53,33 @@ module _ {S M N : Type 0} (sim : Simulation S M N) where
     pub opens : (s : ℕ) → Good s (sim.setup s).state
     pub keeps : (s : ℕ) (st : S) (m : M) → Good s st → Good s (sim.handle s st m).state
     -- what is sent comes later
-    pub later : (s : ℕ) (st : S) (m : M) → Good s st → AllByRecursion (λ z. sim.time m < sim.time z) (sim.handle s st m).sends
+    pub later : (s : ℕ) (st : S) (m : M) → Good s st →
+        AllByRecursion (λ z. sim.time m < sim.time z) (sim.handle s st m).sends
     -- and to another station by the lookahead later, or more
-    pub far : (s : ℕ) (st : S) (m z : M) → Good s st → In z (sim.handle s st m).sends → ¬ (sim.to z ≡ s) → sim.time m + sim.lookahead ≤ sim.time z
+    pub far : (s : ℕ) (st : S) (m z : M) → Good s st → In z (sim.handle s st m).sends → ¬ (sim.to z ≡ s) →
+        sim.time m + sim.lookahead ≤ sim.time z
 
   -- every message is for a station, where the decisions are
   pub record SendsToStations (Good : ℕ → S → Type 0) : Type 0 where
     pub first : (s : ℕ) (m : M) → IsStation s → (sim.setup s).first ≡ Some m → sim.to m ≡ s
     pub decided : (k : ℕ) (p : Planned) → sim.to (sim.decided k p) ≡ p.station
-    pub sends : (s : ℕ) (st : S) (m z : M) → IsStation s → Good s st → In z (sim.handle s st m).sends → IsStation (sim.to z)
+    pub sends : (s : ℕ) (st : S) (m z : M) → IsStation s → Good s st → In z (sim.handle s st m).sends →
+        IsStation (sim.to z)
 
-  -- no two messages of a run have one sender and number: a station numbers what it sends, and a decision,
-  -- whose sender is 0, has its place in the list
+  -- a station numbers what it sends, each number once, and a decision, whose sender is 0, has its place in the list
   pub record HandlesFreshly (Good : ℕ → S → Type 0) (sender number : M → ℕ) (next : S → ℕ) : Type 0 where
     -- messages that differ in time, sender or number are ordered by those
-    pub keyed : (x y : M) → sim.order x y ≡ Less → (key_order sim.time sender number x y ≡ Less) ⊎ (key_order sim.time sender number x y ≡ Equal)
+    pub keyed : (x y : M) → sim.order x y ≡ Less →
+        (key_order sim.time sender number x y ≡ Less) ⊎ (key_order sim.time sender number x y ≡ Equal)
     -- what a station opens with is its own, of a number that is used up
-    pub opened : (s : ℕ) (m : M) → IsStation s → (sim.setup s).first ≡ Some m → (sender m ≡ s) × (number m < next (sim.setup s).state)
+    pub opened : (s : ℕ) (m : M) → IsStation s → (sim.setup s).first ≡ Some m →
+        (sender m ≡ s) × (number m < next (sim.setup s).state)
     pub decided : (k : ℕ) (p : Planned) → (sender (sim.decided k p) ≡ 0) × (number (sim.decided k p) ≡ k)
     -- what a station sends is its own, and has numbers from the next one on, which are used up then, each number once
     pub mine : (s : ℕ) (st : S) (m z : M) → IsStation s → Good s st → In z (sim.handle s st m).sends → sender z ≡ s
     pub low : (s : ℕ) (st : S) (m z : M) → IsStation s → Good s st → In z (sim.handle s st m).sends → next st ≤ number z
-    pub high : (s : ℕ) (st : S) (m z : M) → IsStation s → Good s st → In z (sim.handle s st m).sends → number z < next (sim.handle s st m).state
+    pub high : (s : ℕ) (st : S) (m z : M) → IsStation s → Good s st → In z (sim.handle s st m).sends →
+        number z < next (sim.handle s st m).state
     pub rises : (s : ℕ) (st : S) (m : M) → IsStation s → Good s st → next st ≤ next (sim.handle s st m).state
-    pub apart : (s : ℕ) (st : S) (m z y : M) → IsStation s → Good s st → In z (sim.handle s st m).sends → In y (sim.handle s st m).sends → number z ≡ number y → z ≡ y
+    pub apart : (s : ℕ) (st : S) (m z y : M) → IsStation s → Good s st → In z (sim.handle s st m).sends →
+        In y (sim.handle s st m).sends → number z ≡ number y → z ≡ y

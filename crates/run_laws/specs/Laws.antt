@@ -8,10 +8,10 @@ use Rattle.sim_base.specs.declared.entry.Entry.{Entry}
 use Rattle.run_laws.specs.Queue.{insert, In, Sorted}
 use Rattle.run_laws.specs.Machine.{Config, run_to, Reach, Done}
 use Rattle.run_laws.specs.Simulation.{Simulation}
-use Rattle.run_laws.specs.World.{replay}
+use Rattle.run_laws.specs.World.{World, replay}
 use Rattle.run_laws.specs.Window.{Part, local, earlier_than}
 use Rattle.run_laws.specs.Runs.{end_of, run_of, log_at, state_at, all_due, due_at}
-use Rattle.run_laws.specs.Fronts.{next_front}
+use Rattle.run_laws.specs.Fronts.{IsWindow}
 use Rattle.run_laws.specs.Handlers.{key_order, IsStation, AreForStations}
 
 -- a message more is pending
@@ -52,6 +52,10 @@ with_plan c p = record c { plans = c.plans ++ p ∷ [] }
 abbrev pub with_end : Clone → ℕ → Clone
 with_end c at = record c { end = Some at }
 
+-- a message that a world has handled, or that is pending there
+abbrev pub IsMessageOf : {S M N : Type 0} → Config (World S M N) M → M → Type 0
+IsMessageOf w m = In m (map (λ e. e.msg) w.at.trace) ⊎ In m w.pending
+
 module _ {S M N : Type 0} (sim : Simulation S M N) where
   -- the entries before a front
   abbrev pub before : ℕ → List (Entry M N) → List (Entry M N)
@@ -62,14 +66,25 @@ module _ {S M N : Type 0} (sim : Simulation S M N) where
   TraceRises sender number = (c : Clone) (front : ℕ) → AreForStations sim c.plans →
       Sorted (key_order sim.time sender number) (map (λ e. e.msg) (run_of sim c front).at.trace)
 
+  -- no two messages of a clone have one sender and number
+  abbrev pub NumbersAreOnce : (M → ℕ) → (M → ℕ) → Type 0
+  NumbersAreOnce sender number = (c : Clone) (front : ℕ) (m k : M) → AreForStations sim c.plans →
+      IsMessageOf (run_of sim c front) m → IsMessageOf (run_of sim c front) k → sender m ≡ sender k →
+      number m ≡ number k → m ≡ k
+
   -- every message that is due is for a station, where the decisions are
   abbrev pub DueIsForStations : Type 0
-  DueIsForStations = (c : Clone) (front : ℕ) (m : M) → AreForStations sim c.plans → In m (all_due sim c front) → IsStation sim (sim.to m)
+  DueIsForStations = (c : Clone) (front : ℕ) (m : M) → AreForStations sim c.plans → In m (all_due sim c front) →
+      IsStation sim (sim.to m)
 
   -- the state of a station at a front is what the messages of its log lead to from its opening state
   abbrev pub StateIsReplay : Type 0
   StateIsReplay = (c : Clone) (s front : ℕ) →
       state_at sim c s front ≡ replay sim.to sim.handle s (sim.setup s).state (log_at sim c s front)
+
+  -- whatever the log, that state is good
+  abbrev pub ReplayIsGood : (ℕ → S → Type 0) → Type 0
+  ReplayIsGood Good = (s : ℕ) (es : List (Entry M N)) → Good s (replay sim.to sim.handle s (sim.setup s).state es)
 
   -- two clones whose logs at a station are equal have it in one state
   abbrev pub EqualLogsEqualStates : Type 0
@@ -78,13 +93,15 @@ module _ {S M N : Type 0} (sim : Simulation S M N) where
 
   -- the log of a station at a front is that part of any later log which comes before the front
   abbrev pub LogAtFront : Type 0
-  LogAtFront = (c : Clone) (s front bound : ℕ) → front ≤ bound → before front (log_at sim c s bound) ≡ log_at sim c s front
+  LogAtFront = (c : Clone) (s front bound : ℕ) → front ≤ bound →
+      before front (log_at sim c s bound) ≡ log_at sim c s front
 
   -- what a new decision, as the message m, changes at a front: m is due, where it comes before the clone's end
   pub record AddsDue (c : Clone) (p : Planned) (m : M) (front : ℕ) : Type 0 where
     pub world : (run_of sim (with_plan c p) front).at ≡ (run_of sim c front).at
     pub due : all_due sim (with_plan c p) front ≡ (if nat_lt (sim.time m) (end_of sim c) then insert sim.order m (all_due sim c front) else all_due sim c front)
-    pub due_here : (s : ℕ) → due_at sim (with_plan c p) s front ≡ (if nat_lt (sim.time m) (end_of sim c) && sim.to m == s then insert sim.order m (due_at sim c s front) else due_at sim c s front)
+    pub due_here : (s : ℕ) →
+        due_at sim (with_plan c p) s front ≡ (if nat_lt (sim.time m) (end_of sim c) && sim.to m == s then insert sim.order m (due_at sim c s front) else due_at sim c s front)
 
   -- a decision at or after a front adds its message to what is due, and changes nothing else
   abbrev pub LateDecisionAddsDue : Type 0
@@ -104,7 +121,8 @@ module _ {S M N : Type 0} (sim : Simulation S M N) where
 
   -- station s of a clone by itself, from a front to a bound
   abbrev pub window : Clone → ℕ → ℕ → ℕ → Config (Part S M N) M
-  window c s front bound = local sim s (log_at sim c s front) (state_at sim c s front) (due_at sim c s front) bound (end_of sim c)
+  window c s front bound = local sim s (log_at sim c s front) (state_at sim c s front)
+      (due_at sim c s front) bound (end_of sim c)
 
   -- the stations of a clone, each by itself from a front to a bound, come to what the clone's run comes to;
   -- due at a station is then what it has left, and what others have laid aside for it, before the clone's end
@@ -117,4 +135,5 @@ module _ {S M N : Type 0} (sim : Simulation S M N) where
 
   -- so it is for each of several clones, where the bound is not past their next front
   abbrev pub WindowsGiveRuns : Type 0
-  WindowsGiveRuns = (cs : List Clone) (c : Clone) (front bound : ℕ) → In c cs → front ≤ bound → bound ≤ next_front sim cs front → WindowsGive c front bound
+  WindowsGiveRuns = (cs : List Clone) (c : Clone) (front bound : ℕ) → In c cs → IsWindow sim cs front bound →
+      WindowsGive c front bound

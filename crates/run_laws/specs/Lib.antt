@@ -13,3 +13,10 @@ pub mod Copies
 pub mod CopyLaws
 pub mod StepLaws
 pub mod Examples
+pub mod Merges
+pub mod TraceLaws
+pub mod MarkLaws
+pub mod FrontLaws
+pub mod CountLaws
+pub mod SharedTexts
+pub mod Numbers

@@ -1,8 +1,9 @@
 -- Pending messages of one clone: a list in the order of cmp, each element once.
-use Rattle.std.specs.Prelude.{◌≡◌, ◌⊎◌, List, [], ◌∷◌, ⊤}
+use Rattle.std.specs.Prelude.{◌≡◌, List, [], ◌∷◌, ⊤}
 use Rattle.std.specs.List.{AllByRecursion}
 use Rattle.std.specs.declared.cmp.Ordering.{Ordering}
 use Rattle.std.specs.declared.cmp.Ordering.TheVariants.{Less, Equal, Greater}
+pub use Rattle.sim_base.specs.Counts.{In}
 
 -- x before y ∷ ys, in y's stead, or in the rest after y
 abbrev pub place : {X : Type 0} → Ordering → X → X → List X → List X → List X
@@ -25,8 +26,3 @@ module _ {X : Type 0} (cmp : X → X → Ordering) where
   abbrev pub Sorted : List X → Type 0
   Sorted [] = ⊤
   Sorted (x ∷ xs) = AllByRecursion (λ y. cmp x y ≡ Less) xs × Sorted xs
-
--- x is an element of the list
-abbrev pub In : {X : Type 0} → X → List X → Type 0
-In x [] = ⊥
-In x (y ∷ ys) = (x ≡ y) ⊎ In x ys

@@ -1,5 +1,5 @@
 -- What the clones have in common, by their logs alone: classes, messages handled once and alone, the limit.
-use Rattle.std.specs.Prelude.{◌≡◌, ℕ, ◌<◌, List, [], ◌∷◌, ◌&&◌, Bool, true, false, map, length, sum_by}
+use Rattle.std.specs.Prelude.{◌≡◌, ℕ, ◌<◌, List, [], ◌∷◌, ◌&&◌, Bool, true, false, map, length, take, sum_by}
 use Rattle.std.specs.List.{flat_map}
 use Rattle.std.specs.Set.{distinct_count}
 use Rattle.sim_base.specs.Clones.{Clone}
@@ -44,3 +44,8 @@ module _ {S M N : Type 0} (sim : Simulation S M N) where
     -- of different nonempty prefixes of their logs
     abbrev pub handled : List Clone → ℕ → ℕ → ℕ
     handled cs s front = distinct_count (same_list same) (flat_map prefixes (logs_at cs s front))
+
+    -- handled once, where of each log no more counts than the limit allows
+    abbrev pub handled_to_limit : List Clone → ℕ → ℕ → ℕ
+    handled_to_limit cs s front = distinct_count (same_list same)
+        (flat_map prefixes (map (take sim.limit) (logs_at cs s front)))

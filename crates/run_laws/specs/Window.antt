@@ -38,4 +38,5 @@ module _ {S M N : Type 0} (sim : Simulation S M N) where
   -- one station's window, from its log, state and pending messages: it handles, least first,
   -- the messages below the bound and below the end of its clone
   abbrev pub local : ℕ → List (Entry M N) → S → List M → ℕ → ℕ → Config (Part S M N) M
-  local s log state pending bound end = run_to sim.order (part_step sim.to sim.handle s) sim.time (alone_at log state pending) (min bound end)
+  local s log state pending bound end = run_to sim.order (part_step sim.to sim.handle s) sim.time (alone_at log state pending)
+      (min bound end)

@@ -1,13 +1,14 @@
 //! A small simulation, computed by the checker from the definitions of a run alone.
 //!
 //! It stands in `specs/Examples.antt`. Each function's contract is a theorem; there is nothing to run.
-ghost use Rattle.std.specs.Prelude.{◌≡◌, [], ◌∷◌};
+ghost use Rattle.std.specs.Prelude.{◌≡◌, [], ◌∷◌, Some, None};
 ghost use Rattle.sim_base.specs.Clones.{base};
-ghost use Rattle.run_laws.specs.Runs.{trace_of, due_at};
-ghost use Rattle.run_laws.specs.Fronts.{AreFronts};
-ghost use Rattle.run_laws.specs.Sharing.{copies, handled, alone, IsBeyond};
+ghost use Rattle.run_laws.specs.Runs.{trace_of, all_due, due_at};
+ghost use Rattle.run_laws.specs.Fronts.{least_of, least, AreFronts};
+ghost use Rattle.run_laws.specs.FrontLaws.{least_to};
+ghost use Rattle.run_laws.specs.Sharing.{copies, handled, handled_to_limit, alone, IsBeyond};
 ghost use Rattle.run_laws.specs.Handlers.{HandlesLawfully, SendsToStations};
-ghost use Rattle.run_laws.specs.Examples.{game, AnyState, base_trace, busy, busy_trace, brief, brief_trace, all_three, same_catch, window_of, caught, ball};
+ghost use Rattle.run_laws.specs.Examples.{game, AnyState, base_trace, busy, busy_trace, brief, brief_trace, last_minute, last_minute_trace, all_three, with_twin, merged_trace, same_catch, window_of, caught, ball};
 
 /// A run handles messages by time, and those of one time in their order; a clone's end stops it.
 pub fn traces()
@@ -21,6 +22,28 @@ pub fn fronts()
     ensures plain { AreFronts game (base ∷ []) 0 (5 ∷ 8 ∷ 11 ∷ 12 ∷ []) }
     ensures all { AreFronts game all_three 0 (5 ∷ 8 ∷ 11 ∷ 12 ∷ []) }
     ensures ended { AreFronts game (brief ∷ []) 0 (5 ∷ 8 ∷ 12 ∷ []) }
+{}
+
+/// What comes at the horizon is pending, and never due.
+pub fn at_the_horizon()
+    ensures trace { trace_of game last_minute ≡ last_minute_trace }
+    ensures due { due_at game last_minute 1 11 ≡ ball 11 2 1 ∷ [] }
+    ensures nothing_left { all_due game last_minute 12 ≡ [] }
+    ensures fronts { AreFronts game (last_minute ∷ []) 0 (5 ∷ 8 ∷ 11 ∷ 12 ∷ []) }
+{}
+
+/// The least time that is due: of a clone, by its stations, and of several.
+pub fn due_times()
+    ensures clone { least_of game brief 5 ≡ Some 5 }
+    ensures stations { least_to game brief 5 2 ≡ Some 5 }
+    ensures after_its_end { least_of game brief 8 ≡ None }
+    ensures all { least game all_three 6 ≡ Some 6 }
+{}
+
+/// A trace is the merge of the two stations' logs.
+pub fn merging()
+    ensures busy { merged_trace busy ≡ busy_trace }
+    ensures last_minute { merged_trace last_minute ≡ last_minute_trace }
 {}
 
 /// One station's window from 5 to 8: its log grows, and what it sent to the other is laid aside.
@@ -37,10 +60,13 @@ pub fn windows()
 pub fn sharing()
     ensures copies_of_1 { copies game same_catch all_three 1 12 ≡ 3 }
     ensures handled_of_1 { handled game same_catch all_three 1 12 ≡ 8 }
+    ensures handled_to_the_limit_of_1 { handled_to_limit game same_catch all_three 1 12 ≡ 4 }
     ensures alone_of_1 { alone game all_three 1 12 ≡ 10 }
     ensures copies_of_2 { copies game same_catch all_three 2 12 ≡ 2 }
     ensures handled_of_2 { handled game same_catch all_three 2 12 ≡ 2 }
     ensures alone_of_2 { alone game all_three 2 12 ≡ 5 }
+    ensures handled_with_twin { handled game same_catch with_twin 1 12 ≡ 8 }
+    ensures alone_with_twin { alone game with_twin 1 12 ≡ 16 }
     ensures beyond { IsBeyond game 1 12 busy }
     ensures within { ¬ (IsBeyond game 1 12 base) }
 {}

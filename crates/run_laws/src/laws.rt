@@ -5,9 +5,15 @@ ghost use Rattle.std.specs.Prelude.{ℕ, List};
 ghost use Rattle.std.specs.declared.cmp.Ordering.{Ordering as Order};
 ghost use Rattle.run_laws.specs.Simulation.{Simulation};
 ghost use Rattle.run_laws.specs.Handlers.{IsTimed, IsLawful, HandlesLawfully, SendsToStations, HandlesFreshly};
-ghost use Rattle.run_laws.specs.Laws.{RunIsReached, RunIsDetermined, RunGoesOn, LateMessageStaysPending, TraceRises, DueIsForStations, StateIsReplay, EqualLogsEqualStates, LogAtFront, LateDecisionAddsDue, LateEndDropsDue, WindowsGiveRuns};
+ghost use Rattle.run_laws.specs.Laws.{RunIsReached, RunIsDetermined, RunGoesOn, LateMessageStaysPending, TraceRises, NumbersAreOnce, DueIsForStations, StateIsReplay, ReplayIsGood, EqualLogsEqualStates, LogAtFront, LateDecisionAddsDue, LateEndDropsDue, WindowsGiveRuns};
 ghost use Rattle.run_laws.specs.StepLaws.{SettledCopyStays, FullCopyGoesOver, SharedMessageIsHandledOnce, MessageOfNoneIsPassedOver, CopySplits, StepTakesCopies, StepGivesWindows, StepFindsThoseOver, CopiesGainTogether, NothingIsGiven, MessageIsGiven, GivenIsDelivered};
-ghost use Rattle.run_laws.specs.CopyLaws.{StandsAtStart, StandsAfterWindow, StandsAfterDecision, StandsAfterOtherDecision, StandsAfterEnd, StandsAfterFork, CopiesAreLogs, HandledGrows, OverIsBeyond};
+ghost use Rattle.run_laws.specs.Numbers.{EntriesAreApart};
+ghost use Rattle.run_laws.specs.TraceLaws.{TraceIsOfLogs, TraceIsMerge};
+ghost use Rattle.run_laws.specs.FrontLaws.{FrontIsFar, FrontRises, FrontsRise, FrontsGoOn, FrontsAreOne, LeastIsOfStations, LeastAtDecision, LeastAtEnd, LeastAtFork, FrontStaysAtFork, LeastIsOfCopies};
+ghost use Rattle.run_laws.specs.MarkLaws.{HalfTakesTheSame, HalfKeepsItsMarks, ForkTakesAsItsOrigin};
+ghost use Rattle.run_laws.specs.CountLaws.{CountsAreFew, NothingIsHandledAtFirst, HandledStaysAtDecision, HandledStaysAtEnd, HandledStaysAtFork, CopiesAreLogs, HandledGrows, HandledGrowsToLimit, OverIsBeyond, HandledIsFew, CopyGainsFew, CopiesGainFew, WindowsAddUp, RunAddsUp, AloneIsOfCopies, ClonesAreOfCopies, CopyIsClass};
+ghost use Rattle.run_laws.specs.CopyLaws.{StandsAtStart, StandsAfterWindow, StandsAfterDecision, StandsAfterOtherDecision, StandsAfterEnd, StandsAfterFork};
+ghost use Rattle.run_laws.specs.StepLaws.{LateCopyIsSettled};
 
 /// A machine that stays in good states, and whose sends come later than what it handles.
 pub trait Machine<X, M> {
@@ -54,15 +60,24 @@ pub fn running<X, M, T: Machine<X, M>>()
     ensures late { LateMessageStaysPending T.order T.time T.handle T.good }
 {}
 
-/// A trace rises strictly, and what is due is for stations.
+/// A trace rises strictly, no number is used twice, and what is due is for stations.
 pub fn ordering<S, M, N, T: Numbered<S, M, N>>()
     ensures rises { TraceRises T.sim T.sender T.number }
+    ensures once { NumbersAreOnce T.sim T.sender T.number }
+    ensures entries { EntriesAreApart T.sim T.sender T.number }
     ensures for_stations { DueIsForStations T.sim }
+{}
+
+/// A trace is what the logs of the stations make together, in the order of messages.
+pub fn merging<S, M, N, T: Numbered<S, M, N>>()
+    ensures of_logs { TraceIsOfLogs T.sim T.sender T.number }
+    ensures merge { TraceIsMerge T.sim T.sender T.number }
 {}
 
 /// A log tells its station's state, and that log at each earlier front.
 pub fn logs<S, M, N, T: Stations<S, M, N>>()
     ensures replay { StateIsReplay T.sim }
+    ensures good { ReplayIsGood T.sim T.good }
     ensures equal { EqualLogsEqualStates T.sim }
     ensures at_front { LogAtFront T.sim }
 {}
@@ -75,12 +90,32 @@ pub fn late<S, M, N, T: Stations<S, M, N>>()
 
 /// Up to the next front each station may go by itself.
 pub fn windows<S, M, N, T: Stations<S, M, N>>()
-    ensures { WindowsGiveRuns T.sim }
+    ensures alone { WindowsGiveRuns T.sim }
+{}
+
+/// From front to front a run comes to the horizon, and there it ends.
+pub fn fronts<S, M, N, T: Stations<S, M, N>>()
+    ensures far { FrontIsFar T.sim }
+    ensures rises { FrontRises T.sim }
+    ensures to_horizon { FrontsRise T.sim }
+    ensures go_on { FrontsGoOn T.sim }
+    ensures one_list { FrontsAreOne T.sim }
+{}
+
+/// The least time that is due in a clone, by its stations and after each change of it, and in all clones by the copies.
+pub fn due_times<S, M, N, K, T: Stations<S, M, N>>()
+    ensures stations { LeastIsOfStations T.sim }
+    ensures decision { LeastAtDecision T.sim }
+    ensures ending { LeastAtEnd T.sim }
+    ensures forking { LeastAtFork T.sim }
+    ensures front_at_fork { FrontStaysAtFork T.sim }
+    ensures copies { LeastIsOfCopies K T.sim }
 {}
 
 /// What comes of a station's copies up to a bound, message by message and copy by copy, and that it is what the
 /// clones' own windows give.
 pub fn stepping<S, M, N, K, T: Stations<S, M, N>>()
+    ensures late { LateCopyIsSettled K T.sim T.good }
     ensures settled { SettledCopyStays K T.sim T.good }
     ensures full { FullCopyGoesOver K T.sim T.good }
     ensures shared { SharedMessageIsHandledOnce K T.sim T.good }
@@ -90,6 +125,13 @@ pub fn stepping<S, M, N, K, T: Stations<S, M, N>>()
     ensures windows { StepGivesWindows K T.sim T.good }
     ensures over { StepFindsThoseOver K T.sim T.good }
     ensures gains { CopiesGainTogether K T.sim T.good }
+{}
+
+/// Cut to a half, and spread to a fork, pending messages are taken as they were.
+pub fn marking<S, M, N, K, T: Stations<S, M, N>>()
+    ensures half { HalfTakesTheSame K T.sim }
+    ensures half_marks { HalfKeepsItsMarks K T.sim }
+    ensures fork { ForkTakesAsItsOrigin K T.sim }
 {}
 
 /// What a station was sent is given to its copies message by message, and then it is delivered.
@@ -114,4 +156,34 @@ pub fn counting<S, M, N, K, T: Stations<S, M, N>>()
     ensures copies { CopiesAreLogs K T.sim }
     ensures grows { HandledGrows K T.sim }
     ensures over { OverIsBeyond K T.sim }
+{}
+
+/// Handled once is nothing at the start, and a decision, an end or a fork leaves it.
+pub fn handling<S, M, N, T: Stations<S, M, N>>()
+    ensures first { NothingIsHandledAtFirst T.sim }
+    ensures decision { HandledStaysAtDecision T.sim }
+    ensures ending { HandledStaysAtEnd T.sim }
+    ensures forking { HandledStaysAtFork T.sim }
+{}
+
+/// What windows gain where logs may get too long, that it is little, and that all windows gain what is handled once.
+pub fn gaining<S, M, N, K, T: Stations<S, M, N>>()
+    ensures to_limit { HandledGrowsToLimit K T.sim }
+    ensures few { HandledIsFew K T.sim }
+    ensures copy { CopyGainsFew K T.sim T.good }
+    ensures copies { CopiesGainFew K T.sim T.good }
+    ensures windows { WindowsAddUp K T.sim }
+    ensures run { RunAddsUp K T.sim }
+{}
+
+/// Where no log is beyond the limit the counts of a report are few.
+pub fn limits<S, M, N, T: Stations<S, M, N>>()
+    ensures few { CountsAreFew T.sim }
+{}
+
+/// Out of the copies: handled alone, the number of clones, and who shares a log.
+pub fn summing<S, M, N, K, T: Stations<S, M, N>>()
+    ensures alone { AloneIsOfCopies K T.sim }
+    ensures clones { ClonesAreOfCopies K T.sim }
+    ensures class { CopyIsClass K T.sim }
 {}

@@ -33,3 +33,15 @@ returns-clause-beyond c = lit< tt
 pub returns-clause-within : goal.returns-clause-within
 unfolding run_to
 returns-clause-within c = λ h. let never : 2 < 2 = h in omega arith
+
+pub returns-clause-handled_to_the_limit_of_1 : goal.returns-clause-handled_to_the_limit_of_1
+unfolding run_to
+returns-clause-handled_to_the_limit_of_1 c = refl
+
+pub returns-clause-handled_with_twin : goal.returns-clause-handled_with_twin
+unfolding run_to
+returns-clause-handled_with_twin c = refl
+
+pub returns-clause-alone_with_twin : goal.returns-clause-alone_with_twin
+unfolding run_to
+returns-clause-alone_with_twin c = refl

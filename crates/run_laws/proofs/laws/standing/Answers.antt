@@ -7,7 +7,8 @@ pub returns-clause-start : goal.returns-clause-start
 returns-clause-start g c = λ has only s first_alone here. stands_first g.T.Stations.lawful g.T.Stations.to_stations has only first_alone s here
 
 pub returns-clause-window : goal.returns-clause-window
-returns-clause-window g c = stands_after_window g.T.Stations.lawful g.T.Stations.to_stations
+returns-clause-window g c = λ has cs front bound olds news sent s done there window stepped here delivered.
+    stands_after_window g.T.Stations.lawful g.T.Stations.to_stations has cs front bound olds news sent s done there window.later window.within stepped here delivered
 
 pub returns-clause-decision : goal.returns-clause-decision
 returns-clause-decision g c = λ has cs front s who p m k copies done there is late to_s for_it for_no_other zip st. stands_after_decision g.T.Stations.lawful has cs front s who p m k copies done there is late to_s for_it for_no_other zip st

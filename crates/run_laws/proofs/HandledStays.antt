@@ -1,0 +1,95 @@
+-- What was handled once at a front: nothing at the start, and the same after a decision, an end and a fork.
+use Rattle.std.proofs.Common.{◌≡◌, ℕ, zero, suc, ◌<◌, ◌≤◌, List, [], ◌∷◌, ◌++◌, inl, inr, Bool, None, refl, sym, ap, ◌∙◌, subst, arith, map, length, slice_set}
+use Rattle.std.specs.Bool.{Decides}
+use Rattle.std.specs.List.{flat_map}
+use Rattle.std.specs.Set.{distinct_count}
+use Rattle.sim_base.specs.Clones.{Clone, clone_at, added, ended, forked}
+use Rattle.sim_base.specs.declared.decision.Planned.{Planned}
+use Rattle.sim_base.specs.declared.entry.Entry.{Entry}
+use Rattle.run_laws.specs.Queue.{In}
+use Rattle.run_laws.specs.Simulation.{Simulation}
+use Rattle.run_laws.specs.World.{log_of}
+use Rattle.run_laws.specs.Runs.{end_of, log_at}
+use Rattle.run_laws.specs.Handlers.{HandlesLawfully}
+use Rattle.run_laws.specs.Laws.{with_plan, with_end}
+use Rattle.run_laws.specs.Sharing.{prefixes, same_list, logs_at, handled}
+use Rattle.run_laws.specs.Prefixes.{IsGained}
+use Rattle.run_laws.proofs.Lists.{in_append, append_old}
+use Rattle.run_laws.proofs.Prefixes.{gained_same, count_unique}
+use Rattle.run_laws.proofs.Counts.{prefixes_count, in_map, map_has}
+use Rattle.run_laws.proofs.Stands.{clone_in}
+use Rattle.run_laws.proofs.Beginning.{run_at_0}
+use Rattle.run_laws.proofs.Forks.{log_at-fork}
+use Rattle.run_laws.proofs.Late.{late_decision_adds_due, late_end_drops_due}
+
+-- a list in which the element at a place is changed to one with the same image has the same images
+map-set : {Y : Type 0} (f : Clone → Y) (cs : List Clone) (who : ℕ) (k : Clone) → who < length cs →
+    f k ≡ f (clone_at cs who) → map f (slice_set cs who k) ≡ map f cs
+map-set f [] who k l e = absurd (omega arith)
+map-set f (c ∷ cs) zero k l e = ap (λ y. y ∷ map f cs) e
+map-set f (c ∷ cs) (suc who) k l e = ap (λ ys. f c ∷ ys) (map-set f cs who k (omega arith) e)
+
+-- empty lists have no prefixes
+no_prefixes : {E C : Type 0} (f : C → List E) (cs : List C) → ((c : C) → f c ≡ []) → flat_map prefixes (map f cs) ≡ []
+no_prefixes f [] h = refl
+no_prefixes f (c ∷ cs) h = ap (λ l. prefixes l ++ flat_map prefixes (map f cs)) (h c) ∙ no_prefixes f cs h
+
+-- ---- handled
+
+module _ {S M N : Type 0} (sim : Simulation S M N) where
+  -- before 0
+  pub log_at-0 : (c : Clone) (s : ℕ) → log_at sim c s 0 ≡ []
+  log_at-0 c s = ap (λ w. log_of sim.to s w.at.trace) (run_at_0 sim c)
+
+  pub handled-0 : (same : Entry M N → Entry M N → Bool) (cs : List Clone) (s : ℕ) → handled sim same cs s 0 ≡ 0
+  handled-0 same cs s = ap (λ l. distinct_count (same_list same) l)
+      (no_prefixes (λ c. log_at sim c s 0) cs (λ c. log_at-0 c s))
+
+module _ {S M N : Type 0} {sim : Simulation S M N} {Good : ℕ → S → Type 0} (law : HandlesLawfully sim Good) where
+  -- a decision at the front or later
+  pub handled-added : (same : Entry M N → Entry M N → Bool) (cs : List Clone) (front s who : ℕ) (p : Planned) →
+      who < length cs →
+      front ≤ sim.time (sim.decided (length (clone_at cs who).plans) p) →
+      handled sim same (added cs who p) s front ≡ handled sim same cs s front
+  handled-added same cs front s who p there late =
+      ap (λ l. distinct_count (same_list same) (flat_map prefixes l))
+      (map-set (λ c. log_at sim c s front) cs who (with_plan (clone_at cs who) p) there
+      (ap (λ w. log_of sim.to s w.trace) (late_decision_adds_due law (clone_at cs who) p front late).world))
+
+  -- an end at the front or later
+  pub handled-ended : (same : Entry M N → Entry M N → Bool) (cs : List Clone) (front s who at : ℕ) → who < length cs →
+      front ≤ at → at ≤ end_of sim (clone_at cs who) →
+      handled sim same (ended cs who at) s front ≡ handled sim same cs s front
+  handled-ended same cs front s who at there late within =
+      ap (λ l. distinct_count (same_list same) (flat_map prefixes l))
+      (map-set (λ c. log_at sim c s front) cs who (with_end (clone_at cs who) at) there
+      (ap (λ w. log_of sim.to s w.trace) (late_end_drops_due law (clone_at cs who) at front late within).world))
+
+module _ {S M N : Type 0} (sim : Simulation S M N) (same : Entry M N → Entry M N → Bool)
+    (decides : (x y : Entry M N) → Decides (same x y) (x ≡ y)) where
+  -- the same logs have the same prefixes
+  pub same_prefixes : (xs ys : List (List (Entry M N))) → ((l : List (Entry M N)) → In l xs → In l ys) →
+      ((l : List (Entry M N)) → In l ys → In l xs) →
+      distinct_count (same_list same) (flat_map prefixes xs) ≡ distinct_count (same_list same) (flat_map prefixes ys)
+  same_prefixes xs ys f g = count_unique (IsGained (λ l. In l ys) [])
+      (distinct_count (same_list same) (flat_map prefixes xs)) (distinct_count (same_list same) (flat_map prefixes ys))
+      (gained_same (λ l. In l xs) (λ l. In l ys) [] (distinct_count (same_list same) (flat_map prefixes xs)) f g (prefixes_count same decides xs))
+      (prefixes_count same decides ys)
+
+  -- a fork has the log of its old clone
+  pub handled-forked : (cs : List Clone) (name : List ℕ) (old s front : ℕ) → old < length cs →
+      (clone_at cs old).end ≡ None → handled sim same (forked cs name old) s front ≡ handled sim same cs s front
+  handled-forked cs name old s front there open_end =
+      let k : Clone = record { name = name; plans = (clone_at cs old).plans; end = None } in
+      let f : Clone → List (Entry M N) = λ c. log_at sim c s front in
+      let here : List (List (Entry M N)) = logs_at sim cs s front in
+      let log : f k ≡ f (clone_at cs old) = log_at-fork sim (clone_at cs old) name open_end s front in
+      same_prefixes (logs_at sim (forked cs name old) s front) here
+      (λ l i. let h = in_map f (cs ++ k ∷ []) l i in elim (in_append cs (k ∷ []) h.0 h.1) [
+        | inl j ↦ subst (λ u. In u here) (sym h.2) (map_has f cs h.0 j)
+        | inr j ↦ elim j [
+          | inl e ↦ subst (λ u. In u here) (sym (h.2 ∙ ap f e ∙ log)) (map_has f cs (clone_at cs old) (clone_in cs old there))
+          | inr z ↦ absurd z
+        ]
+      ])
+      (λ l i. let h = in_map f cs l i in subst (λ u. In u (logs_at sim (forked cs name old) s front)) (sym h.2) (map_has f (cs ++ k ∷ []) h.0 (append_old cs (k ∷ []) h.0 h.1)))

@@ -1,0 +1,115 @@
+-- The trace of a clone is the merge of its stations' logs.
+use Rattle.std.proofs.Common.{◌≡◌, ℕ, zero, suc, ◌<◌, ◌≤◌, min, List, [], ◌∷◌, inl, inr, ◌==◌, refl, ap, subst, arith, map, eq-eqb, eqb-true}
+use Rattle.std.specs.declared.cmp.Ordering.{Ordering}
+use Rattle.std.specs.declared.cmp.Ordering.TheVariants.{Less, Equal}
+use Rattle.std.specs.Cmp.{IsTotalOrder}
+use Rattle.std.specs.List.{AllByRecursion}
+use Rattle.std.proofs.lemmas.Bool.{cases_eq}
+use Rattle.std.proofs.lemmas.Cmp.{on_total}
+use Rattle.sim_base.specs.Clones.{Clone}
+use Rattle.sim_base.specs.declared.entry.Entry.{Entry}
+use Rattle.run_laws.specs.Queue.{In, Sorted}
+use Rattle.run_laws.specs.Simulation.{Simulation}
+use Rattle.run_laws.specs.Runs.{end_of, run_of, log_at}
+use Rattle.run_laws.specs.Handlers.{IsStation, AreForStations, key_order, HandlesLawfully, SendsToStations, HandlesFreshly}
+use Rattle.run_laws.proofs.Queue.{all_in}
+use Rattle.run_laws.proofs.Lists.{in_filter, filter_keeps, sorted_filter}
+use Rattle.run_laws.proofs.ForStations.{trace_for_stations}
+use Rattle.run_laws.proofs.Rising.{key_total, trace_rises}
+use Rattle.run_laws.specs.Merges.{entry_order, merge_of_logs}
+use Rattle.run_laws.specs.TraceLaws.{InLogs}
+use Rattle.run_laws.proofs.Merges.{in_merge, merge_has, sorted_merge, same_rising, ties_are_one}
+
+-- entries whose messages are in order are in order
+sorted_entries : {M N : Type 0} (cmp : M → M → Ordering) (es : List (Entry M N)) → Sorted cmp (map (λ e. e.msg) es) →
+    Sorted (λ e f. cmp e.msg f.msg) es
+sorted_entries cmp [] s = tt
+sorted_entries {M} {N} cmp (e ∷ es) s = (before es s.0, sorted_entries cmp es s.1)
+  where
+    before : (fs : List (Entry M N)) → AllByRecursion (λ m. cmp e.msg m ≡ Less) (map (λ e. e.msg) fs) →
+        AllByRecursion (λ f. cmp e.msg f.msg ≡ Less) fs
+    before [] h = tt
+    before (f ∷ fs) h = (h.0, before fs h.1)
+
+module _ {S M N : Type 0} {sim : Simulation S M N} {Good : ℕ → S → Type 0} {sender number : M → ℕ} {next : S → ℕ}
+    (law : HandlesLawfully sim Good) (stations : SendsToStations sim Good)
+    (fresh : HandlesFreshly sim Good sender number next) where
+  abbrev by_key : Entry M N → Entry M N → Ordering
+  by_key = entry_order sim.time sender number
+
+  pub entries_total : IsTotalOrder by_key
+  entries_total = on_total (λ (e : Entry M N). e.msg) (key_total sim.time sender number)
+
+  module _ (c : Clone) (front : ℕ) (there : AreForStations sim c.plans) where
+    abbrev trace : List (Entry M N)
+    trace = (run_of sim c front).at.trace
+
+    pub trace_sorted : Sorted by_key trace
+    trace_sorted = sorted_entries (key_order sim.time sender number) trace (trace_rises law stations fresh c front there)
+
+    -- each entry of the trace is of a station
+    pub of_station : (e : Entry M N) → In e trace → IsStation sim (sim.to e.msg)
+    of_station e i = all_in (λ e. IsStation sim (sim.to e.msg)) trace e
+        (trace_for_stations law stations c.plans (min front (end_of sim c)) there) i
+
+    -- and in its log
+    pub in_some_log : (e : Entry M N) → In e trace → InLogs sim c front e
+    in_some_log e i = (
+      sim.to e.msg,
+      of_station e i,
+      filter_keeps (λ f. sim.to f.msg == sim.to e.msg) trace e i (eq-eqb (sim.to e.msg) (sim.to e.msg) refl),
+    )
+
+    -- and each entry of a log is in the trace
+    pub in_trace : (s : ℕ) (e : Entry M N) → In e (log_at sim c s front) → In e trace
+    in_trace s e i = (in_filter (λ f. sim.to f.msg == s) trace e i).0
+
+    -- a list that rises by key, with the entries of the logs, is the trace
+    pub trace_of_logs : (es : List (Entry M N)) → Sorted by_key es → ((e : Entry M N) → In e es → InLogs sim c front e) →
+        ((e : Entry M N) → InLogs sim c front e → In e es) → es ≡ trace
+    trace_of_logs es sorted from all = same_rising entries_total es trace sorted trace_sorted
+        (λ e i. let h = from e i in in_trace h.0 e h.2)
+        (λ e i. all e (in_some_log e i))
+
+    -- what is in the merged logs of the stations 1 to n
+    in_merged : (n : ℕ) (e : Entry M N) → In e (merge_of_logs sim sender number c front n) →
+        (s : ℕ) × (0 < s) × (s ≤ n) × In e (log_at sim c s front)
+    in_merged zero e i = absurd i
+    in_merged (suc n) e i = elim (in_merge by_key (merge_of_logs sim sender number c front n) (log_at sim c (suc n) front) e i) [
+      | inl j ↦ let h = in_merged n e j in let l = h.1 in let k = h.2 in (h.0, h.1, omega arith, h.3)
+      | inr j ↦ (suc n, omega arith, omega arith, j)
+    ]
+
+    merged_has : (n : ℕ) (e : Entry M N) (s : ℕ) → 0 < s → s ≤ n → In e (log_at sim c s front) →
+        In e (merge_of_logs sim sender number c front n)
+    merged_has zero e s l k i = absurd (omega arith)
+    merged_has (suc n) e s l k i = merge_has by_key (merge_of_logs sim sender number c front n)
+        (log_at sim c (suc n) front) e (elim (cases_eq s (suc n)) [
+          | inl a ↦ inr (subst (λ r. In e (log_at sim c r front)) a i)
+          | inr b ↦ inl (merged_has n e s l (omega arith) i)
+        ])
+
+    -- no entry of an earlier station's log ties with one of the next
+    no_ties : (n : ℕ) (x y : Entry M N) → In x (merge_of_logs sim sender number c front n) →
+        In y (log_at sim c (suc n) front) → by_key x y ≡ Equal → ⊥
+    no_ties n x y i j tie =
+        let h = in_merged n x i in
+        let same : x ≡ y = ties_are_one entries_total trace x y trace_sorted (in_trace h.0 x h.3) (in_trace (suc n) y j) tie in
+        let a : sim.to x.msg ≡ h.0 = eqb-true (sim.to x.msg) h.0 (in_filter (λ f. sim.to f.msg == h.0) trace x h.3).1 in
+        let b : sim.to y.msg ≡ suc n = eqb-true (sim.to y.msg) (suc n) (in_filter (λ f. sim.to f.msg == suc n) trace y j).1 in
+        let l : h.0 ≤ n = h.2 in
+        let same_to : sim.to x.msg ≡ sim.to y.msg = ap (λ e. sim.to e.msg) same in
+        omega (arith, l, a, b, same_to)
+
+    merged_sorted : (n : ℕ) → Sorted by_key (merge_of_logs sim sender number c front n)
+    merged_sorted zero = tt
+    merged_sorted (suc n) = sorted_merge entries_total (merge_of_logs sim sender number c front n)
+        (log_at sim c (suc n) front) (merged_sorted n)
+        (sorted_filter by_key (λ f. sim.to f.msg == suc n) trace trace_sorted) (no_ties n)
+
+    -- the logs merged are the trace
+    pub merge_of_logs-trace : merge_of_logs sim sender number c front sim.stations ≡ trace
+    merge_of_logs-trace = trace_of_logs (merge_of_logs sim sender number c front sim.stations)
+        (merged_sorted sim.stations)
+        (λ e i. let h = in_merged sim.stations e i in (h.0, (h.1, h.2), h.3))
+        (λ e h. merged_has sim.stations e h.0 h.1.0 h.1.1 h.2)

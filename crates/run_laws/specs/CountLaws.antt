@@ -1,0 +1,155 @@
+-- What is proved of the counts of a report, in words that contracts cite: what clones handle once, and each by itself.
+use Rattle.std.specs.Prelude.{◌≡◌, ◌↔◌, ℕ, ◌+◌, ◌*◌, ◌<◌, ◌≤◌, List, [], ◌∷◌, Bool, true, None, length, sum_by}
+use Rattle.std.specs.Bool.{Decides}
+use Rattle.sim_base.specs.Clones.{Clone, clone_at, added, ended, forked}
+use Rattle.sim_base.specs.Marked.{JoinsMarks, SortedMarked}
+use Rattle.sim_base.specs.declared.decision.Planned.{Planned}
+use Rattle.sim_base.specs.declared.entry.Entry.{Entry}
+use Rattle.run_laws.specs.Queue.{In}
+use Rattle.run_laws.specs.Simulation.{Simulation}
+use Rattle.run_laws.specs.Runs.{end_of, log_at}
+use Rattle.run_laws.specs.Fronts.{IsWindow, AreFronts}
+use Rattle.run_laws.specs.Sharing.{copies, handled, handled_to_limit, alone, IsBeyond}
+use Rattle.run_laws.specs.Prefixes.{IsCount, IsGained}
+use Rattle.run_laws.specs.Copies.{Copy, Carries, IsCutLog, GainTogether, AreOver, ends_of, Stands}
+
+-- the test tells entries apart
+abbrev pub TellsEntries : {M N : Type 0} → (Entry M N → Entry M N → Bool) → Type 0
+TellsEntries {M} {N} same = (x y : Entry M N) → Decides (same x y) (x ≡ y)
+
+-- what copies are counted by: which clones marks have and what marks are joined, and a test that tells entries apart
+pub record Counting (M N K : Type 0) : Type 0 where
+  pub has : K → ℕ → Bool
+  pub join : K → K → K
+  pub joins : JoinsMarks has join
+  pub same : Entry M N → Entry M N → Bool
+  pub tells : TellsEntries same
+
+module _ {S M N : Type 0} (sim : Simulation S M N) where
+  -- no clone's log at a station is beyond the limit
+  abbrev pub NoneIsBeyond : List Clone → ℕ → ℕ → Type 0
+  NoneIsBeyond cs s front = (c : ℕ) → c < length cs → length (log_at sim (clone_at cs c) s front) ≤ sim.limit
+
+  -- a report counts no more copies than clones, and no more messages than the limit allows for each clone
+  pub record AreFew (same : Entry M N → Entry M N → Bool) (cs : List Clone) (s front : ℕ) : Type 0 where
+    pub copies_few : copies sim same cs s front ≤ length cs
+    pub handled_few : handled sim same cs s front ≤ length cs * sim.limit
+    pub alone_few : alone sim cs s front ≤ length cs * sim.limit
+
+  -- where no log is beyond the limit
+  abbrev pub CountsAreFew : Type 0
+  CountsAreFew = (same : Entry M N → Entry M N → Bool) (cs : List Clone) (s front : ℕ) → NoneIsBeyond cs s front →
+      AreFew same cs s front
+
+  -- at the start nothing was handled
+  abbrev pub NothingIsHandledAtFirst : Type 0
+  NothingIsHandledAtFirst = (same : Entry M N → Entry M N → Bool) (cs : List Clone) (s : ℕ) → handled sim same cs s 0 ≡ 0
+
+  -- a decision at the front or later leaves what was handled
+  abbrev pub HandledStaysAtDecision : Type 0
+  HandledStaysAtDecision = (same : Entry M N → Entry M N → Bool) (cs : List Clone) (front s who : ℕ) (p : Planned) →
+      who < length cs → front ≤ sim.time (sim.decided (length (clone_at cs who).plans) p) →
+      handled sim same (added cs who p) s front ≡ handled sim same cs s front
+
+  -- and so does an end at the front or later
+  abbrev pub HandledStaysAtEnd : Type 0
+  HandledStaysAtEnd = (same : Entry M N → Entry M N → Bool) (cs : List Clone) (front s who at : ℕ) →
+      who < length cs → front ≤ at → at ≤ end_of sim (clone_at cs who) →
+      handled sim same (ended cs who at) s front ≡ handled sim same cs s front
+
+  -- and a fork
+  abbrev pub HandledStaysAtFork : Type 0
+  HandledStaysAtFork = (same : Entry M N → Entry M N → Bool) (cs : List Clone) (front s old : ℕ) (name : List ℕ) →
+      TellsEntries same →
+      old < length cs → (clone_at cs old).end ≡ None →
+      handled sim same (forked cs name old) s front ≡ handled sim same cs s front
+
+-- K are sets of clones
+module _ {S M N : Type 0} (K : Type 0) (sim : Simulation S M N) where
+  -- there are as many copies as different logs
+  abbrev pub CopiesAreLogs : Type 0
+  CopiesAreLogs = (w : Counting M N K) (cs : List Clone) (front s : ℕ) (old : List (Copy S M N K)) →
+      Stands sim w.has cs front s old → copies sim w.same cs s front ≡ length old
+
+  -- where no log gets too long in a window, and the copies gain so many prefixes, handled once at its bound is
+  -- handled once at the front and these
+  abbrev pub HandledGrows : Type 0
+  HandledGrows = (w : Counting M N K) (cs : List Clone) (front bound s total : ℕ) (old : List (Copy S M N K)) →
+      IsWindow sim cs front bound → NoneIsBeyond sim cs s bound → Stands sim w.has cs front s old →
+      GainTogether sim w.has (ends_of sim cs) s bound old total →
+      handled sim w.same cs s bound ≡ handled sim w.same cs s front + total
+
+  -- where logs get too long, so it is of no log more than the limit
+  abbrev pub HandledGrowsToLimit : Type 0
+  HandledGrowsToLimit = (w : Counting M N K) (cs : List Clone) (front bound s total : ℕ) (old : List (Copy S M N K)) →
+      IsWindow sim cs front bound → NoneIsBeyond sim cs s front → Stands sim w.has cs front s old →
+      GainTogether sim w.has (ends_of sim cs) s bound old total →
+      handled_to_limit sim w.same cs s bound ≡ handled sim w.same cs s front + total
+
+  -- and that is at most as many as the limit allows for each clone
+  abbrev pub HandledIsFew : Type 0
+  HandledIsFew = (w : Counting M N K) (cs : List Clone) (front bound s total : ℕ) (old : List (Copy S M N K)) →
+      IsWindow sim cs front bound → NoneIsBeyond sim cs s front → Stands sim w.has cs front s old →
+      GainTogether sim w.has (ends_of sim cs) s bound old total →
+      handled sim w.same cs s front + total ≤ length cs * sim.limit
+
+  -- those that a step puts over the limit are the clones whose logs at the bound are beyond it
+  abbrev pub OverIsBeyond : Type 0
+  OverIsBeyond = (has : K → ℕ → Bool) (join : K → K → K) (cs : List Clone) (front bound s : ℕ) (old : List (Copy S M N K))
+      (over : K) →
+      JoinsMarks has join → IsWindow sim cs front bound → Stands sim has cs front s old →
+      AreOver sim has (ends_of sim cs) s bound old over → (c : ℕ) →
+      (has over c ≡ true) ↔ ((c < length cs) × IsBeyond sim s bound (clone_at cs c))
+
+  -- what a copy gains is at most the limit for each of its clones, whomever it stands for
+  abbrev pub CopyGainsFew : (ℕ → S → Type 0) → Type 0
+  CopyGainsFew Good = (has : K → ℕ → Bool) (ends : ℕ → ℕ) (s bound n size : ℕ) (r : Copy S M N K) (sent : List (M × K)) →
+      Good s r.state → SortedMarked sim.order r.pending → IsCount (λ c. Carries has r c) size →
+      IsCount (IsGained (IsCutLog sim has ends s bound r sent) r.log) n → n ≤ size * sim.limit
+
+  -- and so it is for several copies
+  abbrev pub CopiesGainFew : (ℕ → S → Type 0) → Type 0
+  CopiesGainFew Good = (has : K → ℕ → Bool) (ends : ℕ → ℕ) (s bound n : ℕ) (size : K → ℕ) (old : List (Copy S M N K)) →
+      ((a : Copy S M N K) → In a old → Good s a.state × SortedMarked sim.order a.pending × IsCount (λ c. Carries has a c) (size a.set)) →
+      GainTogether sim has ends s bound old n → n ≤ sum_by (λ a. size a.set) old * sim.limit
+
+  module _ (has : K → ℕ → Bool) (cs : List Clone) (s : ℕ) where
+    -- from window to window, up to each of the fronts, the copies of station s stand for the clones, and all that
+    -- they gain are n prefixes
+    abbrev pub WindowsGain : ℕ → List ℕ → ℕ → Type 0
+    WindowsGain front [] n = n ≡ 0
+    WindowsGain front (f ∷ fs) n = (copies : List (Copy S M N K)) × (m : ℕ) × (k : ℕ) ×
+        Stands sim has cs front s copies × GainTogether sim has (ends_of sim cs) s f copies m × WindowsGain f fs k × (n ≡ m + k)
+
+  -- where no log gets too long, all windows from a front to the horizon gain what is handled once besides
+  abbrev pub WindowsAddUp : Type 0
+  WindowsAddUp = (w : Counting M N K) (cs : List Clone) (s front n : ℕ) (fs : List ℕ) →
+      0 < sim.lookahead → AreFronts sim cs front fs → NoneIsBeyond sim cs s sim.horizon →
+      WindowsGain w.has cs s front fs n → handled sim w.same cs s sim.horizon ≡ handled sim w.same cs s front + n
+
+  -- so the windows of a run gain what its report says
+  abbrev pub RunAddsUp : Type 0
+  RunAddsUp = (w : Counting M N K) (cs : List Clone) (s n : ℕ) (fs : List ℕ) →
+      0 < sim.lookahead → AreFronts sim cs 0 fs → NoneIsBeyond sim cs s sim.horizon →
+      WindowsGain w.has cs s 0 fs n → handled sim w.same cs s sim.horizon ≡ n
+
+  -- size counts the clones of each copy
+  abbrev pub CountsClones : (K → ℕ → Bool) → (K → ℕ) → List (Copy S M N K) → Type 0
+  CountsClones has size copies = (a : Copy S M N K) → In a copies → IsCount (λ c. Carries has a c) (size a.set)
+
+  -- each clone by itself would handle the messages of its copy's log
+  abbrev pub AloneIsOfCopies : Type 0
+  AloneIsOfCopies = (has : K → ℕ → Bool) (cs : List Clone) (front s : ℕ) (copies : List (Copy S M N K)) (size : K → ℕ) →
+      CountsClones has size copies → Stands sim has cs front s copies → alone sim cs s front ≡ sum_by (λ a. size a.set * length a.log) copies
+
+  -- each clone is in one copy
+  abbrev pub ClonesAreOfCopies : Type 0
+  ClonesAreOfCopies = (has : K → ℕ → Bool) (cs : List Clone) (front s : ℕ) (copies : List (Copy S M N K)) (size : K → ℕ) →
+      CountsClones has size copies → Stands sim has cs front s copies → length cs ≡ sum_by (λ a. size a.set) copies
+
+  -- the clones of one copy are those whose logs are its log
+  abbrev pub CopyIsClass : Type 0
+  CopyIsClass = (has : K → ℕ → Bool) (cs : List Clone) (front s : ℕ) (copies : List (Copy S M N K)) (size : K → ℕ)
+      (a : Copy S M N K) →
+      CountsClones has size copies → Stands sim has cs front s copies → In a copies →
+      IsCount (λ c. (c < length cs) × (log_at sim (clone_at cs c) s front ≡ a.log)) (size a.set)

@@ -1,0 +1,80 @@
+-- What the traces of two clones have in common, and how long their lines are together.
+use Rattle.std.specs.Prelude.{◌≡◌, ℕ, zero, suc, ◌+◌, ◌≤◌, List, [], ◌∷◌, ◌++◌, Bool, true, not, if◌then◌else◌, min, nat_lt, length, take, sum_by}
+use Rattle.std.specs.List.{filter, flat_map}
+use Rattle.sim_base.specs.Clones.{Clone}
+use Rattle.sim_base.specs.declared.decision.Planned.{Planned}
+use Rattle.sim_base.specs.declared.entry.Entry.{Entry}
+use Rattle.run_laws.specs.Queue.{In, Sorted}
+use Rattle.run_laws.specs.Simulation.{Simulation}
+use Rattle.run_laws.specs.World.{planned}
+use Rattle.run_laws.specs.Window.{earlier_than}
+use Rattle.run_laws.specs.Runs.{end_of, trace_of, log_at}
+use Rattle.run_laws.specs.Laws.{before}
+use Rattle.run_laws.specs.Handlers.{IsStation, AreForStations, key_order}
+
+-- the least time, from `most` down, of a decision that one of two lists has at a place and the other has not
+abbrev pub parting : (Planned → Planned → Bool) → ℕ → List Planned → List Planned → ℕ
+parting same most [] [] = most
+parting same most (p ∷ ps) [] = min p.at (parting same most ps [])
+parting same most [] (q ∷ qs) = min q.at (parting same most [] qs)
+parting same most (p ∷ ps) (q ∷ qs) =
+    if same p q then parting same most ps qs else min (min p.at q.at) (parting same most ps qs)
+
+-- the sum of a number for each station from 1 to n
+abbrev pub station_sum : (ℕ → ℕ) → ℕ → ℕ
+station_sum f zero = 0
+station_sum f (suc n) = station_sum f n + f (suc n)
+
+module _ {S M N : Type 0} (sim : Simulation S M N) where
+  -- the entries at a time or after it
+  abbrev pub from_on : ℕ → List (Entry M N) → List (Entry M N)
+  from_on t es = filter (λ e. not (nat_lt (sim.time e.msg) t)) es
+
+  -- the time before which two clones have one trace
+  abbrev pub shared_to : (Planned → Planned → Bool) → Clone → Clone → ℕ
+  shared_to same c d = parting same (min (end_of sim c) (end_of sim d)) c.plans d.plans
+
+  -- `same` holds of no two different decisions, and each decision comes at its time
+  pub record TellsPlans (same : Planned → Planned → Bool) : Type 0 where
+    pub sound : (p q : Planned) → same p q ≡ true → p ≡ q
+    pub at : (k : ℕ) (p : Planned) → sim.time (sim.decided k p) ≡ p.at
+
+  -- clones whose decisions agree below a time that neither ends before have one trace before it
+  abbrev pub TracesAgree : Type 0
+  TracesAgree = (c d : Clone) (t : ℕ) → t ≤ end_of sim c → t ≤ end_of sim d → t ≤ sim.horizon →
+      earlier_than sim.time t (planned sim 0 c.plans) ≡ earlier_than sim.time t (planned sim 0 d.plans) →
+      before sim t (trace_of sim c) ≡ before sim t (trace_of sim d)
+
+  -- and so do clones up to where their decision lists part
+  abbrev pub TracesAgreeToParting : Type 0
+  TracesAgreeToParting = (same : Planned → Planned → Bool) (c d : Clone) → TellsPlans same →
+      end_of sim c ≤ sim.horizon → end_of sim d ≤ sim.horizon →
+      before sim (shared_to same c d) (trace_of sim c) ≡ before sim (shared_to same c d) (trace_of sim d)
+
+  -- a trace is what comes before a time, and then the rest
+  abbrev pub TraceIsSplit : Type 0
+  TraceIsSplit = (c : Clone) (t : ℕ) → AreForStations sim c.plans →
+      trace_of sim c ≡ before sim t (trace_of sim c) ++ from_on t (trace_of sim c)
+
+  -- where two clones part, the lines of the one so far are the first lines of the other, whatever a line is
+  abbrev pub LinesAgree : Type 0
+  LinesAgree = (same : Planned → Planned → Bool) (c d : Clone) (line : Entry M N → List ℕ) → TellsPlans same →
+      end_of sim c ≤ sim.horizon → end_of sim d ≤ sim.horizon → AreForStations sim c.plans → AreForStations sim d.plans →
+      flat_map line (trace_of sim d) ≡
+      take (length (flat_map line (before sim (shared_to same c d) (trace_of sim d)))) (flat_map line (trace_of sim c))
+      ++ flat_map line (from_on (shared_to same c d) (trace_of sim d))
+
+  -- the lines of a trace from a time on are as long as those of the stations' logs together
+  abbrev pub LengthIsOfLogs : Type 0
+  LengthIsOfLogs = (c : Clone) (t : ℕ) (line : Entry M N → List ℕ) → AreForStations sim c.plans →
+      length (flat_map line (from_on t (trace_of sim c))) ≡
+      station_sum (λ s. sum_by (λ e. length (line e)) (from_on t (log_at sim c s sim.horizon))) sim.stations
+
+  -- a list that rises by key, and has the entries of the stations' logs from a time on and no others,
+  -- is the trace from there on
+  abbrev pub RestIsOfLogs : (M → ℕ) → (M → ℕ) → Type 0
+  RestIsOfLogs sender number = (c : Clone) (t : ℕ) (es : List (Entry M N)) → AreForStations sim c.plans →
+      Sorted (λ e f. key_order sim.time sender number e.msg f.msg) es →
+      ((e : Entry M N) → In e es → (s : ℕ) × IsStation sim s × In e (from_on t (log_at sim c s sim.horizon))) →
+      ((e : Entry M N) (s : ℕ) → IsStation sim s → In e (from_on t (log_at sim c s sim.horizon)) → In e es) →
+      es ≡ from_on t (trace_of sim c)
