@@ -10,6 +10,7 @@ use Rattle.net_model.specs.declared.fault.ModelFault.{ModelFault}
 use Rattle.net_model.specs.declared.fault.ModelFault.TheVariants.{TooLong}
 use Rattle.net_model.specs.Net.{Net}
 use Rattle.net_model.specs.Text.{model, model_of_tree, tree}
+use Rattle.net_model.specs.declared.limits.TheConstants.{MOST_BYTES}
 
 small_byte : (b : ℕ) → nat_lt b 128 ≡ true → b < 128
 small_byte b h = grind (arith, nat_tests)
@@ -28,8 +29,8 @@ ascii_tree : (text : List ℕ) → list_all (λ b. nat_lt b 128) text ≡ true �
 ascii_tree text h = rw (is_utf8-from_IsUtf8 text (IsUtf8-from_ascii text (ascii text h))) refl
 
 abbrev pub model_parsed : List ℕ → Result Net ModelFault
-model_parsed text = if nat_lt 1048576 (length text) then Err TooLong else model_of_tree (parse_document text)
+model_parsed text = if nat_lt MOST_BYTES (length text) then Err TooLong else model_of_tree (parse_document text)
 
 -- the model of an ASCII text, without the test that it is UTF-8
 pub ascii_model : (text : List ℕ) → list_all (λ b. nat_lt b 128) text ≡ true → model text ≡ model_parsed text
-ascii_model text h = ap (λ t. if nat_lt 1048576 (length text) then Err TooLong else model_of_tree t) (ascii_tree text h)
+ascii_model text h = ap (λ t. if nat_lt MOST_BYTES (length text) then Err TooLong else model_of_tree t) (ascii_tree text h)

@@ -1,6 +1,7 @@
 pub mod Placing
 pub mod KeyBytes
 pub mod Trees
+pub mod UnknownKeys
 pub mod Turns
 pub mod Stated
 pub mod Bounds

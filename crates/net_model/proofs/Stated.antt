@@ -3,17 +3,17 @@ use Rattle.std.proofs.Common.{◌≡◌, ap, ◌∙◌, List, Result, Ok, Err}
 use Rattle.toml.specs.Data.{Data}
 use Rattle.net_model.specs.declared.fault.ModelFault.{ModelFault}
 use Rattle.net_model.specs.declared.top.Top.{Top}
-use Rattle.net_model.specs.Chains.{◌>>=◌}
+use Rattle.sim_base.specs.Chain.{◌>>=◌}
 use Rattle.net_model.specs.Keys.{only_known, top_keys}
 use Rattle.net_model.specs.Net.{Net, Site}
-use Rattle.net_model.specs.Text.{model_of, sites_stated, with_sites}
+use Rattle.net_model.specs.Text.{model_of, sites_of_tables, with_sites}
 use Rattle.net_model.specs.Top.{stations_at, top_of}
 
 abbrev with_sites_read : Top → Result (List Site) ModelFault → Result Net ModelFault
 with_sites_read top sites = sites >>= (λ sites. Ok (with_sites top sites))
 
 abbrev from_parts : Result (Unit {0}) ModelFault → Result Top ModelFault → Result (List Data) ModelFault → Result Net ModelFault
-from_parts known top tables = known >>= (λ _. top >>= (λ top. tables >>= (λ ds. with_sites_read top (sites_stated top ds))))
+from_parts known top tables = known >>= (λ _. top >>= (λ top. tables >>= (λ ds. with_sites_read top (sites_of_tables top ds))))
 
 module _ (root : Data) where
   parts : model_of root ≡ from_parts (only_known 0 top_keys root) (top_of root) (stations_at root)
@@ -38,11 +38,11 @@ module _ (root : Data) where
       tables_refused e tables = with_top ∙ ap (from_parts (Ok tt) (Ok top)) tables
 
       module _ (ds : List Data) (found : stations_at root ≡ Ok ds) where
-        with_tables : model_of root ≡ with_sites_read top (sites_stated top ds)
+        with_tables : model_of root ≡ with_sites_read top (sites_of_tables top ds)
         with_tables = with_top ∙ ap (from_parts (Ok tt) (Ok top)) found
 
-        pub sites_refused : (e : ModelFault) → sites_stated top ds ≡ Err e → model_of root ≡ Err e
+        pub sites_refused : (e : ModelFault) → sites_of_tables top ds ≡ Err e → model_of root ≡ Err e
         sites_refused e sites = with_tables ∙ ap (with_sites_read top) sites
 
-        pub stated : (sites : List Site) → sites_stated top ds ≡ Ok sites → model_of root ≡ Ok (with_sites top sites)
+        pub stated : (sites : List Site) → sites_of_tables top ds ≡ Ok sites → model_of root ≡ Ok (with_sites top sites)
         stated sites found = with_tables ∙ ap (with_sites_read top) found

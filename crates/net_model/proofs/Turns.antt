@@ -11,11 +11,11 @@ use Rattle.net_model.specs.declared.fault.ModelFault.{ModelFault}
 use Rattle.net_model.specs.declared.fault.ModelFault.TheVariants.{UnknownStation}
 use Rattle.net_model.specs.declared.links.NamedLink.{NamedLink}
 use Rattle.net_model.specs.declared.station.Kind.TheVariants.{Sink}
-use Rattle.net_model.specs.Chains.{◌>>=◌}
+use Rattle.sim_base.specs.Chain.{◌>>=◌}
 use Rattle.net_model.specs.declared.station.Station.{Station}
 use Rattle.net_model.specs.Drafts.{DraftSite, as_draft, draft_of, drafts_of, has_name}
 use Rattle.net_model.specs.Net.{Site}
-use Rattle.net_model.specs.Resolving.{kind_after, link_along, link_to, resolved, site_of_draft, sites_of}
+use Rattle.net_model.specs.Resolving.{kind_after, link_along, link_to, link_of_named, site_of_draft, sites_of}
 use Rattle.net_model.specs.Sites.{as_site}
 use Rattle.net_model.proofs.Placing.{prefix_len-map}
 
@@ -113,10 +113,10 @@ kind_read : (drafts : List Draft) (i : ℕ) (draft : Draft) → i < length draft
 kind_read drafts i draft lt is =
     ap (λ o. unwrap_or (option_map (λ d. d.kind) o) Sink) (slice_get-map as_draft drafts i ∙ ap (option_map as_draft) (slice_get_read drafts (length drafts) i draft refl lt is)) ∙ ap (λ d. d.kind) is
 
-pub resolved_there : (lookahead : ℕ) (drafts : List Draft) (place : ℕ) (link : NamedLink) (i : ℕ) (draft : Draft) → Some i ≡ position (λ d. bytes_eq d.name link.to) drafts → i < length drafts → draft ≡ get_or drafts i draft → link_to lookahead place link i (get_or drafts i draft).kind ≡ resolved lookahead (map as_draft drafts) place link
+pub resolved_there : (lookahead : ℕ) (drafts : List Draft) (place : ℕ) (link : NamedLink) (i : ℕ) (draft : Draft) → Some i ≡ position (λ d. bytes_eq d.name link.to) drafts → i < length drafts → draft ≡ get_or drafts i draft → link_to lookahead place link i (get_or drafts i draft).kind ≡ link_of_named lookahead (map as_draft drafts) place link
 resolved_there lookahead drafts place link i draft h lt is =
     sym (ap (link_along lookahead (map as_draft drafts) place link) (position_drafts link.to drafts ∙ sym h) ∙ ap (link_to lookahead place link i) (kind_read drafts i draft lt is))
 
-pub resolved_nowhere : (lookahead : ℕ) (drafts : List Draft) (place : ℕ) (link : NamedLink) → None ≡ position (λ d. bytes_eq d.name link.to) drafts → Err (UnknownStation place) ≡ resolved lookahead (map as_draft drafts) place link
+pub resolved_nowhere : (lookahead : ℕ) (drafts : List Draft) (place : ℕ) (link : NamedLink) → None ≡ position (λ d. bytes_eq d.name link.to) drafts → Err (UnknownStation place) ≡ link_of_named lookahead (map as_draft drafts) place link
 resolved_nowhere lookahead drafts place link h =
     sym (ap (link_along lookahead (map as_draft drafts) place link) (position_drafts link.to drafts ∙ sym h))

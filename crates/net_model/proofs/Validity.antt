@@ -1,5 +1,5 @@
 -- Every model that is read meets the rules.
-use Rattle.std.proofs.Common.{◌≡◌, ◌≢◌, refl, ap, sym, ◌∙◌, subst, ℕ, zero, suc, ◌+◌, ◌<◌, ◌≤◌, ◌^◌, ◌==◌, ◌||◌, nat_lt, not, true, false, codes, if◌then◌else◌, List, [], ◌∷◌, length, map, slice_get, option_map, unwrap_or, position, Option, Some, None, Ok, Err, ◌⊎◌, inl, inr, arith}
+use Rattle.std.proofs.Common.{◌≡◌, ◌≢◌, refl, ap, sym, ◌∙◌, subst, ℕ, zero, suc, ◌+◌, ◌<◌, ◌≤◌, ◌==◌, ◌||◌, nat_lt, not, true, false, codes, if◌then◌else◌, List, [], ◌∷◌, length, map, slice_get, option_map, unwrap_or, position, Option, Some, None, Ok, Err, ◌⊎◌, inl, inr, arith}
 use Rattle.std.specs.List.{AllByRecursion, IsDistinct}
 use Rattle.std.specs.Str.{bytes_eq}
 use Rattle.std.proofs.lemmas.Bool.{false≢true}
@@ -16,17 +16,19 @@ use Rattle.net_model.specs.declared.station.Kind.{Kind}
 use Rattle.net_model.specs.declared.station.Kind.TheVariants.{Source, Server, Delay, Router, Sink}
 use Rattle.net_model.specs.declared.station.Link.{Link}
 use Rattle.net_model.specs.declared.top.Top.{Top}
-use Rattle.net_model.specs.Chains.{◌>>=◌}
+use Rattle.sim_base.specs.Chain.{◌>>=◌}
 use Rattle.net_model.specs.Drafts.{DraftSite, drafts_of}
 use Rattle.net_model.specs.Keys.{only_known, top_keys}
-use Rattle.net_model.specs.Net.{Net, Site, is_source, no_site, site_of}
+use Rattle.net_model.specs.Net.{Net, Site, is_sink, is_source, no_site, site_of}
 use Rattle.net_model.specs.Reading.{integer_at, tables_of, value_at}
-use Rattle.net_model.specs.Resolving.{each_resolved, is_sink, kind_after, link_along, resolved, site_of_draft, sites_of, with_way_out}
+use Rattle.net_model.specs.Resolving.{links_of_named, kind_after, link_along, link_of_named, site_of_draft, sites_of, with_way_out}
 use Rattle.net_model.specs.Rules.{HasWayOut, IsKind, IsLink, IsNet, IsOfFormat1, IsSite}
-use Rattle.net_model.specs.Text.{model_of, sites_stated, with_sites}
-use Rattle.net_model.specs.Top.{counted, stations_at, top_of}
-use Rattle.net_model.proofs.Bounds.{le_of_not, not_refused, passed, refused, required_bounds, same_ok, step, usual_bounds}
+use Rattle.net_model.specs.Text.{model_of, sites_of_tables, with_sites}
+use Rattle.net_model.specs.Top.{in_number, stations_at, top_of}
+use Rattle.net_model.proofs.Bounds.{le_of_not, if-Err, if-Ok, Err-not-Ok, required_bounds, Ok-injective, usual_bounds}
+use Rattle.sim_base.proofs.Chain.{bind-Ok}
 use Rattle.net_model.proofs.Stations.{AreDrafts, IsDraft, IsNamedLink, drafts_hold}
+use Rattle.net_model.specs.declared.limits.TheConstants.{MOST_HORIZON, MOST_LIMIT, MOST_LINKS, MOST_SEED, MOST_STATIONS, MOST_TIME, MOST_WEIGHT, USUAL_LIMIT}
 
 -- a link that leads to the station after `others` others
 pub record IsResolved (lookahead : ℕ) (all : List DraftSite) (link : Link) : Type 0 where
@@ -35,19 +37,19 @@ pub record IsResolved (lookahead : ℕ) (all : List DraftSite) (link : Link) : T
   pub there : others < length all
   pub receives : is_source (kind_after others all) ≡ false
   pub slow : lookahead ≤ link.delay
-  pub small : link.delay ≤ 1000000
+  pub small : link.delay ≤ MOST_TIME
   pub heavy : 1 ≤ link.weight
-  pub light : link.weight ≤ 1000
+  pub light : link.weight ≤ MOST_WEIGHT
 
 along : (lookahead : ℕ) (all : List DraftSite) (place : ℕ) (link : NamedLink) (found : Option ℕ) (l : Link) → position (λ draft. bytes_eq draft.name link.to) all ≡ found → IsNamedLink link → link_along lookahead all place link found ≡ Ok l → IsResolved lookahead all l
-along lookahead all place link None l is named h = absurd (refused (UnknownStation place) l h)
+along lookahead all place link None l is named h = absurd (Err-not-Ok (UnknownStation place) l h)
 along lookahead all place link (Some i) l is named h =
     let anyone : DraftSite = record { name = []; kind = Sink; stream = 0; links = [] } in
     let (there, same, first) = position-Some (λ draft. bytes_eq draft.name link.to) all i anyone is in
-    let (receives, h1) = not_refused (is_source (kind_after i all)) (if nat_lt link.delay lookahead then Err (ShortDelay place) else Ok (record { to = i + 1; delay = link.delay; weight = link.weight })) l (IntoSource place) h in
-    let (slow, h2) = not_refused (nat_lt link.delay lookahead) (Ok (record { to = i + 1; delay = link.delay; weight = link.weight })) l (ShortDelay place) h1 in
+    let (receives, h1) = if-Err (is_source (kind_after i all)) (if nat_lt link.delay lookahead then Err (ShortDelay place) else Ok (record { to = i + 1; delay = link.delay; weight = link.weight })) l (IntoSource place) h in
+    let (slow, h2) = if-Err (nat_lt link.delay lookahead) (Ok (record { to = i + 1; delay = link.delay; weight = link.weight })) l (ShortDelay place) h1 in
     let made : Link = record { to = i + 1; delay = link.delay; weight = link.weight } in
-    subst (λ (x : Link). IsResolved lookahead all x) {x = made} (same_ok made l h2)
+    subst (λ (x : Link). IsResolved lookahead all x) {x = made} (Ok-injective made l h2)
     (record {
       others = i;
       number = refl;
@@ -59,13 +61,13 @@ along lookahead all place link (Some i) l is named h =
       light = named.light;
     })
 
-each_is_resolved : (lookahead : ℕ) (all : List DraftSite) (place : ℕ) (named : List NamedLink) (links : List Link) → AllByRecursion IsNamedLink named → each_resolved lookahead all place named ≡ Ok links → AllByRecursion (IsResolved lookahead all) links × (length links ≡ length named)
-each_is_resolved lookahead all place [] links are h = subst (λ (ls : List Link). AllByRecursion (IsResolved lookahead all) ls × (length ls ≡ 0)) (same_ok [] links h) (tt, refl)
+each_is_resolved : (lookahead : ℕ) (all : List DraftSite) (place : ℕ) (named : List NamedLink) (links : List Link) → AllByRecursion IsNamedLink named → links_of_named lookahead all place named ≡ Ok links → AllByRecursion (IsResolved lookahead all) links × (length links ≡ length named)
+each_is_resolved lookahead all place [] links are h = subst (λ (ls : List Link). AllByRecursion (IsResolved lookahead all) ls × (length ls ≡ 0)) (Ok-injective [] links h) (tt, refl)
 each_is_resolved lookahead all place (n ∷ named) links are h =
-    let (first, e1, h1) = step (resolved lookahead all place n) (λ first. each_resolved lookahead all place named >>= (λ others. Ok (first ∷ others))) links h in
-    let (others, e2, h2) = step (each_resolved lookahead all place named) (λ others. Ok (first ∷ others)) links h1 in
+    let (first, e1, h1) = bind-Ok (link_of_named lookahead all place n) (λ first. links_of_named lookahead all place named >>= (λ others. Ok (first ∷ others))) links h in
+    let (others, e2, h2) = bind-Ok (links_of_named lookahead all place named) (λ others. Ok (first ∷ others)) links h1 in
     let (holds, count) = each_is_resolved lookahead all place named others are.1 e2 in
-    subst (λ (ls : List Link). AllByRecursion (IsResolved lookahead all) ls × (length ls ≡ length (n ∷ named))) (same_ok (first ∷ others) links h2)
+    subst (λ (ls : List Link). AllByRecursion (IsResolved lookahead all) ls × (length ls ≡ length (n ∷ named))) (Ok-injective (first ∷ others) links h2)
     ((along lookahead all place n (position (λ draft. bytes_eq draft.name n.to) all) first refl are.0 e1, holds), omega (arith, count))
 
 way_out : (kind : Kind) (links : List Link) → (is_sink kind || not (length links == 0)) ≡ true → (is_sink kind ≡ true → length links ≡ 0) → HasWayOut kind links
@@ -83,10 +85,10 @@ way_out (Router turn) (l ∷ links) some closed = omega arith
 pub record IsPlaced (format lookahead : ℕ) (all : List DraftSite) (site : Site) : Type 0 where
   pub named : is_name site.name ≡ true
   pub no_analyst : site.name ≢ codes "analyst"
-  pub stream : site.stream < 2 ^ 63
+  pub stream : site.stream ≤ MOST_SEED
   pub kind : IsKind site.kind
   pub of_format : format ≡ 1 → IsOfFormat1 site.kind
-  pub few : length site.links ≤ 16
+  pub few : length site.links ≤ MOST_LINKS
   pub links : AllByRecursion (IsResolved lookahead all) site.links
   pub way : HasWayOut site.kind site.links
 
@@ -95,10 +97,10 @@ SiteHolds format lookahead all draft site = IsPlaced format lookahead all site �
 
 site_holds : (format lookahead : ℕ) (all : List DraftSite) (place : ℕ) (draft : DraftSite) (site : Site) → IsDraft format draft → site_of_draft lookahead all place draft ≡ Ok site → SiteHolds format lookahead all draft site
 site_holds format lookahead all place draft site is h =
-    let (links, e1, h1) = step (each_resolved lookahead all place draft.links >>= with_way_out place draft.kind) (λ links. Ok (record { name = draft.name; kind = draft.kind; stream = draft.stream; links = links })) site h in
-    let (found, e2, h2) = step (each_resolved lookahead all place draft.links) (with_way_out place draft.kind) links e1 in
+    let (links, e1, h1) = bind-Ok (links_of_named lookahead all place draft.links >>= with_way_out place draft.kind) (λ links. Ok (record { name = draft.name; kind = draft.kind; stream = draft.stream; links = links })) site h in
+    let (found, e2, h2) = bind-Ok (links_of_named lookahead all place draft.links) (with_way_out place draft.kind) links e1 in
     let (holds, count) = each_is_resolved lookahead all place draft.links found is.links e2 in
-    let (some, same) = passed (is_sink draft.kind || not (length found == 0)) found links (NoWayOut place) h2 in
+    let (some, same) = if-Ok (is_sink draft.kind || not (length found == 0)) found links (NoWayOut place) h2 in
     let placed : SiteHolds format lookahead all draft (record { name = draft.name; kind = draft.kind; stream = draft.stream; links = found }) = (
       record {
         named = is.named;
@@ -113,7 +115,7 @@ site_holds format lookahead all place draft site is h =
       refl,
       refl,
     ) in
-    subst (λ (s : Site). SiteHolds format lookahead all draft s) (same_ok (record { name = draft.name; kind = draft.kind; stream = draft.stream; links = links }) site h1)
+    subst (λ (s : Site). SiteHolds format lookahead all draft s) (Ok-injective (record { name = draft.name; kind = draft.kind; stream = draft.stream; links = links }) site h1)
     (subst (λ (ls : List Link). SiteHolds format lookahead all draft (record { name = draft.name; kind = draft.kind; stream = draft.stream; links = ls })) same placed)
 
 -- the stations of the network
@@ -124,13 +126,13 @@ pub record ArePlaced (format lookahead : ℕ) (all drafts : List DraftSite) (sit
 
 sites_hold : (format lookahead : ℕ) (all : List DraftSite) (place : ℕ) (drafts : List DraftSite) (sites : List Site) → AllByRecursion (IsDraft format) drafts → sites_of lookahead all place drafts ≡ Ok sites → ArePlaced format lookahead all drafts sites
 sites_hold format lookahead all place [] sites are h =
-    subst (λ (ss : List Site). ArePlaced format lookahead all [] ss) (same_ok [] sites h) (record { placed = tt; names = refl; kinds = refl })
+    subst (λ (ss : List Site). ArePlaced format lookahead all [] ss) (Ok-injective [] sites h) (record { placed = tt; names = refl; kinds = refl })
 sites_hold format lookahead all place (x ∷ drafts) sites are h =
-    let (site, e1, h1) = step (site_of_draft lookahead all place x) (λ site. sites_of lookahead all (place + 1) drafts >>= (λ sites. Ok (site ∷ sites))) sites h in
-    let (rest, e2, h2) = step (sites_of lookahead all (place + 1) drafts) (λ sites. Ok (site ∷ sites)) sites h1 in
+    let (site, e1, h1) = bind-Ok (site_of_draft lookahead all place x) (λ site. sites_of lookahead all (place + 1) drafts >>= (λ sites. Ok (site ∷ sites))) sites h in
+    let (rest, e2, h2) = bind-Ok (sites_of lookahead all (place + 1) drafts) (λ sites. Ok (site ∷ sites)) sites h1 in
     let first = site_holds format lookahead all place x site are.0 e1 in
     let others = sites_hold format lookahead all (place + 1) drafts rest are.1 e2 in
-    subst (λ (ss : List Site). ArePlaced format lookahead all (x ∷ drafts) ss) (same_ok (site ∷ rest) sites h2)
+    subst (λ (ss : List Site). ArePlaced format lookahead all (x ∷ drafts) ss) (Ok-injective (site ∷ rest) sites h2)
     (record {
       placed = (first.0, others.placed);
       names = ap (λ n. n ∷ map (λ s. s.name) rest) first.1 ∙ ap (λ ns. x.name ∷ ns) others.names;
@@ -190,12 +192,12 @@ module _ (top : Top) (drafts : List DraftSite) (sites : List Site) (holds : AreP
 pub record IsTop (top : Top) : Type 0 where
   pub format : (top.format ≡ 1) ⊎ (top.format ≡ 2)
   pub ahead : 1 ≤ top.lookahead
-  pub near : top.lookahead ≤ 1000000
+  pub near : top.lookahead ≤ MOST_TIME
   pub horizon : 1 ≤ top.horizon
-  pub soon : top.horizon ≤ 1000000000
-  pub seed : top.seed < 2 ^ 63
+  pub soon : top.horizon ≤ MOST_HORIZON
+  pub seed : top.seed ≤ MOST_SEED
   pub limit : 1 ≤ top.limit
-  pub short : top.limit ≤ 65536
+  pub short : top.limit ≤ MOST_LIMIT
 
 one_or_two : (n : ℕ) → 1 ≤ n → n ≤ 2 → (n ≡ 1) ⊎ (n ≡ 2)
 one_or_two zero low high = absurd (omega arith)
@@ -205,25 +207,25 @@ one_or_two (suc (suc (suc n))) low high = absurd (omega arith)
 
 top_holds : (root : Data) (top : Top) → top_of root ≡ Ok top → IsTop top
 top_holds root top h =
-    let (format, e1, h1) = step (integer_at 0 Format 1 2 (Some 1) root) (λ format. integer_at 0 Lookahead 1 1000000 None root >>= (λ lookahead. integer_at 0 Horizon 1 1000000000 None root >>= (λ horizon. integer_at 0 Seed 0 9223372036854775807 (Some 0) root >>= (λ seed. integer_at 0 Limit 1 65536 (Some 16384) root >>= (λ limit. Ok (record { format = format; lookahead = lookahead; horizon = horizon; seed = seed; limit = limit })))))) top h in
-    let (lookahead, e2, h2) = step (integer_at 0 Lookahead 1 1000000 None root) (λ lookahead. integer_at 0 Horizon 1 1000000000 None root >>= (λ horizon. integer_at 0 Seed 0 9223372036854775807 (Some 0) root >>= (λ seed. integer_at 0 Limit 1 65536 (Some 16384) root >>= (λ limit. Ok (record { format = format; lookahead = lookahead; horizon = horizon; seed = seed; limit = limit }))))) top h1 in
-    let (horizon, e3, h3) = step (integer_at 0 Horizon 1 1000000000 None root) (λ horizon. integer_at 0 Seed 0 9223372036854775807 (Some 0) root >>= (λ seed. integer_at 0 Limit 1 65536 (Some 16384) root >>= (λ limit. Ok (record { format = format; lookahead = lookahead; horizon = horizon; seed = seed; limit = limit })))) top h2 in
-    let (seed, e4, h4) = step (integer_at 0 Seed 0 9223372036854775807 (Some 0) root) (λ seed. integer_at 0 Limit 1 65536 (Some 16384) root >>= (λ limit. Ok (record { format = format; lookahead = lookahead; horizon = horizon; seed = seed; limit = limit }))) top h3 in
-    let (limit, e5, h5) = step (integer_at 0 Limit 1 65536 (Some 16384) root) (λ limit. Ok (record { format = format; lookahead = lookahead; horizon = horizon; seed = seed; limit = limit })) top h4 in
+    let (format, e1, h1) = bind-Ok (integer_at 0 Format 1 2 (Some 1) root) (λ format. integer_at 0 Lookahead 1 MOST_TIME None root >>= (λ lookahead. integer_at 0 Horizon 1 MOST_HORIZON None root >>= (λ horizon. integer_at 0 Seed 0 MOST_SEED (Some 0) root >>= (λ seed. integer_at 0 Limit 1 MOST_LIMIT (Some USUAL_LIMIT) root >>= (λ limit. Ok (record { format = format; lookahead = lookahead; horizon = horizon; seed = seed; limit = limit })))))) top h in
+    let (lookahead, e2, h2) = bind-Ok (integer_at 0 Lookahead 1 MOST_TIME None root) (λ lookahead. integer_at 0 Horizon 1 MOST_HORIZON None root >>= (λ horizon. integer_at 0 Seed 0 MOST_SEED (Some 0) root >>= (λ seed. integer_at 0 Limit 1 MOST_LIMIT (Some USUAL_LIMIT) root >>= (λ limit. Ok (record { format = format; lookahead = lookahead; horizon = horizon; seed = seed; limit = limit }))))) top h1 in
+    let (horizon, e3, h3) = bind-Ok (integer_at 0 Horizon 1 MOST_HORIZON None root) (λ horizon. integer_at 0 Seed 0 MOST_SEED (Some 0) root >>= (λ seed. integer_at 0 Limit 1 MOST_LIMIT (Some USUAL_LIMIT) root >>= (λ limit. Ok (record { format = format; lookahead = lookahead; horizon = horizon; seed = seed; limit = limit })))) top h2 in
+    let (seed, e4, h4) = bind-Ok (integer_at 0 Seed 0 MOST_SEED (Some 0) root) (λ seed. integer_at 0 Limit 1 MOST_LIMIT (Some USUAL_LIMIT) root >>= (λ limit. Ok (record { format = format; lookahead = lookahead; horizon = horizon; seed = seed; limit = limit }))) top h3 in
+    let (limit, e5, h5) = bind-Ok (integer_at 0 Limit 1 MOST_LIMIT (Some USUAL_LIMIT) root) (λ limit. Ok (record { format = format; lookahead = lookahead; horizon = horizon; seed = seed; limit = limit })) top h4 in
     let formats = usual_bounds 0 Format 1 2 1 root format (omega arith) (omega arith) e1 in
-    let aheads = required_bounds 0 Lookahead 1 1000000 root lookahead e2 in
-    let horizons = required_bounds 0 Horizon 1 1000000000 root horizon e3 in
-    let seeds = usual_bounds 0 Seed 0 9223372036854775807 0 root seed (omega arith) (omega arith) e4 in
-    let limits = usual_bounds 0 Limit 1 65536 16384 root limit (omega arith) (omega arith) e5 in
+    let aheads = required_bounds 0 Lookahead 1 MOST_TIME root lookahead e2 in
+    let horizons = required_bounds 0 Horizon 1 MOST_HORIZON root horizon e3 in
+    let seeds = usual_bounds 0 Seed 0 MOST_SEED 0 root seed (omega arith) (omega arith) e4 in
+    let limits = usual_bounds 0 Limit 1 MOST_LIMIT USUAL_LIMIT root limit (omega arith) (omega arith) e5 in
     let made : Top = record { format = format; lookahead = lookahead; horizon = horizon; seed = seed; limit = limit } in
-    subst (λ (t : Top). IsTop t) {x = made} (same_ok made top h5)
+    subst (λ (t : Top). IsTop t) {x = made} (Ok-injective made top h5)
     (record {
       format = one_or_two format formats.0 formats.1;
       ahead = aheads.0;
       near = aheads.1;
       horizon = horizons.0;
       soon = horizons.1;
-      seed = omega (arith, seeds.1);
+      seed = seeds.1;
       limit = limits.0;
       short = limits.1;
     })
@@ -231,16 +233,16 @@ top_holds root top h =
 some_if : (n : ℕ) → (n == 0) ≡ false → 1 ≤ n
 some_if n h = grind (arith, nat_tests)
 
-count_holds : (root : Data) (ds : List Data) → stations_at root ≡ Ok ds → (1 ≤ length ds) × (length ds ≤ 64)
+count_holds : (root : Data) (ds : List Data) → stations_at root ≡ Ok ds → (1 ≤ length ds) × (length ds ≤ MOST_STATIONS)
 count_holds root ds h =
-    let (read, e1, h1) = step (value_at 0 Station root >>= tables_of 0 Station) counted ds h in
-    let (some, h2) = not_refused (length read == 0) (if nat_lt 64 (length read) then Err (TooMany 0) else Ok read) ds (OutOfRange 0 Station) h1 in
-    let (few, h3) = not_refused (nat_lt 64 (length read)) (Ok read) ds (TooMany 0) h2 in
-    subst (λ (xs : List Data). (1 ≤ length xs) × (length xs ≤ 64)) (same_ok read ds h3) (some_if (length read) some, le_of_not 64 (length read) few)
+    let (read, e1, h1) = bind-Ok (value_at 0 Station root >>= tables_of 0 Station) in_number ds h in
+    let (some, h2) = if-Err (length read == 0) (if nat_lt MOST_STATIONS (length read) then Err (TooMany 0) else Ok read) ds (OutOfRange 0 Station) h1 in
+    let (few, h3) = if-Err (nat_lt MOST_STATIONS (length read)) (Ok read) ds (TooMany 0) h2 in
+    subst (λ (xs : List Data). (1 ≤ length xs) × (length xs ≤ MOST_STATIONS)) (Ok-injective read ds h3) (some_if (length read) some, le_of_not MOST_STATIONS (length read) few)
 
-net_holds : (top : Top) (ds : List Data) (sites : List Site) → IsTop top → (1 ≤ length ds) × (length ds ≤ 64) → sites_stated top ds ≡ Ok sites → IsNet (with_sites top sites)
+net_holds : (top : Top) (ds : List Data) (sites : List Site) → IsTop top → (1 ≤ length ds) × (length ds ≤ MOST_STATIONS) → sites_of_tables top ds ≡ Ok sites → IsNet (with_sites top sites)
 net_holds top ds sites is count h =
-    let (drafts, e1, h1) = step (drafts_of top.format [] 1 ds) (λ drafts. sites_of top.lookahead drafts 1 drafts) sites h in
+    let (drafts, e1, h1) = bind-Ok (drafts_of top.format [] 1 ds) (λ drafts. sites_of top.lookahead drafts 1 drafts) sites h in
     let read : AreDrafts top.format [] drafts (length ds) = drafts_hold top.format [] 1 ds drafts (omega (arith, count.1)) e1 in
     let placed : ArePlaced top.format top.lookahead drafts drafts sites = sites_hold top.format top.lookahead drafts 1 drafts sites read.all h1 in
     let size : length sites ≡ length drafts = many top drafts sites placed in
@@ -253,8 +255,8 @@ net_holds top ds sites is count h =
       seed = is.seed;
       limit = is.limit;
       short = is.short;
-      some = omega (arith, size, read.counted, count.0);
-      few = omega (arith, size, read.counted, count.1);
+      some = omega (arith, size, read.count, count.0);
+      few = omega (arith, size, read.count, count.1);
       distinct = subst (λ (names : List (List ℕ)). IsDistinct bytes_eq names) (sym placed.names) read.distinct;
       sites = sites_are top drafts sites placed;
     }
@@ -263,9 +265,9 @@ net_holds top ds sites is count h =
 pub stated_is_net : (root : Data) (net : Net) → model_of root ≡ Ok net → IsNet net
 unfolding model_of
 stated_is_net root net h =
-    let (known, e1, h1) = step (only_known 0 top_keys root) (λ _. top_of root >>= (λ top. stations_at root >>= (λ ds. sites_stated top ds >>= (λ sites. Ok (with_sites top sites))))) net h in
-    let (top, e2, h2) = step (top_of root) (λ top. stations_at root >>= (λ ds. sites_stated top ds >>= (λ sites. Ok (with_sites top sites)))) net h1 in
-    let (ds, e3, h3) = step (stations_at root) (λ ds. sites_stated top ds >>= (λ sites. Ok (with_sites top sites))) net h2 in
-    let (sites, e4, h4) = step (sites_stated top ds) (λ sites. Ok (with_sites top sites)) net h3 in
+    let (known, e1, h1) = bind-Ok (only_known 0 top_keys root) (λ _. top_of root >>= (λ top. stations_at root >>= (λ ds. sites_of_tables top ds >>= (λ sites. Ok (with_sites top sites))))) net h in
+    let (top, e2, h2) = bind-Ok (top_of root) (λ top. stations_at root >>= (λ ds. sites_of_tables top ds >>= (λ sites. Ok (with_sites top sites)))) net h1 in
+    let (ds, e3, h3) = bind-Ok (stations_at root) (λ ds. sites_of_tables top ds >>= (λ sites. Ok (with_sites top sites))) net h2 in
+    let (sites, e4, h4) = bind-Ok (sites_of_tables top ds) (λ sites. Ok (with_sites top sites)) net h3 in
     let made : Net = with_sites top sites in
-    subst (λ (n : Net). IsNet n) {x = made} (same_ok made net h4) (net_holds top ds sites (top_holds root top e2) (count_holds root ds e3) e4)
+    subst (λ (n : Net). IsNet n) {x = made} (Ok-injective made net h4) (net_holds top ds sites (top_holds root top e2) (count_holds root ds e3) e4)

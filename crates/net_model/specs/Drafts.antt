@@ -9,11 +9,12 @@ use Rattle.net_model.specs.declared.fault.ModelFault.TheVariants.{BadName, NameT
 use Rattle.net_model.specs.declared.field.Field.TheVariants.{Name, Stream}
 use Rattle.net_model.specs.declared.links.NamedLink.{NamedLink}
 use Rattle.net_model.specs.declared.station.Kind.{Kind}
-use Rattle.net_model.specs.Chains.{◌>>=◌}
+use Rattle.sim_base.specs.Chain.{◌>>=◌}
 use Rattle.net_model.specs.Keys.{only_known, station_keys}
 use Rattle.net_model.specs.Kinds.{kind_of, kind_word_at}
 use Rattle.net_model.specs.NamedLinks.{links_of}
 use Rattle.net_model.specs.Reading.{integer_at, name_at}
+use Rattle.net_model.specs.declared.limits.TheConstants.{MOST_SEED}
 
 -- a station whose links name their receivers
 pub record DraftSite : Type 0 where
@@ -33,11 +34,11 @@ abbrev pub has_name : List ℕ → List DraftSite → Bool
 has_name name drafts = list_any (λ draft. bytes_eq draft.name name) drafts
 
 -- no earlier station has the name
-abbrev pub unused : ℕ → List DraftSite → List ℕ → Result (List ℕ) ModelFault
-unused place earlier name = if has_name name earlier then Err (NameTwice place) else Ok name
+abbrev pub new_name : ℕ → List DraftSite → List ℕ → Result (List ℕ) ModelFault
+new_name place earlier name = if has_name name earlier then Err (NameTwice place) else Ok name
 
 abbrev pub station_name_at : ℕ → List DraftSite → Data → Result (List ℕ) ModelFault
-station_name_at place earlier d = name_at place Name d >>= no_analyst place >>= unused place earlier
+station_name_at place earlier d = name_at place Name d >>= no_analyst place >>= new_name place earlier
 
 -- a station: its name, its kind, its keys, and last its links; its stream is its number where it states none
 abbrev pub draft_of : ℕ → List DraftSite → ℕ → Data → Result DraftSite ModelFault
@@ -45,7 +46,7 @@ draft_of format earlier place d =
     station_name_at place earlier d >>= (λ name.
     kind_word_at place d >>= (λ word.
     only_known place (station_keys format word) d >>= (λ _.
-    integer_at place Stream 0 9223372036854775807 (Some place) d >>= (λ stream.
+    integer_at place Stream 0 MOST_SEED (Some place) d >>= (λ stream.
     kind_of format place word d >>= (λ kind.
     links_of place word d >>= (λ links.
     Ok (record { name = name; kind = kind; stream = stream; links = links })))))))

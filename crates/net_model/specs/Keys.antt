@@ -1,6 +1,8 @@
 -- The keys that a table may have.
 use Rattle.std.specs.Prelude.{◌==◌, ℕ, Bool, List, [], ◌∷◌, Option, Some, None, if◌then◌else◌, Result, Ok, Err}
 use Rattle.std.specs.List.{list_any}
+use Rattle.std.specs.Cmp.Lexicographic.{slice_cmp}
+use Rattle.std.specs.Ordering.{match_ordering, nat_cmp}
 use Rattle.std.specs.Str.{bytes_eq}
 use Rattle.toml.specs.Data.{Data, table, Members, no_members, member}
 use Rattle.net_model.specs.declared.fault.ModelFault.{ModelFault}
@@ -15,10 +17,15 @@ use Rattle.net_model.specs.KeyTexts.{key_text}
 abbrev pub is_known : List Field → List ℕ → Bool
 is_known fields key = list_any (λ field. bytes_eq key (key_of field)) fields
 
--- the first key that is none of the fields; a table's keys ascend, so it is the least one
-abbrev pub first_unknown : List Field → Members → Option (List ℕ)
-first_unknown fields no_members = None
-first_unknown fields (member key d ms) = if is_known fields key then first_unknown fields ms else Some key
+-- the lesser of a key and another, if there is one, in the order in which toml's tables keep their keys: that of bytes
+abbrev pub lesser_key : List ℕ → Option (List ℕ) → List ℕ
+lesser_key key None = key
+lesser_key key (Some other) = match_ordering (slice_cmp nat_cmp key other) key key other
+
+-- the least key that is none of the fields
+abbrev pub least_unknown : List Field → Members → Option (List ℕ)
+least_unknown fields no_members = None
+least_unknown fields (member key d ms) = if is_known fields key then least_unknown fields ms else Some (lesser_key key (least_unknown fields ms))
 
 abbrev pub none_unknown : ℕ → Option (List ℕ) → Result (Unit {0}) ModelFault
 none_unknown place None = Ok tt
@@ -26,7 +33,7 @@ none_unknown place (Some key) = Err (UnknownKey place (key_text key))
 
 -- no key of a table is unknown
 abbrev pub only_known : ℕ → List Field → Data → Result (Unit {0}) ModelFault
-only_known place fields (table ms) = none_unknown place (first_unknown fields ms)
+only_known place fields (table ms) = none_unknown place (least_unknown fields ms)
 only_known place fields _ = Ok tt
 
 abbrev pub top_keys : List Field

@@ -10,9 +10,10 @@ use Rattle.net_model.specs.declared.keys.KindWord.{KindWord}
 use Rattle.net_model.specs.declared.keys.KindWord.TheVariants.{Source as SourceWord, Server as ServerWord, Delay as DelayWord, Router as RouterWord, Sink as SinkWord}
 use Rattle.net_model.specs.declared.station.Kind.{Kind}
 use Rattle.net_model.specs.declared.station.Kind.TheVariants.{Source, Server, Delay, Router, Sink}
-use Rattle.net_model.specs.Chains.{◌>>=◌}
+use Rattle.sim_base.specs.Chain.{◌>>=◌}
 use Rattle.net_model.specs.Fields.{key_of}
 use Rattle.net_model.specs.Reading.{integer_at, span_at, text_at, text_of}
+use Rattle.net_model.specs.declared.limits.TheConstants.{MOST_CLASS, MOST_JOBS, MOST_SERVERS, MOST_ROOM}
 
 -- a word that a key knows
 abbrev pub known_word : {A : Type 0} → ℕ → Field → Option A → Result A ModelFault
@@ -32,7 +33,7 @@ kind_word_at place d = text_at place KindField d >>= (λ text. known_word place 
 
 -- 1 in format 1, which knows no classes
 abbrev pub class_at : ℕ → ℕ → Data → Result ℕ ModelFault
-class_at format place d = if format == 1 then Ok 1 else integer_at place Class 1 4 (Some 1) d
+class_at format place d = if format == 1 then Ok 1 else integer_at place Class 1 MOST_CLASS (Some 1) d
 
 -- whether the order is by class
 abbrev pub order_word : List ℕ → Option Bool
@@ -52,14 +53,14 @@ by_word text = if bytes_eq text (codes "weights") then Some false else (if bytes
 abbrev pub source_of : ℕ → ℕ → Data → Result Kind ModelFault
 source_of format place d =
     span_at place Every 1 d >>= (λ every.
-    integer_at place Jobs 0 1000000 None d >>= (λ jobs.
+    integer_at place Jobs 0 MOST_JOBS None d >>= (λ jobs.
     class_at format place d >>= (λ class.
     Ok (Source every.lo every.hi jobs class))))
 
 abbrev pub server_of : ℕ → ℕ → Data → Result Kind ModelFault
 server_of format place d =
-    integer_at place Servers 1 16 None d >>= (λ servers.
-    integer_at place Room 0 4096 None d >>= (λ room.
+    integer_at place Servers 1 MOST_SERVERS None d >>= (λ servers.
+    integer_at place Room 0 MOST_ROOM None d >>= (λ room.
     span_at place Service 1 d >>= (λ service.
     order_at format place d >>= (λ by_class.
     Ok (Server servers room service.lo service.hi by_class)))))

@@ -4,7 +4,6 @@ pub mod Rules
 pub mod Fields
 pub mod KeyTexts
 pub mod Faults
-pub mod Chains
 pub mod Reading
 pub mod Keys
 pub mod Top

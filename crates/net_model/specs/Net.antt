@@ -37,10 +37,18 @@ abbrev pub is_source : Kind → Bool
 is_source (Source lo hi jobs class) = true
 is_source _ = false
 
+abbrev pub is_sink : Kind → Bool
+is_sink Sink = true
+is_sink _ = false
+
 -- the class of a source's jobs; 1 where a station is no source
 abbrev pub class_of_kind : Kind → ℕ
 class_of_kind (Source lo hi jobs class) = class
 class_of_kind _ = 1
+
+-- the class of a job that this station made: 1 where it is no source of the network
+abbrev pub class_from : Net → ℕ → ℕ
+class_from net source = class_of_kind (site_of net source).kind
 
 -- whether a server takes waiting jobs by their class
 abbrev pub serves_by_class : Kind → Bool

@@ -7,16 +7,17 @@ use Rattle.net_model.specs.declared.fault.ModelFault.{ModelFault}
 use Rattle.net_model.specs.declared.fault.ModelFault.TheVariants.{Missing, WrongType, OutOfRange, BadName}
 use Rattle.net_model.specs.declared.field.Field.{Field}
 use Rattle.net_model.specs.declared.reading.Span.{Span}
-use Rattle.net_model.specs.Chains.{◌>>=◌}
+use Rattle.sim_base.specs.Chain.{◌>>=◌}
 use Rattle.net_model.specs.Fields.{key_of}
+use Rattle.net_model.specs.declared.limits.TheConstants.{MOST_TIME}
 
 -- a key that has to be there
-abbrev pub required : ℕ → Field → Option Data → Result Data ModelFault
-required place field None = Err (Missing place field)
-required place field (Some d) = Ok d
+abbrev pub required_value : ℕ → Field → Option Data → Result Data ModelFault
+required_value place field None = Err (Missing place field)
+required_value place field (Some d) = Ok d
 
 abbrev pub value_at : ℕ → Field → Data → Result Data ModelFault
-value_at place field t = required place field (get (key_of field) t)
+value_at place field t = required_value place field (get (key_of field) t)
 
 -- an integer of a range that begins at 0 or above
 abbrev pub in_range : ℕ → Field → ℕ → ℕ → ℤ → Result ℕ ModelFault
@@ -28,12 +29,12 @@ integer_of place field low high (integer z) = in_range place field low high z
 integer_of place field low high _ = Err (WrongType place field)
 
 -- an absent key: its default, or the fault
-abbrev pub absent : ℕ → Field → Option ℕ → Result ℕ ModelFault
-absent place field None = Err (Missing place field)
-absent place field (Some n) = Ok n
+abbrev pub default_or_missing : ℕ → Field → Option ℕ → Result ℕ ModelFault
+default_or_missing place field None = Err (Missing place field)
+default_or_missing place field (Some n) = Ok n
 
 abbrev pub found_integer : ℕ → Field → ℕ → ℕ → Option ℕ → Option Data → Result ℕ ModelFault
-found_integer place field low high default None = absent place field default
+found_integer place field low high default None = default_or_missing place field default
 found_integer place field low high default (Some d) = integer_of place field low high d
 
 -- the integer that a key states, or its default where it has one
@@ -49,15 +50,15 @@ abbrev pub text_at : ℕ → Field → Data → Result (List ℕ) ModelFault
 text_at place field t = value_at place field t >>= text_of place field
 
 -- a text that is a name
-abbrev pub named : ℕ → List ℕ → Result (List ℕ) ModelFault
-named place text = if is_name text then Ok text else Err (BadName place)
+abbrev pub as_name : ℕ → List ℕ → Result (List ℕ) ModelFault
+as_name place text = if is_name text then Ok text else Err (BadName place)
 
 abbrev pub name_at : ℕ → Field → Data → Result (List ℕ) ModelFault
-name_at place field t = text_at place field t >>= named place
+name_at place field t = text_at place field t >>= as_name place
 
--- a range of times, from lo to hi, both at most 1,000,000
+-- a range of times, from lo to hi, both at most MOST_TIME
 abbrev pub span : ℕ → Field → ℕ → ℕ → ℕ → Result Span ModelFault
-span place field low lo hi = if (nat_le low lo && nat_le lo hi) && nat_le hi 1000000 then Ok (record { lo = lo; hi = hi }) else Err (OutOfRange place field)
+span place field low lo hi = if (nat_le low lo && nat_le lo hi) && nat_le hi MOST_TIME then Ok (record { lo = lo; hi = hi }) else Err (OutOfRange place field)
 
 abbrev pub span_to : ℕ → Field → ℕ → ℕ → ℤ → Result Span ModelFault
 span_to place field low lo (pos hi) = span place field low lo hi

@@ -1,5 +1,5 @@
 -- The stations of the network: each link leads to the station of its name.
-use Rattle.std.specs.Prelude.{◌==◌, ◌||◌, ℕ, ◌+◌, Bool, true, false, not, nat_lt, if◌then◌else◌, List, [], ◌∷◌, length, Option, Some, None, option_map, position, slice_get, unwrap_or, Result, Ok, Err}
+use Rattle.std.specs.Prelude.{◌==◌, ◌||◌, ℕ, ◌+◌, not, nat_lt, if◌then◌else◌, List, [], ◌∷◌, length, Option, Some, None, option_map, position, slice_get, unwrap_or, Result, Ok, Err}
 use Rattle.std.specs.Str.{bytes_eq}
 use Rattle.net_model.specs.declared.fault.ModelFault.{ModelFault}
 use Rattle.net_model.specs.declared.fault.ModelFault.TheVariants.{UnknownStation, IntoSource, ShortDelay, NoWayOut}
@@ -7,13 +7,9 @@ use Rattle.net_model.specs.declared.links.NamedLink.{NamedLink}
 use Rattle.net_model.specs.declared.station.Kind.{Kind}
 use Rattle.net_model.specs.declared.station.Kind.TheVariants.{Sink}
 use Rattle.net_model.specs.declared.station.Link.{Link}
-use Rattle.net_model.specs.Chains.{◌>>=◌}
+use Rattle.sim_base.specs.Chain.{◌>>=◌}
 use Rattle.net_model.specs.Drafts.{DraftSite}
-use Rattle.net_model.specs.Net.{Site, is_source}
-
-abbrev pub is_sink : Kind → Bool
-is_sink Sink = true
-is_sink _ = false
+use Rattle.net_model.specs.Net.{Site, is_source, is_sink}
 
 -- the kind of the station after so many others
 abbrev pub kind_after : ℕ → List DraftSite → Kind
@@ -30,14 +26,14 @@ abbrev pub link_along : ℕ → List DraftSite → ℕ → NamedLink → Option 
 link_along lookahead drafts place link None = Err (UnknownStation place)
 link_along lookahead drafts place link (Some i) = link_to lookahead place link i (kind_after i drafts)
 
-abbrev pub resolved : ℕ → List DraftSite → ℕ → NamedLink → Result Link ModelFault
-resolved lookahead drafts place link = link_along lookahead drafts place link (position (λ draft. bytes_eq draft.name link.to) drafts)
+abbrev pub link_of_named : ℕ → List DraftSite → ℕ → NamedLink → Result Link ModelFault
+link_of_named lookahead drafts place link = link_along lookahead drafts place link (position (λ draft. bytes_eq draft.name link.to) drafts)
 
-abbrev pub each_resolved : ℕ → List DraftSite → ℕ → List NamedLink → Result (List Link) ModelFault
-each_resolved lookahead drafts place [] = Ok []
-each_resolved lookahead drafts place (link ∷ links) =
-    resolved lookahead drafts place link >>= (λ first.
-    each_resolved lookahead drafts place links >>= (λ others.
+abbrev pub links_of_named : ℕ → List DraftSite → ℕ → List NamedLink → Result (List Link) ModelFault
+links_of_named lookahead drafts place [] = Ok []
+links_of_named lookahead drafts place (link ∷ links) =
+    link_of_named lookahead drafts place link >>= (λ first.
+    links_of_named lookahead drafts place links >>= (λ others.
     Ok (first ∷ others)))
 
 -- jobs have to leave a station that is no sink
@@ -46,7 +42,7 @@ with_way_out place kind links = if is_sink kind || not (length links == 0) then 
 
 abbrev pub site_of_draft : ℕ → List DraftSite → ℕ → DraftSite → Result Site ModelFault
 site_of_draft lookahead drafts place draft =
-    each_resolved lookahead drafts place draft.links >>= with_way_out place draft.kind >>= (λ links.
+    links_of_named lookahead drafts place draft.links >>= with_way_out place draft.kind >>= (λ links.
     Ok (record { name = draft.name; kind = draft.kind; stream = draft.stream; links = links }))
 
 -- each station in turn, among all of them

@@ -1,5 +1,5 @@
 -- The rules that every model meets.
-use Rattle.std.specs.Prelude.{◌≡◌, ◌≢◌, ℕ, ◌<◌, ◌≤◌, ◌^◌, List, length, map, codes, true, false, ◌⊎◌}
+use Rattle.std.specs.Prelude.{◌≡◌, ◌≢◌, ℕ, ◌≤◌, List, length, map, codes, true, false, ◌⊎◌}
 use Rattle.std.specs.List.{AllByRecursion, IsDistinct}
 use Rattle.std.specs.Str.{bytes_eq}
 use Rattle.sim_base.specs.Names.{is_name}
@@ -7,23 +7,24 @@ use Rattle.net_model.specs.declared.station.Kind.{Kind}
 use Rattle.net_model.specs.declared.station.Kind.TheVariants.{Source, Server, Delay, Router, Sink}
 use Rattle.net_model.specs.declared.station.Link.{Link}
 use Rattle.net_model.specs.Net.{Net, Site, site_of, is_source}
+use Rattle.net_model.specs.declared.limits.TheConstants.{MOST_TIME, MOST_HORIZON, MOST_SEED, MOST_LIMIT, MOST_STATIONS, MOST_LINKS, MOST_JOBS, MOST_CLASS, MOST_SERVERS, MOST_ROOM, MOST_WEIGHT}
 
 -- a range of times
 pub record IsRange (low lo hi : ℕ) : Type 0 where
   pub above : low ≤ lo
   pub ordered : lo ≤ hi
-  pub small : hi ≤ 1000000
+  pub small : hi ≤ MOST_TIME
 
 pub record IsSource (lo hi jobs class : ℕ) : Type 0 where
   pub every : IsRange 1 lo hi
-  pub few : jobs ≤ 1000000
+  pub few : jobs ≤ MOST_JOBS
   pub first : 1 ≤ class
-  pub last : class ≤ 4
+  pub last : class ≤ MOST_CLASS
 
 pub record IsServer (servers room lo hi : ℕ) : Type 0 where
   pub some : 1 ≤ servers
-  pub few : servers ≤ 16
-  pub small : room ≤ 4096
+  pub few : servers ≤ MOST_SERVERS
+  pub small : room ≤ MOST_ROOM
   pub service : IsRange 1 lo hi
 
 abbrev pub IsKind : Kind → Type 0
@@ -45,9 +46,9 @@ pub record IsLink (net : Net) (link : Link) : Type 0 where
   pub last : link.to ≤ length net.sites
   pub receives : is_source (site_of net link.to).kind ≡ false
   pub slow : net.lookahead ≤ link.delay
-  pub small : link.delay ≤ 1000000
+  pub small : link.delay ≤ MOST_TIME
   pub heavy : 1 ≤ link.weight
-  pub light : link.weight ≤ 1000
+  pub light : link.weight ≤ MOST_WEIGHT
 
 -- jobs leave every station but a sink, where they leave the network
 abbrev pub HasWayOut : Kind → List Link → Type 0
@@ -57,23 +58,23 @@ HasWayOut _ links = 1 ≤ length links
 pub record IsSite (net : Net) (site : Site) : Type 0 where
   pub named : is_name site.name ≡ true
   pub no_analyst : site.name ≢ codes "analyst"
-  pub stream : site.stream < 2 ^ 63
+  pub stream : site.stream ≤ MOST_SEED
   pub kind : IsKind site.kind
   pub format : net.format ≡ 1 → IsOfFormat1 site.kind
-  pub few : length site.links ≤ 16
+  pub few : length site.links ≤ MOST_LINKS
   pub links : AllByRecursion (IsLink net) site.links
   pub way : HasWayOut site.kind site.links
 
 pub record IsNet (net : Net) : Type 0 where
   pub format : (net.format ≡ 1) ⊎ (net.format ≡ 2)
   pub ahead : 1 ≤ net.lookahead
-  pub near : net.lookahead ≤ 1000000
+  pub near : net.lookahead ≤ MOST_TIME
   pub horizon : 1 ≤ net.horizon
-  pub soon : net.horizon ≤ 1000000000
-  pub seed : net.seed < 2 ^ 63
+  pub soon : net.horizon ≤ MOST_HORIZON
+  pub seed : net.seed ≤ MOST_SEED
   pub limit : 1 ≤ net.limit
-  pub short : net.limit ≤ 65536
+  pub short : net.limit ≤ MOST_LIMIT
   pub some : 1 ≤ length net.sites
-  pub few : length net.sites ≤ 64
+  pub few : length net.sites ≤ MOST_STATIONS
   pub distinct : IsDistinct bytes_eq (map (λ site. site.name) net.sites)
   pub sites : AllByRecursion (IsSite net) net.sites

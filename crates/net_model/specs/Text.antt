@@ -6,20 +6,21 @@ use Rattle.toml.specs.Parse.{parse_document}
 use Rattle.net_model.specs.declared.fault.ModelFault.{ModelFault}
 use Rattle.net_model.specs.declared.fault.ModelFault.TheVariants.{TooLong, NotToml}
 use Rattle.net_model.specs.declared.top.Top.{Top}
-use Rattle.net_model.specs.Chains.{◌>>=◌}
+use Rattle.sim_base.specs.Chain.{◌>>=◌}
 use Rattle.net_model.specs.Drafts.{drafts_of}
 use Rattle.net_model.specs.Keys.{only_known, top_keys}
 use Rattle.net_model.specs.Net.{Net, Site}
 use Rattle.net_model.specs.Resolving.{sites_of}
 use Rattle.net_model.specs.Top.{stations_at, top_of}
+use Rattle.net_model.specs.declared.limits.TheConstants.{MOST_BYTES}
 
 -- the tree that a text states, as `toml` reads it
 abbrev pub tree : List ℕ → Option Members
 tree text = if is_utf8 text then parse_document text else None
 
 -- the stations that some tables state
-abbrev pub sites_stated : Top → List Data → Result (List Site) ModelFault
-sites_stated top ds = drafts_of top.format [] 1 ds >>= (λ drafts. sites_of top.lookahead drafts 1 drafts)
+abbrev pub sites_of_tables : Top → List Data → Result (List Site) ModelFault
+sites_of_tables top ds = drafts_of top.format [] 1 ds >>= (λ drafts. sites_of top.lookahead drafts 1 drafts)
 
 abbrev pub with_sites : Top → List Site → Net
 with_sites top sites = record { format = top.format; lookahead = top.lookahead; horizon = top.horizon; seed = top.seed; limit = top.limit; sites = sites }
@@ -30,7 +31,7 @@ model_of root =
     only_known 0 top_keys root >>= (λ _.
     top_of root >>= (λ top.
     stations_at root >>= (λ ds.
-    sites_stated top ds >>= (λ sites.
+    sites_of_tables top ds >>= (λ sites.
     Ok (with_sites top sites)))))
 
 abbrev pub model_of_tree : Option Members → Result Net ModelFault
@@ -39,4 +40,4 @@ model_of_tree (Some ms) = model_of (table ms)
 
 -- the model that a text states
 abbrev pub model : List ℕ → Result Net ModelFault
-model text = if nat_lt 1048576 (length text) then Err TooLong else model_of_tree (tree text)
+model text = if nat_lt MOST_BYTES (length text) then Err TooLong else model_of_tree (tree text)

@@ -5,22 +5,23 @@ use Rattle.net_model.specs.declared.fault.ModelFault.{ModelFault}
 use Rattle.net_model.specs.declared.fault.ModelFault.TheVariants.{OutOfRange, TooMany}
 use Rattle.net_model.specs.declared.field.Field.TheVariants.{Format, Lookahead, Horizon, Seed, Limit, Station}
 use Rattle.net_model.specs.declared.top.Top.{Top}
-use Rattle.net_model.specs.Chains.{◌>>=◌}
+use Rattle.sim_base.specs.Chain.{◌>>=◌}
 use Rattle.net_model.specs.Reading.{integer_at, value_at, tables_of}
+use Rattle.net_model.specs.declared.limits.TheConstants.{MOST_TIME, MOST_HORIZON, MOST_SEED, MOST_LIMIT, USUAL_LIMIT, MOST_STATIONS}
 
 -- the numbers of the whole model, in the order in which they are tested
 abbrev pub top_of : Data → Result Top ModelFault
 top_of root =
     integer_at 0 Format 1 2 (Some 1) root >>= (λ format.
-    integer_at 0 Lookahead 1 1000000 None root >>= (λ lookahead.
-    integer_at 0 Horizon 1 1000000000 None root >>= (λ horizon.
-    integer_at 0 Seed 0 9223372036854775807 (Some 0) root >>= (λ seed.
-    integer_at 0 Limit 1 65536 (Some 16384) root >>= (λ limit.
+    integer_at 0 Lookahead 1 MOST_TIME None root >>= (λ lookahead.
+    integer_at 0 Horizon 1 MOST_HORIZON None root >>= (λ horizon.
+    integer_at 0 Seed 0 MOST_SEED (Some 0) root >>= (λ seed.
+    integer_at 0 Limit 1 MOST_LIMIT (Some USUAL_LIMIT) root >>= (λ limit.
     Ok (record { format = format; lookahead = lookahead; horizon = horizon; seed = seed; limit = limit }))))))
 
 -- 1 to 64 stations
-abbrev pub counted : List Data → Result (List Data) ModelFault
-counted ds = if length ds == 0 then Err (OutOfRange 0 Station) else (if nat_lt 64 (length ds) then Err (TooMany 0) else Ok ds)
+abbrev pub in_number : List Data → Result (List Data) ModelFault
+in_number ds = if length ds == 0 then Err (OutOfRange 0 Station) else (if nat_lt MOST_STATIONS (length ds) then Err (TooMany 0) else Ok ds)
 
 abbrev pub stations_at : Data → Result (List Data) ModelFault
-stations_at root = value_at 0 Station root >>= tables_of 0 Station >>= counted
+stations_at root = value_at 0 Station root >>= tables_of 0 Station >>= in_number

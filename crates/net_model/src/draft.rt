@@ -10,6 +10,7 @@ use crate::fault::ModelFault;
 use crate::field::Field;
 use crate::keys::{only_fields, station_fields};
 use crate::kinds::{kind_key, read_kind};
+use crate::limits::MOST_SEED;
 use crate::links::{NamedLink, read_links};
 use crate::reading::{Spot, integer_key, name_key};
 use crate::station::Kind;
@@ -70,13 +71,7 @@ fn read_draft(
         place,
         field: Field::Stream,
     };
-    let stream = integer_key(
-        spot,
-        0,
-        9_223_372_036_854_775_807,
-        Some(u64::from(place)),
-        table,
-    )?;
+    let stream = integer_key(spot, 0, MOST_SEED, Some(u64::from(place)), table)?;
     let kind = read_kind(format, place, word, table)?;
     let links = read_links(place, word, table)?;
     Ok(Draft {

@@ -6,6 +6,7 @@ ghost use Rattle.std.specs.Prelude.{◌≡◌, ◌++◌, [], Ok, Err, codes};
 ghost use Rattle.net_model.specs.Text.{model};
 ghost use Rattle.net_model.specs.Examples.{cut_text, linked_desk, linked_out, named_desk, sinks, small, small_text, timed_desk, top_text, top_with, with_top, without_link};
 ghost use Rattle.net_model.specs.declared.field.Field.TheVariants.{Lookahead, Horizon, Service};
+ghost use Rattle.net_model.specs.declared.limits.TheConstants.{MOST_BYTES, MOST_CLASS, MOST_HORIZON, MOST_JOBS, MOST_LIMIT, MOST_LINKS, MOST_ROOM, MOST_SEED, MOST_SERVERS, MOST_STATIONS, MOST_TIME, MOST_WEIGHT, USUAL_LIMIT};
 
 use crate::fault::ModelFault;
 
@@ -34,9 +35,26 @@ pub fn refused_stations()
     ensures open { model linked_out ≡ Err (ModelFault.UnknownKey 3 (codes "link")) }
 {}
 
-/// Texts that are refused for where a link leads, or for want of one.
+/// Texts that are refused for where a link leads, or for the lack of one.
 pub fn refused_links()
     ensures nowhere { model (linked_desk (codes "exit")) ≡ Err (ModelFault.UnknownStation 2) }
     ensures back { model (linked_desk (codes "gate")) ≡ Err (ModelFault.IntoSource 2) }
     ensures none { model without_link ≡ Err (ModelFault.NoWayOut 1) }
+{}
+
+/// The limits in numbers, as the format of model files gives them.
+pub fn limits_in_numbers()
+    ensures bytes { MOST_BYTES ≡ 1048576 }
+    ensures stations { MOST_STATIONS ≡ 64 }
+    ensures links { MOST_LINKS ≡ 16 }
+    ensures time { MOST_TIME ≡ 1000000 }
+    ensures horizon { MOST_HORIZON ≡ 1000000000 }
+    ensures seed { MOST_SEED ≡ 9223372036854775807 }
+    ensures limit { MOST_LIMIT ≡ 65536 }
+    ensures usual_limit { USUAL_LIMIT ≡ 16384 }
+    ensures jobs { MOST_JOBS ≡ 1000000 }
+    ensures class { MOST_CLASS ≡ 4 }
+    ensures servers { MOST_SERVERS ≡ 16 }
+    ensures room { MOST_ROOM ≡ 4096 }
+    ensures weight { MOST_WEIGHT ≡ 1000 }
 {}

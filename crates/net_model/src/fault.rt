@@ -6,7 +6,7 @@ use crate::field::Field;
 use crate::key_text::KeyText;
 use std::alloc::{AllocError, AllocFailed};
 
-/// The first rule that a model text breaks, or want of memory. `place` is the number of the station
+/// The first rule that a model text breaks, or out of memory. `place` is the number of the station
 /// that breaks it, or 0 for the top of the file.
 #[derive(Clone, Copy, Debug, PartialEq, Eq)]
 pub enum ModelFault {

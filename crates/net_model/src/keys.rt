@@ -1,7 +1,7 @@
 //! The keys that a table may have.
 ghost use Rattle.std.specs.Prelude.{◌≡◌};
 ghost use Rattle.toml.specs.View.{table_view, view};
-ghost use Rattle.net_model.specs.Keys.{first_unknown, is_known, link_keys, none_unknown, only_known, station_keys, top_keys};
+ghost use Rattle.net_model.specs.Keys.{is_known, least_unknown, link_keys, none_unknown, only_known, station_keys, top_keys};
 
 use crate::fault::ModelFault;
 use crate::field::Field;
@@ -125,7 +125,7 @@ fn is_field(fields: &[Field], key: &str) -> bool
     fields.iter().any(|field| key == field.key())
 }
 
-/// Refuses a table with a key that is none of the fields.
+/// Refuses a table with a key that is none of the fields, and names the least such key.
 pub fn only_fields(place: u32, fields: &[Field], value: &Value) -> Result<(), ModelFault>
     ensures { result ≡ only_known place fields.now (view value.now) }
 {
@@ -135,8 +135,9 @@ pub fn only_fields(place: u32, fields: &[Field], value: &Value) -> Result<(), Mo
     }
 }
 
+// The keys of a table rise, so the first unknown one is the least.
 fn only_members(place: u32, fields: &[Field], table: &Table) -> Result<(), ModelFault>
-    ensures { result ≡ none_unknown place (first_unknown fields.now (table_view table.now)) }
+    ensures { result ≡ none_unknown place (least_unknown fields.now (table_view table.now)) }
 {
     'keys: for (key, _) in table.iter() {
         if !is_field(fields, key.as_str()) {

@@ -6,6 +6,7 @@ ghost use Rattle.net_model.specs.Kinds.{by_word, class_at, delay_of, kind_of, ki
 use crate::fault::ModelFault;
 use crate::field::Field;
 use crate::keys::KindWord;
+use crate::limits::{MOST_CLASS, MOST_JOBS, MOST_ROOM, MOST_SERVERS};
 use crate::reading::{Spot, integer_key, read_text, span_key, text_key};
 use crate::station::Kind;
 use toml::Value;
@@ -62,7 +63,7 @@ fn read_class(format: u32, place: u32, table: &Value) -> Result<u64, ModelFault>
         place,
         field: Field::Class,
     };
-    integer_key(spot, 1, 4, Some(1), table)
+    integer_key(spot, 1, MOST_CLASS, Some(1), table)
 }
 
 fn order_named(text: &str) -> Option<bool>
@@ -125,7 +126,7 @@ fn read_source(format: u32, place: u32, table: &Value) -> Result<Kind, ModelFaul
             field: Field::Jobs,
         },
         0,
-        1_000_000,
+        MOST_JOBS,
         None,
         table,
     )?;
@@ -147,7 +148,7 @@ fn read_server(format: u32, place: u32, table: &Value) -> Result<Kind, ModelFaul
             field: Field::Servers,
         },
         1,
-        16,
+        MOST_SERVERS,
         None,
         table,
     )? as u32;
@@ -157,7 +158,7 @@ fn read_server(format: u32, place: u32, table: &Value) -> Result<Kind, ModelFaul
             field: Field::Room,
         },
         0,
-        4096,
+        MOST_ROOM,
         None,
         table,
     )? as u32;

@@ -9,6 +9,7 @@ ghost use Rattle.net_model.specs.NamedLinks.{each_link, link_of, link_tables, li
 use crate::fault::ModelFault;
 use crate::field::Field;
 use crate::keys::{KindWord, link_fields, only_fields};
+use crate::limits::{MOST_LINKS, MOST_TIME, MOST_WEIGHT};
 use crate::reading::{Spot, integer_key, name_key, read_tables};
 use arrayvec::ArrayVec;
 use sim_base::Name;
@@ -53,7 +54,7 @@ fn read_link(place: u32, table: &Value) -> Result<NamedLink, ModelFault>
             field: Field::Delay,
         },
         1,
-        1_000_000,
+        MOST_TIME,
         None,
         table,
     )?;
@@ -63,7 +64,7 @@ fn read_link(place: u32, table: &Value) -> Result<NamedLink, ModelFault>
             field: Field::Weight,
         },
         1,
-        1000,
+        MOST_WEIGHT,
         Some(1),
         table,
     )? as u32;
@@ -94,7 +95,7 @@ fn link_values(place: u32, table: &Value) -> Result<&[Value], ModelFault>
     };
     match read_tables(Spot { place, field }, value) {
         Ok(tables) => {
-            if tables.len() > 16 {
+            if tables.len() > MOST_LINKS {
                 return Err(ModelFault::TooMany { place });
             }
             Ok(tables)

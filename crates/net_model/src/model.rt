@@ -1,10 +1,10 @@
 //! A model.
 ghost use Rattle.std.specs.Prelude.{◌≡◌, ◌+◌, ◌<◌, ◌≤◌, length, Some, IfSome, position};
 ghost use Rattle.std.specs.Str.{bytes_eq};
-ghost use Rattle.net_model.specs.Net.{site_at, number_of};
+ghost use Rattle.net_model.specs.Net.{class_from, number_of, site_at};
 ghost use Rattle.net_model.specs.Sites.{as_site};
 
-use crate::station::Station;
+use crate::station::{Kind, Station};
 use sim_base::Name;
 
 /// A model that meets every rule of `specs/Rules.antt`.
@@ -50,6 +50,19 @@ impl Model {
         ensures valid { IsNet self.now }
     {
         &self.stations[s as usize - 1]
+    }
+
+    /// The class of the jobs that a station made, 1 where it is no source of the model.
+    pub fn class_of(&self, source: u32) -> u32
+        ensures value { result ≡ class_from self.now source }
+    {
+        if source == 0 || source > self.len() {
+            return 1;
+        }
+        match self.station(source).kind {
+            Kind::Source { class, .. } => class,
+            _ => 1,
+        }
     }
 
     /// The number of the station of a name, None exactly where there is none.

@@ -3,11 +3,12 @@ ghost use Rattle.std.specs.Prelude.{◌≡◌, ◌≢◌, ◌≤◌, IfErr, IfOk
 ghost use Rattle.toml.specs.Errors.{IsMemory};
 ghost use Rattle.toml.specs.View.{table_view, view};
 ghost use Rattle.net_model.specs.Sites.{as_site};
-ghost use Rattle.net_model.specs.Text.{model, model_of, sites_stated, tree};
+ghost use Rattle.net_model.specs.Text.{model, model_of, sites_of_tables, tree};
 
 use crate::draft::read_drafts;
 use crate::fault::ModelFault;
 use crate::keys::{only_fields, top_fields};
+use crate::limits::MOST_BYTES;
 use crate::model::Model;
 use crate::resolve::resolve_stations;
 use crate::station::Station;
@@ -39,8 +40,8 @@ fn read_tree(alloc: Global, text: &[u8]) -> Result<Table, ModelFault>
 
 fn read_stations(alloc: Global, top: Top, tables: &[Value]) -> Result<Vec<Station>, ModelFault>
     requires { length tables.now ≤ 64 }
-    ensures ok { IfOk result (λ v. sites_stated top (map view tables.now) ≡ Ok (map as_site v.items)) }
-    ensures refused { IfErr result (λ e. e ≢ ModelFault.NoMemory → sites_stated top (map view tables.now) ≡ Err e) }
+    ensures ok { IfOk result (λ v. sites_of_tables top (map view tables.now) ≡ Ok (map as_site v.items)) }
+    ensures refused { IfErr result (λ e. e ≢ ModelFault.NoMemory → sites_of_tables top (map view tables.now) ≡ Err e) }
 {
     match read_drafts(alloc, top.format, tables) {
         Ok(drafts) => resolve_stations(alloc, top.lookahead, drafts.as_slice()),
@@ -80,13 +81,13 @@ fn read_root(alloc: Global, root: &Value) -> Result<Model, ModelFault>
 /// Reads the model that a text states, or answers the first rule that it breaks.
 ///
 /// The rules are tested in a fixed order: the length of the text, whether it is TOML, the keys at the
-/// top, then each station by itself, and last where the links of each station lead. Want of memory is
+/// top, then each station by itself, and last where the links of each station lead. Out of memory is
 /// answered as `ModelFault::NoMemory`, at whatever place it comes.
 pub fn read_model(alloc: Global, text: &[u8]) -> Result<Model, ModelFault>
     ensures ok { IfOk result (λ m. model text.now ≡ Ok m) }
     ensures refused { IfErr result (λ e. e ≢ ModelFault.NoMemory → model text.now ≡ Err e) }
 {
-    if text.len() > 1_048_576 {
+    if text.len() > MOST_BYTES {
         return Err(ModelFault::TooLong);
     }
     match read_tree(alloc, text) {

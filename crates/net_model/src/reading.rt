@@ -8,6 +8,7 @@ ghost use Rattle.net_model.specs.Reading.{integer_at, integer_of, name_at, span_
 
 use crate::fault::ModelFault;
 use crate::field::Field;
+use crate::limits::MOST_TIME;
 use sim_base::Name;
 use toml::Value;
 
@@ -143,7 +144,7 @@ fn span_of_numbers(
         return Err(wrong_type(spot));
     };
     match (u64::try_from(lo), u64::try_from(hi)) {
-        (Ok(lo), Ok(hi)) if low <= lo && lo <= hi && hi <= 1_000_000 => Ok(Span { lo, hi }),
+        (Ok(lo), Ok(hi)) if low <= lo && lo <= hi && hi <= MOST_TIME => Ok(Span { lo, hi }),
         _ => Err(out_of_range(spot)),
     }
 }

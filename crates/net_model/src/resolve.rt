@@ -3,8 +3,7 @@ ghost use Rattle.std.specs.Prelude.{◌≡◌, ◌≢◌, ◌≤◌, ◌<◌, �
 ghost use Rattle.std.specs.Result.{result_map_both};
 ghost use Rattle.std.specs.Str.{bytes_eq};
 ghost use Rattle.net_model.specs.Drafts.{as_draft};
-ghost use Rattle.net_model.specs.Net.{is_source};
-ghost use Rattle.net_model.specs.Resolving.{each_resolved, is_sink, link_to, resolved, site_of_draft, sites_of};
+ghost use Rattle.net_model.specs.Resolving.{links_of_named, link_to, link_of_named, site_of_draft, sites_of};
 ghost use Rattle.net_model.specs.Sites.{as_site};
 
 use crate::draft::Draft;
@@ -14,24 +13,6 @@ use crate::station::{Kind, Link, Station};
 use arrayvec::ArrayVec;
 use sim_base::Name;
 use std::alloc::Global;
-
-fn is_source_kind(kind: Kind) -> bool
-    ensures { result ≡ is_source kind }
-{
-    match kind {
-        Kind::Source { .. } => true,
-        _ => false,
-    }
-}
-
-fn is_sink_kind(kind: Kind) -> bool
-    ensures { result ≡ is_sink kind }
-{
-    match kind {
-        Kind::Sink => true,
-        _ => false,
-    }
-}
 
 fn named_draft(drafts: &[Draft], name: &Name) -> Option<usize>
     ensures value { result ≡ position (λ draft. bytes_eq draft.name name.now) drafts.now }
@@ -52,7 +33,7 @@ fn link_into(
     requires { i < 2 ^ 31 }
     ensures { result ≡ link_to lookahead place link.now i kind }
 {
-    if is_source_kind(kind) {
+    if kind.is_source() {
         return Err(ModelFault::IntoSource { place });
     }
     if link.delay < lookahead {
@@ -72,7 +53,7 @@ fn resolve_link(
     link: &NamedLink,
 ) -> Result<Link, ModelFault>
     requires { length drafts.now < 2 ^ 31 }
-    ensures { result ≡ resolved lookahead (map as_draft drafts.now) place link.now }
+    ensures { result ≡ link_of_named lookahead (map as_draft drafts.now) place link.now }
 {
     match named_draft(drafts, &link.to) {
         Some(i) => link_into(lookahead, place, link, i, drafts[i].kind),
@@ -88,7 +69,7 @@ fn resolve_links(
 ) -> Result<ArrayVec<Link, 16>, ModelFault>
     requires some { length drafts.now < 2 ^ 31 }
     requires few { length links.now ≤ 16 }
-    ensures { result_map_both (λ v. v.items) (λ e. e) result ≡ each_resolved lookahead (map as_draft drafts.now) place links.now }
+    ensures { result_map_both (λ v. v.items) (λ e. e) result ≡ links_of_named lookahead (map as_draft drafts.now) place links.now }
 {
     let mut found = ArrayVec::new();
     'links: for link in links {
@@ -110,7 +91,7 @@ fn resolve_station(
     ensures { result_map_both as_site (λ e. e) result ≡ site_of_draft lookahead (map as_draft drafts.now) place (as_draft draft.now) }
 {
     let links = resolve_links(lookahead, drafts, place, draft.links.as_slice())?;
-    if !is_sink_kind(draft.kind) && links.is_empty() {
+    if !draft.kind.is_sink() && links.is_empty() {
         return Err(ModelFault::NoWayOut { place });
     }
     Ok(Station {

@@ -1,4 +1,7 @@
 //! What a model says of a station.
+ghost use Rattle.std.specs.Prelude.{◌≡◌};
+ghost use Rattle.net_model.specs.Net.{is_source, is_sink, routes_by_turn, serves_by_class};
+
 use arrayvec::ArrayVec;
 use sim_base::Name;
 
@@ -39,6 +42,48 @@ pub enum Kind {
     },
     /// Where jobs leave the network.
     Sink,
+}
+
+impl Kind {
+    /// Whether jobs begin there: no link leads to it.
+    pub fn is_source(&self) -> bool
+        ensures value { result ≡ is_source self.now }
+    {
+        match *self {
+            Kind::Source { .. } => true,
+            _ => false,
+        }
+    }
+
+    /// Whether jobs leave the network there: it has no links.
+    pub fn is_sink(&self) -> bool
+        ensures value { result ≡ is_sink self.now }
+    {
+        match *self {
+            Kind::Sink => true,
+            _ => false,
+        }
+    }
+
+    /// Whether it is a router that takes its links by turn.
+    pub fn by_turn(&self) -> bool
+        ensures value { result ≡ routes_by_turn self.now }
+    {
+        match *self {
+            Kind::Router { turn } => turn,
+            _ => false,
+        }
+    }
+
+    /// Whether it is a server whose waiting jobs are taken by their class.
+    pub fn by_class(&self) -> bool
+        ensures value { result ≡ serves_by_class self.now }
+    {
+        match *self {
+            Kind::Server { by_class, .. } => by_class,
+            _ => false,
+        }
+    }
 }
 
 /// A station of a model: its name, what it does, the stream of its draws, and its links in order.

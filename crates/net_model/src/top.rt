@@ -2,10 +2,11 @@
 ghost use Rattle.std.specs.Prelude.{◌≡◌, ◌≤◌, IfOk, length, map};
 ghost use Rattle.std.specs.Result.{result_map_both};
 ghost use Rattle.toml.specs.View.{view};
-ghost use Rattle.net_model.specs.Top.{counted, stations_at, top_of};
+ghost use Rattle.net_model.specs.Top.{in_number, stations_at, top_of};
 
 use crate::fault::ModelFault;
 use crate::field::Field;
+use crate::limits::{MOST_HORIZON, MOST_LIMIT, MOST_SEED, MOST_STATIONS, MOST_TIME, USUAL_LIMIT};
 use crate::reading::{Spot, integer_key, read_tables, value_key};
 use toml::Value;
 
@@ -30,16 +31,10 @@ pub fn top_numbers(root: &Value) -> Result<Top, ModelFault>
     ensures { result ≡ top_of (view root.now) }
 {
     let format = integer_key(spot(Field::Format), 1, 2, Some(1), root)? as u32;
-    let lookahead = integer_key(spot(Field::Lookahead), 1, 1_000_000, None, root)?;
-    let horizon = integer_key(spot(Field::Horizon), 1, 1_000_000_000, None, root)?;
-    let seed = integer_key(
-        spot(Field::Seed),
-        0,
-        9_223_372_036_854_775_807,
-        Some(0),
-        root,
-    )?;
-    let limit = integer_key(spot(Field::Limit), 1, 65_536, Some(16_384), root)?;
+    let lookahead = integer_key(spot(Field::Lookahead), 1, MOST_TIME, None, root)?;
+    let horizon = integer_key(spot(Field::Horizon), 1, MOST_HORIZON, None, root)?;
+    let seed = integer_key(spot(Field::Seed), 0, MOST_SEED, Some(0), root)?;
+    let limit = integer_key(spot(Field::Limit), 1, MOST_LIMIT, Some(USUAL_LIMIT), root)?;
     Ok(Top {
         format,
         lookahead,
@@ -51,7 +46,7 @@ pub fn top_numbers(root: &Value) -> Result<Top, ModelFault>
 
 fn counted_tables(tables: &[Value]) -> Result<&[Value], ModelFault>
     ensures few { IfOk result (λ vs. length vs.now ≤ 64) }
-    ensures value { result_map_both (λ vs. map view vs.now) (λ e. e) result ≡ counted (map view tables.now) }
+    ensures value { result_map_both (λ vs. map view vs.now) (λ e. e) result ≡ in_number (map view tables.now) }
 {
     if tables.is_empty() {
         return Err(ModelFault::OutOfRange {
@@ -59,7 +54,7 @@ fn counted_tables(tables: &[Value]) -> Result<&[Value], ModelFault>
             field: Field::Station,
         });
     }
-    if tables.len() > 64 {
+    if tables.len() > MOST_STATIONS {
         return Err(ModelFault::TooMany { place: 0 });
     }
     Ok(tables)

@@ -2,14 +2,14 @@
 use Rattle.std.proofs.Common.{◌≡◌, ℕ, zero, suc, ◌+◌, refl, ap, add-one}
 use Rattle.rand_pcg.specs.Lcg.{Lcg, next, next_state, state_after, started, increment_of}
 use Rattle.rand_pcg.specs.Pcg.{multiplier_64}
-use Rattle.sim_draw.specs.Drawing.{Drawn, generator}
+use Rattle.sim_draw.specs.Drawing.{DrawsView, generator}
 
 state_after_next : (w m p n s : ℕ) → next_state w m p (state_after w m p n s) ≡ state_after w m p (suc n) s
 unfolding state_after
 state_after_next w m p zero s = refl
 state_after_next w m p (suc n) s = state_after_next w m p n (next_state w m p s)
 
-pub generator_next : (d : Drawn) → next 64 multiplier_64 (generator d) ≡ generator (record d { count = d.count + 1 })
+pub generator_next : (d : DrawsView) → next 64 multiplier_64 (generator d) ≡ generator (record d { count = d.count + 1 })
 unfolding generator
 generator_next d =
     let g = started 64 multiplier_64 d.seed (increment_of 64 d.stream) in

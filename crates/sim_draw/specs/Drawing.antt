@@ -5,13 +5,13 @@ unfoldable pub use Rattle.rand_pcg.specs.Lcg.{state_after}
 use Rattle.rand_pcg.specs.Pcg.{multiplier_64, pcg32}
 
 -- one stream of a seed, of which so many words were drawn
-pub record Drawn : Type 0 where
+pub record DrawsView : Type 0 where
   pub seed : ℕ
   pub stream : ℕ
   pub count : ℕ
 
 -- the generator that stands there
-unfoldable pub generator : Drawn → Lcg
+unfoldable pub generator : DrawsView → Lcg
 generator d = advance 64 multiplier_64 d.count (started 64 multiplier_64 d.seed (increment_of 64 d.stream))
 
 -- word i, from 0, of a stream of a seed
@@ -19,15 +19,15 @@ unfoldable pub word : ℕ → ℕ → ℕ → ℕ
 word seed stream i = (pcg32 (generator (record { seed = seed; stream = stream; count = i }))).0
 
 -- the next word
-abbrev pub next_of : Drawn → ℕ
+abbrev pub next_of : DrawsView → ℕ
 next_of d = word d.seed d.stream d.count
 
 -- one word more was drawn
-abbrev pub drawn_one : Drawn → Drawn
+abbrev pub drawn_one : DrawsView → DrawsView
 drawn_one d = record d { count = d.count + 1 }
 
 -- a number from lo to hi, by the next word
-abbrev pub range_of : ℕ → ℕ → Drawn → ℕ
+abbrev pub range_of : ℕ → ℕ → DrawsView → ℕ
 range_of lo hi d = lo + next_of d % (hi - lo + 1)
 
 -- the first index whose running sum of weights exceeds x
@@ -36,13 +36,13 @@ index_of [] x = 0
 index_of (w ∷ ws) x = if nat_lt x w then 0 else 1 + index_of ws (x - w)
 
 -- an index by the weights, by the next word; one weight leaves no choice
-abbrev pub pick_of : List ℕ → Drawn → ℕ
+abbrev pub pick_of : List ℕ → DrawsView → ℕ
 pick_of [] d = 0
 pick_of (w ∷ []) d = 0
 pick_of ws d = index_of ws (next_of d % sum ws)
 
 -- what is drawn by a pick: one word, and none where there is no choice
-abbrev pub drawn_by : List ℕ → Drawn → Drawn
+abbrev pub drawn_by : List ℕ → DrawsView → DrawsView
 drawn_by [] d = d
 drawn_by (w ∷ []) d = d
 drawn_by ws d = drawn_one d

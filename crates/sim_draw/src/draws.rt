@@ -1,7 +1,7 @@
 //! Seeded draws.
 ghost use Rattle.std.specs.Prelude.{◌≡◌, ℕ, ◌+◌, ◌-◌, ◌%◌, ◌^◌, ◌<◌, ◌≤◌, List, length, sum};
 ghost use Rattle.std.specs.List.{AllByRecursion};
-ghost use Rattle.sim_draw.specs.Drawing.{Drawn, drawn_one, range_of, next_of, pick_of, index_of, drawn_by, IsFirstAbove};
+ghost use Rattle.sim_draw.specs.Drawing.{DrawsView, drawn_one, range_of, next_of, pick_of, index_of, drawn_by, IsFirstAbove};
 
 use rand_core::utils::NextWord;
 use rand_pcg::Lcg64Xsh32;
@@ -20,9 +20,9 @@ pub struct Draws {
 
 impl Model for Draws {
     ghost use Rattle.std.specs.Prelude.{◌≡◌};
-    ghost use Rattle.sim_draw.specs.Drawing.{Drawn, generator};
+    ghost use Rattle.sim_draw.specs.Drawing.{DrawsView, generator};
 
-    ghost Value = { Drawn };
+    ghost Value = { DrawsView };
 
     ghost view = { λ d. record { seed = d.seed; stream = d.stream; count = d.drawn } };
 

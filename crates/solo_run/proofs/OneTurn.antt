@@ -19,13 +19,13 @@ use Rattle.run_laws.proofs.Queue.{sorted_insert_all, all_insert_all}
 use Rattle.run_laws.proofs.Worlds.{put_same, put_other, log_here, log_there}
 use Rattle.net_model.specs.Net.{Net}
 use Rattle.net_model.specs.Rules.{IsNet}
-use Rattle.stations.specs.Handling.{StationState, handle}
+use Rattle.stations.specs.Handling.{StateView, handle}
 use Rattle.stations.specs.Opening.{setup}
 use Rattle.stations.specs.Sends.{AreSends}
 use Rattle.stations.proofs.Lawful.{handles-well}
 use Rattle.stations.proofs.GoodLaws.{lawful-stations}
 use Rattle.solo_run.specs.Limit.{receiver, first_beyond}
-use Rattle.solo_run.specs.Standing.{IsSolo, IsStanding, IsForStation, config_of, messages_of, state_of}
+use Rattle.solo_run.specs.SoloView.{SoloView, IsSolo, IsStateAfter, IsForStation, config_of, messages_of, state_of, with_due}
 use Rattle.solo_run.specs.Turns.{HandlesAt, Turned, step_of}
 
 get_set_here : {X : Type 0} (xs : List X) (i : ℕ) (y : X) → i < length xs → slice_get (slice_set xs i y) i ≡ Some y
@@ -58,7 +58,7 @@ sum_most f n (x ∷ xs) most =
     omega (arith, sum_by-cons f x xs, first, rest, whole)
 
 -- the states of the numbers, where one changes
-state_put : (net : Net) (states : List StationState) (i : ℕ) (st : StationState) → i < length states → (s : ℕ) → state_of net (slice_set states i st) s ≡ put (state_of net states) (suc i) st s
+state_put : (net : Net) (states : List StateView) (i : ℕ) (st : StateView) → i < length states → (s : ℕ) → state_of net (slice_set states i st) s ≡ put (state_of net states) (suc i) st s
 state_put net states i st there zero = sym (put_other (state_of net states) (suc i) st zero (λ e. absurd (omega (arith, e))))
 state_put net states i st there (suc j) = elim (cases_eq j i) [
   | inl e ↦ ap (λ o. unwrap_or o (setup net (suc j)).state) (ap (λ k. slice_get (slice_set states i st) k) e ∙ get_set_here states i st there) ∙ sym (put_same (state_of net states) (suc i) st (suc j) (ap suc e))
@@ -98,50 +98,50 @@ sends_for : (net : Net) (now s k : ℕ) (ms : List Msg) → AreSends net now s k
 sends_for net now s k [] are = tt
 sends_for net now s k (m ∷ ms) are = ((are.0.first, are.0.last), sends_for net now s (suc k) ms are.1)
 
-module _ (net : Net) (valid : IsNet net) (states new : List StationState) (pending next : List (Msg × Unit {0})) (trace : List (Entry Msg Line)) (m : Msg) (sends : List Msg) (line : Line)
+module _ (net : Net) (valid : IsNet net) (v : SoloView) (m : Msg) (new : List StateView) (next : List (Msg × Unit {0})) (sends : List Msg) (line : Line)
     (early : m.key.time < 2 ^ 31)
-    (solo : IsSolo net (record { states = states; pending = (m, tt) ∷ pending; trace = trace }))
-    (h : HandlesAt net (m.to - 1) m states new sends line) where
+    (solo : IsSolo net (with_due m v))
+    (h : HandlesAt net (m.to - 1) m v.states new sends line) where
   abbrev pub e : Entry Msg Line
   e = record { msg = m; line = line }
 
   number : suc (m.to - 1) ≡ m.to
   number = let low : 1 ≤ m.to = solo.targets.0.0 in omega arith
 
-  old : IsStanding net trace (m.to - 1) h.before
+  old : IsStateAfter net v.trace (m.to - 1) h.before
   old = solo.states (m.to - 1) h.before h.is_there
 
-  within : m.to - 1 < length states
-  within = slice_get_within states (m.to - 1) h.before h.is_there
+  within : m.to - 1 < length v.states
+  within = slice_get_within v.states (m.to - 1) h.before h.is_there
 
-  full_log : h.before.handled ≡ length (log_of receiver m.to trace)
-  full_log = old.log ∙ ap (λ k. length (log_of receiver k trace)) (let low : 1 ≤ m.to = solo.targets.0.0 in omega arith)
+  full_log : h.before.handled ≡ length (log_of receiver m.to v.trace)
+  full_log = old.log ∙ ap (λ k. length (log_of receiver k v.trace)) (let low : 1 ≤ m.to = solo.targets.0.0 in omega arith)
 
-  config_is : messages_of next ≡ insert_all msg_cmp sends (messages_of pending)
-      → config_of net (record { states = new; pending = next; trace = trace ++ e ∷ [] }) ≡ after msg_cmp (step_of net) (config_of net (record { states = states; pending = (m, tt) ∷ pending; trace = trace })).at m (messages_of pending)
+  config_is : messages_of next ≡ insert_all msg_cmp sends (messages_of v.pending)
+      → config_of net (record { states = new; pending = next; trace = v.trace ++ e ∷ [] }) ≡ after msg_cmp (step_of net) (config_of net (with_due m v)).at m (messages_of v.pending)
   config_is is =
-      let at : state_of net states m.to ≡ h.before = subst (λ k. state_of net states k ≡ h.before) number (ap (λ o. unwrap_or o (setup net (suc (m.to - 1))).state) h.is_there) in
+      let at : state_of net v.states m.to ≡ h.before = subst (λ k. state_of net v.states k ≡ h.before) number (ap (λ o. unwrap_or o (setup net (suc (m.to - 1))).state) h.is_there) in
       let gives = ap (λ st. handle net st m) at ∙ h.gives in
-      let one : state_of net new ≡ put (state_of net states) m.to h.after = subst (λ k. state_of net new ≡ put (state_of net states) k h.after) number (ap (state_of net) h.changed ∙ fun_ext (state_put net states (m.to - 1) h.after within)) in
-      let F : Handled StationState Msg Line → Config (World StationState Msg Line) Msg =
-      λ d. record { at = record { states = put (state_of net states) m.to d.state; trace = trace ++ record { msg = m; line = d.line } ∷ [] }; pending = insert_all msg_cmp d.sends (messages_of pending) } in
-      ap (λ f. record { at = record { states = f; trace = trace ++ e ∷ [] }; pending = messages_of next }) one
-      ∙ ap (λ p. record { at = record { states = put (state_of net states) m.to h.after; trace = trace ++ e ∷ [] }; pending = p }) is
+      let one : state_of net new ≡ put (state_of net v.states) m.to h.after = subst (λ k. state_of net new ≡ put (state_of net v.states) k h.after) number (ap (state_of net) h.changed ∙ fun_ext (state_put net v.states (m.to - 1) h.after within)) in
+      let F : Handled StateView Msg Line → Config (World StateView Msg Line) Msg =
+      λ d. record { at = record { states = put (state_of net v.states) m.to d.state; trace = v.trace ++ record { msg = m; line = d.line } ∷ [] }; pending = insert_all msg_cmp d.sends (messages_of v.pending) } in
+      ap (λ f. record { at = record { states = f; trace = v.trace ++ e ∷ [] }; pending = messages_of next }) one
+      ∙ ap (λ p. record { at = record { states = put (state_of net v.states) m.to h.after; trace = v.trace ++ e ∷ [] }; pending = p }) is
       ∙ sym (ap F gives)
 
-  standing_is : (i : ℕ) (st : StationState) → slice_get new i ≡ Some st → IsStanding net (trace ++ e ∷ []) i st
-  standing_is i st is = elim (cases_eq i (m.to - 1)) [
+  states_after : (i : ℕ) (st : StateView) → slice_get new i ≡ Some st → IsStateAfter net (v.trace ++ e ∷ []) i st
+  states_after i st is = elim (cases_eq i (m.to - 1)) [
     | inl here ↦
-        let at : slice_get new (m.to - 1) ≡ Some h.after = ap (λ t. slice_get t (m.to - 1)) h.changed ∙ get_set_here states (m.to - 1) h.after within in
+        let at : slice_get new (m.to - 1) ≡ Some h.after = ap (λ t. slice_get t (m.to - 1)) h.changed ∙ get_set_here v.states (m.to - 1) h.after within in
         let same : st ≡ h.after = let k = sym is ∙ (ap (slice_get new) here ∙ at) in cc in
         let well = handles-well net h.before m valid old.fits old.suits early in
         let state = ap (λ d. d.state) h.gives in
         let station : h.after.sender.station ≡ h.before.sender.station = ap (λ d. d.sender.station) (sym state) ∙ well.station in
         let handled : h.after.handled ≡ h.before.handled + 1 = ap (λ d. d.handled) (sym state) ∙ well.handled in
         let place : m.to ≡ i + 1 = let low : 1 ≤ m.to = solo.targets.0.0 in omega (arith, here) in
-        let log = ap (λ t. length t) (log_here receiver (i + 1) trace e place) in
-        let more = length-append (log_of receiver (i + 1) trace) (e ∷ []) in
-        let count = full_log ∙ ap (λ k. length (log_of receiver k trace)) place in
+        let log = ap (λ t. length t) (log_here receiver (i + 1) v.trace e place) in
+        let more = length-append (log_of receiver (i + 1) v.trace) (e ∷ []) in
+        let count = full_log ∙ ap (λ k. length (log_of receiver k v.trace)) place in
         let below = h.below in
         let lies = old.station in
         rw same record {
@@ -152,37 +152,37 @@ module _ (net : Net) (valid : IsNet net) (states new : List StationState) (pendi
           log = omega (arith, handled, log, more, count);
         }
     | inr other ↦
-        let at : slice_get states i ≡ Some st = sym (ap (λ t. slice_get t i) h.changed ∙ get_set_other states (m.to - 1) i h.after other) ∙ is in
+        let at : slice_get v.states i ≡ Some st = sym (ap (λ t. slice_get t i) h.changed ∙ get_set_other v.states (m.to - 1) i h.after other) ∙ is in
         let was = solo.states i st at in
         record {
           fits = was.fits;
           suits = was.suits;
           station = was.station;
           within = was.within;
-          log = was.log ∙ ap (λ t. length t) (sym (log_there receiver (i + 1) trace e (λ k. other (let low : 1 ≤ m.to = solo.targets.0.0 in omega (arith, k)))));
+          log = was.log ∙ ap (λ t. length t) (sym (log_there receiver (i + 1) v.trace e (λ k. other (let low : 1 ≤ m.to = solo.targets.0.0 in omega (arith, k)))));
         }
   ]
 
-  solo_is : messages_of next ≡ insert_all msg_cmp sends (messages_of pending) → IsSolo net (record { states = new; pending = next; trace = trace ++ e ∷ [] })
+  pub solo_is : messages_of next ≡ insert_all msg_cmp sends (messages_of v.pending) → IsSolo net (record { states = new; pending = next; trace = v.trace ++ e ∷ [] })
   solo_is is =
       let order = (lawful-stations net valid).order.order in
       let well = handles-well net h.before m valid old.fits old.suits early in
       let are : AllByRecursion (IsForStation net) sends = subst (AllByRecursion (IsForStation net)) (ap (λ d. d.sends) h.gives) (sends_for net m.key.time h.before.sender.station h.before.sender.next (handle net h.before m).sends well.sends) in
       let state = ap (λ d. d.state) h.gives in
       let handled : h.after.handled ≡ h.before.handled + 1 = ap (λ d. d.handled) (sym state) ∙ well.handled in
-      let sum = sum_set (λ st. st.handled) states (m.to - 1) h.before h.after h.is_there in
+      let sum = sum_set (λ st. st.handled) v.states (m.to - 1) h.before h.after h.is_there in
       let new_sum = ap (sum_by (λ st. st.handled)) h.changed in
-      let longer = length-append trace (e ∷ []) in
+      let longer = length-append v.trace (e ∷ []) in
       let total = solo.total in
       record {
         valid = valid;
-        count = ap (λ t. length t) h.changed ∙ (length-set states (m.to - 1) h.after ∙ solo.count);
-        states = standing_is;
-        sorted = subst (Sorted msg_cmp) (sym is) (sorted_insert_all order sends (messages_of pending) solo.sorted.1);
-        targets = subst (AllByRecursion (IsForStation net)) (sym is) (all_insert_all order (IsForStation net) sends (messages_of pending) are solo.targets.1);
+        count = ap (λ t. length t) h.changed ∙ (length-set v.states (m.to - 1) h.after ∙ solo.count);
+        states = states_after;
+        sorted = subst (Sorted msg_cmp) (sym is) (sorted_insert_all order sends (messages_of v.pending) solo.sorted.1);
+        targets = subst (AllByRecursion (IsForStation net)) (sym is) (all_insert_all order (IsForStation net) sends (messages_of v.pending) are solo.targets.1);
         total = omega (arith, handled, sum, new_sum, longer, total);
-        below = beyond_none net.limit trace e solo.below (let below = h.below in omega (arith, full_log, below));
+        below = beyond_none net.limit v.trace e solo.below (let below = h.below in omega (arith, full_log, below));
       }
 
-  pub turned : messages_of next ≡ insert_all msg_cmp sends (messages_of pending) → Turned net (record { states = states; pending = (m, tt) ∷ pending; trace = trace }) m (messages_of pending) (record { states = new; pending = next; trace = trace ++ e ∷ [] })
-  turned is = record { solo = solo_is is; config = config_is is }
+  pub turned : messages_of next ≡ insert_all msg_cmp sends (messages_of v.pending) → Turned net v m (record { states = new; pending = next; trace = v.trace ++ e ∷ [] })
+  turned is = config_is is

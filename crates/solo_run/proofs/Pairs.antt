@@ -4,7 +4,7 @@ use Rattle.sim_base.specs.Order.{msg_cmp}
 use Rattle.sim_base.specs.Pending.{place_marked, insert_marked}
 use Rattle.sim_base.specs.declared.message.Msg.{Msg}
 use Rattle.run_laws.specs.Queue.{place, insert}
-use Rattle.solo_run.specs.Standing.{messages_of}
+use Rattle.solo_run.specs.SoloView.{messages_of}
 
 at_place : (o : Ordering) (join : Unit {0} → Unit {0} → Unit {0}) (m : Msg) (y : Msg × Unit {0}) (ys rest : List (Msg × Unit {0})) (after : List Msg) → messages_of rest ≡ after
     → messages_of (place_marked join o m tt y ys rest) ≡ place o m y.0 (messages_of ys) after

@@ -15,12 +15,12 @@ use Rattle.run_laws.proofs.ForStations.{pending_for_stations}
 use Rattle.net_model.specs.Net.{Net}
 use Rattle.net_model.specs.Rules.{IsNet}
 use Rattle.stations.specs.Fits.{FitsState, SuitsNet}
-use Rattle.stations.specs.Handling.{StationState}
+use Rattle.stations.specs.Handling.{StateView}
 use Rattle.stations.specs.Opening.{setup}
 use Rattle.stations.specs.Runs.{simulation}
 use Rattle.stations.proofs.GoodLaws.{lawful-stations, stations-to_stations}
 use Rattle.solo_run.specs.Beginning.{AreOpenings, and_put, start_of}
-use Rattle.solo_run.specs.Standing.{IsSolo, IsForStation, config_of, messages_of, state_of}
+use Rattle.solo_run.specs.SoloView.{IsSolo, IsForStation, config_of, messages_of, state_of}
 use Rattle.solo_run.proofs.OneTurn.{sum_most}
 
 get_push : {X : Type 0} (xs : List X) (y : X) (i : ℕ) (x : X) → slice_get (xs ++ y ∷ []) i ≡ Some x → (slice_get xs i ≡ Some x) ⊎ ((i ≡ length xs) × (x ≡ y))
@@ -33,7 +33,7 @@ get_push (z ∷ xs) y (suc i) x is = elim (get_push xs y i x is) [
 ]
 
 -- one station more is open
-pub opened_more : (net : Net) (n : ℕ) (states : List StationState) (st : StationState) → AreOpenings net n states → (setup net (n + 1)).state ≡ st → FitsState st → SuitsNet net st → AreOpenings net (n + 1) (states ++ st ∷ [])
+pub opened_more : (net : Net) (n : ℕ) (states : List StateView) (st : StateView) → AreOpenings net n states → (setup net (n + 1)).state ≡ st → FitsState st → SuitsNet net st → AreOpenings net (n + 1) (states ++ st ∷ [])
 opened_more net n states st before is fits suits =
     let longer = length-append states (st ∷ []) in
     let count = before.count in
@@ -62,7 +62,7 @@ insert_both : (xs ys q : List Msg) → insert_all msg_cmp (xs ++ ys) q ≡ inser
 insert_both [] ys q = refl
 insert_both (x ∷ xs) ys q = insert_both xs ys (insert msg_cmp x q)
 
-opening_at : (net : Net) (states : List StationState) → AreOpenings net (length net.sites) states → (s : ℕ) → state_of net states s ≡ (setup net s).state
+opening_at : (net : Net) (states : List StateView) → AreOpenings net (length net.sites) states → (s : ℕ) → state_of net states s ≡ (setup net s).state
 opening_at net states opened zero = refl
 opening_at net states opened (suc i) = elim (slice_get_cases states i).1 [
   | inl found ↦
@@ -71,7 +71,7 @@ opening_at net states opened (suc i) = elim (slice_get_cases states i).1 [
   | inr past ↦ ap (λ o. unwrap_or o (setup net (suc i)).state) past.1
 ]
 
-module _ (net : Net) (valid : IsNet net) (list : List Planned) (states : List StationState) (p : List (Msg × Unit {0})) (firsts : List Msg)
+module _ (net : Net) (valid : IsNet net) (list : List Planned) (states : List StateView) (p : List (Msg × Unit {0})) (firsts : List Msg)
     (opened : AreOpenings net (length net.sites) states)
     (first : firsts ≡ insert_all msg_cmp (openings (simulation net) (length net.sites)) [])
     (then_all : messages_of p ≡ insert_all msg_cmp (planned (simulation net) 0 list) firsts) where

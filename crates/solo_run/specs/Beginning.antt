@@ -9,24 +9,24 @@ use Rattle.run_laws.specs.Machine.{Config}
 use Rattle.sim_base.specs.declared.message.Msg.{Msg}
 use Rattle.sim_base.specs.declared.entry.Line.{Line}
 use Rattle.stations.specs.Fits.{FitsState, SuitsNet}
-use Rattle.stations.specs.Handling.{StationState}
+use Rattle.stations.specs.Handling.{StateView}
 use Rattle.stations.specs.Opening.{setup}
 use Rattle.stations.specs.Runs.{simulation}
 
 -- the world of a clone with these decisions, before anything was handled
-abbrev pub start_of : Net → List Planned → Config (World StationState Msg Line) Msg
+abbrev pub start_of : Net → List Planned → Config (World StateView Msg Line) Msg
 start_of net plans = begin (simulation net) plans
 
 -- the state at place i is the opening state of the station of number i + 1
-pub record IsOpening (net : Net) (i : ℕ) (st : StationState) : Type 0 where
+pub record IsOpening (net : Net) (i : ℕ) (st : StateView) : Type 0 where
   pub is : st ≡ (setup net (i + 1)).state
   pub fits : FitsState st
   pub suits : SuitsNet net st
 
 -- the opening states of the stations 1 to n
-pub record AreOpenings (net : Net) (n : ℕ) (states : List StationState) : Type 0 where
+pub record AreOpenings (net : Net) (n : ℕ) (states : List StateView) : Type 0 where
   pub count : length states ≡ n
-  pub each : (i : ℕ) (st : StationState) → slice_get states i ≡ Some st → IsOpening net i st
+  pub each : (i : ℕ) (st : StateView) → slice_get states i ≡ Some st → IsOpening net i st
 
 -- what a station sends first, if anything, becomes pending
 abbrev pub and_put : Option Msg → List Msg → List Msg

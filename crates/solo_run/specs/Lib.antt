@@ -1,4 +1,4 @@
 pub mod Limit
-pub mod Standing
+pub mod SoloView
 pub mod Turns
 pub mod Beginning

@@ -8,24 +8,24 @@ use Rattle.run_laws.specs.Machine.{Config, after, run_to}
 use Rattle.run_laws.specs.World.{World, world_step}
 use Rattle.net_model.specs.Net.{Net}
 use Rattle.stations.specs.Fits.{FitsState, SuitsNet}
-use Rattle.stations.specs.Handling.{StationState, handle}
+use Rattle.stations.specs.Handling.{StateView, handle}
 use Rattle.solo_run.specs.Limit.{receiver, first_beyond}
-use Rattle.solo_run.specs.Standing.{Standing, IsSolo, config_of}
+use Rattle.solo_run.specs.SoloView.{SoloView, config_of, messages_of}
 use Rattle.solo_run.specs.declared.turn.SoloFault.{SoloFault}
 use Rattle.solo_run.specs.declared.turn.SoloFault.TheVariants.{NoMemory, Limit}
 
 -- a station of the network handles a message
-abbrev pub step_of : Net → World StationState Msg Line → Msg → World StationState Msg Line × List Msg
+abbrev pub step_of : Net → World StateView Msg Line → Msg → World StateView Msg Line × List Msg
 step_of net = world_step receiver (λ s st m. handle net st m)
 
 -- the run of a network from where it stands to a front
-abbrev pub run_from : Net → Standing → ℕ → Config (World StationState Msg Line) Msg
+abbrev pub run_from : Net → SoloView → ℕ → Config (World StateView Msg Line) Msg
 run_from net v front = run_to msg_cmp (step_of net) (λ m. m.key.time) (config_of net v) front
 
 -- the state at place i handles a message
-pub record HandlesAt (net : Net) (i : ℕ) (m : Msg) (old new : List StationState) (sends : List Msg) (line : Line) : Type 0 where
-  pub before : StationState
-  pub after : StationState
+pub record HandlesAt (net : Net) (i : ℕ) (m : Msg) (old new : List StateView) (sends : List Msg) (line : Line) : Type 0 where
+  pub before : StateView
+  pub after : StateView
   pub is_there : slice_get old i ≡ Some before
   pub below : before.handled < net.limit
   pub changed : new ≡ slice_set old i after
@@ -34,26 +34,25 @@ pub record HandlesAt (net : Net) (i : ℕ) (m : Msg) (old new : List StationStat
   pub fits : FitsState after
 
 -- the station at place i has handled as many messages as it may, and no step was taken
-pub record IsFull (net : Net) (i : ℕ) (states : List StationState) (old_steps new_steps station kept : ℕ) : Type 0 where
-  pub state : StationState
+pub record IsFull (net : Net) (i : ℕ) (states : List StateView) (old_steps new_steps station kept : ℕ) : Type 0 where
+  pub state : StateView
   pub is_there : slice_get states i ≡ Some state
   pub full : net.limit ≤ state.handled
   pub is_here : station ≡ i + 1
   pub keeps : kept ≡ net.limit
   pub steps : new_steps ≡ old_steps
 
-abbrev pub StopsAt : Net → ℕ → List StationState → ℕ → ℕ → SoloFault → Type 0
+abbrev pub StopsAt : Net → ℕ → List StateView → ℕ → ℕ → SoloFault → Type 0
 StopsAt net i states old_steps new_steps NoMemory = Unit {0}
 StopsAt net i states old_steps new_steps (Limit station kept) = IsFull net i states old_steps new_steps station kept
 
--- the message that was taken is handled
-pub record Turned (net : Net) (old : Standing) (m : Msg) (q : List Msg) (new : Standing) : Type 0 where
-  pub solo : IsSolo net new
-  pub config : config_of net new ≡ after msg_cmp (step_of net) (config_of net old).at m q
+-- a message that was due is handled: the run comes to where the turn leads
+abbrev pub Turned : Net → SoloView → Msg → SoloView → Type 0
+Turned net v m new = config_of net new ≡ after msg_cmp (step_of net) (config_of net v).at m (messages_of v.pending)
 
 -- the run to a front goes beyond the limit: up to the first such entry all was handled, one step for each, and no
 -- station has handled more than the limit
-pub record GoesBeyond (net : Net) (v : Standing) (front old_steps new_steps station kept : ℕ) : Type 0 where
+pub record GoesBeyond (net : Net) (v : SoloView) (front old_steps new_steps station kept : ℕ) : Type 0 where
   pub done : List (Entry Msg Line)
   pub entry : Entry Msg Line
   pub rest : List (Entry Msg Line)
@@ -68,11 +67,6 @@ pub record GoesBeyond (net : Net) (v : Standing) (front old_steps new_steps stat
   pub bounded : length done ≤ length net.sites * net.limit
 
 -- why a run to a front stops
-abbrev pub Stops : Net → Standing → ℕ → ℕ → ℕ → SoloFault → Type 0
+abbrev pub Stops : Net → SoloView → ℕ → ℕ → ℕ → SoloFault → Type 0
 Stops net v front old_steps new_steps NoMemory = Unit {0}
 Stops net v front old_steps new_steps (Limit station kept) = GoesBeyond net v front old_steps new_steps station kept
-
--- the first message is at the front or later, where there is one
-abbrev pub NoneBelow : ℕ → List Msg → Type 0
-NoneBelow front [] = Unit {0}
-NoneBelow front (m ∷ ms) = front ≤ m.key.time

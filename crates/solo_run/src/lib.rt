@@ -1,4 +1,23 @@
 //! The plain simulator: one clone by itself, on one thread.
+//!
+//! A planner who asks for one clone gets the textbook loop of discrete-event simulation: the future event list gives
+//! its least message, the station that it is for handles it, and what that sends goes into the list.
+//!
+//!     pending  [3 gate tick] [8 desk set ..] ..        states  gate desk out
+//!        |  take_before(front)                            |
+//!        `------------------> turn: handle ---------------'
+//!     trace    .. [3 gate tick: sent=1]
+//!
+//!     let solo = Solo::new(alloc, &model, clone.list())?;             // the decisions are messages too
+//!     let solo = solo.run_to(&model, model.horizon(), &mut steps)?;   // Err(SoloFault::Limit { .. }) at the limit
+//!     let trace = solo.trace();                                       // what was handled, in order
+//!
+//! A turn costs the handling, one look at the future event list and an insert for each message that is sent; one
+//! buffer serves all turns. A run of n messages keeps n entries of trace.
+//!
+//! It is the measure of all sharing: `run_to` comes to exactly the run that the definitions give for the clone
+//! (`ok`), and where a station would handle more messages than the limit, it names the station of the first such
+//! message (`stops`). What a clone costs here is what *alone* counts in a report.
 #![tactic(auto)]
 
 mod opening;

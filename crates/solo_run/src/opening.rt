@@ -7,7 +7,7 @@ ghost use Rattle.run_laws.specs.Queue.{insert_all};
 ghost use Rattle.run_laws.specs.World.{openings, planned};
 ghost use Rattle.stations.specs.Runs.{simulation};
 ghost use Rattle.solo_run.specs.Beginning.{AreOpenings, and_put};
-ghost use Rattle.solo_run.specs.Standing.{messages_of};
+ghost use Rattle.solo_run.specs.SoloView.{messages_of};
 
 use net_model::Model;
 use sim_base::{Key, Msg, NoMemory, Payload, Pending, Planned};

@@ -5,29 +5,30 @@ ghost use Rattle.run_laws.specs.World.{log_of};
 ghost use Rattle.stations.specs.Runs.{simulation};
 ghost use Rattle.solo_run.specs.Beginning.{start_of};
 ghost use Rattle.solo_run.specs.Limit.{receiver};
-ghost use Rattle.solo_run.specs.Standing.{IsSolo, config_of};
+ghost use Rattle.solo_run.specs.SoloView.{IsSolo, config_of};
 ghost use Rattle.solo_run.specs.Turns.{Stops, run_from};
 
 use crate::opening::{open_all, plan_all};
-use crate::turn::{SoloFault, advance};
+use crate::turn::SoloFault;
+use arrayvec::ArrayVec;
 use net_model::Model;
 use sim_base::{Entry, NoMemory, Pending, Planned, Steps};
 use stations::State;
 use std::alloc::Global;
 use std::sync::ledger::Ledger;
 
-/// Where the run of one clone stands.
+/// The run of one clone, as far as it has come: the state of each station, the pending messages and the trace.
 #[derive(Drop)]
 pub struct Solo {
-    states: Vec<State>,
-    pending: Pending<()>,
-    trace: Vec<Entry>,
+    pub(crate) states: Vec<State>,
+    pub(crate) pending: Pending<()>,
+    pub(crate) trace: Vec<Entry>,
 }
 
 impl std::marker::Model for Solo {
-    ghost use Rattle.solo_run.specs.Standing.{Standing};
+    ghost use Rattle.solo_run.specs.SoloView.{SoloView};
 
-    ghost Value = { Standing };
+    ghost Value = { SoloView };
 
     ghost view = { λ s. record { states = s.states.items; pending = s.pending; trace = s.trace.items } };
 }
@@ -56,7 +57,7 @@ impl Solo {
     /// Counts a step for each message handled. It stops where a station would handle more messages than the limit,
     /// and names the station of the first such message; before it, all was handled.
     pub fn run_to<L: Ledger>(
-        self,
+        mut self,
         model: &Model,
         front: u64,
         steps: &mut Steps<L>,
@@ -68,19 +69,15 @@ impl Solo {
         ensures steps { IfOk result (λ solo. steps.new + length self.trace ≡ steps.old + length solo.trace) }
         ensures stops { IfErr result (λ e. Stops model.now self front steps.old steps.new e) }
     {
-        let Solo {
-            mut states,
-            mut pending,
-            mut trace,
-        } = self;
-        match advance(&mut states, &mut pending, &mut trace, model, front, steps) {
-            Ok(()) => Ok(Solo {
-                states,
-                pending,
-                trace,
-            }),
-            Err(fault) => Err(fault),
+        // One buffer for what each turn sends.
+        let mut out = ArrayVec::new();
+        while let Some(due) = self.pending.take_before(front) {
+            match self.turn(model, &due.0, &mut out, steps) {
+                Ok(()) => {}
+                Err(fault) => return Err(fault),
+            }
         }
+        Ok(self)
     }
 
     /// What one station handled, in order.

@@ -1,6 +1,6 @@
 //! The worked examples of the definitions, run, and that a run finds memory.
 ghost use Rattle.std.specs.Prelude.{◌≡◌, ◌<◌, IfSome};
-ghost use Rattle.solo_run.specs.Standing.{IsSolo};
+ghost use Rattle.solo_run.specs.SoloView.{IsSolo};
 
 mod models;
 mod traces;

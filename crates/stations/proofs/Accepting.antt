@@ -8,17 +8,17 @@ use Rattle.net_model.specs.declared.station.Kind.{Kind}
 use Rattle.net_model.specs.declared.station.Kind.TheVariants.{Source, Server, Delay, Router, Sink}
 use Rattle.net_model.specs.Net.{Site}
 use Rattle.net_model.specs.Rules.{IsRange}
-use Rattle.stations.specs.Changes.{takes, is_range, is_within, is_in_range, is_accepted}
+use Rattle.stations.specs.Changes.{has_parameter, is_range, is_within, is_in_range, is_accepted}
 use Rattle.stations.specs.Fits.{is_router}
 
-both : (t r : Bool) (site : Site) (c : Change) → takes site.kind c.param ≡ t → is_in_range (length site.links) c.param c.a c.b ≡ r → is_accepted site c ≡ true → (t ≡ true) × (r ≡ true)
+both : (t r : Bool) (site : Site) (c : Change) → has_parameter site.kind c.param ≡ t → is_in_range (length site.links) c.param c.a c.b ≡ r → is_accepted site c ≡ true → (t ≡ true) × (r ≡ true)
 both true true site c t r accepted = (refl, refl)
 both true false site c t r accepted = absurd (false≢true (rw (t, r) at accepted))
 both false r site c t e accepted = absurd (false≢true (rw t at accepted))
 
 -- an accepted change has a parameter of the kind, and values in its range
-pub accepted-parts : (site : Site) (c : Change) → is_accepted site c ≡ true → (takes site.kind c.param ≡ true) × (is_in_range (length site.links) c.param c.a c.b ≡ true)
-accepted-parts site c accepted = both (takes site.kind c.param) (is_in_range (length site.links) c.param c.a c.b) site c refl refl accepted
+pub accepted-parts : (site : Site) (c : Change) → is_accepted site c ≡ true → (has_parameter site.kind c.param ≡ true) × (is_in_range (length site.links) c.param c.a c.b ≡ true)
+accepted-parts site c accepted = both (has_parameter site.kind c.param) (is_in_range (length site.links) c.param c.a c.b) site c refl refl accepted
 
 pub within-bounds : (low high n : ℕ) → is_within low high n ≡ true → (low ≤ n) × (n ≤ high)
 within-bounds low high n h = let parts = and_parts (nat_le low n) (nat_le n high) h in (leb-true low n parts.0, leb-true n high parts.1)
@@ -42,17 +42,17 @@ weight_in_range links a b h =
     let weight = within-bounds 1 1000 b parts.1 in
     (link.0, link.1, weight.0, weight.1)
 
-router_takes : (kind : Kind) (p : Param) → is_router kind ≡ true → takes kind p ≡ true → p ≡ Weight
-router_takes (Router turn) Every is takes = absurd (false≢true takes)
-router_takes (Router turn) Service is takes = absurd (false≢true takes)
-router_takes (Router turn) Hold is takes = absurd (false≢true takes)
-router_takes (Router turn) Servers is takes = absurd (false≢true takes)
-router_takes (Router turn) Room is takes = absurd (false≢true takes)
-router_takes (Router turn) Weight is takes = refl
-router_takes (Source lo hi jobs class) p is takes = absurd (false≢true is)
-router_takes (Server servers room lo hi by_class) p is takes = absurd (false≢true is)
-router_takes (Delay lo hi) p is takes = absurd (false≢true is)
-router_takes Sink p is takes = absurd (false≢true is)
+router_takes : (kind : Kind) (p : Param) → is_router kind ≡ true → has_parameter kind p ≡ true → p ≡ Weight
+router_takes (Router turn) Every is has_parameter = absurd (false≢true has_parameter)
+router_takes (Router turn) Service is has_parameter = absurd (false≢true has_parameter)
+router_takes (Router turn) Hold is has_parameter = absurd (false≢true has_parameter)
+router_takes (Router turn) Servers is has_parameter = absurd (false≢true has_parameter)
+router_takes (Router turn) Room is has_parameter = absurd (false≢true has_parameter)
+router_takes (Router turn) Weight is has_parameter = refl
+router_takes (Source lo hi jobs class) p is has_parameter = absurd (false≢true is)
+router_takes (Server servers room lo hi by_class) p is has_parameter = absurd (false≢true is)
+router_takes (Delay lo hi) p is has_parameter = absurd (false≢true is)
+router_takes Sink p is has_parameter = absurd (false≢true is)
 
 -- what a router accepts is a new weight of one of its links
 pub router-accepts : (site : Site) (c : Change) → is_router site.kind ≡ true → is_accepted site c ≡ true → IsWeightChange (length site.links) c
@@ -65,21 +65,21 @@ router-accepts site c is accepted =
 pub room-bound : (room : ℕ) → nat_le room 4096 ≡ true → room ≤ 4096
 room-bound room h = leb-true room 4096 h
 
-source_takes : (lo hi jobs class : ℕ) (p : Param) → takes (Source lo hi jobs class) p ≡ true → p ≡ Every
-source_takes lo hi jobs class Every takes = refl
-source_takes lo hi jobs class Service takes = absurd (false≢true takes)
-source_takes lo hi jobs class Hold takes = absurd (false≢true takes)
-source_takes lo hi jobs class Servers takes = absurd (false≢true takes)
-source_takes lo hi jobs class Room takes = absurd (false≢true takes)
-source_takes lo hi jobs class Weight takes = absurd (false≢true takes)
+source_takes : (lo hi jobs class : ℕ) (p : Param) → has_parameter (Source lo hi jobs class) p ≡ true → p ≡ Every
+source_takes lo hi jobs class Every has_parameter = refl
+source_takes lo hi jobs class Service has_parameter = absurd (false≢true has_parameter)
+source_takes lo hi jobs class Hold has_parameter = absurd (false≢true has_parameter)
+source_takes lo hi jobs class Servers has_parameter = absurd (false≢true has_parameter)
+source_takes lo hi jobs class Room has_parameter = absurd (false≢true has_parameter)
+source_takes lo hi jobs class Weight has_parameter = absurd (false≢true has_parameter)
 
-delay_takes : (lo hi : ℕ) (p : Param) → takes (Delay lo hi) p ≡ true → p ≡ Hold
-delay_takes lo hi Every takes = absurd (false≢true takes)
-delay_takes lo hi Service takes = absurd (false≢true takes)
-delay_takes lo hi Hold takes = refl
-delay_takes lo hi Servers takes = absurd (false≢true takes)
-delay_takes lo hi Room takes = absurd (false≢true takes)
-delay_takes lo hi Weight takes = absurd (false≢true takes)
+delay_takes : (lo hi : ℕ) (p : Param) → has_parameter (Delay lo hi) p ≡ true → p ≡ Hold
+delay_takes lo hi Every has_parameter = absurd (false≢true has_parameter)
+delay_takes lo hi Service has_parameter = absurd (false≢true has_parameter)
+delay_takes lo hi Hold has_parameter = refl
+delay_takes lo hi Servers has_parameter = absurd (false≢true has_parameter)
+delay_takes lo hi Room has_parameter = absurd (false≢true has_parameter)
+delay_takes lo hi Weight has_parameter = absurd (false≢true has_parameter)
 
 -- what a source accepts is a range from 1 on
 pub source-accepts : (lo hi jobs class : ℕ) (site : Site) (c : Change) → site.kind ≡ Source lo hi jobs class → is_accepted site c ≡ true → IsRange 1 c.a c.b

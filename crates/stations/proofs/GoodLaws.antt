@@ -16,11 +16,11 @@ use Rattle.stations.specs.declared.kind_state.KindState.TheVariants.{Source, Ser
 use Rattle.stations.specs.Fits.{GoodKind, IsOfKind}
 use Rattle.stations.specs.Sending.{Outgoing}
 use Rattle.stations.specs.Sends.{IsSend, AreSends}
-use Rattle.stations.specs.Handling.{StationState, handle}
+use Rattle.stations.specs.Handling.{StateView, handle}
 use Rattle.stations.specs.Opening.{opening_kind, setup}
 use Rattle.stations.specs.Good.{IsGood, next_number, sender_of, number_of}
 use Rattle.stations.specs.Runs.{simulation}
-use Rattle.stations.proofs.KindLaws.{good_kind, kind_on-kept}
+use Rattle.stations.proofs.KindLaws.{good_kind, kind_on-good}
 use Rattle.stations.proofs.Lawful.{site_valid, number_in, site_is}
 use Rattle.stations.proofs.OpeningLaws.{opening-fits, opening-kind, first_tick-station, first_tick-first}
 
@@ -34,44 +34,46 @@ site_cases net (suc i) = elim (slice_get_cases net.sites i).1 [
 
 module _ (net : Net) (valid : IsNet net) where
   -- a good state handles a message and stays good, and sends as stations send
-  pub record HandlesGood (s : ℕ) (st : StationState) (m : Msg) : Type 0 where
+  pub record HandlesGood (s : ℕ) (st : StateView) (m : Msg) : Type 0 where
     pub good : IsGood net s (handle net st m).state
     pub sends : AreSends net m.key.time s st.sender.next (handle net st m).sends
+    pub few : length (handle net st m).sends ≤ 16
     pub next : (handle net st m).state.sender.next ≡ st.sender.next + length (handle net st m).sends
 
-  at_station : (site : Site) (st : StationState) (m : Msg) → site_at net st.sender.station ≡ Some site → IsOfKind (site_of net st.sender.station) (site_of net st.sender.station).kind st.kind → GoodKind st.handled st.kind → HandlesGood st.sender.station st m
+  at_station : (site : Site) (st : StateView) (m : Msg) → site_at net st.sender.station ≡ Some site → IsOfKind (site_of net st.sender.station) (site_of net st.sender.station).kind st.kind → GoodKind st.handled st.kind → HandlesGood st.sender.station st m
   unfolding handle
   at_station site st m there of good =
       let at = site_of net st.sender.station in
       let lawful : IsSite net at = rw (site_is net st.sender.station site there) (site_valid net st.sender.station site valid there) in
       let number = number_in net st.sender.station site there in
       let begin : Outgoing = record { sender = st.sender; sends = [] } in
-      let kept = kind_on-kept net at m.key.time lawful.links valid.ahead begin number.0 number.1 at.kind st.handled m.payload st.kind refl of good in
-      let g = kept.grown in
+      let after = kind_on-good net at m.key.time lawful.links valid.ahead begin number.0 number.1 at.kind st.handled m.payload st.kind refl of good in
+      let g = after.grown in
       let count = ap length g.sends in
       record {
-        good = record { station = g.station; kind = kept.kind; fits = kept.good };
+        good = record { station = g.station; kind = after.kind; fits = after.good };
         sends = subst (AreSends net m.key.time st.sender.station st.sender.next) (sym g.sends) g.are;
+        few = omega (arith, g.few, count);
         next = omega (arith, g.next, count);
       }
 
   -- a number that is no station's stands for a sink
   nowhere : (sender : Sender) (handled : ℕ) (k : KindState) (m : Msg) → site_of net sender.station ≡ no_site → IsOfKind no_site kind.Sink k → HandlesGood sender.station (record { sender = sender; handled = handled; kind = k }) m
   unfolding handle
-  nowhere sender handled (Sink s) m none of = record { good = record { station = refl; kind = rw none tt; fits = tt }; sends = tt; next = omega arith }
+  nowhere sender handled (Sink s) m none of = record { good = record { station = refl; kind = rw none tt; fits = tt }; sends = tt; few = omega arith; next = omega arith }
   nowhere sender handled (Source s) m none of = absurd of
   nowhere sender handled (Server s) m none of = absurd of
   nowhere sender handled (Delay s) m none of = absurd of
   nowhere sender handled (Router s) m none of = absurd of
 
-  own_good : (st : StationState) (m : Msg) → IsOfKind (site_of net st.sender.station) (site_of net st.sender.station).kind st.kind → GoodKind st.handled st.kind → HandlesGood st.sender.station st m
+  own_good : (st : StateView) (m : Msg) → IsOfKind (site_of net st.sender.station) (site_of net st.sender.station).kind st.kind → GoodKind st.handled st.kind → HandlesGood st.sender.station st m
   own_good st m of good = elim (site_cases net st.sender.station) [
     | inl found ↦ at_station found.0 st m found.1 of good
     | inr none ↦ nowhere st.sender st.handled st.kind m none (subst (λ (site : Site). IsOfKind site site.kind st.kind) none of)
   ]
 
   -- a good state stays good, and sends as stations send
-  pub handles-good : (s : ℕ) (st : StationState) (m : Msg) → IsGood net s st → HandlesGood s st m
+  pub handles-good : (s : ℕ) (st : StateView) (m : Msg) → IsGood net s st → HandlesGood s st m
   handles-good s st m good =
       subst (λ (r : ℕ). HandlesGood r st m) good.station
       (own_good st m (subst (λ (r : ℕ). IsOfKind (site_of net r) (site_of net r).kind st.kind) (sym good.station) good.kind) good.fits)
@@ -88,7 +90,7 @@ module _ (net : Net) (valid : IsNet net) where
       pub below : at < high
       pub is : IsSend net now s at z
 
-    among : (k : ℕ) (ms : List Msg) (z : Msg) → AreSends net now s k ms → In z ms → IsAmong k (k + length ms) z
+    pub among : (k : ℕ) (ms : List Msg) (z : Msg) → AreSends net now s k ms → In z ms → IsAmong k (k + length ms) z
     among k [] z are i = absurd i
     among k (m ∷ ms) z are (inl same) = record { at = k; above = omega arith; below = omega arith; is = subst (IsSend net now s k) (sym same) are.0 }
     among k (m ∷ ms) z are (inr later) =
@@ -112,7 +114,7 @@ module _ (net : Net) (valid : IsNet net) where
     numbers_apart k (m ∷ ms) z y are (inr i) (inr j) same = numbers_apart (suc k) ms z y are.1 i j same
 
 module _ (net : Net) (valid : IsNet net) where
-  opens_good : (s : ℕ) → IsGood net s (setup net s).state
+  pub opens_good : (s : ℕ) → IsGood net s (setup net s).state
   opens_good s =
       let at = site_of net s in
       record {

@@ -11,11 +11,11 @@ use Rattle.stations.specs.declared.kind_state.KindState.TheVariants.{Source, Ser
 use Rattle.stations.specs.Fits.{AreLinks, HasLinks, IsOfKind, SuitsNet, FitsState}
 use Rattle.sim_base.specs.declared.message.Msg.{Msg}
 use Rattle.stations.specs.declared.sender.Sender.{Sender}
-use Rattle.stations.specs.Handling.{StationState, handle, handled_as, kind_on, line_of}
+use Rattle.stations.specs.Handling.{StateView, handle, handled_as, kind_on, line_of}
 use Rattle.stations.specs.Sending.{Outgoing, outgoing, reaction}
 use Rattle.stations.specs.Sends.{AreSends}
 use Rattle.stations.proofs.Places.{all_at}
-use Rattle.stations.proofs.KindLaws.{good_kind, kind_on-kept, kind_on-fits}
+use Rattle.stations.proofs.KindLaws.{good_kind, kind_on-good, kind_on-fits}
 
 -- a station that is there meets the rules, and its number is in range
 pub site_valid : (net : Net) (s : ℕ) (site : Site) → IsNet net → site_at net s ≡ Some site → IsSite net site
@@ -73,7 +73,7 @@ has_links net site kind.Sink (Router s) valid is of = absurd of
 has_links net site kind.Sink (Sink s) valid is of = tt
 
 -- what the handling of a message keeps, and what it sends
-pub record HandlesWell (net : Net) (st : StationState) (m : Msg) : Type 0 where
+pub record HandlesWell (net : Net) (st : StateView) (m : Msg) : Type 0 where
   pub fits : FitsState (handle net st m).state
   pub suits : SuitsNet net (handle net st m).state
   pub sends : AreSends net m.key.time st.sender.station st.sender.next (handle net st m).sends
@@ -82,7 +82,7 @@ pub record HandlesWell (net : Net) (st : StationState) (m : Msg) : Type 0 where
   pub handled : (handle net st m).state.handled ≡ st.handled + 1
   pub station : (handle net st m).state.sender.station ≡ st.sender.station
 
-pub handles-well : (net : Net) (st : StationState) (m : Msg) → IsNet net → FitsState st → SuitsNet net st → m.key.time < 2 ^ 31 → HandlesWell net st m
+pub handles-well : (net : Net) (st : StateView) (m : Msg) → IsNet net → FitsState st → SuitsNet net st → m.key.time < 2 ^ 31 → HandlesWell net st m
 unfolding handle
 handles-well net st m valid fits suits early =
     let site = site_of net st.sender.station in
@@ -92,8 +92,8 @@ handles-well net st m valid fits suits early =
     let of : IsOfKind site site.kind st.kind = subst (λ (q : Site). IsOfKind q q.kind st.kind) (sym is) suits.kind in
     let number = number_in net st.sender.station suits.site suits.is_there in
     let begin : Outgoing = record { sender = st.sender; sends = [] } in
-    let kept = kind_on-kept net site m.key.time lawful.links valid.ahead begin number.0 number.1 site.kind st.handled m.payload st.kind refl of (good_kind st.handled st.kind fits.kind) in
-    let g = kept.grown in
+    let after = kind_on-good net site m.key.time lawful.links valid.ahead begin number.0 number.1 site.kind st.handled m.payload st.kind refl of (good_kind st.handled st.kind fits.kind) in
+    let g = after.grown in
     let count = ap length g.sends in
     record {
       fits = record {
@@ -102,9 +102,9 @@ handles-well net st m valid fits suits early =
           next = omega (arith, g.next, g.few, fits.sender.next);
           draws = omega (arith, g.draws, fits.sender.draws);
         };
-        kind = kind_on-fits m.key.time early net site st.handled m.payload st.kind begin fits.kind kept.good;
+        kind = kind_on-fits m.key.time early net site st.handled m.payload st.kind begin fits.kind after.good;
       };
-      suits = record { site = site; is_there = rw g.station there; kind = kept.kind };
+      suits = record { site = site; is_there = rw g.station there; kind = after.kind };
       sends = subst (AreSends net m.key.time st.sender.station st.sender.next) (sym g.sends) g.are;
       next = omega (arith, g.next, count);
       few = omega (arith, g.few, count);
@@ -117,7 +117,7 @@ no_element [] none = refl
 no_element (x ∷ xs) none = absurd (omega arith)
 
 -- the code's steps come to the handling of the message
-pub handle-is : (net : Net) (st : StationState) (m : Msg) (site : Site) (before after : List Msg) (kind' : KindState) (sender' : Sender) → site_at net st.sender.station ≡ Some site → length before ≡ 0
+pub handle-is : (net : Net) (st : StateView) (m : Msg) (site : Site) (before after : List Msg) (kind' : KindState) (sender' : Sender) → site_at net st.sender.station ≡ Some site → length before ≡ 0
     → kind_on net site m.key.time m.payload st.kind (outgoing st.sender before) ≡ reaction kind' (outgoing sender' after)
     → handle net st m ≡ record { state = record { sender = sender'; handled = st.handled + 1; kind = kind' }; sends = after; line = line_of kind' }
 unfolding handle

@@ -6,7 +6,12 @@ pub mod Starting
 pub mod Growing
 pub mod NextInLine
 pub mod ServerLaws
+pub mod SourceLaws
+pub mod DelayLaws
+pub mod RouterLaws
+pub mod SinkLaws
 pub mod KindLaws
 pub mod Lawful
 pub mod OpeningLaws
 pub mod GoodLaws
+pub mod ReplayLaws

@@ -10,13 +10,13 @@ use Rattle.sim_base.specs.declared.message.Payload.TheVariants.{Tick}
 use Rattle.stations.specs.declared.kind_state.KindState.{KindState}
 use Rattle.stations.specs.declared.kind_state.KindState.TheVariants.{Source, Server, Delay, Router, Sink}
 use Rattle.stations.specs.Fits.{FitsKind, FitsState, IsOfKind, SuitsNet}
-use Rattle.stations.specs.Handling.{StationState}
+use Rattle.stations.specs.Handling.{StateView}
 use Rattle.sim_base.specs.declared.message.Msg.{Msg}
 use Rattle.stations.specs.declared.sender.Sender.{Sender}
 use Rattle.stations.specs.Sending.{Outgoing, outgoing, send_later}
 use Rattle.stations.specs.Opening.{opening_kind, first_tick, setup}
 use Rattle.stations.proofs.Growing.{Grown, grown-none, grown-more}
-use Rattle.stations.proofs.KindLaws.{tick_grown}
+use Rattle.stations.proofs.SourceLaws.{tick_grown}
 use Rattle.stations.proofs.Lawful.{site_valid, number_in, site_is, are_links}
 use Rattle.stations.proofs.Links.{are_weights}
 
@@ -44,7 +44,7 @@ opening-kind site kind.Sink = tt
 pub first_tick_grown : (net : Net) (site : Site) (k : Kind) (o : Outgoing) → IsNet net → IsSite net site → site.kind ≡ k → 1 ≤ o.sender.station → o.sender.station ≤ length net.sites → Grown net 0 1 o (first_tick (opening_kind site k) o)
 first_tick_grown net site (kind.Source lo hi jobs class) o valid lawful is first last =
     let fits = opening-fits net site (kind.Source lo hi jobs class) lawful is in
-    tick_grown net site 0 lawful.links valid.ahead o first last (record { lo = lo; hi = hi; jobs = jobs; sent = 0 }) o fits.range first last
+    tick_grown net 0 (record { lo = lo; hi = hi; jobs = jobs; sent = 0 }) o fits.range first last
 first_tick_grown net site (kind.Server servers room lo hi by_class) o valid lawful is first last = grown-more net 0 0 1 o o (grown-none net 0 o) (omega arith)
 first_tick_grown net site (kind.Delay lo hi) o valid lawful is first last = grown-more net 0 0 1 o o (grown-none net 0 o) (omega arith)
 first_tick_grown net site (kind.Router turn) o valid lawful is first last = grown-more net 0 0 1 o o (grown-none net 0 o) (omega arith)
@@ -73,7 +73,7 @@ pub opened-is : (net : Net) (s : ℕ) (site : Site) (kept : KindState) (sender' 
     → (setup net s).state ≡ record { sender = sender'; handled = 0; kind = kept }
 opened-is net s site kept sender' before after there is none ticked =
     let ticked_here = rw (none, is) at ticked in
-    rw (site_is net s site there, is) (ap (λ (o : Outgoing). let st : StationState = record { sender = o.sender; handled = 0; kind = opening_kind site site.kind } in st) ticked_here)
+    rw (site_is net s site there, is) (ap (λ (o : Outgoing). let st : StateView = record { sender = o.sender; handled = 0; kind = opening_kind site site.kind } in st) ticked_here)
 
 -- the sender of the first tick is the station itself
 pub first_tick-station : (k : KindState) (o : Outgoing) → (first_tick k o).sender.station ≡ o.sender.station

@@ -51,23 +51,23 @@ pub server-later : (handled : ℕ) (s : ServerState) → FitsServer handled s �
 server-later handled s f = record { some = f.some; most = f.most; room = f.room; range = f.range; busy = f.busy; line = f.line; short = f.short; done = omega (arith, f.done); lost = omega (arith, f.lost) }
 
 module _ (net : Net) (site : Site) (now : ℕ) (links : AllByRecursion (IsLink net) site.links) (ahead : 1 ≤ net.lookahead) where
-  -- a reaction that keeps P and sends at most n messages
-  pub record Kept (P : ServerState → Type 0) (n : ℕ) (a : Outgoing) (r : Reaction ServerState) : Type 0 where
-    pub kept : P r.kept
+  -- a reaction after which P holds of the server, and which sends at most n messages
+  pub record Holds (P : ServerState → Type 0) (n : ℕ) (a : Outgoing) (r : Reaction ServerState) : Type 0 where
+    pub holds : P r.state
     pub grown : Grown net now n a r.out
 
   module _ (a : Outgoing) (first : 1 ≤ a.sender.station) (last : a.sender.station ≤ length net.sites) where
     -- nobody waits, and nobody is started
-    nobody_started : (n handled : ℕ) (s : ServerState) → length s.waiting ≡ 0 → IsBusyBut (suc n) handled s → Kept (IsBusyBut n handled) 1 a (reaction s a)
+    nobody_started : (n handled : ℕ) (s : ServerState) → length s.waiting ≡ 0 → IsBusyBut (suc n) handled s → Holds (IsBusyBut n handled) 1 a (reaction s a)
     nobody_started n handled s nobody b = record {
-      kept = record { some = b.some; most = b.most; room = b.room; range = b.range; busy = b.busy; line = inl nobody; short = b.short; done = b.done; lost = b.lost };
+      holds = record { some = b.some; most = b.most; room = b.room; range = b.range; busy = b.busy; line = inl nobody; short = b.short; done = b.done; lost = b.lost };
       grown = grown-more net now 0 1 a a (grown-none net now a) (omega arith);
     }
 
     -- the job at a place of the line is started
-    one_started : (n handled place : ℕ) (job : JobOf) (s : ServerState) → s.busy < s.servers → place < length s.waiting → IsBusyBut (suc n) handled s → Kept (IsBusyBut n handled) 1 a (start_at now place (Some job) s a)
+    one_started : (n handled place : ℕ) (job : JobOf) (s : ServerState) → s.busy < s.servers → place < length s.waiting → IsBusyBut (suc n) handled s → Holds (IsBusyBut n handled) 1 a (start_at now place (Some job) s a)
     one_started n handled place job s free there b = record {
-      kept = record {
+      holds = record {
         some = b.some;
         most = b.most;
         room = b.room;
@@ -78,10 +78,10 @@ module _ (net : Net) (site : Site) (now : ℕ) (links : AllByRecursion (IsLink n
         done = b.done;
         lost = b.lost;
       };
-      grown = grown-later net now a first last s.lo s.hi (Done job) b.range.above;
+      grown = grown-later net now a first last s.lo s.hi (Done job) (λ job. job) b.range.above;
     }
 
-    at_place : (n handled place : ℕ) (s : ServerState) → s.busy < s.servers → (1 ≤ length s.waiting → place < length s.waiting) → IsBusyBut (suc n) handled s → Kept (IsBusyBut n handled) 1 a (start_at now place (slice_get s.waiting place) s a)
+    at_place : (n handled place : ℕ) (s : ServerState) → s.busy < s.servers → (1 ≤ length s.waiting → place < length s.waiting) → IsBusyBut (suc n) handled s → Holds (IsBusyBut n handled) 1 a (start_at now place (slice_get s.waiting place) s a)
     at_place n handled place s free there b = elim (slice_get_cases s.waiting place).1 [
       | inl found ↦ rw found.2 (one_started n handled place found.0 s free found.1 b)
       | inr past ↦ (
@@ -94,15 +94,15 @@ module _ (net : Net) (site : Site) (now : ℕ) (links : AllByRecursion (IsLink n
         length_cases (suc k) = inr (omega arith)
 
     -- one start: either a server was free and who waited was taken, or all are busy
-    pub start_next-kept : (n handled : ℕ) (s : ServerState) → IsBusyBut (suc n) handled s → Kept (IsBusyBut n handled) 1 a (start_next net site now s a)
-    start_next-kept n handled s b = by (nat_lt s.busy s.servers) refl
+    pub start_next-good : (n handled : ℕ) (s : ServerState) → IsBusyBut (suc n) handled s → Holds (IsBusyBut n handled) 1 a (start_next net site now s a)
+    start_next-good n handled s b = by (nat_lt s.busy s.servers) refl
       where
-        by : (t : Bool) → nat_lt s.busy s.servers ≡ t → Kept (IsBusyBut n handled) 1 a (if t then start_at now (next_place net site s.waiting) (slice_get s.waiting (next_place net site s.waiting)) s a else reaction s a)
+        by : (t : Bool) → nat_lt s.busy s.servers ≡ t → Holds (IsBusyBut n handled) 1 a (if t then start_at now (next_place net site s.waiting) (slice_get s.waiting (next_place net site s.waiting)) s a else reaction s a)
         by true free = at_place n handled (next_place net site s.waiting) s (ltb-true s.busy s.servers free) (next_place-below net site s.waiting) b
         by false full =
             let all_busy = ltb-false s.busy s.servers full in
             record {
-              kept = record { some = b.some; most = b.most; room = b.room; range = b.range; busy = b.busy; line = inr (omega arith); short = b.short; done = b.done; lost = b.lost };
+              holds = record { some = b.some; most = b.most; room = b.room; range = b.range; busy = b.busy; line = inr (omega arith); short = b.short; done = b.done; lost = b.lost };
               grown = grown-more net now 0 1 a a (grown-none net now a) (omega arith);
             }
 
@@ -114,25 +114,25 @@ module _ (net : Net) (site : Site) (now : ℕ) (links : AllByRecursion (IsLink n
   last_along n a b g last = rw g.station last
 
   module _ (a : Outgoing) (first : 1 ≤ a.sender.station) (last : a.sender.station ≤ length net.sites) where
-    pub start_times-kept : (n m handled : ℕ) (r : Reaction ServerState) → IsBusyBut n handled r.kept → Grown net now m a r.out → Kept (IsBusyBut 0 handled) (m + n) a (start_times n net site now r)
-    start_times-kept zero m handled r b g = record { kept = b; grown = grown-more net now m (m + 0) a r.out g (omega arith) }
-    start_times-kept (suc n) m handled r b g =
-        let one = start_next-kept r.out (first_along m a r.out g first) (last_along m a r.out g last) n handled r.kept b in
-        let rest = start_times-kept n (m + 1) handled (start_next net site now r.kept r.out) one.kept (grown-then net now m 1 a r.out (start_next net site now r.kept r.out).out g one.grown) in
-        record { kept = rest.kept; grown = grown-more net now ((m + 1) + n) (m + suc n) a (start_times n net site now (start_next net site now r.kept r.out)).out rest.grown (omega arith) }
+    pub start_times-good : (n m handled : ℕ) (r : Reaction ServerState) → IsBusyBut n handled r.state → Grown net now m a r.out → Holds (IsBusyBut 0 handled) (m + n) a (start_times n net site now r)
+    start_times-good zero m handled r b g = record { holds = b; grown = grown-more net now m (m + 0) a r.out g (omega arith) }
+    start_times-good (suc n) m handled r b g =
+        let one = start_next-good r.out (first_along m a r.out g first) (last_along m a r.out g last) n handled r.state b in
+        let rest = start_times-good n (m + 1) handled (start_next net site now r.state r.out) one.holds (grown-then net now m 1 a r.out (start_next net site now r.state r.out).out g one.grown) in
+        record { holds = rest.holds; grown = grown-more net now ((m + 1) + n) (m + suc n) a (start_times n net site now (start_next net site now r.state r.out)).out rest.grown (omega arith) }
 
     same_grown : (n : ℕ) → Grown net now n a a
     same_grown n = grown-more net now 0 n a a (grown-none net now a) (omega arith)
 
-    pub server_job-kept : (handled : ℕ) (job : JobOf) (s : ServerState) → FitsServer handled s → Kept (FitsServer (handled + 1)) 16 a (server_job now job s a)
-    server_job-kept handled job s f = by (nat_lt s.busy s.servers) (nat_lt (length s.waiting) s.room) refl refl
+    pub server_job-good : (handled : ℕ) (job : JobOf) (s : ServerState) → FitsServer handled s → Holds (FitsServer (handled + 1)) 16 a (server_job now job s a)
+    server_job-good handled job s f = by (nat_lt s.busy s.servers) (nat_lt (length s.waiting) s.room) refl refl
       where
         by : (free space : Bool) → nat_lt s.busy s.servers ≡ free → nat_lt (length s.waiting) s.room ≡ space
-            → Kept (FitsServer (handled + 1)) 16 a (if free then start now job s a else if space then reaction (record s { waiting = s.waiting ++ job ∷ [] }) a else reaction (record s { lost = s.lost + 1 }) a)
+            → Holds (FitsServer (handled + 1)) 16 a (if free then start now job s a else if space then reaction (record s { waiting = s.waiting ++ job ∷ [] }) a else reaction (record s { lost = s.lost + 1 }) a)
         by true space free e =
             let below = ltb-true s.busy s.servers free in
             record {
-              kept = record {
+              holds = record {
                 some = f.some;
                 most = f.most;
                 room = f.room;
@@ -143,13 +143,13 @@ module _ (net : Net) (site : Site) (now : ℕ) (links : AllByRecursion (IsLink n
                 done = omega (arith, f.done);
                 lost = omega (arith, f.lost);
               };
-              grown = grown-more net now 1 16 a (start now job s a).out (grown-later net now a first last s.lo s.hi (Done job) f.range.above) (omega arith);
+              grown = grown-more net now 1 16 a (start now job s a).out (grown-later net now a first last s.lo s.hi (Done job) (λ job. job) f.range.above) (omega arith);
             }
         by false true full space =
             let all_busy = ltb-false s.busy s.servers full in
             let fits = ltb-true (length s.waiting) s.room space in
             record {
-              kept = record {
+              holds = record {
                 some = f.some;
                 most = f.most;
                 room = f.room;
@@ -163,15 +163,15 @@ module _ (net : Net) (site : Site) (now : ℕ) (links : AllByRecursion (IsLink n
               grown = same_grown 16;
             }
         by false false full no_space = record {
-          kept = record { some = f.some; most = f.most; room = f.room; range = f.range; busy = f.busy; line = f.line; short = f.short; done = omega (arith, f.done); lost = omega (arith, f.lost) };
+          holds = record { some = f.some; most = f.most; room = f.room; range = f.range; busy = f.busy; line = f.line; short = f.short; done = omega (arith, f.done); lost = omega (arith, f.lost) };
           grown = same_grown 16;
         }
 
-    pub server_done-kept : (handled : ℕ) (job : JobOf) (s : ServerState) → FitsServer handled s → Kept (FitsServer (handled + 1)) 16 a (server_done net site now job s a)
-    server_done-kept handled job s f = by (nat_lt 0 s.busy) refl
+    pub server_done-good : (handled : ℕ) (job : JobOf) (s : ServerState) → FitsServer handled s → Holds (FitsServer (handled + 1)) 16 a (server_done net site now job s a)
+    server_done-good handled job s f = by (nat_lt 0 s.busy) refl
       where
         by : (some : Bool) → nat_lt 0 s.busy ≡ some
-            → Kept (FitsServer (handled + 1)) 16 a (if some then start_next net site now (record s { busy = s.busy - 1; done = s.done + 1 }) (route site.links now job a) else reaction s a)
+            → Holds (FitsServer (handled + 1)) 16 a (if some then start_next net site now (record s { busy = s.busy - 1; done = s.done + 1 }) (route site.links now job a) else reaction s a)
         by true some =
             let busy = ltb-true 0 s.busy some in
             let routed = grown-route net now site.links (weights_of site.links) job a links ahead in
@@ -187,25 +187,25 @@ module _ (net : Net) (site : Site) (now : ℕ) (links : AllByRecursion (IsLink n
               done = omega (arith, f.done);
               lost = omega (arith, f.lost);
             } in
-            let one = start_next-kept after (first_along 1 a after routed first) (last_along 1 a after routed last) 0 (handled + 1) (record s { busy = s.busy - 1; done = s.done + 1 }) one_less in
+            let one = start_next-good after (first_along 1 a after routed first) (last_along 1 a after routed last) 0 (handled + 1) (record s { busy = s.busy - 1; done = s.done + 1 }) one_less in
             let r = start_next net site now (record s { busy = s.busy - 1; done = s.done + 1 }) after in
             record {
-              kept = busy_fits (handled + 1) r.kept one.kept;
+              holds = busy_fits (handled + 1) r.state one.holds;
               grown = grown-more net now 2 16 a r.out (grown-then net now 1 1 a after r.out routed one.grown) (omega arith);
             }
-        by false none = record { kept = server-later handled s f; grown = same_grown 16 }
+        by false none = record { holds = server-later handled s f; grown = same_grown 16 }
 
-    change_kept : (handled : ℕ) (p : Param) (c : Change) (s : ServerState) → c.param ≡ p → is_accepted site c ≡ true → FitsServer handled s → Kept (FitsServer (handled + 1)) 16 a (server_change net site now p c.a c.b s a)
+    change_kept : (handled : ℕ) (p : Param) (c : Change) (s : ServerState) → c.param ≡ p → is_accepted site c ≡ true → FitsServer handled s → Holds (FitsServer (handled + 1)) 16 a (server_change net site now p c.a c.b s a)
     change_kept handled Service c s is accepted f =
         let range = range-bounds 1 c.a c.b (let h = (accepted-parts site c accepted).1 in rw is at h) in
         record {
-          kept = record { some = f.some; most = f.most; room = f.room; range = range; busy = f.busy; line = f.line; short = f.short; done = omega (arith, f.done); lost = omega (arith, f.lost) };
+          holds = record { some = f.some; most = f.most; room = f.room; range = range; busy = f.busy; line = f.line; short = f.short; done = omega (arith, f.done); lost = omega (arith, f.lost) };
           grown = same_grown 16;
         }
     change_kept handled Room c s is accepted f =
         let room = room-bound c.a (let h = (accepted-parts site c accepted).1 in rw is at h) in
         record {
-          kept = record { some = f.some; most = f.most; room = room; range = f.range; busy = f.busy; line = f.line; short = f.short; done = omega (arith, f.done); lost = omega (arith, f.lost) };
+          holds = record { some = f.some; most = f.most; room = room; range = f.range; busy = f.busy; line = f.line; short = f.short; done = omega (arith, f.done); lost = omega (arith, f.lost) };
           grown = same_grown 16;
         }
     change_kept handled Servers c s is accepted f =
@@ -223,26 +223,26 @@ module _ (net : Net) (site : Site) (now : ℕ) (links : AllByRecursion (IsLink n
           lost = omega (arith, f.lost);
         } in
         let begin = reaction (record s { servers = c.a }) a in
-        let rest = start_times-kept (c.a - s.busy) 0 (handled + 1) begin begun (grown-none net now a) in
+        let rest = start_times-good (c.a - s.busy) 0 (handled + 1) begin begun (grown-none net now a) in
         let r = start_times (c.a - s.busy) net site now begin in
         record {
-          kept = busy_fits (handled + 1) r.kept rest.kept;
+          holds = busy_fits (handled + 1) r.state rest.holds;
           grown = grown-more net now (0 + (c.a - s.busy)) 16 a r.out rest.grown (omega arith);
         }
-    change_kept handled Every c s is accepted f = record { kept = server-later handled s f; grown = same_grown 16 }
-    change_kept handled Hold c s is accepted f = record { kept = server-later handled s f; grown = same_grown 16 }
-    change_kept handled Weight c s is accepted f = record { kept = server-later handled s f; grown = same_grown 16 }
+    change_kept handled Every c s is accepted f = record { holds = server-later handled s f; grown = same_grown 16 }
+    change_kept handled Hold c s is accepted f = record { holds = server-later handled s f; grown = same_grown 16 }
+    change_kept handled Weight c s is accepted f = record { holds = server-later handled s f; grown = same_grown 16 }
 
-    set_kept : (handled : ℕ) (c : Change) (s : ServerState) → FitsServer handled s → Kept (FitsServer (handled + 1)) 16 a (server_set net site now c s a)
+    set_kept : (handled : ℕ) (c : Change) (s : ServerState) → FitsServer handled s → Holds (FitsServer (handled + 1)) 16 a (server_set net site now c s a)
     set_kept handled c s f = by (is_accepted site c) refl
       where
-        by : (t : Bool) → is_accepted site c ≡ t → Kept (FitsServer (handled + 1)) 16 a (if t then server_change net site now c.param c.a c.b s a else reaction s a)
+        by : (t : Bool) → is_accepted site c ≡ t → Holds (FitsServer (handled + 1)) 16 a (if t then server_change net site now c.param c.a c.b s a else reaction s a)
         by true accepted = change_kept handled c.param c s refl accepted f
-        by false refused = record { kept = server-later handled s f; grown = same_grown 16 }
+        by false refused = record { holds = server-later handled s f; grown = same_grown 16 }
 
     -- whatever message comes, a server keeps what servers keep, and sends as stations send
-    pub server_on-kept : (handled : ℕ) (p : Payload) (s : ServerState) → FitsServer handled s → Kept (FitsServer (handled + 1)) 16 a (server_on net site now p s a)
-    server_on-kept handled (Job j) s f = server_job-kept handled j s f
-    server_on-kept handled (Done j) s f = server_done-kept handled j s f
-    server_on-kept handled (Set c) s f = set_kept handled c s f
-    server_on-kept handled Tick s f = record { kept = server-later handled s f; grown = same_grown 16 }
+    pub server_on-good : (handled : ℕ) (p : Payload) (s : ServerState) → FitsServer handled s → Holds (FitsServer (handled + 1)) 16 a (server_on net site now p s a)
+    server_on-good handled (Job j) s f = server_job-good handled j s f
+    server_on-good handled (Done j) s f = server_done-good handled j s f
+    server_on-good handled (Set c) s f = set_kept handled c s f
+    server_on-good handled Tick s f = record { holds = server-later handled s f; grown = same_grown 16 }

@@ -11,8 +11,8 @@ pub record IsOneMore (a b : Reaction ServerState) : Type 0 where
   pub next : b.out.sender.next ≤ a.out.sender.next + 1
   pub draws : b.out.sender.draws.count ≤ a.out.sender.draws.count + 1
   pub sends : length b.out.sends ≤ length a.out.sends + 1
-  pub lo : b.kept.lo ≡ a.kept.lo
-  pub hi : b.kept.hi ≡ a.kept.hi
+  pub lo : b.state.lo ≡ a.state.lo
+  pub hi : b.state.hi ≡ a.state.hi
 
 same_one : (a : Reaction ServerState) → IsOneMore a a
 same_one a = record { next = omega arith; draws = omega arith; sends = omega arith; lo = refl; hi = refl }
@@ -30,7 +30,7 @@ start_next-one net site now s o = by (nat_lt s.busy s.servers)
     by false = same_one (reaction s o)
 
 -- of so many starts the next one is made
-pub start_times-more : (net : Net) (site : Site) (now times done : ℕ) (r : Reaction ServerState) → done < times → start_times (times - done) net site now r ≡ start_times (times - (done + 1)) net site now (start_next net site now r.kept r.out)
+pub start_times-more : (net : Net) (site : Site) (now times done : ℕ) (r : Reaction ServerState) → done < times → start_times (times - done) net site now r ≡ start_times (times - (done + 1)) net site now (start_next net site now r.state r.out)
 start_times-more net site now times done r left =
     let more : times - done ≡ suc (times - (done + 1)) = omega arith in
     ap (λ n. start_times n net site now r) more

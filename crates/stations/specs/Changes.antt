@@ -5,39 +5,40 @@ use Rattle.sim_base.specs.declared.message.Param.{Param}
 use Rattle.sim_base.specs.declared.message.Param.TheVariants.{Every, Service, Hold, Servers, Room, Weight}
 use Rattle.net_model.specs.declared.station.Kind.{Kind}
 use Rattle.net_model.specs.declared.station.Kind.TheVariants.{Source, Server, Delay, Router}
+use Rattle.net_model.specs.declared.limits.TheConstants.{MOST_ROOM, MOST_SERVERS, MOST_TIME, MOST_WEIGHT}
 use Rattle.net_model.specs.Net.{Site}
 use Rattle.stations.specs.declared.change.ChangeFault.{ChangeFault}
 use Rattle.stations.specs.declared.change.ChangeFault.TheVariants.{WrongParameter, OutOfRange}
 
 -- whether a kind has the parameter; a router has weights to change only where it goes by them
-abbrev pub takes : Kind → Param → Bool
-takes (Source lo hi jobs class) Every = true
-takes (Server servers room lo hi by_class) Service = true
-takes (Server servers room lo hi by_class) Servers = true
-takes (Server servers room lo hi by_class) Room = true
-takes (Delay lo hi) Hold = true
-takes (Router turn) Weight = not turn
-takes _ _ = false
+abbrev pub has_parameter : Kind → Param → Bool
+has_parameter (Source lo hi jobs class) Every = true
+has_parameter (Server servers room lo hi by_class) Service = true
+has_parameter (Server servers room lo hi by_class) Servers = true
+has_parameter (Server servers room lo hi by_class) Room = true
+has_parameter (Delay lo hi) Hold = true
+has_parameter (Router turn) Weight = not turn
+has_parameter _ _ = false
 
 abbrev pub is_within : ℕ → ℕ → ℕ → Bool
 is_within low high n = nat_le low n && nat_le n high
 
 abbrev pub is_range : ℕ → ℕ → ℕ → Bool
-is_range low lo hi = (nat_le low lo && nat_le lo hi) && nat_le hi 1000000
+is_range low lo hi = (nat_le low lo && nat_le lo hi) && nat_le hi MOST_TIME
 
 -- whether the values are in the parameter's range, at a station of so many links
 abbrev pub is_in_range : ℕ → Param → ℕ → ℕ → Bool
 is_in_range links Every a b = is_range 1 a b
 is_in_range links Service a b = is_range 1 a b
 is_in_range links Hold a b = is_range 0 a b
-is_in_range links Servers a b = is_within 1 16 a
-is_in_range links Room a b = nat_le a 4096
-is_in_range links Weight a b = is_within 1 links a && is_within 1 1000 b
+is_in_range links Servers a b = is_within 1 MOST_SERVERS a
+is_in_range links Room a b = nat_le a MOST_ROOM
+is_in_range links Weight a b = is_within 1 links a && is_within 1 MOST_WEIGHT b
 
 -- whether a station takes a change, and else why not
 abbrev pub accepts : Site → Change → Result (Unit {0}) ChangeFault
 accepts site c =
-    if not (takes site.kind c.param) then Err WrongParameter
+    if not (has_parameter site.kind c.param) then Err WrongParameter
     else if not (is_in_range (length site.links) c.param c.a c.b) then Err OutOfRange
     else Ok tt
 

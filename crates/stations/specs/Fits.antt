@@ -4,6 +4,7 @@ use Rattle.std.specs.List.{AllByRecursion}
 use Rattle.net_model.specs.declared.station.Kind.{Kind}
 use Rattle.net_model.specs.declared.station.Kind.TheVariants as kind
 use Rattle.net_model.specs.declared.station.Link.{Link}
+use Rattle.net_model.specs.declared.limits.TheConstants.{MOST_JOBS, MOST_LINKS, MOST_ROOM, MOST_SERVERS, MOST_TIME, MOST_WEIGHT}
 use Rattle.net_model.specs.Net.{Net, Site, site_at}
 use Rattle.net_model.specs.Rules.{IsRange}
 use Rattle.stations.specs.declared.sender.Sender.{Sender}
@@ -14,22 +15,22 @@ use Rattle.stations.specs.declared.kind_state.ServerState.{ServerState}
 use Rattle.stations.specs.declared.kind_state.DelayState.{DelayState}
 use Rattle.stations.specs.declared.kind_state.RouterState.{RouterState}
 use Rattle.stations.specs.declared.kind_state.SinkState.{SinkState}
-use Rattle.stations.specs.Handling.{StationState}
+use Rattle.stations.specs.Handling.{StateView}
 
 -- weights by which a link may be picked
 pub record AreWeights (weights : List ℕ) : Type 0 where
   pub some : 1 ≤ length weights
-  pub few : length weights ≤ 16
+  pub few : length weights ≤ MOST_LINKS
   pub heavy : AllByRecursion (λ w. 1 ≤ w) weights
-  pub light : AllByRecursion (λ w. w ≤ 1000) weights
+  pub light : AllByRecursion (λ w. w ≤ MOST_WEIGHT) weights
 
 -- links over which jobs may go
 pub record AreLinks (links : List Link) : Type 0 where
   pub some : 1 ≤ length links
-  pub few : length links ≤ 16
+  pub few : length links ≤ MOST_LINKS
   pub heavy : AllByRecursion (λ l. 1 ≤ l.weight) links
-  pub light : AllByRecursion (λ l. l.weight ≤ 1000) links
-  pub near : AllByRecursion (λ l. l.delay ≤ 1000000) links
+  pub light : AllByRecursion (λ l. l.weight ≤ MOST_WEIGHT) links
+  pub near : AllByRecursion (λ l. l.delay ≤ MOST_TIME) links
 
 -- a station that sends has links
 abbrev pub HasLinks : KindState → List Link → Type 0
@@ -39,18 +40,18 @@ HasLinks _ links = AreLinks links
 -- after so many messages were handled
 pub record FitsSource (handled : ℕ) (s : SourceState) : Type 0 where
   pub range : IsRange 1 s.lo s.hi
-  pub jobs : s.jobs ≤ 1000000
+  pub jobs : s.jobs ≤ MOST_JOBS
   pub sent : s.sent ≤ handled
 
 -- nobody waits beside a free server
 pub record FitsServer (handled : ℕ) (s : ServerState) : Type 0 where
   pub some : 1 ≤ s.servers
-  pub most : s.servers ≤ 16
-  pub room : s.room ≤ 4096
+  pub most : s.servers ≤ MOST_SERVERS
+  pub room : s.room ≤ MOST_ROOM
   pub range : IsRange 1 s.lo s.hi
-  pub busy : s.busy ≤ 16
+  pub busy : s.busy ≤ MOST_SERVERS
   pub line : (length s.waiting ≡ 0) ⊎ (s.servers ≤ s.busy)
-  pub short : length s.waiting ≤ 4096
+  pub short : length s.waiting ≤ MOST_ROOM
   pub done : s.done ≤ handled
   pub lost : s.lost ≤ handled
 
@@ -86,7 +87,7 @@ pub record FitsSender (handled : ℕ) (s : Sender) : Type 0 where
   pub next : s.next ≤ 16 * (handled + 1)
   pub draws : s.draws.count ≤ 16 * (handled + 1)
 
-pub record FitsState (st : StationState) : Type 0 where
+pub record FitsState (st : StateView) : Type 0 where
   pub sender : FitsSender st.handled st.sender
   pub kind : FitsKind st.handled st.kind
 
@@ -108,7 +109,7 @@ IsOfKind site kind.Sink (Sink s) = Unit {0}
 IsOfKind _ _ _ = ⊥
 
 -- a state is one of a station of the network
-pub record SuitsNet (net : Net) (st : StationState) : Type 0 where
+pub record SuitsNet (net : Net) (st : StateView) : Type 0 where
   pub site : Site
   pub is_there : site_at net st.sender.station ≡ Some site
   pub kind : IsOfKind site site.kind st.kind

@@ -3,16 +3,16 @@ use Rattle.std.specs.Prelude.{◌≡◌, ℕ}
 use Rattle.sim_base.specs.declared.message.Msg.{Msg}
 use Rattle.net_model.specs.Net.{Net, site_of}
 use Rattle.stations.specs.Fits.{GoodKind, IsOfKind}
-use Rattle.stations.specs.Handling.{StationState}
+use Rattle.stations.specs.Handling.{StateView}
 
 -- a state of station s: it has the station's number and kind, and keeps what its kind keeps
-pub record IsGood (net : Net) (s : ℕ) (st : StationState) : Type 0 where
+pub record IsGood (net : Net) (s : ℕ) (st : StateView) : Type 0 where
   pub station : st.sender.station ≡ s
   pub kind : IsOfKind (site_of net s) (site_of net s).kind st.kind
   pub fits : GoodKind st.handled st.kind
 
 -- the number of the next message that a station sends
-abbrev pub next_number : StationState → ℕ
+abbrev pub next_number : StateView → ℕ
 next_number st = st.sender.next
 
 abbrev pub sender_of : Msg → ℕ

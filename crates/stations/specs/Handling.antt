@@ -10,12 +10,14 @@ use Rattle.stations.specs.declared.sender.Sender.{Sender}
 use Rattle.stations.specs.declared.kind_state.KindState.{KindState}
 use Rattle.stations.specs.declared.kind_state.KindState.TheVariants.{Source, Server, Delay, Router, Sink}
 use Rattle.stations.specs.Sending.{Outgoing, Reaction, reaction, reaction_as}
-use Rattle.stations.specs.Sources.{source_on, sink_on}
+use Rattle.stations.specs.Sources.{source_on}
 use Rattle.stations.specs.Servers.{server_on}
-use Rattle.stations.specs.Passing.{delay_on, router_on}
+use Rattle.stations.specs.Delays.{delay_on}
+use Rattle.stations.specs.Routers.{router_on}
+use Rattle.stations.specs.Sinks.{sink_on}
 
 -- the state of a station: its sender, how many messages it has handled, and what its kind keeps
-pub record StationState : Type 0 where
+pub record StateView : Type 0 where
   pub sender : Sender
   pub handled : ℕ
   pub kind : KindState
@@ -36,14 +38,14 @@ line_of (Delay s) = line.Passed s.passed
 line_of (Router s) = line.Passed s.passed
 line_of (Sink s) = line.Sink s.got s.stay
 
-abbrev pub handled_as : ℕ → Reaction KindState → Handled StationState Msg Line
+abbrev pub handled_as : ℕ → Reaction KindState → Handled StateView Msg Line
 handled_as count r = record {
-  state = record { sender = r.out.sender; handled = count; kind = r.kept };
+  state = record { sender = r.out.sender; handled = count; kind = r.state };
   sends = r.out.sends;
-  line = line_of r.kept;
+  line = line_of r.state;
 }
 
 -- a station handles a message
-unfoldable pub handle : Net → StationState → Msg → Handled StationState Msg Line
+unfoldable pub handle : Net → StateView → Msg → Handled StateView Msg Line
 handle net st m =
     handled_as (st.handled + 1) (kind_on net (site_of net st.sender.station) m.key.time m.payload st.kind (record { sender = st.sender; sends = [] }))

@@ -2,11 +2,14 @@ pub mod Sending
 pub mod Changes
 pub mod Sources
 pub mod Servers
-pub mod Passing
+pub mod Delays
+pub mod Routers
+pub mod Sinks
 pub mod Handling
 pub mod Opening
 pub mod Fits
 pub mod Sends
 pub mod Good
 pub mod Runs
+pub mod Laws
 pub mod Examples

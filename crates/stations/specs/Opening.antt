@@ -9,7 +9,7 @@ use Rattle.stations.specs.declared.kind_state.KindState.{KindState}
 use Rattle.stations.specs.declared.kind_state.KindState.TheVariants.{Source, Server, Delay, Router, Sink}
 use Rattle.stations.specs.Sending.{Outgoing, weights_of}
 use Rattle.stations.specs.Sources.{next_tick}
-use Rattle.stations.specs.Handling.{StationState}
+use Rattle.stations.specs.Handling.{StateView}
 
 -- what a kind keeps before any message came
 abbrev pub opening_kind : Site → Kind → KindState
@@ -25,14 +25,14 @@ abbrev pub first_tick : KindState → Outgoing → Outgoing
 first_tick (Source s) o = next_tick 0 s o
 first_tick _ o = o
 
-abbrev pub opened : KindState → Outgoing → OpeningOf StationState Msg
-opened kept o = record { state = record { sender = o.sender; handled = 0; kind = kept }; first = slice_get o.sends 0 }
+abbrev pub opening_of : KindState → Outgoing → OpeningOf StateView Msg
+opening_of first_state o = record { state = record { sender = o.sender; handled = 0; kind = first_state }; first = slice_get o.sends 0 }
 
 -- a station opens: its state, and a source's first tick
-abbrev pub opening : ℕ → ℕ → Site → OpeningOf StationState Msg
+abbrev pub opening : ℕ → ℕ → Site → OpeningOf StateView Msg
 opening seed s site =
-    let kept = opening_kind site site.kind in
-    opened kept (first_tick kept (record { sender = record { station = s; next = 0; draws = record { seed = seed; stream = site.stream; count = 0 } }; sends = [] }))
+    let first_state = opening_kind site site.kind in
+    opening_of first_state (first_tick first_state (record { sender = record { station = s; next = 0; draws = record { seed = seed; stream = site.stream; count = 0 } }; sends = [] }))
 
-abbrev pub setup : Net → ℕ → OpeningOf StationState Msg
+abbrev pub setup : Net → ℕ → OpeningOf StateView Msg
 setup net s = opening net.seed s (site_of net s)

@@ -16,14 +16,14 @@ use Rattle.run_laws.specs.Runs as runs
 use Rattle.run_laws.specs.Fronts as fronts
 use Rattle.run_laws.specs.Sharing as sharing
 use Rattle.net_model.specs.Net.{Net}
-use Rattle.stations.specs.Handling.{StationState, handle}
+use Rattle.stations.specs.Handling.{StateView, handle}
 use Rattle.stations.specs.Opening.{setup}
 
 -- the message of the decision at place k of a clone's list: the analyst is sender 0
-abbrev pub decided : ℕ → Planned → Msg
-decided k p = record { key = record { time = p.at; sender = 0; number = k }; to = p.station; payload = Set p.change }
+abbrev pub set_message : ℕ → Planned → Msg
+set_message k p = record { key = record { time = p.at; sender = 0; number = k }; to = p.station; payload = Set p.change }
 
-abbrev pub simulation : Net → Simulation StationState Msg Line
+abbrev pub simulation : Net → Simulation StateView Msg Line
 simulation net = record {
   order = msg_cmp;
   time = λ m. m.key.time;
@@ -31,7 +31,7 @@ simulation net = record {
   stations = length net.sites;
   setup = setup net;
   handle = λ s st m. handle net st m;
-  decided = decided;
+  decided = set_message;
   lookahead = net.lookahead;
   horizon = net.horizon;
   limit = net.limit;
@@ -46,15 +46,15 @@ abbrev pub log_at : Net → Clone → ℕ → ℕ → List (Entry Msg Line)
 log_at net c s front = runs.log_at (simulation net) c s front
 
 -- the state of a station after a log, from its opening on
-abbrev pub replay : Net → ℕ → List (Entry Msg Line) → StationState
+abbrev pub replay : Net → ℕ → List (Entry Msg Line) → StateView
 replay net s log = world.replay (λ (m : Msg). m.to) (λ (r : ℕ). handle net) s (setup net s).state log
 
 -- the state of a station at a front
-abbrev pub state_at : Net → Clone → ℕ → ℕ → StationState
+abbrev pub state_at : Net → Clone → ℕ → ℕ → StateView
 state_at net c s front = runs.state_at (simulation net) c s front
 
 -- one station's window by itself, from how it stands in a clone at a front, to a bound
-abbrev pub window_of : Net → Clone → ℕ → ℕ → ℕ → Config (Part StationState Msg Line) Msg
+abbrev pub window_of : Net → Clone → ℕ → ℕ → ℕ → Config (Part StateView Msg Line) Msg
 window_of net c s front bound =
     let sim = simulation net in
     local sim s (runs.log_at sim c s front) (runs.state_at sim c s front) (runs.due_at sim c s front) bound (runs.end_of sim c)

@@ -1,5 +1,5 @@
 -- What a station sends.
-use Rattle.std.specs.Prelude.{ℕ, ◌+◌, List, [], ◌∷◌, ◌++◌, map, slice_get, Option, Some, None}
+use Rattle.std.specs.Prelude.{ℕ, ◌+◌, ◌*◌, ◌^◌, ◌<◌, ◌≤◌, List, [], ◌∷◌, ◌++◌, map, slice_get, Option, Some, None}
 use Rattle.sim_base.specs.declared.message.Msg.{Msg}
 use Rattle.sim_base.specs.declared.message.Job.{Job as JobOf}
 use Rattle.sim_base.specs.declared.message.Payload.{Payload}
@@ -15,6 +15,14 @@ pub record Outgoing : Type 0 where
 
 abbrev pub outgoing : Sender → List Msg → Outgoing
 outgoing sender sends = record { sender = sender; sends = sends }
+
+-- a station that has sent so many messages for the one that came at `now` may send so many more: its list has 16
+-- places, its numbers and draws are far from their ends, and so is the time; a message takes at most two words drawn
+pub record MaySend (more now : ℕ) (sender : Sender) (sent : ℕ) : Type 0 where
+  pub free : sent + more ≤ 16
+  pub next : sender.next + more ≤ 2 ^ 32
+  pub draws : sender.draws.count + 2 * more ≤ 2 ^ 32
+  pub early : now < 2 ^ 31
 
 -- one message more goes out, with the sender's next number
 abbrev pub send : ℕ → ℕ → Payload → Outgoing → Outgoing
@@ -37,8 +45,8 @@ send_over None time job o = o
 send_over (Some link) time job o = send (time + link.delay) link.to (Job job) o
 
 -- a link was picked by these weights
-abbrev pub picked : List ℕ → Outgoing → Outgoing
-picked weights o = record o { sender = record o.sender { draws = drawn_by weights o.sender.draws } }
+abbrev pub after_pick : List ℕ → Outgoing → Outgoing
+after_pick weights o = record o { sender = record o.sender { draws = drawn_by weights o.sender.draws } }
 
 -- the link that is picked by these weights
 abbrev pub link_by : List Link → List ℕ → Outgoing → Option Link
@@ -46,7 +54,7 @@ link_by links weights o = slice_get links (pick_of weights o.sender.draws)
 
 -- a job goes over a link that is picked by these weights
 abbrev pub route_by : List Link → List ℕ → ℕ → JobOf → Outgoing → Outgoing
-route_by links weights time job o = send_over (link_by links weights o) time job (picked weights o)
+route_by links weights time job o = send_over (link_by links weights o) time job (after_pick weights o)
 
 abbrev pub weights_of : List Link → List ℕ
 weights_of links = map (λ (l : Link). l.weight) links
@@ -55,13 +63,13 @@ weights_of links = map (λ (l : Link). l.weight) links
 abbrev pub route : List Link → ℕ → JobOf → Outgoing → Outgoing
 route links time job o = route_by links (weights_of links) time job o
 
--- what a message leaves: what the station keeps, and what went out
+-- what a message leads to: the new state of the station's kind, and what went out
 pub record Reaction (S : Type 0) : Type 0 where
-  pub kept : S
+  pub state : S
   pub out : Outgoing
 
 abbrev pub reaction : {S : Type 0} → S → Outgoing → Reaction S
-reaction kept out = record { kept = kept; out = out }
+reaction state out = record { state = state; out = out }
 
 abbrev pub reaction_as : {S T : Type 0} → (S → T) → Reaction S → Reaction T
-reaction_as f r = record { kept = f r.kept; out = r.out }
+reaction_as f r = record { state = f r.state; out = r.out }

@@ -1,15 +1,23 @@
 -- What holds of the messages that a station sends.
 use Rattle.std.specs.Prelude.{◌≡◌, ◌≢◌, ℕ, suc, ◌+◌, ◌<◌, ◌≤◌, List, [], ◌∷◌, length}
 use Rattle.sim_base.specs.declared.message.Msg.{Msg}
+use Rattle.sim_base.specs.declared.message.Payload.{Payload}
+use Rattle.sim_base.specs.declared.message.Payload.TheVariants.{Job}
 use Rattle.net_model.specs.Net.{Net}
 
--- a message that station s sends at `now` with the number k: it comes later, to a station that is there,
--- and to another station no sooner than the lookahead
+-- jobs alone go over links: ticks and service completions are a station's own
+abbrev pub IsJob : Payload → Type 0
+IsJob (Job job) = Unit {0}
+IsJob _ = ⊥
+
+-- a message that station s sends at `now` with the number k: it comes later, to a station that is there;
+-- to another station, and over any link, also one back to its own station, by the lookahead later or more
 pub record IsSend (net : Net) (now s k : ℕ) (m : Msg) : Type 0 where
   pub sender : m.key.sender ≡ s
   pub number : m.key.number ≡ k
   pub later : now < m.key.time
   pub far : m.to ≢ s → now + net.lookahead ≤ m.key.time
+  pub on_link : IsJob m.payload → now + net.lookahead ≤ m.key.time
   pub first : 1 ≤ m.to
   pub last : m.to ≤ length net.sites
 

@@ -7,14 +7,14 @@ use Rattle.sim_base.specs.declared.message.Param.{Param}
 use Rattle.sim_base.specs.declared.message.Param.TheVariants.{Service, Servers, Room}
 use Rattle.sim_base.specs.declared.message.Payload.{Payload}
 use Rattle.sim_base.specs.declared.message.Payload.TheVariants.{Tick, Job, Done, Set}
-use Rattle.net_model.specs.Net.{Net, Site, site_of, class_of_kind, serves_by_class}
+use Rattle.net_model.specs.Net.{Net, Site, class_from, serves_by_class}
 use Rattle.stations.specs.declared.kind_state.ServerState.{ServerState}
 use Rattle.stations.specs.Sending.{Outgoing, Reaction, reaction, send_later, route}
 use Rattle.stations.specs.Changes.{is_accepted}
 
 -- the class of a job is that of its source
 abbrev pub class_of : Net → JobOf → ℕ
-class_of net job = class_of_kind (site_of net job.source).kind
+class_of net job = class_from net job.source
 
 -- the least of a class and of the classes of jobs
 abbrev pub least_class : Net → ℕ → List JobOf → ℕ
@@ -52,7 +52,7 @@ start_next net site now s o =
 -- the same so many times
 abbrev pub start_times : ℕ → Net → Site → ℕ → Reaction ServerState → Reaction ServerState
 start_times zero net site now r = r
-start_times (suc n) net site now r = start_times n net site now (start_next net site now r.kept r.out)
+start_times (suc n) net site now r = start_times n net site now (start_next net site now r.state r.out)
 
 -- a job comes: into service, into the waiting line, or lost where the line is full
 abbrev pub server_job : ℕ → JobOf → ServerState → Outgoing → Reaction ServerState

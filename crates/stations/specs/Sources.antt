@@ -1,12 +1,11 @@
--- Sources and sinks: where jobs come from, and where they leave.
-use Rattle.std.specs.Prelude.{ℕ, ◌+◌, ◌-◌, nat_lt, if◌then◌else◌}
+-- Sources: where jobs come from.
+use Rattle.std.specs.Prelude.{ℕ, ◌+◌, nat_lt, if◌then◌else◌}
 use Rattle.sim_base.specs.declared.message.Job.{Job as JobOf}
 use Rattle.sim_base.specs.declared.message.Change.{Change}
 use Rattle.sim_base.specs.declared.message.Payload.{Payload}
 use Rattle.sim_base.specs.declared.message.Payload.TheVariants.{Tick, Job, Done, Set}
 use Rattle.net_model.specs.Net.{Site}
 use Rattle.stations.specs.declared.kind_state.SourceState.{SourceState}
-use Rattle.stations.specs.declared.kind_state.SinkState.{SinkState}
 use Rattle.stations.specs.Sending.{Outgoing, Reaction, reaction, send_later, route}
 use Rattle.stations.specs.Changes.{is_accepted}
 
@@ -30,8 +29,3 @@ source_on site now Tick s o = source_ticks site now s o
 source_on site now (Set c) s o = reaction (source_set site c s) o
 source_on site now (Job j) s o = reaction s o
 source_on site now (Done j) s o = reaction s o
-
--- a sink counts the jobs, and adds up how long each was in the network
-abbrev pub sink_on : ℕ → Payload → SinkState → SinkState
-sink_on now (Job j) s = record { got = s.got + 1; stay = s.stay + (now - j.born) }
-sink_on now _ s = s

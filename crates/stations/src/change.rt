@@ -2,8 +2,9 @@
 ghost use Rattle.std.specs.Prelude.{◌≡◌, ◌≤◌, length};
 ghost use Rattle.net_model.specs.Net.{site_of};
 ghost use Rattle.net_model.specs.Sites.{as_site};
-ghost use Rattle.stations.specs.Changes.{accepts as accepts_at, is_accepted, takes, is_range, is_in_range};
+ghost use Rattle.stations.specs.Changes.{accepts as accepts_at, is_accepted, has_parameter, is_range, is_in_range};
 
+use net_model::limits::{MOST_ROOM, MOST_SERVERS, MOST_TIME, MOST_WEIGHT};
 use net_model::{Kind, Model, Station};
 use sim_base::{Change, Param};
 
@@ -31,7 +32,7 @@ pub fn accepts(model: &Model, station: u32, change: &Change) -> Result<(), Chang
 pub(crate) fn station_accepts(station: &Station, change: &Change) -> Result<(), ChangeFault>
     ensures { result ≡ accepts_at (as_site station.now) change.now }
 {
-    if !kind_takes(&station.kind, change.param) {
+    if !kind_has(&station.kind, change.param) {
         return Err(ChangeFault::WrongParameter);
     }
     if !in_range(station.links.len(), change) {
@@ -46,8 +47,8 @@ pub(crate) fn takes_change(station: &Station, change: &Change) -> bool
     station_accepts(station, change).is_ok()
 }
 
-fn kind_takes(kind: &Kind, param: Param) -> bool
-    ensures { result ≡ takes kind.now param }
+fn kind_has(kind: &Kind, param: Param) -> bool
+    ensures { result ≡ has_parameter kind.now param }
 {
     match *kind {
         Kind::Source { .. } => param == Param::Every,
@@ -63,7 +64,7 @@ fn kind_takes(kind: &Kind, param: Param) -> bool
 fn ordered(low: u64, change: &Change) -> bool
     ensures { result ≡ is_range low change.now.a change.now.b }
 {
-    low <= change.a && change.a <= change.b && change.b <= 1_000_000
+    low <= change.a && change.a <= change.b && change.b <= MOST_TIME
 }
 
 fn in_range(links: usize, change: &Change) -> bool
@@ -72,10 +73,10 @@ fn in_range(links: usize, change: &Change) -> bool
     match change.param {
         Param::Every | Param::Service => ordered(1, change),
         Param::Hold => ordered(0, change),
-        Param::Servers => 1 <= change.a && change.a <= 16,
-        Param::Room => change.a <= 4096,
+        Param::Servers => 1 <= change.a && change.a <= MOST_SERVERS,
+        Param::Room => change.a <= MOST_ROOM,
         Param::Weight => {
-            1 <= change.a && change.a <= links as u64 && 1 <= change.b && change.b <= 1000
+            1 <= change.a && change.a <= links as u64 && 1 <= change.b && change.b <= MOST_WEIGHT
         }
     }
 }

@@ -8,6 +8,7 @@ ghost use Rattle.stations.specs.Runs.{trace_of, log_at, state_at, replay, window
 ghost use Rattle.stations.specs.Examples.OneDesk.{one_desk, one_desk_trace, fast, fast_trace, set_at_start, first_set, brief, brief_trace, two_branches, short_logs, fast_desk, quick_desk, quick_desk_trace, gate, desk, out};
 ghost use Rattle.stations.specs.Examples.Draws.{drawn_gate, drawn_gate_trace};
 ghost use Rattle.stations.specs.Examples.FullRoom.{three_sources, no_room_trace, more_servers, more_servers_trace};
+ghost use Rattle.stations.specs.Examples.SeveralLinks.{several_links, several_links_trace};
 ghost use Rattle.stations.specs.Examples.Routers.{fan_network, fan_trace};
 ghost use Rattle.stations.specs.Examples.Changes.{answers, server_changes, server_answers, delay_changes, delay_answers, weight_changes, weight_answers, turn_answers, IsIgnored};
 ghost use Rattle.stations.specs.Examples.{tick, job, done, set};
@@ -57,6 +58,11 @@ pub fn router_by_turn()
 /// A router by weights, whose draws here pick the same links.
 pub fn router_by_weights()
     ensures { trace_of (fan_network false) base ≡ fan_trace }
+{}
+
+/// A source, a server and a delay that choose among several links: each draws its link before its time.
+pub fn several_links_drawn_first()
+    ensures { trace_of several_links base ≡ several_links_trace }
 {}
 
 /// A server takes jobs of a lesser class first.

@@ -46,7 +46,7 @@ impl JobQueue {
         self.jobs[place]
     }
 
-    /// A job goes to the end of the line. On want of memory all is unchanged.
+    /// A job goes to the end of the line. Out of memory leaves all unchanged.
     pub fn push(&mut self, job: Job) -> Result<(), NoMemory>
         ensures ok { OnOk result (self.new ≡ self.old ++ job ∷ []) }
         ensures err { OnErr result (self.new ≡ self.old) }

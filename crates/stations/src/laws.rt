@@ -5,6 +5,7 @@ ghost use Rattle.net_model.specs.Rules.{IsNet};
 ghost use Rattle.run_laws.specs.Handlers.{HandlesLawfully, SendsToStations, HandlesFreshly};
 ghost use Rattle.run_laws.specs.Laws.{TraceRises, StateIsReplay, EqualLogsEqualStates};
 ghost use Rattle.stations.specs.Good.{IsGood, sender_of, number_of, next_number};
+ghost use Rattle.stations.specs.Laws.{ReplayIsGood, ReplayCounts, ReplaySuits, ReplayFits, ReplayGoesOn, SendsNextNumbers, NumbersAreSmall, JobsTakeTheLookahead};
 ghost use Rattle.stations.specs.Runs.{simulation};
 
 /// What the laws of runs ask of stations: each keeps what its kind keeps, sends later, to another station
@@ -24,4 +25,26 @@ pub fn traces_rise()
 pub fn states_are_replays()
     ensures replay { (net : Net) → IsNet net → StateIsReplay (simulation net) }
     ensures equal { (net : Net) → IsNet net → EqualLogsEqualStates (simulation net) }
+{}
+
+/// What a log leads to from the opening of its station: a good state of that station, which has handled as many
+/// messages as the log has entries; one entry more is one message more.
+pub fn logs_are_replayed()
+    ensures good { (net : Net) → IsNet net → ReplayIsGood net }
+    ensures counted { (net : Net) → ReplayCounts net }
+    ensures suits { (net : Net) → IsNet net → ReplaySuits net }
+    ensures fits { (net : Net) → IsNet net → ReplayFits net }
+    ensures goes_on { (net : Net) → ReplayGoesOn net }
+{}
+
+/// A station numbers what it sends one after the other, at most 16 for each message that it handles, so its
+/// numbers stay below 16 for each entry of its log and 16 more.
+pub fn sends_are_numbered()
+    ensures next { (net : Net) → IsNet net → SendsNextNumbers net }
+    ensures small { (net : Net) → IsNet net → NumbersAreSmall net }
+{}
+
+/// A job takes at least the lookahead over any link, also over one that goes back to its own station.
+pub fn jobs_take_the_lookahead()
+    ensures later { (net : Net) → IsNet net → JobsTakeTheLookahead net }
 {}

@@ -1,14 +1,42 @@
-//! The stations: what each kind keeps, how it handles each message, and the runs of a network.
+//! The stations of a queueing network: what each kind keeps, and how it handles each message.
+//!
+//! A clinic can be modelled as a gate where patients come in (a source), a desk with two clerks and ten chairs (a
+//! server of two, with room for ten), a walk along the corridor (a delay), a triage that sends one in three to
+//! another desk (a router), and a way out (a sink). Each is a *logical process* of a simulation in whole-number
+//! time: it has a state, and a message that comes to it changes the state and sends further messages, each later.
+//!
+//! | kind | handles | keeps |
+//! |---|---|---|
+//! | source | its own tick: a job goes out, and the next tick is due after a random time | jobs sent |
+//! | server | a job: into service, into the queue, or lost; a service completion: the job goes on | busy, queue, done, lost |
+//! | delay | a job: it goes on after a random time | jobs passed |
+//! | router | a job: it goes on at once, over the next link by turn or a random one | jobs passed, weights |
+//! | sink | a job: it leaves | jobs, and the sum of their times in the network |
+//!
+//! A decision of the analyst comes as a message too, and changes a parameter. Where a job goes on, the link is
+//! drawn first, and a time after it; the draws of a station are its own.
+//!
+//!     let (mut state, first) = state::setup(alloc, &model, 1)?;      // a source's first tick
+//!     let line = state::handle(&mut state, &model, &msg, &mut out, &mut steps)?;
+//!
+//! A message costs a constant time; a queue that is served by class is looked through twice. A handling sends at
+//! most 16 messages, and none is allocated.
+//!
+//! Every simulator of this project computes with `handle`, whose contract is the definition in `specs/Handling.antt`;
+//! `laws` states for every valid network what the argument that clones may share rests on: the state of a station is
+//! the replay of its log, sends come later, and over links by the lookahead, and no number is used twice.
 #![tactic(auto)]
 
 pub mod change;
+mod delay;
 pub mod examples;
 pub mod job_queue;
 pub mod kind_state;
 pub mod laws;
-mod passing;
+mod router;
 pub mod sender;
 mod server;
+mod sink;
 mod source;
 pub mod state;
 #[cfg(test)]

@@ -4,7 +4,7 @@ ghost use Rattle.arrayvec.specs.ArrayVec.{array_vec_len};
 ghost use Rattle.sim_draw.specs.Drawing.{pick_of, drawn_by};
 ghost use Rattle.net_model.specs.Rules.{IsRange};
 ghost use Rattle.stations.specs.Fits.{AreWeights, AreLinks};
-ghost use Rattle.stations.specs.Sending.{outgoing, send, send_later, send_over, route, weights_of};
+ghost use Rattle.stations.specs.Sending.{MaySend, outgoing, send, send_later, send_over, route, weights_of};
 
 use arrayvec::ArrayVec;
 use net_model::Link;
@@ -27,8 +27,8 @@ pub(crate) fn send_message(
     to: u32,
     payload: Payload,
 )
-    requires room { array_vec_len out.old < 16 }
-    requires small { sender.old.next < 2 ^ 32 }
+    requires free { array_vec_len out.old < 16 }
+    requires next { sender.old.next < 2 ^ 32 }
     ensures { send time to payload (outgoing sender.old out.old.items) ≡ outgoing sender.new out.new.items }
 {
     out.push(Msg {
@@ -52,11 +52,8 @@ pub(crate) fn send_to_itself(
     hi: u64,
     payload: Payload,
 )
-    requires room { array_vec_len out.old < 16 }
-    requires small { sender.old.next < 2 ^ 32 }
-    requires few { sender.old.draws.count < 2 ^ 32 }
+    requires may_send { MaySend 1 now sender.old (array_vec_len out.old) }
     requires range { IsRange 1 lo hi }
-    requires early { now < 2 ^ 31 }
     ensures { send_later now lo hi payload (outgoing sender.old out.old.items) ≡ outgoing sender.new out.new.items }
 {
     let wait = sender.draws.range(lo, hi);
@@ -72,8 +69,8 @@ pub(crate) fn send_over_link(
     time: u64,
     job: Job,
 )
-    requires room { array_vec_len out.old < 16 }
-    requires small { sender.old.next < 2 ^ 32 }
+    requires free { array_vec_len out.old < 16 }
+    requires next { sender.old.next < 2 ^ 32 }
     requires near { link.now.delay ≤ 1000000 }
     requires early { time < 2 ^ 32 }
     ensures { send_over (Some link.now) time job (outgoing sender.old out.old.items) ≡ outgoing sender.new out.new.items }
@@ -85,7 +82,7 @@ pub(crate) fn send_over_link(
 pub(crate) fn pick_link(sender: &mut Sender, links: &[Link], weights: &[u32]) -> Link
     requires valid { AreWeights weights.now }
     requires same { length weights.now ≡ length links.now }
-    requires few { sender.old.draws.count < 2 ^ 32 }
+    requires draws { sender.old.draws.count < 2 ^ 32 }
     ensures link { slice_get links.now (pick_of weights.now sender.old.draws) ≡ Some result }
     ensures drawn { sender.new ≡ record sender.old { draws = drawn_by weights.now sender.old.draws } }
 {
@@ -115,11 +112,14 @@ pub(crate) fn link_weights(links: &[Link]) -> ArrayVec<u32, 16>
 /// Picks a link by the weights of the model; with one link nothing is drawn.
 pub(crate) fn pick_by_model(sender: &mut Sender, links: &[Link]) -> Link
     requires valid { AreLinks links.now }
-    requires few { sender.old.draws.count < 2 ^ 32 }
+    requires draws { sender.old.draws.count < 2 ^ 32 }
     ensures link { slice_get links.now (pick_of (weights_of links.now) sender.old.draws) ≡ Some result }
     ensures drawn { sender.new ≡ record sender.old { draws = drawn_by (weights_of links.now) sender.old.draws } }
     ensures near { result.delay ≤ 1000000 }
 {
+    if links.len() == 1 {
+        return links[0];
+    }
     let weights = link_weights(links);
     pick_link(sender, links, weights.as_slice())
 }
@@ -132,10 +132,7 @@ pub(crate) fn route_job(
     now: u64,
     job: Job,
 )
-    requires room { array_vec_len out.old < 16 }
-    requires small { sender.old.next < 2 ^ 32 }
-    requires few { sender.old.draws.count < 2 ^ 32 }
-    requires early { now < 2 ^ 31 }
+    requires may_send { MaySend 1 now sender.old (array_vec_len out.old) }
     requires valid { AreLinks links.now }
     ensures { route links.now now job (outgoing sender.old out.old.items) ≡ outgoing sender.new out.new.items }
 {

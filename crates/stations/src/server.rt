@@ -1,12 +1,12 @@
 //! Servers.
 ghost use Rattle.std.specs.Prelude.{◌≡◌, ◌<◌, ◌≤◌, ◌^◌, length, OnOk, OnErr};
 ghost use Rattle.arrayvec.specs.ArrayVec.{array_vec_len};
-ghost use Rattle.net_model.specs.Net.{serves_by_class};
 ghost use Rattle.net_model.specs.Rules.{IsRange};
+ghost use Rattle.net_model.specs.declared.limits.TheConstants.{MOST_LIMIT};
 ghost use Rattle.net_model.specs.Sites.{as_site};
-ghost use Rattle.stations.specs.Fits.{AreLinks};
-ghost use Rattle.stations.specs.Sending.{outgoing, reaction};
-ghost use Rattle.stations.specs.Servers.{class_of, least_in, place_of_class, next_place, start, start_next as next_started, start_times, server_job, server_done, server_change, server_set, server_on};
+ghost use Rattle.stations.specs.Fits.{AreLinks, FitsServer};
+ghost use Rattle.stations.specs.Sending.{MaySend, outgoing, reaction};
+ghost use Rattle.stations.specs.Servers.{least_in, place_of_class, next_place, start, start_next as next_started, start_times, server_job, server_done, server_change, server_set, server_on};
 ghost use Rattle.sim_base.specs.declared.message.Param.TheVariants.{Servers};
 
 use crate::change::takes_change;
@@ -14,28 +14,16 @@ use crate::job_queue::JobQueue;
 use crate::kind_state::ServerState;
 use crate::sender::{Sender, route_job, send_to_itself};
 use arrayvec::ArrayVec;
-use net_model::{Kind, Model, Station};
+use net_model::{Model, Station};
 use sim_base::{Change, Job, Msg, NoMemory, Param, Payload};
-
-fn job_class(model: &Model, job: &Job) -> u32
-    ensures { result ≡ class_of model.now job.now }
-{
-    if job.source == 0 || job.source > model.len() {
-        return 1;
-    }
-    match model.station(job.source).kind {
-        Kind::Source { class, .. } => class,
-        _ => 1,
-    }
-}
 
 fn least_waiting(model: &Model, jobs: &JobQueue) -> u32
     requires { 1 ≤ length jobs.now }
     ensures { result ≡ least_in model.now jobs.now }
 {
-    let mut least = job_class(model, &jobs.get(0));
+    let mut least = model.class_of(jobs.get(0).source);
     for place in 1..jobs.len() {
-        least = least.min(job_class(model, &jobs.get(place)));
+        least = least.min(model.class_of(jobs.get(place).source));
     }
     least
 }
@@ -44,26 +32,17 @@ fn first_of_class(model: &Model, jobs: &JobQueue, class: u32) -> usize
     ensures { result ≡ place_of_class model.now class jobs.now }
 {
     for place in 0..jobs.len() {
-        if job_class(model, &jobs.get(place)) == class {
+        if model.class_of(jobs.get(place).source) == class {
             return place;
         }
     }
     jobs.len()
 }
 
-fn is_by_class(kind: &Kind) -> bool
-    ensures { result ≡ serves_by_class kind.now }
-{
-    match *kind {
-        Kind::Server { by_class, .. } => by_class,
-        _ => false,
-    }
-}
-
 fn place_of_next(model: &Model, station: &Station, jobs: &JobQueue) -> usize
     ensures { result ≡ next_place model.now (as_site station.now) jobs.now }
 {
-    if !is_by_class(&station.kind) || jobs.len() == 0 {
+    if !station.kind.by_class() || jobs.len() == 0 {
         return 0;
     }
     first_of_class(model, jobs, least_waiting(model, jobs))
@@ -76,10 +55,7 @@ fn start_job(
     now: u64,
     job: Job,
 )
-    requires room { array_vec_len out.old < 16 }
-    requires small { sender.old.next < 2 ^ 32 }
-    requires few { sender.old.draws.count < 2 ^ 32 }
-    requires early { now < 2 ^ 31 }
+    requires may_send { MaySend 1 now sender.old (array_vec_len out.old) }
     requires range { IsRange 1 server.old.lo server.old.hi }
     requires busy { server.old.busy < 2 ^ 32 }
     ensures { start now job server.old (outgoing sender.old out.old.items) ≡ reaction server.new (outgoing sender.new out.new.items) }
@@ -97,10 +73,7 @@ fn start_next(
     station: &Station,
     now: u64,
 )
-    requires room { array_vec_len out.old < 16 }
-    requires small { sender.old.next < 2 ^ 32 }
-    requires few { sender.old.draws.count < 2 ^ 32 }
-    requires early { now < 2 ^ 31 }
+    requires may_send { MaySend 1 now sender.old (array_vec_len out.old) }
     requires range { IsRange 1 server.old.lo server.old.hi }
     ensures { next_started model.now (as_site station.now) now server.old (outgoing sender.old out.old.items) ≡ reaction server.new (outgoing sender.new out.new.items) }
 {
@@ -119,10 +92,7 @@ fn job_comes(
     now: u64,
     job: Job,
 ) -> Result<(), NoMemory>
-    requires room { array_vec_len out.old ≡ 0 }
-    requires small { sender.old.next < 2 ^ 31 }
-    requires few { sender.old.draws.count < 2 ^ 31 }
-    requires early { now < 2 ^ 31 }
+    requires may_send { MaySend 1 now sender.old (array_vec_len out.old) }
     requires range { IsRange 1 server.old.lo server.old.hi }
     requires lost { server.old.lost < 2 ^ 32 }
     ensures ok { OnOk result (server_job now job server.old (outgoing sender.old out.old.items) ≡ reaction server.new (outgoing sender.new out.new.items)) }
@@ -147,10 +117,7 @@ fn job_is_done(
     now: u64,
     job: Job,
 )
-    requires room { array_vec_len out.old ≡ 0 }
-    requires small { sender.old.next < 2 ^ 31 }
-    requires few { sender.old.draws.count < 2 ^ 31 }
-    requires early { now < 2 ^ 31 }
+    requires may_send { MaySend 2 now sender.old (array_vec_len out.old) }
     requires links { AreLinks station.now.links.items }
     requires range { IsRange 1 server.old.lo server.old.hi }
     requires done { server.old.done < 2 ^ 32 }
@@ -175,11 +142,8 @@ fn start_many(
     now: u64,
     times: u64,
 )
-    requires room { array_vec_len out.old ≡ 0 }
+    requires may_send { MaySend 16 now sender.old (array_vec_len out.old) }
     requires few_times { times ≤ 16 }
-    requires small { sender.old.next < 2 ^ 31 }
-    requires few { sender.old.draws.count < 2 ^ 31 }
-    requires early { now < 2 ^ 31 }
     requires range { IsRange 1 server.old.lo server.old.hi }
     ensures { start_times times model.now (as_site station.now) now (reaction server.old (outgoing sender.old out.old.items)) ≡ reaction server.new (outgoing sender.new out.new.items) }
 {
@@ -198,11 +162,8 @@ fn set_servers(
     now: u64,
     servers: u32,
 )
-    requires room { array_vec_len out.old ≡ 0 }
+    requires may_send { MaySend 16 now sender.old (array_vec_len out.old) }
     requires few_servers { servers ≤ 16 }
-    requires small { sender.old.next < 2 ^ 31 }
-    requires few { sender.old.draws.count < 2 ^ 31 }
-    requires early { now < 2 ^ 31 }
     requires range { IsRange 1 server.old.lo server.old.hi }
     ensures { server_change model.now (as_site station.now) now Servers servers 0 server.old (outgoing sender.old out.old.items) ≡ reaction server.new (outgoing sender.new out.new.items) }
 {
@@ -220,10 +181,7 @@ fn set_server(
     now: u64,
     change: &Change,
 )
-    requires room { array_vec_len out.old ≡ 0 }
-    requires small { sender.old.next < 2 ^ 31 }
-    requires few { sender.old.draws.count < 2 ^ 31 }
-    requires early { now < 2 ^ 31 }
+    requires may_send { MaySend 16 now sender.old (array_vec_len out.old) }
     requires range { IsRange 1 server.old.lo server.old.hi }
     ensures { server_set model.now (as_site station.now) now change.now server.old (outgoing sender.old out.old.items) ≡ reaction server.new (outgoing sender.new out.new.items) }
 {
@@ -243,7 +201,7 @@ fn set_server(
     }
 }
 
-/// A server handles a message. On want of memory all is unchanged.
+/// A server handles a message. Out of memory leaves all unchanged.
 pub(crate) fn server_handles(
     server: &mut ServerState,
     sender: &mut Sender,
@@ -253,14 +211,9 @@ pub(crate) fn server_handles(
     now: u64,
     payload: &Payload,
 ) -> Result<(), NoMemory>
-    requires room { array_vec_len out.old ≡ 0 }
-    requires small { sender.old.next < 2 ^ 31 }
-    requires few { sender.old.draws.count < 2 ^ 31 }
-    requires early { now < 2 ^ 31 }
+    requires may_send { MaySend 16 now sender.old (array_vec_len out.old) }
     requires links { AreLinks station.now.links.items }
-    requires range { IsRange 1 server.old.lo server.old.hi }
-    requires done { server.old.done < 2 ^ 32 }
-    requires lost { server.old.lost < 2 ^ 32 }
+    requires fits { FitsServer MOST_LIMIT server.old }
     ensures ok { OnOk result (server_on model.now (as_site station.now) now payload.now server.old (outgoing sender.old out.old.items) ≡ reaction server.new (outgoing sender.new out.new.items)) }
     ensures err { OnErr result (reaction server.new (outgoing sender.new out.new.items) ≡ reaction server.old (outgoing sender.old out.old.items)) }
 {

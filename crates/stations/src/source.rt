@@ -1,14 +1,15 @@
-//! Sources and sinks: where jobs come from, and where they leave.
+//! Sources: where jobs come from.
 ghost use Rattle.std.specs.Prelude.{◌≡◌, ◌<◌, ◌^◌};
 ghost use Rattle.arrayvec.specs.ArrayVec.{array_vec_len};
 ghost use Rattle.net_model.specs.Rules.{IsRange};
+ghost use Rattle.net_model.specs.declared.limits.TheConstants.{MOST_LIMIT};
 ghost use Rattle.net_model.specs.Sites.{as_site};
-ghost use Rattle.stations.specs.Fits.{AreLinks};
-ghost use Rattle.stations.specs.Sending.{outgoing, reaction};
-ghost use Rattle.stations.specs.Sources.{next_tick, source_ticks, source_set, source_on, sink_on};
+ghost use Rattle.stations.specs.Fits.{AreLinks, FitsSource};
+ghost use Rattle.stations.specs.Sending.{MaySend, outgoing, reaction};
+ghost use Rattle.stations.specs.Sources.{next_tick, source_ticks, source_set, source_on};
 
 use crate::change::takes_change;
-use crate::kind_state::{SinkState, SourceState};
+use crate::kind_state::SourceState;
 use crate::sender::{Sender, route_job, send_to_itself};
 use arrayvec::ArrayVec;
 use net_model::Station;
@@ -21,10 +22,7 @@ pub(crate) fn send_tick(
     out: &mut ArrayVec<Msg, 16>,
     now: u64,
 )
-    requires room { array_vec_len out.old < 16 }
-    requires small { sender.old.next < 2 ^ 32 }
-    requires few { sender.old.draws.count < 2 ^ 32 }
-    requires early { now < 2 ^ 31 }
+    requires may_send { MaySend 1 now sender.old (array_vec_len out.old) }
     requires range { IsRange 1 source.now.lo source.now.hi }
     ensures { next_tick now source.now (outgoing sender.old out.old.items) ≡ outgoing sender.new out.new.items }
 {
@@ -40,10 +38,7 @@ fn make_job(
     station: &Station,
     now: u64,
 )
-    requires room { array_vec_len out.old ≡ 0 }
-    requires small { sender.old.next < 2 ^ 31 }
-    requires few { sender.old.draws.count < 2 ^ 31 }
-    requires early { now < 2 ^ 31 }
+    requires may_send { MaySend 2 now sender.old (array_vec_len out.old) }
     requires links { AreLinks station.now.links.items }
     requires range { IsRange 1 source.old.lo source.old.hi }
     requires sent { source.old.sent < 2 ^ 32 }
@@ -77,31 +72,14 @@ pub(crate) fn source_handles(
     now: u64,
     payload: &Payload,
 )
-    requires room { array_vec_len out.old ≡ 0 }
-    requires small { sender.old.next < 2 ^ 31 }
-    requires few { sender.old.draws.count < 2 ^ 31 }
-    requires early { now < 2 ^ 31 }
+    requires may_send { MaySend 16 now sender.old (array_vec_len out.old) }
     requires links { AreLinks station.now.links.items }
-    requires range { IsRange 1 source.old.lo source.old.hi }
-    requires sent { source.old.sent < 2 ^ 32 }
+    requires fits { FitsSource MOST_LIMIT source.old }
     ensures { source_on (as_site station.now) now payload.now source.old (outgoing sender.old out.old.items) ≡ reaction source.new (outgoing sender.new out.new.items) }
 {
     match payload {
         Payload::Tick => make_job(source, sender, out, station, now),
         Payload::Set(change) => set_source(source, station, change),
         Payload::Job(_) | Payload::Done(_) => {}
-    }
-}
-
-/// A sink handles a message.
-pub(crate) fn sink_handles(sink: &mut SinkState, now: u64, payload: &Payload)
-    requires got { sink.old.got < 2 ^ 32 }
-    requires stay { sink.old.stay < 2 ^ 63 }
-    requires early { now < 2 ^ 31 }
-    ensures { sink.new ≡ sink_on now payload.now sink.old }
-{
-    if let Payload::Job(job) = payload {
-        sink.got += 1;
-        sink.stay += now.saturating_sub(job.born);
     }
 }

@@ -2,18 +2,21 @@
 ghost use Rattle.std.specs.Prelude.{◌≡◌, ◌+◌, ◌<◌, ◌≤◌, ◌^◌, [], length, IfOk, OnErr, OnOk};
 ghost use Rattle.arrayvec.specs.ArrayVec.{array_vec_len};
 ghost use Rattle.net_model.specs.Sites.{as_site};
+ghost use Rattle.net_model.specs.declared.limits.TheConstants.{MOST_LIMIT};
 ghost use Rattle.stations.specs.Fits.{FitsState, FitsKind, SuitsNet, IsOfKind, HasLinks};
 ghost use Rattle.stations.specs.Handling.{handle as handled_by, kind_on, line_of};
 ghost use Rattle.stations.specs.Opening.{setup as opened_by, opening_kind, first_tick};
-ghost use Rattle.stations.specs.Sending.{outgoing, reaction};
+ghost use Rattle.stations.specs.Sending.{MaySend, outgoing, reaction};
 ghost use Rattle.stations.specs.Sends.{AreSends};
 
+use crate::delay::delay_handles;
 use crate::job_queue::JobQueue;
 use crate::kind_state::{DelayState, KindState, RouterState, ServerState, SinkState, SourceState};
-use crate::passing::{delay_handles, router_handles};
+use crate::router::router_handles;
 use crate::sender::{Sender, link_weights};
 use crate::server::server_handles;
-use crate::source::{send_tick, sink_handles, source_handles};
+use crate::sink::sink_handles;
+use crate::source::{send_tick, source_handles};
 use arrayvec::ArrayVec;
 use net_model::{Kind, Model, Station};
 use sim_base::{Line, Msg, NoMemory, Payload, Steps};
@@ -30,10 +33,10 @@ pub struct State {
 }
 
 impl std::marker::Model for State {
-    ghost use Rattle.stations.specs.Handling.{StationState};
+    ghost use Rattle.stations.specs.Handling.{StateView};
     ghost use Rattle.stations.specs.Fits.{FitsState};
 
-    ghost Value = { StationState };
+    ghost Value = { StateView };
 
     ghost view = { λ s. record { sender = s.sender; handled = s.handled; kind = s.kind } };
 
@@ -49,13 +52,10 @@ fn kind_handles(
     now: u64,
     payload: &Payload,
 ) -> Result<(), NoMemory>
-    requires room { array_vec_len out.old ≡ 0 }
-    requires small { sender.old.next < 2 ^ 31 }
-    requires few { sender.old.draws.count < 2 ^ 31 }
-    requires early { now < 2 ^ 31 }
+    requires may_send { MaySend 16 now sender.old (array_vec_len out.old) }
     requires links { HasLinks kind.old station.now.links.items }
     requires of_kind { IsOfKind (as_site station.now) station.now.kind kind.old }
-    requires fits { FitsKind 65536 kind.old }
+    requires fits { FitsKind MOST_LIMIT kind.old }
     ensures ok { OnOk result (kind_on model.now (as_site station.now) now payload.now kind.old (outgoing sender.old out.old.items) ≡ reaction kind.new (outgoing sender.new out.new.items)) }
     ensures err { OnErr result (reaction kind.new (outgoing sender.new out.new.items) ≡ reaction kind.old (outgoing sender.old out.old.items)) }
 {
@@ -109,7 +109,7 @@ fn kind_line(kind: &KindState) -> Line
 /// A station handles a message: its state changes, what it sends is put into `out`, and the answer is
 /// the counts that its log shows.
 ///
-/// On want of memory the state and `out` are unchanged. It ticks once where it answers Ok.
+/// Out of memory leaves the state and `out` unchanged. It ticks once where it answers Ok.
 pub fn handle<L: Ledger>(
     state: &mut State,
     model: &Model,
@@ -118,9 +118,9 @@ pub fn handle<L: Ledger>(
     steps: &mut Steps<L>,
 ) -> Result<Line, NoMemory>
     requires suits { SuitsNet model.now state.old }
-    requires room { array_vec_len out.old ≡ 0 }
+    requires empty { array_vec_len out.old ≡ 0 }
     requires own { msg.now.to ≡ state.old.sender.station }
-    requires below { state.old.handled < 65536 }
+    requires below { state.old.handled < MOST_LIMIT }
     requires early { msg.now.key.time < 2 ^ 31 }
     ensures ok { IfOk result (λ line. handled_by model.now state.old msg.now ≡ record { state = state.new; sends = out.new.items; line = line }) }
     ensures sends { OnOk result (AreSends model.now msg.now.key.time state.old.sender.station state.old.sender.next out.new.items) }
@@ -187,9 +187,7 @@ fn opening_state(alloc: Global, station: &Station) -> KindState
 
 // A source sends itself its first tick.
 fn send_first(kind: &KindState, sender: &mut Sender, out: &mut ArrayVec<Msg, 16>)
-    requires room { array_vec_len out.old ≡ 0 }
-    requires small { sender.old.next < 2 ^ 31 }
-    requires few { sender.old.draws.count < 2 ^ 31 }
+    requires may_send { MaySend 1 0 sender.old (array_vec_len out.old) }
     requires fits { FitsKind 0 kind.now }
     ensures { first_tick kind.now (outgoing sender.old out.old.items) ≡ outgoing sender.new out.new.items }
 {

@@ -8,7 +8,7 @@ use Rattle.sim_base.specs.declared.entry.Line.{Line}
 use Rattle.net_model.specs.declared.station.Kind.TheVariants.{Source, Server, Sink}
 use Rattle.net_model.specs.Net.{Net}
 use Rattle.stations.specs.declared.kind_state.KindState.TheVariants.{Server as KindServer}
-use Rattle.stations.specs.Handling.{StationState}
+use Rattle.stations.specs.Handling.{StateView}
 use Rattle.stations.specs.Examples.{at, analyst, tick, job, done, set, source, server, sink, link, set_at, clone}
 
 abbrev pub gate : ℕ
@@ -118,7 +118,7 @@ abbrev pub short_logs : Net
 short_logs = record one_desk { limit = 3 }
 
 -- the desk of the faster branch at the horizon: it sent four messages and drew two words
-abbrev pub fast_desk : StationState
+abbrev pub fast_desk : StateView
 fast_desk = record {
   sender = record { station = desk; next = 4; draws = record { seed = 0; stream = 2; count = 2 } };
   handled = 5;

@@ -1,12 +1,12 @@
 use Rattle.std.proofs.Common.{◌≡◌, length, map, drop}
 use Rattle.net_model.specs.Drafts.{as_draft}
-use Rattle.net_model.specs.Resolving.{each_resolved}
+use Rattle.net_model.specs.Resolving.{links_of_named}
 use Rattle.net_model.proofs.Turns.{after}
 use Rattle.net_model.proofs.resolve.resolve_links.Given as goal
 
 abbrev pub invariant-links : goal.invariant-links
 invariant-links l =
     record {
-      so_far : each_resolved l.lookahead (map as_draft l.drafts) l.place l.fn.links ≡ after l.found.items (each_resolved l.lookahead (map as_draft l.drafts) l.place (drop l.link-index l.fn.links));
+      so_far : links_of_named l.lookahead (map as_draft l.drafts) l.place l.fn.links ≡ after l.found.items (links_of_named l.lookahead (map as_draft l.drafts) l.place (drop l.link-index l.fn.links));
       count : length l.found.items ≡ l.link-index;
     }

@@ -4,7 +4,7 @@ use Rattle.run_laws.specs.Queue.{insert_all}
 use Rattle.run_laws.specs.World.{openings}
 use Rattle.stations.specs.Runs.{simulation}
 use Rattle.solo_run.specs.Beginning.{AreOpenings}
-use Rattle.solo_run.specs.Standing.{messages_of}
+use Rattle.solo_run.specs.SoloView.{messages_of}
 use Rattle.solo_run.proofs.opening.open_all.Given as goal
 
 abbrev pub invariant-loop-s : goal.invariant-loop-s

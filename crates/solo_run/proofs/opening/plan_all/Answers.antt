@@ -5,8 +5,8 @@ use Rattle.sim_base.specs.declared.decision.Planned.{Planned}
 use Rattle.sim_base.specs.declared.message.Param.TheVariants.{Every}
 use Rattle.run_laws.specs.Queue.{insert, insert_all}
 use Rattle.run_laws.specs.World.{planned}
-use Rattle.stations.specs.Runs.{simulation, decided}
-use Rattle.solo_run.specs.Standing.{messages_of}
+use Rattle.stations.specs.Runs.{simulation, set_message}
+use Rattle.solo_run.specs.SoloView.{messages_of}
 use Rattle.solo_run.proofs.Pairs.{messages_insert}
 use Rattle.solo_run.proofs.opening.plan_all.Goals as goal
 
@@ -18,6 +18,6 @@ loop-k-preserved c net =
     let sim = simulation net in
     let more = drop_more c.args.list.now k none c.loop-k-test.true in
     let number : suc k ≡ k + 1 = omega arith in
-    let e : messages_of c.insert.new.self ≡ insert msg_cmp (decided k plan) (messages_of c.loop-k.pending) = ap messages_of c.in_ok-insert.ensures.ok ∙ messages_insert _ _ c.loop-k.pending in
-    rw e (ap (λ j. insert_all msg_cmp (planned sim j (drop (k + 1) c.args.list.now)) (insert msg_cmp (decided k plan) (messages_of c.loop-k.pending))) (sym number)
+    let e : messages_of c.insert.new.self ≡ insert msg_cmp (set_message k plan) (messages_of c.loop-k.pending) = ap messages_of c.in_ok-insert.ensures.ok ∙ messages_insert _ _ c.loop-k.pending in
+    rw e (ap (λ j. insert_all msg_cmp (planned sim j (drop (k + 1) c.args.list.now)) (insert msg_cmp (set_message k plan) (messages_of c.loop-k.pending))) (sym number)
     ∙ (ap (λ l. insert_all msg_cmp (planned sim k l) (messages_of c.loop-k.pending)) (sym more) ∙ c.loop-k.invariant net))

@@ -4,7 +4,7 @@ use Rattle.net_model.specs.Net.{Net}
 use Rattle.run_laws.specs.Queue.{insert_all}
 use Rattle.run_laws.specs.World.{planned}
 use Rattle.stations.specs.Runs.{simulation}
-use Rattle.solo_run.specs.Standing.{messages_of}
+use Rattle.solo_run.specs.SoloView.{messages_of}
 use Rattle.solo_run.proofs.opening.plan_all.Given as goal
 
 abbrev pub invariant-loop-k : goal.invariant-loop-k

@@ -1,5 +1,5 @@
 use Rattle.std.proofs.Common.{ap, ◌∙◌}
-use Rattle.solo_run.specs.Standing.{messages_of}
+use Rattle.solo_run.specs.SoloView.{messages_of}
 use Rattle.solo_run.proofs.Pairs.{messages_insert}
 use Rattle.solo_run.proofs.opening.put_first.Goals as goal
 

@@ -4,7 +4,7 @@ use Rattle.sim_base.specs.Order.{msg_cmp}
 use Rattle.sim_base.specs.declared.message.Msg.{Msg}
 use Rattle.sim_base.specs.declared.message.Payload.TheVariants.{Tick}
 use Rattle.run_laws.specs.Queue.{insert}
-use Rattle.solo_run.specs.Standing.{messages_of}
+use Rattle.solo_run.specs.SoloView.{messages_of}
 use Rattle.solo_run.proofs.Pairs.{messages_insert}
 use Rattle.solo_run.proofs.turn.put_all.Goals as goal
 

@@ -1,7 +1,7 @@
 use Rattle.std.proofs.Common.{◌≡◌, drop}
 use Rattle.sim_base.specs.Order.{msg_cmp}
 use Rattle.run_laws.specs.Queue.{insert_all}
-use Rattle.solo_run.specs.Standing.{messages_of}
+use Rattle.solo_run.specs.SoloView.{messages_of}
 use Rattle.solo_run.proofs.turn.put_all.Given as goal
 
 abbrev pub invariant-loop-msg : goal.invariant-loop-msg

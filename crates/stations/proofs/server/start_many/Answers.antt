@@ -11,14 +11,14 @@ starts-preserved c =
     let site = as_site c.args.station.now in
     let before = reaction c.starts.server (outgoing c.starts.sender c.starts.out.items) in
     let after = reaction c.start_next.new.server (outgoing c.start_next.new.sender c.start_next.new.out.items) in
-    let one : IsOneMore before after = subst (IsOneMore before) c.start_next.ensures (start_next-one net site c.args.now before.kept before.out) in
+    let one : IsOneMore before after = subst (IsOneMore before) c.start_next.ensures (start_next-one net site c.args.now before.state before.out) in
     let more = start_times-more net site c.args.now c.args.times c.starts.counter before c.starts-test.true in
-    let kept = c.starts.invariant in
+    let inv = c.starts.invariant in
     record {
-      rest = ap (start_times (c.args.times - (c.starts.counter + 1)) net site c.args.now) (sym c.start_next.ensures) ∙ (sym more ∙ kept.rest);
-      room = omega (arith, one.sends, kept.room);
-      next = omega (arith, one.next, kept.next);
-      draws = omega (arith, one.draws, kept.draws);
-      lo = one.lo ∙ kept.lo;
-      hi = one.hi ∙ kept.hi;
+      rest = ap (start_times (c.args.times - (c.starts.counter + 1)) net site c.args.now) (sym c.start_next.ensures) ∙ (sym more ∙ inv.rest);
+      room = omega (arith, one.sends, inv.room);
+      next = omega (arith, one.next, inv.next);
+      draws = omega (arith, one.draws, inv.draws);
+      lo = one.lo ∙ inv.lo;
+      hi = one.hi ∙ inv.hi;
     }

@@ -1,7 +1,7 @@
 use Rattle.std.proofs.Common.{refl, subst}
 use Rattle.net_model.specs.Sites.{as_site}
 use Rattle.stations.specs.Fits.{FitsState, SuitsNet}
-use Rattle.stations.specs.Handling.{StationState}
+use Rattle.stations.specs.Handling.{StateView}
 use Rattle.stations.proofs.Lawful.{site_valid}
 use Rattle.stations.proofs.OpeningLaws.{opening-fits, opens-well, opened-is}
 use Rattle.stations.proofs.state.setup.Goals as goal
@@ -17,7 +17,7 @@ invariant_of-result c =
     let site = as_site c.station-place.result.now in
     let is = opened-is net c.args.station site c.opening_state-kind.result c.send_first.new.sender c.new-out.result.items c.send_first.new.out.items c.station-place.ensures.value c.opening_state-kind.ensures c.new-out.ensures (rw (← c.seed.ensures, ← c.new.ensures) c.send_first.ensures) in
     let well = opens-well net c.args.station site c.station-place.ensures.valid c.station-place.ensures.value in
-    subst (λ (st : StationState). FitsState st) is well.0
+    subst (λ (st : StateView). FitsState st) is well.0
 
 pub returns-clause-fits : goal.returns-clause-fits
 returns-clause-fits c =
@@ -25,7 +25,7 @@ returns-clause-fits c =
     let site = as_site c.station-place.result.now in
     let is = opened-is net c.args.station site c.opening_state-kind.result c.send_first.new.sender c.new-out.result.items c.send_first.new.out.items c.station-place.ensures.value c.opening_state-kind.ensures c.new-out.ensures (rw (← c.seed.ensures, ← c.new.ensures) c.send_first.ensures) in
     let well = opens-well net c.args.station site c.station-place.ensures.valid c.station-place.ensures.value in
-    subst (λ (st : StationState). FitsState st) is well.0
+    subst (λ (st : StateView). FitsState st) is well.0
 
 pub returns-clause-suits : goal.returns-clause-suits
 returns-clause-suits c =
@@ -33,4 +33,4 @@ returns-clause-suits c =
     let site = as_site c.station-place.result.now in
     let is = opened-is net c.args.station site c.opening_state-kind.result c.send_first.new.sender c.new-out.result.items c.send_first.new.out.items c.station-place.ensures.value c.opening_state-kind.ensures c.new-out.ensures (rw (← c.seed.ensures, ← c.new.ensures) c.send_first.ensures) in
     let well = opens-well net c.args.station site c.station-place.ensures.valid c.station-place.ensures.value in
-    subst (λ (st : StationState). SuitsNet net st) is well.1
+    subst (λ (st : StateView). SuitsNet net st) is well.1

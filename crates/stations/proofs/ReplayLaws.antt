@@ -1,0 +1,121 @@
+-- What a log leads to, and how what a station sends is numbered.
+use Rattle.std.proofs.Common.{◌≡◌, ℕ, zero, suc, ◌+◌, ◌*◌, ◌^◌, ◌<◌, ◌≤◌, inl, inr, List, [], ◌∷◌, ◌++◌, length, refl, ap, ◌∙◌, subst, Some, nat_lt, Bool, true, false, if◌then◌else◌, arith}
+use Rattle.std.specs.List.{AllByRecursion}
+use Rattle.std.proofs.lemmas.Option.{slice_get_cases}
+use Rattle.sim_base.specs.declared.message.Msg.{Msg}
+use Rattle.sim_base.specs.declared.message.Payload.TheVariants.{Tick}
+use Rattle.sim_base.specs.declared.entry.Entry.{Entry}
+use Rattle.sim_base.specs.declared.entry.Line.{Line}
+use Rattle.run_laws.specs.World as world
+use Rattle.net_model.specs.Net.{Net, Site, site_at, site_of}
+use Rattle.net_model.specs.Rules.{IsNet}
+use Rattle.stations.specs.declared.kind_state.KindState.{KindState}
+use Rattle.stations.specs.declared.kind_state.KindState.TheVariants.{Source, Server, Delay, Router, Sink}
+use Rattle.stations.specs.Fits.{FitsState, IsOfKind, SuitsNet}
+use Rattle.stations.specs.Good.{IsGood}
+use Rattle.stations.specs.Handling.{StateView, handle}
+use Rattle.stations.specs.Laws.{ReplayIsGood, ReplayCounts, ReplaySuits, ReplayFits, ReplayGoesOn, SendsNextNumbers, NumbersAreSmall, JobsTakeTheLookahead}
+use Rattle.stations.specs.Opening.{first_tick, opening_kind, setup}
+use Rattle.stations.specs.Sending.{Outgoing, send_later}
+use Rattle.stations.proofs.GoodLaws.{among, handles-good, opens_good}
+use Rattle.stations.proofs.Lawful.{handles-well, site_is}
+use Rattle.stations.proofs.OpeningLaws.{opens-well}
+
+-- what a station opens with has at most one number
+first_tick-next : (k : KindState) (o : Outgoing) → (first_tick k o).sender.next ≤ o.sender.next + 1
+first_tick-next (Source s) o = by (nat_lt s.sent s.jobs)
+  where
+    by : (b : Bool) → (if b then send_later 0 s.lo s.hi Tick o else o).sender.next ≤ o.sender.next + 1
+    by true = omega arith
+    by false = omega arith
+first_tick-next (Server s) o = omega arith
+first_tick-next (Delay s) o = omega arith
+first_tick-next (Router s) o = omega arith
+first_tick-next (Sink s) o = omega arith
+
+module _ (net : Net) where
+  -- the state after a log, from any state on
+  abbrev replay_from : ℕ → StateView → List (Entry Msg Line) → StateView
+  replay_from s st log = world.replay (λ (m : Msg). m.to) (λ (r : ℕ). handle net) s st log
+
+  count_from : (s : ℕ) (st : StateView) (log : List (Entry Msg Line)) → (replay_from s st log).handled ≡ st.handled + length log
+  unfolding handle
+  count_from s st [] = omega arith
+  count_from s st (e ∷ es) = count_from s (handle net st e.msg).state es ∙ omega arith
+
+  pub replay-counts : ReplayCounts net
+  replay-counts s log = count_from s (setup net s).state log ∙ omega arith
+
+  goes_on_from : (s : ℕ) (st : StateView) (log : List (Entry Msg Line)) (e : Entry Msg Line) → replay_from s st (log ++ e ∷ []) ≡ (handle net (replay_from s st log) e.msg).state
+  goes_on_from s st [] e = refl
+  goes_on_from s st (x ∷ log) e = goes_on_from s (handle net st x.msg).state log e
+
+  pub replay-goes_on : ReplayGoesOn net
+  replay-goes_on s log e = goes_on_from s (setup net s).state log e
+
+-- a number of the network's is that of a station
+there : (net : Net) (s : ℕ) → 1 ≤ s → s ≤ length net.sites → (site : Site) × (site_at net s ≡ Some site)
+there net zero low high = absurd (omega arith)
+there net (suc i) low high = elim (slice_get_cases net.sites i).1 [
+  | inl found ↦ (found.0, found.2)
+  | inr past ↦ absurd (let beyond = past.0 in omega arith)
+]
+
+module _ (net : Net) (valid : IsNet net) where
+  good_from : (s : ℕ) (st : StateView) (log : List (Entry Msg Line)) → IsGood net s st → IsGood net s (replay_from net s st log)
+  good_from s st [] good = good
+  good_from s st (e ∷ es) good = good_from s (handle net st e.msg).state es (handles-good net valid s st e.msg good).good
+
+  pub replay-good : ReplayIsGood net
+  replay-good s log = good_from s (setup net s).state log (opens_good net valid s)
+
+  pub replay-suits : ReplaySuits net
+  replay-suits s log low high =
+      let good = replay-good s log in
+      let site = there net s low high in
+      let is = site_is net s site.0 site.1 in
+      record {
+        site = site.0;
+        is_there = ap (site_at net) good.station ∙ site.1;
+        kind = subst (λ (q : Site). IsOfKind q q.kind (replay_from net s (setup net s).state log).kind) is good.kind;
+      }
+
+  fits_from : (s : ℕ) (st : StateView) (log : List (Entry Msg Line)) → FitsState st → SuitsNet net st → AllByRecursion (λ e. e.msg.key.time < 2 ^ 31) log → FitsState (replay_from net s st log)
+  fits_from s st [] fits suits early = fits
+  fits_from s st (e ∷ es) fits suits early =
+      let well = handles-well net st e.msg valid fits suits early.0 in
+      fits_from s (handle net st e.msg).state es well.fits well.suits early.1
+
+  pub replay-fits : ReplayFits net
+  replay-fits s log low high early =
+      let site = there net s low high in
+      let well = opens-well net s site.0 valid site.1 in
+      fits_from s (setup net s).state log well.0 well.1 early
+
+  opens_next : (s : ℕ) → (setup net s).state.sender.next ≤ 1
+  opens_next s = first_tick-next (opening_kind (site_of net s) (site_of net s).kind) _
+
+  pub sends-next_numbers : SendsNextNumbers net
+  sends-next_numbers = record {
+    opens = opens_next;
+    few = λ s st m good. (handles-good net valid s st m good).few;
+    next = λ s st m good. (handles-good net valid s st m good).next;
+    sends = λ s st m good. (handles-good net valid s st m good).sends;
+  }
+
+  next_from : (s : ℕ) (st : StateView) (log : List (Entry Msg Line)) → IsGood net s st → (replay_from net s st log).sender.next ≤ st.sender.next + 16 * length log
+  next_from s st [] good = omega arith
+  next_from s st (e ∷ es) good =
+      let one = handles-good net valid s st e.msg good in
+      let rest = next_from s (handle net st e.msg).state es one.good in
+      omega (arith, rest, one.next, one.few)
+
+  pub numbers-small : NumbersAreSmall net
+  numbers-small s log =
+      let rest = next_from s (setup net s).state log (opens_good net valid s) in
+      let first = opens_next s in
+      omega (arith, rest, first)
+
+  pub jobs-take_lookahead : JobsTakeTheLookahead net
+  jobs-take_lookahead s st m z good i job =
+      (among net valid m.key.time s st.sender.next (handle net st m).sends z (handles-good net valid s st m good).sends i).is.on_link job

@@ -1,0 +1,56 @@
+-- Laws of these stations, in words that contracts cite: what a log leads to, and how what they send is numbered.
+use Rattle.std.specs.Prelude.{◌≡◌, ℕ, ◌+◌, ◌*◌, ◌^◌, ◌<◌, ◌≤◌, List, [], ◌∷◌, ◌++◌, length}
+use Rattle.std.specs.List.{AllByRecursion}
+use Rattle.sim_base.specs.declared.message.Msg.{Msg}
+use Rattle.sim_base.specs.declared.entry.Entry.{Entry}
+use Rattle.sim_base.specs.declared.entry.Line.{Line}
+use Rattle.run_laws.specs.Queue.{In}
+use Rattle.net_model.specs.Net.{Net}
+use Rattle.stations.specs.Fits.{FitsState, SuitsNet}
+use Rattle.stations.specs.Good.{IsGood}
+use Rattle.stations.specs.Handling.{StateView, handle}
+use Rattle.stations.specs.Opening.{setup}
+use Rattle.stations.specs.Runs.{replay}
+use Rattle.stations.specs.Sends.{AreSends, IsJob}
+
+module _ (net : Net) where
+  -- the state that a log leads to is a good one of its station
+  abbrev pub ReplayIsGood : Type 0
+  ReplayIsGood = (s : ℕ) (log : List (Entry Msg Line)) → IsGood net s (replay net s log)
+
+  -- it has handled as many messages as the log has entries
+  abbrev pub ReplayCounts : Type 0
+  ReplayCounts = (s : ℕ) (log : List (Entry Msg Line)) → (replay net s log).handled ≡ length log
+
+  -- at a station of the network it is a state of that station
+  abbrev pub ReplaySuits : Type 0
+  ReplaySuits = (s : ℕ) (log : List (Entry Msg Line)) → 1 ≤ s → s ≤ length net.sites → SuitsNet net (replay net s log)
+
+  -- and it keeps what every state keeps, where the times are early
+  abbrev pub ReplayFits : Type 0
+  ReplayFits = (s : ℕ) (log : List (Entry Msg Line)) → 1 ≤ s → s ≤ length net.sites →
+      AllByRecursion (λ e. e.msg.key.time < 2 ^ 31) log → FitsState (replay net s log)
+
+  -- the replay of one entry more is what its message leads to from the replay
+  abbrev pub ReplayGoesOn : Type 0
+  ReplayGoesOn = (s : ℕ) (log : List (Entry Msg Line)) (e : Entry Msg Line) →
+      replay net s (log ++ e ∷ []) ≡ (handle net (replay net s log) e.msg).state
+
+  -- a station opens with at most one message, and a message that it handles makes it send at most 16; each of them
+  -- gets the next number
+  pub record SendsNextNumbers : Type 0 where
+    pub opens : (s : ℕ) → (setup net s).state.sender.next ≤ 1
+    pub few : (s : ℕ) (st : StateView) (m : Msg) → IsGood net s st → length (handle net st m).sends ≤ 16
+    pub next : (s : ℕ) (st : StateView) (m : Msg) → IsGood net s st →
+        (handle net st m).state.sender.next ≡ st.sender.next + length (handle net st m).sends
+    pub sends : (s : ℕ) (st : StateView) (m : Msg) → IsGood net s st →
+        AreSends net m.key.time s st.sender.next (handle net st m).sends
+
+  -- so the next number of a station is small, measured by its log
+  abbrev pub NumbersAreSmall : Type 0
+  NumbersAreSmall = (s : ℕ) (log : List (Entry Msg Line)) → (replay net s log).sender.next ≤ 16 * (length log + 1)
+
+  -- a job that is sent comes by the lookahead later or more, also where its link goes back to its own station
+  abbrev pub JobsTakeTheLookahead : Type 0
+  JobsTakeTheLookahead = (s : ℕ) (st : StateView) (m z : Msg) → IsGood net s st → In z (handle net st m).sends →
+      IsJob z.payload → m.key.time + net.lookahead ≤ z.key.time

@@ -1,0 +1,20 @@
+//! Sinks: where jobs leave the network.
+ghost use Rattle.std.specs.Prelude.{◌≡◌, ◌<◌, ◌^◌};
+ghost use Rattle.net_model.specs.declared.limits.TheConstants.{MOST_LIMIT};
+ghost use Rattle.stations.specs.Fits.{FitsSink};
+ghost use Rattle.stations.specs.Sinks.{sink_on};
+
+use crate::kind_state::SinkState;
+use sim_base::Payload;
+
+/// A sink handles a message.
+pub(crate) fn sink_handles(sink: &mut SinkState, now: u64, payload: &Payload)
+    requires fits { FitsSink MOST_LIMIT sink.old }
+    requires early { now < 2 ^ 31 }
+    ensures { sink.new ≡ sink_on now payload.now sink.old }
+{
+    if let Payload::Job(job) = payload {
+        sink.got += 1;
+        sink.stay += now.saturating_sub(job.born);
+    }
+}
