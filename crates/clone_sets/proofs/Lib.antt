@@ -2,3 +2,4 @@ pub mod WordLaws
 pub mod SetLaws
 pub mod MemberLaws
 pub mod SizeLaws
+pub mod CountLaws

@@ -15,11 +15,11 @@ use Rattle.clone_sets.specs.Sets.{has, empty, without, size, IsFirst, members}
 use Rattle.clone_sets.proofs.SetLaws.{has-empty, has-without}
 
 -- a list with c at its front, where b says so
-abbrev picked : Bool → ℕ → List ℕ → List ℕ
+abbrev pub picked : Bool → ℕ → List ℕ → List ℕ
 picked b c xs = if b then c ∷ xs else xs
 
 -- those of the set among the k numbers from c on
-abbrev members_among : ℕ → ℕ → ℕ → List ℕ
+abbrev pub members_among : ℕ → ℕ → ℕ → List ℕ
 members_among k c s = filter (has s) (range_with_len c k)
 
 -- the empty set has none among them
@@ -70,7 +70,7 @@ length_picked (suc zero) c xs l = omega arith
 length_picked (suc (suc d)) c xs l = absurd (omega arith)
 
 -- there are as many as the number has bits set from c on
-length-members_among : (k c s : ℕ) → s / 2 ^ c < 2 ^ k → length (members_among k c s) ≡ count_ones (s / 2 ^ c)
+pub length-members_among : (k c s : ℕ) → s / 2 ^ c < 2 ^ k → length (members_among k c s) ≡ count_ones (s / 2 ^ c)
 unfolding has
 length-members_among zero c s l = omega (arith, ones_le_self (s / 2 ^ c))
 length-members_among (suc k) c s l =

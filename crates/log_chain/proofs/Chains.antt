@@ -1,14 +1,14 @@
--- Segments that are cut, joined and walked, and how many of them there are.
+-- Segments that are cut and joined, and how many of them there are.
 use Rattle.std.proofs.Common.{◌≡◌, ℕ, zero, suc, ◌+◌, ◌*◌, ◌-◌, ◌^◌, ◌<◌, ◌≤◌, List, [], ◌∷◌, ◌++◌, length, take, drop, get_or, insert, refl, sym, ap, ◌∙◌, arith, append_assoc, append-nil, length-append, length-drop, length-take-le}
 use Rattle.std.specs.Prelude.{slice_index}
 use Rattle.std.specs.declared.sync.Arc.{Arc}
-use Rattle.std.specs.declared.vec.Vec.{Vec}
-use Rattle.std.proofs.lemmas.List.{map-append, take-map, drop-append-le}
+use Rattle.std.proofs.lemmas.List.{map-append, take-map}
 use Rattle.std.proofs.lemmas.Grind.{flat_map-append}
-use Rattle.std.proofs.Math.Seq.{take-append-add, take-append_seam, take-add, drop-append-add, take-length}
+use Rattle.std.proofs.Math.Seq.{take-append-add, take-length}
 use Rattle.std.proofs.Math.Nat.{two-pow-succ}
 use Rattle.std.proofs.Math.Pow.{pow_mono}
-use Rattle.log_chain.specs.Segments.{entries_of, entries_in, lengths, IsHalving, IsFit, IsChain}
+use Rattle.log_chain.specs.Blocks.{all_of}
+use Rattle.log_chain.specs.Segments.{entries_of_segment, entries_in, lengths, IsHalving, IsFit, IsChain}
 
 -- what is put at a place, and all before it
 pub take_inserted : {A : Type 0} (xs : List A) (k : ℕ) (x : A) → k ≤ length xs → take (k + 1) (insert xs k x) ≡ take k xs ++ x ∷ []
@@ -16,50 +16,39 @@ take_inserted xs k x within =
     let long : length (take k xs) ≡ k = length-take-le k xs within in
     rw long at (take-append-add (take k xs) (x ∷ drop k xs) 1)
 
--- a part of a list, from a place in the middle one of three
-pub part_of_list : {A : Type 0} (xs before part behind : List A) (at j : ℕ)
-    → xs ≡ before ++ (part ++ behind) → at ≡ length before + j → j ≤ length part → drop j part ≡ take (length (drop j part)) (drop at xs)
-part_of_list xs before part behind at j e place within =
-    let there : drop at xs ≡ drop j part ++ behind = ap (λ n. drop n xs) place ∙ (ap (λ l. drop (length before + j) l) e ∙ (drop-append-add before (part ++ behind) j ∙ drop-append-le j part behind within)) in
-    rw (there, take-append_seam) refl
-
--- a walk goes on behind a part
-pub walked : {A : Type 0} (xs part : List A) (at : ℕ) → part ≡ take (length part) (drop at xs) → take (at + length part) xs ≡ take at xs ++ part
-walked xs part at e = take-add at (length part) xs ∙ ap (λ l. take at xs ++ l) (sym e)
-
 -- all of a list that is left
 pub take_rest : {A : Type 0} (xs : List A) (j : ℕ) → take (length xs - j) (drop j xs) ≡ drop j xs
 take_rest xs j = rw (← length-drop j xs) (take-length (drop j xs))
 
-module _ {X Y Z : Type 0} where
+module _ {X Z : Type 0} where
   -- the segments before one, this one, and those behind it
-  pub entries_in_three : (segments : List (Arc (Vec X Y) Z)) (i : ℕ) (s : Arc (Vec X Y) Z) → i < length segments → s ≡ get_or segments i s
-      → entries_in segments ≡ entries_in (take i segments) ++ (entries_of s ++ entries_in (drop (suc i) segments))
+  pub entries_in_three : (segments : List (Arc (List X) Z)) (i : ℕ) (s : Arc (List X) Z) → i < length segments → s ≡ get_or segments i s
+      → entries_in segments ≡ entries_in (take i segments) ++ (entries_of_segment s ++ entries_in (drop (suc i) segments))
   entries_in_three [] i s there e = absurd (omega (arith, there))
   entries_in_three (x ∷ xs) zero s there e = rw e refl
   entries_in_three (x ∷ xs) (suc i) s there e =
-      ap (λ l. entries_of x ++ l) (entries_in_three xs i s (omega arith) e) ∙ sym (append_assoc (entries_of x) _ _)
+      ap (λ l. entries_of_segment x ++ l) (entries_in_three xs i s (omega arith) e) ∙ sym (append_assoc (entries_of_segment x) _ _)
 
   -- the segments that are kept, and those that are joined
-  pub entries_in_two : (segments : List (Arc (Vec X Y) Z)) (k : ℕ) → entries_in (take k segments) ++ entries_in (drop k segments) ≡ entries_in segments
+  pub entries_in_two : (segments : List (Arc (List X) Z)) (k : ℕ) → entries_in (take k segments) ++ entries_in (drop k segments) ≡ entries_in segments
   entries_in_two [] zero = refl
   entries_in_two [] (suc k) = refl
   entries_in_two (x ∷ xs) zero = refl
-  entries_in_two (x ∷ xs) (suc k) = append_assoc (entries_of x) _ _ ∙ ap (λ l. entries_of x ++ l) (entries_in_two xs k)
+  entries_in_two (x ∷ xs) (suc k) = append_assoc (entries_of_segment x) _ _ ∙ ap (λ l. entries_of_segment x ++ l) (entries_in_two xs k)
 
   -- the last segments have no more entries than all have
-  pub entries_in_last : (segments : List (Arc (Vec X Y) Z)) (k : ℕ) → length (entries_in (drop k segments)) ≤ length (entries_in segments)
+  pub entries_in_last : (segments : List (Arc (List X) Z)) (k : ℕ) → length (entries_in (drop k segments)) ≤ length (entries_in segments)
   entries_in_last segments k =
       omega (arith, ap length (entries_in_two segments k), length-append (entries_in (take k segments)) (entries_in (drop k segments)))
 
   -- nor have they with one segment more
-  pub entries_in_next : (segments : List (Arc (Vec X Y) Z)) (i k : ℕ) (s : Arc (Vec X Y) Z) → i < length segments → s ≡ get_or segments i s → k ≡ i + 1
-      → length (entries_of s) + length (entries_in (drop k segments)) ≤ length (entries_in segments)
+  pub entries_in_next : (segments : List (Arc (List X) Z)) (i k : ℕ) (s : Arc (List X) Z) → i < length segments → s ≡ get_or segments i s → k ≡ i + 1
+      → length (entries_of_segment s) + length (entries_in (drop k segments)) ≤ length (entries_in segments)
   entries_in_next segments i k s there e next =
       let after : k ≡ suc i = omega arith in
       let three = ap length (entries_in_three segments i s there e) in
-      let all = length-append (entries_in (take i segments)) (entries_of s ++ entries_in (drop (suc i) segments)) in
-      let two = length-append (entries_of s) (entries_in (drop (suc i) segments)) in
+      let all = length-append (entries_in (take i segments)) (entries_of_segment s ++ entries_in (drop (suc i) segments)) in
+      let two = length-append (entries_of_segment s) (entries_in (drop (suc i) segments)) in
       rw after (omega (arith, three, all, two))
 
 -- a fitting segment behind the first k
@@ -83,47 +72,49 @@ first_large : (ns : List ℕ) → IsHalving ns → 2 ^ length ns ≤ slice_index
 first_large [] h = omega arith
 first_large (n ∷ ns) h = omega (arith, two-pow-succ (length ns), first_large ns h.1, h.0)
 
-module _ {X Y Z : Type 0} where
+module _ {X Z : Type 0} where
   -- each segment has one length
-  one_length_each : (segments : List (Arc (Vec X Y) Z)) → length (lengths segments) ≡ length segments
+  one_length_each : (segments : List (Arc (List X) Z)) → length (lengths segments) ≡ length segments
   one_length_each [] = refl
   one_length_each (s ∷ ss) = ap suc (one_length_each ss)
 
   -- many segments have many entries
-  pub few_segments : (segments : List (Arc (Vec X Y) Z)) → IsHalving (lengths segments) → 2 ^ length segments ≤ length (entries_in segments) + 1
+  pub few_segments : (segments : List (Arc (List X) Z)) → IsHalving (lengths segments) → 2 ^ length segments ≤ length (entries_in segments) + 1
   few_segments [] h = omega arith
   few_segments (s ∷ ss) h =
-      let big : 2 ^ length (s ∷ ss) ≤ length (entries_of s) + 1 = rw (one_length_each (s ∷ ss)) at (first_large (lengths (s ∷ ss)) h) in
-      omega (arith, big, length-append (entries_of s) (entries_in ss))
+      let big : 2 ^ length (s ∷ ss) ≤ length (entries_of_segment s) + 1 = rw (one_length_each (s ∷ ss)) at (first_large (lengths (s ∷ ss)) h) in
+      omega (arith, big, length-append (entries_of_segment s) (entries_in ss))
 
   -- the new segment has the entries of those that it takes in, and of the tail
-  pub taken_in : (segments same : List (Arc (Vec X Y) Z)) (keep : ℕ) (entries more tail : List X)
+  pub taken_in : (segments same : List (Arc (List X) Z)) (keep : ℕ) (entries more tail : List X)
       → entries ≡ entries_in (take (length same - keep) (drop keep same)) ++ more → same ≡ segments → more ≡ tail → entries ≡ entries_in (drop keep segments) ++ tail
   taken_in segments same keep entries more tail joined e f = rw (take_rest same keep, e, f) at joined
 
   -- the tail has become a segment: the list is the same
-  pub sealed_same : (segments new : List (Arc (Vec X Y) Z)) (keep : ℕ) (s : Arc (Vec X Y) Z) (more : List X)
-      → entries_of s ≡ entries_in (drop keep segments) ++ more → new ≡ take keep segments ++ s ∷ [] → entries_in new ≡ entries_in segments ++ more
+  pub sealed_same : (segments new : List (Arc (List X) Z)) (keep : ℕ) (s : Arc (List X) Z) (more : List X)
+      → entries_of_segment s ≡ entries_in (drop keep segments) ++ more → new ≡ take keep segments ++ s ∷ [] → entries_in new ≡ entries_in segments ++ more
   sealed_same segments new keep s more joined put =
       let all = entries_in_two segments keep in
       ap entries_in put
-      ∙ (flat_map-append entries_of (take keep segments) (s ∷ [])
-      ∙ (ap (λ l. entries_in (take keep segments) ++ l) (append-nil (entries_of s) ∙ joined)
+      ∙ (flat_map-append entries_of_segment (take keep segments) (s ∷ [])
+      ∙ (ap (λ l. entries_in (take keep segments) ++ l) (append-nil (entries_of_segment s) ∙ joined)
       ∙ (sym (append_assoc (entries_in (take keep segments)) (entries_in (drop keep segments)) more) ∙ ap (λ l. l ++ more) all)))
 
-  -- and the lengths are still halving
-  pub sealed_chain : (segments new : List (Arc (Vec X Y) Z)) (shared keep size : ℕ) (s : Arc (Vec X Y) Z) (more : List X)
-      → IsChain segments shared (length more) → 0 < length more → IsFit (lengths segments) keep size → size ≡ length (entries_in (drop keep segments)) + length more
-      → entries_of s ≡ entries_in (drop keep segments) ++ more → new ≡ take keep segments ++ s ∷ [] → IsChain new (shared + length more) 0
-  sealed_chain segments new shared keep size s more chain some fit long joined put =
-      let same : length (entries_of s) ≡ size = omega (arith, ap length joined, length-append (entries_in (drop keep segments)) more, long) in
+  -- and it is still a chain, whose tail is empty
+  pub sealed_chain : (segments new : List (Arc (List X) Z)) (shared more keep size : ℕ) (s : Arc (List X) Z) (blocks : List (List X))
+      → IsChain segments shared blocks more → 0 < more → IsFit (lengths segments) keep size → size ≡ length (entries_in (drop keep segments)) + more
+      → entries_of_segment s ≡ entries_in (drop keep segments) ++ all_of blocks → new ≡ take keep segments ++ s ∷ [] → IsChain new (shared + more) [] 0
+  sealed_chain segments new shared more keep size s blocks chain some fit long joined put =
+      let same : length (entries_of_segment s) ≡ size = omega (arith, ap length joined, length-append (entries_in (drop keep segments)) (all_of blocks), long, chain.tail) in
       let each : lengths new ≡ take keep (lengths segments) ++ size ∷ [] =
       ap lengths put
-      ∙ (map-append (λ x. length (entries_of x)) (take keep segments) (s ∷ [])
-      ∙ (ap (λ l. l ++ length (entries_of s) ∷ []) (sym (take-map (λ x. length (entries_of x)) keep segments)) ∙ ap (λ n. take keep (lengths segments) ++ n ∷ []) same)) in
+      ∙ (map-append (λ x. length (entries_of_segment x)) (take keep segments) (s ∷ [])
+      ∙ (ap (λ l. l ++ length (entries_of_segment s) ∷ []) (sym (take-map (λ x. length (entries_of_segment x)) keep segments)) ∙ ap (λ n. take keep (lengths segments) ++ n ∷ []) same)) in
       record {
         halving = rw each (halving_put (lengths segments) keep size chain.halving (omega (arith, some, long)) fit);
-        count = omega (arith, ap length (sealed_same segments new keep s more joined put), length-append (entries_in segments) more, chain.count);
+        count = omega (arith, ap length (sealed_same segments new keep s (all_of blocks) joined put), length-append (entries_in segments) (all_of blocks), chain.count, chain.tail);
+        blocks_fit = tt;
+        tail = refl;
         most = omega (arith, chain.most);
       }
 

@@ -1,1 +1,5 @@
+pub mod Packs
 pub mod Chains
+pub mod Tails
+pub mod Walks
+pub mod Timing

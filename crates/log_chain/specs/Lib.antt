@@ -1,1 +1,5 @@
+pub mod Packing
+pub mod Blocks
 pub mod Segments
+pub mod Walking
+pub mod Times

@@ -2,20 +2,20 @@
 use Rattle.std.specs.Prelude.{◌≡◌, ℕ, ◌+◌, ◌*◌, ◌-◌, ◌^◌, ◌<◌, ◌≤◌, List, [], ◌∷◌, length, map, flat_map, slice_index}
 use Rattle.std.specs.Arc.{arc_value}
 use Rattle.std.specs.declared.sync.Arc.{Arc}
-use Rattle.std.specs.declared.vec.Vec.{Vec}
+use Rattle.log_chain.specs.Blocks.{all_of, AreBlocks}
 
-module _ {X Y Z : Type 0} where
+module _ {X Z : Type 0} where
   -- the entries of a segment
-  abbrev pub entries_of : Arc (Vec X Y) Z → List X
-  entries_of segment = (arc_value segment).items
+  abbrev pub entries_of_segment : Arc (List X) Z → List X
+  entries_of_segment segment = arc_value segment
 
   -- the entries of the segments, one after another
-  abbrev pub entries_in : List (Arc (Vec X Y) Z) → List X
-  entries_in segments = flat_map entries_of segments
+  abbrev pub entries_in : List (Arc (List X) Z) → List X
+  entries_in segments = flat_map entries_of_segment segments
 
   -- how long each segment is
-  abbrev pub lengths : List (Arc (Vec X Y) Z) → List ℕ
-  lengths segments = map (λ s. length (entries_of s)) segments
+  abbrev pub lengths : List (Arc (List X) Z) → List ℕ
+  lengths segments = map (λ s. length (entries_of_segment s)) segments
 
 -- each is more than twice the next, and the last is more than 0
 abbrev pub IsHalving : List ℕ → Type 0
@@ -26,8 +26,10 @@ IsHalving (n ∷ ns) = (2 * slice_index ns 0 < n) × IsHalving ns
 abbrev pub IsFit : List ℕ → ℕ → ℕ → Type 0
 IsFit ns k size = 0 < k → 2 * size < slice_index ns (k - 1)
 
--- a log's segments, how many entries they have, and how many its tail has
-pub record IsChain {X Y Z : Type 0} (segments : List (Arc (Vec X Y) Z)) (shared tail : ℕ) : Type 0 where
+-- a log's segments and how many entries they have, its blocks and how many those have
+pub record IsChain {X Z : Type 0} (segments : List (Arc (List X) Z)) (shared : ℕ) (blocks : List (List X)) (more : ℕ) : Type 0 where
   pub halving : IsHalving (lengths segments)
   pub count : shared ≡ length (entries_in segments)
-  pub most : shared + tail ≤ 2 ^ 58
+  pub blocks_fit : AreBlocks blocks
+  pub tail : more ≡ length (all_of blocks)
+  pub most : shared + more ≤ 2 ^ 58

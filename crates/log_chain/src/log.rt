@@ -1,64 +1,95 @@
 //! Logs.
-ghost use Rattle.std.specs.Prelude.{◌≡◌, ◌++◌, ◌∷◌, [], ◌+◌, ◌^◌, ◌<◌, ◌≤◌, length, take, drop, OnOk, OnErr, IfOk, IsTrue, ◌↔◌, slice_index_or};
+ghost use Rattle.std.specs.Prelude.{◌≡◌, ◌++◌, ◌∷◌, [], ◌+◌, ◌^◌, ◌<◌, ◌≤◌, length, drop, OnOk, OnErr, IfOk, IsTrue, ◌↔◌, slice_index, slice_index_or};
+ghost use Rattle.log_chain.specs.Packing.{FitWords};
+ghost use Rattle.log_chain.specs.Times.{RiseByTime, from_time, times_of};
 
-use crate::segments::{Segment, joined, kept, part_from, put_behind, shared};
+use crate::blocks;
+use crate::run::Run;
+use crate::segments::{Segment, are_packed, joined, place_behind, put_behind, shared};
+use crate::walk::{Walk, from_block, from_segment};
 use sim_base::{Entry, NoMemory};
 use std::alloc::Global;
 use std::marker::Model;
 
-// No memory holds more entries: one takes over 64 bytes, and there are 2^64 bytes at most.
+// No memory holds more entries: one takes 32 bytes at least, and there are 2^64 bytes at most.
 const MOST: u64 = 1 << 58;
 
-/// What a station has handled, in order: a list of entries. Logs may share what they have in
-/// common, and each grows by itself.
+/// What a station has handled, in order: a list of entries. Logs may share what they have in common, and each grows by
+/// itself.
 #[derive(Drop)]
 pub struct Log {
     segments: Vec<Segment>,
-    // how many entries stand in the segments
+    // how many entries the segments have
     shared: u64,
-    tail: Vec<Entry>,
+    blocks: Vec<Run>,
+    // how many entries the blocks have
+    more: usize,
 }
 
 impl Model for Log {
-    ghost use Rattle.std.specs.Prelude.{List, ◌++◌, length};
+    ghost use Rattle.std.specs.Prelude.{List, ◌++◌};
     ghost use Rattle.sim_base.specs.declared.entry.Entry.{Entry};
     ghost use Rattle.sim_base.specs.declared.entry.Line.{Line};
     ghost use Rattle.sim_base.specs.declared.message.Msg.{Msg};
+    ghost use Rattle.log_chain.specs.Blocks.{all_of};
     ghost use Rattle.log_chain.specs.Segments.{entries_in, IsChain};
 
     ghost Value = { List (Entry Msg Line) };
 
-    ghost view = { λ l. entries_in l.segments.items ++ l.tail.items };
+    ghost view = { λ l. entries_in l.segments.items ++ all_of l.blocks.items };
 
-    ghost invariant = { λ l. IsChain l.segments.items l.shared (length l.tail.items) };
+    ghost invariant = { λ l. IsChain l.segments.items l.shared l.blocks.items l.more };
 }
 
 impl Log {
     /// No entries. It takes no memory.
     pub fn new(alloc: Global) -> Log
-        ensures { result ≡ [] }
+        ensures value { result ≡ [] }
     {
         Log {
             segments: Vec::new(alloc),
             shared: 0,
-            tail: Vec::new(alloc),
+            blocks: Vec::new(alloc),
+            more: 0,
         }
     }
 
-    /// Adds an entry at the end.
-    pub fn push(&mut self, e: Entry) -> Result<(), NoMemory>
-        ensures ok { OnOk result (self.new ≡ self.old ++ e ∷ []) }
+    /// Adds an entry at the end. No entry that is there already is moved.
+    pub fn push(&mut self, entry: Entry) -> Result<(), NoMemory>
+        ensures ok { OnOk result (self.new ≡ self.old ++ entry ∷ []) }
         ensures err { OnErr result (self.new ≡ self.old) }
     {
-        if self.shared + self.tail.len() as u64 == MOST {
+        if self.shared + self.more as u64 == MOST {
             return Err(NoMemory);
         }
-        self.tail.push(e)?;
+        blocks::push(&mut self.blocks, entry)?;
+        self.more += 1;
         Ok(())
     }
 
-    /// A second log with the same list. The tail becomes a segment, which takes in the one before
-    /// it for as long as that one is at most twice as long.
+    /// Makes the tail a segment, which takes in the one before it for as long as that one is at most twice as long. A
+    /// log that is sealed is copied without its entries.
+    pub fn seal(&mut self, alloc: Global) -> Result<(), NoMemory>
+        ensures same { self.new ≡ self.old }
+    {
+        if self.more == 0 {
+            return Ok(());
+        }
+        let (stay, size) = place_behind(self.segments.as_slice(), self.more);
+        let segment = joined(
+            alloc,
+            size,
+            &self.segments.as_slice()[stay..],
+            self.blocks.as_slice(),
+        )?;
+        put_behind(&mut self.segments, stay, segment)?;
+        self.shared += self.more as u64;
+        self.blocks = Vec::new(alloc);
+        self.more = 0;
+        Ok(())
+    }
+
+    /// A second log with the same list: this one is sealed, and then copied.
     pub fn share(&mut self, alloc: Global) -> Result<Log, NoMemory>
         ensures ok { IfOk result (λ log. log ≡ self.old) }
         ensures same { self.new ≡ self.old }
@@ -69,51 +100,96 @@ impl Log {
 
     /// A second log with the same list, through a shared reference: the tail is copied.
     pub fn copy(&self, alloc: Global) -> Result<Log, NoMemory>
-        ensures { IfOk result (λ log. log ≡ self.now) }
+        ensures value { IfOk result (λ log. log ≡ self.now) }
     {
         Ok(Log {
             segments: shared(alloc, self.segments.as_slice())?,
             shared: self.shared,
-            tail: Vec::from_slice(alloc, self.tail.as_slice())?,
+            blocks: blocks::copies(alloc, self.blocks.as_slice())?,
+            more: self.more,
         })
     }
 
     /// How many entries it has.
     pub fn len(&self) -> u64
-        ensures { result ≡ length self.now }
+        ensures value { result ≡ length self.now }
     {
-        self.shared + self.tail.len() as u64
+        self.shared + self.more as u64
     }
 
     /// Whether it has none.
     pub fn is_empty(&self) -> bool
-        ensures { IsTrue result ↔ (self.now ≡ []) }
+        ensures value { IsTrue result ↔ (self.now ≡ []) }
     {
         self.len() == 0
     }
 
     /// The entry at a place.
     pub fn get(&self, i: u64) -> Entry
-        requires { i < length self.now }
-        ensures { result ≡ slice_index_or self.now i result }
+        requires there { i < length self.now }
+        ensures value { result ≡ slice_index_or self.now i result }
     {
-        self.entries_from(i)[0]
+        let mut walk = self.walk_from(i);
+        match walk.next() {
+            Some(entry) => entry,
+            None => unreachable!(),
+        }
     }
 
-    /// The entries from a place on that lie side by side: at least one. A walk that goes on behind
-    /// them meets each segment once.
-    pub fn entries_from(&self, at: u64) -> &[Entry]
-        requires { at < length self.now }
-        ensures some { 0 < length result.now }
-        ensures within { at + length result.now ≤ length self.now }
-        ensures value { result.now ≡ take (length result.now) (drop at self.now) }
-        ensures walk { take (at + length result.now) self.now ≡ take at self.now ++ result.now }
+    /// A walk along the entries from a place on.
+    pub fn walk_from(&self, at: u64) -> Walk<'_>
+        ensures value { result ≡ drop at self.now }
     {
+        let segments = self.segments.as_slice();
+        let blocks = self.blocks.as_slice();
         if at < self.shared {
-            part_from(self.segments.as_slice(), at as usize)
+            from_segment(segments, blocks, at as usize)
         } else {
-            &self.tail.as_slice()[(at - self.shared) as usize..]
+            from_block(blocks, (at - self.shared) as usize)
         }
+    }
+
+    /// A walk along the entries at a time or later.
+    pub fn walk_from_time(&self, time: u64) -> Walk<'_>
+        requires rises { RiseByTime self.now }
+        ensures value { result ≡ from_time time self.now }
+    {
+        self.walk_from(self.place_of_time(time))
+    }
+
+    /// How many entries come before a time. It is found by halving.
+    pub fn place_of_time(&self, time: u64) -> u64
+        requires rises { RiseByTime self.now }
+        ensures value { drop result self.now ≡ from_time time self.now }
+    {
+        let mut low = 0;
+        let mut high = self.len();
+        while low < high {
+            let middle = low + (high - low) / 2;
+            if self.time_at(middle) < time {
+                low = middle + 1;
+            } else {
+                high = middle;
+            }
+        }
+        low
+    }
+
+    fn time_at(&self, i: u64) -> u64
+        requires there { i < length self.now }
+        ensures value { result ≡ slice_index (times_of self.now) i }
+    {
+        match self.walk_from(i).key() {
+            Some(key) => key.time,
+            None => unreachable!(),
+        }
+    }
+
+    /// Whether all its entries are in 32 bytes. Then each of their keys fits one word of 64 bits.
+    pub fn is_packed(&self) -> bool
+        ensures words { IsTrue result → FitWords self.now }
+    {
+        are_packed(self.segments.as_slice()) && blocks::are_packed(self.blocks.as_slice())
     }
 
     /// How many segments it has. It takes no memory.
@@ -122,26 +198,5 @@ impl Log {
         ensures few { length self.now ≤ 65536 → result ≤ 16 }
     {
         self.segments.len() as u32
-    }
-
-    // Makes the tail a segment, if it is not empty.
-    fn seal(&mut self, alloc: Global) -> Result<(), NoMemory>
-        ensures { self.new ≡ self.old }
-    {
-        let more = self.tail.len();
-        if more == 0 {
-            return Ok(());
-        }
-        let (keep, size) = kept(self.segments.as_slice(), more);
-        let segment = joined(
-            alloc,
-            size,
-            &self.segments.as_slice()[keep..],
-            self.tail.as_slice(),
-        )?;
-        put_behind(&mut self.segments, keep, segment)?;
-        self.shared += more as u64;
-        self.tail = Vec::new(alloc);
-        Ok(())
     }
 }

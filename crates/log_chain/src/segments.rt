@@ -1,13 +1,16 @@
 //! Segments: runs of entries that several logs may share.
-ghost use Rattle.std.specs.Prelude.{◌≡◌, ◌++◌, ◌∷◌, [], ◌+◌, ◌*◌, ◌^◌, ◌<◌, ◌≤◌, length, take, drop, OnOk, OnErr, IfOk};
-ghost use Rattle.log_chain.specs.Segments.{entries_of, entries_in, lengths, IsFit};
+ghost use Rattle.std.specs.Prelude.{◌≡◌, ◌++◌, ◌∷◌, [], ◌+◌, ◌*◌, ◌^◌, ◌<◌, ◌≤◌, length, take, drop, OnOk, OnErr, IfOk, IsTrue};
+ghost use Rattle.log_chain.specs.Segments.{entries_of_segment, entries_in, lengths, IsFit};
+ghost use Rattle.log_chain.specs.Blocks.{all_of};
+ghost use Rattle.log_chain.specs.Packing.{FitWords};
 
-use sim_base::{Entry, NoMemory};
+use crate::run::Run;
+use sim_base::NoMemory;
 use std::alloc::Global;
 use std::sync::Arc;
 
 /// A run of entries that logs share.
-pub type Segment = Arc<Vec<Entry>>;
+pub type Segment = Arc<Run>;
 
 /// The same segments, shared with another log.
 pub fn shared(alloc: Global, segments: &[Segment]) -> Result<Vec<Segment>, NoMemory>
@@ -21,67 +24,65 @@ pub fn shared(alloc: Global, segments: &[Segment]) -> Result<Vec<Segment>, NoMem
     Ok(copies)
 }
 
-/// How many segments stay as they are when `size` entries come behind them, and how long the
-/// segment after those is, which takes in the others.
-pub fn kept(segments: &[Segment], size: usize) -> (usize, usize)
-    requires { length (entries_in segments.now) + size ≤ 2 ^ 58 }
+/// How many segments stay as they are when `size` entries come behind them, and how long the segment after those is,
+/// which takes in the others.
+pub fn place_behind(segments: &[Segment], size: usize) -> (usize, usize)
+    requires most { length (entries_in segments.now) + size ≤ 2 ^ 58 }
     ensures within { result.0 ≤ length segments.now }
     ensures size { result.1 ≡ length (entries_in (drop result.0 segments.now)) + size }
     ensures fit { IsFit (lengths segments.now) result.0 result.1 }
 {
-    let mut keep = segments.len();
+    let mut stay = segments.len();
     let mut size = size;
-    while keep > 0 && segments[keep - 1].len() <= 2 * size {
-        keep -= 1;
-        size += segments[keep].len();
+    while stay > 0 && segments[stay - 1].len() <= 2 * size {
+        stay -= 1;
+        size += segments[stay].len();
     }
-    (keep, size)
+    (stay, size)
 }
 
-/// A new segment: the entries of the segments and then more, `size` entries together.
+/// A new segment: the entries of the segments and then those of the blocks, `size` entries together.
 pub fn joined(
     alloc: Global,
     size: usize,
     segments: &[Segment],
-    more: &[Entry],
+    blocks: &[Run],
 ) -> Result<Segment, NoMemory>
-    ensures { IfOk result (λ s. entries_of s ≡ entries_in segments.now ++ more.now) }
+    ensures value { IfOk result (λ s. entries_of_segment s ≡ entries_in segments.now ++ all_of blocks.now) }
 {
-    let mut entries = Vec::with_capacity(alloc, size)?;
+    let mut run = Run::with_capacity(alloc, size)?;
     for segment in segments {
-        entries.extend_from_slice(segment.as_slice())?;
+        run.append(segment)?;
     }
-    entries.extend_from_slice(more)?;
-    Ok(Arc::new(alloc, entries)?)
+    for block in blocks {
+        run.append(block)?;
+    }
+    Ok(Arc::new(alloc, run)?)
 }
 
-/// Puts a segment behind the first `keep` ones, in place of the others.
+/// Puts a segment behind the first `stay` ones, in place of the others.
 pub fn put_behind(
     segments: &mut Vec<Segment>,
-    keep: usize,
+    stay: usize,
     segment: Segment,
 ) -> Result<(), NoMemory>
-    requires { keep ≤ length segments.old.items }
-    ensures ok { OnOk result (segments.new.items ≡ take keep segments.old.items ++ segment ∷ []) }
+    requires within { stay ≤ length segments.old.items }
+    ensures ok { OnOk result (segments.new.items ≡ take stay segments.old.items ++ segment ∷ []) }
     ensures err { OnErr result (segments.new.items ≡ segments.old.items) }
 {
-    segments.insert(keep, segment)?;
-    segments.truncate(keep + 1);
+    segments.insert(stay, segment)?;
+    segments.truncate(stay + 1);
     Ok(())
 }
 
-/// The entries from a place on that stand in one segment: at least one.
-pub fn part_from(segments: &[Segment], at: usize) -> &[Entry]
-    requires { at < length (entries_in segments.now) }
-    ensures some { 0 < length result.now }
-    ensures value { result.now ≡ take (length result.now) (drop at (entries_in segments.now)) }
+/// Whether all their entries are packed.
+pub fn are_packed(segments: &[Segment]) -> bool
+    ensures words { IsTrue result → FitWords (entries_in segments.now) }
 {
-    let mut left = at;
     for segment in segments {
-        if left < segment.len() {
-            return &segment.as_slice()[left..];
+        if !segment.is_packed() {
+            return false;
         }
-        left -= segment.len();
     }
-    unreachable!()
+    true
 }

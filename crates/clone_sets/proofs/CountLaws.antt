@@ -1,0 +1,91 @@
+-- A set's size is the number of its clones.
+use Rattle.std.proofs.Common.{◌≡◌, ◌≢◌, ◌⊎◌, inl, inr, ℕ, zero, suc, ◌+◌, ◌/◌, ◌^◌, ◌<◌, ◌≤◌, Bool, true, false, List, [], ◌∷◌, length, refl, sym, ap, ◌∙◌, arith, pow-suc}
+use Rattle.std.specs.Prelude.{count_ones}
+use Rattle.std.proofs.lemmas.Bool.{cases_eq, false≢true}
+use Rattle.sim_base.specs.Counts.{In, Apart, IsCount}
+use Rattle.clone_sets.specs.Sets.{has, empty, size}
+use Rattle.clone_sets.proofs.SetLaws.{below_limit}
+use Rattle.clone_sets.proofs.SizeLaws.{size_some}
+use Rattle.clone_sets.proofs.MemberLaws.{picked, members_among, length-members_among}
+
+-- ---- a list with c at its front, where b says so
+
+-- an element is the front or one of the rest
+in_picked : (b : Bool) (c d : ℕ) (xs : List ℕ) → In d (picked b c xs) → ((b ≡ true) × (d ≡ c)) ⊎ In d xs
+in_picked true c d xs h = elim h [ inl e ↦ inl (refl, e) | inr i ↦ inr i ]
+in_picked false c d xs h = inr h
+
+-- the rest stays
+picked_rest : (b : Bool) (c d : ℕ) (xs : List ℕ) → In d xs → In d (picked b c xs)
+picked_rest true c d xs h = inr h
+picked_rest false c d xs h = h
+
+-- so does the front
+picked_front : (b : Bool) (c d : ℕ) (xs : List ℕ) → b ≡ true → d ≡ c → In d (picked b c xs)
+picked_front true c d xs e f = inl f
+picked_front false c d xs e f = absurd (false≢true e)
+
+-- no element stands twice, where the front is not one of the rest
+apart_picked : (b : Bool) (c : ℕ) (xs : List ℕ) → (In c xs → ⊥) → Apart xs → Apart (picked b c xs)
+apart_picked true c xs n a = (n, a)
+apart_picked false c xs n a = a
+
+-- ---- the clones among the k numbers from c on
+
+-- each of them is in the set, and not below c
+among_has : (k c s d : ℕ) → In d (members_among k c s) → (has s d ≡ true) × (c ≤ d)
+among_has zero c s d h = absurd h
+among_has (suc k) c s d h =
+    elim (in_picked (has s c) c d (members_among k (c + 1) s) h) [
+      | inl e ↦ (ap (has s) e.1 ∙ e.0, omega (arith, e.1))
+      | inr i ↦ let later = among_has k (c + 1) s d i in (later.0, omega (arith, later.1))
+    ]
+
+-- each clone of the set there is one of them
+has_among : (k c s d : ℕ) → c ≤ d → d < c + k → has s d ≡ true → In d (members_among k c s)
+has_among zero c s d l m h = absurd (omega arith)
+has_among (suc k) c s d l m h =
+    elim (cases_eq d c) [
+      | inl e ↦ picked_front (has s c) c d (members_among k (c + 1) s) (ap (has s) (sym e) ∙ h) e
+      | inr ne ↦ picked_rest (has s c) c d (members_among k (c + 1) s) (has_among k (c + 1) s d (omega arith) (omega arith) h)
+    ]
+
+-- none of them stands twice
+apart_among : (k c s : ℕ) → Apart (members_among k c s)
+apart_among zero c s = tt
+apart_among (suc k) c s =
+    apart_picked (has s c) c (members_among k (c + 1) s)
+    (λ i. let later : c + 1 ≤ c = (among_has k (c + 1) s c i).1 in omega (arith, later)) (apart_among k (c + 1) s)
+
+-- ---- the laws
+
+-- a number is below its power of two
+below_pow : (n : ℕ) → n < 2 ^ n
+below_pow zero = omega arith
+below_pow (suc n) = omega (arith, below_pow n, pow-suc 2 n)
+
+-- a clone of the set is below the set's number
+has_below : (s c : ℕ) → has s c ≡ true → c < s
+has_below s c h = below_limit s s c (below_pow s) h
+
+-- the size is a count
+pub size_is_count : (s : ℕ) → IsCount (λ c. has s c ≡ true) (size s)
+unfolding size
+size_is_count s =
+    let all : s / 2 ^ 0 ≡ s = omega arith in record {
+      members = members_among s 0 s;
+      apart = apart_among s 0 s;
+      exact = λ c i. (among_has s 0 s c i).0;
+      all = λ c h. has_among s 0 s c (omega arith) (omega (arith, has_below s c h)) h;
+      number = length-members_among s 0 s (omega (arith, below_pow s)) ∙ ap count_ones all;
+    }
+
+-- what is counted as more than none is there
+counted_some : (P : ℕ → Type 0) (n : ℕ) (xs : List ℕ) → length xs ≡ n → 0 < n → ((x : ℕ) → In x xs → P x) → (c : ℕ) × P c
+counted_some P n [] e some exact = absurd (omega (arith, e))
+counted_some P n (x ∷ xs) e some exact = (x, exact x (inl refl))
+
+-- a set that is not empty has a clone
+pub set_has_clone : (s : ℕ) → s ≢ empty → (c : ℕ) × (has s c ≡ true)
+set_has_clone s ne =
+    let k = size_is_count s in counted_some (λ c. has s c ≡ true) (size s) k.members k.number (size_some s ne) k.exact

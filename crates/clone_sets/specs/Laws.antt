@@ -1,0 +1,26 @@
+-- What is true of all sets of clones.
+use Rattle.std.specs.Prelude.{◌≡◌, ◌≢◌, ℕ, ◌+◌, true}
+use Rattle.sim_base.specs.Counts.{IsCount}
+use Rattle.sim_base.specs.Marked.{JoinsMarks, MeetsMarks}
+use Rattle.clone_sets.specs.Sets.{has, empty, union, meet, minus, met, size}
+use Rattle.clone_sets.specs.declared.set.CloneSet.{CloneSet}
+
+-- a union has the clones of both sets
+abbrev pub UnionJoinsMarks : Type 0
+UnionJoinsMarks = JoinsMarks has union
+
+-- two sets have in common the clones that are in both, and nothing where there are none
+abbrev pub MetMeetsMarks : Type 0
+MetMeetsMarks = MeetsMarks has met
+
+-- a set's size is the number of its clones
+abbrev pub SizeIsCount : Type 0
+SizeIsCount = (k : CloneSet) → IsCount (λ c. has k c ≡ true) (size k)
+
+-- the two halves of a set that another one cuts are as large together as the set
+abbrev pub HalvesAddUp : Type 0
+HalvesAddUp = (k by : CloneSet) → size (meet k by) + size (minus k by) ≡ size k
+
+-- a set that is not empty has a clone
+abbrev pub SetHasClone : Type 0
+SetHasClone = (k : CloneSet) → k ≢ empty → (c : ℕ) × (has k c ≡ true)

@@ -1,0 +1,97 @@
+-- Entries in 32 bytes, and those that do not fit.
+use Rattle.std.specs.Prelude.{◌≡◌, ℕ, ◌+◌, ◌*◌, ◌^◌, ◌<◌, Bool, true, false, List, map, slice_index_or, if◌then◌else◌}
+use Rattle.std.specs.List.{AllByRecursion}
+use Rattle.sim_base.specs.declared.entry.Entry.{Entry}
+use Rattle.sim_base.specs.declared.entry.Line.{Line}
+use Rattle.sim_base.specs.declared.entry.Line.TheVariants.{Source, Server, Passed, Sink}
+use Rattle.sim_base.specs.declared.message.Job.{Job}
+use Rattle.sim_base.specs.declared.message.Key.{Key}
+use Rattle.sim_base.specs.declared.message.Msg.{Msg}
+use Rattle.sim_base.specs.declared.message.Param.{Param}
+use Rattle.sim_base.specs.declared.message.Param.TheVariants as param
+use Rattle.sim_base.specs.declared.message.Payload.{Payload}
+use Rattle.sim_base.specs.declared.message.Payload.TheVariants as payload
+use Rattle.log_chain.specs.declared.packed.Kind.{Kind}
+use Rattle.log_chain.specs.declared.packed.Kind.TheVariants as kind
+use Rattle.log_chain.specs.declared.packed.LineKind.{LineKind}
+use Rattle.log_chain.specs.declared.packed.LineKind.TheVariants as line
+use Rattle.log_chain.specs.declared.packed.Packed.{Packed}
+use Rattle.log_chain.specs.declared.packed.PackedMsg.{PackedMsg}
+use Rattle.log_chain.specs.declared.packed.PackedLine.{PackedLine}
+
+-- a set of a parameter, its two values where a job has its count and its time of making
+abbrev pub set_of : Param → Job → Payload
+set_of p j = payload.Set (record { param = p; a = j.count; b = j.born })
+
+-- what a message of a kind tells
+abbrev pub payload_of : Kind → Job → Payload
+payload_of kind.Wide j = payload.Tick
+payload_of kind.Tick j = payload.Tick
+payload_of kind.Job j = payload.Job j
+payload_of kind.Done j = payload.Done j
+payload_of kind.Every j = set_of param.Every j
+payload_of kind.Service j = set_of param.Service j
+payload_of kind.Hold j = set_of param.Hold j
+payload_of kind.Servers j = set_of param.Servers j
+payload_of kind.Room j = set_of param.Room j
+payload_of kind.Weight j = set_of param.Weight j
+
+-- the key of a packed message
+abbrev pub key_of : PackedMsg → Key
+key_of m = record { time = m.time; sender = m.sender; number = m.number }
+
+-- the message
+abbrev pub msg_of : PackedMsg → Msg
+msg_of m = record { key = key_of m; to = m.to; payload = payload_of m.kind (record { source = m.source; count = m.count; born = m.born }) }
+
+-- the counts of a kind of line
+abbrev pub counts_of : LineKind → PackedLine → Line
+counts_of line.Source l = Source l.first
+counts_of line.Server l = Server l.busy l.third l.first l.second
+counts_of line.Passed l = Passed l.first
+counts_of line.Sink l = Sink l.first (l.third * 2 ^ 32 + l.second)
+
+-- the line
+abbrev pub line_of : PackedLine → Line
+line_of l = counts_of l.kind l
+
+-- the entry
+abbrev pub unpacked : Packed → Entry Msg Line
+unpacked p = record { msg = msg_of p.msg; line = line_of p.line }
+
+-- whether the entry did not fit
+abbrev pub is_wide : Kind → Bool
+is_wide kind.Wide = true
+is_wide _ = false
+
+-- the entry, which is in the side list where it did not fit
+abbrev pub entry_of : List (Entry Msg Line) → Packed → Entry Msg Line
+entry_of wide p = if is_wide p.msg.kind then slice_index_or wide p.msg.count (unpacked p) else unpacked p
+
+-- the entries, one after another
+abbrev pub entries_of : List (Entry Msg Line) → List Packed → List (Entry Msg Line)
+entries_of wide ps = map (entry_of wide) ps
+
+-- a key of which one word of 64 bits has place: its time, sender and number
+pub record FitsWord (k : Key) : Type 0 where
+  pub time : k.time < 2 ^ 30
+  pub sender : k.sender < 2 ^ 7
+  pub number : k.number < 2 ^ 21
+
+-- a message that fits, and its key fits one word
+pub record IsNarrow (m : PackedMsg) : Type 0 where
+  pub narrow : is_wide m.kind ≡ false
+  pub word : FitsWord (key_of m)
+
+-- the entry fits, or the side list of n entries has it
+pub record IsPlaced (n : ℕ) (p : Packed) : Type 0 where
+  pub wide : is_wide p.msg.kind ≡ true → p.msg.count < n
+  pub narrow : is_wide p.msg.kind ≡ false → FitsWord (key_of p.msg)
+
+-- each of them does
+abbrev pub ArePlaced : ℕ → List Packed → Type 0
+ArePlaced n ps = AllByRecursion (IsPlaced n) ps
+
+-- each entry's key fits one word
+abbrev pub FitWords : List (Entry Msg Line) → Type 0
+FitWords es = AllByRecursion (λ e. FitsWord e.msg.key) es

@@ -1,0 +1,51 @@
+//! The tail of a log: blocks that it does not share, so that a push moves no entry.
+ghost use Rattle.std.specs.Prelude.{◌≡◌, ◌++◌, ◌∷◌, [], OnOk, OnErr, IfOk, IsTrue};
+ghost use Rattle.log_chain.specs.Blocks.{all_of, AreBlocks};
+ghost use Rattle.log_chain.specs.Packing.{FitWords};
+
+use crate::run::Run;
+use sim_base::{Entry, NoMemory};
+use std::alloc::Global;
+
+/// A block has so many entries, the last one at most so many.
+pub const BLOCK: usize = 64;
+
+/// Adds an entry behind those of the blocks: to the last one, or to a new one where that is full.
+pub fn push(blocks: &mut Vec<Run>, entry: Entry) -> Result<(), NoMemory>
+    requires blocks { AreBlocks blocks.old.items }
+    ensures blocks { AreBlocks blocks.new.items }
+    ensures ok { OnOk result (all_of blocks.new.items ≡ all_of blocks.old.items ++ entry ∷ []) }
+    ensures err { OnErr result (all_of blocks.new.items ≡ all_of blocks.old.items) }
+{
+    let count = blocks.len();
+    if count > 0 && blocks[count - 1].len() < BLOCK {
+        return blocks[count - 1].push(entry);
+    }
+    let mut block = Run::with_capacity(*blocks.allocator(), BLOCK)?;
+    block.push(entry)?;
+    blocks.push(block)?;
+    Ok(())
+}
+
+/// Second blocks with the same entries.
+pub fn copies(alloc: Global, blocks: &[Run]) -> Result<Vec<Run>, NoMemory>
+    ensures value { IfOk result (λ v. v.items ≡ blocks.now) }
+{
+    let mut copies = Vec::with_capacity(alloc, blocks.len())?;
+    for block in blocks {
+        copies.push(block.copy(alloc)?)?;
+    }
+    Ok(copies)
+}
+
+/// Whether all their entries are packed.
+pub fn are_packed(blocks: &[Run]) -> bool
+    ensures words { IsTrue result → FitWords (all_of blocks.now) }
+{
+    for block in blocks {
+        if !block.is_packed() {
+            return false;
+        }
+    }
+    true
+}

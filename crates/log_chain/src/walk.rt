@@ -1,0 +1,153 @@
+//! Walks along a log.
+ghost use Rattle.std.specs.Prelude.{◌≡◌, ◌++◌, ◌∷◌, [], ◌<◌, length, drop, IfSome, IfNone, option_map, slice_get};
+ghost use Rattle.log_chain.specs.Blocks.{all_of, AreBlocks};
+ghost use Rattle.log_chain.specs.Segments.{entries_in};
+
+use crate::blocks::BLOCK;
+use crate::packed::{Packed, key_at, unpack};
+use crate::run::Run;
+use crate::segments::Segment;
+use sim_base::{Entry, Key};
+use std::marker::Model;
+
+/// The entries of a log from some place on. A walk meets each segment once, and takes no memory.
+#[derive(Drop)]
+pub struct Walk<'a> {
+    // what is left of the part where the walk is
+    packed: &'a [Packed],
+    wide: &'a [Entry],
+    // the parts after it
+    segments: &'a [Segment],
+    blocks: &'a [Run],
+}
+
+impl<'a> Model for Walk<'a> {
+    ghost use Rattle.std.specs.Prelude.{List, ◌++◌, length};
+    ghost use Rattle.sim_base.specs.declared.entry.Entry.{Entry};
+    ghost use Rattle.sim_base.specs.declared.entry.Line.{Line};
+    ghost use Rattle.sim_base.specs.declared.message.Msg.{Msg};
+    ghost use Rattle.log_chain.specs.Packing.{entries_of};
+    ghost use Rattle.log_chain.specs.Blocks.{all_of};
+    ghost use Rattle.log_chain.specs.Segments.{entries_in};
+    ghost use Rattle.log_chain.specs.Walking.{IsSettled};
+
+    ghost Value = { List (Entry Msg Line) };
+
+    ghost view = { λ w. entries_of w.wide.now w.packed.now ++ (entries_in w.segments.now ++ all_of w.blocks.now) };
+
+    ghost invariant = { λ w. IsSettled w.packed.now w.segments.now w.blocks.now };
+}
+
+impl<'a> Walk<'a> {
+    /// The next entry, None exactly at the end.
+    pub fn next(&mut self) -> Option<Entry>
+        ensures some { IfSome result (λ e. self.old ≡ e ∷ self.new) }
+        ensures none { IfNone result ((self.old ≡ []) × (self.new ≡ [])) }
+    {
+        let (packed, rest) = self.packed.split_first()?;
+        let entry = unpack(packed, self.wide);
+        if rest.is_empty() {
+            *self = along(self.segments, self.blocks);
+        } else {
+            self.packed = rest;
+        }
+        Some(entry)
+    }
+
+    /// The key of the next entry, None exactly at the end. The entry itself is not unpacked.
+    pub fn key(&self) -> Option<Key>
+        ensures value { result ≡ option_map (λ e. e.msg.key) (slice_get self.now 0) }
+    {
+        let packed = self.packed.first()?;
+        Some(key_at(packed, self.wide))
+    }
+}
+
+/// A walk along all of the segments and blocks.
+pub fn along<'a>(segments: &'a [Segment], blocks: &'a [Run]) -> Walk<'a>
+    ensures value { result ≡ entries_in segments.now ++ all_of blocks.now }
+{
+    for (i, segment) in segments.iter().enumerate() {
+        let (packed, wide) = segment.entries();
+        if !packed.is_empty() {
+            return Walk {
+                packed,
+                wide,
+                segments: &segments[i + 1..],
+                blocks,
+            };
+        }
+    }
+    along_blocks(blocks)
+}
+
+fn along_blocks<'a>(blocks: &'a [Run]) -> Walk<'a>
+    ensures value { result ≡ all_of blocks.now }
+{
+    for (i, block) in blocks.iter().enumerate() {
+        let (packed, wide) = block.entries();
+        if !packed.is_empty() {
+            return Walk {
+                packed,
+                wide,
+                segments: &[],
+                blocks: &blocks[i + 1..],
+            };
+        }
+    }
+    at_end()
+}
+
+/// A walk from a place among the segments' entries on.
+pub fn from_segment<'a>(segments: &'a [Segment], blocks: &'a [Run], at: usize) -> Walk<'a>
+    requires there { at < length (entries_in segments.now) }
+    ensures value { result ≡ drop at (entries_in segments.now ++ all_of blocks.now) }
+{
+    let mut left = at;
+    for (i, segment) in segments.iter().enumerate() {
+        let (packed, wide) = segment.entries();
+        if left < packed.len() {
+            return Walk {
+                packed: &packed[left..],
+                wide,
+                segments: &segments[i + 1..],
+                blocks,
+            };
+        }
+        left -= packed.len();
+    }
+    unreachable!()
+}
+
+/// A walk from a place among the blocks' entries on.
+pub fn from_block<'a>(blocks: &'a [Run], at: usize) -> Walk<'a>
+    requires sizes { AreBlocks blocks.now }
+    ensures value { result ≡ drop at (all_of blocks.now) }
+{
+    let i = at / BLOCK;
+    if i >= blocks.len() {
+        return at_end();
+    }
+    let (packed, wide) = blocks[i].entries();
+    let left = at % BLOCK;
+    if left >= packed.len() {
+        return at_end();
+    }
+    Walk {
+        packed: &packed[left..],
+        wide,
+        segments: &[],
+        blocks: &blocks[i + 1..],
+    }
+}
+
+fn at_end<'a>() -> Walk<'a>
+    ensures value { result ≡ [] }
+{
+    Walk {
+        packed: &[],
+        wide: &[],
+        segments: &[],
+        blocks: &[],
+    }
+}
