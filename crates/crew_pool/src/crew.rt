@@ -1,21 +1,32 @@
 //! What every crew does.
-ghost use Rattle.std.specs.Prelude.{◌≡◌, ◌+◌, length, IfOk, OnOk};
-ghost use Rattle.crew_pool.specs.Tasks.{EachAnswers, cost_below};
+ghost use Rattle.std.specs.Prelude.{◌≡◌, ◌+◌, ◌≤◌, length, sum_by, IfOk};
+ghost use Rattle.crew_pool.specs.Tasks.{EachReady, AnswersTo, EachAnswers};
+ghost use Rattle.crew_pool.specs.declared.crew.TheConstants.{MOST_TASKS};
 
+use crate::forked::run_forked;
 use crate::gate::Gate;
 use crate::serial::run_serial;
+use crate::stealing::run_stealing;
 use crate::work::Work;
+use crate::workers::Workers;
 use sim_base::{NoMemory, Steps};
 use std::alloc::Global;
 use std::sync::Wait;
 use std::sync::ledger::Ledger;
 use std::thread::Threads;
 
+/// The greatest number of tasks of a call.
+pub const MOST_TASKS: usize = 64;
+
 /// How a crew shares out the tasks.
 #[derive(Clone, Copy, Debug, PartialEq, Eq)]
 pub enum Kind {
     /// One worker runs them in order.
     Serial,
+    /// Each worker runs a run of neighbouring ones.
+    Forked(Workers),
+    /// Each worker takes them one by one from a deque.
+    Stealing(Workers),
 }
 
 /// Runs all tasks of a work.
@@ -24,23 +35,31 @@ pub trait Crew {
     fn kind(&self) -> Kind;
 
     // No impl writes `all`: a method that an impl writes cannot start threads over type parameters.
-    /// Runs each task once, after `gate.before`. Where a task refuses memory, the answer is
-    /// `NoMemory`, and nothing is said of the steps.
+    /// Hands each item to the task of its place, once, after `gate.before`, and gives each answer at that place.
+    /// Where a task is out of memory, the answer is `NoMemory` after every worker has ended, the items are gone, and
+    /// nothing is said of the steps. Small work runs in the caller's thread.
     final fn all<W: Work, G: Gate, L: Ledger, R: Threads + Wait + Sync>(
         &self,
         rt: &R,
         alloc: Global,
         work: &W,
+        items: Vec<W::In>,
         gate: &G,
         steps: &mut Steps<L>,
     ) -> Result<Vec<W::Out>, NoMemory>
-        ensures count { IfOk result (λ outs. length outs.items ≡ W.count work.now) }
-        ensures answers { IfOk result (λ outs. EachAnswers (W.answers work.now) outs.items) }
-        ensures cost { OnOk result (
-            steps.new ≡ steps.old + cost_below (W.cost work.now) (W.count work.now)) }
+        requires few { length items.items ≤ MOST_TASKS }
+        requires ready { EachReady (W.ready work.now) items.items }
+        ensures count { IfOk result (λ outs. length outs.items ≡ length items.items) }
+        ensures answers { IfOk result (λ outs. EachAnswers (AnswersTo (W.answers work.now) items.items) outs.items) }
+        ensures cost { IfOk result (λ outs. steps.new ≡ steps.old + sum_by W.cost outs.items) }
     {
+        if work.is_small() {
+            return run_serial(rt, alloc, work, items, gate, steps);
+        }
         match self.kind() {
-            Kind::Serial => run_serial(rt, alloc, work, gate, steps),
+            Kind::Serial => run_serial(rt, alloc, work, items, gate, steps),
+            Kind::Forked(workers) => run_forked(rt, alloc, work, items, gate, workers, steps),
+            Kind::Stealing(workers) => run_stealing(rt, alloc, work, items, gate, workers, steps),
         }
     }
 }

@@ -1,0 +1,5 @@
+mod Answers
+mod Slots
+mod DequeRule
+mod Pairs
+mod TaskMoves

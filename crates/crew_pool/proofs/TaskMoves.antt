@@ -1,0 +1,94 @@
+-- Each step of the deque keeps the rule of the tasks: each number stands beside its item.
+use Rattle.std.proofs.Common.{
+  ◌≡◌,
+  ℕ,
+  zero,
+  suc,
+  ◌+◌,
+  ◌-◌,
+  ◌<◌,
+  List,
+  [],
+  ◌∷◌,
+  ◌++◌,
+  length,
+  set,
+  sym,
+  refl,
+  ◌∙◌,
+  subst,
+  arith,
+  get_or,
+}
+use Rattle.crossbeam_deque.specs.Tasks.{Pushes, Takes, Forks, Merges, Finds}
+use Rattle.crew_pool.specs.declared.task_deque.SeatView.{SeatView}
+use Rattle.crew_pool.specs.Deque.{seat_view, NumbersOnce, IsComplete, numbers, IsItemAt, TasksOnce, TakesTasks}
+use Rattle.crew_pool.specs.Tasks.{EachReady, AnswersTo}
+use Rattle.crew_pool.proofs.DequeRule.{
+  NumbersOnce-begins,
+  NumbersOnce-takes,
+  NumbersOnce-deals,
+  NumbersOnce-forks,
+  NumbersOnce-merges,
+  NumbersOnce-finds,
+}
+use Rattle.crew_pool.proofs.Pairs.{numbers-push, EachPair-push}
+
+-- ---- TasksOnce
+
+pub TasksOnce-begins : {X : Type 0} (items : List X) → TasksOnce items [] (seat_view 1024 0 [] ∷ [])
+TasksOnce-begins items = (NumbersOnce-begins, tt)
+
+pub TasksOnce-takes : {X : Type 0} (items : List X) (port : ℕ) (v : SeatView) → 0 < v.parts
+    → Takes (TasksOnce items) port v 1 (TakesTasks items v)
+TasksOnce-takes items port v part (x ∷ []) rest views less most h at =
+    let r = NumbersOnce-takes port v part (x.0 ∷ []) (numbers rest) views (omega arith) (omega arith) h.0 at in
+    (r.0, (r.1, h.1.1), ((h.1.0, tt), r.2.1))
+TasksOnce-takes items port v part [] rest views less most h at = absurd (omega (arith, less))
+TasksOnce-takes items port v part (x ∷ y ∷ ys) rest views less most h at = absurd (omega (arith, most))
+
+pub TasksOnce-deals : {X : Type 0} (items : List X) (port : ℕ) (v : SeatView) (i : ℕ) (x : X)
+    → v ≡ seat_view 1024 i [] → IsItemAt items i x
+    → Pushes (TasksOnce items) port v ((i, x) ∷ []) (λ w. w ≡ seat_view v.parts (v.dealt + 1) v.taken)
+TasksOnce-deals items port v i x e is tasks views h at =
+    let r = NumbersOnce-deals port v i e (numbers tasks) views h.0 at in (
+      r.0,
+      (
+        subst (λ l. NumbersOnce l (set views port r.0)) (sym (numbers-push tasks (i, x))) r.1,
+        EachPair-push (IsItemAt items) tasks (i, x) is h.1,
+      ),
+      r.2,
+    )
+
+pub TasksOnce-forks : {X : Type 0} (items : List X) (port : ℕ) (v : SeatView) → 1 < v.parts
+    → Forks (TasksOnce items) port v (seat_view (v.parts - 1) v.dealt v.taken) (seat_view 1 v.dealt [])
+TasksOnce-forks items port v two tasks views h at = (NumbersOnce-forks port v two (numbers tasks) views h.0 at, h.1)
+
+pub TasksOnce-merges : {X : Type 0} (items : List X) (port : ℕ) (v : SeatView) (other : ℕ) (u : SeatView) → 0 < v.parts
+    → Merges (TasksOnce items) port v other u (seat_view (v.parts + u.parts) v.dealt (v.taken ++ u.taken)) (seat_view 0 0 [])
+TasksOnce-merges items port v other u part tasks views h at two at' =
+    (NumbersOnce-merges port v other u part (numbers tasks) views h.0 at two at', h.1)
+
+pub TasksOnce-finds : {X : Type 0} (items : List X) (port : ℕ) (v : SeatView) → Finds (TasksOnce items) port v (IsComplete v)
+TasksOnce-finds items port v views h at = NumbersOnce-finds port v views h.0 at
+
+-- ---- IsItemAt
+
+-- an item may be given to the task of its place
+pub IsItemAt-ready : {X : Type 0} (ready : ℕ → X → Type 0) (items : List X) (i : ℕ) (x : X)
+    → EachReady ready items → IsItemAt items i x → ready i x
+IsItemAt-ready ready items i x each is = subst (λ y. ready i y) (is.1 x) (each i x is.0)
+
+-- an answer to an item is an answer at its place
+pub IsItemAt-answers : {X Y : Type 0} (answers : ℕ → X → Y → Type 0) (items : List X) (i : ℕ) (x : X) (y : Y)
+    → IsItemAt items i x → answers i x y → AnswersTo answers items i y
+IsItemAt-answers answers items i x y is one d = subst (λ z. answers i z y) (sym (is.1 d)) one
+
+-- what is read at a place is the item there
+pub IsItemAt-read : {X : Type 0} (items : List X) (i : ℕ) (x : X) → i < length items → x ≡ get_or items i x → IsItemAt items i x
+IsItemAt-read {X} items i x less e = (less, λ d. same items i d less ∙ sym e)
+  where
+    same : (l : List X) (k : ℕ) (d : X) → k < length l → get_or l k d ≡ get_or l k x
+    same [] k d below = absurd (omega (arith, below))
+    same (y ∷ ys) zero d below = refl
+    same (y ∷ ys) (suc k) d below = same ys k d (omega (arith, below))

@@ -1,0 +1,14 @@
+use Rattle.std.proofs.Common.{ap, arith, ◌≡◌}
+use Rattle.crossbeam_deque.specs.Handles.{view}
+use Rattle.crew_pool.specs.declared.task_deque.SeatView.{SeatView}
+use Rattle.crew_pool.proofs.TaskMoves.{TasksOnce-takes, IsItemAt-ready}
+use Rattle.crew_pool.proofs.stealing.run_thief.Goals as goal
+
+pub steal_as-requires-clause-takes : goal.steal_as-requires-clause-takes
+steal_as-requires-clause-takes g c =
+    let e : (view c.loop-try.seat).parts ≡ 1 = ap (λ (u : SeatView). u.parts) c.loop-try.invariant.1 in
+    TasksOnce-takes g.B.Batch.items _ _ (omega (arith, e))
+
+pub run_task-requires-clause-ready : goal.run_task-requires-clause-ready
+run_task-requires-clause-ready g c κs within =
+    IsItemAt-ready (g.W.Work.ready c.args.work.now) g.B.Batch.items _ _ c.requires.ready c.in-Success.ensures.rule.0.0
