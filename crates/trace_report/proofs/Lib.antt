@@ -1,1 +1,5 @@
 pub mod StationLines
+pub mod Tenths
+pub mod Slots
+pub mod Lines
+pub mod Params

@@ -1,4 +1,4 @@
-pub mod Filling
+pub mod Slots
 pub mod TraceText
 pub mod ReportText
 pub mod Examples

@@ -1,6 +1,7 @@
 -- The text of a clone's trace: a head, and then a line for each message that was handled.
 use Rattle.std.specs.Prelude.{◌==◌, ℕ, ◌++◌, Bool, true, false, if◌then◌else◌, List, [], ◌∷◌, Option, Some, None, codes, decimal}
 use Rattle.std.specs.List.{flat_map, join_with_byte}
+use Rattle.sim_base.specs.Params.{param_word, param_values}
 use Rattle.sim_base.specs.declared.entry.Entry.{Entry}
 use Rattle.sim_base.specs.declared.entry.Line.{Line}
 use Rattle.sim_base.specs.declared.entry.Line.TheVariants.{Source, Server, Passed, Sink}
@@ -33,26 +34,12 @@ class_text net source = if net.format == 2 then codes ":" ++ decimal (class_of_k
 abbrev pub job_text : Net → JobOf → List ℕ
 job_text net job = station_name net job.source ++ codes "." ++ decimal job.count ++ class_text net job.source
 
-abbrev pub parameter_word : Param → List ℕ
-parameter_word Every = codes "every"
-parameter_word Service = codes "service"
-parameter_word Hold = codes "hold"
-parameter_word Servers = codes "servers"
-parameter_word Room = codes "room"
-parameter_word Weight = codes "weight"
-
--- whether a parameter takes two values
-abbrev pub takes_two : Param → Bool
-takes_two Servers = false
-takes_two Room = false
-takes_two _ = true
-
 abbrev pub values_text : Change → List ℕ
-values_text change = if takes_two change.param then decimal change.a ++ codes " " ++ decimal change.b else decimal change.a
+values_text change = if param_values change.param == 2 then decimal change.a ++ codes " " ++ decimal change.b else decimal change.a
 
 -- a change, as a script gives it
 abbrev pub change_text : Change → List ℕ
-change_text change = parameter_word change.param ++ codes " " ++ values_text change
+change_text change = param_word change.param ++ codes " " ++ values_text change
 
 -- what a message tells its receiver
 abbrev pub payload_text : Net → Payload → List ℕ

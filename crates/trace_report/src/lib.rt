@@ -1,13 +1,40 @@
-//! The texts of traces and reports.
+//! The texts that a planner reads: the trace of a clone, a line for each event executed, and the report of a run.
+//!
+//! `specs/TraceText.antt` and `specs/ReportText.antt` have the texts as definitions; `examples` has some whole.
+//!
+//! A line is written forward, straight into the text's bytes, from a place on; each writer returns the place behind:
+//!
+//! ```text
+//!   .. 5 desk gate 7 job gate.0 busy=1 wait=0 done=0 lost=0\n | 5 out d
+//!                                                             ^ the next line's place
+//! ```
+//!
+//! ```text
+//! let names = Names::of(&model);
+//! let at = write_line(&mut bytes, at, &model, &names, &entry);
+//! ```
+//!
+//! A name is copied as 16 bytes whatever its length, and a number is written from its last digit, so pieces may reach
+//! behind the line's end, never more than 256 bytes from its place: a buffer ends with as many that hold no text.
+//! `line_len` tells how long a line will be before it is written, by counting digits, for a buffer that is to be taken
+//! once. `trace_text` writes each line into a page that stays warm and appends it.
+//!
+//! That each text is the one that the definitions name is the promise of this crate. Out of memory is the only error.
 #![tactic(auto)]
 
+mod digits;
 pub mod examples;
-mod line_buffer;
+mod lengths;
+mod line;
+mod names;
+mod pieces;
 mod report;
 #[cfg(test)]
 mod tests;
 mod trace;
-mod wording;
 
+pub use lengths::line_len;
+pub use line::write_line;
+pub use names::Names;
 pub use report::report_text;
 pub use trace::trace_text;

@@ -1,35 +1,71 @@
 //! Report texts.
-ghost use Rattle.std.specs.Prelude.{◌≡◌, ◌<◌, ◌^◌, ◌++◌, length, sum_by, IfOk};
+ghost use Rattle.std.specs.Prelude.{◌≡◌, ◌+◌, ◌*◌, ◌<◌, ◌≤◌, ◌^◌, ◌++◌, length, take, sum_by, IfOk};
+ghost use Rattle.std.specs.List.{flat_map, zip};
 ghost use Rattle.trace_report.specs.ReportText.{report_text as report_of, station_line, total_line};
 ghost use Rattle.net_model.specs.Sites.{as_site};
 
-use crate::line_buffer::LineBuffer;
-use crate::wording::put_count;
+use crate::pieces::{put, put_count, put_name};
 use net_model::{Model, Station};
 use sim_base::{Figures, NoMemory};
 use std::alloc::Global;
 
-fn write_figures(line: &mut LineBuffer, station: &Station, figures: &Figures)
-    ensures { line.new ≡ station_line (as_site station.now) figures.now }
+// No line of a report is longer.
+const LINE: usize = 128;
+
+fn write_figures(bytes: &mut [u8], at: usize, station: &Station, figures: &Figures) -> usize
+    requires room { at + 128 ≤ length bytes.old }
+    ensures text { take result bytes.new ≡ take at bytes.old ++ station_line (as_site station.now) figures.now }
+    ensures size { length bytes.new ≡ length bytes.old }
+    ensures near { result ≤ at + 128 }
 {
-    line.clear();
-    line.put(b"\n");
-    put_count(line, b" alone=", figures.alone);
-    put_count(line, b" handled=", figures.handled);
-    put_count(line, b" copies=", figures.copies);
-    line.put(station.name.as_bytes());
+    let at = put_name(bytes, at, &station.name);
+    let at = put_count(bytes, at, b" copies=", figures.copies);
+    let at = put_count(bytes, at, b" handled=", figures.handled);
+    let at = put_count(bytes, at, b" alone=", figures.alone);
+    put(bytes, at, b"\n")
 }
 
-fn write_total(line: &mut LineBuffer, figures: &[Figures])
+// The lines of all stations, one after the other.
+fn write_stations(bytes: &mut [u8], start: usize, model: &Model, figures: &[Figures]) -> usize
+    requires all { length figures.now ≡ length model.now.sites }
+    requires room { start + 128 * length model.now.sites ≤ length bytes.old }
+    ensures text { take result bytes.new ≡ take start bytes.old
+        ++ flat_map (λ beside. station_line beside.0 beside.1) (zip model.now.sites figures.now) }
+    ensures size { length bytes.new ≡ length bytes.old }
+    ensures near { result ≤ start + 128 * length model.now.sites }
+{
+    let mut at = start;
+    for s in 0..model.len() {
+        at = write_figures(bytes, at, model.station(s + 1), &figures[s as usize]);
+    }
+    at
+}
+
+fn handled_in_all(figures: &[Figures]) -> u64
+    requires small { sum_by (λ f. f.handled) figures.now < 2 ^ 64 }
+    ensures value { result ≡ sum_by (λ f. f.handled) figures.now }
+{
+    figures.iter().map(|f| f.handled).sum()
+}
+
+fn alone_in_all(figures: &[Figures]) -> u64
+    requires small { sum_by (λ f. f.alone) figures.now < 2 ^ 64 }
+    ensures value { result ≡ sum_by (λ f. f.alone) figures.now }
+{
+    figures.iter().map(|f| f.alone).sum()
+}
+
+fn write_total(bytes: &mut [u8], at: usize, figures: &[Figures]) -> usize
     requires handled { sum_by (λ f. f.handled) figures.now < 2 ^ 64 }
     requires alone { sum_by (λ f. f.alone) figures.now < 2 ^ 64 }
-    ensures { line.new ≡ total_line figures.now }
+    requires room { at + 128 ≤ length bytes.old }
+    ensures text { take result bytes.new ≡ take at bytes.old ++ total_line figures.now }
+    ensures size { length bytes.new ≡ length bytes.old }
+    ensures near { result ≤ at + 128 }
 {
-    line.clear();
-    line.put(b"\n");
-    put_count(line, b" alone=", figures.iter().map(|f| f.alone).sum());
-    put_count(line, b" handled=", figures.iter().map(|f| f.handled).sum());
-    line.put(b"total");
+    let at = put_count(bytes, at, b"total handled=", handled_in_all(figures));
+    let at = put_count(bytes, at, b" alone=", alone_in_all(figures));
+    put(bytes, at, b"\n")
 }
 
 /// The report text: for each station its figures, and then the sums.
@@ -39,13 +75,10 @@ pub fn report_text(alloc: Global, model: &Model, figures: &[Figures]) -> Result<
     requires alone { sum_by (λ f. f.alone) figures.now < 2 ^ 64 }
     ensures { IfOk result (λ text. text.items ≡ report_of model.now figures.now) }
 {
-    let mut text = Vec::from_slice(alloc, b"report\n")?;
-    let mut line = LineBuffer::new();
-    for s in 0..model.len() {
-        write_figures(&mut line, model.station(s + 1), &figures[s as usize]);
-        text.extend_from_slice(line.as_bytes())?;
-    }
-    write_total(&mut line, figures);
-    text.extend_from_slice(line.as_bytes())?;
+    let mut text = vec![in alloc; 0u8; LINE * (model.len() as usize + 2)]?;
+    let at = put(&mut text, 0, b"report\n");
+    let at = write_stations(&mut text, at, model, figures);
+    let end = write_total(&mut text, at, figures);
+    text.truncate(end);
     Ok(text)
 }

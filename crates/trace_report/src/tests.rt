@@ -1,6 +1,9 @@
 //! What no clause says: that a call finds memory, and texts as people expect them.
 ghost use Rattle.std.specs.Prelude.{◌≡◌, ◌<◌, ◌^◌, sum_by};
 
+use crate::lengths::line_len;
+use crate::line::write_line;
+use crate::names::Names;
 use crate::report::report_text;
 use crate::trace::trace_text;
 use net_model::read_model;
@@ -208,6 +211,58 @@ fn the_longest_lines_are_whole(rt: HostRuntime) {
 ";
     assert!(rt; writes(rt.alloc(), CLASSES, &entries, expected));
     assert!(rt; writes(rt.alloc(), CLASSES, &[], "clone fast\n"));
+}
+
+#[test]
+fn each_kind_of_line_holds_the_greatest_numbers(rt: HostRuntime) {
+    let most = u64::MAX;
+    let entries = [
+        entry(1, Payload::Tick, Line::Source { sent: most }),
+        entry(
+            1,
+            Payload::Job(job(1, most)),
+            Line::Sink {
+                got: most,
+                stay: most,
+            },
+        ),
+        entry(
+            0,
+            set(Param::Weight, most, most),
+            Line::Passed { passed: most },
+        ),
+        entry(
+            0,
+            set(Param::Servers, most, 0),
+            Line::Passed {
+                passed: 9_999_999_999,
+            },
+        ),
+    ];
+    let expected = "clone fast
+5 desk gate 7 tick sent=18446744073709551615
+5 desk gate 7 job gate.18446744073709551615 got=18446744073709551615 stay=18446744073709551615
+5 desk analyst 7 set weight 18446744073709551615 18446744073709551615 passed=18446744073709551615
+5 desk analyst 7 set servers 18446744073709551615 passed=9999999999
+";
+    assert!(rt; writes(rt.alloc(), ONE_DESK, &entries, expected));
+}
+
+/// Whether the line of an entry, written behind three bytes, is the expected one, and as long as is said before.
+fn writes_behind_three(alloc: Global, entry: &Entry, expected: &str) -> bool {
+    let Ok(model) = read_model(alloc, ONE_DESK.as_bytes()) else {
+        return false;
+    };
+    let names = Names::of(&model);
+    let mut bytes = [b'.'; 300];
+    let end = write_line(&mut bytes, 3, &model, &names, entry);
+    end == 3 + line_len(&model, &names, entry) && &bytes[..end] == expected.as_bytes()
+}
+
+#[test]
+fn a_line_stands_behind_what_was_there(rt: HostRuntime) {
+    let tick = entry(1, Payload::Tick, Line::Source { sent: 2 });
+    assert!(rt; writes_behind_three(rt.alloc(), &tick, "...5 desk gate 7 tick sent=2\n"));
 }
 
 fn figures(copies: u64, handled: u64, alone: u64) -> Figures

@@ -2,11 +2,14 @@
 ghost use Rattle.std.specs.Prelude.{◌≡◌, IfOk};
 ghost use Rattle.trace_report.specs.TraceText.{trace_text as trace_of};
 
-use crate::line_buffer::LineBuffer;
-use crate::wording::write_entry;
+use crate::line::write_line;
+use crate::names::Names;
 use net_model::Model;
 use sim_base::{Entry, Name, NoMemory};
 use std::alloc::Global;
+
+// A line and what its pieces may reach past its end.
+const PAGE: usize = 512;
 
 /// The trace text of a clone: its name, and a line for each message that it handled.
 ///
@@ -18,15 +21,16 @@ pub fn trace_text(
     name: &Name,
     entries: &[Entry],
 ) -> Result<Vec<u8>, NoMemory>
-    ensures { IfOk result (λ text. text.items ≡ trace_of model.now name.now entries.now) }
+    ensures value { IfOk result (λ text. text.items ≡ trace_of model.now name.now entries.now) }
 {
+    let names = Names::of(model);
     let mut text = Vec::from_slice(alloc, b"clone ")?;
     text.extend_from_slice(name.as_bytes())?;
     text.extend_from_slice(b"\n")?;
-    let mut line = LineBuffer::new();
+    let mut page = [0u8; PAGE];
     for entry in entries {
-        write_entry(&mut line, model, entry);
-        text.extend_from_slice(line.as_bytes())?;
+        let end = write_line(&mut page, 0, model, &names, entry);
+        text.extend_from_slice(&page[..end])?;
     }
     Ok(text)
 }

@@ -1,0 +1,33 @@
+use Rattle.std.proofs.Common.{sym, arith}
+use Rattle.trace_report.proofs.Tenths.{one_digit, two_digits, three_digits, four_digits, five_digits, six_digits, seven_digits, eight_digits, nine_digits, ten_digits}
+use Rattle.trace_report.proofs.digits.few_digits.Goals as goal
+
+pub returns-then-n-lt10-clause-count : goal.returns-then-n-lt10-clause-count
+returns-then-n-lt10-clause-count c = sym (one_digit c.args.n (omega arith))
+
+pub returns-then-n-lt100-clause-count : goal.returns-then-n-lt100-clause-count
+returns-then-n-lt100-clause-count c = sym (two_digits c.args.n (omega arith) (omega arith))
+
+pub returns-then-n-lt1000-clause-count : goal.returns-then-n-lt1000-clause-count
+returns-then-n-lt1000-clause-count c = sym (three_digits c.args.n (omega arith) (omega arith))
+
+pub returns-then-n-lt10000-clause-count : goal.returns-then-n-lt10000-clause-count
+returns-then-n-lt10000-clause-count c = sym (four_digits c.args.n (omega arith) (omega arith))
+
+pub returns-else-n-lt10000-clause-count : goal.returns-else-n-lt10000-clause-count
+returns-else-n-lt10000-clause-count c = sym (five_digits c.args.n (omega arith) (omega arith))
+
+pub returns-then-n-lt1000000-clause-count : goal.returns-then-n-lt1000000-clause-count
+returns-then-n-lt1000000-clause-count c = sym (six_digits c.args.n (omega arith) (omega arith))
+
+pub returns-then-n-lt10000000-clause-count : goal.returns-then-n-lt10000000-clause-count
+returns-then-n-lt10000000-clause-count c = sym (seven_digits c.args.n (omega arith) (omega arith))
+
+pub returns-then-n-lt100000000-clause-count : goal.returns-then-n-lt100000000-clause-count
+returns-then-n-lt100000000-clause-count c = sym (eight_digits c.args.n (omega arith) (omega arith))
+
+pub returns-then-n-lt1000000000-clause-count : goal.returns-then-n-lt1000000000-clause-count
+returns-then-n-lt1000000000-clause-count c = sym (nine_digits c.args.n (omega arith) (omega arith))
+
+pub returns-else-n-lt1000000000-clause-count : goal.returns-else-n-lt1000000000-clause-count
+returns-else-n-lt1000000000-clause-count c = sym (ten_digits c.args.n (omega arith) (omega arith))

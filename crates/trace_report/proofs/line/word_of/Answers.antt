@@ -1,0 +1,6 @@
+use Rattle.std.proofs.Common.{◌≤◌, ◌∙◌, sym, subst, length}
+use Rattle.trace_report.proofs.Params.{param_word-short}
+use Rattle.trace_report.proofs.line.word_of.Goals as goal
+
+pub returns-clause-short : goal.returns-clause-short
+returns-clause-short c = subst (λ l. length l ≤ 7) (sym (c.as_bytes.ensures.value ∙ c.word.ensures.value)) (param_word-short c.args.param)

@@ -1,0 +1,47 @@
+//! How many digits a number has.
+ghost use Rattle.std.specs.Prelude.{◌≡◌, ◌<◌, ◌≤◌, length, decimal};
+
+/// How many digits a number has.
+// A ladder, since the digits of a trace's numbers are few and seldom change from line to line.
+#[inline(always)]
+pub fn digits(n: u64) -> usize
+    ensures count { result ≡ length (decimal n) }
+    ensures few { result ≤ 20 }
+{
+    if n < 10_000_000_000 {
+        few_digits(n)
+    } else {
+        10 + few_digits(n / 10_000_000_000)
+    }
+}
+
+#[inline(always)]
+fn few_digits(n: u64) -> usize
+    requires small { n < 10000000000 }
+    ensures count { result ≡ length (decimal n) }
+    ensures few { result ≤ 10 }
+{
+    if n < 100_000 {
+        if n < 10 {
+            1
+        } else if n < 100 {
+            2
+        } else if n < 1_000 {
+            3
+        } else if n < 10_000 {
+            4
+        } else {
+            5
+        }
+    } else if n < 1_000_000 {
+        6
+    } else if n < 10_000_000 {
+        7
+    } else if n < 100_000_000 {
+        8
+    } else if n < 1_000_000_000 {
+        9
+    } else {
+        10
+    }
+}

@@ -1,0 +1,108 @@
+//! How long trace lines are, before they are written.
+ghost use Rattle.std.specs.Prelude.{◌≡◌, ◌+◌, ◌≤◌, length};
+ghost use Rattle.trace_report.specs.Slots.{AreNames};
+ghost use Rattle.trace_report.specs.TraceText.{station_name, class_text, job_text, values_text, change_text, payload_text, counts_text, entry_line};
+
+use crate::digits::digits;
+use crate::line::word_of;
+use crate::names::Names;
+use net_model::Model;
+use sim_base::{Change, Entry, Job, Line, Param, Payload};
+
+#[inline(always)]
+fn station_len(model: &Model, names: &Names, s: u32) -> usize
+    requires names { AreNames model.now names.now }
+    ensures value { result ≡ length (station_name model.now s) }
+    ensures short { result ≤ 16 }
+{
+    names.slot(model, s).name.len()
+}
+
+#[inline(always)]
+fn class_len(model: &Model, names: &Names, source: u32) -> usize
+    requires names { AreNames model.now names.now }
+    ensures value { result ≡ length (class_text model.now source) }
+    ensures short { result ≤ 21 }
+{
+    if model.format() == 2 {
+        1 + digits(u64::from(names.slot(model, source).class))
+    } else {
+        0
+    }
+}
+
+#[inline(always)]
+fn job_len(model: &Model, names: &Names, job: &Job) -> usize
+    requires names { AreNames model.now names.now }
+    ensures value { result ≡ length (job_text model.now job.now) }
+    ensures short { result ≤ 58 }
+{
+    station_len(model, names, job.source)
+        + 1
+        + digits(job.count)
+        + class_len(model, names, job.source)
+}
+
+fn values_len(change: &Change) -> usize
+    ensures value { result ≡ length (values_text change.now) }
+    ensures short { result ≤ 41 }
+{
+    match change.param {
+        Param::Servers | Param::Room => digits(change.a),
+        _ => digits(change.a) + 1 + digits(change.b),
+    }
+}
+
+fn change_len(change: &Change) -> usize
+    ensures value { result ≡ length (change_text change.now) }
+    ensures short { result ≤ 49 }
+{
+    word_of(change.param).len() + 1 + values_len(change)
+}
+
+#[inline(always)]
+fn payload_len(model: &Model, names: &Names, payload: &Payload) -> usize
+    requires names { AreNames model.now names.now }
+    ensures value { result ≡ length (payload_text model.now payload.now) }
+    ensures short { result ≤ 63 }
+{
+    match payload {
+        Payload::Tick => 4,
+        Payload::Job(job) => 4 + job_len(model, names, job),
+        Payload::Done(job) => 5 + job_len(model, names, job),
+        Payload::Set(change) => 4 + change_len(change),
+    }
+}
+
+#[inline(always)]
+fn counts_len(counts: &Line) -> usize
+    ensures value { result ≡ length (counts_text counts.now) }
+    ensures short { result ≤ 103 }
+{
+    match counts {
+        Line::Source { sent } => 5 + digits(*sent),
+        Line::Server {
+            busy,
+            wait,
+            done,
+            lost,
+        } => 23 + digits(*busy) + digits(*wait) + digits(*done) + digits(*lost),
+        Line::Passed { passed } => 7 + digits(*passed),
+        Line::Sink { got, stay } => 10 + digits(*got) + digits(*stay),
+    }
+}
+
+/// How long the line of an entry is, in bytes; at most 256.
+pub fn line_len(model: &Model, names: &Names, entry: &Entry) -> usize
+    requires names { AreNames model.now names.now }
+    ensures value { result ≡ length (entry_line model.now entry.now) }
+    ensures short { result ≤ 256 }
+{
+    let key = entry.msg.key;
+    6 + digits(key.time)
+        + station_len(model, names, entry.msg.to)
+        + station_len(model, names, key.sender)
+        + digits(key.number)
+        + payload_len(model, names, &entry.msg.payload)
+        + counts_len(&entry.line)
+}

@@ -1,0 +1,195 @@
+//! How a trace line is worded, written forward: each function writes its part at a place and returns the place behind.
+//!
+//! `room` and `near` say how long a part can be: a name has at most 16 bytes, a number 20 digits.
+ghost use Rattle.std.specs.Prelude.{◌≡◌, ◌+◌, ◌≤◌, ◌++◌, length, take, codes, decimal};
+ghost use Rattle.sim_base.specs.declared.entry.Line.TheVariants.{Server};
+ghost use Rattle.trace_report.specs.Slots.{AreNames};
+ghost use Rattle.sim_base.specs.Params.{param_word};
+ghost use Rattle.trace_report.specs.TraceText.{station_name, class_text, job_text, values_text, change_text, payload_text, counts_text, entry_line};
+
+use crate::names::Names;
+use crate::pieces::{put, put_count, put_name, put_number};
+use net_model::Model;
+use sim_base::{Change, Entry, Job, Key, Line, Param, Payload};
+
+// The name of a station, or the analyst's.
+#[inline(always)]
+fn put_station(bytes: &mut [u8], at: usize, model: &Model, names: &Names, s: u32) -> usize
+    requires names { AreNames model.now names.now }
+    requires room { at + 16 ≤ length bytes.old }
+    ensures text { take result bytes.new ≡ take at bytes.old ++ station_name model.now s }
+    ensures size { length bytes.new ≡ length bytes.old }
+    ensures near { result ≤ at + 16 }
+{
+    put_name(bytes, at, &names.slot(model, s).name)
+}
+
+#[inline(always)]
+fn put_class(bytes: &mut [u8], at: usize, model: &Model, names: &Names, source: u32) -> usize
+    requires names { AreNames model.now names.now }
+    requires room { at + 21 ≤ length bytes.old }
+    ensures text { take result bytes.new ≡ take at bytes.old ++ class_text model.now source }
+    ensures size { length bytes.new ≡ length bytes.old }
+    ensures near { result ≤ at + 21 }
+{
+    if model.format() == 2 {
+        put_count(bytes, at, b":", u64::from(names.slot(model, source).class))
+    } else {
+        at
+    }
+}
+
+// A job.
+#[inline(always)]
+fn put_job(bytes: &mut [u8], at: usize, model: &Model, names: &Names, job: &Job) -> usize
+    requires names { AreNames model.now names.now }
+    requires room { at + 58 ≤ length bytes.old }
+    ensures text { take result bytes.new ≡ take at bytes.old ++ job_text model.now job.now }
+    ensures size { length bytes.new ≡ length bytes.old }
+    ensures near { result ≤ at + 58 }
+{
+    let at = put_station(bytes, at, model, names, job.source);
+    let at = put_count(bytes, at, b".", job.count);
+    put_class(bytes, at, model, names, job.source)
+}
+
+/// A parameter's word.
+pub fn word_of(param: Param) -> &'static [u8]
+    ensures value { result.now ≡ param_word param }
+    ensures short { length result.now ≤ 7 }
+{
+    param.word().as_bytes()
+}
+
+// The values of a change.
+fn put_values(bytes: &mut [u8], at: usize, change: &Change) -> usize
+    requires room { at + 41 ≤ length bytes.old }
+    ensures text { take result bytes.new ≡ take at bytes.old ++ values_text change.now }
+    ensures size { length bytes.new ≡ length bytes.old }
+    ensures near { result ≤ at + 41 }
+{
+    let at = put_number(bytes, at, change.a);
+    match change.param {
+        Param::Servers | Param::Room => at,
+        _ => put_count(bytes, at, b" ", change.b),
+    }
+}
+
+// A change, as a script gives it.
+fn put_change(bytes: &mut [u8], at: usize, change: &Change) -> usize
+    requires room { at + 49 ≤ length bytes.old }
+    ensures text { take result bytes.new ≡ take at bytes.old ++ change_text change.now }
+    ensures size { length bytes.new ≡ length bytes.old }
+    ensures near { result ≤ at + 49 }
+{
+    let at = put(bytes, at, word_of(change.param));
+    let at = put(bytes, at, b" ");
+    put_values(bytes, at, change)
+}
+
+// What a message tells its receiver.
+#[inline(always)]
+fn put_payload(
+    bytes: &mut [u8],
+    at: usize,
+    model: &Model,
+    names: &Names,
+    payload: &Payload,
+) -> usize
+    requires names { AreNames model.now names.now }
+    requires room { at + 63 ≤ length bytes.old }
+    ensures text { take result bytes.new ≡ take at bytes.old ++ payload_text model.now payload.now }
+    ensures size { length bytes.new ≡ length bytes.old }
+    ensures near { result ≤ at + 63 }
+{
+    match payload {
+        Payload::Tick => put(bytes, at, b"tick"),
+        Payload::Job(job) => {
+            let at = put(bytes, at, b"job ");
+            put_job(bytes, at, model, names, job)
+        }
+        Payload::Done(job) => {
+            let at = put(bytes, at, b"done ");
+            put_job(bytes, at, model, names, job)
+        }
+        Payload::Set(change) => {
+            let at = put(bytes, at, b"set ");
+            put_change(bytes, at, change)
+        }
+    }
+}
+
+// The counts of a server.
+#[inline(always)]
+fn put_server(bytes: &mut [u8], at: usize, busy: u64, wait: u64, done: u64, lost: u64) -> usize
+    requires room { at + 103 ≤ length bytes.old }
+    ensures text { take result bytes.new ≡ take at bytes.old ++ counts_text (Server busy wait done lost) }
+    ensures size { length bytes.new ≡ length bytes.old }
+    ensures near { result ≤ at + 103 }
+{
+    let at = put_count(bytes, at, b"busy=", busy);
+    let at = put_count(bytes, at, b" wait=", wait);
+    let at = put_count(bytes, at, b" done=", done);
+    put_count(bytes, at, b" lost=", lost)
+}
+
+// The counts of a station after a message.
+#[inline(always)]
+fn put_counts(bytes: &mut [u8], at: usize, counts: &Line) -> usize
+    requires room { at + 103 ≤ length bytes.old }
+    ensures text { take result bytes.new ≡ take at bytes.old ++ counts_text counts.now }
+    ensures size { length bytes.new ≡ length bytes.old }
+    ensures near { result ≤ at + 103 }
+{
+    match counts {
+        Line::Source { sent } => put_count(bytes, at, b"sent=", *sent),
+        Line::Server {
+            busy,
+            wait,
+            done,
+            lost,
+        } => put_server(bytes, at, *busy, *wait, *done, *lost),
+        Line::Passed { passed } => put_count(bytes, at, b"passed=", *passed),
+        Line::Sink { got, stay } => {
+            let at = put_count(bytes, at, b"got=", *got);
+            put_count(bytes, at, b" stay=", *stay)
+        }
+    }
+}
+
+// When a message comes, to whom, from whom, and its number.
+#[inline(always)]
+fn put_key(bytes: &mut [u8], at: usize, model: &Model, names: &Names, key: &Key, to: u32) -> usize
+    requires names { AreNames model.now names.now }
+    requires room { at + 75 ≤ length bytes.old }
+    ensures text { take result bytes.new ≡ take at bytes.old
+        ++ (decimal key.now.time ++ codes " " ++ station_name model.now to ++ codes " " ++ station_name model.now key.now.sender ++ codes " " ++ decimal key.now.number) }
+    ensures size { length bytes.new ≡ length bytes.old }
+    ensures near { result ≤ at + 75 }
+{
+    let at = put_number(bytes, at, key.time);
+    let at = put(bytes, at, b" ");
+    let at = put_station(bytes, at, model, names, to);
+    let at = put(bytes, at, b" ");
+    let at = put_station(bytes, at, model, names, key.sender);
+    put_count(bytes, at, b" ", key.number)
+}
+
+/// Writes the line of an entry at a place, and returns the place behind it.
+///
+/// A number that is no station's, 0 or past the last, is written as `analyst`. 256 bytes must be free from the place
+/// on: pieces reach past the line's end.
+pub fn write_line(bytes: &mut [u8], at: usize, model: &Model, names: &Names, entry: &Entry) -> usize
+    requires names { AreNames model.now names.now }
+    requires room { at + 256 ≤ length bytes.old }
+    ensures text { take result bytes.new ≡ take at bytes.old ++ entry_line model.now entry.now }
+    ensures size { length bytes.new ≡ length bytes.old }
+    ensures place { result ≡ at + length (entry_line model.now entry.now) }
+{
+    let at = put_key(bytes, at, model, names, &entry.msg.key, entry.msg.to);
+    let at = put(bytes, at, b" ");
+    let at = put_payload(bytes, at, model, names, &entry.msg.payload);
+    let at = put(bytes, at, b" ");
+    let at = put_counts(bytes, at, &entry.line);
+    put(bytes, at, b"\n")
+}

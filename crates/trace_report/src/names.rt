@@ -1,0 +1,97 @@
+//! The names that lines show, looked up by a station's number.
+ghost use Rattle.std.specs.Prelude.{◌≡◌, codes, option_map};
+ghost use Rattle.net_model.specs.Net.{site_at};
+ghost use Rattle.net_model.specs.Sites.{as_site};
+ghost use Rattle.trace_report.specs.TraceText.{station_name};
+
+use net_model::{Model, Station};
+use sim_base::Name;
+
+/// What lines show of a station: its name, and the class of the jobs that it makes.
+#[derive(Clone, Copy)]
+pub struct Slot {
+    pub name: Name,
+    pub class: u32,
+}
+
+/// The names of a model's stations, side by side: a look-up reads 32 bytes where a station has some 450.
+#[derive(Drop)]
+pub struct Names {
+    // By the number of a station; where there is none, the analyst's.
+    slots: [Slot; 65],
+}
+
+impl std::marker::Model for Names {
+    ghost use Rattle.std.specs.Prelude.{List};
+    ghost use Rattle.trace_report.specs.declared.names.Slot.{Slot};
+
+    ghost Value = { List Slot };
+
+    ghost view = { λ n. n.slots };
+}
+
+// The station of a number, if there is one.
+fn station_at(model: &Model, s: u32) -> Option<&Station>
+    ensures { option_map (λ station. as_site station.now) result ≡ site_at model.now s }
+{
+    if s == 0 || s > model.len() {
+        return None;
+    }
+    Some(model.station(s))
+}
+
+// The name of who is no station.
+fn analyst() -> Name
+    ensures { result ≡ codes "analyst" }
+{
+    match Name::read(b"analyst") {
+        Some(name) => name,
+        None => unreachable!(),
+    }
+}
+
+fn name_of(model: &Model, s: u32) -> Name
+    ensures { result ≡ station_name model.now s }
+{
+    match station_at(model, s) {
+        None => analyst(),
+        Some(station) => station.name,
+    }
+}
+
+impl Names {
+    ghost use Rattle.std.specs.Prelude.{◌≡◌};
+    ghost use Rattle.trace_report.specs.Slots.{slot_of, AreNames};
+
+    /// The names of a model's stations.
+    pub fn of(model: &Model) -> Names
+        ensures names { AreNames model.now result }
+    {
+        let _stations = model.len();
+        let analyst = Slot {
+            name: analyst(),
+            class: 1,
+        };
+        let mut slots = [analyst; 65];
+        for s in 0..65u32 {
+            slots[s as usize] = Slot {
+                name: name_of(model, s),
+                class: model.class_of(s),
+            };
+        }
+        Names { slots }
+    }
+
+    /// What lines show of a number; of one that is no station's, the analyst's name.
+    // The model is read by the contract alone.
+    #[inline(always)]
+    pub(crate) fn slot(&self, _model: &Model, s: u32) -> &Slot
+        requires names { AreNames _model.now self.now }
+        ensures value { result.now ≡ slot_of _model.now s }
+    {
+        if s > 64 {
+            return &self.slots[0];
+        }
+        &self.slots[s as usize]
+    }
+}
