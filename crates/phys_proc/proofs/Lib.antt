@@ -1,0 +1,14 @@
+pub mod Gone
+pub mod Parted
+pub mod Sends
+pub mod Counting
+pub mod Handling
+pub mod Onward
+pub mod AllCopies
+pub mod Given
+pub mod First
+pub mod Forked
+pub mod Late
+pub mod Shares
+pub mod Taken
+pub mod Seeing

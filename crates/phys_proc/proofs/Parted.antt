@@ -1,0 +1,213 @@
+-- A copy without messages that none of its clones takes, and a copy for some of the clones.
+use Rattle.std.proofs.Common.{◌≡◌, ℕ, ◌<◌, ◌≤◌, ◌&&◌, Bool, true, false, cond, List, [], ◌∷◌, ◌++◌, Option, Some, None, refl, sym, ap, ◌∙◌, subst, arith, nat_lt, not, ◌≢◌, append_assoc, slice_get}
+use Rattle.std.specs.Prelude.{option_map}
+use Rattle.std.specs.List.{AllByRecursion, cons_option}
+use Rattle.std.specs.declared.cmp.Ordering.TheVariants.{Less}
+use Rattle.sim_base.specs.Order.{msg_cmp}
+use Rattle.sim_base.specs.Pending.{cut_by}
+use Rattle.sim_base.specs.declared.message.Msg.{Msg}
+use Rattle.clone_sets.specs.Sets.{has, met, empty}
+use Rattle.clone_sets.specs.declared.set.CloneSet.{CloneSet}
+use Rattle.clone_sets.proofs.SetLaws.{met_none, met_some, met_is}
+use Rattle.net_model.specs.Net.{Net}
+use Rattle.stations.specs.Runs.{simulation}
+use Rattle.sim_base.specs.Marked.{SortedMarked}
+use Rattle.run_laws.specs.Copies.{Narrowed}
+use Rattle.sim_base.proofs.OrderEqual.{msg-timed}
+use Rattle.run_laws.proofs.Queue.{all_weaker}
+use Rattle.run_laws.proofs.Parts.{part_no, all_part_of}
+use Rattle.phys_proc.specs.Gone.{ends_in, is_gone}
+use Rattle.phys_proc.proofs.Gone.{gone_is, not_gone}
+use Rattle.std.proofs.lemmas.Bool.{false≢true}
+use Rattle.phys_proc.specs.Own.{StationCopy, Marked, AreMarks, takes_at, taken_at, IsCopy, IsSame, NextDue, NothingDue, half}
+
+-- what a pair leaves in a cut, and what of it a clone of the cut takes
+module _ (by : CloneSet) where
+  abbrev cut : Marked → Marked
+  cut xs = cut_by met by xs
+
+  abbrev pub kept_of : Option CloneSet → Msg → Marked → Marked
+  kept_of o m rest = cons_option (option_map (λ k. (m, k)) o) rest
+
+  module _ (ends : ℕ → ℕ) (c : ℕ) (in_by : has by c ≡ true) where
+    taken_one : (o : Option CloneSet) (x : Msg × CloneSet) (xs rest : Marked) → met x.1 by ≡ o → taken_at ends c rest ≡ taken_at ends c xs → taken_at ends c (kept_of o x.0 rest) ≡ taken_at ends c (x ∷ xs)
+    taken_one None x xs rest e h =
+        let no : has x.1 c ≡ false = and_true (has x.1 c) (ap (λ b. has x.1 c && b) (sym in_by) ∙ met_none x.1 by e c) in
+        h ∙ sym (part_no (takes_at ends) c x xs (ap (λ b. b && nat_lt x.0.key.time (ends c)) no))
+      where
+        and_true : (b : Bool) → (b && true) ≡ false → b ≡ false
+        and_true true f = f
+        and_true false f = refl
+    taken_one (Some k) x xs rest e h =
+        let same : has k c ≡ has x.1 c = met_some x.1 by k e c ∙ (ap (λ b. has x.1 c && b) in_by ∙ with_true (has x.1 c)) in
+        ap (λ b. cond (b && nat_lt x.0.key.time (ends c)) (x.0 ∷ taken_at ends c rest) (taken_at ends c rest)) same
+        ∙ ap (λ l. cond (takes_at ends x.0 x.1 c) (x.0 ∷ l) l) h
+      where
+        with_true : (b : Bool) → (b && true) ≡ b
+        with_true true = refl
+        with_true false = refl
+
+    -- a clone of the cut takes what it took
+    pub taken_cut : (xs : Marked) → taken_at ends c (cut xs) ≡ taken_at ends c xs
+    taken_cut [] = refl
+    taken_cut (x ∷ xs) = taken_one (met x.1 by) x xs (cut xs) refl (taken_cut xs)
+
+  all_kept : (P : Msg → Type 0) (o : Option CloneSet) (m : Msg) (rest : Marked) → P m → AllByRecursion (λ x. P x.0) rest → AllByRecursion (λ x. P x.0) (kept_of o m rest)
+  all_kept P None m rest p f = f
+  all_kept P (Some k) m rest p f = (p, f)
+
+  -- what holds of all messages holds of those of the cut
+  pub all_cut : (P : Msg → Type 0) (xs : Marked) → AllByRecursion (λ x. P x.0) xs → AllByRecursion (λ x. P x.0) (cut xs)
+  all_cut P [] f = tt
+  all_cut P (x ∷ xs) f = all_kept P (met x.1 by) x.0 (cut xs) f.0 (all_cut P xs f.1)
+
+  marks_kept : (o : Option CloneSet) (x : Msg × CloneSet) (rest : Marked) → met x.1 by ≡ o → AllByRecursion (λ y. AreMarks by y.1) rest → AllByRecursion (λ y. AreMarks by y.1) (kept_of o x.0 rest)
+  marks_kept None x rest e f = f
+  marks_kept (Some k) x rest e f = (record { some = (met_is x.1 by k e).1; within = λ c i. and_second (has x.1 c) (has by c) (sym (met_some x.1 by k e c) ∙ i) }, f)
+    where
+      and_second : (a b : Bool) → (a && b) ≡ true → b ≡ true
+      and_second true b h = h
+      and_second false b h = absurd (false≢true h)
+
+  -- marks in a cut are some of the clones that it is for
+  pub marks_cut : (xs : Marked) → AllByRecursion (λ y. AreMarks by y.1) (cut xs)
+  marks_cut [] = tt
+  marks_cut (x ∷ xs) = marks_kept (met x.1 by) x (cut xs) refl (marks_cut xs)
+
+  sorted_kept : (o : Option CloneSet) (m : Msg) (rest : Marked) → AllByRecursion (λ x. msg_cmp m x.0 ≡ Less) rest → SortedMarked msg_cmp rest → SortedMarked msg_cmp (kept_of o m rest)
+  sorted_kept None m rest f s = s
+  sorted_kept (Some k) m rest f s = (f, s)
+
+  -- and their order stays
+  pub sorted_cut : (xs : Marked) → SortedMarked msg_cmp xs → SortedMarked msg_cmp (cut xs)
+  sorted_cut [] s = tt
+  sorted_cut (x ∷ xs) s = sorted_kept (met x.1 by) x.0 (cut xs) (all_cut (λ z. msg_cmp x.0 z ≡ Less) xs s.0) (sorted_cut xs s.1)
+
+-- a list in order stays so without its first ones
+pub sorted_rest : (xs ys : Marked) → SortedMarked msg_cmp (xs ++ ys) → SortedMarked msg_cmp ys
+sorted_rest [] ys s = s
+sorted_rest (x ∷ xs) ys s = sorted_rest xs ys s.1
+
+all_rest : (P : Msg × CloneSet → Type 0) (xs ys : Marked) → AllByRecursion P (xs ++ ys) → AllByRecursion P ys
+all_rest P [] ys f = f
+all_rest P (x ∷ xs) ys f = all_rest P xs ys f.1
+
+-- the first of a list
+pub first_of : (q : Marked) (x : Msg × CloneSet) → Some x ≡ slice_get q 0 → (rest : Marked) × (q ≡ x ∷ rest)
+first_of [] x e = absurd (cc)
+first_of (y ∷ ys) x e = let h : y ≡ x = cc in (ys, ap (λ z. z ∷ ys) h)
+
+abbrev tail_of : Marked → Marked
+tail_of [] = []
+tail_of (x ∷ xs) = xs
+
+pub first_is : (q : Marked) (x y : Msg × CloneSet) (rest : Marked) → Some x ≡ slice_get q 0 → q ≡ y ∷ rest → q ≡ x ∷ rest
+first_is [] x y rest e f = absurd (cc)
+first_is (z ∷ zs) x y rest e f = let h : z ≡ x = cc in let t : zs ≡ rest = ap tail_of f in λ i. h i ∷ t i
+
+pub none_of : (q : Marked) → None ≡ slice_get q 0 → q ≡ []
+none_of [] e = refl
+none_of (y ∷ ys) e = absurd (cc)
+
+module _ (ends : ℕ → ℕ) where
+  -- with the least message at the bound or later nothing is due
+  late_one : (c bound : ℕ) (m : Msg) (k : CloneSet) (q : Marked) → bound ≤ m.key.time → AllByRecursion (λ x. msg_cmp m x.0 ≡ Less) q → AllByRecursion (λ m. bound ≤ m.key.time) (taken_at ends c ((m, k) ∷ q))
+  late_one c bound m k q late f = all_part_of (takes_at ends) c (λ m. bound ≤ m.key.time) ((m, k) ∷ q)
+      (late, all_weaker (λ y. msg_cmp m y.0 ≡ Less) (λ y. bound ≤ y.0.key.time) q (λ y l. let t = msg-timed m y.0 l in omega arith) f)
+
+  pub nothing_late : (bound : ℕ) (a b : StationCopy) (m : Msg) (k : CloneSet) → IsSame ends a b → SortedMarked msg_cmp a.pending → Some (m, k) ≡ slice_get b.pending 0 → bound ≤ m.key.time → NothingDue ends bound a b
+  nothing_late bound a b m k h sorted first late =
+      let f = first_of b.pending (m, k) first in
+      let sb : SortedMarked msg_cmp ((m, k) ∷ f.0) = subst (SortedMarked msg_cmp) f.1 (sorted_rest h.passed b.pending (subst (SortedMarked msg_cmp) h.pending sorted)) in
+      record { same = h; settled = λ c i. subst (λ q. AllByRecursion (λ m. bound ≤ m.key.time) (taken_at ends c q)) (sym f.1) (late_one c bound m k f.0 late sb.0) }
+
+  pub nothing_left : (bound : ℕ) (a b : StationCopy) → IsSame ends a b → None ≡ slice_get b.pending 0 → NothingDue ends bound a b
+  nothing_left bound a b h none = record { same = h; settled = λ c i. subst (λ q. AllByRecursion (λ m. bound ≤ m.key.time) (taken_at ends c q)) (sym (none_of b.pending none)) tt }
+
+  -- nothing was passed over yet
+  pub same_none : (a : StationCopy) → IsSame ends a a
+  same_none a = record { set = refl; state = refl; log = refl; parts = λ c h. refl; passed = []; pending = refl }
+
+  -- one message more
+  pub same_more : (a b d : StationCopy) (m : Msg) (k : CloneSet) → IsSame ends a b → b.pending ≡ (m, k) ∷ d.pending → d.set ≡ b.set → d.state ≡ b.state → d.log ≡ b.log → ((c : ℕ) → has a.set c ≡ true → takes_at ends m k c ≡ false) → IsSame ends a d
+  same_more a b d m k h p set state log none = record {
+    set = set ∙ h.set;
+    state = state ∙ h.state;
+    log = log ∙ h.log;
+    parts = λ c i. sym (ap (taken_at ends c) p ∙ part_no (takes_at ends) c (m, k) d.pending (none c i)) ∙ h.parts c i;
+    passed = h.passed ++ (m, k) ∷ [];
+    pending = h.pending ∙ (ap (λ l. h.passed ++ l) p ∙ sym (append_assoc h.passed ((m, k) ∷ []) d.pending));
+  }
+
+  module _ (net : Net) (s : ℕ) where
+    -- it is a copy like the first
+    pub copy_same : (a b : StationCopy) → IsCopy net s a → IsSame ends a b → IsCopy net s b
+    copy_same a b f h = record {
+      valid = f.valid;
+      inhabited = (f.inhabited.0, subst (λ k. has k f.inhabited.0 ≡ true) (sym h.set) f.inhabited.1);
+      fits = rw h.state f.fits;
+      suits = rw h.state f.suits;
+      station = rw h.state f.station;
+      handled = rw (h.state, h.log) f.handled;
+      short = rw h.log f.short;
+      sorted = sorted_rest h.passed b.pending (subst (SortedMarked msg_cmp) h.pending f.sorted);
+      targets = all_rest (λ x. x.0.to ≡ s) h.passed b.pending (subst (AllByRecursion (λ x. x.0.to ≡ s)) h.pending f.targets);
+      replays = rw (h.state, h.log) f.replays;
+      marks = all_rest (λ x. AreMarks b.set x.1) h.passed b.pending (subst (AllByRecursion (λ x. AreMarks b.set x.1)) h.pending (subst (λ k. AllByRecursion (λ x. AreMarks k x.1) a.pending) (sym h.set) f.marks));
+    }
+
+    -- and its clones see what they saw
+    pub narrowed_same : (a b : StationCopy) → IsSame ends a b → Narrowed (simulation net) has ends a b
+    narrowed_same a b h = record {
+      state = h.state;
+      log = h.log;
+      within = λ c i. subst (λ k. has k c ≡ true) h.set i;
+      parts = λ c i. h.parts c (subst (λ k. has k c ≡ true) h.set i);
+    }
+
+    -- a copy for some of the clones is a copy
+    pub copy_half : (a : StationCopy) (some : CloneSet) → IsCopy net s a → (c : ℕ) × (has some c ≡ true) → IsCopy net s (half a some)
+    copy_half a some f any = record {
+      valid = f.valid;
+      inhabited = any;
+      fits = f.fits;
+      suits = f.suits;
+      station = f.station;
+      handled = f.handled;
+      short = f.short;
+      sorted = sorted_cut some a.pending f.sorted;
+      targets = all_cut some (λ m. m.to ≡ s) a.pending f.targets;
+      replays = f.replays;
+      marks = marks_cut some a.pending;
+    }
+
+    -- whose clones see what they saw
+    pub narrowed_half : (a : StationCopy) (some : CloneSet) → ((c : ℕ) → has some c ≡ true → has a.set c ≡ true) → Narrowed (simulation net) has ends a (half a some)
+    narrowed_half a some within = record {
+      state = refl;
+      log = refl;
+      within = within;
+      parts = λ c i. taken_cut some ends c i a.pending;
+    }
+
+-- who takes the least message
+module _ (horizon : ℕ) (es : List (ℕ × ℕ)) (bound : ℕ) (early : bound ≤ horizon) (a b : StationCopy) (m : Msg) (k takers shared gone : CloneSet) (same : IsSame (ends_in horizon es) a b)
+    (meets : (c : ℕ) → has shared c ≡ (has b.set c && has k c)) (left : (c : ℕ) → has takers c ≡ (has shared c && not (has gone c))) (went : (c : ℕ) → has gone c ≡ is_gone m.key.time es c) (soon : m.key.time < bound) where
+  and_assoc : (x y z : Bool) → ((x && y) && z) ≡ (x && (y && z))
+  and_assoc true y z = refl
+  and_assoc false y z = refl
+
+  pub takers_are : (c : ℕ) → has takers c ≡ (has a.set c && takes_at (ends_in horizon es) m k c)
+  takers_are c =
+      left c ∙ ap (λ x. x && not (has gone c)) (meets c ∙ ap (λ s. has s c && has k c) same.set)
+      ∙ and_assoc (has a.set c) (has k c) (not (has gone c))
+      ∙ ap (λ x. has a.set c && x) (not_gone (has k c) (has gone c) (nat_lt m.key.time (ends_in horizon es c)) (went c ∙ gone_is horizon m.key.time es c (omega arith)))
+
+  pub next_is_due : takers ≢ empty → Some (m, k) ≡ slice_get b.pending 0 → NextDue (ends_in horizon es) bound a b m takers
+  next_is_due some first =
+      let f = first_of b.pending (m, k) first in
+      record { same = same; marks = k; rest = f.0; pending = f.1; early = soon; take = takers_are; some = some }
+
+  -- where there are none, it is passed over
+  pub none_takes : ((c : ℕ) → has takers c ≡ false) → (c : ℕ) → has a.set c ≡ true → takes_at (ends_in horizon es) m k c ≡ false
+  none_takes none c i = ap (λ x. x && takes_at (ends_in horizon es) m k c) (sym i) ∙ sym (takers_are c) ∙ none c

@@ -1,0 +1,4 @@
+pub mod Gone
+pub mod Own
+pub mod Procs
+pub mod Racks

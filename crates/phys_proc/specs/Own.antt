@@ -1,0 +1,165 @@
+-- Copies at the types of the program.
+use Rattle.std.specs.Prelude.{◌≡◌, ◌≢◌, ℕ, ◌+◌, ◌*◌, ◌-◌, ◌<◌, ◌≤◌, ◌==◌, if◌then◌else◌, ◌&&◌, nat_lt, List, [], ◌∷◌, ◌++◌, Bool, true, length, map, Option, Some, None}
+use Rattle.std.specs.List.{AllByRecursion}
+use Rattle.sim_base.specs.Order.{msg_cmp}
+use Rattle.sim_base.specs.Pending.{cut_by, insert_marked, spread_marks}
+use Rattle.sim_base.specs.declared.message.Msg.{Msg}
+use Rattle.sim_base.specs.declared.entry.Line.{Line}
+use Rattle.clone_sets.specs.Sets.{has, one, with, union, meet, met, empty, size}
+use Rattle.clone_sets.specs.declared.set.CloneSet.{CloneSet}
+use Rattle.net_model.specs.Net.{Net}
+use Rattle.net_model.specs.Rules.{IsNet}
+use Rattle.stations.specs.Fits.{FitsState, SuitsNet}
+use Rattle.stations.specs.Handling.{StateView}
+use Rattle.stations.specs.Runs.{simulation, replay}
+use Rattle.run_laws.specs.World.{to_it}
+use Rattle.run_laws.specs.Window.{to_others}
+use Rattle.sim_base.specs.Marked.{SortedMarked}
+use Rattle.run_laws.specs.Copies.{Copy, insert_marked_all, handled_by, laid_aside, part, Ends, SoFar, GainTogether}
+
+-- a copy of a station of a network
+abbrev pub StationCopy : Type 0
+StationCopy = Copy StateView Msg Line CloneSet
+
+abbrev pub Marked : Type 0
+Marked = List (Msg × CloneSet)
+
+-- a clone that ends then takes a message with these marks
+abbrev pub takes_at : (ℕ → ℕ) → Msg → CloneSet → ℕ → Bool
+takes_at ends m k c = has k c && nat_lt m.key.time (ends c)
+
+abbrev pub taken_at : (ℕ → ℕ) → ℕ → Marked → List Msg
+taken_at ends c xs = part (takes_at ends) c xs
+
+-- marks of a message in a copy: at least one clone, and only clones that the copy stands for
+pub record AreMarks (set k : CloneSet) : Type 0 where
+  pub some : k ≢ empty
+  pub within : (c : ℕ) → has k c ≡ true → has set c ≡ true
+
+-- what a copy of station s keeps: its state is the replay of its log
+pub record IsCopy (net : Net) (s : ℕ) (a : StationCopy) : Type 0 where
+  pub valid : IsNet net
+  pub inhabited : (c : ℕ) × (has a.set c ≡ true)
+  pub fits : FitsState a.state
+  pub suits : SuitsNet net a.state
+  pub station : a.state.sender.station ≡ s
+  pub handled : a.state.handled ≡ length a.log
+  pub short : length a.log ≤ net.limit
+  pub sorted : SortedMarked msg_cmp a.pending
+  pub targets : AllByRecursion (λ x. x.0.to ≡ s) a.pending
+  pub replays : a.state ≡ replay net s a.log
+  pub marks : AllByRecursion (λ x. AreMarks a.set x.1) a.pending
+
+-- nothing of the copy is pending before this time
+abbrev pub IsLate : ℕ → StationCopy → Type 0
+IsLate t a = AllByRecursion (λ x. t ≤ x.0.key.time) a.pending
+
+abbrev pub AreLate : ℕ → List StationCopy → Type 0
+AreLate t copies = AllByRecursion (IsLate t) copies
+
+-- the clones of all copies together
+abbrev pub all_clones : List StationCopy → CloneSet
+all_clones [] = empty
+all_clones (a ∷ rest) = union a.set (all_clones rest)
+
+-- how many clones the copies have, one copy after the other
+abbrev pub all_sizes : List StationCopy → ℕ
+all_sizes [] = 0
+all_sizes (a ∷ rest) = size a.set + all_sizes rest
+
+-- how many messages their clones would have handled each by itself
+abbrev pub handled_alone : List StationCopy → ℕ
+handled_alone [] = 0
+handled_alone (a ∷ rest) = size a.set * length a.log + handled_alone rest
+
+-- how many messages the clones of a copy may handle before their logs meet the limit
+abbrev pub may_handle : ℕ → StationCopy → ℕ
+may_handle limit a = size a.set * (limit - length a.log)
+
+-- the copy without its pending messages
+abbrev pub but_pending : StationCopy → StationCopy
+but_pending a = record a { pending = [] }
+
+-- the copy b is a without messages that none of its clones takes
+pub record IsSame (ends : ℕ → ℕ) (a b : StationCopy) : Type 0 where
+  pub set : b.set ≡ a.set
+  pub state : b.state ≡ a.state
+  pub log : b.log ≡ a.log
+  pub parts : (c : ℕ) → has a.set c ≡ true → taken_at ends c b.pending ≡ taken_at ends c a.pending
+  pub passed : Marked
+  pub pending : a.pending ≡ passed ++ b.pending
+
+-- and its least message comes before the bound, and these take it
+pub record NextDue (ends : ℕ → ℕ) (bound : ℕ) (a b : StationCopy) (m : Msg) (takers : CloneSet) : Type 0 where
+  pub same : IsSame ends a b
+  pub marks : CloneSet
+  pub rest : Marked
+  pub pending : b.pending ≡ (m, marks) ∷ rest
+  pub early : m.key.time < bound
+  pub take : (c : ℕ) → has takers c ≡ (has a.set c && takes_at ends m marks c)
+  pub some : takers ≢ empty
+
+-- or nothing that its clones take comes before the bound
+pub record NothingDue (ends : ℕ → ℕ) (bound : ℕ) (a b : StationCopy) : Type 0 where
+  pub same : IsSame ends a b
+  pub settled : (c : ℕ) → has a.set c ≡ true → AllByRecursion (λ m. bound ≤ m.key.time) (taken_at ends c b.pending)
+
+-- what is sent to itself becomes pending, the rest is laid aside
+abbrev pub kept_on : ℕ → CloneSet → List Msg → Marked → Marked
+kept_on s set sends q = insert_marked_all union msg_cmp (to_it (λ (m : Msg). m.to) s sends) set q
+
+abbrev pub sent_on : ℕ → CloneSet → List Msg → Marked → Marked
+sent_on s set sends sent = sent ++ map (λ x. (x, set)) (to_others (λ (m : Msg). m.to) s sends)
+
+-- the copy for these clones
+abbrev pub half : StationCopy → CloneSet → StationCopy
+half a some = record { set = some; state = a.state; log = a.log; pending = cut_by met some a.pending }
+
+-- the copy has handled its least message
+abbrev pub IsHandled : Net → ℕ → StationCopy → StationCopy → Marked → Marked → Type 0
+IsHandled net s old new before after = (m : Msg) (k : CloneSet) (q : Marked) → old.pending ≡ (m, k) ∷ q →
+    (new ≡ handled_by (simulation net) union s old m q) × (after ≡ before ++ laid_aside (simulation net) s old m) ×
+    IsCopy net s new
+
+-- what came of a copy at the bound
+pub record Advanced (net : Net) (s : ℕ) (ends : ℕ → ℕ) (bound : ℕ) (r : StationCopy) (done0 done1 : List StationCopy)
+    (sent0 sent1 : Marked) (over0 over1 : CloneSet) (steps0 steps1 : ℕ) : Type 0 where
+  pub results : List StationCopy
+  pub gained : ℕ
+  pub done : done1 ≡ done0 ++ results
+  pub steps : steps1 ≡ steps0 + gained
+  pub comes : Ends (simulation net) has ends s bound r results sent0 sent1 over0 over1 gained
+  pub fits : AllByRecursion (IsCopy net s) results
+  pub few : gained ≤ may_handle net.limit r
+  pub shared : over1 ≡ empty → size r.set * length r.log + gained ≤ handled_alone results
+
+-- the copy, where the message is pending to those of its clones that are in the set
+abbrev pub given : Msg → CloneSet → StationCopy → StationCopy
+given m k a = record a {
+  pending = if meet a.set k == empty then a.pending else insert_marked union msg_cmp m (meet a.set k) a.pending;
+}
+
+-- the copy with the clone `new` beside the clone `old`, where it has that one
+abbrev pub forked : ℕ → ℕ → StationCopy → StationCopy
+forked old new a = if has a.set old then record {
+  set = with a.set new;
+  state = a.state;
+  log = a.log;
+  pending = spread_marks union met (one old) (one new) a.pending;
+} else a
+
+-- a first message, if there is one, pending to these clones
+abbrev pub pending_of : Option Msg → CloneSet → Marked
+pending_of None k = []
+pending_of (Some m) k = (m, k) ∷ []
+
+-- what came of copies at the bound, and what they sent to others
+pub record Stepping (net : Net) (s : ℕ) (ends : ℕ → ℕ) (bound : ℕ) (old done : List StationCopy) (sent : Marked)
+    (over : CloneSet) (steps0 steps : ℕ) : Type 0 where
+  pub far : SoFar (simulation net) has ends s bound old done sent empty over
+  pub count : ℕ
+  pub gained : GainTogether (simulation net) has ends s bound old count
+  pub counted : steps ≡ steps0 + count
+  pub fits : AllByRecursion (IsCopy net s) done
+  pub few : count ≤ all_sizes old * net.limit
+  pub shared : over ≡ empty → handled_alone old + count ≤ handled_alone done

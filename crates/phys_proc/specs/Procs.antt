@@ -1,0 +1,57 @@
+-- All copies of a station.
+use Rattle.std.specs.Prelude.{◌≡◌, ◌≢◌, ℕ, ◌≤◌, List, length, Option, Some, None}
+use Rattle.std.specs.List.{AllByRecursion}
+use Rattle.sim_base.specs.declared.message.Msg.{Msg}
+use Rattle.clone_sets.specs.Sets.{has, empty}
+use Rattle.clone_sets.specs.declared.set.CloneSet.{CloneSet}
+use Rattle.net_model.specs.Net.{Net}
+use Rattle.net_model.specs.Rules.{IsNet}
+use Rattle.run_laws.specs.Queue.{In}
+use Rattle.run_laws.specs.Copies.{Carries, Disjoint}
+use Rattle.phys_proc.specs.Own.{StationCopy, IsCopy, all_clones, handled_alone, taken_at}
+
+-- what contracts see of the copies of a station: the station's number, the living clones, how many messages were
+-- handled, once for all clones of a copy, and the copies
+pub record ProcView : Type 0 where
+  pub station : ℕ
+  pub living : CloneSet
+  pub handled : ℕ
+  pub copies : List StationCopy
+
+-- the copies share out the living clones: no copy is empty, and each clone is in one copy
+pub record AreShared (living : CloneSet) (copies : List StationCopy) : Type 0 where
+  pub inhabited : AllByRecursion (λ a. a.set ≢ empty) copies
+  pub disjoint : Disjoint has copies
+  pub together : all_clones copies ≡ living
+
+-- what the copies of a station keep; and no more was handled once than the clones would have handled each by itself
+pub record KeepsShares (p : ProcView) : Type 0 where
+  pub shares : AreShared p.living p.copies
+  pub once : p.handled ≤ handled_alone p.copies
+
+-- they are copies of a station of the network, each with the state that the replay of its log gives
+pub record IsProc (net : Net) (p : ProcView) : Type 0 where
+  pub valid : IsNet net
+  pub low : 1 ≤ p.station
+  pub high : p.station ≤ length net.sites
+  pub copies : AllByRecursion (IsCopy net p.station) p.copies
+
+-- a message that clone c of a copy takes
+pub record IsTakenBy (ends : ℕ → ℕ) (copies : List StationCopy) (c : ℕ) (m : Msg) : Type 0 where
+  pub copy : StationCopy
+  pub is_copy : In copy copies
+  pub is_in : Carries has copy c
+  pub is_taken : In m (taken_at ends c copy.pending)
+
+-- t is the least time of a message that P holds of, None where it holds of none
+abbrev pub IsLeastTime : (Msg → Type 0) → Option ℕ → Type 0
+IsLeastTime P None = (m : Msg) → ¬ (P m)
+IsLeastTime P (Some t) = ((m : Msg) × P m × (m.key.time ≡ t)) × ((m : Msg) → P m → t ≤ m.key.time)
+
+-- the least time that clone c takes
+abbrev pub IsLeastOf : (ℕ → ℕ) → List StationCopy → ℕ → Option ℕ → Type 0
+IsLeastOf ends copies c t = IsLeastTime (IsTakenBy ends copies c) t
+
+-- the least time that any clone takes
+abbrev pub IsLeast : (ℕ → ℕ) → List StationCopy → Option ℕ → Type 0
+IsLeast ends copies t = IsLeastTime (λ m. (c : ℕ) × IsTakenBy ends copies c m) t

@@ -1,0 +1,50 @@
+-- What a reader sees of a station.
+use Rattle.std.specs.Prelude.{◌≡◌, ◌↔◌, ℕ, ◌<◌, ◌≤◌, List, true, length}
+use Rattle.sim_base.specs.Clones.{Clone, clone_at}
+use Rattle.sim_base.specs.declared.message.Msg.{Msg}
+use Rattle.sim_base.specs.declared.entry.Entry.{Entry}
+use Rattle.sim_base.specs.declared.entry.Line.{Line}
+use Rattle.clone_sets.specs.Sets.{has, size}
+use Rattle.clone_sets.specs.declared.set.CloneSet.{CloneSet}
+use Rattle.net_model.specs.Net.{Net}
+use Rattle.stations.specs.Runs.{log_at}
+use Rattle.run_laws.specs.Queue.{In}
+use Rattle.phys_proc.specs.Own.{StationCopy}
+
+-- a copy as a reader sees it: its clones and its log
+pub record SeenCopy : Type 0 where
+  pub set : CloneSet
+  pub log : List (Entry Msg Line)
+
+abbrev pub seen : StationCopy → SeenCopy
+seen a = record { set = a.set; log = a.log }
+
+-- a rack: the network, the clones' lists, the station, a front, and the copies at that front
+pub record RackView : Type 0 where
+  pub net : Net
+  pub clones : List Clone
+  pub station : ℕ
+  pub front : ℕ
+  pub copies : List SeenCopy
+
+-- each clone is in a copy, whose log is that of the clone by itself up to the front; clones with equal logs share one
+pub record ShowsClones (net : Net) (cs : List Clone) (s front : ℕ) (copies : List SeenCopy) : Type 0 where
+  pub few : length cs ≤ 256
+  pub early : front ≤ net.horizon
+  pub carried : (c : ℕ) → c < length cs → (h : SeenCopy) × In h copies × (has h.set c ≡ true)
+  pub living : (h : SeenCopy) (c : ℕ) → In h copies → has h.set c ≡ true → c < length cs
+  pub log : (h : SeenCopy) (c : ℕ) → In h copies → has h.set c ≡ true → h.log ≡ log_at net (clone_at cs c) s front
+  pub shared : (h k : SeenCopy) (c d : ℕ) → In h copies → In k copies → has h.set c ≡ true → has k.set d ≡ true →
+      log_at net (clone_at cs c) s front ≡ log_at net (clone_at cs d) s front → h ≡ k
+
+-- these are the clones whose logs are that of clone c
+abbrev pub IsClassOf : Net → List Clone → ℕ → ℕ → ℕ → CloneSet → Type 0
+IsClassOf net cs s front c k = (d : ℕ) →
+    (has k d ≡ true) ↔ ((d < length cs) × (log_at net (clone_at cs d) s front ≡ log_at net (clone_at cs c) s front))
+
+-- how many messages clone c has handled, and how many clones share its log
+pub record IsSeen (net : Net) (cs : List Clone) (s front c handled shared : ℕ) : Type 0 where
+  pub log : handled ≡ length (log_at net (clone_at cs c) s front)
+  pub class : CloneSet
+  pub is_class : IsClassOf net cs s front c class
+  pub size : shared ≡ size class

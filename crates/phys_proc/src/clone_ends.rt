@@ -1,0 +1,79 @@
+//! When clones end.
+ghost use Rattle.std.specs.Prelude.{◌≡◌, ℕ, ◌<◌, ◌==◌, ◌∷◌, ◌++◌, [], min, if◌then◌else◌, OnOk, OnErr};
+ghost use Rattle.clone_sets.specs.Sets.{has};
+ghost use Rattle.phys_proc.specs.Gone.{ends_in, is_gone};
+
+use clone_sets::CloneSet;
+use sim_base::NoMemory;
+use std::alloc::Global;
+use std::marker::Model;
+
+/// When clones end, of those that have an end.
+#[derive(Drop)]
+pub struct CloneEnds {
+    ended: Vec<(u32, u64)>,
+}
+
+impl Model for CloneEnds {
+    ghost use Rattle.std.specs.Prelude.{List, ℕ};
+    ghost use Rattle.phys_proc.specs.Gone.{AreClones};
+
+    ghost Value = { List (ℕ × ℕ) };
+
+    ghost view = { λ e. e.ended.items };
+
+    ghost invariant = { λ e. AreClones e.ended.items };
+}
+
+impl CloneEnds {
+    /// No clone has an end.
+    pub fn none(alloc: Global) -> CloneEnds
+        ensures none { result ≡ [] }
+    {
+        CloneEnds {
+            ended: Vec::new(alloc),
+        }
+    }
+
+    /// The clone ends at that time, if it does not end before.
+    ///
+    /// Out of memory leaves all unchanged.
+    pub fn end(&mut self, clone: u32, at: u64) -> Result<(), NoMemory>
+        requires clone { clone < 256 }
+        ensures ended { OnOk result (self.new ≡ self.old ++ (clone, at) ∷ []) }
+        ensures ends { OnOk result ((horizon c : ℕ) → ends_in horizon self.new c ≡
+            (if clone == c then min at (ends_in horizon self.old c) else ends_in horizon self.old c)) }
+        ensures err { OnErr result (self.new ≡ self.old) }
+    {
+        self.ended.push((clone, at))?;
+        Ok(())
+    }
+
+    /// When the clone ends: at the horizon, if it has no end before.
+    pub fn end_of(&self, clone: u32, horizon: u64) -> u64
+        ensures end { result ≡ ends_in horizon self.now clone }
+    {
+        let mut end = horizon;
+        for i in 0..self.ended.len() {
+            let (other, at) = self.ended[i];
+            if other == clone {
+                end = end.min(at);
+            }
+        }
+        end
+    }
+
+    /// The clones that have ended at this time.
+    pub fn gone(&self, time: u64) -> CloneSet
+        ensures gone { (c : ℕ) → has result c ≡ is_gone time self.now c }
+    {
+        let mut gone = CloneSet::empty();
+        for i in 0..self.ended.len() {
+            let (clone, end) = self.ended[i];
+            if end <= time {
+                gone = gone.with(clone);
+            }
+        }
+        gone
+    }
+}

@@ -1,0 +1,199 @@
+//! A list of copies, and a time that nothing of them is pending before.
+ghost use Rattle.std.specs.Prelude.{◌≡◌, ◌<◌, ◌≤◌, ◌∷◌, ◌++◌, [], OnOk, IfOk, IfErr, IsTrue, map};
+ghost use Rattle.sim_base.specs.Marked.{SortedMarked};
+ghost use Rattle.sim_base.specs.Order.{msg_cmp};
+ghost use Rattle.phys_proc.specs.Racks.{seen};
+ghost use Rattle.phys_proc.specs.Own.{given, forked, but_pending, IsLate, AreLate};
+
+use crate::copy::PhysCopy;
+use crate::rack::Seen;
+use clone_sets::CloneSet;
+use sim_base::{Msg, NoMemory};
+use std::alloc::Global;
+use std::marker::Model;
+
+/// Copies of one station, and a lower bound of the times of their pending messages.
+#[derive(Drop)]
+pub(crate) struct Copies {
+    copies: Vec<PhysCopy>,
+    // nothing is pending before it
+    least: u64,
+}
+
+impl Model for Copies {
+    ghost use Rattle.std.specs.Prelude.{List};
+    ghost use Rattle.phys_proc.specs.Own.{StationCopy, AreLate};
+
+    ghost Value = { List StationCopy };
+
+    ghost view = { λ p. p.copies.items };
+
+    ghost invariant = { λ p. AreLate p.least p.copies.items };
+}
+
+// A time that nothing of the copy is pending before.
+pub(crate) fn earliest(copy: &PhysCopy) -> u64
+    requires sorted { SortedMarked msg_cmp copy.now.pending }
+    ensures late { IsLate result copy.now }
+{
+    match copy.pending.least_time() {
+        Some(time) => time,
+        None => u64::MAX,
+    }
+}
+
+// Gives a message to those clones of the copy that are in the set.
+fn give(copy: &mut PhysCopy, msg: Msg, set: CloneSet) -> Result<(), NoMemory>
+    ensures given { OnOk result (copy.new ≡ given msg set copy.old) }
+    ensures same { but_pending copy.new ≡ but_pending copy.old }
+{
+    let shared = copy.set.meet(set);
+    if !shared.is_empty() {
+        copy.pending.insert(msg, shared)?;
+    }
+    Ok(())
+}
+
+// Gives a message to those clones of the copies that are in the set.
+fn deliver(copies: &mut Vec<PhysCopy>, msg: Msg, set: CloneSet) -> Result<(), NoMemory>
+    ensures given { OnOk result (copies.new.items ≡ map (given msg set) copies.old.items) }
+    ensures same { map but_pending copies.new.items ≡ map but_pending copies.old.items }
+{
+    for i in 0..copies.len() {
+        give(&mut copies[i], msg, set)?;
+    }
+    Ok(())
+}
+
+// Puts the clone `new` beside the clone `old`, if the copy has that one.
+fn fork_copy(copy: &mut PhysCopy, old: u32, new: u32)
+    requires old { old < 256 }
+    requires new { new < 256 }
+    ensures forked { copy.new ≡ forked old new copy.old }
+{
+    if copy.set.has(old) {
+        copy.set = copy.set.with(new);
+        copy.pending.spread(CloneSet::one(old), CloneSet::one(new));
+    }
+}
+
+// Puts the clone `new` beside the clone `old`.
+fn fork(copies: &mut Vec<PhysCopy>, old: u32, new: u32)
+    requires old { old < 256 }
+    requires new { new < 256 }
+    ensures forked { copies.new.items ≡ map (forked old new) copies.old.items }
+{
+    for i in 0..copies.len() {
+        fork_copy(&mut copies[i], old, new);
+    }
+}
+
+// A second list of the copies, as a reader sees them; the logs are shared.
+fn see_all(alloc: Global, copies: &mut Vec<PhysCopy>) -> Result<Vec<Seen>, NoMemory>
+    ensures seen { IfOk result (λ v. v.items ≡ map seen copies.old.items) }
+    ensures same { copies.new.items ≡ copies.old.items }
+{
+    let mut all = Vec::with_capacity(alloc, copies.len())?;
+    for i in 0..copies.len() {
+        let one = copies[i].see(alloc)?;
+        all.push(one)?;
+    }
+    Ok(all)
+}
+
+impl Copies {
+    /// No copies.
+    pub fn none(alloc: Global) -> Copies
+        ensures none { result ≡ [] }
+    {
+        Copies {
+            copies: Vec::new(alloc),
+            least: u64::MAX,
+        }
+    }
+
+    /// One copy more, of which nothing is pending before `least`.
+    pub fn put(&mut self, copy: PhysCopy, least: u64) -> Result<(), NoMemory>
+        requires late { IsLate least copy }
+        ensures more { OnOk result (self.new ≡ self.old ++ copy ∷ []) }
+    {
+        self.copies.push(copy)?;
+        self.least = self.least.min(least);
+        Ok(())
+    }
+
+    /// Gives a message to those clones of the copies that are in the set.
+    pub fn deliver(&mut self, msg: Msg, set: CloneSet) -> Result<(), NoMemory>
+        ensures given { OnOk result (self.new ≡ map (given msg set) self.old) }
+        ensures same { map but_pending self.new ≡ map but_pending self.old }
+    {
+        let least = self.least.min(msg.key.time);
+        // also where memory is refused
+        self.least = 0;
+        deliver(&mut self.copies, msg, set)?;
+        self.least = least;
+        Ok(())
+    }
+
+    /// Puts the clone `new` beside the clone `old`.
+    pub fn fork(&mut self, old: u32, new: u32)
+        requires old { old < 256 }
+        requires new { new < 256 }
+        ensures forked { self.new ≡ map (forked old new) self.old }
+    {
+        fork(&mut self.copies, old, new);
+    }
+
+    /// The copies as a reader sees them; the logs are shared.
+    pub fn see_all(&mut self, alloc: Global) -> Result<Vec<Seen>, NoMemory>
+        ensures seen { IfOk result (λ v. v.items ≡ map seen self.old) }
+        ensures same { self.new ≡ self.old }
+    {
+        let all = see_all(alloc, &mut self.copies)?;
+        Ok(all)
+    }
+
+    /// Whether nothing is pending before the bound.
+    pub fn is_idle(&self, bound: u64) -> bool
+        ensures late { IsTrue result → AreLate bound self.now }
+    {
+        bound <= self.least
+    }
+
+    /// The copies, one by one.
+    pub fn into_copies(self) -> Vec<PhysCopy>
+        ensures same { result.items ≡ self }
+    {
+        let Copies { copies, least: _ } = self;
+        copies
+    }
+
+    /// The only copy, and no copies, in the memory that there is; else all copies again.
+    pub fn only(self) -> Result<(PhysCopy, Copies), Copies>
+        ensures one { IfOk result (λ p. self ≡ p.0 ∷ []) }
+        ensures rest { IfOk result (λ p. p.1 ≡ []) }
+        ensures same { IfErr result (λ p. p ≡ self) }
+    {
+        let Copies { mut copies, least } = self;
+        if copies.len() == 1 {
+            let Some(copy) = copies.pop() else {
+                unreachable!()
+            };
+            return Ok((
+                copy,
+                Copies {
+                    copies,
+                    least: u64::MAX,
+                },
+            ));
+        }
+        Err(Copies { copies, least })
+    }
+
+    /// The copies.
+    pub fn as_slice(&self) -> &[PhysCopy]
+        ensures same { result.now ≡ self.now }
+    {
+        self.copies.as_slice()
+    }
+}

@@ -1,0 +1,168 @@
+//! One copy of a station.
+ghost use Rattle.std.specs.Prelude.{◌≡◌, ℕ, ◌<◌, ◌≤◌, List, ◌∷◌, length, IfOk, IfSome, IfNone, OnOk, ◌+◌, option_map, slice_get};
+ghost use Rattle.clone_sets.specs.Sets.{has, minus};
+ghost use Rattle.clone_sets.specs.declared.set.CloneSet.{CloneSet as CloneSet'};
+ghost use Rattle.sim_base.specs.declared.message.Msg.{Msg as Msg'};
+ghost use Rattle.sim_base.specs.Order.{msg_cmp};
+ghost use Rattle.sim_base.specs.Marked.{SortedMarked};
+ghost use Rattle.phys_proc.specs.Own.{IsCopy, NextDue, NothingDue, IsHandled, half, sent_on, kept_on};
+ghost use Rattle.phys_proc.specs.Gone.{ends_in};
+
+use crate::clone_ends::CloneEnds;
+use arrayvec::ArrayVec;
+use clone_sets::CloneSet;
+use log_chain::Log;
+use net_model::Model;
+use sim_base::{Entry, Msg, NoMemory, Pending, Steps};
+use stations::State;
+use stations::state::handle;
+use std::alloc::Global;
+use std::sync::ledger::Ledger;
+
+/// The clones that it stands for, their state and log, and what is pending to them.
+#[derive(Drop)]
+pub struct PhysCopy {
+    pub(crate) set: CloneSet,
+    pub(crate) state: State,
+    pub(crate) log: Log,
+    pub(crate) pending: Pending<CloneSet>,
+}
+
+impl std::marker::Model for PhysCopy {
+    ghost use Rattle.phys_proc.specs.Own.{StationCopy};
+
+    ghost Value = { StationCopy };
+
+    ghost view = { λ p. record { set = p.set; state = p.state; log = p.log; pending = p.pending } };
+}
+
+// The least message before the bound that some clone of the copy takes, with those that take it. What none takes is
+// passed over.
+pub(crate) fn next_due(
+    copy: &mut PhysCopy,
+    ends: &CloneEnds,
+    bound: u64,
+    horizon: u64,
+) -> Option<(Msg, CloneSet)>
+    requires early { bound ≤ horizon }
+    requires sorted { SortedMarked msg_cmp copy.old.pending }
+    ensures some { IfSome result (λ p. NextDue (ends_in horizon ends.now) bound copy.old copy.new p.0 p.1) }
+    ensures none { IfNone result (NothingDue (ends_in horizon ends.now) bound copy.old copy.new) }
+{
+    while let Some(first) = copy.pending.least() {
+        let msg = first.0;
+        if msg.key.time >= bound {
+            return None;
+        }
+        let takers = copy.set.meet(first.1).minus(ends.gone(msg.key.time));
+        if !takers.is_empty() {
+            return Some((msg, takers));
+        }
+        let Some(_) = copy.pending.take_least() else {
+            unreachable!()
+        };
+    }
+    None
+}
+
+// What a station sends to itself becomes pending to these clones, the rest is laid aside for them.
+fn send_all(
+    station: u32,
+    set: CloneSet,
+    sends: &[Msg],
+    pending: &mut Pending<CloneSet>,
+    sent: &mut Vec<(Msg, CloneSet)>,
+) -> Result<(), NoMemory>
+    ensures kept { OnOk result (pending.new ≡ kept_on station set sends.now pending.old) }
+    ensures aside { OnOk result (sent.new.items ≡ sent_on station set sends.now sent.old.items) }
+{
+    for msg in sends {
+        if msg.to == station {
+            pending.insert(*msg, set)?;
+        } else {
+            sent.push((*msg, set))?;
+        }
+    }
+    Ok(())
+}
+
+// All clones of the copy take the least message. What it sends is put into `out` first.
+pub(crate) fn handle_least<L: Ledger>(
+    copy: &mut PhysCopy,
+    model: &Model,
+    station: u32,
+    out: &mut ArrayVec<Msg, 16>,
+    sent: &mut Vec<(Msg, CloneSet)>,
+    steps: &mut Steps<L>,
+) -> Result<(), NoMemory>
+    requires due { (m : Msg') × (k : CloneSet') × (q : List (Msg' × CloneSet')) × (copy.old.pending ≡ (m, k) ∷ q) ×
+        (m.key.time < model.now.horizon) }
+    requires fits { IsCopy model.now station copy.old }
+    requires room { length copy.old.log < model.now.limit }
+    ensures handled { OnOk result (IsHandled model.now station copy.old copy.new sent.old.items sent.new.items) }
+    ensures counted { OnOk result (steps.new ≡ steps.old + 1) }
+{
+    let Some((msg, _)) = copy.pending.take_least() else {
+        unreachable!()
+    };
+    out.clear();
+    let line = handle(&mut copy.state, model, &msg, out, steps)?;
+    copy.log.push(Entry { msg, line })?;
+    send_all(station, copy.set, out.as_slice(), &mut copy.pending, sent)?;
+    Ok(())
+}
+
+impl PhysCopy {
+    /// The clones that it stands for.
+    pub fn set(&self) -> CloneSet
+        ensures value { result ≡ self.now.set }
+    {
+        self.set
+    }
+
+    /// What its station has handled.
+    pub fn log(&self) -> &Log
+        ensures value { result.now ≡ self.now.log }
+    {
+        &self.log
+    }
+
+    /// The least time of what is pending, None exactly where nothing is.
+    pub fn least(&self) -> Option<u64>
+        ensures value { result ≡ option_map (λ x. x.0.key.time) (slice_get self.now.pending 0) }
+    {
+        self.pending.least_time()
+    }
+
+    /// The copy for some of its clones, and for the others, which keep the list of what is pending.
+    pub(crate) fn halves(
+        self,
+        alloc: Global,
+        some: CloneSet,
+    ) -> Result<(PhysCopy, PhysCopy), NoMemory>
+        ensures first { IfOk result (λ p. p.0 ≡ half self some) }
+        ensures second { IfOk result (λ p. p.1 ≡ half self (minus self.set some)) }
+    {
+        let PhysCopy {
+            set,
+            state,
+            mut log,
+            mut pending,
+        } = self;
+        let first = PhysCopy {
+            set: some,
+            state: state.copy(alloc)?,
+            log: log.share(alloc)?,
+            pending: pending.cut(alloc, some)?,
+        };
+        let others = set.minus(some);
+        pending.keep(others);
+        let second = PhysCopy {
+            set: others,
+            state,
+            log,
+            pending,
+        };
+        Ok((first, second))
+    }
+}

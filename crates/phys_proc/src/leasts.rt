@@ -1,0 +1,95 @@
+//! The least times of what clones take.
+ghost use Rattle.std.specs.Prelude.{◌≡◌, ℕ, ◌<◌, true};
+ghost use Rattle.sim_base.specs.Marked.{SortedMarked};
+ghost use Rattle.sim_base.specs.Order.{msg_cmp};
+ghost use Rattle.clone_sets.specs.Sets.{has};
+ghost use Rattle.run_laws.specs.Queue.{In};
+ghost use Rattle.run_laws.specs.Fronts.{earlier as earlier'};
+ghost use Rattle.phys_proc.specs.Own.{taken_at};
+ghost use Rattle.phys_proc.specs.Procs.{IsProc, IsLeastTime, IsLeastOf, IsLeast};
+ghost use Rattle.phys_proc.specs.Gone.{ends_in};
+
+use crate::clone_ends::CloneEnds;
+use crate::copy::PhysCopy;
+use crate::proc::Proc;
+use clone_sets::CloneSet;
+use net_model::Model;
+
+/// The lesser of two times, where there is one.
+pub(crate) fn earlier(a: Option<u64>, b: Option<u64>) -> Option<u64>
+    ensures value { result ≡ earlier' a b }
+{
+    match a {
+        Some(first) => match b {
+            Some(second) => Some(first.min(second)),
+            None => Some(first),
+        },
+        None => b,
+    }
+}
+
+/// The least time that clone `c` takes of the copy, if it is in it, where it ends at `end`.
+pub(crate) fn least_of_clone(copy: &PhysCopy, c: u32, end: u64) -> Option<u64>
+    requires sorted { SortedMarked msg_cmp copy.now.pending }
+    requires clone { c < 256 }
+    ensures least { (ends : ℕ → ℕ) → end ≡ ends c → IsLeastTime (λ m. (has copy.now.set c ≡ true) ×
+        In m (taken_at ends c copy.now.pending)) result }
+{
+    if !copy.set.has(c) {
+        return None;
+    }
+    let Some(first) = copy.pending.least_with(CloneSet::one(c)) else {
+        return None;
+    };
+    let time = first.0.key.time;
+    if time < end { Some(time) } else { None }
+}
+
+/// The least time that any of its clones takes of the copy.
+pub(crate) fn least_of_copy(copy: &PhysCopy, ends: &CloneEnds, horizon: u64) -> Option<u64>
+    requires sorted { SortedMarked msg_cmp copy.now.pending }
+    ensures least { IsLeastTime (λ m. (c : ℕ) × (has copy.now.set c ≡ true) ×
+        In m (taken_at (ends_in horizon ends.now) c copy.now.pending)) result }
+{
+    let mut alive = copy.set;
+    while let Some(first) = copy.pending.least_with(alive) {
+        let time = first.0.key.time;
+        if time >= horizon {
+            return None;
+        }
+        let takers = first.1.minus(ends.gone(time));
+        if !takers.is_empty() {
+            return Some(time);
+        }
+        alive = alive.minus(first.1);
+    }
+    None
+}
+
+impl Proc {
+    /// The least time at which something is due to the clone, below its end; None exactly where nothing is.
+    pub fn least_of(&self, model: &Model, ends: &CloneEnds, c: u32) -> Option<u64>
+        requires proc { IsProc model.now self.now }
+        requires clone { c < 256 }
+        ensures least { IsLeastOf (ends_in model.now.horizon ends.now) self.now.copies c result }
+    {
+        let end = ends.end_of(c, model.horizon());
+        let mut least = None;
+        for copy in self.copies() {
+            least = earlier(least, least_of_clone(copy, c, end));
+        }
+        least
+    }
+
+    /// The least time at which something is due to any clone, below its end; None exactly where nothing is.
+    pub fn least(&self, model: &Model, ends: &CloneEnds) -> Option<u64>
+        requires proc { IsProc model.now self.now }
+        ensures least { IsLeast (ends_in model.now.horizon ends.now) self.now.copies result }
+    {
+        let mut least = None;
+        for copy in self.copies() {
+            least = earlier(least, least_of_copy(copy, ends, model.horizon()));
+        }
+        least
+    }
+}

@@ -1,0 +1,300 @@
+//! The copies of one station.
+ghost use Rattle.std.specs.Prelude.{◌≡◌, ℕ, ◌<◌, ◌≤◌, ◌+◌, ◌*◌, ◌∷◌, [], true, false, OnOk, IfOk, IsTrue, map, length};
+ghost use Rattle.std.specs.List.{AllByRecursion, AllZip};
+ghost use Rattle.clone_sets.specs.Sets.{has, one, with, empty, size};
+ghost use Rattle.net_model.specs.Net.{Net};
+ghost use Rattle.stations.specs.Runs.{simulation};
+ghost use Rattle.run_laws.specs.Copies.{first_copy, IsForked, IsStepped, AreOver, GainTogether, Stands};
+ghost use Rattle.phys_proc.specs.Own.{given, forked, but_pending, pending_of, AreLate, IsCopy};
+ghost use Rattle.phys_proc.specs.Gone.{ends_in};
+ghost use Rattle.phys_proc.specs.Procs.{IsProc, AreShared};
+ghost use Rattle.phys_proc.specs.Racks.{seen};
+
+use crate::advancing::Stage;
+use crate::clone_ends::CloneEnds;
+use crate::copies::Copies;
+use crate::copy::PhysCopy;
+use crate::rack::Rack;
+use crate::stepping::step_copies;
+use clone_sets::CloneSet;
+use log_chain::Log;
+use net_model::Model;
+use sim_base::{Lists, Msg, NoMemory, Pending, Steps};
+use stations::state::setup;
+use std::alloc::Global;
+use std::sync::Arc;
+use std::sync::ledger::Ledger;
+
+/// The copies of one station. Each clone that lives is in one of them.
+#[derive(Drop)]
+pub struct Proc {
+    station: u32,
+    living: CloneSet,
+    handled: u64,
+    copies: Copies,
+}
+
+impl std::marker::Model for Proc {
+    ghost use Rattle.phys_proc.specs.Procs.{ProcView, KeepsShares};
+
+    ghost Value = { ProcView };
+
+    ghost view = { λ p. record { station = p.station; living = p.living; handled = p.handled; copies = p.copies } };
+
+    ghost invariant = { λ p. KeepsShares (record {
+      station = p.station;
+      living = p.living;
+      handled = p.handled;
+      copies = p.copies;
+    }) };
+}
+
+/// What a step of a station gives.
+#[derive(Drop)]
+pub struct Flow {
+    /// The copies at the bound; where some clone is over the limit they mean nothing.
+    pub done: Proc,
+    /// The messages to other stations, each with the clones that send it.
+    pub sent: Vec<(Msg, CloneSet)>,
+    /// The clones whose logs would get longer than the limit.
+    pub over: CloneSet,
+    /// How many messages were handled, each once for all clones of a copy.
+    pub handled: u64,
+}
+
+// A first message, if there is one, pending to these clones.
+fn first_pending(
+    alloc: Global,
+    first: Option<Msg>,
+    set: CloneSet,
+) -> Result<Pending<CloneSet>, NoMemory>
+    ensures first { IfOk result (λ p. p ≡ pending_of first set) }
+{
+    let mut pending = Pending::new(alloc);
+    if let Some(msg) = first {
+        pending.insert(msg, set)?;
+    }
+    Ok(pending)
+}
+
+// What a station opens with, for the first clone.
+fn opening(alloc: Global, model: &Model, station: u32) -> Result<Copies, NoMemory>
+    requires low { 1 ≤ station }
+    requires high { station ≤ length model.now.sites }
+    ensures first { IfOk result (λ p. p ≡ first_copy (simulation model.now) (one 0) station ∷ []) }
+    ensures fits { IfOk result (λ p. AllByRecursion (IsCopy model.now station) p) }
+{
+    let _horizon = model.horizon();
+    let (state, first) = setup(alloc, model, station)?;
+    let set = CloneSet::one(0);
+    let pending = first_pending(alloc, first, set)?;
+    let mut copies = Copies::none(alloc);
+    copies.put(
+        PhysCopy {
+            set,
+            state,
+            log: Log::new(alloc),
+            pending,
+        },
+        0,
+    )?;
+    Ok(copies)
+}
+
+impl Proc {
+    /// What a station opens with: one copy, for the first clone.
+    pub fn new(alloc: Global, model: &Model, station: u32) -> Result<Proc, NoMemory>
+        requires low { 1 ≤ station }
+        requires high { station ≤ length model.now.sites }
+        ensures first { IfOk result (λ p. p.copies ≡ first_copy (simulation model.now) (one 0) station ∷ []) }
+        ensures proc { IfOk result (λ p. IsProc model.now p) }
+        ensures station { IfOk result (λ p. p.station ≡ station) }
+        ensures living { IfOk result (λ p. p.living ≡ one 0) }
+        ensures handled { IfOk result (λ p. p.handled ≡ 0) }
+    {
+        let _horizon = model.horizon();
+        let copies = opening(alloc, model, station)?;
+        Ok(Proc {
+            station,
+            living: CloneSet::one(0),
+            handled: 0,
+            copies,
+        })
+    }
+
+    /// Steps the copies to the bound, each in place. Out of memory, they are gone.
+    pub fn step<L: Ledger>(
+        self,
+        alloc: Global,
+        model: &Model,
+        ends: &CloneEnds,
+        bound: u64,
+        steps: &mut Steps<L>,
+    ) -> Result<Flow, NoMemory>
+        requires proc { IsProc model.now self }
+        requires early { bound ≤ model.now.horizon }
+        ensures windows { IfOk result (λ f. f.over ≡ empty →
+            IsStepped (simulation model.now) has (ends_in model.now.horizon ends.now) self.station bound self.copies
+            f.done.copies f.sent.items) }
+        ensures over { IfOk result (λ f. AreOver (simulation model.now) has (ends_in model.now.horizon ends.now)
+            self.station bound self.copies f.over) }
+        ensures gained { IfOk result (λ f. GainTogether (simulation model.now) has
+            (ends_in model.now.horizon ends.now) self.station bound self.copies f.handled) }
+        ensures counted { IfOk result (λ f. steps.new ≡ steps.old + f.handled) }
+        ensures few { IfOk result (λ f. f.handled ≤ size self.living * model.now.limit) }
+        ensures proc { IfOk result (λ f. IsProc model.now f.done) }
+        ensures station { IfOk result (λ f. f.done.station ≡ self.station) }
+        ensures living { IfOk result (λ f. f.over ≡ empty → f.done.living ≡ self.living) }
+        ensures handled { IfOk result (λ f. f.over ≡ empty → f.done.handled ≡ self.handled + f.handled) }
+    {
+        let _horizon = model.horizon();
+        let Proc {
+            station,
+            living,
+            handled,
+            copies,
+        } = self;
+        let _clones = living.len();
+        let Stage {
+            done,
+            sent,
+            over,
+            handled: more,
+        } = step_copies(alloc, copies, model, station, ends, bound, steps)?;
+        if !over.is_empty() {
+            return Ok(Flow {
+                done: Proc::none(alloc, station),
+                sent,
+                over,
+                handled: more,
+            });
+        }
+        Ok(Flow {
+            done: Proc {
+                station,
+                living,
+                handled: handled + more,
+                copies: done,
+            },
+            sent,
+            over,
+            handled: more,
+        })
+    }
+
+    // No clone lives, and there is no copy.
+    fn none(alloc: Global, station: u32) -> Proc
+        ensures none { result ≡ record { station = station; living = empty; handled = 0; copies = [] } }
+    {
+        Proc {
+            station,
+            living: CloneSet::empty(),
+            handled: 0,
+            copies: Copies::none(alloc),
+        }
+    }
+
+    /// Gives a message to those of its clones that are in the set.
+    ///
+    /// Out of memory, some of the copies may have it; nothing else of them has changed.
+    pub fn deliver(&mut self, msg: Msg, set: CloneSet) -> Result<(), NoMemory>
+        requires target { msg.to ≡ self.old.station }
+        ensures given { OnOk result (self.new.copies ≡ map (given msg set) self.old.copies) }
+        ensures proc { OnOk result ((net : Net) → IsProc net self.old → IsProc net self.new) }
+        ensures same { map but_pending self.new.copies ≡ map but_pending self.old.copies }
+        ensures station { self.new.station ≡ self.old.station }
+        ensures living { self.new.living ≡ self.old.living }
+        ensures handled { self.new.handled ≡ self.old.handled }
+    {
+        self.copies.deliver(msg, set)?;
+        Ok(())
+    }
+
+    /// Puts the clone `new`, which has no end, beside the clone `old`: in its copy, and in what is pending to it.
+    pub fn fork(&mut self, old: u32, new: u32)
+        requires old { has self.old.living old ≡ true }
+        requires new { has self.old.living new ≡ false }
+        requires below { new < 256 }
+        ensures forked { self.new.copies ≡ map (forked old new) self.old.copies }
+        ensures stands { (net : Net) (ends : ℕ → ℕ) → IsProc net self.old →
+            AllZip (IsForked (simulation net) has ends old new) self.old.copies self.new.copies }
+        ensures proc { (net : Net) → IsProc net self.old → IsProc net self.new }
+        ensures station { self.new.station ≡ self.old.station }
+        ensures living { self.new.living ≡ with self.old.living new }
+        ensures handled { self.new.handled ≡ self.old.handled }
+    {
+        let _clones = self.living.len();
+        self.copies.fork(old, new);
+        self.living = self.living.with(new);
+    }
+
+    /// What a reader sees of the station: the copies at the front, and the lists of the clones that they stand for.
+    ///
+    /// The station is unchanged, also out of memory.
+    pub fn rack(
+        &mut self,
+        alloc: Global,
+        model: Arc<Model>,
+        lists: Arc<Lists>,
+        front: u64,
+    ) -> Result<Rack, NoMemory>
+        requires stands { Stands (simulation model.value) has lists.value.clones front self.old.station
+            self.old.copies }
+        requires few { length lists.value.clones ≤ 256 }
+        requires early { front ≤ model.value.horizon }
+        ensures rack { IfOk result (λ r. r ≡ record {
+          net = model.value;
+          clones = lists.value.clones;
+          station = self.old.station;
+          front = front;
+          copies = map seen self.old.copies;
+        }) }
+        ensures same { self.new ≡ self.old }
+    {
+        let copies = self.copies.see_all(alloc)?;
+        Ok(Rack {
+            model,
+            lists,
+            station: self.station,
+            front,
+            copies,
+        })
+    }
+
+    /// The number of its station.
+    pub fn station(&self) -> u32
+        ensures value { result ≡ self.now.station }
+    {
+        self.station
+    }
+
+    /// The clones that live.
+    pub fn living(&self) -> CloneSet
+        ensures value { result ≡ self.now.living }
+        ensures shared { AreShared self.now.living self.now.copies }
+    {
+        self.living
+    }
+
+    /// How many messages were handled, each once for all clones of a copy.
+    pub fn handled(&self) -> u64
+        ensures value { result ≡ self.now.handled }
+    {
+        self.handled
+    }
+
+    /// The copies.
+    pub fn copies(&self) -> &[PhysCopy]
+        ensures value { result.now ≡ self.now.copies }
+        ensures shared { AreShared self.now.living self.now.copies }
+    {
+        self.copies.as_slice()
+    }
+
+    /// Whether nothing is pending before the bound.
+    pub fn is_idle(&self, bound: u64) -> bool
+        ensures late { IsTrue result → AreLate bound self.now.copies }
+    {
+        self.copies.is_idle(bound)
+    }
+}

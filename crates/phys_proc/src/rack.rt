@@ -1,0 +1,156 @@
+//! What a reader sees of a station.
+ghost use Rattle.std.specs.Prelude.{◌≡◌, ℕ, ◌<◌, IfOk, IfSome, IfNone, length, map, true, false, Some, None};
+ghost use Rattle.std.specs.List.{AllByRecursion};
+ghost use Rattle.sim_base.specs.Clones.{place_of};
+ghost use Rattle.clone_sets.specs.Sets.{has, size};
+ghost use Rattle.run_laws.specs.Queue.{In};
+ghost use Rattle.phys_proc.specs.Racks.{SeenCopy, seen, IsSeen};
+
+use crate::copy::PhysCopy;
+use clone_sets::CloneSet;
+use log_chain::Log;
+use net_model::Model;
+use sim_base::{Lists, Name, NoMemory};
+use std::alloc::Global;
+use std::sync::Arc;
+
+/// A copy as a reader sees it: its clones, and its log.
+#[derive(Drop)]
+pub struct Seen {
+    pub(crate) set: CloneSet,
+    pub(crate) log: Log,
+}
+
+impl std::marker::Model for Seen {
+    ghost use Rattle.phys_proc.specs.Racks.{SeenCopy};
+
+    ghost Value = { SeenCopy };
+
+    ghost view = { λ s. record { set = s.set; log = s.log } };
+}
+
+/// What a reader sees of a station at a front: the copies, and the lists of the clones that they stand for.
+#[derive(Drop)]
+pub struct Rack {
+    pub(crate) model: Arc<Model>,
+    pub(crate) lists: Arc<Lists>,
+    pub(crate) station: u32,
+    pub(crate) front: u64,
+    pub(crate) copies: Vec<Seen>,
+}
+
+impl std::marker::Model for Rack {
+    ghost use Rattle.phys_proc.specs.Racks.{RackView, ShowsClones};
+
+    ghost Value = { RackView };
+
+    ghost view = { λ r. record {
+      net = r.model.value;
+      clones = r.lists.value.clones;
+      station = r.station;
+      front = r.front;
+      copies = r.copies.items;
+    } };
+
+    ghost invariant = { λ r. ShowsClones r.model.value r.lists.value.clones r.station r.front r.copies.items };
+}
+
+/// A look at a clone of a rack.
+#[derive(Clone, Copy, Debug, PartialEq, Eq)]
+pub struct Glance {
+    /// Up to when the rack shows the station.
+    pub front: u64,
+    /// How many clones there are.
+    pub clones: u32,
+    /// What the rack has of the clone, if there is one of this name.
+    pub found: Option<Found>,
+}
+
+/// How many messages a clone's station has handled, and how many clones have this log.
+#[derive(Clone, Copy, Debug, PartialEq, Eq)]
+pub struct Found {
+    pub handled: u64,
+    pub shared: u32,
+}
+
+// The copy that the clone is in.
+pub(crate) fn find_copy(copies: &[Seen], c: u32) -> Option<Found>
+    requires clone { c < 256 }
+    ensures some { IfSome result (λ f. (h : SeenCopy) × In h copies.now × (has h.set c ≡ true) ×
+        (f.handled ≡ length h.log) × (f.shared ≡ size h.set)) }
+    ensures none { IfNone result (AllByRecursion (λ h. has h.set c ≡ false) copies.now) }
+{
+    for copy in copies {
+        if copy.set.has(c) {
+            return Some(Found {
+                handled: copy.log.len(),
+                shared: copy.set.len(),
+            });
+        }
+    }
+    None
+}
+
+impl Rack {
+    /// The number of its station.
+    pub fn station(&self) -> u32
+        ensures value { result ≡ self.now.station }
+    {
+        self.station
+    }
+
+    /// Up to when it shows the station.
+    pub fn front(&self) -> u64
+        ensures value { result ≡ self.now.front }
+    {
+        self.front
+    }
+
+    /// The lists of the clones that it shows.
+    pub fn lists(&self) -> &Lists
+        ensures value { result.now.clones ≡ self.now.clones }
+    {
+        &self.lists
+    }
+
+    // What it shows of the clone of this name.
+    fn found(&self, who: &Name) -> Option<Found>
+        ensures unknown { IfNone result (place_of who.now self.now.clones ≡ None) }
+        ensures found { IfSome result (λ f. (c : ℕ) × (place_of who.now self.now.clones ≡ Some c) ×
+            IsSeen self.now.net self.now.clones self.now.station self.now.front c f.handled f.shared) }
+    {
+        let Some(c) = self.lists.find(who) else {
+            return None;
+        };
+        let Some(found) = find_copy(self.copies.as_slice(), c) else {
+            unreachable!()
+        };
+        Some(found)
+    }
+
+    /// What it shows of the clone of this name. It takes no memory.
+    pub fn glance(&self, who: &Name) -> Glance
+        ensures front { result.front ≡ self.now.front }
+        ensures clones { result.clones ≡ length self.now.clones }
+        ensures unknown { IfNone result.found (place_of who.now self.now.clones ≡ None) }
+        ensures found { IfSome result.found (λ f. (c : ℕ) × (place_of who.now self.now.clones ≡ Some c) ×
+            IsSeen self.now.net self.now.clones self.now.station self.now.front c f.handled f.shared) }
+    {
+        Glance {
+            front: self.front,
+            clones: self.lists.len(),
+            found: self.found(who),
+        }
+    }
+}
+
+impl PhysCopy {
+    /// The copy as a reader sees it; the log is shared.
+    pub(crate) fn see(&mut self, alloc: Global) -> Result<Seen, NoMemory>
+        ensures seen { IfOk result (λ s. s ≡ seen self.old) }
+        ensures same { self.new ≡ self.old }
+    {
+        let log = self.log.share(alloc)?;
+        Ok(Seen { set: self.set, log })
+    }
+}
