@@ -1,0 +1,25 @@
+-- What a station's step gives, by its place in the list of stations.
+use Rattle.std.proofs.Common.{◌≡◌, ℕ, ◌+◌, sym, ◌∙◌, subst}
+use Rattle.clone_sets.specs.Sets.{has, empty}
+use Rattle.net_model.specs.Net.{Net}
+use Rattle.stations.specs.Runs.{simulation}
+use Rattle.run_laws.specs.Copies.{IsStepped, AreOver, GainTogether}
+use Rattle.phys_proc.specs.Procs.{ProcView, IsProc}
+use Rattle.phys_proc.specs.declared.proc.Flow.{Flow}
+use Rattle.world_core.specs.Windows.{IsFlow}
+
+pub is_flow : (net : Net) (ends : ℕ → ℕ) (bound i : ℕ) (old : ProcView) (flow : Flow) → old.station ≡ i + 1 →
+    (flow.over ≡ empty → IsStepped (simulation net) has ends old.station bound old.copies flow.done.copies flow.sent.items) →
+    AreOver (simulation net) has ends old.station bound old.copies flow.over →
+    GainTogether (simulation net) has ends old.station bound old.copies flow.handled →
+    IsProc net flow.done → flow.done.station ≡ old.station → (flow.over ≡ empty → flow.done.living ≡ old.living) →
+    (flow.over ≡ empty → flow.done.handled ≡ old.handled + flow.handled) → IsFlow net ends bound i old flow
+is_flow net ends bound i old flow number windows over gained proc station living once = record {
+  windows = λ e. subst (λ s. IsStepped (simulation net) has ends s bound old.copies flow.done.copies flow.sent.items) number (windows e);
+  over = subst (λ s. AreOver (simulation net) has ends s bound old.copies flow.over) number over;
+  gained = subst (λ s. GainTogether (simulation net) has ends s bound old.copies flow.handled) number gained;
+  proc = proc;
+  number = station ∙ number;
+  living = living;
+  once = once;
+}

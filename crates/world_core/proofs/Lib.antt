@@ -1,0 +1,13 @@
+pub mod Places
+pub mod Flows
+pub mod AfterWindow
+pub mod Overs
+pub mod Worlds
+pub mod Opening
+pub mod Accepted
+pub mod Taken
+pub mod DueTimes
+pub mod Merging
+pub mod Calls
+pub mod Delivering
+pub mod Forks

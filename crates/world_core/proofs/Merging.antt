@@ -1,0 +1,98 @@
+-- Merging the logs of a clone's stations, one after the other.
+use Rattle.std.proofs.Common.{◌≡◌, ℕ, zero, suc, ◌+◌, ◌<◌, ◌≤◌, List, [], ◌∷◌, ◌++◌, Some, refl, sym, ap, ◌∙◌, subst, arith, length, drop, slice_get, true, false, append-nil, append_assoc}
+use Rattle.std.specs.List.{AllByRecursion}
+use Rattle.std.specs.declared.cmp.Ordering.{Ordering}
+use Rattle.std.specs.declared.cmp.Ordering.TheVariants.{Less, Equal, Greater}
+use Rattle.std.proofs.lemmas.Bool.{false≢true}
+use Rattle.sim_base.specs.Clones.{Clone, clone_at}
+use Rattle.sim_base.specs.declared.message.Msg.{Msg}
+use Rattle.sim_base.specs.declared.entry.Entry.{Entry}
+use Rattle.sim_base.specs.declared.entry.Line.{Line}
+use Rattle.clone_sets.specs.Sets.{has}
+use Rattle.net_model.specs.Net.{Net}
+use Rattle.stations.specs.Good.{sender_of, number_of}
+use Rattle.stations.specs.Runs.{simulation}
+use Rattle.stations.proofs.GoodLaws.{lawful-stations, stations-to_stations, fresh-stations}
+use Rattle.stations.proofs.Places.{drop-at}
+use Rattle.run_laws.specs.Merges.{merge, merge_at, pick, merge_of_logs}
+use Rattle.run_laws.specs.Runs.{run_of, log_at}
+use Rattle.run_laws.proofs.Queue.{all_in}
+use Rattle.run_laws.proofs.Traces.{merge_of_logs-trace}
+use Rattle.phys_proc.specs.Own.{StationCopy}
+use Rattle.phys_proc.specs.Procs.{ProcView}
+use Rattle.world_core.specs.Worlds.{StandsAt, WorldStands}
+use Rattle.world_core.specs.Tracing.{by_key, HasLog}
+
+module _ {X : Type 0} (cmp : X → X → Ordering) where
+  first_goes : (x y : X) (xs ys : List X) → (cmp x y ≡ Greater → ⊥) → merge cmp (x ∷ xs) (y ∷ ys) ≡ x ∷ merge cmp xs (y ∷ ys)
+  first_goes x y xs ys n = by (cmp x y) n
+    where
+      by : (o : Ordering) → (o ≡ Greater → ⊥) → pick o x y (merge cmp xs (y ∷ ys)) (merge_at cmp x (merge cmp xs) ys) ≡ x ∷ merge cmp xs (y ∷ ys)
+      by Less n = refl
+      by Equal n = refl
+      by Greater n = absurd (n refl)
+
+  second_goes : (x y : X) (xs ys : List X) → cmp x y ≡ Greater → merge cmp (x ∷ xs) (y ∷ ys) ≡ y ∷ merge cmp (x ∷ xs) ys
+  second_goes x y xs ys e = ap (λ o. pick o x y (merge cmp xs (y ∷ ys)) (merge_at cmp x (merge cmp xs) ys)) e
+
+  none_left : (xs : List X) → merge cmp xs [] ≡ xs
+  none_left [] = refl
+  none_left (x ∷ xs) = ap (λ l. x ∷ l) (none_left xs)
+
+  module _ (xs ys out : List X) (i j : ℕ) (so_far : out ++ merge cmp (drop i xs) (drop j ys) ≡ merge cmp xs ys) where
+    pub put_first : (x y : X) → slice_get xs i ≡ Some x → slice_get ys j ≡ Some y → (cmp x y ≡ Greater → ⊥) →
+        (out ++ x ∷ []) ++ merge cmp (drop (i + 1) xs) (drop j ys) ≡ merge cmp xs ys
+    put_first x y a b n =
+        append_assoc out (x ∷ []) (merge cmp (drop (i + 1) xs) (drop j ys))
+        ∙ ap (λ l. out ++ l) (sym (ap (λ l. merge cmp l (drop j ys)) (drop-at xs i x a) ∙ ap (merge cmp (x ∷ drop (i + 1) xs)) (drop-at ys j y b)
+        ∙ first_goes x y (drop (i + 1) xs) (drop (j + 1) ys) n ∙ ap (λ l. x ∷ merge cmp (drop (i + 1) xs) l) (sym (drop-at ys j y b))))
+        ∙ so_far
+
+    pub put_second : (x y : X) → slice_get xs i ≡ Some x → slice_get ys j ≡ Some y → cmp x y ≡ Greater →
+        (out ++ y ∷ []) ++ merge cmp (drop i xs) (drop (j + 1) ys) ≡ merge cmp xs ys
+    put_second x y a b e =
+        append_assoc out (y ∷ []) (merge cmp (drop i xs) (drop (j + 1) ys))
+        ∙ ap (λ l. out ++ l) (sym (ap (λ l. merge cmp l (drop j ys)) (drop-at xs i x a) ∙ ap (merge cmp (x ∷ drop (i + 1) xs)) (drop-at ys j y b)
+        ∙ second_goes x y (drop (i + 1) xs) (drop (j + 1) ys) e ∙ ap (λ l. y ∷ merge cmp l (drop (j + 1) ys)) (sym (drop-at xs i x a))))
+        ∙ so_far
+
+    drop_past : (zs : List X) (k : ℕ) → length zs ≤ k → drop k zs ≡ []
+    drop_past [] zero l = refl
+    drop_past [] (suc k) l = refl
+    drop_past (z ∷ zs) zero l = absurd (omega (arith, l))
+    drop_past (z ∷ zs) (suc k) l = drop_past zs k (omega (arith, l))
+
+    pub first_left : length ys ≤ j → (out ++ drop i xs) ++ drop j ys ≡ merge cmp xs ys
+    first_left l =
+        append_assoc out (drop i xs) (drop j ys)
+        ∙ ap (λ l. out ++ l) (ap (λ l. drop i xs ++ l) (drop_past ys j l) ∙ append-nil (drop i xs) ∙ sym (none_left (drop i xs)) ∙ ap (merge cmp (drop i xs)) (sym (drop_past ys j l)))
+        ∙ so_far
+
+    pub second_left : length xs ≤ i → (out ++ drop i xs) ++ drop j ys ≡ merge cmp xs ys
+    second_left l =
+        append_assoc out (drop i xs) (drop j ys)
+        ∙ ap (λ l. out ++ l) (ap (λ l. l ++ drop j ys) (drop_past xs i l) ∙ ap (λ l. merge cmp l (drop j ys)) (sym (drop_past xs i l)))
+        ∙ so_far
+
+module _ (net : Net) (cs : List Clone) (ended : List (ℕ × ℕ)) (front : ℕ) (procs : List ProcView) (world : WorldStands net cs ended front procs) (who : ℕ) (there : who < length cs) where
+  pub has_a_copy : (i : ℕ) (p : ProcView) → slice_get procs i ≡ Some p → AllByRecursion (λ (a : StationCopy). has a.set who ≡ false) p.copies → ⊥
+  has_a_copy i p got none =
+      let a = (world.each i p got).stands.carried who there in
+      false≢true (sym (all_in (λ (a : StationCopy). has a.set who ≡ false) p.copies a.0 none a.1) ∙ a.2)
+
+  log_is : (i : ℕ) (p : ProcView) (log : List (Entry Msg Line)) → slice_get procs i ≡ Some p → HasLog p.copies who log → log ≡ log_at (simulation net) (clone_at cs who) (i + 1) front
+  log_is i p log got h = h.is_log ∙ (world.each i p got).stands.log h.copy who h.is_copy h.is_in
+
+  pub one_more : (i : ℕ) (p : ProcView) (before log after : List (Entry Msg Line)) → slice_get procs i ≡ Some p → HasLog p.copies who log →
+      before ≡ merge_of_logs (simulation net) sender_of number_of (clone_at cs who) front i → after ≡ merge by_key before log →
+      after ≡ merge_of_logs (simulation net) sender_of number_of (clone_at cs who) front (i + 1)
+  one_more i p before log after got h e f =
+      let up : i + 1 ≡ suc i = omega arith in
+      f ∙ ap (λ l. merge by_key l log) e
+      ∙ ap (merge by_key (merge_of_logs (simulation net) sender_of number_of (clone_at cs who) front i)) (log_is i p log got h ∙ ap (λ s. log_at (simulation net) (clone_at cs who) s front) up)
+      ∙ ap (merge_of_logs (simulation net) sender_of number_of (clone_at cs who) front) (sym up)
+
+  pub all_merged : (n : ℕ) (trace : List (Entry Msg Line)) → n ≡ length procs → trace ≡ merge_of_logs (simulation net) sender_of number_of (clone_at cs who) front n → trace ≡ (run_of (simulation net) (clone_at cs who) front).at.trace
+  all_merged n trace many e =
+      e ∙ ap (merge_of_logs (simulation net) sender_of number_of (clone_at cs who) front) (many ∙ world.count)
+      ∙ merge_of_logs-trace (lawful-stations net world.valid) (stations-to_stations net world.valid) (fresh-stations net world.valid) (clone_at cs who) front (world.for_stations who there)

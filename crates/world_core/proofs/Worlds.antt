@@ -1,0 +1,96 @@
+-- The world after a window.
+use Rattle.std.proofs.Common.{◌≡◌, ℕ, ◌+◌, ◌*◌, ◌<◌, ◌≤◌, List, sym, ap, ◌∙◌, subst, arith, length, [], map, slice_get, Some, unwrap_or, option_map}
+use Rattle.std.proofs.lemmas.Option.{slice_get_cases}
+use Rattle.std.proofs.lemmas.List.{length-map}
+use Rattle.sim_base.specs.Clones.{Clone}
+use Rattle.clone_sets.specs.Sets.{has}
+use Rattle.net_model.specs.Net.{Net}
+use Rattle.stations.specs.Runs.{simulation, handled}
+use Rattle.run_laws.specs.Fronts.{next_front, least}
+use Rattle.run_laws.specs.Copies.{Stands, ends_of}
+use Rattle.run_laws.proofs.NextFronts.{window_end-within}
+use Rattle.phys_proc.specs.Gone.{ends_in}
+use Rattle.phys_proc.specs.Own.{StationCopy}
+use Rattle.phys_proc.specs.Procs.{ProcView}
+use Rattle.phys_proc.specs.declared.proc.Flow.{Flow}
+use Rattle.world_core.specs.Worlds.{StandsAt, WorldStands, total_handled}
+use Rattle.world_core.specs.Windows.{MayStep, AllNumbered, AllFlow, AllDelivered, AreNumbered, NoneOver, done_at, all_sent, all_handled, after_window, given_all, sent_to}
+use Rattle.world_core.specs.Overs.{IsFirstOver, IsFirstBeyond, NoneBeyond}
+use Rattle.world_core.proofs.Places.{at_got, got_map, map_got}
+use Rattle.world_core.proofs.AfterWindow.{proc_of, flow_of, few_handled, stand_after, total_grows, grown_at}
+use Rattle.world_core.proofs.Overs.{first_beyond, none_beyond}
+
+-- the stations of a world may step, each its own copies
+pub all_numbered : (net : Net) (cs : List Clone) (ended : List (ℕ × ℕ)) (front : ℕ) (procs : List ProcView) → WorldStands net cs ended front procs → AllNumbered net procs
+all_numbered net cs ended front procs world = λ i p got. let h = world.each i p got in record { proc = h.proc; number = h.number }
+
+module _ (net : Net) (cs : List Clone) (ended : List (ℕ × ℕ)) (front bound : ℕ) (procs : List ProcView) (world : WorldStands net cs ended front procs) (later : front < bound) (within : bound ≤ next_front (simulation net) cs front) where
+  early : bound ≤ net.horizon
+  early = let h = window_end-within (simulation net) (least (simulation net) cs front) in omega (arith, within, h)
+
+  pub may_step : MayStep net bound
+  may_step = record { valid = world.valid; early = early }
+
+  module _ (flows : List Flow) (count : length flows ≡ length procs) (stepped : AllFlow net (ends_in net.horizon ended) bound procs flows) where
+    steps_of : AllFlow net (ends_of (simulation net) cs) bound procs flows
+    steps_of = subst (λ e. AllFlow net e bound procs flows) world.ends stepped
+
+    many : length flows ≡ length net.sites
+    many = count ∙ world.count
+
+    soon : front ≤ bound
+    soon = omega (arith, later)
+
+    pub first_beyond_is : (i who : ℕ) → IsFirstOver flows i who → IsFirstBeyond net cs bound (i + 1) who
+    first_beyond_is = first_beyond net world.valid cs front bound procs flows world.count many soon within world.each steps_of
+
+    pub few_are : total_handled net cs front + all_handled flows ≤ length net.sites * (length cs * net.limit)
+    few_are = few_handled net world.valid cs front bound procs flows world.count many soon within world.each steps_of
+
+    -- what came of the stations stands in the order of their numbers
+    pub done_numbered : AreNumbered (map (λ (f : Flow). f.done) flows)
+    done_numbered = λ i p got.
+        let f = got_map (λ (f : Flow). f.done) flows i p got in
+        let l : i < length net.sites = let k = (at_got flows i f.0 f.0 f.1).0 in omega (arith, k, many) in
+        let q = proc_of net world.valid cs front bound procs flows world.count many soon within world.each steps_of i l in
+        ap (λ (p : ProcView). p.station) (sym f.2) ∙ (steps_of i q.0 f.0 q.1 f.1).number
+
+    module _ (none : NoneOver flows) where
+      pub none_are_beyond : NoneBeyond net cs bound
+      none_are_beyond = none_beyond net world.valid cs front bound procs flows world.count many soon within world.each steps_of none
+
+      pub steps_sum : total_handled net cs bound ≡ total_handled net cs front + all_handled flows
+      steps_sum = total_grows net world.valid cs front bound procs flows world.count many soon within world.each steps_of world.for_stations none
+
+      pub world_after : (news : List ProcView) → AllDelivered (all_sent flows) (map (λ (f : Flow). f.done) flows) news → WorldStands net cs ended bound news
+      world_after news given = record {
+        valid = world.valid;
+        early = early;
+        count = given.count ∙ length-map flows (λ (f : Flow). f.done) ∙ many;
+        few = world.few;
+        ends = world.ends;
+        for_stations = world.for_stations;
+        each = each_after;
+      }
+        where
+          each_after : (i : ℕ) (q : ProcView) → slice_get news i ≡ Some q → StandsAt net cs bound i q
+          each_after i q got =
+              let long : length news ≡ length net.sites = given.count ∙ length-map flows (λ (f : Flow). f.done) ∙ many in
+              let l : i < length net.sites = let k = (at_got news i q q got).0 in omega (arith, k, long) in
+              let f = flow_of net world.valid cs front bound procs flows world.count many soon within world.each steps_of i l in
+              let p = proc_of net world.valid cs front bound procs flows world.count many soon within world.each steps_of i l in
+              let done : slice_get (map (λ (f : Flow). f.done) flows) i ≡ Some f.0.done = map_got (λ (f : Flow). f.done) flows i f.0 f.1 in
+              let d = given.each i f.0.done q done got in
+              let s = steps_of i p.0 f.0 p.1 f.1 in
+              let w = world.each i p.0 p.1 in
+              let e : done_at flows i ≡ f.0.done.copies = ap (λ o. unwrap_or (option_map (λ (f : Flow). f.done.copies) o) []) f.1 in
+              let c : after_window flows i ≡ q.copies = ap (given_all (sent_to i (all_sent flows))) e ∙ sym d.copies in
+              record {
+                proc = d.proc net s.proc;
+                number = d.station ∙ s.number;
+                living = λ c. ap (λ k. has k c) (d.living ∙ s.living (none i f.0 f.1)) ∙ w.living c;
+                once = d.once ∙ s.once (none i f.0 f.1) ∙ ap (λ n. n + f.0.handled) w.once
+                    ∙ sym (grown_at net world.valid cs front bound procs flows world.count many soon within world.each steps_of world.for_stations none i l f.0 f.1);
+                stands = subst (Stands (simulation net) has cs bound (i + 1)) c
+                    (stand_after net world.valid cs front bound procs flows world.count many soon within world.each steps_of world.for_stations none i l);
+              }

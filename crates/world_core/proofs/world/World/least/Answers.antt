@@ -1,0 +1,28 @@
+use Rattle.std.proofs.Common.{◌≡◌, ◌+◌, ◌<◌, ◌≤◌, sym, ap, ◌∙◌, subst, arith, length}
+use Rattle.net_model.specs.Net.{Net}
+use Rattle.stations.specs.Runs.{simulation}
+use Rattle.run_laws.specs.Fronts.{least}
+use Rattle.phys_proc.specs.Gone.{ends_in}
+use Rattle.phys_proc.specs.Procs.{IsLeast}
+use Rattle.world_core.specs.Worlds.{WorldView}
+use Rattle.world_core.proofs.Places.{got_at}
+use Rattle.world_core.proofs.DueTimes.{IsLeastTo, least_next, least_all}
+use Rattle.world_core.proofs.world.World.least.Goals as goal
+
+pub loop-i-preserved : goal.loop-i-preserved
+loop-i-preserved c =
+    let procs = c.self.inside.procs.items in
+    let ended = c.self.inside.ends in
+    let net = c.self.inside.model.value in
+    let p = c.index.result.now in
+    let l : c.loop-i.i < length procs = omega (arith, c.loop-i-test.true, c.loop-i.auto.i-end, c.len-i-end.ensures, c.self.inside.procs.ok.0) in
+    subst (IsLeastTo (ends_in net.horizon ended) procs (c.loop-i.i + 1)) (sym c.earlier-least.ensures.value)
+    (least_next net c.self.inside.lists.clones ended c.self.inside.front procs c.self.invariant c.loop-i.i p c.loop-i.least c.least.result (got_at procs c.loop-i.i p l c.index.ensures) c.loop-i.invariant
+    (subst (λ (n : Net). IsLeast (ends_in n.horizon ended) p.copies c.least.result) c.deref.ensures c.least.ensures.least))
+
+pub returns : goal.returns
+returns c = record {
+  value = subst (λ (w : WorldView). c.loop-i.least ≡ least (simulation w.net) w.clones w.front) c.self.view_is
+      (least_all c.self.inside.model.value c.self.inside.lists.clones c.self.inside.ends c.self.inside.front c.self.inside.procs.items c.self.invariant c.loop-i.i c.loop-i.least
+      (omega (arith, c.loop-i-test.false, c.loop-i.auto.i-end, c.len-i-end.ensures, c.self.inside.procs.ok.0)) c.loop-i.invariant);
+}

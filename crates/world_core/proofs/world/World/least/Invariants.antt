@@ -1,0 +1,6 @@
+use Rattle.phys_proc.specs.Gone.{ends_in}
+use Rattle.world_core.proofs.DueTimes.{IsLeastTo}
+use Rattle.world_core.proofs.world.World.least.Given as goal
+
+abbrev pub invariant-loop-i : goal.invariant-loop-i
+invariant-loop-i l = IsLeastTo (ends_in l.self-inside.model.value.horizon l.self-inside.ends) l.self-inside.procs.items l.i l.least

@@ -1,0 +1,17 @@
+use Rattle.std.proofs.Common.{◌∷◌, ◌≡◌, [], sym, subst, length}
+use Rattle.sim_base.specs.Clones.{ListsView, base}
+use Rattle.net_model.specs.Net.{Net}
+use Rattle.net_model.specs.Rules.{IsNet}
+use Rattle.world_core.specs.Worlds.{WorldStands}
+use Rattle.world_core.specs.Opening.{AreFirst}
+use Rattle.world_core.proofs.Opening.{world_begins}
+use Rattle.world_core.proofs.world.World.new.Goals as goal
+
+pub invariant_of-result : goal.invariant_of-result
+invariant_of-result c =
+    let net = c.args.model.value in
+    let procs = c.in_ok-procs.procs.items in
+    let h = c.in_ok-procs.ensures in
+    subst (λ (l : ListsView). WorldStands net l.clones c.none.result 0 procs) (sym c.in_ok-lists.ensures.value)
+    (subst (λ e. WorldStands net (base ∷ []) e 0 procs) (sym c.none.ensures.none)
+    (subst (λ (n : Net). WorldStands n (base ∷ []) [] 0 procs) c.deref.ensures (world_begins c.deref.result.now procs h.valid h.count h.first)))

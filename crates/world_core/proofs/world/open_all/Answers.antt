@@ -1,0 +1,19 @@
+use Rattle.std.proofs.Common.{◌≡◌, ◌∷◌, [], sym, ◌∙◌, subst, arith, length-append}
+use Rattle.stations.specs.Runs.{simulation}
+use Rattle.world_core.proofs.Opening.{first_push}
+use Rattle.world_core.proofs.world.open_all.Goals as goal
+
+pub loop-s-preserved : goal.loop-s-preserved
+loop-s-preserved c =
+    let n = c.loop-s.invariant.count in
+    let p = c.in_ok-new in
+    let l = length-append c.loop-s.procs.items (p.field-0 ∷ []) in
+    rw c.in_ok-push.ensures.items (record {
+      count = omega (arith, n, l);
+      first = first_push c.args.model.now c.loop-s.procs.items p.field-0 c.loop-s.s n c.loop-s.invariant.first (record {
+        numbered = record { proc = p.ensures.proc; number = p.ensures.station };
+        copies = p.ensures.first;
+        living = p.ensures.living;
+        once = p.ensures.handled;
+      });
+    })

@@ -1,0 +1,96 @@
+-- A window: each station is a task that steps its own copies, and then each gets what the others sent to it.
+use Rattle.std.specs.Prelude.{◌≡◌, ℕ, ◌+◌, ◌*◌, ◌<◌, ◌≤◌, ◌==◌, List, [], ◌∷◌, length, map, slice_get, unwrap_or, option_map, Some, sum_by}
+use Rattle.std.specs.List.{filter, flat_map}
+use Rattle.clone_sets.specs.Sets.{has, empty, size}
+use Rattle.net_model.specs.Net.{Net}
+use Rattle.net_model.specs.Rules.{IsNet}
+use Rattle.stations.specs.Runs.{simulation}
+use Rattle.run_laws.specs.Copies.{IsStepped, AreOver, GainTogether}
+use Rattle.phys_proc.specs.Own.{StationCopy, Marked, given}
+use Rattle.phys_proc.specs.Procs.{ProcView, IsProc}
+use Rattle.phys_proc.specs.declared.proc.Flow.{Flow}
+use Rattle.world_core.specs.Worlds.{copies_at}
+
+-- what the tasks of a window share: the network, when clones end, and how far the window goes
+pub record WindowView : Type 0 where
+  pub net : Net
+  pub ended : List (ℕ × ℕ)
+  pub bound : ℕ
+
+-- stations of a network may step to the bound
+pub record MayStep (net : Net) (bound : ℕ) : Type 0 where
+  pub valid : IsNet net
+  pub early : bound ≤ net.horizon
+
+-- the copies at place i are those of station i + 1
+pub record IsNumbered (net : Net) (i : ℕ) (p : ProcView) : Type 0 where
+  pub proc : IsProc net p
+  pub number : p.station ≡ i + 1
+
+-- and so at every place
+abbrev pub AllNumbered : Net → List ProcView → Type 0
+AllNumbered net procs = (i : ℕ) (p : ProcView) → slice_get procs i ≡ Some p → IsNumbered net i p
+
+-- what the task of place i answers: for each clone what its own window gives, and where some clone goes over the limit
+-- just those clones; what was handled is what the copies gained
+pub record IsFlow (net : Net) (ends : ℕ → ℕ) (bound i : ℕ) (old : ProcView) (flow : Flow) : Type 0 where
+  pub windows : flow.over ≡ empty → IsStepped (simulation net) has ends (i + 1) bound old.copies flow.done.copies flow.sent.items
+  pub over : AreOver (simulation net) has ends (i + 1) bound old.copies flow.over
+  pub gained : GainTogether (simulation net) has ends (i + 1) bound old.copies flow.handled
+  pub proc : IsProc net flow.done
+  pub number : flow.done.station ≡ i + 1
+  pub living : flow.over ≡ empty → flow.done.living ≡ old.living
+  pub once : flow.over ≡ empty → flow.done.handled ≡ old.handled + flow.handled
+
+-- each task has answered
+abbrev pub AllFlow : Net → (ℕ → ℕ) → ℕ → List ProcView → List Flow → Type 0
+AllFlow net ends bound procs flows = (i : ℕ) (p : ProcView) (flow : Flow) → slice_get procs i ≡ Some p → slice_get flows i ≡ Some flow → IsFlow net ends bound i p flow
+
+-- the messages that all stations have handled
+abbrev pub all_handled : List Flow → ℕ
+all_handled flows = sum_by (λ f. f.handled) flows
+
+-- what all stations sent, station after station
+abbrev pub all_sent : List Flow → Marked
+all_sent flows = flat_map (λ f. f.sent.items) flows
+
+-- those for the station at place i
+abbrev pub sent_to : ℕ → Marked → Marked
+sent_to i ms = filter (λ x. x.0.to == i + 1) ms
+
+-- messages given to copies, one after the other
+abbrev pub given_all : Marked → List StationCopy → List StationCopy
+given_all [] xs = xs
+given_all (x ∷ ms) xs = given_all ms (map (given x.0 x.1) xs)
+
+-- what came of the copies at place i, and what they sent
+abbrev pub done_at : List Flow → ℕ → List StationCopy
+done_at flows i = unwrap_or (option_map (λ f. f.done.copies) (slice_get flows i)) []
+
+abbrev pub sent_at : List Flow → ℕ → Marked
+sent_at flows i = unwrap_or (option_map (λ f. f.sent.items) (slice_get flows i)) []
+
+-- the copies at place i after the window
+abbrev pub after_window : List Flow → ℕ → List StationCopy
+after_window flows i = given_all (sent_to i (all_sent flows)) (done_at flows i)
+
+-- no clone went over the limit
+abbrev pub NoneOver : List Flow → Type 0
+NoneOver flows = (i : ℕ) (flow : Flow) → slice_get flows i ≡ Some flow → flow.over ≡ empty
+
+-- the stations stand in the order of their numbers
+abbrev pub AreNumbered : List ProcView → Type 0
+AreNumbered procs = (i : ℕ) (p : ProcView) → slice_get procs i ≡ Some p → p.station ≡ i + 1
+
+-- messages were given to the copies of one station, and nothing else is new
+pub record IsDeliveredTo (msgs : Marked) (old new : ProcView) : Type 0 where
+  pub copies : new.copies ≡ given_all msgs old.copies
+  pub station : new.station ≡ old.station
+  pub living : new.living ≡ old.living
+  pub once : new.handled ≡ old.handled
+  pub proc : (net : Net) → IsProc net old → IsProc net new
+
+-- every station got those of the messages that are for it
+pub record AllDelivered (msgs : Marked) (old new : List ProcView) : Type 0 where
+  pub count : length new ≡ length old
+  pub each : (i : ℕ) (p q : ProcView) → slice_get old i ≡ Some p → slice_get new i ≡ Some q → IsDeliveredTo (sent_to i msgs) p q

@@ -1,0 +1,46 @@
+-- A world: all clones at a front, and what its stations keep of them.
+use Rattle.std.specs.Prelude.{◌≡◌, ℕ, ◌+◌, ◌<◌, ◌≤◌, List, [], ◌∷◌, Bool, length, option_map, slice_get, unwrap_or, nat_lt, Some, sum_by}
+use Rattle.sim_base.specs.Clones.{Clone, clone_at}
+use Rattle.clone_sets.specs.Sets.{has}
+use Rattle.net_model.specs.Net.{Net}
+use Rattle.net_model.specs.Rules.{IsNet}
+use Rattle.stations.specs.Runs.{simulation, handled}
+use Rattle.run_laws.specs.Handlers.{AreForStations}
+use Rattle.run_laws.specs.SharedTexts.{station_sum}
+use Rattle.run_laws.specs.Copies.{Stands, ends_of}
+use Rattle.phys_proc.specs.Gone.{ends_in}
+use Rattle.phys_proc.specs.Own.{StationCopy}
+use Rattle.phys_proc.specs.Procs.{ProcView, IsProc}
+
+-- what contracts see of a world: its network, its clones with their decisions and ends, and how far all have come
+pub record WorldView : Type 0 where
+  pub net : Net
+  pub clones : List Clone
+  pub front : ℕ
+
+-- the copies of the station at a place of the list
+abbrev pub copies_at : List ProcView → ℕ → List StationCopy
+copies_at procs i = unwrap_or (option_map (λ p. p.copies) (slice_get procs i)) []
+
+-- the copies at place i are those of station i + 1, and they stand for the clones at the front: each clone is in one
+-- copy, whose log, state and messages are the clone's own, and two clones share a copy where their logs are equal
+pub record StandsAt (net : Net) (cs : List Clone) (front i : ℕ) (p : ProcView) : Type 0 where
+  pub proc : IsProc net p
+  pub number : p.station ≡ i + 1
+  pub living : (c : ℕ) → has p.living c ≡ nat_lt c (length cs)
+  pub once : p.handled ≡ handled net cs (i + 1) front
+  pub stands : Stands (simulation net) has cs front (i + 1) p.copies
+
+-- what a world keeps: the copies of every station stand for the clones at the front
+pub record WorldStands (net : Net) (cs : List Clone) (ended : List (ℕ × ℕ)) (front : ℕ) (procs : List ProcView) : Type 0 where
+  pub valid : IsNet net
+  pub early : front ≤ net.horizon
+  pub count : length procs ≡ length net.sites
+  pub few : length cs ≤ 256
+  pub ends : ends_in net.horizon ended ≡ ends_of (simulation net) cs
+  pub for_stations : (c : ℕ) → c < length cs → AreForStations (simulation net) (clone_at cs c).plans
+  pub each : (i : ℕ) (p : ProcView) → slice_get procs i ≡ Some p → StandsAt net cs front i p
+
+-- the messages that the stations have handled once, up to a front
+abbrev pub total_handled : Net → List Clone → ℕ → ℕ
+total_handled net cs front = station_sum (λ s. handled net cs s front) (length net.sites)

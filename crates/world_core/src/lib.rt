@@ -1,0 +1,47 @@
+//! The world of all clones: a parallel simulation in time windows, in which the clones of one copy share its steps.
+//!
+//! A simulation cloning engine runs many variants of one simulation, its clones, at the same time. Most of what two
+//! clones do is the same. So a station keeps physical copies, each of which stands for a set of clones that have
+//! handled the same there, and a copy splits only when some of its clones take a message that the others do not.
+//! A [`World`] holds the copies of all stations. A window steps every station by itself, each as a task of a crew
+//! of threads, up to a bound that no message sent in the window can come before; then each station gets what the
+//! others sent to it.
+//!
+//! ```text
+//! front 5             gate { base fast }      desk { base fast }           out { base fast }
+//!   window to 7         a task each, which owns its copies: what is due before 7, once for both clones
+//!   then                desk gets what the gate sent to it
+//! front 10            gate { base fast }      desk { base } { fast }       out { base fast }
+//! ```
+//!
+//! ```text
+//! let mut world = World::new(alloc, model)?;
+//! world = world.take(alloc, calls)?;                                       // forks, sets and ends
+//! while world.front() < horizon {
+//!     let bound = world.bound();
+//!     world = world.window(&rt, alloc, &crew, &NoGate, bound, &mut steps)?;
+//! }
+//! let trace = world.trace(alloc, 0)?;                                      // as `base` by itself would handle it
+//! ```
+//!
+//! What it costs: a window moves the copies of each station and looks at one time of each; it takes two lists with
+//! a place for each station, and memory for what is new. A message costs one step of its copy, whatever the number
+//! of its clones. Windows in which little is due run in the caller's thread.
+//!
+//! The promise that it carries: **at every front the copies of each station stand for the clones**. Each clone is in
+//! one copy, whose log, state and messages are those that the clone has where it runs alone, and two clones share a
+//! copy exactly where their logs are equal. It is the invariant of the type [`World`], under every crew. And the
+//! steps counted in a window are exactly the messages that all clones together have handled more, each shared one
+//! once.
+#![tactic(auto)]
+
+mod delivery;
+mod looking;
+mod taking;
+#[cfg(test)]
+mod tests;
+mod tracing;
+pub mod windows;
+pub mod world;
+
+pub use world::{World, WorldFault};

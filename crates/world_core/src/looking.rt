@@ -1,0 +1,94 @@
+//! What a world tells: due times, the next front and figures.
+ghost use Rattle.std.specs.Prelude.{◌≡◌, ℕ, ◌*◌, ◌<◌, ◌≤◌, length, sum_by};
+ghost use Rattle.std.specs.List.{AllByRecursion};
+ghost use Rattle.sim_base.specs.Clones.{clone_at};
+ghost use Rattle.clone_sets.specs.Sets.{size};
+ghost use Rattle.net_model.specs.Net.{Net};
+ghost use Rattle.stations.specs.Runs.{simulation, next_front, copies, handled, alone};
+ghost use Rattle.run_laws.specs.Fronts.{earlier as earlier', least_of, least};
+ghost use Rattle.phys_proc.specs.Own.{IsCopy, handled_alone, all_sizes};
+
+use crate::world::World;
+use phys_proc::PhysCopy;
+use sim_base::Figures;
+
+// The lesser of two times, where there is one.
+fn earlier(a: Option<u64>, b: Option<u64>) -> Option<u64>
+    ensures value { result ≡ earlier' a b }
+{
+    match a {
+        Some(first) => match b {
+            Some(second) => Some(first.min(second)),
+            None => Some(first),
+        },
+        None => b,
+    }
+}
+
+// How many messages the clones of these copies would have handled each by itself.
+fn alone_in(copies: &[PhysCopy]) -> u64
+    requires short { AllByRecursion (λ a. length a.log ≤ 65536) copies.now }
+    requires few { all_sizes copies.now ≤ 256 }
+    ensures value { result ≡ handled_alone copies.now }
+{
+    let mut sum = 0;
+    for copy in copies {
+        sum += copy.set().len() as u64 * copy.log().len();
+    }
+    sum
+}
+
+impl World {
+    /// The least time that is due in a clone, below its end; None exactly where there is none. It takes no memory.
+    pub fn least_of(&self, c: u32) -> Option<u64>
+        requires there { c < length self.now.clones }
+        ensures value { result ≡ least_of (simulation self.now.net) (clone_at self.now.clones c) self.now.front }
+    {
+        let mut least = None;
+        for i in 0..self.procs.len() {
+            least = earlier(least, self.procs[i].least_of(&self.model, &self.ends, c));
+        }
+        least
+    }
+
+    /// The least time that is due in any clone; None exactly where there is none. It takes no memory.
+    pub fn least(&self) -> Option<u64>
+        ensures value { result ≡ least (simulation self.now.net) self.now.clones self.now.front }
+    {
+        let mut least = None;
+        for i in 0..self.procs.len() {
+            least = earlier(least, self.procs[i].least(&self.model, &self.ends));
+        }
+        least
+    }
+
+    /// The next front: the least due time and the lookahead, at most the horizon. It takes no memory.
+    pub fn bound(&self) -> u64
+        ensures value { result ≡ next_front self.now.net self.now.clones self.now.front }
+    {
+        match self.least() {
+            None => self.model.horizon(),
+            Some(time) => self
+                .model
+                .horizon()
+                .min(time.saturating_add(self.model.lookahead())),
+        }
+    }
+
+    /// The report's figures of a station, now: its copies, the messages handled once, and those that the clones
+    /// would handle alone. It takes no memory.
+    pub fn figures(&self, station: u32) -> Figures
+        requires low { 1 ≤ station }
+        requires high { station ≤ length self.now.net.sites }
+        ensures copies { result.copies ≡ copies self.now.net self.now.clones station self.now.front }
+        ensures handled { result.handled ≡ handled self.now.net self.now.clones station self.now.front }
+        ensures alone { result.alone ≡ alone self.now.net self.now.clones station self.now.front }
+    {
+        let proc = &self.procs[station as usize - 1];
+        Figures {
+            copies: proc.copies().len() as u64,
+            handled: proc.handled(),
+            alone: alone_in(proc.copies()),
+        }
+    }
+}

@@ -1,0 +1,193 @@
+//! Decisions that a world takes: forks, sets and ends, at its front.
+ghost use Rattle.std.specs.Prelude.{◌≡◌, ℕ, ◌+◌, ◌<◌, ◌≤◌, None, length, IfOk, slice_get, Some};
+ghost use Rattle.sim_base.specs.Clones.{clone_at, place_of, forked, added, ended};
+ghost use Rattle.stations.specs.Runs.{set_message};
+ghost use Rattle.decision_book.specs.Journal.{clones_after};
+ghost use Rattle.world_core.specs.Taking.{IsAccepted, AreAccepted, clones_after_calls};
+ghost use Rattle.world_core.specs.Forking.{AllForked, LivesAtAll, LivesNowhere};
+
+use crate::delivery::deliver_to;
+use crate::world::World;
+use clone_sets::CloneSet;
+use decision_book::Call;
+use phys_proc::Proc;
+use sim_base::{Decision, Key, Msg, Name, NoMemory, Payload, Planned};
+use std::alloc::Global;
+
+// The message that tells its station of the decision at place k of a clone's list.
+fn message_of(k: usize, plan: &Planned) -> Msg
+    ensures value { result ≡ set_message k plan.now }
+{
+    Msg {
+        key: Key {
+            time: plan.at,
+            sender: 0,
+            number: k as u64,
+        },
+        to: plan.station,
+        payload: Payload::Set(plan.change),
+    }
+}
+
+// At each station the new clone stands beside the old one.
+fn fork_all(procs: &mut Vec<Proc>, old: u32, new: u32)
+    requires old { LivesAtAll old procs.old.items }
+    requires new { LivesNowhere new procs.old.items }
+    requires below { new < 256 }
+    ensures forked { AllForked old new procs.old.items procs.new.items }
+{
+    for i in 0..procs.len() {
+        procs[i].fork(old, new);
+    }
+}
+
+impl World {
+    /// Takes calls that were accepted on these clones at this front, one after the other.
+    ///
+    /// Out of memory, the world is given up.
+    pub fn take(self, alloc: Global, fresh: &[Call]) -> Result<World, NoMemory>
+        requires accepted { AreAccepted self.net self.clones self.front fresh.now }
+        ensures net { IfOk result (λ w. w.net ≡ self.net) }
+        ensures front { IfOk result (λ w. w.front ≡ self.front) }
+        ensures clones { IfOk result (λ w. w.clones ≡ clones_after_calls self.net self.clones fresh.now) }
+    {
+        let mut world = self;
+        for call in fresh {
+            world = world.decided(alloc, &call.decision)?;
+        }
+        Ok(world)
+    }
+
+    // Takes one decision that was accepted.
+    fn decided(self, alloc: Global, decision: &Decision) -> Result<World, NoMemory>
+        requires accepted { IsAccepted self.net self.clones self.front decision.now }
+        ensures net { IfOk result (λ w. w.net ≡ self.net) }
+        ensures front { IfOk result (λ w. w.front ≡ self.front) }
+        ensures clones { IfOk result (λ w. w.clones ≡ clones_after self.net self.clones decision.now) }
+    {
+        let Some(clone) = self.lists.find(&decision.subject()) else {
+            unreachable!()
+        };
+        match *decision {
+            Decision::Fork { new, .. } => {
+                let world = self.forked(alloc, new, clone)?;
+                Ok(world)
+            }
+            Decision::Set {
+                at,
+                station,
+                change,
+                ..
+            } => {
+                let Some(station) = self.model.find(&station) else {
+                    unreachable!()
+                };
+                let world = self.with_set(
+                    clone,
+                    Planned {
+                        at,
+                        station,
+                        change,
+                    },
+                )?;
+                Ok(world)
+            }
+            Decision::End { at, .. } => {
+                let world = self.with_end(clone, at)?;
+                Ok(world)
+            }
+        }
+    }
+
+    /// A new clone stands beside its old one, which has no end.
+    pub(crate) fn forked(self, alloc: Global, new: Name, old: u32) -> Result<World, NoMemory>
+        requires there { old < length self.clones }
+        requires open { (clone_at self.clones old).end ≡ None }
+        requires unused { place_of new self.clones ≡ None }
+        requires few { length self.clones < 256 }
+        ensures net { IfOk result (λ w. w.net ≡ self.net) }
+        ensures front { IfOk result (λ w. w.front ≡ self.front) }
+        ensures clones { IfOk result (λ w. w.clones ≡ forked self.clones new old) }
+    {
+        let World {
+            model,
+            mut lists,
+            ends,
+            front,
+            mut procs,
+            last,
+        } = self;
+        let number = lists.len();
+        lists.fork(alloc, new, old)?;
+        fork_all(&mut procs, old, number);
+        Ok(World {
+            model,
+            lists,
+            ends,
+            front,
+            procs,
+            last,
+        })
+    }
+
+    /// A decision of one clone is given to that clone at its station.
+    pub(crate) fn with_set(self, who: u32, plan: Planned) -> Result<World, NoMemory>
+        requires there { who < length self.clones }
+        requires low { 1 ≤ plan.station }
+        requires high { plan.station ≤ length self.net.sites }
+        requires late { self.front ≤ plan.at }
+        ensures net { IfOk result (λ w. w.net ≡ self.net) }
+        ensures front { IfOk result (λ w. w.front ≡ self.front) }
+        ensures clones { IfOk result (λ w. w.clones ≡ added self.clones who plan) }
+    {
+        let World {
+            model,
+            mut lists,
+            ends,
+            front,
+            mut procs,
+            last,
+        } = self;
+        let msg = message_of(lists.list(who).len(), &plan);
+        lists.add(who, plan)?;
+        deliver_to(&mut procs, msg, CloneSet::one(who))?;
+        Ok(World {
+            model,
+            lists,
+            ends,
+            front,
+            procs,
+            last,
+        })
+    }
+
+    /// From its end on a clone takes nothing.
+    pub(crate) fn with_end(self, who: u32, at: u64) -> Result<World, NoMemory>
+        requires there { who < length self.clones }
+        requires open { (clone_at self.clones who).end ≡ None }
+        requires late { self.front ≤ at }
+        requires early { at ≤ self.net.horizon }
+        ensures net { IfOk result (λ w. w.net ≡ self.net) }
+        ensures front { IfOk result (λ w. w.front ≡ self.front) }
+        ensures clones { IfOk result (λ w. w.clones ≡ ended self.clones who at) }
+    {
+        let World {
+            model,
+            mut lists,
+            mut ends,
+            front,
+            procs,
+            last,
+        } = self;
+        lists.end(who, at);
+        ends.end(who, at)?;
+        Ok(World {
+            model,
+            lists,
+            ends,
+            front,
+            procs,
+            last,
+        })
+    }
+}

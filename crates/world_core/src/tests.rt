@@ -1,0 +1,399 @@
+//! The two clones of the worked example, window by window, and what comes of other cuttings, crews, forks and ends.
+ghost use Rattle.std.specs.Prelude.{◌≡◌, ◌<◌};
+
+use crate::world::{World, WorldFault};
+use crew_pool::{Crew, Forked, Gate, NoGate, Serial, Stealing, Workers};
+use net_model::read_model;
+use sim_base::{Change, Entry, Figures, Name, Param, Planned, Steps};
+use std::alloc::Global;
+use std::marker::Brand;
+use std::sync::atomic::{AtomicU64, Ordering};
+use std::sync::ledger::{Blank, Ledger};
+use std::sync::{Arc, Wait};
+use std::test::Fail;
+use std::thread::Threads;
+
+/// A source, a server and a sink, one after the other.
+const ONE_DESK: &str = r#"lookahead = 2
+horizon = 20
+[[station]]
+name = "gate"
+kind = "source"
+every = [3, 3]
+jobs = 2
+link = [{ to = "desk", delay = 2 }]
+[[station]]
+name = "desk"
+kind = "server"
+servers = 1
+room = 5
+service = [4, 4]
+link = [{ to = "out", delay = 2 }]
+[[station]]
+name = "out"
+kind = "sink"
+"#;
+
+/// The fronts, and after each the copies, the messages handled once and those alone, of the gate, the desk and the exit.
+const WINDOWS: [(u64, [u64; 3], [u64; 3], [u64; 3]); 7] = [
+    (5, [1, 1, 2], [1, 0, 0], [1, 0, 0]),
+    (7, [1, 2, 4], [1, 1, 2], [1, 0, 0]),
+    (10, [1, 2, 4], [2, 6, 7], [1, 0, 0]),
+    (13, [1, 2, 4], [2, 7, 8], [1, 1, 2]),
+    (15, [1, 2, 4], [2, 8, 9], [2, 2, 3]),
+    (17, [1, 2, 4], [2, 8, 9], [2, 3, 4]),
+    (20, [1, 2, 4], [2, 8, 9], [2, 3, 4]),
+];
+
+/// Time, receiver, sender and number of each message of the two traces.
+const BASE: [(u64, u32, u32, u64); 8] = [
+    (3, 1, 1, 0),
+    (5, 2, 1, 1),
+    (6, 1, 1, 2),
+    (8, 2, 1, 3),
+    (9, 2, 2, 0),
+    (11, 3, 2, 1),
+    (13, 2, 2, 2),
+    (15, 3, 2, 3),
+];
+
+const FAST: [(u64, u32, u32, u64); 9] = [
+    (3, 1, 1, 0),
+    (5, 2, 1, 1),
+    (6, 1, 1, 2),
+    (8, 2, 0, 0),
+    (8, 2, 1, 3),
+    (9, 2, 2, 0),
+    (11, 3, 2, 1),
+    (11, 2, 2, 2),
+    (13, 3, 2, 3),
+];
+
+/// The world of a model's text, before anything is handled.
+fn begun(alloc: Global, text: &str) -> Option<World> {
+    let model = read_model(alloc, text.as_bytes()).ok()?;
+    let model = Arc::new(alloc, model).ok()?;
+    World::new(alloc, model).ok()
+}
+
+/// With the clone `fast` beside `base`.
+fn with_fork(alloc: Global, world: World) -> Option<World> {
+    let new = Name::read(b"fast")?;
+    let lists = world.lists();
+    if lists.len() > 1 {
+        return None;
+    }
+    let None = lists.find(&new) else {
+        return None;
+    };
+    let None = lists.end_of(0) else {
+        return None;
+    };
+    world.forked(alloc, new, 0).ok()
+}
+
+/// From a time on the desk of `fast` serves for 2.
+fn with_faster(world: World, at: u64) -> Option<World> {
+    if world.lists().len() < 2 || world.model.len() < 2 || at < world.front() {
+        return None;
+    }
+    let change = Change {
+        param: Param::Service,
+        a: 2,
+        b: 2,
+    };
+    let plan = Planned {
+        at,
+        station: 2,
+        change,
+    };
+    world.with_set(1, plan).ok()
+}
+
+/// The clone `fast` ends.
+fn with_end(world: World, at: u64) -> Option<World> {
+    if world.lists().len() < 2 || at < world.front() || at > world.model.horizon() {
+        return None;
+    }
+    let None = world.lists().end_of(1) else {
+        return None;
+    };
+    world.with_end(1, at).ok()
+}
+
+/// The two clones of the worked example.
+fn two_clones(alloc: Global, text: &str) -> Option<World> {
+    let world = begun(alloc, text)?;
+    let world = with_fork(alloc, world)?;
+    with_faster(world, 8)
+}
+
+/// A window to the bound, or to the next front where that is less.
+fn window<C: Crew, G: Gate, L: Ledger, R: Threads + Wait + Sync>(
+    rt: &R,
+    alloc: Global,
+    crew: &C,
+    gate: &G,
+    world: World,
+    bound: u64,
+    steps: &mut Steps<L>,
+) -> Result<World, WorldFault> {
+    let bound = bound.min(world.bound());
+    if world.front() >= bound {
+        return Ok(world);
+    }
+    world.window(rt, alloc, crew, gate, bound, steps)
+}
+
+/// Whether the station's figures are these.
+fn has_figures(world: &World, station: u32, figures: [u64; 3]) -> bool {
+    if station < 1 || station > world.model.len() {
+        return false;
+    }
+    let [copies, handled, alone] = figures;
+    world.figures(station)
+        == Figures {
+            copies,
+            handled,
+            alone,
+        }
+}
+
+/// Whether the clone's trace has these messages.
+fn has_trace(alloc: Global, world: &World, who: u32, keys: &[(u64, u32, u32, u64)]) -> bool {
+    if who >= world.lists().len() {
+        return false;
+    }
+    let Ok(trace) = world.trace(alloc, who) else {
+        return false;
+    };
+    if trace.len() != keys.len() {
+        return false;
+    }
+    for i in 0..keys.len() {
+        if i < trace.len() {
+            let msg = trace[i].msg;
+            if (msg.key.time, msg.to, msg.key.sender, msg.key.number) != keys[i] {
+                return false;
+            }
+        }
+    }
+    true
+}
+
+/// Whether each window of the two clones comes to what stands in the table, and the run to the two traces.
+fn windows_are<C: Crew, G: Gate, L: Ledger, R: Threads + Wait + Sync>(
+    rt: &R,
+    alloc: Global,
+    crew: &C,
+    gate: &G,
+    blank: Blank,
+) -> bool
+    requires name { blank.name ≡ L.name }
+    requires parts { blank.parts ≡ L.parts }
+    requires some { 0 < L.parts }
+{
+    let mut steps = Steps::<L>::new(blank);
+    let Some(begun) = two_clones(alloc, ONE_DESK) else {
+        return false;
+    };
+    let mut world = begun;
+    for i in 0..WINDOWS.len() {
+        let (front, at_gate, at_desk, at_exit) = WINDOWS[i];
+        let Ok(next) = window(rt, alloc, crew, gate, world, 20, &mut steps) else {
+            return false;
+        };
+        world = next;
+        let stands = world.front() == front
+            && has_figures(&world, 1, at_gate)
+            && has_figures(&world, 2, at_desk)
+            && has_figures(&world, 3, at_exit);
+        if !stands {
+            return false;
+        }
+    }
+    has_trace(alloc, &world, 0, &BASE) && has_trace(alloc, &world, 1, &FAST)
+}
+
+/// The same, on a counter of its own.
+fn windows_by<C: Crew, G: Gate, R: Threads + Wait + Sync>(
+    rt: &R,
+    alloc: Global,
+    crew: &C,
+    gate: &G,
+) -> bool {
+    windows_are::<C, G, Brand, R>(rt, alloc, crew, gate, Blank::new(1))
+}
+
+/// Counts its calls.
+#[derive(Drop)]
+struct Counts {
+    calls: AtomicU64,
+}
+
+impl Gate for Counts {
+    fn before<R: Wait>(&self, _rt: &R, _worker: u32, _task: u32) {
+        self.calls.fetch_add(1, Ordering::SeqCst);
+    }
+
+    fn before_call<R: Wait>(&self, _rt: &R, _analyst: u32, _k: u32) {}
+}
+
+/// Twenty windows, each so long at the most.
+fn run_to_end<L: Ledger, R: Threads + Wait + Sync>(
+    rt: &R,
+    alloc: Global,
+    world: World,
+    unit: u64,
+    blank: Blank,
+) -> Option<World>
+    requires name { blank.name ≡ L.name }
+    requires parts { blank.parts ≡ L.parts }
+    requires some { 0 < L.parts }
+{
+    let mut steps = Steps::<L>::new(blank);
+    let mut world = world;
+    for _ in 0..20 {
+        let bound = world.front().saturating_add(unit);
+        world = window(rt, alloc, &Serial, &NoGate, world, bound, &mut steps).ok()?;
+    }
+    Some(world)
+}
+
+/// The same, on a counter of its own.
+fn run_all<R: Threads + Wait + Sync>(
+    rt: &R,
+    alloc: Global,
+    world: World,
+    unit: u64,
+) -> Option<World> {
+    run_to_end::<Brand, R>(rt, alloc, world, unit, Blank::new(1))
+}
+
+/// Whether short windows come to the same traces and figures.
+fn short_windows_are<R: Threads + Wait + Sync>(rt: &R, alloc: Global) -> bool {
+    let Some(world) = two_clones(alloc, ONE_DESK) else {
+        return false;
+    };
+    let Some(world) = run_all(rt, alloc, world, 1) else {
+        return false;
+    };
+    has_trace(alloc, &world, 0, &BASE)
+        && has_trace(alloc, &world, 1, &FAST)
+        && has_figures(&world, 2, [2, 8, 9])
+        && has_figures(&world, 3, [2, 3, 4])
+}
+
+/// Whether a clone that ends at 13 handles nothing from then on.
+fn end_is_kept<R: Threads + Wait + Sync>(rt: &R, alloc: Global) -> bool {
+    let Some(world) = two_clones(alloc, ONE_DESK) else {
+        return false;
+    };
+    let Some(world) = with_end(world, 13) else {
+        return false;
+    };
+    let Some(world) = run_all(rt, alloc, world, 20) else {
+        return false;
+    };
+    has_trace(alloc, &world, 0, &BASE)
+        && has_trace(alloc, &world, 1, &FAST[..8])
+        && has_figures(&world, 3, [2, 2, 3])
+}
+
+/// Forks `fast` at front 10, and has it served faster from then on: the next front is 12.
+fn forks_late<L: Ledger, R: Threads + Wait + Sync>(
+    rt: &R,
+    alloc: Global,
+    blank: Blank,
+) -> Option<bool>
+    requires name { blank.name ≡ L.name }
+    requires parts { blank.parts ≡ L.parts }
+    requires some { 0 < L.parts }
+{
+    let mut steps = Steps::<L>::new(blank);
+    let mut world = begun(alloc, ONE_DESK)?;
+    for _ in 0..3 {
+        world = window(rt, alloc, &Serial, &NoGate, world, 20, &mut steps).ok()?;
+    }
+    let at = world.front();
+    let world = with_fork(alloc, world)?;
+    let world = with_faster(world, 10)?;
+    let next = world.bound();
+    let world = window(rt, alloc, &Serial, &NoGate, world, 20, &mut steps).ok()?;
+    Some(at == 10 && next == 12 && has_figures(&world, 2, [2, 4, 7]))
+}
+
+/// Where a station may handle three messages, `fast` is over the limit at the desk, in the window to 10.
+fn limit_is_met<L: Ledger, R: Threads + Wait + Sync>(
+    rt: &R,
+    alloc: Global,
+    blank: Blank,
+) -> Option<bool>
+    requires name { blank.name ≡ L.name }
+    requires parts { blank.parts ≡ L.parts }
+    requires some { 0 < L.parts }
+{
+    let mut steps = Steps::<L>::new(blank);
+    let text = ONE_DESK
+        .replacen(alloc, "horizon = 20", "horizon = 20\nlimit = 3", 1)
+        .ok()?;
+    let mut world = two_clones(alloc, &text)?;
+    for _ in 0..2 {
+        world = window(rt, alloc, &Serial, &NoGate, world, 20, &mut steps).ok()?;
+    }
+    match window(rt, alloc, &Serial, &NoGate, world, 20, &mut steps) {
+        Err(WorldFault::EventLimit { station, who, kept }) => Some(
+            station == 2 && who == 1 && kept == 3,
+        ),
+        _ => Some(false),
+    }
+}
+
+/// The last two, each on a counter of its own.
+fn forks_on<R: Threads + Wait + Sync>(rt: &R, alloc: Global) -> Option<bool> {
+    forks_late::<Brand, R>(rt, alloc, Blank::new(1))
+}
+
+fn meets_limit<R: Threads + Wait + Sync>(rt: &R, alloc: Global) -> Option<bool> {
+    limit_is_met::<Brand, R>(rt, alloc, Blank::new(1))
+}
+
+#[test]
+fn worked_example_by_three_crews(rt: HostRuntime) -> Result<(), Fail> {
+    let workers = Workers { count: 2 };
+    let serial = windows_by(&rt, rt.alloc(), &Serial, &NoGate);
+    let forked = windows_by(&rt, rt.alloc(), &Forked { workers }, &NoGate);
+    let stealing = windows_by(&rt, rt.alloc(), &Stealing { workers }, &NoGate);
+    assert!(rt; serial && forked && stealing);
+    Ok(())
+}
+
+#[test]
+fn windows_counted(rt: HostRuntime) -> Result<(), Fail> {
+    let gate = Counts {
+        calls: AtomicU64::new(0),
+    };
+    let stands = windows_by(&rt, rt.alloc(), &Serial, &gate);
+    assert!(rt; stands && gate.calls.load(Ordering::SeqCst) == 21);
+    Ok(())
+}
+
+#[test]
+fn other_cuttings_and_ends(rt: HostRuntime) -> Result<(), Fail> {
+    let short = short_windows_are(&rt, rt.alloc());
+    let ended = end_is_kept(&rt, rt.alloc());
+    assert!(rt; short && ended);
+    Ok(())
+}
+
+#[test]
+fn fork_in_the_middle(rt: HostRuntime) -> Result<(), Fail> {
+    assert!(rt; forks_on(&rt, rt.alloc()) == Some(true));
+    Ok(())
+}
+
+#[test]
+fn limit_names_least_station_and_clone(rt: HostRuntime) -> Result<(), Fail> {
+    assert!(rt; meets_limit(&rt, rt.alloc()) == Some(true));
+    Ok(())
+}
