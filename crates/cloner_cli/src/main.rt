@@ -1,4 +1,4 @@
-//! The program `cloner`.
+//! The program `cloner`: `main` hands the words of the command line, real files and streams to `cloner_top`.
 #![tactic(auto)]
 
 ghost use Rattle.std.specs.Prelude.{◌≡◌, ◌↔◌, ◌<◌, None};
@@ -13,7 +13,9 @@ use std::env;
 use std::marker::Brand;
 use std::process::ExitCode;
 use std::rt::{Env, Files};
+use std::sync::Wait;
 use std::sync::ledger::{Blank, Ledger};
+use std::thread::Threads;
 
 // The words of the command line, without the program's name; none where there are no arguments to read.
 fn words<R: Env + AllocGlobal>(rt: &R) -> Result<Vec<Word>, NoMemory> {
@@ -32,7 +34,7 @@ fn words<R: Env + AllocGlobal>(rt: &R) -> Result<Vec<Word>, NoMemory> {
 }
 
 // Runs the program over the real files and streams.
-fn run<L: Ledger, R: Files + Print + Eprint>(
+fn run<L: Ledger, R: Files + Print + Eprint + Threads + Wait + Sync>(
     rt: &R,
     alloc: Global,
     words: &[Word],

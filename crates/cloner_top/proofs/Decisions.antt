@@ -7,13 +7,13 @@ use Rattle.sim_base.specs.Clones.{Clone}
 use Rattle.sim_base.specs.declared.decision.Decision.{Decision}
 use Rattle.net_model.specs.Net.{Net}
 use Rattle.decision_script.specs.Alone.{decisions, decisions_onto}
-use Rattle.decision_script.specs.Stating.{Stated}
+use Rattle.decision_script.specs.Stating.{ScriptView}
 use Rattle.decision_script.specs.declared.item.Act.{Act}
 use Rattle.decision_script.specs.declared.item.Act.TheVariants.{Decide, Look}
 use Rattle.decision_script.specs.declared.item.Item.{Item}
 use Rattle.decision_book.specs.Journal.{Situation, opening}
 use Rattle.decision_book.specs.Replies.{reply}
-use Rattle.decision_book.specs.Scripted.{after_all}
+use Rattle.decision_book.specs.Scripts.{after_all}
 use Rattle.cloner_top.specs.declared.refusal.Refusal.{Refusal}
 use Rattle.cloner_top.specs.declared.refusal.Refusal.TheVariants.{Refused}
 use Rattle.cloner_top.specs.Deciding.{act_refused, after_act, decided, first_refused, is_accepted, unless_refused}
@@ -57,13 +57,13 @@ stands_later s t start is i item h on same =
     ∙ (stands_on s item.act (decisions (drop (i + 1) is)) ∙ (sym (ap (λ l. after_all s (decisions l)) (items_at is i item h)) ∙ same))
 
 -- all decisions of a script are accepted
-pub all_accepted : (net : Net) (s : Stated) (clones : List Clone) (start : Situation) → start ≡ opening net → first_refused start s.items ≡ None
+pub all_accepted : (net : Net) (s : ScriptView) (clones : List Clone) (start : Situation) → start ≡ opening net → first_refused start s.items ≡ None
     → clones ≡ (after_all start (decisions s.items)).clones → decided net s ≡ Ok clones
 unfolding decided
 all_accepted net s clones start e none is =
     ap₂ unless_refused (ap (λ x. first_refused x s.items) (sym e) ∙ none) (ap (λ x. (after_all x (decisions s.items)).clones) (sym e) ∙ sym is)
 
 -- a decision of a script is refused
-pub one_refused : (net : Net) (s : Stated) (r : Refusal) (start : Situation) → start ≡ opening net → first_refused start s.items ≡ Some r → decided net s ≡ Err r
+pub one_refused : (net : Net) (s : ScriptView) (r : Refusal) (start : Situation) → start ≡ opening net → first_refused start s.items ≡ Some r → decided net s ≡ Err r
 unfolding decided
 one_refused net s r start e some = rw (← e, some) refl

@@ -2,7 +2,7 @@
 use Rattle.std.proofs.Common.{◌≡◌, arith, inl, inr, refl, sym, subst, ℕ, List, Option, Some, None, Err}
 use Rattle.sim_outer.specs.Files.{Files}
 use Rattle.cloner_top.specs.declared.refusal.Refusal.{Refusal}
-use Rattle.cloner_top.specs.declared.refusal.Refusal.TheVariants.{OutOfMemory, Usage, NoModel, NoScript, BadModel, BadScript, Refused, NoClone, LimitMet, LimitMetAt, CannotWrite}
+use Rattle.cloner_top.specs.declared.refusal.Refusal.TheVariants.{OutOfMemory, Usage, NoModel, NoScript, BadModel, BadScript, Refused, NoClone, LimitMetAt, CannotWrite}
 use Rattle.cloner_top.specs.Requests.{Asked}
 use Rattle.cloner_top.specs.Refusals.{status_of}
 use Rattle.cloner_top.specs.Work.{IsBounded, IsWork, IsWorkOf}
@@ -27,7 +27,6 @@ ends_so before after a (BadModel fault) h = h
 ends_so before after a (BadScript fault) h = h
 ends_so before after a (Refused reply line) h = h
 ends_so before after a (NoClone name) h = h
-ends_so before after a LimitMet h = h
 ends_so before after a (LimitMetAt limit station clone) h = h
 ends_so before after a CannotWrite h = absurd h.0
 
@@ -69,7 +68,6 @@ work_of a files old new (BadModel fault) status work is = (λ z. absurd (omega (
 work_of a files old new (BadScript fault) status work is = (λ z. absurd (omega (arith, is, z)), (λ l h. work), λ l. absurd (omega (arith, is, l)))
 work_of a files old new (Refused reply line) status work is = (λ z. absurd (omega (arith, is, z)), (λ l h. work), λ l. absurd (omega (arith, is, l)))
 work_of a files old new (NoClone name) status work is = (λ z. absurd (omega (arith, is, z)), (λ l h. work), λ l. absurd (omega (arith, is, l)))
-work_of a files old new LimitMet status work is = (λ z. absurd (omega (arith, is, z)), (λ l h. absurd (omega (arith, is, h))), λ l. work)
 work_of a files old new (LimitMetAt limit station clone) status work is = (λ z. absurd (omega (arith, is, z)), (λ l h. absurd (omega (arith, is, h))), λ l. work)
 work_of a files old new CannotWrite status work is = (λ z. absurd (omega (arith, is, z)), (λ l h. work), λ l fs e. omega (arith, work))
 

@@ -1,25 +1,27 @@
 -- The facts of an answer.
-use Rattle.std.proofs.Common.{◌≡◌, ◌≢◌, ◌⊎◌, inl, inr, refl, sym, ap, subst, ◌∙◌, ℕ, ◌≤◌, arith, List, Option, Some, None, Result, Ok, Err, Bool, true, false}
+use Rattle.std.proofs.Common.{◌≡◌, ◌≢◌, ◌⊎◌, inl, inr, refl, sym, ap, subst, ◌∙◌, ℕ, ◌≤◌, arith, List, ◌++◌, Option, Some, None, Result, Ok, Err, Bool, true, false}
 use Rattle.std.specs.Prelude.{if◌then◌else◌, option_map}
-use Rattle.std.specs.List.{list_any}
 use Rattle.sim_base.specs.Clones.{Clone, clone_at, place_of}
 use Rattle.sim_outer.specs.Bytes.{Appended}
-use Rattle.sim_outer.specs.Files.{Files, Lacks, front_of}
+use Rattle.sim_outer.specs.Files.{Files, Lacks, prefix_of}
 use Rattle.net_model.specs.Net.{Net}
 use Rattle.net_model.specs.Text.{model}
 use Rattle.net_model.specs.declared.fault.ModelFault.{ModelFault}
 use Rattle.decision_script.specs.Reading.{script}
-use Rattle.decision_script.specs.Stating.{Stated}
+use Rattle.decision_script.specs.Stating.{ScriptView}
 use Rattle.decision_script.specs.declared.fault.ScriptFault.{ScriptFault}
 use Rattle.cloner_top.specs.declared.refusal.Refusal.{Refusal}
-use Rattle.cloner_top.specs.declared.refusal.Refusal.TheVariants.{OutOfMemory, Usage, NoModel, NoScript, BadModel, BadScript, Refused, NoClone, LimitMet, LimitMetAt, CannotWrite}
+use Rattle.cloner_top.specs.declared.refusal.Refusal.TheVariants.{OutOfMemory, Usage, NoModel, NoScript, BadModel, BadScript, Refused, NoClone, LimitMetAt, CannotWrite}
 use Rattle.cloner_top.specs.declared.request.Mode.{Mode}
 use Rattle.cloner_top.specs.declared.request.Mode.TheVariants.{Run, Solo}
 use Rattle.cloner_top.specs.Requests.{Asked}
 use Rattle.cloner_top.specs.Refusals.{status_of}
 use Rattle.cloner_top.specs.Deciding.{decided}
-use Rattle.cloner_top.specs.Outputs.{beyond, clone_text, goes_beyond, output, solo_output_at, traces, unless_beyond}
-use Rattle.cloner_top.specs.Answers.{◌>>=◌, Ends, Expects, HasModel, InputsFailed, IsAnswer, IsUnread, Outside, OutputFailed, Refuses, after_model, as_model, as_script, ending_status, expected, model_in, outcome, script_in, told}
+use Rattle.cloner_top.specs.Outputs.{beyond, clone_text, output, report, solo_output_at, traces, unless_beyond, unless_over}
+use Rattle.cloner_top.specs.Overs.{first_over_of}
+use Rattle.cloner_top.proofs.OverLaws.{model_is_net, within_horizon}
+use Rattle.sim_base.specs.Chain.{◌>>=◌}
+use Rattle.cloner_top.specs.Answers.{Ends, Expects, HasModel, InputsFailed, IsAnswer, IsUnread, Outside, OutputFailed, Refuses, after_model, as_model, as_script, ending_status, expected, model_in, outcome, script_in, told}
 use Rattle.cloner_top.specs.Facts.{Completes, IsFinished, IsRefusedFor, IsUnreadFor, Makes, Meets, Writes}
 
 -- how an answer to words of the form ends, in five kinds
@@ -41,7 +43,6 @@ kind_of before after a (Some (BadModel fault)) h = refused (BadModel fault) (ome
 kind_of before after a (Some (BadScript fault)) h = refused (BadScript fault) (omega arith) (omega arith) h.0 h.1
 kind_of before after a (Some (Refused reply line)) h = refused (Refused reply line) (omega arith) (omega arith) h.0 h.1
 kind_of before after a (Some (NoClone name)) h = refused (NoClone name) (omega arith) (omega arith) h.0 h.1
-kind_of before after a (Some LimitMet) h = refused LimitMet (omega arith) (omega arith) h.0 h.1
 kind_of before after a (Some (LimitMetAt limit station clone)) h = refused (LimitMetAt limit station clone) (omega arith) (omega arith) h.0 h.1
 kind_of before after a (Some CannotWrite) h = cut h.0 h.1 h.2
 
@@ -58,11 +59,11 @@ model_there (Some t) net h = (t, refl, model_ok (model t) net h)
     model_ok (Err fault) net h = absurd (cc)
 
 -- a script's text, where a script is expected of it
-script_there : (text : Option (List ℕ)) (stated : Stated) → script_in text ≡ Ok stated → (t : List ℕ) × (text ≡ Some t) × (script t ≡ Ok stated)
+script_there : (text : Option (List ℕ)) (stated : ScriptView) → script_in text ≡ Ok stated → (t : List ℕ) × (text ≡ Some t) × (script t ≡ Ok stated)
 script_there None stated h = absurd (cc)
 script_there (Some t) stated h = (t, refl, script_ok (script t) stated h)
   where
-    script_ok : (r : Result Stated ScriptFault) (stated : Stated) → as_script r ≡ Ok stated → r ≡ Ok stated
+    script_ok : (r : Result ScriptView ScriptFault) (stated : ScriptView) → as_script r ≡ Ok stated → r ≡ Ok stated
     script_ok (Ok s) stated h = let e : s ≡ stated = cc in ap Ok e
     script_ok (Err fault) stated h = absurd (cc)
 
@@ -98,9 +99,9 @@ makes fs a text h =
       ),
     )
 
-run_ok : (b : Bool) (t text : List ℕ) → (if b then Err LimitMet else Ok t) ≡ Ok text → (b ≡ false) × (t ≡ text)
-run_ok true t text h = absurd (cc)
-run_ok false t text h = (refl, cc)
+run_ok : (net : Net) (clones : List Clone) (over : Option (ℕ × ℕ)) (t text : List ℕ) → unless_over net clones over t ≡ Ok text → (over ≡ None) × (t ≡ text)
+run_ok net clones None t text h = (refl, cc)
+run_ok net clones (Some over) t text h = absurd (cc)
 
 solo_ok : (net : Net) (name : List ℕ) (station : Option ℕ) (t text : List ℕ) → unless_beyond net name station t ≡ Ok text → (station ≡ None) × (t ≡ text)
 solo_ok net name None t text h = (refl, cc)
@@ -114,8 +115,8 @@ place_ok net clones name (Some k) text h = (k, refl, h)
 writes : (mode : Mode) (fs : Files) (a : Asked) (net : Net) (clones : List Clone) (text : List ℕ) (old new : Option (List ℕ)) → Makes fs a net clones
     → output mode net clones ≡ Ok text → Appended old text new → Writes mode fs a old new
 writes Run fs a net clones text old new made h put =
-    let r = run_ok (list_any (goes_beyond net) clones) (traces net clones) text h in
-    record { net = net; clones = clones; made = made; within = r.0; writes = subst (λ t. Appended old t new) (sym r.1) put }
+    let r = run_ok net clones (first_over_of net clones) (traces net clones ++ report net clones) text h in
+    record { net = net; clones = clones; made = made; within = within_horizon net (model_is_net made.model_text net made.is_model) clones r.0; writes = subst (λ t. Appended old t new) (sym r.1) put }
 writes (Solo name) fs a net clones text old new made h put =
     let p = place_ok net clones name (place_of name clones) text h in
     let r = solo_ok net name (beyond net (clone_at clones p.0)) (clone_text net (clone_at clones p.0)) text p.2 in
@@ -205,7 +206,7 @@ cut_cause (Some a) before after status answer eight = cut_of before after a stat
 
 absent : (fs : Files) (name : List ℕ) (rose : Type 0) (files : Option Files) → files ≡ Some fs → ¬ rose → IsUnread rose files name → told fs name ≡ None
 absent fs name rose files e fine (inl r) = absurd (fine r)
-absent fs name rose files e fine (inr lacks) = let l : Lacks (Some fs) name = subst (λ f. Lacks f name) e lacks in ap (option_map front_of) l
+absent fs name rose files e fine (inr lacks) = let l : Lacks (Some fs) name = subst (λ f. Lacks f name) e lacks in ap (option_map prefix_of) l
 
 no_model_expected : (fs : Files) (a : Asked) → told fs a.model ≡ None → expected a fs ≡ Err NoModel
 unfolding expected

@@ -7,6 +7,9 @@ pub mod Putting
 pub mod Joining
 pub mod Endings
 pub mod Working
+pub mod Accepting
+pub mod OverLaws
+pub mod RunTexts
 pub mod FactLaws
 pub mod LimitLaws
 pub mod OwnScriptLaws

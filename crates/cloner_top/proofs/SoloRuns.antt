@@ -11,7 +11,7 @@ use Rattle.run_laws.specs.Runs.{run}
 use Rattle.stations.specs.Runs.{simulation}
 use Rattle.solo_run.specs.Beginning.{start_of}
 use Rattle.solo_run.specs.Limit.{first_beyond}
-use Rattle.solo_run.specs.Standing.{IsSolo, Standing, config_of}
+use Rattle.solo_run.specs.SoloView.{IsSolo, SoloView, config_of}
 use Rattle.solo_run.specs.Turns.{Stops, run_from, step_of}
 use Rattle.solo_run.specs.declared.turn.SoloFault.{SoloFault}
 use Rattle.solo_run.specs.declared.turn.SoloFault.TheVariants.{NoMemory, Limit}
@@ -26,29 +26,29 @@ for_stations net [] h = tt
 for_stations net (p ∷ ps) h = ((h.0.first, h.0.last), for_stations net ps h.1)
 
 -- the trace of a run from where it begins
-same_trace : (net : Net) (plans : List Planned) (front : ℕ) (v : Standing) → config_of net v ≡ start_of net plans → (run_from net v front).at.trace ≡ run_trace net plans front
+same_trace : (net : Net) (plans : List Planned) (front : ℕ) (v : SoloView) → config_of net v ≡ start_of net plans → (run_from net v front).at.trace ≡ run_trace net plans front
 unfolding run_trace
 same_trace net plans front v e = ap (λ k. (run_to msg_cmp (step_of net) (λ m. m.key.time) k front).at.trace) e
 
-pub runs : (net : Net) (plans : List Planned) (front : ℕ) (v : Standing) (r : Result Standing SoloFault) → config_of net v ≡ start_of net plans
+pub runs : (net : Net) (plans : List Planned) (front : ℕ) (v : SoloView) (r : Result SoloView SoloFault) → config_of net v ≡ start_of net plans
     → IfOk r (λ s. config_of net s ≡ run_from net v front) → IfOk r (λ s. s.trace ≡ run_trace net plans front)
 runs net plans front v (Ok s) e h = ap (λ k. k.at.trace) h ∙ same_trace net plans front v e
 runs net plans front v (Err f) e h = tt
 
-pub stays_within : (net : Net) (plans : List Planned) (front : ℕ) (v : Standing) (r : Result Standing SoloFault) → config_of net v ≡ start_of net plans
+pub stays_within : (net : Net) (plans : List Planned) (front : ℕ) (v : SoloView) (r : Result SoloView SoloFault) → config_of net v ≡ start_of net plans
     → IfOk r (λ s. config_of net s ≡ run_from net v front) → IfOk r (λ s. IsSolo net s) → OnOk r (first_beyond net.limit [] (run_trace net plans front) ≡ None)
 stays_within net plans front v (Ok s) e h solo = ap (first_beyond net.limit []) (sym (ap (λ k. k.at.trace) h ∙ same_trace net plans front v e)) ∙ solo.below
 stays_within net plans front v (Err f) e h solo = tt
 
 -- the stations have handled at most as many messages as they may
-most : (net : Net) (s : Standing) → IsSolo net s → length s.trace ≤ length net.sites * net.limit
+most : (net : Net) (s : SoloView) → IsSolo net s → length s.trace ≤ length net.sites * net.limit
 most net s solo =
     let all = sum_most (λ st. st.handled) net.limit s.states (λ i st is. (solo.states i st is).within) in
     let count : length s.states * net.limit ≡ length net.sites * net.limit = ap (λ n. n * net.limit) solo.count in
     let total = solo.total in
     omega (arith, all, count, total)
 
-pub few : (net : Net) (plans : List Planned) (v : Standing) (old new : ℕ) (r : Result Standing SoloFault) → config_of net v ≡ start_of net plans
+pub few : (net : Net) (plans : List Planned) (v : SoloView) (old new : ℕ) (r : Result SoloView SoloFault) → config_of net v ≡ start_of net plans
     → IfOk r (λ s. IsSolo net s) → IfOk r (λ s. new + length v.trace ≡ old + length s.trace) → OnOk r (IsFew net old new)
 few net plans v old new (Ok s) e solo steps =
     let none : length v.trace ≡ 0 = ap (λ k. length k.at.trace) e in
@@ -56,7 +56,7 @@ few net plans v old new (Ok s) e solo steps =
     omega (arith, none, all, steps)
 few net plans v old new (Err f) e solo steps = tt
 
-stops_of : (net : Net) (plans : List Planned) (front : ℕ) (v : Standing) (old new : ℕ) (f : SoloFault) → config_of net v ≡ start_of net plans
+stops_of : (net : Net) (plans : List Planned) (front : ℕ) (v : SoloView) (old new : ℕ) (f : SoloFault) → config_of net v ≡ start_of net plans
     → Stops net v front old new f → IsStop net (run_trace net plans front) old new f
 stops_of net plans front v old new NoMemory e h = tt
 stops_of net plans front v old new (Limit station kept) e h =
@@ -70,7 +70,7 @@ stops_of net plans front v old new (Limit station kept) e h =
       few = omega (arith, none, steps, bounded);
     }
 
-pub stops : (net : Net) (plans : List Planned) (front : ℕ) (v : Standing) (old new : ℕ) (r : Result Standing SoloFault) → config_of net v ≡ start_of net plans
+pub stops : (net : Net) (plans : List Planned) (front : ℕ) (v : SoloView) (old new : ℕ) (r : Result SoloView SoloFault) → config_of net v ≡ start_of net plans
     → IfErr r (λ f. Stops net v front old new f) → IfErr r (λ f. IsStop net (run_trace net plans front) old new f)
 stops net plans front v old new (Ok s) e h = tt
 stops net plans front v old new (Err f) e h = stops_of net plans front v old new f e h

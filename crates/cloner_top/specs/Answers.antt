@@ -1,14 +1,15 @@
 -- How the program ends: what it writes, and the causes of its statuses.
+use Rattle.sim_base.specs.Chain.{◌>>=◌}
 use Rattle.std.specs.Prelude.{◌≡◌, ◌⊎◌, ℕ, List, Option, Some, None, Result, Ok, Err, option_map}
 use Rattle.std.specs.FinMap as map
 use Rattle.sim_outer.specs.Bytes.{Appended, PartAppended}
 use Rattle.sim_outer.specs.Causes.{Rose}
-use Rattle.sim_outer.specs.Files.{Files, Lacks, front_of}
+use Rattle.sim_outer.specs.Files.{Files, Lacks, prefix_of}
 use Rattle.net_model.specs.Net.{Net}
 use Rattle.net_model.specs.Text.{model}
 use Rattle.net_model.specs.declared.fault.ModelFault.{ModelFault}
 use Rattle.decision_script.specs.Reading.{script}
-use Rattle.decision_script.specs.Stating.{Stated}
+use Rattle.decision_script.specs.Stating.{ScriptView}
 use Rattle.decision_script.specs.declared.fault.ScriptFault.{ScriptFault}
 use Rattle.cloner_top.specs.declared.refusal.Refusal.{Refusal}
 use Rattle.cloner_top.specs.declared.refusal.Refusal.TheVariants.{OutOfMemory, Usage, NoModel, NoScript, BadModel, BadScript, CannotWrite}
@@ -20,13 +21,7 @@ use Rattle.cloner_top.specs.Outputs.{output}
 
 -- what is fetched of a file that is there
 abbrev pub told : Files → List ℕ → Option (List ℕ)
-told files name = option_map front_of (map.get files name)
-
--- the next step, where this one has a result
-infixl 10 ◌>>=◌
-abbrev pub ◌>>=◌ : {A B : Type 0} → Result A Refusal → (A → Result B Refusal) → Result B Refusal
-(Ok x) >>= f = f x
-(Err r) >>= f = Err r
+told files name = option_map prefix_of (map.get files name)
 
 -- a model, or the rule that its text breaks
 abbrev pub as_model : Result Net ModelFault → Result Net Refusal
@@ -38,16 +33,16 @@ model_in None = Err NoModel
 model_in (Some text) = as_model (model text)
 
 -- a script, or the rule that its text breaks
-abbrev pub as_script : Result Stated ScriptFault → Result Stated Refusal
+abbrev pub as_script : Result ScriptView ScriptFault → Result ScriptView Refusal
 as_script (Ok stated) = Ok stated
 as_script (Err fault) = Err (BadScript fault)
 
-abbrev pub script_in : Option (List ℕ) → Result Stated Refusal
+abbrev pub script_in : Option (List ℕ) → Result ScriptView Refusal
 script_in None = Err NoScript
 script_in (Some text) = as_script (script text)
 
 -- what the decisions of a script make of a model
-abbrev pub outcome : Mode → Net → Stated → Result (List ℕ) Refusal
+abbrev pub outcome : Mode → Net → ScriptView → Result (List ℕ) Refusal
 outcome mode net stated = decided net stated >>= (λ clones. output mode net clones)
 
 abbrev pub after_model : Asked → Files → Net → Result (List ℕ) Refusal
@@ -73,7 +68,7 @@ HasNoModel rose files name (BadModel fault) = (fs : Files) → files ≡ Some fs
 HasNoModel rose files name refusal = ⊥
 
 -- where the files are told, the file of this name is this script
-abbrev pub IsScriptOf : Option Files → List ℕ → Stated → Type 0
+abbrev pub IsScriptOf : Option Files → List ℕ → ScriptView → Type 0
 IsScriptOf files name stated = (fs : Files) → files ≡ Some fs → script_in (told fs name) ≡ Ok stated
 
 -- why there is no script

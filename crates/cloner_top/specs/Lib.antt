@@ -1,6 +1,7 @@
 pub mod Requests
 pub mod Refusals
 pub mod Deciding
+pub mod Overs
 pub mod Outputs
 pub mod Stopping
 pub mod Answers

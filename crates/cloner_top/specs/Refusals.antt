@@ -7,7 +7,7 @@ use Rattle.decision_script.specs.Faults as script
 use Rattle.decision_book.specs.declared.call.Reply.{Reply}
 use Rattle.decision_book.specs.Numbers.{reply_number}
 use Rattle.cloner_top.specs.declared.refusal.Refusal.{Refusal}
-use Rattle.cloner_top.specs.declared.refusal.Refusal.TheVariants.{OutOfMemory, Usage, NoModel, NoScript, BadModel, BadScript, Refused, NoClone, LimitMet, LimitMetAt, CannotWrite}
+use Rattle.cloner_top.specs.declared.refusal.Refusal.TheVariants.{OutOfMemory, Usage, NoModel, NoScript, BadModel, BadScript, Refused, NoClone, LimitMetAt, CannotWrite}
 
 abbrev pub status_of : Refusal → ℕ
 status_of OutOfMemory = 1
@@ -18,7 +18,6 @@ status_of (BadModel fault) = 4
 status_of (BadScript fault) = 5
 status_of (Refused reply line) = 6
 status_of (NoClone name) = 6
-status_of LimitMet = 7
 status_of (LimitMetAt limit station clone) = 7
 status_of CannotWrite = 8
 
@@ -58,6 +57,5 @@ line_of (BadModel fault) = model_line fault
 line_of (BadScript fault) = script_line fault
 line_of (Refused reply line) = decision_line reply line
 line_of (NoClone name) = no_clone_line name
-line_of LimitMet = codes "cloner: limit met\n"
 line_of (LimitMetAt limit station clone) = limit_line limit station clone
 line_of CannotWrite = codes "cloner: cannot write\n"

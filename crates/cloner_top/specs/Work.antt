@@ -3,9 +3,9 @@ use Rattle.std.specs.Prelude.{◌≡◌, ℕ, ◌+◌, ◌*◌, ◌≤◌, List,
 use Rattle.sim_base.specs.Clones.{Clone}
 use Rattle.sim_outer.specs.Files.{Files}
 use Rattle.net_model.specs.Net.{Net}
-use Rattle.decision_script.specs.Stating.{Stated}
+use Rattle.decision_script.specs.Stating.{ScriptView}
 use Rattle.cloner_top.specs.declared.refusal.Refusal.{Refusal}
-use Rattle.cloner_top.specs.declared.refusal.Refusal.TheVariants.{OutOfMemory, LimitMet, LimitMetAt}
+use Rattle.cloner_top.specs.declared.refusal.Refusal.TheVariants.{OutOfMemory, LimitMetAt}
 use Rattle.cloner_top.specs.declared.request.Mode.{Mode}
 use Rattle.cloner_top.specs.declared.request.Mode.TheVariants.{Run, Solo}
 use Rattle.cloner_top.specs.Requests.{Asked}
@@ -22,7 +22,7 @@ abbrev pub most_of_clones : Mode → Net → Result (List Clone) Refusal → ℕ
 most_of_clones mode net (Ok clones) = clones_run mode clones * most_of_clone net
 most_of_clones mode net (Err refusal) = 0
 
-abbrev pub most_of_script : Mode → Net → Result Stated Refusal → ℕ
+abbrev pub most_of_script : Mode → Net → Result ScriptView Refusal → ℕ
 most_of_script mode net (Ok stated) = most_of_clones mode net (decided net stated)
 most_of_script mode net (Err refusal) = 0
 
@@ -42,7 +42,6 @@ IsBounded files a old new = (fs : Files) → files ≡ Some fs → new ≤ old +
 abbrev pub IsWork : {T : Type 0} → Result T Refusal → Type 0 → Type 0 → Type 0
 IsWork (Ok t) bounded none = bounded
 IsWork (Err OutOfMemory) bounded none = Unit {0}
-IsWork (Err LimitMet) bounded none = bounded
 IsWork (Err (LimitMetAt limit station clone)) bounded none = bounded
 IsWork (Err refusal) bounded none = none
 

@@ -1,9 +1,9 @@
 //! Decides what a script asks for.
 ghost use Rattle.std.specs.Prelude.{◌≡◌, ◌≢◌, IfErr, IfOk, OnErr, OnOk, Ok, Err, None, Option, Some};
 ghost use Rattle.decision_book.specs.Journal.{after};
-ghost use Rattle.decision_book.specs.Scripted.{after_all, lists_of};
+ghost use Rattle.decision_book.specs.Scripts.{after_all, lists_of};
 ghost use Rattle.decision_script.specs.Alone.{decisions};
-ghost use Rattle.cloner_top.specs.Deciding.{act_refused, after_act, decided, first_refused};
+ghost use Rattle.cloner_top.specs.Deciding.{AllAccepted, act_refused, after_act, decided, first_refused};
 
 use crate::refusal::Refusal;
 use decision_book::{Book, Reply};
@@ -16,6 +16,7 @@ fn decide_item(book: &mut Book, item: &Item) -> Result<(), Refusal>
     ensures ok { OnOk result (act_refused (after book.old.net book.old.events) item.now.line item.now.act None ≡ None) }
     ensures err { IfErr result (λ r. (later : Option Refusal) → act_refused (after book.old.net book.old.events) item.now.line item.now.act later ≡ Some r) }
     ensures stands { after book.new.net book.new.events ≡ after_act (after book.old.net book.old.events) item.now.act }
+    ensures accepted { OnOk result (AllAccepted book.old.net book.old.events → AllAccepted book.new.net book.new.events) }
     ensures net { book.new.net ≡ book.old.net }
 {
     let Act::Decide(decision) = item.act else {
@@ -34,6 +35,7 @@ fn decide_items(book: &mut Book, script: &Script) -> Result<(), Refusal>
     ensures ok { OnOk result (first_refused (after book.old.net book.old.events) script.now.items ≡ None) }
     ensures stands { OnOk result (after book.new.net book.new.events ≡ after_all (after book.old.net book.old.events) (decisions script.now.items)) }
     ensures err { IfErr result (λ r. first_refused (after book.old.net book.old.events) script.now.items ≡ Some r) }
+    ensures accepted { OnOk result (AllAccepted book.old.net book.old.events → AllAccepted book.new.net book.new.events) }
     ensures net { book.new.net ≡ book.old.net }
 {
     for i in 0..script.len() {
@@ -54,6 +56,7 @@ pub(crate) fn decide_script(
 ) -> Result<Book, Refusal>
     ensures ok { IfOk result (λ book. decided model.value script.now ≡ Ok (after book.net book.events).clones) }
     ensures net { IfOk result (λ book. book.net ≡ model.value) }
+    ensures accepted { IfOk result (λ book. AllAccepted book.net book.events) }
     ensures err { IfErr result (λ r. r ≢ Refusal.OutOfMemory → decided model.value script.now ≡ Err r) }
 {
     let Ok(mut book) = Book::begin(alloc, model) else {

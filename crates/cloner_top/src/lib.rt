@@ -1,4 +1,22 @@
 //! The program as one call: the words of the command line, files and sinks in, a status out.
+//!
+//! A planner asks by a model and a script of decisions; `cloner` reads both, decides, simulates each branch and writes
+//! its trace. The steps, each with a definition of its own in `specs/`:
+//!
+//! ```text
+//! words -request-> what is asked -reading-> model, script -deciding-> branches -running-> texts -program-> output
+//!                                    each step may end in a refusal with a status and a line of its own
+//! ```
+//!
+//! An example, over files and sinks in memory:
+//!
+//! ```text
+//! let status = cloner(&rt, alloc, &words, &mut inputs, &mut output, &mut errors, &NoGate, &mut steps);
+//! ```
+//!
+//! A run costs what its messages cost, some 250 nanoseconds each with their lines, and the memory of its texts.
+//! The promises of the README stand on the contract of `cloner`: right traces, the first refusal, all or nothing,
+//! bounded work.
 #![tactic(auto)]
 
 mod deciding;

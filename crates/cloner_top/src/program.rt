@@ -4,14 +4,14 @@ ghost use Rattle.std.specs.List.{flat_map};
 ghost use Rattle.sim_outer.specs.Bytes.{Appended, PartAppended};
 ghost use Rattle.sim_outer.specs.Causes.{Rose};
 ghost use Rattle.cloner_top.specs.Answers.{Expects, IsAnswer, IsCause, IsPut, IsTold, outcome};
-ghost use Rattle.cloner_top.specs.Deciding.{decided};
+ghost use Rattle.cloner_top.specs.Deciding.{AllAccepted, decided};
 ghost use Rattle.cloner_top.specs.Facts.{Completes, IsFinished, IsRefusedFor, IsUnreadFor};
 ghost use Rattle.cloner_top.specs.Outputs.{output};
 ghost use Rattle.cloner_top.specs.Requests.{asked, form};
 ghost use Rattle.cloner_top.specs.Refusals.{line_of, status_of};
 ghost use Rattle.cloner_top.specs.Stopping.{most_of_clone};
 ghost use Rattle.cloner_top.specs.Work.{IsBounded, IsWork, IsWorkOf, clones_run, most_of_clones};
-ghost use Rattle.decision_book.specs.Plans.{ArePlanned};
+ghost use Rattle.decision_book.specs.Journal.{after};
 
 use crate::deciding::decide_script;
 use crate::reading::{fetch_model, fetch_script};
@@ -19,36 +19,47 @@ use crate::refusal::Refusal;
 use crate::request::{Mode, Request, read_words};
 use crate::running::{run_texts, solo_texts};
 use crew_pool::Gate;
+use decision_book::Book;
 use decision_script::Script;
 use net_model::Model;
-use sim_base::{Lists, Steps};
+use sim_base::Steps;
 use sim_outer::{Inputs, Sink, Word};
 use std::alloc::Global;
-use std::sync::Arc;
 use std::sync::ledger::Ledger;
+use std::sync::{Arc, Wait};
+use std::thread::Threads;
 
 // The texts of the clones that are asked for.
-fn texts_of<L: Ledger>(
+fn texts_of<G: Gate, L: Ledger, R: Threads + Wait + Sync>(
+    rt: &R,
     alloc: Global,
+    gate: &G,
     mode: &Mode,
-    model: &Model,
-    lists: &Lists,
+    model: &Arc<Model>,
+    book: &Book,
     steps: &mut Steps<L>,
 ) -> Result<Vec<Vec<u8>>, Refusal>
-    requires planned { ArePlanned model.now lists.now.clones }
-    ensures ok { IfOk result (λ texts. output mode.now model.now lists.now.clones ≡ Ok (flat_map (λ t. t.items) texts.items)) }
-    ensures err { IfErr result (λ r. r ≢ Refusal.OutOfMemory → output mode.now model.now lists.now.clones ≡ Err r) }
-    ensures work { IsWork result (steps.new ≤ steps.old + clones_run mode.now lists.now.clones * most_of_clone model.now) (steps.new ≡ steps.old) }
+    requires net { book.now.net ≡ model.now.value }
+    requires accepted { AllAccepted book.now.net book.now.events }
+    ensures ok { IfOk result (λ texts.
+        output mode.now model.now.value (after book.now.net book.now.events).clones ≡ Ok (flat_map (λ t. t.items) texts.items)) }
+    ensures err { IfErr result (λ r. r ≢ Refusal.OutOfMemory
+        → output mode.now model.now.value (after book.now.net book.now.events).clones ≡ Err r) }
+    ensures work { IsWork result
+        (steps.new ≤ steps.old + clones_run mode.now (after book.now.net book.now.events).clones * most_of_clone model.now.value)
+        (steps.new ≡ steps.old) }
 {
     match mode {
-        Mode::Run => run_texts(alloc, model, lists, steps),
-        Mode::Solo(name) => solo_texts(alloc, model, lists, name, steps),
+        Mode::Run => run_texts(rt, alloc, gate, model, book, steps),
+        Mode::Solo(name) => solo_texts(alloc, model, book.lists(), name, steps),
     }
 }
 
 // What the decisions of a script make of a model.
-fn outcome_of<L: Ledger>(
+fn outcome_of<G: Gate, L: Ledger, R: Threads + Wait + Sync>(
+    rt: &R,
     alloc: Global,
+    gate: &G,
     mode: &Mode,
     model: Model,
     script: &Script,
@@ -65,16 +76,18 @@ fn outcome_of<L: Ledger>(
         return Err(Refusal::OutOfMemory);
     };
     match decide_script(alloc, shared, script) {
-        Ok(book) => texts_of(alloc, mode, &model, book.lists(), steps),
+        Ok(book) => texts_of(rt, alloc, gate, mode, &model, &book, steps),
         Err(refusal) => Err(refusal),
     }
 }
 
 // What is asked for, or why there is none.
-fn texts_for<I: Inputs, L: Ledger>(
+fn texts_for<I: Inputs, G: Gate, L: Ledger, R: Threads + Wait + Sync>(
+    rt: &R,
     alloc: Global,
     request: &Request,
     inputs: &mut I,
+    gate: &G,
     steps: &mut Steps<L>,
 ) -> Result<Vec<Vec<u8>>, Refusal>
     ensures ok { IfOk result (λ texts. Expects (I.files inputs.old) (asked request.now) (flat_map (λ t. t.items) texts.items)) }
@@ -89,7 +102,7 @@ fn texts_for<I: Inputs, L: Ledger>(
         Ok(script) => script,
         Err(refusal) => return Err(refusal),
     };
-    outcome_of(alloc, &request.mode, model, &script, steps)
+    outcome_of(rt, alloc, gate, &request.mode, model, &script, steps)
 }
 
 // Puts each text in one piece.
@@ -131,12 +144,14 @@ fn write_texts<O: Sink, E: Sink>(out: &mut O, err: &mut E, texts: &[Vec<u8>]) ->
 }
 
 // The status, with the output or the line that tells why there is none.
-fn answer<I: Inputs, O: Sink, E: Sink, L: Ledger>(
+fn answer<I: Inputs, O: Sink, E: Sink, G: Gate, L: Ledger, R: Threads + Wait + Sync>(
+    rt: &R,
     alloc: Global,
     words: &[Word],
     inputs: &mut I,
     out: &mut O,
     err: &mut E,
+    gate: &G,
     steps: &mut Steps<L>,
 ) -> u8
     ensures answer { IsAnswer (form words.now)
@@ -162,7 +177,7 @@ fn answer<I: Inputs, O: Sink, E: Sink, L: Ledger>(
     let Some(request) = read_words(words) else {
         return complain(err, &Refusal::Usage);
     };
-    match texts_for(alloc, &request, inputs, steps) {
+    match texts_for(rt, alloc, &request, inputs, gate, steps) {
         Ok(texts) => write_texts(out, err, texts.as_slice()),
         Err(refusal) => complain(err, &refusal),
     }
@@ -170,9 +185,10 @@ fn answer<I: Inputs, O: Sink, E: Sink, L: Ledger>(
 
 /// All that the program does: the words of the command line to its status.
 ///
-/// `run MODEL SCRIPT` writes the trace text of each clone that the script makes, `solo MODEL SCRIPT
-/// --clone NAME` that of one. Each text is one put, and all are built before the first. The status is 0
-/// where all is written. Otherwise the error sink is told why in one line:
+/// `run MODEL SCRIPT` runs all clones that the script makes in one world, which they share, and writes the trace text
+/// of each and then the report; `solo MODEL SCRIPT --clone NAME` runs one by itself and writes its trace text. Each
+/// text is one put, and all are built before the first. The status is 0 where all is written. Otherwise the error
+/// sink is told why in one line:
 ///
 /// 1. memory was refused, at any place before the first put;
 /// 2. the words are of no form;
@@ -184,14 +200,14 @@ fn answer<I: Inputs, O: Sink, E: Sink, L: Ledger>(
 /// 8. the output was cut off, which comes only where it had a fault.
 ///
 /// After 1 to 7 the output is as before.
-pub fn cloner<R, I: Inputs, O: Sink, E: Sink, G: Gate, L: Ledger>(
-    _rt: &R,
+pub fn cloner<R: Threads + Wait + Sync, I: Inputs, O: Sink, E: Sink, G: Gate, L: Ledger>(
+    rt: &R,
     alloc: Global,
     words: &[Word],
     inputs: &mut I,
     out: &mut O,
     err: &mut E,
-    _gate: &G,
+    gate: &G,
     steps: &mut Steps<L>,
 ) -> u8
     ensures finished { result ≡ 0 → IsFinished (form words.now) (I.files inputs.old) (O.bytes out.old) (O.bytes out.new) }
@@ -221,5 +237,5 @@ pub fn cloner<R, I: Inputs, O: Sink, E: Sink, G: Gate, L: Ledger>(
         })
         result }
 {
-    answer(alloc, words, inputs, out, err, steps)
+    answer(rt, alloc, words, inputs, out, err, gate, steps)
 }

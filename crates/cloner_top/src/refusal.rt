@@ -31,8 +31,6 @@ pub enum Refusal {
     },
     /// The decisions make no clone of this name.
     NoClone(Name),
-    /// A log of some clone would go beyond the limit.
-    LimitMet,
     /// The station whose log is the first to go beyond the limit.
     LimitMetAt {
         limit: u64,
@@ -145,7 +143,7 @@ impl Refusal {
             Refusal::BadModel(_) => 4,
             Refusal::BadScript(_) => 5,
             Refusal::Refused { .. } | Refusal::NoClone(_) => 6,
-            Refusal::LimitMet | Refusal::LimitMetAt { .. } => 7,
+            Refusal::LimitMetAt { .. } => 7,
             Refusal::CannotWrite => 8,
         }
     }
@@ -165,7 +163,6 @@ impl Refusal {
             Refusal::BadScript(fault) => script_refused(fault),
             Refusal::Refused { reply, line } => decision_refused(reply, *line),
             Refusal::NoClone(name) => clone_missing(name),
-            Refusal::LimitMet => just("cloner: limit met\n"),
             Refusal::LimitMetAt {
                 limit,
                 station,

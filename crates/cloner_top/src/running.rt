@@ -1,22 +1,32 @@
-//! Runs clones, each by itself, and makes their texts.
+//! Runs clones, all in one world or one by itself, and makes their texts.
 ghost use Rattle.std.specs.Prelude.{◌≡◌, ◌≢◌, ◌+◌, ◌*◌, ◌<◌, ◌≤◌, ◌++◌, ◌∷◌, [], length, min, unwrap_or, IfErr, IfOk, OnErr, OnOk, Ok, Err, Some, None};
 ghost use Rattle.std.specs.List.{AllByRecursion, flat_map};
-ghost use Rattle.sim_base.specs.Clones.{clone_at};
+ghost use Rattle.sim_base.specs.Clones.{base, clone_at};
 ghost use Rattle.net_model.specs.Net.{site_of};
 ghost use Rattle.solo_run.specs.Limit.{first_beyond};
+ghost use Rattle.decision_book.specs.Journal.{after};
 ghost use Rattle.decision_book.specs.Plans.{ArePlanned, IsPlan};
-ghost use Rattle.cloner_top.specs.Outputs.{clone_trace, clone_text as text_of, output as output_of, run_output, solo_output};
+ghost use Rattle.world_core.specs.Overs.{NoneBeyond};
+ghost use Rattle.world_core.specs.Taking.{AreAccepted, clones_after_calls};
+ghost use Rattle.world_core.specs.Worlds.{total_handled};
+ghost use Rattle.cloner_top.specs.Deciding.{AllAccepted};
+ghost use Rattle.cloner_top.specs.Outputs.{clone_trace, clone_text as text_of, report, run_output, solo_output, traces};
+ghost use Rattle.cloner_top.specs.Overs.{IsRunFault, first_over_of};
 ghost use Rattle.cloner_top.specs.Stopping.{IsFew, IsStop, most_of_clone, run_trace};
 ghost use Rattle.cloner_top.specs.Work.{IsWork};
 
 use crate::refusal::Refusal;
-use crate::request::Mode;
+use crew_pool::{Gate, Serial};
+use decision_book::{Book, Call};
 use net_model::Model;
 use sim_base::{Lists, Name, NoMemory, Planned, Steps};
 use solo_run::{Solo, SoloFault};
 use std::alloc::Global;
 use std::sync::ledger::Ledger;
-use trace_report::trace_text;
+use std::sync::{Arc, Wait};
+use std::thread::Threads;
+use trace_report::{report_text, trace_text};
+use world_core::{World, WorldFault};
 
 // Runs a clone of these decisions by itself to a front.
 fn run_alone<L: Ledger>(
@@ -87,31 +97,130 @@ fn push_text(texts: &mut Vec<Vec<u8>>, text: Vec<u8>) -> Result<(), Refusal>
     }
 }
 
-/// The trace text of each clone, in order of making, each clone simulated alone.
-pub(crate) fn run_texts<L: Ledger>(
+// The world of all clones that the calls make, before anything is handled.
+fn open_world(alloc: Global, model: &Arc<Model>, calls: &[Call]) -> Result<World, NoMemory>
+    requires accepted { AreAccepted model.now.value (base ∷ []) 0 calls.now }
+    ensures net { IfOk result (λ w. w.net ≡ model.now.value) }
+    ensures front { IfOk result (λ w. w.front ≡ 0) }
+    ensures clones { IfOk result (λ w. w.clones ≡ clones_after_calls model.now.value (base ∷ []) calls.now) }
+{
+    let shared = model.clone()?;
+    let world = World::new(alloc, shared)?;
+    let world = world.take(alloc, calls)?;
+    Ok(world)
+}
+
+// Runs all clones window by window, up to the horizon.
+fn run_world<G: Gate, L: Ledger, R: Threads + Wait + Sync>(
+    rt: &R,
     alloc: Global,
+    gate: &G,
     model: &Model,
-    lists: &Lists,
+    world: World,
     steps: &mut Steps<L>,
-) -> Result<Vec<Vec<u8>>, Refusal>
-    requires planned { ArePlanned model.now lists.now.clones }
-    ensures ok { IfOk result (λ texts. run_output model.now lists.now.clones ≡ Ok (flat_map (λ t. t.items) texts.items)) }
-    ensures err { IfErr result (λ r. r ≢ Refusal.OutOfMemory → run_output model.now lists.now.clones ≡ Err r) }
-    ensures work { IsWork result (steps.new ≤ steps.old + length lists.now.clones * most_of_clone model.now) (steps.new ≡ steps.old) }
+) -> Result<World, WorldFault>
+    requires net { world.net ≡ model.now }
+    requires front { world.front ≡ 0 }
+    ensures net { IfOk result (λ w. w.net ≡ model.now) }
+    ensures clones { IfOk result (λ w. w.clones ≡ world.clones) }
+    ensures front { IfOk result (λ w. w.front ≡ model.now.horizon) }
+    ensures within { OnOk result (first_over_of model.now world.clones ≡ None) }
+    ensures short { OnOk result (NoneBeyond model.now world.clones model.now.horizon) }
+    ensures steps { OnOk result (steps.new ≡ steps.old + total_handled model.now world.clones model.now.horizon) }
+    ensures fault { IfErr result (λ e. IsRunFault model.now world.clones steps.old steps.new e) }
+{
+    let mut world = world;
+    'window: while world.front() < model.horizon() {
+        let bound = world.bound();
+        world = match world.window(rt, alloc, &Serial, gate, bound, steps) {
+            Ok(world) => world,
+            Err(fault) => return Err(fault),
+        };
+    }
+    Ok(world)
+}
+
+// The text of the trace of the clone at a place.
+fn traced(alloc: Global, model: &Model, world: &World, c: u32) -> Result<Vec<u8>, NoMemory>
+    requires net { world.now.net ≡ model.now }
+    requires ended { world.now.front ≡ model.now.horizon }
+    requires there { c < length world.now.clones }
+    ensures value { IfOk result (λ text. text.items ≡ text_of model.now (clone_at world.now.clones c)) }
+{
+    let trace = world.trace(alloc, c)?;
+    trace_text(alloc, model, &world.lists().name(c), trace.as_slice())
+}
+
+// The text of the report.
+fn reported(alloc: Global, model: &Model, world: &World) -> Result<Vec<u8>, NoMemory>
+    requires net { world.now.net ≡ model.now }
+    requires ended { world.now.front ≡ model.now.horizon }
+    requires few { length world.now.clones ≤ 256 }
+    requires within { NoneBeyond model.now world.now.clones model.now.horizon }
+    ensures value { IfOk result (λ text. text.items ≡ report model.now world.now.clones) }
+{
+    let mut figures = Vec::new(alloc);
+    for s in 0..model.len() {
+        figures.push(world.figures(s + 1))?;
+    }
+    report_text(alloc, model, figures.as_slice())
+}
+
+// The texts of a world at the horizon: each clone's trace, and the report.
+fn world_texts(alloc: Global, model: &Model, world: &World) -> Result<Vec<Vec<u8>>, NoMemory>
+    requires net { world.now.net ≡ model.now }
+    requires ended { world.now.front ≡ model.now.horizon }
+    requires few { length world.now.clones ≤ 256 }
+    requires within { NoneBeyond model.now world.now.clones model.now.horizon }
+    ensures value { IfOk result (λ texts.
+        flat_map (λ t. t.items) texts.items ≡ traces model.now world.now.clones ++ report model.now world.now.clones) }
 {
     let mut texts = Vec::new(alloc);
-    for c in 0..lists.len() {
-        let text = match clone_text(alloc, model, lists, c, steps) {
-            Ok(text) => text,
-            Err(SoloFault::NoMemory) => return Err(Refusal::OutOfMemory),
-            Err(SoloFault::Limit { .. }) => return Err(Refusal::LimitMet),
-        };
-        match push_text(&mut texts, text) {
-            Ok(()) => {}
-            Err(refusal) => return Err(refusal),
-        }
+    for c in 0..world.lists().len() {
+        let text = traced(alloc, model, world, c)?;
+        texts.push(text)?;
     }
+    let report = reported(alloc, model, world)?;
+    texts.push(report)?;
     Ok(texts)
+}
+
+/// The trace text of each clone of a book, in order of making, and behind them the report: all clones share one
+/// world.
+pub(crate) fn run_texts<G: Gate, L: Ledger, R: Threads + Wait + Sync>(
+    rt: &R,
+    alloc: Global,
+    gate: &G,
+    model: &Arc<Model>,
+    book: &Book,
+    steps: &mut Steps<L>,
+) -> Result<Vec<Vec<u8>>, Refusal>
+    requires net { book.now.net ≡ model.now.value }
+    requires accepted { AllAccepted book.now.net book.now.events }
+    ensures ok { IfOk result (λ texts.
+        run_output model.now.value (after book.now.net book.now.events).clones ≡ Ok (flat_map (λ t. t.items) texts.items)) }
+    ensures err { IfErr result (λ r. r ≢ Refusal.OutOfMemory
+        → run_output model.now.value (after book.now.net book.now.events).clones ≡ Err r) }
+    ensures work { IsWork result
+        (steps.new ≤ steps.old + length (after book.now.net book.now.events).clones * most_of_clone model.now.value)
+        (steps.new ≡ steps.old) }
+{
+    let lists = book.lists();
+    let world = match open_world(alloc, model, book.calls()) {
+        Ok(world) => world,
+        Err(NoMemory) => return Err(Refusal::OutOfMemory),
+    };
+    let world = match run_world(rt, alloc, gate, model, world, steps) {
+        Ok(world) => world,
+        Err(WorldFault::NoMemory) => return Err(Refusal::OutOfMemory),
+        Err(WorldFault::EventLimit { station, who, .. }) => {
+            return Err(limit_met_at(model, station, lists.name(who)));
+        }
+    };
+    match world_texts(alloc, model, &world) {
+        Ok(texts) => Ok(texts),
+        Err(NoMemory) => Err(Refusal::OutOfMemory),
+    }
 }
 
 fn limit_met_at(model: &Model, station: u32, clone: Name) -> Refusal

@@ -11,8 +11,10 @@ use sim_outer::{MemInputs, MemSink, Word};
 use std::alloc::Global;
 use std::marker::Brand;
 use std::process::Abort;
+use std::sync::Wait;
 use std::sync::ledger::{Blank, Ledger};
 use std::test::Fail;
+use std::thread::Threads;
 
 /// How the outside behaves: the calls that fail, with the bytes that they take, and the output's room.
 #[derive(Clone, Copy)]
@@ -64,7 +66,8 @@ fn files_of(alloc: Global, model: &str, script: &str) -> Result<Vec<(Word, Vec<u
 }
 
 /// Runs the program on a model in the file `m` and a script in the file `s`.
-fn ended<L: Ledger>(
+fn ended<L: Ledger, R: Threads + Wait + Sync>(
+    rt: &R,
     alloc: Global,
     words: &[&str],
     model: &str,
@@ -78,7 +81,7 @@ fn ended<L: Ledger>(
     let mut out = MemSink::new(alloc, outside.room, Vec::from_slice(alloc, outside.put)?)?;
     let mut err = MemSink::new(alloc, 1000, Vec::from_slice(alloc, outside.error)?)?;
     let status = cloner(
-        &(),
+        rt,
         alloc,
         words.as_slice(),
         &mut inputs,
@@ -95,7 +98,8 @@ fn ended<L: Ledger>(
 }
 
 /// Whether `run` of a model and a script ends so.
-fn runs<L: Ledger>(
+fn runs<L: Ledger, R: Threads + Wait + Sync>(
+    rt: &R,
     alloc: Global,
     model: &str,
     script: &str,
@@ -104,14 +108,43 @@ fn runs<L: Ledger>(
     errors: &str,
     steps: &mut Steps<L>,
 ) -> bool {
-    match ended(alloc, &["run", "m", "s"], model, script, &GOOD, steps) {
+    match ended(rt, alloc, &["run", "m", "s"], model, script, &GOOD, steps) {
         Ok(ended) => ended.is(status, output, errors),
         Err(_) => false,
     }
 }
 
+/// Whether `run` of a model and a script writes these traces and this report, and says nothing to the error sink.
+fn writes<L: Ledger, R: Threads + Wait + Sync>(
+    rt: &R,
+    alloc: Global,
+    model: &str,
+    script: &str,
+    traces: &str,
+    report: &str,
+    steps: &mut Steps<L>,
+) -> bool {
+    let ended = ended(rt, alloc, &["run", "m", "s"], model, script, &GOOD, steps);
+    match (ended, both(alloc, traces, report)) {
+        (Ok(ended), Ok(whole)) => {
+            ended.status == 0
+                && ended.output.as_slice() == whole.as_slice()
+                && ended.errors.is_empty()
+        }
+        _ => false,
+    }
+}
+
+/// Traces with a report behind them.
+fn both(alloc: Global, traces: &str, report: &str) -> Result<Vec<u8>, NoMemory> {
+    let mut whole = Vec::from_slice(alloc, traces.as_bytes())?;
+    whole.extend_from_slice(report.as_bytes())?;
+    Ok(whole)
+}
+
 /// Whether `solo` of a clone of a model and a script ends so.
-fn solos<L: Ledger>(
+fn solos<L: Ledger, R: Threads + Wait + Sync>(
+    rt: &R,
     alloc: Global,
     model: &str,
     script: &str,
@@ -122,6 +155,7 @@ fn solos<L: Ledger>(
     steps: &mut Steps<L>,
 ) -> bool {
     match ended(
+        rt,
         alloc,
         &["solo", "m", "s", "--clone", clone],
         model,
@@ -134,7 +168,11 @@ fn solos<L: Ledger>(
     }
 }
 
-fn branches<L: Ledger>(alloc: Global, steps: &mut Steps<L>) -> bool {
+fn branches<L: Ledger, R: Threads + Wait + Sync>(
+    rt: &R,
+    alloc: Global,
+    steps: &mut Steps<L>,
+) -> bool {
     let fast = "fork fast from base\nset fast at 8 desk service 2 2";
     let twins = "set base at 8 desk service 2 2\nfork twin from base\n";
     let equal =
@@ -143,141 +181,190 @@ fn branches<L: Ledger>(alloc: Global, steps: &mut Steps<L>) -> bool {
         "fork a from base\nfork b from base\nset a at 15 desk room 9\nset a at 8 desk service 2 2\nset b at 8 desk service 2 2\n";
     let alone = "fork b from base\nset b at 8 desk service 2 2\n";
     let brief = "fork brief from base\nend brief at 9\n";
-    runs(alloc, models::ONE_DESK, "", 0, texts::BASE, "", steps)
-        && runs(
-            alloc,
-            models::ONE_DESK,
-            "look base desk\n# a comment\n",
-            0,
-            texts::BASE,
-            "",
-            steps,
-        )
-        && runs(
-            alloc,
-            models::ONE_DESK,
-            fast,
-            0,
-            texts::BASE_AND_FAST,
-            "",
-            steps,
-        )
-        && runs(
-            alloc,
-            models::ONE_DESK,
-            twins,
-            0,
-            texts::FAST_TWINS,
-            "",
-            steps,
-        )
-        && runs(
-            alloc,
-            models::ONE_DESK,
-            equal,
-            0,
-            texts::EQUAL_BRANCHES,
-            "",
-            steps,
-        )
-        && runs(
-            alloc,
-            models::ONE_DESK,
-            apart,
-            0,
-            texts::BRANCHES_APART,
-            "",
-            steps,
-        )
-        && solos(
-            alloc,
-            models::ONE_DESK,
-            equal,
-            "b",
-            0,
-            texts::ONE_BRANCH,
-            "",
-            steps,
-        )
-        && solos(
-            alloc,
-            models::ONE_DESK,
-            alone,
-            "b",
-            0,
-            texts::ONE_BRANCH,
-            "",
-            steps,
-        )
-        && runs(alloc, models::ONE_DESK, brief, 0, texts::BRIEF, "", steps)
-        && runs(
-            alloc,
-            models::ONE_DESK,
-            "end base at 0\n",
-            0,
-            texts::NOTHING,
-            "",
-            steps,
-        )
+    writes(
+        rt,
+        alloc,
+        models::ONE_DESK,
+        "",
+        texts::BASE,
+        texts::BASE_REPORT,
+        steps,
+    ) && writes(
+        rt,
+        alloc,
+        models::ONE_DESK,
+        "look base desk\n# a comment\n",
+        texts::BASE,
+        texts::BASE_REPORT,
+        steps,
+    ) && writes(
+        rt,
+        alloc,
+        models::ONE_DESK,
+        fast,
+        texts::BASE_AND_FAST,
+        texts::BASE_AND_FAST_REPORT,
+        steps,
+    ) && writes(
+        rt,
+        alloc,
+        models::ONE_DESK,
+        twins,
+        texts::FAST_TWINS,
+        texts::FAST_TWINS_REPORT,
+        steps,
+    ) && writes(
+        rt,
+        alloc,
+        models::ONE_DESK,
+        equal,
+        texts::EQUAL_BRANCHES,
+        texts::EQUAL_BRANCHES_REPORT,
+        steps,
+    ) && writes(
+        rt,
+        alloc,
+        models::ONE_DESK,
+        apart,
+        texts::BRANCHES_APART,
+        texts::BRANCHES_APART_REPORT,
+        steps,
+    ) && solos(
+        rt,
+        alloc,
+        models::ONE_DESK,
+        equal,
+        "b",
+        0,
+        texts::ONE_BRANCH,
+        "",
+        steps,
+    ) && solos(
+        rt,
+        alloc,
+        models::ONE_DESK,
+        alone,
+        "b",
+        0,
+        texts::ONE_BRANCH,
+        "",
+        steps,
+    ) && writes(
+        rt,
+        alloc,
+        models::ONE_DESK,
+        brief,
+        texts::BRIEF,
+        texts::BRIEF_REPORT,
+        steps,
+    ) && writes(
+        rt,
+        alloc,
+        models::ONE_DESK,
+        "end base at 0\n",
+        texts::NOTHING,
+        texts::NOTHING_REPORT,
+        steps,
+    )
 }
 
-fn kinds<L: Ledger>(alloc: Global, steps: &mut Steps<L>) -> bool {
+fn kinds<L: Ledger, R: Threads + Wait + Sync>(rt: &R, alloc: Global, steps: &mut Steps<L>) -> bool {
     let start = "set base at 0 desk service 4 4";
     let last = "set base at 19 desk room 5";
     let more = "set base at 6 desk servers 3";
-    runs(
+    writes(
+        rt,
         alloc,
         models::ONE_DESK,
         start,
-        0,
         texts::SET_AT_START,
-        "",
+        texts::SET_AT_START_REPORT,
         steps,
-    ) && runs(
+    ) && writes(
+        rt,
         alloc,
         models::ONE_DESK,
         last,
-        0,
         texts::SET_AT_LAST,
-        "",
+        texts::SET_AT_LAST_REPORT,
         steps,
-    ) && runs(
+    ) && writes(
+        rt,
         alloc,
         models::CLOSE_MESSAGES,
         "",
-        0,
         texts::CLOSE_MESSAGES,
-        "",
+        texts::CLOSE_MESSAGES_REPORT,
         steps,
-    ) && runs(
+    ) && writes(
+        rt,
         alloc,
         models::DRAWN_GATE,
         "",
-        0,
         texts::DRAWN_GATE,
-        "",
+        texts::DRAWN_GATE_REPORT,
         steps,
-    ) && runs(alloc, models::NO_ROOM, "", 0, texts::NO_ROOM, "", steps)
-        && runs(
-            alloc,
-            models::SOME_ROOM,
-            more,
-            0,
-            texts::MORE_SERVERS,
-            "",
-            steps,
-        )
-        && runs(alloc, models::BY_TURN, "", 0, texts::FAN, "", steps)
-        && runs(alloc, models::BY_WEIGHTS, "", 0, texts::FAN, "", steps)
-        && runs(alloc, models::CLASSES, "", 0, texts::CLASSES, "", steps)
-        && runs(alloc, models::ONLY_OUT, "", 0, texts::NOTHING, "", steps)
+    ) && writes(
+        rt,
+        alloc,
+        models::NO_ROOM,
+        "",
+        texts::NO_ROOM,
+        texts::NO_ROOM_REPORT,
+        steps,
+    ) && writes(
+        rt,
+        alloc,
+        models::SOME_ROOM,
+        more,
+        texts::MORE_SERVERS,
+        texts::MORE_SERVERS_REPORT,
+        steps,
+    ) && writes(
+        rt,
+        alloc,
+        models::BY_TURN,
+        "",
+        texts::FAN,
+        texts::FAN_REPORT,
+        steps,
+    ) && writes(
+        rt,
+        alloc,
+        models::BY_WEIGHTS,
+        "",
+        texts::FAN,
+        texts::FAN_REPORT,
+        steps,
+    ) && writes(
+        rt,
+        alloc,
+        models::CLASSES,
+        "",
+        texts::CLASSES,
+        texts::CLASSES_REPORT,
+        steps,
+    ) && writes(
+        rt,
+        alloc,
+        models::ONLY_OUT,
+        "",
+        texts::NOTHING,
+        texts::ONLY_OUT_REPORT,
+        steps,
+    )
 }
 
-fn refusals<L: Ledger>(alloc: Global, steps: &mut Steps<L>) -> bool {
+fn refusals<L: Ledger, R: Threads + Wait + Sync>(
+    rt: &R,
+    alloc: Global,
+    steps: &mut Steps<L>,
+) -> bool {
     let a = models::ONE_DESK;
     let ended = "fork brief from base\nend brief at 9\nset brief at 5 desk room 9\n";
     let fork_ended = "fork brief from base\nend brief at 9\nfork x from brief\n";
     runs(
+        rt,
         alloc,
         models::SHORT_DELAY,
         "",
@@ -286,6 +373,7 @@ fn refusals<L: Ledger>(alloc: Global, steps: &mut Steps<L>) -> bool {
         "cloner: model: refusal 10 at station 1\n",
         steps,
     ) && runs(
+        rt,
         alloc,
         models::UNKNOWN_KEY,
         "",
@@ -294,6 +382,7 @@ fn refusals<L: Ledger>(alloc: Global, steps: &mut Steps<L>) -> bool {
         "cloner: model: refusal 5 at station 0 key spedd\n",
         steps,
     ) && runs(
+        rt,
         alloc,
         "",
         "x",
@@ -302,6 +391,7 @@ fn refusals<L: Ledger>(alloc: Global, steps: &mut Steps<L>) -> bool {
         "cloner: model: refusal 3 at station 0 key lookahead\n",
         steps,
     ) && runs(
+        rt,
         alloc,
         "x",
         "x",
@@ -310,6 +400,7 @@ fn refusals<L: Ledger>(alloc: Global, steps: &mut Steps<L>) -> bool {
         "cloner: model: refusal 2 at station 0\n",
         steps,
     ) && runs(
+        rt,
         alloc,
         a,
         "set base at 8 desk serv",
@@ -318,6 +409,7 @@ fn refusals<L: Ledger>(alloc: Global, steps: &mut Steps<L>) -> bool {
         "cloner: script: refusal 3 at line 1\n",
         steps,
     ) && runs(
+        rt,
         alloc,
         a,
         "set base at 08 desk service 2 2",
@@ -326,6 +418,7 @@ fn refusals<L: Ledger>(alloc: Global, steps: &mut Steps<L>) -> bool {
         "cloner: script: refusal 4 at line 1\n",
         steps,
     ) && runs(
+        rt,
         alloc,
         a,
         "\n# \u{e9}\n",
@@ -334,6 +427,7 @@ fn refusals<L: Ledger>(alloc: Global, steps: &mut Steps<L>) -> bool {
         "cloner: script: refusal 2 at line 2\n",
         steps,
     ) && runs(
+        rt,
         alloc,
         a,
         "set ghost at 5 desk service 1 1",
@@ -342,6 +436,7 @@ fn refusals<L: Ledger>(alloc: Global, steps: &mut Steps<L>) -> bool {
         "cloner: decision: refusal 3 at line 1\n",
         steps,
     ) && runs(
+        rt,
         alloc,
         a,
         "set base at 20 desk room 5",
@@ -350,6 +445,7 @@ fn refusals<L: Ledger>(alloc: Global, steps: &mut Steps<L>) -> bool {
         "cloner: decision: refusal 10 at line 1\n",
         steps,
     ) && runs(
+        rt,
         alloc,
         a,
         "end base at 20",
@@ -358,6 +454,7 @@ fn refusals<L: Ledger>(alloc: Global, steps: &mut Steps<L>) -> bool {
         "cloner: decision: refusal 10 at line 1\n",
         steps,
     ) && runs(
+        rt,
         alloc,
         a,
         ended,
@@ -366,6 +463,7 @@ fn refusals<L: Ledger>(alloc: Global, steps: &mut Steps<L>) -> bool {
         "cloner: decision: refusal 12 at line 3\n",
         steps,
     ) && runs(
+        rt,
         alloc,
         a,
         fork_ended,
@@ -374,6 +472,7 @@ fn refusals<L: Ledger>(alloc: Global, steps: &mut Steps<L>) -> bool {
         "cloner: decision: refusal 12 at line 3\n",
         steps,
     ) && solos(
+        rt,
         alloc,
         a,
         "",
@@ -383,6 +482,7 @@ fn refusals<L: Ledger>(alloc: Global, steps: &mut Steps<L>) -> bool {
         "cloner: no clone ghost\n",
         steps,
     ) && solos(
+        rt,
         alloc,
         a,
         "set ghost at 5 desk room 1",
@@ -394,14 +494,29 @@ fn refusals<L: Ledger>(alloc: Global, steps: &mut Steps<L>) -> bool {
     )
 }
 
-fn limits<L: Ledger>(alloc: Global, steps: &mut Steps<L>) -> bool {
-    let met = "cloner: limit met\n";
+fn limits<L: Ledger, R: Threads + Wait + Sync>(
+    rt: &R,
+    alloc: Global,
+    steps: &mut Steps<L>,
+) -> bool {
     let desk = "cloner: limit 3 met at station desk in clone base\n";
+    let later = "fork later from base\nend base at 13\n";
+    let in_later = "cloner: limit 3 met at station desk in clone later\n";
     let spin = "cloner: limit 16384 met at station spin in clone base\n";
-    runs(alloc, models::LIMIT_3, "", 7, "", met, steps)
-        && runs(alloc, models::LIMIT_4, "", 0, texts::BASE, "", steps)
-        && solos(alloc, models::LIMIT_3, "", "base", 7, "", desk, steps)
+    runs(rt, alloc, models::LIMIT_3, "", 7, "", desk, steps)
+        && runs(rt, alloc, models::LIMIT_3, later, 7, "", in_later, steps)
+        && writes(
+            rt,
+            alloc,
+            models::LIMIT_4,
+            "",
+            texts::BASE,
+            texts::BASE_REPORT,
+            steps,
+        )
+        && solos(rt, alloc, models::LIMIT_3, "", "base", 7, "", desk, steps)
         && solos(
+            rt,
             alloc,
             models::LIMIT_4,
             "",
@@ -412,6 +527,7 @@ fn limits<L: Ledger>(alloc: Global, steps: &mut Steps<L>) -> bool {
             steps,
         )
         && solos(
+            rt,
             alloc,
             models::LIMIT_3,
             "end base at 13\n",
@@ -421,10 +537,10 @@ fn limits<L: Ledger>(alloc: Global, steps: &mut Steps<L>) -> bool {
             "",
             steps,
         )
-        && runs(alloc, models::SPINNING, "", 7, "", met, steps)
-        && solos(alloc, models::SPINNING, "", "base", 7, "", spin, steps)
-        && quiet(alloc, models::SHORT_SPIN, "", steps)
-        && quiet(alloc, models::CLINIC, texts::CLINIC_SCRIPT, steps)
+        && runs(rt, alloc, models::SPINNING, "", 7, "", spin, steps)
+        && solos(rt, alloc, models::SPINNING, "", "base", 7, "", spin, steps)
+        && quiet(rt, alloc, models::SHORT_SPIN, "", steps)
+        && quiet(rt, alloc, models::CLINIC, texts::CLINIC_SCRIPT, steps)
 }
 
 /// The first seven lines of `texts::BASE`.
@@ -438,8 +554,14 @@ const CUT_AT_13: &str = "clone base
 ";
 
 /// Whether `run` ends with status 0 and says nothing to the error sink.
-fn quiet<L: Ledger>(alloc: Global, model: &str, script: &str, steps: &mut Steps<L>) -> bool {
-    match ended(alloc, &["run", "m", "s"], model, script, &GOOD, steps) {
+fn quiet<L: Ledger, R: Threads + Wait + Sync>(
+    rt: &R,
+    alloc: Global,
+    model: &str,
+    script: &str,
+    steps: &mut Steps<L>,
+) -> bool {
+    match ended(rt, alloc, &["run", "m", "s"], model, script, &GOOD, steps) {
         Ok(ended) => ended.status == 0 && ended.errors.is_empty(),
         Err(_) => false,
     }
@@ -464,7 +586,11 @@ fn lines(
     Ok(text)
 }
 
-fn many<L: Ledger>(alloc: Global, steps: &mut Steps<L>) -> Result<bool, NoMemory> {
+fn many<L: Ledger, R: Threads + Wait + Sync>(
+    rt: &R,
+    alloc: Global,
+    steps: &mut Steps<L>,
+) -> Result<bool, NoMemory> {
     let a = models::ONE_DESK;
     let forks = lines(alloc, 255, "fork c", true, " from base\n")?;
     let more_forks = lines(alloc, 256, "fork c", true, " from base\n")?;
@@ -475,16 +601,25 @@ fn many<L: Ledger>(alloc: Global, steps: &mut Steps<L>) -> Result<bool, NoMemory
     let full = "cloner: decision: refusal 9 at line 257\n";
     let long = "cloner: script: refusal 5 at line 4097\n";
     Ok(
-        quiet(alloc, a, forks.as_str(), steps)
-            && runs(alloc, a, more_forks.as_str(), 6, "", clones, steps)
-            && runs(alloc, a, sets.as_str(), 6, "", full, steps)
-            && runs(alloc, a, looks.as_str(), 0, texts::BASE, "", steps)
-            && runs(alloc, a, more_looks.as_str(), 5, "", long, steps),
+        quiet(rt, alloc, a, forks.as_str(), steps)
+            && runs(rt, alloc, a, more_forks.as_str(), 6, "", clones, steps)
+            && runs(rt, alloc, a, sets.as_str(), 6, "", full, steps)
+            && writes(
+                rt,
+                alloc,
+                a,
+                looks.as_str(),
+                texts::BASE,
+                texts::BASE_REPORT,
+                steps,
+            )
+            && runs(rt, alloc, a, more_looks.as_str(), 5, "", long, steps),
     )
 }
 
 /// Whether `run` of two branches ends so, where the outside behaves so.
-fn meets<L: Ledger>(
+fn meets<L: Ledger, R: Threads + Wait + Sync>(
+    rt: &R,
     alloc: Global,
     outside: &Outside,
     status: u8,
@@ -493,33 +628,41 @@ fn meets<L: Ledger>(
     steps: &mut Steps<L>,
 ) -> bool {
     let fast = "fork fast from base\nset fast at 8 desk service 2 2";
-    let whole = texts::BASE_AND_FAST.as_bytes();
-    match ended(
+    let whole = both(alloc, texts::BASE_AND_FAST, texts::BASE_AND_FAST_REPORT);
+    let ended = ended(
+        rt,
         alloc,
         &["run", "m", "s"],
         models::ONE_DESK,
         fast,
         outside,
         steps,
-    ) {
-        Ok(ended) => {
+    );
+    match (ended, whole) {
+        (Ok(ended), Ok(whole)) => {
             ended.status == status
                 && whole.len() >= size
                 && ended.output.as_slice() == &whole[..size]
                 && ended.errors.as_slice() == errors.as_bytes()
         }
-        Err(_) => false,
+        _ => false,
     }
 }
 
-fn failures<L: Ledger>(alloc: Global, steps: &mut Steps<L>) -> bool {
+fn failures<L: Ledger, R: Threads + Wait + Sync>(
+    rt: &R,
+    alloc: Global,
+    steps: &mut Steps<L>,
+) -> bool {
     let base = texts::BASE.len();
-    let whole = texts::BASE_AND_FAST.len();
+    let traces = texts::BASE_AND_FAST.len();
+    let whole = traces + texts::BASE_AND_FAST_REPORT.len();
     let no_model = "cloner: cannot read the model\n";
     let no_script = "cloner: cannot read the script\n";
     let cut = "cloner: cannot write\n";
     let failing = |put| Outside { put, ..GOOD };
     meets(
+        rt,
         alloc,
         &Outside {
             fetch: &[1],
@@ -530,6 +673,7 @@ fn failures<L: Ledger>(alloc: Global, steps: &mut Steps<L>) -> bool {
         no_model,
         steps,
     ) && meets(
+        rt,
         alloc,
         &Outside {
             fetch: &[2],
@@ -539,12 +683,14 @@ fn failures<L: Ledger>(alloc: Global, steps: &mut Steps<L>) -> bool {
         0,
         no_script,
         steps,
-    ) && meets(alloc, &failing(&[(1, 0)]), 8, 0, cut, steps)
-        && meets(alloc, &failing(&[(1, 7)]), 8, 7, cut, steps)
-        && meets(alloc, &failing(&[(1, 9999)]), 8, base, cut, steps)
-        && meets(alloc, &failing(&[(2, 0)]), 8, base, cut, steps)
-        && meets(alloc, &failing(&[(2, 7)]), 8, base + 7, cut, steps)
+    ) && meets(rt, alloc, &failing(&[(1, 0)]), 8, 0, cut, steps)
+        && meets(rt, alloc, &failing(&[(1, 7)]), 8, 7, cut, steps)
+        && meets(rt, alloc, &failing(&[(1, 9999)]), 8, base, cut, steps)
+        && meets(rt, alloc, &failing(&[(2, 0)]), 8, base, cut, steps)
+        && meets(rt, alloc, &failing(&[(2, 7)]), 8, base + 7, cut, steps)
+        && meets(rt, alloc, &failing(&[(3, 0)]), 8, traces, cut, steps)
         && meets(
+            rt,
             alloc,
             &Outside {
                 room: whole - 1,
@@ -556,6 +702,7 @@ fn failures<L: Ledger>(alloc: Global, steps: &mut Steps<L>) -> bool {
             steps,
         )
         && meets(
+            rt,
             alloc,
             &Outside {
                 room: whole,
@@ -567,6 +714,7 @@ fn failures<L: Ledger>(alloc: Global, steps: &mut Steps<L>) -> bool {
             steps,
         )
         && meets(
+            rt,
             alloc,
             &Outside {
                 put: &[(2, 7)],
@@ -579,6 +727,7 @@ fn failures<L: Ledger>(alloc: Global, steps: &mut Steps<L>) -> bool {
             steps,
         )
         && meets(
+            rt,
             alloc,
             &Outside {
                 error: &[(1, 0)],
@@ -591,7 +740,7 @@ fn failures<L: Ledger>(alloc: Global, steps: &mut Steps<L>) -> bool {
         )
 }
 
-fn usage<L: Ledger>(alloc: Global, steps: &mut Steps<L>) -> bool {
+fn usage<L: Ledger, R: Threads + Wait + Sync>(rt: &R, alloc: Global, steps: &mut Steps<L>) -> bool {
     let words: [&[&str]; 14] = [
         &[],
         &["run"],
@@ -609,14 +758,19 @@ fn usage<L: Ledger>(alloc: Global, steps: &mut Steps<L>) -> bool {
         &["solo", "m", "s", "--clone", "base", "x"],
     ];
     let line = "usage: cloner run MODEL SCRIPT, solo MODEL SCRIPT --clone NAME\n";
-    words.iter().all(|words| match ended(alloc, words, models::ONE_DESK, "", &GOOD, steps) {
+    words.iter().all(|words| match ended(rt, alloc, words, models::ONE_DESK, "", &GOOD, steps) {
         Ok(ended) => ended.is(2, "", line),
         Err(_) => false,
     })
 }
 
-fn absent<L: Ledger>(alloc: Global, steps: &mut Steps<L>) -> bool {
+fn absent<L: Ledger, R: Threads + Wait + Sync>(
+    rt: &R,
+    alloc: Global,
+    steps: &mut Steps<L>,
+) -> bool {
     let model = ended(
+        rt,
         alloc,
         &["run", "-", "s"],
         models::ONE_DESK,
@@ -625,6 +779,7 @@ fn absent<L: Ledger>(alloc: Global, steps: &mut Steps<L>) -> bool {
         steps,
     );
     let script = ended(
+        rt,
         alloc,
         &["run", "m", "-"],
         models::ONE_DESK,
@@ -641,27 +796,27 @@ fn absent<L: Ledger>(alloc: Global, steps: &mut Steps<L>) -> bool {
     }
 }
 
-fn all<L: Ledger>(alloc: Global, blank: Blank) -> [bool; 8]
+fn all<L: Ledger, R: Threads + Wait + Sync>(rt: &R, alloc: Global, blank: Blank) -> [bool; 8]
     requires name { blank.name ≡ L.name }
     requires parts { blank.parts ≡ L.parts }
     requires some { 0 < L.parts }
 {
     let mut steps = Steps::<L>::new(blank);
     [
-        branches(alloc, &mut steps),
-        kinds(alloc, &mut steps),
-        refusals(alloc, &mut steps),
-        limits(alloc, &mut steps),
-        many(alloc, &mut steps).unwrap_or(false),
-        failures(alloc, &mut steps),
-        usage(alloc, &mut steps),
-        absent(alloc, &mut steps),
+        branches(rt, alloc, &mut steps),
+        kinds(rt, alloc, &mut steps),
+        refusals(rt, alloc, &mut steps),
+        limits(rt, alloc, &mut steps),
+        many(rt, alloc, &mut steps).unwrap_or(false),
+        failures(rt, alloc, &mut steps),
+        usage(rt, alloc, &mut steps),
+        absent(rt, alloc, &mut steps),
     ]
 }
 
 #[test]
 fn program_answers(rt: HostRuntime) -> Result<(), Fail> {
-    let all = all::<Brand>(rt.alloc(), Blank::new(1));
+    let all = all::<Brand, HostRuntime>(&rt, rt.alloc(), Blank::new(1));
     assert_eq!(rt; all, [true; 8]);
     Ok(())
 }

@@ -177,7 +177,7 @@ pub const CLOSE_MESSAGES: &str = r#"clone base
 14 out desk 5 job gate.2 got=3 stay=33
 "#;
 
-/// Drawn times.
+/// DrawsView times.
 pub const DRAWN_GATE: &str = r#"clone base
 4 gate gate 0 tick sent=1
 6 out gate 1 job gate.0 got=1 stay=2
@@ -262,6 +262,137 @@ clone brief
 
 /// A clone that handles nothing.
 pub const NOTHING: &str = r#"clone base
+"#;
+
+/// The report behind `BASE`.
+pub const BASE_REPORT: &str = r#"report
+gate copies=1 handled=2 alone=2
+desk copies=1 handled=4 alone=4
+out copies=1 handled=2 alone=2
+total handled=8 alone=8
+"#;
+
+/// The report behind `BASE_AND_FAST`.
+pub const BASE_AND_FAST_REPORT: &str = r#"report
+gate copies=1 handled=2 alone=4
+desk copies=2 handled=8 alone=9
+out copies=2 handled=3 alone=4
+total handled=13 alone=17
+"#;
+
+/// The report behind `FAST_TWINS`.
+pub const FAST_TWINS_REPORT: &str = r#"report
+gate copies=1 handled=2 alone=4
+desk copies=1 handled=5 alone=10
+out copies=1 handled=2 alone=4
+total handled=9 alone=18
+"#;
+
+/// The report behind `EQUAL_BRANCHES`.
+pub const EQUAL_BRANCHES_REPORT: &str = r#"report
+gate copies=1 handled=2 alone=6
+desk copies=2 handled=8 alone=14
+out copies=2 handled=3 alone=6
+total handled=13 alone=26
+"#;
+
+/// The report behind `BRANCHES_APART`.
+pub const BRANCHES_APART_REPORT: &str = r#"report
+gate copies=1 handled=2 alone=6
+desk copies=3 handled=13 alone=15
+out copies=2 handled=3 alone=6
+total handled=18 alone=27
+"#;
+
+/// The report behind `BRIEF`.
+pub const BRIEF_REPORT: &str = r#"report
+gate copies=1 handled=2 alone=4
+desk copies=2 handled=4 alone=6
+out copies=2 handled=2 alone=2
+total handled=8 alone=12
+"#;
+
+/// The report behind `NOTHING`.
+pub const NOTHING_REPORT: &str = r#"report
+gate copies=1 handled=0 alone=0
+desk copies=1 handled=0 alone=0
+out copies=1 handled=0 alone=0
+total handled=0 alone=0
+"#;
+
+/// The report behind `SET_AT_START`.
+pub const SET_AT_START_REPORT: &str = r#"report
+gate copies=1 handled=2 alone=2
+desk copies=1 handled=5 alone=5
+out copies=1 handled=2 alone=2
+total handled=9 alone=9
+"#;
+
+/// The report behind `SET_AT_LAST`.
+pub const SET_AT_LAST_REPORT: &str = r#"report
+gate copies=1 handled=2 alone=2
+desk copies=1 handled=5 alone=5
+out copies=1 handled=2 alone=2
+total handled=9 alone=9
+"#;
+
+/// The report behind `CLOSE_MESSAGES`.
+pub const CLOSE_MESSAGES_REPORT: &str = r#"report
+gate copies=1 handled=3 alone=3
+desk copies=1 handled=6 alone=6
+out copies=1 handled=3 alone=3
+total handled=12 alone=12
+"#;
+
+/// The report behind `DRAWN_GATE`.
+pub const DRAWN_GATE_REPORT: &str = r#"report
+gate copies=1 handled=3 alone=3
+out copies=1 handled=3 alone=3
+total handled=6 alone=6
+"#;
+
+/// The report behind `NO_ROOM`.
+pub const NO_ROOM_REPORT: &str = r#"report
+s1 copies=1 handled=1 alone=1
+s2 copies=1 handled=1 alone=1
+s3 copies=1 handled=1 alone=1
+desk copies=1 handled=4 alone=4
+out copies=1 handled=1 alone=1
+total handled=8 alone=8
+"#;
+
+/// The report behind `MORE_SERVERS`.
+pub const MORE_SERVERS_REPORT: &str = r#"report
+s1 copies=1 handled=1 alone=1
+s2 copies=1 handled=1 alone=1
+s3 copies=1 handled=1 alone=1
+desk copies=1 handled=7 alone=7
+out copies=1 handled=3 alone=3
+total handled=13 alone=13
+"#;
+
+/// The report behind `FAN`.
+pub const FAN_REPORT: &str = r#"report
+gate copies=1 handled=2 alone=2
+fan copies=1 handled=2 alone=2
+slow copies=1 handled=1 alone=1
+out copies=1 handled=2 alone=2
+total handled=7 alone=7
+"#;
+
+/// The report behind `CLASSES`.
+pub const CLASSES_REPORT: &str = r#"report
+low copies=1 handled=2 alone=2
+high copies=1 handled=1 alone=1
+desk copies=1 handled=6 alone=6
+out copies=1 handled=3 alone=3
+total handled=12 alone=12
+"#;
+
+/// The report of a sink that nothing reaches.
+pub const ONLY_OUT_REPORT: &str = r#"report
+out copies=1 handled=0 alone=0
+total handled=0 alone=0
 "#;
 
 /// The decisions of three analysts on the clinic.

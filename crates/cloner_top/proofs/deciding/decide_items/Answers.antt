@@ -14,6 +14,7 @@ loop-i-preserved c =
     let t = after c.decide_item.new.book.net c.decide_item.new.book.events in
     let start = after c.args.book.now.net c.args.book.now.events in
     record {
+      accepted = λ all. c.in-Ok.ensures.accepted (c.loop-i.invariant.accepted all);
       net = c.decide_item.ensures.net ∙ c.loop-i.invariant.net;
       refused = refused_later s t start c.args.script.now.items c.loop-i.i c.item.result c.item.ensures.value c.decide_item.ensures.stands c.loop-i.invariant.refused c.in-Ok.ensures.ok;
       stands = stands_later s t start c.args.script.now.items c.loop-i.i c.item.result c.item.ensures.value c.decide_item.ensures.stands c.loop-i.invariant.stands;

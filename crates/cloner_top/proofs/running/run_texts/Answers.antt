@@ -1,20 +1,23 @@
-use Rattle.std.proofs.Common.{◌<◌, arith, length}
-use Rattle.cloner_top.proofs.Traces.{beyond_at, traces_more, within_more}
+use Rattle.std.proofs.Common.{◌≤◌, ◌+◌, ◌*◌, ◌∙◌, ◌∷◌, [], List, ap₂, length, subst, sym}
+use Rattle.sim_base.specs.Clones.{Clone, base}
+use Rattle.net_model.specs.Net.{Net}
+use Rattle.world_core.specs.Overs.{NoneBeyond}
+use Rattle.world_core.specs.Taking.{clones_after_calls}
 use Rattle.cloner_top.specs.Stopping.{most_of_clone}
-use Rattle.cloner_top.proofs.Working.{one_more}
+use Rattle.cloner_top.proofs.RunTexts.{run_few}
 use Rattle.cloner_top.proofs.running.run_texts.Goals as goal
 
-pub returns-in-Err-Limit-clause-err : goal.returns-in-Err-Limit-clause-err
-returns-in-Err-Limit-clause-err g c = λ _.
-    let met = rw c.in-Err-Limit.field-0-is at c.in-Err-Limit.ensures.err in
-    let there : c.loop-c.c < length c.args.lists.now.clones = omega (arith, c.len-c-end.ensures.value, c.loop-c-test.true) in
-    beyond_at c.args.model.now c.args.lists.now.clones c.loop-c.c c.in-Err-Limit.field-0-0 there met.is
+pub world_texts-requires-clause-within : goal.world_texts-requires-clause-within
+world_texts-requires-clause-within g c =
+    let net = c.deref.result.now in
+    let short = subst (λ cs. NoneBeyond net cs net.horizon) (sym c.in-Ok-run_world.ensures.clones) c.in-Ok-run_world.ensures.short in
+    subst (λ (n : Net). NoneBeyond n c.in-Ok-run_world.world.clones n.horizon) (c.deref.ensures ∙ sym c.deref-2.ensures) short
 
-pub loop-c-preserved : goal.loop-c-preserved
-loop-c-preserved g c =
-    let there : c.loop-c.c < length c.args.lists.now.clones = omega (arith, c.len-c-end.ensures.value, c.loop-c-test.true) in
-    record {
-      texts = traces_more c.args.model.now c.args.lists.now.clones c.loop-c.c _ _ c.in-Ok.text.items there c.loop-c.invariant.texts c.in-Ok-push_text.ensures.ok c.in-Ok.ensures.ok;
-      steps = one_more c.loop-c.c (most_of_clone c.args.model.now) c.args.steps.now c.loop-c.steps c.clone_text.new.steps c.loop-c.invariant.steps c.in-Ok.ensures.few;
-      within = within_more c.args.model.now c.args.lists.now.clones c.loop-c.c there c.loop-c.invariant.within c.in-Ok.ensures.within;
-    }
+pub returns-in-Ok-world_texts-clause-work : goal.returns-in-Ok-world_texts-clause-work
+returns-in-Ok-world_texts-clause-work g c =
+    let net = c.deref.result.now in
+    let cs = c.in-Ok.world.clones in
+    let clones = c.in-Ok.ensures.clones ∙ (ap₂ (λ (n : Net) calls. clones_after_calls n (base ∷ []) calls) (sym c.requires.net) c.calls.ensures.value ∙ c.requires.accepted.clones) in
+    let few = run_few net cs c.in-Ok-run_world.ensures.short c.args.steps.now c.run_world.new.steps c.in-Ok-run_world.ensures.steps in
+    subst (λ (l : List Clone). c.run_world.new.steps ≤ c.args.steps.now + length l * most_of_clone c.args.model.now.value) clones
+    (subst (λ (n : Net). c.run_world.new.steps ≤ c.args.steps.now + length cs * most_of_clone n) c.deref.ensures few)
