@@ -1,7 +1,8 @@
 //! The program as one call: the words of the command line, files and sinks in, a status out.
 //!
-//! A planner asks by a model and a script of decisions; `cloner` reads both, decides, simulates each branch and writes
-//! its trace. The steps, each with a definition of its own in `specs/`:
+//! A planner asks by a model and a script of decisions; `cloner` reads both, decides, runs all branches in one world,
+//! which computes once what they have in common, and writes each one's trace and a report of what was shared. The
+//! steps, each with a definition of its own in `specs/`:
 //!
 //! ```text
 //! words -request-> what is asked -reading-> model, script -deciding-> branches -running-> texts -program-> output
@@ -14,8 +15,8 @@
 //! let status = cloner(&rt, alloc, &words, &mut inputs, &mut output, &mut errors, &NoGate, &mut steps);
 //! ```
 //!
-//! A run costs what its messages cost, some 250 nanoseconds each with their lines, and the memory of its texts.
-//! The promises of the README stand on the contract of `cloner`: right traces, the first refusal, all or nothing,
+//! A run costs a step for each message that differs, and a line, merged from the logs of the stations, for each message
+//! of each branch; the memory is that of its texts. The promises of the README stand on the contract of `cloner`: right traces, the first refusal, all or nothing,
 //! bounded work.
 #![tactic(auto)]
 

@@ -26,9 +26,10 @@ fn order(a: &Entry, b: &Entry) -> Ordering
 fn entries(alloc: Global, log: &Log) -> Result<Vec<Entry>, NoMemory>
     ensures value { IfOk result (λ v. v.items ≡ log.now) }
 {
-    let mut out = Vec::new(alloc);
-    for i in 0..log.len() {
-        out.push(log.get(i))?;
+    let mut out = Vec::with_capacity(alloc, log.len() as usize)?;
+    let mut walk = log.walk_from(0);
+    while let Some(entry) = walk.next() {
+        out.push(entry)?;
     }
     Ok(out)
 }
@@ -37,7 +38,7 @@ fn entries(alloc: Global, log: &Log) -> Result<Vec<Entry>, NoMemory>
 fn merged(alloc: Global, xs: &[Entry], ys: &[Entry]) -> Result<Vec<Entry>, NoMemory>
     ensures value { IfOk result (λ v. v.items ≡ merge by_key xs.now ys.now) }
 {
-    let mut out = Vec::new(alloc);
+    let mut out = Vec::with_capacity(alloc, xs.len().saturating_add(ys.len()))?;
     let mut i = 0;
     let mut j = 0;
     while i < xs.len() && j < ys.len() {
