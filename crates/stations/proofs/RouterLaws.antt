@@ -1,10 +1,11 @@
 -- What a router keeps, and what it sends.
-use Rattle.std.proofs.Common.{◌≡◌, ℕ, zero, suc, ◌+◌, ◌-◌, ◌%◌, ◌≤◌, List, [], ◌∷◌, length, Bool, true, false, if◌then◌else◌, refl, ◌∙◌, slice_get, slice_set, length-set, arith}
+use Rattle.std.proofs.Common.{◌≡◌, ℕ, ◌+◌, ◌-◌, ◌%◌, ◌≤◌, List, length, Bool, true, false, if◌then◌else◌, refl, ◌∙◌, slice_get, slice_set, length-set, arith}
 use Rattle.std.specs.List.{AllByRecursion}
 use Rattle.sim_base.specs.declared.message.Job.{Job as JobOf}
 use Rattle.sim_base.specs.declared.message.Change.{Change}
 use Rattle.sim_base.specs.declared.message.Payload.{Payload}
 use Rattle.sim_base.specs.declared.message.Payload.TheVariants.{Tick, Job, Done, Set}
+use Rattle.sim_base.proofs.ListLaws.{all_set}
 use Rattle.net_model.specs.Net.{Net, Site, routes_by_turn}
 use Rattle.net_model.specs.Rules.{IsLink}
 use Rattle.stations.specs.declared.kind_state.RouterState.{RouterState}
@@ -14,12 +15,6 @@ use Rattle.stations.specs.Sending.{Outgoing, send_over, route_by}
 use Rattle.stations.specs.Routers.{router_job, router_set, router_on}
 use Rattle.stations.proofs.Accepting.{router-accepts}
 use Rattle.stations.proofs.Growing.{Grown, grown-more, grown-route, grown-over, grown-same}
-
--- an element that is set keeps what holds of all
-all_set : {X : Type 0} (P : X → Type 0) (xs : List X) (i : ℕ) (x : X) → AllByRecursion P xs → P x → AllByRecursion P (slice_set xs i x)
-all_set P [] i x all here = all
-all_set P (y ∷ ys) zero x all here = (here, all.1)
-all_set P (y ∷ ys) (suc i) x all here = (all.0, all_set P ys i x all.1 here)
 
 module _ (net : Net) (site : Site) (now : ℕ) (links : AllByRecursion (IsLink net) site.links) (ahead : 1 ≤ net.lookahead)
     (a : Outgoing) (first : 1 ≤ a.sender.station) (last : a.sender.station ≤ length net.sites) where
