@@ -3,13 +3,14 @@ use Rattle.std.proofs.Common.{ℕ, min, List, [], ◌++◌, inl, inr, nat_lt, re
 use Rattle.std.specs.List.{AllByRecursion}
 use Rattle.sim_base.specs.Clones.{Clone}
 use Rattle.sim_base.specs.declared.decision.Planned.{Planned}
+use Rattle.sim_base.proofs.ListLaws.{all_push}
 use Rattle.run_laws.specs.Queue.{In}
 use Rattle.run_laws.specs.Simulation.{Simulation}
 use Rattle.run_laws.specs.World.{openings, planned, begin}
 use Rattle.run_laws.specs.Runs.{run, end_of, run_of, all_due}
 use Rattle.run_laws.specs.Handlers.{IsStation, AreForStations, HandlesLawfully, SendsToStations}
 use Rattle.run_laws.proofs.Queue.{all_in, in_insert_all}
-use Rattle.run_laws.proofs.Lists.{in_filter, in_append, all_append}
+use Rattle.run_laws.proofs.Lists.{in_filter, in_append}
 use Rattle.run_laws.proofs.Running.{fine_keeps}
 use Rattle.run_laws.proofs.Worlds.{in_openings, in_planned, world_lawful, begins_fine, run_reached, entry_of}
 
@@ -36,7 +37,7 @@ module _ {S M N : Type 0} {sim : Simulation S M N} {Good : ℕ → S → Type 0}
           | inl j ↦ stations.sends (sim.to m) (x.states (sim.to m)) m z (h.0 m (inl refl)) (f.good (sim.to m)) j
           | inr j ↦ h.0 z (inr j)
         ]),
-        all_append (λ e. IsStation sim (sim.to e.msg)) x.trace (entry_of sim (sim.to m) (x.states (sim.to m)) m) h.1 (h.0 m (inl refl)),
+        all_push (λ e. IsStation sim (sim.to e.msg)) x.trace (entry_of sim (sim.to m) (x.states (sim.to m)) m) h.1 (h.0 m (inl refl)),
       ))
       (begins_fine law plans) (run_reached law plans front).0
 

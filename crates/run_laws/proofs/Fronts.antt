@@ -6,13 +6,14 @@ use Rattle.std.proofs.lemmas.Bool.{cases_lt, lt-ltb, le-ltb}
 use Rattle.sim_base.specs.Clones.{Clone}
 use Rattle.sim_base.specs.declared.decision.Planned.{Planned}
 use Rattle.sim_base.specs.declared.entry.Entry.{Entry}
+use Rattle.sim_base.proofs.ListLaws.{all_push}
 use Rattle.run_laws.specs.Simulation.{Simulation}
 use Rattle.run_laws.specs.World.{log_of}
 use Rattle.run_laws.specs.Runs.{run, end_of, run_of, log_at}
 use Rattle.run_laws.specs.Handlers.{HandlesLawfully}
 use Rattle.run_laws.specs.Laws.{before}
 use Rattle.run_laws.proofs.Queue.{all_weaker}
-use Rattle.run_laws.proofs.Lists.{all_append, filter_all, filter_swap}
+use Rattle.run_laws.proofs.Lists.{filter_all, filter_swap}
 use Rattle.run_laws.proofs.Machine.{reach_keeps}
 use Rattle.run_laws.proofs.Running.{fine_keeps}
 use Rattle.run_laws.proofs.Worlds.{world_lawful, run_reached, run_goes_on, entry_of}
@@ -21,7 +22,7 @@ module _ {S M N : Type 0} {sim : Simulation S M N} {Good : ℕ → S → Type 0}
   -- what was handled before a bound comes before it
   pub trace_below : (plans : List Planned) (bound : ℕ) → AllByRecursion (λ e. sim.time e.msg < bound) (run sim plans bound).at.trace
   trace_below plans bound = reach_keeps (λ w. AllByRecursion (λ e. sim.time e.msg < bound) w.at.trace) tt
-      (λ x m q early h. all_append (λ e. sim.time e.msg < bound) x.trace (entry_of sim (sim.to m) (x.states (sim.to m)) m) h early)
+      (λ x m q early h. all_push (λ e. sim.time e.msg < bound) x.trace (entry_of sim (sim.to m) (x.states (sim.to m)) m) h early)
       (run_reached law plans bound).0
 
   -- where all entries come before a bound, all come before a later front

@@ -7,10 +7,10 @@ use Rattle.std.specs.Cmp.{ranks, nat_cmp_total}
 use Rattle.std.specs.Ordering.{MatchOrdering, nat_cmp, ordering_then}
 use Rattle.std.proofs.lemmas.Bool.{cases_eq, ne_eqb}
 use Rattle.std.proofs.lemmas.Cmp.{on_total, then_total}
+use Rattle.sim_base.proofs.OrderEqual.{nat_same, both_equal}
 use Rattle.run_laws.specs.Queue.{In}
 use Rattle.run_laws.specs.Handlers.{IsTimed, HandlesLawfully, SendsToStations}
 use Rattle.run_laws.specs.Examples.{Ball, ball, ball_cmp, thrown_back, game, AnyState}
-use Rattle.run_laws.proofs.Rising.{nat_same, both_equal}
 
 -- a ball is its three numbers
 ball_parts : (a b c d e f : ℕ) → a ≡ d → b ≡ e → c ≡ f → ball a b c ≡ ball d e f

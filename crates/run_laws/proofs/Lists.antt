@@ -4,6 +4,7 @@ use Rattle.std.specs.declared.cmp.Ordering.{Ordering}
 use Rattle.std.specs.declared.cmp.Ordering.TheVariants.{Less}
 use Rattle.std.specs.List.{AllByRecursion, filter}
 use Rattle.std.proofs.lemmas.Bool.{ne_eqb, false≢true}
+use Rattle.sim_base.proofs.ListLaws.{all_push}
 use Rattle.run_laws.specs.Queue.{insert, insert_all, In, Sorted}
 use Rattle.run_laws.specs.Handlers.{IsOrder}
 use Rattle.run_laws.specs.World.{to_it}
@@ -154,17 +155,11 @@ pub append_new : {X : Type 0} (xs ys : List X) (z : X) → In z ys → In z (xs 
 append_new [] ys z i = i
 append_new (x ∷ xs) ys z i = inr (append_new xs ys z i)
 
--- what holds of all, and of one more
-pub all_append : {X : Type 0} (P : X → Type 0) (xs : List X) (y : X) → AllByRecursion P xs → P y →
-    AllByRecursion P (xs ++ y ∷ [])
-all_append P [] y f p = (p, tt)
-all_append P (x ∷ xs) y f p = (f.0, all_append P xs y f.1 p)
-
 -- an element behind all is in order at the end
 pub sorted_append : {X : Type 0} (cmp : X → X → Ordering) (xs : List X) (y : X) → Sorted cmp xs →
     AllByRecursion (λ x. cmp x y ≡ Less) xs → Sorted cmp (xs ++ y ∷ [])
 sorted_append cmp [] y s f = (tt, tt)
-sorted_append cmp (x ∷ xs) y s f = (all_append (λ z. cmp x z ≡ Less) xs y s.0 f.0, sorted_append cmp xs y s.1 f.1)
+sorted_append cmp (x ∷ xs) y s f = (all_push (λ z. cmp x z ≡ Less) xs y s.0 f.0, sorted_append cmp xs y s.1 f.1)
 
 module _ {M : Type 0} (to : M → ℕ) where
   -- the messages to a station

@@ -10,6 +10,8 @@ use Rattle.std.proofs.lemmas.List.{map_push}
 use Rattle.sim_base.specs.Clones.{Clone}
 use Rattle.sim_base.specs.declared.decision.Planned.{Planned}
 use Rattle.sim_base.specs.declared.entry.Entry.{Entry}
+use Rattle.sim_base.proofs.ListLaws.{all_push}
+use Rattle.sim_base.proofs.OrderEqual.{nat_same, both_equal}
 use Rattle.run_laws.specs.Queue.{insert_all, In, Sorted}
 use Rattle.run_laws.specs.Machine.{Config, after}
 use Rattle.run_laws.specs.Simulation.{Simulation}
@@ -18,13 +20,9 @@ use Rattle.run_laws.specs.Runs.{end_of, run_of}
 use Rattle.run_laws.specs.Handlers.{AllGood, IsStation, AreForStations, key_order, HandlesLawfully, SendsToStations, HandlesFreshly}
 use Rattle.run_laws.specs.Laws.{IsMessageOf}
 use Rattle.run_laws.proofs.Queue.{all_in, all_from, in_insert_all, not_below_itself}
-use Rattle.run_laws.proofs.Lists.{in_append, all_append, sorted_append}
+use Rattle.run_laws.proofs.Lists.{in_append, sorted_append}
 use Rattle.run_laws.proofs.Running.{fine_keeps}
 use Rattle.run_laws.proofs.Worlds.{put_cases, put_same, in_openings, in_planned, entry_of, world_lawful, begins_fine, run_reached}
-
--- numbers that tie are equal
-pub nat_same : (x y : ℕ) → nat_cmp x y ≡ Equal → x ≡ y
-nat_same x y e = subst (λ r. MatchOrdering r (x < y) (x ≡ y) (y < x)) e (ranks x y)
 
 -- what is less by the first of two orders is less
 below_first : (x y : ℕ) (s : Ordering) → x < y → ordering_then (nat_cmp x y) s ≡ Less
@@ -34,12 +32,6 @@ below_first x y s l = by (nat_cmp x y) (ranks x y)
     by Less h = refl
     by Equal h = absurd (omega (arith, h, l))
     by Greater h = absurd (omega (arith, h, l))
-
--- where two orders one after the other tie, each does
-pub both_equal : (r s : Ordering) → ordering_then r s ≡ Equal → (r ≡ Equal) × (s ≡ Equal)
-both_equal Less s e = let h : ⊥ = cc in absurd h
-both_equal Equal s e = (refl, e)
-both_equal Greater s e = let h : ⊥ = cc in absurd h
 
 module _ {M : Type 0} (time sender number : M → ℕ) where
   -- the order of keys is total
@@ -120,7 +112,7 @@ module _ {S M N : Type 0} {sim : Simulation S M N} {Good : ℕ → S → Type 0}
         rising = subst (Sorted (key_order sim.time sender number)) (sym (map_push (λ e. e.msg) x.trace e)) (sorted_append (key_order sim.time sender number) (map (λ e. e.msg) x.trace) m h.rising (h.before m (inl refl)));
         before = λ z i. subst (AllByRecursion (λ y. key_order sim.time sender number y z ≡ Less))
             (sym (map_push (λ e. e.msg) x.trace e))
-            (all_append (λ y. key_order sim.time sender number y z ≡ Less) (map (λ e. e.msg) x.trace) m
+            (all_push (λ y. key_order sim.time sender number y z ≡ Less) (map (λ e. e.msg) x.trace) m
             (all_from (λ y. key_order sim.time sender number y z ≡ Less) (map (λ e. e.msg) x.trace)
             (λ y j. (key_total sim.time sender number).trans y m z (all_in (λ y. key_order sim.time sender number y m ≡ Less) (map (λ e. e.msg) x.trace) y (h.before m (inl refl)) j) (above z i)))
             (above z i));
