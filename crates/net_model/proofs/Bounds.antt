@@ -9,7 +9,6 @@ use Rattle.net_model.specs.declared.fault.ModelFault.TheVariants.{Missing, Wrong
 use Rattle.net_model.specs.declared.field.Field.{Field}
 use Rattle.net_model.specs.declared.reading.Span.{Span}
 use Rattle.sim_base.proofs.Chain.{bind-Ok}
-use Rattle.sim_base.specs.Chain.{◌>>=◌}
 use Rattle.net_model.specs.Fields.{key_of}
 use Rattle.net_model.specs.Reading.{in_range, integer_of, found_integer, integer_at, as_name, name_at, text_at, span, span_of_two, span_of_list, span_of, span_at, value_at, list_of}
 use Rattle.net_model.specs.Rules.{IsRange}

@@ -1,9 +1,9 @@
 -- Stations by their numbers and names, in the model and in the network that it is.
-use Rattle.std.proofs.Common.{◌≡◌, ℕ, zero, suc, ◌+◌, ◌-◌, ◌≤◌, List, [], ◌∷◌, map, Some, slice_get, option_map, position, Bool, not, cond, refl, ap, ◌∙◌, arith}
-use Rattle.std.specs.List.{prefix_len}
+use Rattle.std.proofs.Common.{◌≡◌, ℕ, zero, suc, ◌+◌, ◌-◌, ◌≤◌, List, map, Some, slice_get, option_map, position, not, refl, ap, ◌∙◌, arith}
 use Rattle.std.specs.Str.{bytes_eq}
 use Rattle.std.proofs.lemmas.List.{length-map}
 use Rattle.std.proofs.lemmas.Option.{slice_get-map}
+use Rattle.sim_base.proofs.ListLaws.{prefix_len-map}
 use Rattle.net_model.specs.declared.station.Station.{Station}
 use Rattle.net_model.specs.Net.{Net, site_at, number_of}
 use Rattle.net_model.specs.Sites.{as_site}
@@ -15,10 +15,6 @@ module _ (net : Net) (stations : List Station) (seen : net.sites ≡ map as_site
   seen_site (suc i) st low is =
       let same : suc i - 1 ≡ i = omega arith in
       ap (λ sites. slice_get sites i) seen ∙ (slice_get-map as_site stations i ∙ ap (option_map as_site) (rw same at is))
-
-pub prefix_len-map : {X Y : Type 0} (p : Y → Bool) (f : X → Y) (xs : List X) → prefix_len p (map f xs) ≡ prefix_len (λ x. p (f x)) xs
-prefix_len-map p f [] = refl
-prefix_len-map p f (x ∷ xs) = ap (λ n. cond (p (f x)) (1 + n) 0) (prefix_len-map p f xs)
 
 -- the first station of a name
 pub seen_place : (name : List ℕ) (stations : List Station) → position (λ site. bytes_eq site.name name) (map as_site stations) ≡ position (λ station. bytes_eq station.name name) stations

@@ -17,7 +17,7 @@ use Rattle.net_model.specs.Drafts.{DraftSite, as_draft, draft_of, drafts_of, has
 use Rattle.net_model.specs.Net.{Site}
 use Rattle.net_model.specs.Resolving.{kind_after, link_along, link_to, link_of_named, site_of_draft, sites_of}
 use Rattle.net_model.specs.Sites.{as_site}
-use Rattle.net_model.proofs.Placing.{prefix_len-map}
+use Rattle.sim_base.proofs.ListLaws.{prefix_len-map}
 
 -- the rest that is read, behind what is there
 abbrev pub after : {A : Type 0} → List A → Result (List A) ModelFault → Result (List A) ModelFault
