@@ -46,7 +46,8 @@ module _ (m : Msg) (c : ℕ) where
   is_pair x k = is_eq (msg_cmp m x) && has k c
 
   -- a pair that is put in its place is for its clones, and the others stay
-  is_for-place : (r : Ordering) (x : Msg) (k : ℕ) (y : Msg × ℕ) (ys rest : List (Msg × ℕ)) → msg_cmp x y.0 ≡ r → is_for m c rest ≡ (is_pair x k || is_for m c ys)
+  is_for-place : (r : Ordering) (x : Msg) (k : ℕ) (y : Msg × ℕ) (ys rest : List (Msg × ℕ))
+      → msg_cmp x y.0 ≡ r → is_for m c rest ≡ (is_pair x k || is_for m c ys)
       → is_for m c (place_marked union r x k y ys rest) ≡ (is_pair x k || is_for m c (y ∷ ys))
   is_for-place Less x k y ys rest e h = refl
   is_for-place Equal x k y ys rest e h =
@@ -56,7 +57,8 @@ module _ (m : Msg) (c : ℕ) where
   is_for-place Greater x k y ys rest e h = ap (λ b. is_pair y.0 y.1 || b) h ∙ or_turned (is_pair y.0 y.1) (is_pair x k) (is_for m c ys)
 
   -- the same of an insert
-  is_for-insert : (x : Msg) (k : ℕ) (q : List (Msg × ℕ)) → is_for m c (insert_marked union msg_cmp x k q) ≡ (is_pair x k || is_for m c q)
+  is_for-insert : (x : Msg) (k : ℕ) (q : List (Msg × ℕ))
+      → is_for m c (insert_marked union msg_cmp x k q) ≡ (is_pair x k || is_for m c q)
   is_for-insert x k [] = refl
   is_for-insert x k (y ∷ ys) = is_for-place (msg_cmp x y.0) x k y ys (insert_marked union msg_cmp x k ys) refl (is_for-insert x k ys)
 
@@ -79,24 +81,28 @@ above_trans a b [] l f = tt
 above_trans a b (y ∷ ys) l f = (msg_total.trans a b y.0 l f.0, above_trans a b ys l f.1)
 
 -- what comes before all comes before all with one more
-above_place : (r : Ordering) (a x : Msg) (k : ℕ) (y : Msg × ℕ) (ys rest : List (Msg × ℕ)) → msg_cmp a x ≡ Less → Above a (y ∷ ys) → Above a rest
+above_place : (r : Ordering) (a x : Msg) (k : ℕ) (y : Msg × ℕ) (ys rest : List (Msg × ℕ))
+    → msg_cmp a x ≡ Less → Above a (y ∷ ys) → Above a rest
     → Above a (place_marked union r x k y ys rest)
 above_place Less a x k y ys rest l f h = (l, f)
 above_place Equal a x k y ys rest l f h = f
 above_place Greater a x k y ys rest l f h = (f.0, h)
 
 -- the same of an insert
-above_insert : (a x : Msg) (k : ℕ) (q : List (Msg × ℕ)) → msg_cmp a x ≡ Less → Above a q → Above a (insert_marked union msg_cmp x k q)
+above_insert : (a x : Msg) (k : ℕ) (q : List (Msg × ℕ))
+    → msg_cmp a x ≡ Less → Above a q → Above a (insert_marked union msg_cmp x k q)
 above_insert a x k [] l f = (l, tt)
-above_insert a x k (y ∷ ys) l f = above_place (msg_cmp x y.0) a x k y ys (insert_marked union msg_cmp x k ys) l f (above_insert a x k ys l f.1)
+above_insert a x k (y ∷ ys) l f =
+    above_place (msg_cmp x y.0) a x k y ys (insert_marked union msg_cmp x k ys) l f (above_insert a x k ys l f.1)
 
 -- the order of messages, each once
 abbrev Ordered : List (Msg × ℕ) → Type 0
 Ordered q = IsStrictlySortedBy msg_cmp (keys_of q)
 
 -- the order stays where a pair is put in its place
-ordered_place : (r : Ordering) (x : Msg) (k : ℕ) (y : Msg × ℕ) (ys : List (Msg × ℕ)) → msg_cmp x y.0 ≡ r → Ordered (y ∷ ys)
-    → Ordered (insert_marked union msg_cmp x k ys) → Ordered (place_marked union r x k y ys (insert_marked union msg_cmp x k ys))
+ordered_place : (r : Ordering) (x : Msg) (k : ℕ) (y : Msg × ℕ) (ys : List (Msg × ℕ))
+    → msg_cmp x y.0 ≡ r → Ordered (y ∷ ys) → Ordered (insert_marked union msg_cmp x k ys)
+    → Ordered (place_marked union r x k y ys (insert_marked union msg_cmp x k ys))
 unfolding IsStrictlySortedBy
 ordered_place Less x k y ys e s h = ((e, above_trans x y.0 ys e s.0), s)
 ordered_place Equal x k y ys e s h = s

@@ -29,7 +29,8 @@ module _ (s : ℕ) where
     some : p.set ≢ empty
 
   -- a part of later receivers is one of all
-  among_later : (n r : ℕ) (rs : List ℕ) (parts : List Part) → AllByRecursion (Among (n + 1) rs) parts → AllByRecursion (Among n (r ∷ rs)) parts
+  among_later : (n r : ℕ) (rs : List ℕ) (parts : List Part)
+      → AllByRecursion (Among (n + 1) rs) parts → AllByRecursion (Among n (r ∷ rs)) parts
   among_later n r rs [] h = tt
   among_later n r rs (p ∷ ps) h = (
     record { i = suc h.0.i; there = omega (arith, h.0.there); number = omega (arith, h.0.number); set = h.0.set; some = h.0.some },
@@ -37,7 +38,8 @@ module _ (s : ℕ) where
   )
 
   -- a part that is not empty is that of the first receiver
-  among_before : (b : Bool) (n r : ℕ) (rs : List ℕ) (parts : List Part) → (b ≡ false → meet s r ≢ empty) → AllByRecursion (Among n (r ∷ rs)) parts
+  among_before : (b : Bool) (n r : ℕ) (rs : List ℕ) (parts : List Part)
+      → (b ≡ false → meet s r ≢ empty) → AllByRecursion (Among n (r ∷ rs)) parts
       → AllByRecursion (Among n (r ∷ rs)) (part_before b n (meet s r) parts)
   among_before true n r rs parts e h = h
   among_before false n r rs parts e h = (record { i = 0; there = omega arith; number = omega arith; set = refl; some = e refl }, h)
@@ -58,12 +60,14 @@ module _ (s : ℕ) where
   contains_before false n set p ps h = contains_later p _ ps h
 
   -- the first part is there unless it is empty
-  contains_first : (b : Bool) (n set : ℕ) (ps : List Part) → b ≡ false → Contains (part_before b n set ps) (record { receiver = n; set = set })
+  contains_first : (b : Bool) (n set : ℕ) (ps : List Part)
+      → b ≡ false → Contains (part_before b n set ps) (record { receiver = n; set = set })
   contains_first true n set ps e = absurd cc
   contains_first false n set ps e = (0, omega arith, refl)
 
   -- each meet that is not empty has its part
-  contains_part : (n : ℕ) (rs : List ℕ) (i : ℕ) → i < length rs → shared_at s rs i ≢ empty → Contains (parts_from n rs) (record { receiver = n + i; set = shared_at s rs i })
+  contains_part : (n : ℕ) (rs : List ℕ) (i : ℕ)
+      → i < length rs → shared_at s rs i ≢ empty → Contains (parts_from n rs) (record { receiver = n + i; set = shared_at s rs i })
   contains_part n [] i l some = absurd (omega arith)
   contains_part n (r ∷ rs) zero l some =
       let e : n ≡ n + 0 = omega arith in
@@ -83,12 +87,14 @@ module _ (s : ℕ) where
   below_less n k l = sym (nat_cmp_is n k Less l)
 
   -- later receivers have higher numbers
-  above_later : (n : ℕ) (rs : List ℕ) (parts : List Part) → AllByRecursion (Among (n + 1) rs) parts → AllByRecursion (λ k. nat_cmp n k ≡ Less) (numbers parts)
+  above_later : (n : ℕ) (rs : List ℕ) (parts : List Part)
+      → AllByRecursion (Among (n + 1) rs) parts → AllByRecursion (λ k. nat_cmp n k ≡ Less) (numbers parts)
   above_later n rs [] h = tt
   above_later n rs (p ∷ ps) h = (below_less n p.receiver (omega (arith, h.0.number)), above_later n rs ps h.1)
 
   -- the numbers rise with one before them
-  rising_before : (b : Bool) (n set : ℕ) (parts : List Part) → AllByRecursion (λ k. nat_cmp n k ≡ Less) (numbers parts) → IsStrictlySortedBy nat_cmp (numbers parts)
+  rising_before : (b : Bool) (n set : ℕ) (parts : List Part)
+      → AllByRecursion (λ k. nat_cmp n k ≡ Less) (numbers parts) → IsStrictlySortedBy nat_cmp (numbers parts)
       → IsStrictlySortedBy nat_cmp (numbers (part_before b n set parts))
   unfolding IsStrictlySortedBy
   rising_before true n set parts f h = h

@@ -16,33 +16,40 @@ use Rattle.msg_route.proofs.GroupLaws.{group_is_grouped}
 
 -- ---- truth values
 
+-- where both hold together, each holds
 and_both : (a b : Bool) → (a && b) ≡ true → (a ≡ true) × (b ≡ true)
 and_both true b e = (refl, e)
 and_both false b e = absurd (false≢true e)
 
+-- where each holds, both hold together
 both_and : (a b : Bool) → a ≡ true → b ≡ true → (a && b) ≡ true
 both_and true b e f = f
 both_and false b e f = absurd (false≢true e)
 
+-- where one of two holds, the first or the second does
 or_one : (a b : Bool) → (a || b) ≡ true → (a ≡ true) ⊎ (b ≡ true)
 or_one true b e = inl refl
 or_one false b e = inr e
 
+-- the first of two is enough
 left_or : (a b : Bool) → a ≡ true → (a || b) ≡ true
 left_or true b e = refl
 left_or false b e = absurd (false≢true e)
 
+-- the second of two is enough
 right_or : (a b : Bool) → b ≡ true → (a || b) ≡ true
 right_or true b e = refl
 right_or false b e = e
 
 -- ---- equal messages
 
+-- an order that is its own reverse is a tie
 equal_itself : (r : Ordering) → r ≡ ordering_reverse r → is_eq r ≡ true
 equal_itself Less e = absurd cc
 equal_itself Equal e = refl
 equal_itself Greater e = absurd cc
 
+-- what is told to be a tie is one
 is_equal : (r : Ordering) → is_eq r ≡ true → r ≡ Equal
 is_equal Less e = absurd (false≢true e)
 is_equal Equal e = refl
