@@ -1,0 +1,7 @@
+use Rattle.std.proofs.Common.{refl, append_assoc, arith}
+use Rattle.made_study.specs.Texts.{ward_text}
+use Rattle.made_study.proofs.Ranges.{texts-more}
+use Rattle.made_study.proofs.model.write_wards.Goals as goal
+
+pub wards-preserved : goal.wards-preserved
+wards-preserved c = rw (c.in_ok-write_ward.ensures.value, c.wards.invariant, texts-more ward_text 1 c.wards.i (omega arith)) (simp append_assoc refl)
