@@ -1,5 +1,5 @@
 -- Texts of the numbers of a range, with one number more.
-use Rattle.std.proofs.Common.{◌≡◌, ℕ, zero, suc, ◌+◌, ◌-◌, ◌<◌, ◌≤◌, List, [], ◌∷◌, ◌++◌, refl, ap, ◌∙◌, subst, arith, append_assoc, append-nil}
+use Rattle.std.proofs.Common.{◌≡◌, ℕ, zero, suc, ◌+◌, ◌-◌, ◌≤◌, List, [], ◌∷◌, ◌++◌, ap, ◌∙◌, arith, append-nil}
 use Rattle.std.specs.List.{flat_map, join_by, range_with_len}
 use Rattle.std.proofs.lemmas.Grind.{flat_map-append}
 

@@ -38,13 +38,17 @@ exit count = record { name = codes "exit"; kind = Sink; stream = count + 4; link
 abbrev pub made_sites : ℕ → ℕ → List Site
 made_sites n count = door n ∷ triage count ∷ map (ward count) (range_with_len 1 count) ++ walk count ∷ exit count ∷ []
 
--- the network of this number
-abbrev pub made_net : ℕ → Net
-made_net n = record {
+-- a network of this seed with so many wards
+abbrev pub net_with : ℕ → ℕ → Net
+net_with n count = record {
   format = 1;
   lookahead = 2;
   horizon = 5000;
   seed = n;
   limit = 16384;
-  sites = made_sites n (wards n);
+  sites = made_sites n count;
 }
+
+-- the network of this number
+abbrev pub made_net : ℕ → Net
+made_net n = net_with n (wards n)

@@ -23,9 +23,12 @@
 //! in `specs/Scripts.antt`. Nothing is drawn at random. Out of memory is the only error.
 #![tactic(auto)]
 
+pub mod examples;
 mod model;
 mod script;
 mod study;
+#[cfg(test)]
+mod tests;
 
 pub use model::model_text;
 pub use script::script_text;

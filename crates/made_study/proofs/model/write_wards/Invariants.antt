@@ -1,4 +1,4 @@
-use Rattle.std.proofs.Common.{◌≡◌, ◌+◌, ◌-◌, ◌++◌, string_bytes}
+use Rattle.std.proofs.Common.{◌≡◌, ◌-◌, ◌++◌, string_bytes}
 use Rattle.std.specs.List.{flat_map, range_with_len}
 use Rattle.made_study.specs.Texts.{ward_text}
 use Rattle.made_study.proofs.model.write_wards.Given as goal

@@ -1,4 +1,4 @@
-use Rattle.std.proofs.Common.{refl, append_assoc, codes, ◌++◌, ◌≡◌, ◌+◌, ◌-◌, arith, ap, ◌∙◌, sym, string_bytes}
+use Rattle.std.proofs.Common.{refl, append_assoc, codes, ◌++◌, ◌≡◌, ◌+◌, ◌-◌, arith, string_bytes}
 use Rattle.std.specs.List.{flat_map, range_with_len}
 use Rattle.made_study.specs.Texts.{way_text}
 use Rattle.made_study.proofs.Ranges.{join_by-range, texts-more}

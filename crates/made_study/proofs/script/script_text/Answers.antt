@@ -1,4 +1,4 @@
-use Rattle.std.proofs.Common.{◌≡◌, ◌-◌, refl, ◌∙◌, ap, append_assoc, arith, string_bytes}
+use Rattle.std.proofs.Common.{◌≡◌, ◌-◌, ◌∙◌, append_assoc, arith}
 use Rattle.std.specs.List.{flat_map, range_with_len}
 use Rattle.decision_script.specs.Printing.{line_text, words_of_decision}
 use Rattle.made_study.specs.Scripts.{fork_of_plan, set_of_plan}
