@@ -21,15 +21,20 @@ use Rattle.made_study.specs.Nets.{made_net, made_sites, net_with, ward}
 use Rattle.made_study.specs.Numbers.{PLANS, wards, ward_name}
 use Rattle.made_study.specs.Scripts.{fork_of_plan, made_script, plan_name, set_of_plan}
 
--- how things stand after so many plans, at a network with so many wards beside the first
+-- how things stand with these clones after so many calls, at a network with so many wards beside the first
+abbrev pub with_clones : ℕ → ℕ → List Clone → ℕ → Situation
+with_clones n others clones calls = record { net = net_with n (suc others); clones = clones; front = 0; calls = calls }
+
+-- and after so many plans
 abbrev pub after_plans : ℕ → ℕ → ℕ → Situation
-after_plans n others count = record { net = net_with n (suc others); clones = clones_of_plans count; front = 0; calls = 2 * count }
+after_plans n others count = with_clones n others (clones_of_plans count) (2 * count)
 
 -- both decisions of the next plan are accepted, and lead to how things stand after it
 record IsNextPlan (n others count : ℕ) : Type 0 where
   fork : reply (after_plans n others count) (fork_of_plan (count + 1)) ≡ Accepted
   set : reply (next (after_plans n others count) (fork_of_plan (count + 1))) (set_of_plan (count + 1)) ≡ Accepted
-  leads : next (next (after_plans n others count) (fork_of_plan (count + 1))) (set_of_plan (count + 1)) ≡ after_plans n others (count + 1)
+  leads : next (next (after_plans n others count) (fork_of_plan (count + 1))) (set_of_plan (count + 1))
+      ≡ after_plans n others (count + 1)
 
 -- the first ward is the third station
 first_ward : (n others : ℕ) → number_of (ward_name 1) (net_with n (suc others)) ≡ Some 3
@@ -64,17 +69,28 @@ set_leads : (net : Net) (clones : List Clone) (calls c at : ℕ) (who station : 
     → place_of who clones ≡ Some c
     → number_of station net ≡ Some 3
     → next (record { net = net; clones = clones; front = 0; calls = calls }) (Set who at station change)
-    ≡ record { net = net; clones = added clones c (record { at = at; station = 3; change = change }); front = 0; calls = calls + 1 }
+    ≡ record {
+      net = net;
+      clones = added clones c (record { at = at; station = 3; change = change });
+      front = 0;
+      calls = calls + 1;
+    }
 set_leads net clones calls c at who station change accepted there found = rw (accepted, there, found) refl
 
 -- the clones between the two decisions of the next plan: it has what the plan has that it is a fork of
 abbrev pub clones_between : ℕ → List Clone
-clones_between count = clones_of_plans count ++ record { name = plan_name (count + 1); plans = last_decisions count ((count + 1) / 2); end = None } ∷ []
+clones_between count =
+    clones_of_plans count
+    ++ record { name = plan_name (count + 1); plans = last_decisions count ((count + 1) / 2); end = None } ∷ []
 
 abbrev pub between : ℕ → ℕ → ℕ → Situation
-between n others count = record { net = net_with n (suc others); clones = clones_between count; front = 0; calls = 2 * count + 1 }
+between n others count = with_clones n others (clones_between count) (2 * count + 1)
 
--- what is computed of the next plan: the fork is accepted and leads there, the set meets the rows of the table, and adds its decision
+-- the clones after both
+abbrev pub clones_after_set : ℕ → List Clone
+clones_after_set count = added (clones_between count) (count + 1) (own_decision (count + 1))
+
+-- what is computed of the next plan: the fork is accepted and leads there, and the set meets no row of the table
 abbrev pub Facts : ℕ → ℕ → ℕ → Type 0
 Facts n others count =
     (reply (after_plans n others count) (fork_of_plan (count + 1)) ≡ Accepted)
@@ -85,19 +101,74 @@ Facts n others count =
     × (accepts (ward (suc others) 1) (own_decision (count + 1)).change ≡ Ok tt)
     × (nat_le MOST_DECISIONS (length (clone_at (clones_between count) (count + 1)).plans) ≡ false)
     × (nat_le 5000 (100 * (count + 1)) ≡ false)
-    × (record { net = net_with n (suc others); clones = added (clones_between count) (count + 1) (own_decision (count + 1)); front = 0; calls = 2 * count + 1 + 1 } ≡ after_plans n others (count + 1))
+    × (with_clones n others (clones_after_set count) (2 * count + 1 + 1) ≡ after_plans n others (count + 1))
 
 facts : (n others : ℕ) → AllByRecursion (Facts n others) (range_with_len 0 PLANS)
 unfolding digits
-facts n others = ((refl, refl, refl, refl, refl, refl, refl, refl, refl), ((refl, refl, refl, refl, refl, refl, refl, refl, refl), ((refl, refl, refl, refl, refl, refl, refl, refl, refl), ((refl, refl, refl, refl, refl, refl, refl, refl, refl), ((refl, refl, refl, refl, refl, refl, refl, refl, refl), ((refl, refl, refl, refl, refl, refl, refl, refl, refl), ((refl, refl, refl, refl, refl, refl, refl, refl, refl), ((refl, refl, refl, refl, refl, refl, refl, refl, refl), ((refl, refl, refl, refl, refl, refl, refl, refl, refl), ((refl, refl, refl, refl, refl, refl, refl, refl, refl), ((refl, refl, refl, refl, refl, refl, refl, refl, refl), ((refl, refl, refl, refl, refl, refl, refl, refl, refl), ((refl, refl, refl, refl, refl, refl, refl, refl, refl), ((refl, refl, refl, refl, refl, refl, refl, refl, refl), ((refl, refl, refl, refl, refl, refl, refl, refl, refl), ((refl, refl, refl, refl, refl, refl, refl, refl, refl), tt))))))))))))))))
+facts n others = (
+  (refl, refl, refl, refl, refl, refl, refl, refl, refl),
+  (
+    (refl, refl, refl, refl, refl, refl, refl, refl, refl),
+    (
+      (refl, refl, refl, refl, refl, refl, refl, refl, refl),
+      (
+        (refl, refl, refl, refl, refl, refl, refl, refl, refl),
+        (
+          (refl, refl, refl, refl, refl, refl, refl, refl, refl),
+          (
+            (refl, refl, refl, refl, refl, refl, refl, refl, refl),
+            (
+              (refl, refl, refl, refl, refl, refl, refl, refl, refl),
+              (
+                (refl, refl, refl, refl, refl, refl, refl, refl, refl),
+                (
+                  (refl, refl, refl, refl, refl, refl, refl, refl, refl),
+                  (
+                    (refl, refl, refl, refl, refl, refl, refl, refl, refl),
+                    (
+                      (refl, refl, refl, refl, refl, refl, refl, refl, refl),
+                      (
+                        (refl, refl, refl, refl, refl, refl, refl, refl, refl),
+                        (
+                          (refl, refl, refl, refl, refl, refl, refl, refl, refl),
+                          (
+                            (refl, refl, refl, refl, refl, refl, refl, refl, refl),
+                            (
+                              (refl, refl, refl, refl, refl, refl, refl, refl, refl),
+                              (
+                                (refl, refl, refl, refl, refl, refl, refl, refl, refl),
+                                tt,
+                              ),
+                            ),
+                          ),
+                        ),
+                      ),
+                    ),
+                  ),
+                ),
+              ),
+            ),
+          ),
+        ),
+      ),
+    ),
+  ),
+)
 
 is_next : (n others count : ℕ) → Facts n others count → IsNextPlan n others count
 is_next n others count (fork, forks, room, there, going, takes, free, early, adds) =
     let net = net_with n (suc others) in
+    let clones = clones_between count in
+    let who = plan_name (count + 1) in
+    let change = (own_decision (count + 1)).change in
+    let at = 100 * (count + 1) in
+    let calls = 2 * count + 1 in
+    let found = first_ward n others in
+    let late = not_late at in
     let set : reply (between n others count) (set_of_plan (count + 1)) ≡ Accepted =
-    set_accepted net (clones_between count) (2 * count + 1) (count + 1) (100 * (count + 1)) (plan_name (count + 1)) (ward_name 1) (own_decision (count + 1)).change room refl there going (first_ward n others) takes free early (not_late (100 * (count + 1))) in
+    set_accepted net clones calls (count + 1) at who (ward_name 1) change room refl there going found takes free early late in
     let leads : next (between n others count) (set_of_plan (count + 1)) ≡ after_plans n others (count + 1) =
-    set_leads net (clones_between count) (2 * count + 1) (count + 1) (100 * (count + 1)) (plan_name (count + 1)) (ward_name 1) (own_decision (count + 1)).change set there (first_ward n others) ∙ adds in
+    set_leads net clones calls (count + 1) at who (ward_name 1) change set there found ∙ adds in
     record {
       fork = fork;
       set = ap (λ s. reply s (set_of_plan (count + 1))) forks ∙ set;
@@ -109,7 +180,9 @@ abbrev pub decisions_of_plans : ℕ → ℕ → List Decision
 decisions_of_plans first count = flat_map (λ j. fork_of_plan j ∷ set_of_plan j ∷ []) (range_with_len first count)
 
 -- two decisions that are accepted are no refusals
-passed : (s : Situation) (place : ℕ) (d e : Decision) (ds : List Decision) → reply s d ≡ Accepted → reply (next s d) e ≡ Accepted
+passed : (s : Situation) (place : ℕ) (d e : Decision) (ds : List Decision)
+    → reply s d ≡ Accepted
+    → reply (next s d) e ≡ Accepted
     → first_refusal_from s place (d ∷ e ∷ ds) ≡ first_refusal_from (next (next s d) e) (place + 1 + 1) ds
 passed s place d e ds first second =
     ap (λ r. refusal_or place r (first_refusal_from (next s d) (place + 1) (e ∷ ds))) first
@@ -144,7 +217,8 @@ wards_of n = omega arith
 
 pub all_accepted : (n : ℕ) → first_refusal (made_net n) (decisions made_script.items) ≡ None
 all_accepted n =
-    subst (λ count. first_refusal (net_with n count) (decisions made_script.items) ≡ None) (wards_of n) (none_refused n (n % 8) 0 PLANS 0 (facts n (n % 8)))
+    subst (λ count. first_refusal (net_with n count) (decisions made_script.items) ≡ None) (wards_of n)
+    (none_refused n (n % 8) 0 PLANS 0 (facts n (n % 8)))
 
 pub clones_left : (n : ℕ) → lists_of (made_net n) (decisions made_script.items) ≡ clones_of_plans PLANS
 clones_left n =

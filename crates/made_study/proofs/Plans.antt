@@ -19,9 +19,17 @@ pub plans_are_canonical : flat_map plan_text (range_with_len 1 PLANS) ≡ canoni
 unfolding canonical_text digits
 plans_are_canonical = refl
 
+-- the words of a set, where its numbers are written as a, b, c, d and e
+abbrev pub words_of_set : List ℕ → List ℕ → List ℕ → List ℕ → List ℕ → List (List ℕ)
+words_of_set a b c d e =
+    codes "set" ∷ (codes "plan" ++ a) ∷ codes "at" ∷ b ∷ (codes "ward" ++ c) ∷ codes "service" ∷ d ∷ e ∷ []
+
 -- the line of a set, where its numbers are written as a, b, c, d and e
-set_line : (a b c d e : List ℕ) → line_text (codes "set" ∷ (codes "plan" ++ a) ∷ codes "at" ∷ b ∷ (codes "ward" ++ c) ∷ codes "service" ∷ d ∷ e ∷ [])
-    ≡ codes "set plan" ++ (a ++ (codes " at " ++ (b ++ (codes " ward" ++ (c ++ (codes " service " ++ (d ++ (codes " " ++ (e ++ codes "\n")))))))))
+set_line : (a b c d e : List ℕ)
+    → line_text (words_of_set a b c d e)
+    ≡ codes "set plan"
+    ++ (a
+    ++ (codes " at " ++ (b ++ (codes " ward" ++ (c ++ (codes " service " ++ (d ++ (codes " " ++ (e ++ codes "\n")))))))))
 set_line a b c d e =
     let at_d = append_assoc d (codes " " ++ e) (codes "\n") in
     let from_c = codes " service " ++ (d ++ (codes " " ++ e)) in
@@ -32,8 +40,11 @@ set_line a b c d e =
     ap (λ x. codes "set plan" ++ x) at_a
 
 -- the line of a plan's set
-pub set_of_plan-line : (j : ℕ) → line_text (words_of_decision (set_of_plan j))
-    ≡ codes "set plan" ++ (decimal j ++ (codes " at " ++ (decimal (100 * j) ++ (codes " ward1 service 1 " ++ (decimal (2 + j) ++ codes "\n")))))
+pub set_of_plan-line : (j : ℕ)
+    → line_text (words_of_decision (set_of_plan j))
+    ≡ codes "set plan"
+    ++ (decimal j
+    ++ (codes " at " ++ (decimal (100 * j) ++ (codes " ward1 service 1 " ++ (decimal (2 + j) ++ codes "\n")))))
 set_of_plan-line j =
-    let words : List ℕ → List (List ℕ) = λ one. codes "set" ∷ (codes "plan" ++ decimal j) ∷ codes "at" ∷ decimal (100 * j) ∷ (codes "ward" ++ one) ∷ codes "service" ∷ one ∷ decimal (2 + j) ∷ [] in
-    ap (λ one. line_text (words one)) decimal_one ∙ set_line (decimal j) (decimal (100 * j)) (codes "1") (codes "1") (decimal (2 + j))
+    ap (λ one. line_text (words_of_set (decimal j) (decimal (100 * j)) one one (decimal (2 + j)))) decimal_one
+    ∙ set_line (decimal j) (decimal (100 * j)) (codes "1") (codes "1") (decimal (2 + j))

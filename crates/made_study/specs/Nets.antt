@@ -36,7 +36,8 @@ exit count = record { name = codes "exit"; kind = Sink; stream = count + 4; link
 
 -- a network with so many wards
 abbrev pub made_sites : ℕ → ℕ → List Site
-made_sites n count = door n ∷ triage count ∷ map (ward count) (range_with_len 1 count) ++ walk count ∷ exit count ∷ []
+made_sites n count =
+    door n ∷ triage count ∷ map (ward count) (range_with_len 1 count) ++ walk count ∷ exit count ∷ []
 
 -- a network of this seed with so many wards
 abbrev pub net_with : ℕ → ℕ → Net

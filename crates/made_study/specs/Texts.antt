@@ -58,4 +58,9 @@ ways_out_text =
 
 -- the text of the model of this number
 abbrev pub model_text : ℕ → List ℕ
-model_text n = top_text n ++ door_text n ++ triage_text (wards n) ++ flat_map ward_text (range_with_len 1 (wards n)) ++ ways_out_text
+model_text n =
+    top_text n
+    ++ door_text n
+    ++ triage_text (wards n)
+    ++ flat_map ward_text (range_with_len 1 (wards n))
+    ++ ways_out_text

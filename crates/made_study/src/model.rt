@@ -2,7 +2,8 @@
 ghost use Rattle.std.specs.Prelude.{◌≡◌, ◌≤◌, ◌++◌, OnOk, IfOk, string_bytes, codes};
 ghost use Rattle.std.specs.List.{flat_map, join_by, range_with_len};
 ghost use Rattle.made_study.specs.Numbers.{wards};
-ghost use Rattle.made_study.specs.Texts.{door_text, model_text as model_text_of, top_text, triage_text, ward_text, way_text, ways_out_text};
+ghost use Rattle.made_study.specs.Texts.{door_text, model_text as model_text_of, top_text, triage_text};
+ghost use Rattle.made_study.specs.Texts.{ward_text, way_text, ways_out_text};
 
 use sim_base::NoMemory;
 use std::alloc::Global;

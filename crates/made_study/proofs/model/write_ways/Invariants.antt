@@ -4,4 +4,6 @@ use Rattle.made_study.specs.Texts.{way_text}
 use Rattle.made_study.proofs.model.write_ways.Given as goal
 
 abbrev pub invariant-further : goal.invariant-further
-invariant-further l = string_bytes l.text ≡ string_bytes l.fn.text ++ way_text 1 ++ flat_map (λ i. codes ", " ++ way_text i) (range_with_len 2 (l.i - 2))
+invariant-further l =
+    string_bytes l.text
+    ≡ string_bytes l.fn.text ++ way_text 1 ++ flat_map (λ i. codes ", " ++ way_text i) (range_with_len 2 (l.i - 2))
