@@ -103,6 +103,7 @@ Facts n others count =
     × (nat_le 5000 (100 * (count + 1)) ≡ false)
     × (with_clones n others (clones_after_set count) (2 * count + 1 + 1) ≡ after_plans n others (count + 1))
 
+-- they hold of each plan, whatever the number and however many wards there are
 facts : (n others : ℕ) → AllByRecursion (Facts n others) (range_with_len 0 PLANS)
 unfolding digits
 facts n others = (
@@ -155,6 +156,7 @@ facts n others = (
   ),
 )
 
+-- so both decisions of the next plan are accepted
 is_next : (n others count : ℕ) → Facts n others count → IsNextPlan n others count
 is_next n others count (fork, forks, room, there, going, takes, free, early, adds) =
     let net = net_with n (suc others) in
@@ -215,11 +217,13 @@ all_lead n others before (suc count) (made, plans) =
 wards_of : (n : ℕ) → suc (n % 8) ≡ wards n
 wards_of n = omega arith
 
+-- no decision of the made script is refused
 pub all_accepted : (n : ℕ) → first_refusal (made_net n) (decisions made_script.items) ≡ None
 all_accepted n =
     subst (λ count. first_refusal (net_with n count) (decisions made_script.items) ≡ None) (wards_of n)
     (none_refused n (n % 8) 0 PLANS 0 (facts n (n % 8)))
 
+-- and it leaves a clone for each plan
 pub clones_left : (n : ℕ) → lists_of (made_net n) (decisions made_script.items) ≡ clones_of_plans PLANS
 clones_left n =
     subst (λ count. lists_of (net_with n count) (decisions made_script.items) ≡ clones_of_plans PLANS) (wards_of n)

@@ -15,6 +15,7 @@ decimal_one = refl
 abbrev pub plan_text : ℕ → List ℕ
 plan_text j = line_text (words_of_decision (fork_of_plan j)) ++ line_text (words_of_decision (set_of_plan j))
 
+-- the lines of all plans, one after another, are the canonical text
 pub plans_are_canonical : flat_map plan_text (range_with_len 1 PLANS) ≡ canonical_text made_script
 unfolding canonical_text digits
 plans_are_canonical = refl
