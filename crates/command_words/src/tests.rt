@@ -1,0 +1,1 @@
+//! Words of every form and of no form.
