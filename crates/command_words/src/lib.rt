@@ -24,10 +24,12 @@
 mod command;
 mod given;
 mod number;
+pub mod reading;
 pub mod request;
 #[cfg(test)]
 mod tests;
 pub mod usage;
 
-pub use request::{Mode, Request, Source, WordsFault, read_words};
+pub use reading::read_words;
+pub use request::{MOST_NUMBER, MOST_WORKERS, Mode, Request, Source, WordsFault};
 pub use usage::usage_line;

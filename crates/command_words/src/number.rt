@@ -1,5 +1,5 @@
 //! The numbers of a command line: decimal, from 1, without leading zero or sign.
-ghost use Rattle.std.specs.Prelude.{◌≡◌, ◌≤◌, ◌&&◌, nat_le, length, true};
+ghost use Rattle.std.specs.Prelude.{◌≡◌, ◌≤◌, ◌&&◌, nat_le, length, true, IfSome};
 ghost use Rattle.std.specs.List.{list_all};
 ghost use Rattle.std.specs.Str.Parse.{digits_value};
 ghost use Rattle.sim_base.specs.Names.{is_digit};
@@ -50,12 +50,14 @@ fn value(digits: &[u8]) -> u32
 #[tactic(auto, using(crate::proofs::Digits::positive_digits))]
 pub(crate) fn number_to(most: u32, word: &[u8]) -> Option<u32>
     ensures value { result ≡ told most word.now }
+    ensures some { IfSome result (λ n. 1 ≤ n) }
+    ensures few { IfSome result (λ n. n ≤ most) }
 {
     if !is_positive_number(word) || word.len() > MOST_DIGITS {
         return None;
     }
     let number = value(word);
-    if number > most {
+    if number < 1 || number > most {
         return None;
     }
     Some(number)
