@@ -1,11 +1,11 @@
 -- What the parse of the command comes to.
-use Rattle.std.proofs.Common.{◌≡◌, ◌⊎◌, inl, inr, ℕ, Bool, true, false, List, [], ◌∷◌, map, refl, sym, ap, ◌∙◌, Option, Some, None, option_map, codes, slice_get, zero, suc, cond}
-use Rattle.std.specs.Prelude.{find, option_and_then, Result, Ok, Err}
+use Rattle.std.proofs.Common.{◌≡◌, inl, inr, ℕ, Bool, true, false, List, [], ◌∷◌, map, refl, ap, Some, None, option_map, codes, slice_get, cond}
+use Rattle.std.specs.Prelude.{find, option_and_then}
 use Rattle.std.specs.Str.{bytes_eq}
 use Rattle.std.specs.Borrow.{Bor}
 use Rattle.clap.specs.Facts.{Entry}
 use Rattle.clap.specs.Walk.{row_of, texts}
-use Rattle.clap.specs.Words.{Row, Kinds, HasKind, IsAmong, FailsBy, fault_of, is_simple, is_simple_and_free, first_of, first_value, found_of, rows_of, kind_of, matches_of}
+use Rattle.clap.specs.Words.{Kinds, HasKind, fault_of, is_simple, is_simple_and_free, first_of, first_value, found_of, rows_of, kind_of, matches_of}
 use Rattle.clap.specs.declared.error.Error.{Error}
 use Rattle.clap.specs.declared.error.kind.ErrorKind.TheVariants.{OutOfMemory}
 use Rattle.clap.specs.declared.parser.matches.ArgMatches.{ArgMatches}

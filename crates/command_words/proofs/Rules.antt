@@ -1,5 +1,5 @@
 -- The rules of the command line, each by what words of its kind ask for.
-use Rattle.std.proofs.Common.{◌≡◌, refl, codes, List, [], ◌∷◌, Option, Some, None, ℕ}
+use Rattle.std.proofs.Common.{◌≡◌, refl, codes, [], ◌∷◌, Option, Some, None, ℕ}
 use Rattle.clap.proofs.OnLiterals.{clap_on_literals}
 use Rattle.command_words.specs.declared.request.Mode.TheVariants.{All, One}
 use Rattle.command_words.specs.Requests.{RequestView, form, named, made}

@@ -1,7 +1,7 @@
 use Rattle.std.proofs.Common.{ap₂, ◌∙◌, ◌≡◌, codes}
 use Rattle.std.proofs.lemmas.Result.{IfOk-weaker}
-use Rattle.clap.specs.Words.{App, app_of, rule_of, with_rule}
-use Rattle.command_words.specs.Application.{cloner, bare, option, positional}
+use Rattle.clap.specs.Words.{app_of, with_rule}
+use Rattle.command_words.specs.Application.{bare, option}
 use Rattle.command_words.proofs.command.command.Goals as goal
 
 pub returns : goal.returns

@@ -1,4 +1,4 @@
-use Rattle.std.proofs.Common.{rules, ◌≡◌, ap, ap₂, ◌∙◌, sym, map, codes, List, ℕ, [], true, subst}
+use Rattle.std.proofs.Common.{◌≡◌, ap, ◌∙◌, map, [], subst}
 use Rattle.clap.specs.Words.{App, app_of, is_simple, is_simple_and_free, fault_of, matches_of, HasKind, rows_of, found_of}
 use Rattle.command_words.specs.Application.{cloner}
 use Rattle.command_words.specs.Values.{values_of}
