@@ -1,0 +1,5 @@
+pub mod Nodes
+pub mod Merged
+pub mod Popping
+pub mod Rests
+pub mod Rising
