@@ -3,3 +3,4 @@ pub mod Merged
 pub mod Popping
 pub mod Rests
 pub mod Rising
+pub mod Stepping

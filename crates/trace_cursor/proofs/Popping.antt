@@ -217,7 +217,7 @@ more_other [] l (suc j) n = refl
 more_other (x ∷ xs) l zero n = refl
 more_other (x ∷ xs) l (suc j) n = more_other xs l j (λ e. n (omega (arith, e)))
 
-more_long : (ls : List (List E)) (l : List E) → length (ls ++ l ∷ []) ≡ length ls + 1
+pub more_long : (ls : List (List E)) (l : List E) → length (ls ++ l ∷ []) ≡ length ls + 1
 more_long [] l = refl
 more_long (x ∷ xs) l = let h = more_long xs l in omega (arith, h)
 
