@@ -91,9 +91,9 @@ module _ (nodes : List ℕ) (count : ℕ) (t : IsTree nodes count) where
         there = let l : h.0 < count = h.1 in omega (arith, l, long);
         is = get_or-drop count nodes h.0 0 ∙ h.2 ∙ e;
         least = λ i l.
-        let a = top_least (2 * count) (count + i) (omega arith) (omega (arith, l, long)) (omega (arith, l, long)) in
-        let b = get_or-drop count nodes i 0 in
-        omega (arith, a, b, e);
+            let a = top_least (2 * count) (count + i) (omega arith) (omega (arith, l, long)) (omega (arith, l, long)) in
+            let b = get_or-drop count nodes i 0 in
+            omega (arith, a, b, e);
       }
 
 -- ---- IsMending

@@ -43,11 +43,11 @@ less_word p q e f a b l k h =
     let ne : e.msg.key.number < 2097152 = a.number in
     let nf : f.msg.key.number < 2097152 = b.number in
     by_number e.msg.key.time f.msg.key.time (nat_cmp e.msg.key.time f.msg.key.time) _ (ranks e.msg.key.time f.msg.key.time)
-        (λ g. omega (arith, g, h, se, sf, ne, nf, l, k)) (λ t.
+    (λ g. omega (arith, g, h, se, sf, ne, nf, l, k)) (λ t.
     by_number e.msg.key.sender f.msg.key.sender (nat_cmp e.msg.key.sender f.msg.key.sender) _ (ranks e.msg.key.sender f.msg.key.sender)
-        (λ g. omega (arith, g, t, h, ne, nf, l, k)) (λ s.
+    (λ g. omega (arith, g, t, h, ne, nf, l, k)) (λ s.
     last_number e.msg.key.number f.msg.key.number (nat_cmp e.msg.key.number f.msg.key.number) (ranks e.msg.key.number f.msg.key.number)
-        (λ g. omega (arith, g, t, s, h, l, k))))
+    (λ g. omega (arith, g, t, s, h, l, k))))
 
 -- what ties has one time, one sender and one number
 tie_is_one : (x y z u v w : ℕ) (r s t : Ordering) → MatchOrdering r (x < y) (x ≡ y) (y < x) →
@@ -68,7 +68,7 @@ greater_word p q e f a b l k h = elim (less_word p q e f a b l (omega arith) h) 
   | inl d ↦ keys_total.antisymm f e ∙ ap ordering_reverse d
   | inr d ↦
       let t = tie_is_one e.msg.key.time f.msg.key.time e.msg.key.sender f.msg.key.sender e.msg.key.number f.msg.key.number _ _ _
-          (ranks e.msg.key.time f.msg.key.time) (ranks e.msg.key.sender f.msg.key.sender) (ranks e.msg.key.number f.msg.key.number) d in
+      (ranks e.msg.key.time f.msg.key.time) (ranks e.msg.key.sender f.msg.key.sender) (ranks e.msg.key.number f.msg.key.number) d in
       let t0 = t.0 in let t1 = t.1 in let t2 = t.2 in
       absurd (omega (arith, t0, t1, t2, h, k))
 ]
@@ -144,12 +144,12 @@ module _ (w : ℕ) (words : List ℕ) (ls : List (List E)) (reserved : ℕ) (c :
       let le = not_less j (omega (arith, before, there, place)) in
       let wf = ap (word_of j) q in
       greater_word i j e f fe (fit_first ls j f fs c.fit q) (omega (arith, there, place, few)) before
-          (omega (arith, word, le, wf, before, there, place, few)))
+      (omega (arith, word, le, wf, before, there, place, few)))
       (λ j behind lj f fs q.
       let le = not_less j (omega (arith, lj, place)) in
       let wf = ap (word_of j) q in
       less_word i j e f fe (fit_first ls j f fs c.fit q) (omega (arith, there, place, few)) (omega (arith, lj, place, few))
-          (omega (arith, word, le, wf, behind, lj, place, few)))
+      (omega (arith, word, le, wf, behind, lj, place, few)))
 
   -- where that list has nothing left, the word is the greatest
   greatest_of : (l : List E) → get_or ls h.place [] ≡ l → word_of h.place l ≡ w → get_or ls (w % 64) [] ≡ [] → w ≡ no_word

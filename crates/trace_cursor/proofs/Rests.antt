@@ -57,10 +57,10 @@ module _ {S M N : Type 0} {sim : Simulation S M N} {Good : ℕ → S → Type 0}
         In e (merge_of_rests sim sender number c t n)
     merged_has zero e s l k i = absurd (omega arith)
     merged_has (suc n) e s l k i = merge_has by_key (merge_of_rests sim sender number c t n) (rest (suc n)) e (
-      elim (cases_eq s (suc n)) [
-        | inl a ↦ inr (subst (λ r. In e (rest r)) a i)
-        | inr b ↦ inl (merged_has n e s l (omega arith) i)
-      ])
+        elim (cases_eq s (suc n)) [
+          | inl a ↦ inr (subst (λ r. In e (rest r)) a i)
+          | inr b ↦ inl (merged_has n e s l (omega arith) i)
+        ])
 
     -- an entry is in one log alone
     no_ties : (n : ℕ) (x y : Entry M N) → In x (merge_of_rests sim sender number c t n) → In y (rest (suc n)) →
@@ -70,9 +70,9 @@ module _ {S M N : Type 0} {sim : Simulation S M N} {Good : ℕ → S → Type 0}
         let in_x = in_log h.0 x h.3 in
         let in_y = in_log (suc n) y j in
         let same : x ≡ y = ties_are_one (entries_total law stations fresh) trace x y
-            (trace_sorted law stations fresh c sim.horizon there)
-            (in_trace law stations fresh c sim.horizon there h.0 x in_x)
-            (in_trace law stations fresh c sim.horizon there (suc n) y in_y) tie in
+        (trace_sorted law stations fresh c sim.horizon there)
+        (in_trace law stations fresh c sim.horizon there h.0 x in_x)
+        (in_trace law stations fresh c sim.horizon there (suc n) y in_y) tie in
         let a : sim.to x.msg ≡ h.0 = eqb-true (sim.to x.msg) h.0 (in_filter (λ f. sim.to f.msg == h.0) trace x in_x).1 in
         let b : sim.to y.msg ≡ suc n = eqb-true (sim.to y.msg) (suc n) (in_filter (λ f. sim.to f.msg == suc n) trace y in_y).1 in
         let l : h.0 ≤ n = h.2 in

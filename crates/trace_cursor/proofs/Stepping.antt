@@ -47,41 +47,31 @@ module _ (ls : List (List E)) (words : List ℕ) (reserved : ℕ) (c : IsCursor 
   stepped now word here is a b =
       let same : here ≡ new = is ∙ get_or-set_same ls i new here there in
       subst (λ l. IsCursor (set ls i new) l reserved) (sym (b ∙ ap (set words i) (a ∙ ap (word_of i) same)))
-          (cursor_set ls words reserved i new c there (new_fits r some none))
+      (cursor_set ls words reserved i new c there (new_fits r some none))
 
   -- with an entry less
   some_of : (r : Option E) → IfSome r (λ e. old ≡ e ∷ new) → IfSome r (λ e. merge_all ls ≡ e ∷ merge_all (set ls i new))
   some_of (Some e) some = first_is w words ls reserved c h e new there (at_first ∙ some)
   some_of None some = tt
 
-  seen_some : (r : Option E) (v : CursorView) (word : ℕ) (now : List ℕ) → view_of ls words ≡ v → now ≡ set words i word →
-      IfSome r (λ e. merge_all ls ≡ e ∷ merge_all (set ls i new)) →
-      IfSome r (λ e. v ≡ record { left = e ∷ merge_all (set ls i new); logs = length (set ls i new); most = length now })
-  seen_some (Some e) v word now is b k = sym is
-      ∙ same_view (merge_all ls) (e ∷ merge_all (set ls i new)) (length ls) (length (set ls i new)) (length words) (length now)
-          k (sym (length-set ls i new)) (sym (ap length b ∙ length-set words i word))
-  seen_some None v word now is b k = tt
+  pub given : (v : CursorView) → view_of ls words ≡ v → IfSome r (λ e. v.left ≡ e ∷ merge_all (set ls i new))
+  given v is = seen r (some_of r some)
+    where
+      seen : (r : Option E) → IfSome r (λ e. merge_all ls ≡ e ∷ merge_all (set ls i new)) →
+          IfSome r (λ e. v.left ≡ e ∷ merge_all (set ls i new))
+      seen (Some e) k = sym (ap (λ (u : CursorView). u.left) is) ∙ k
+      seen None k = tt
 
-  pub given : (v : CursorView) (word : ℕ) (now : List ℕ) → view_of ls words ≡ v → now ≡ set words i word →
-      IfSome r (λ e. v ≡ record { left = e ∷ merge_all (set ls i new); logs = length (set ls i new); most = length now })
-  given v word now is b = seen_some r v word now is b (some_of r some)
-
-  -- or, where there is none, as it was
-  seen_none : (r : Option E) (v : CursorView) (word : ℕ) (now : List ℕ) → view_of ls words ≡ v → now ≡ set words i word →
-      IfNone r ((old ≡ []) × (new ≡ [])) → IfNone r ((v.left ≡ []) × (view_of (set ls i new) now ≡ v))
-  seen_none (Some e) v word now is b k = tt
-  seen_none None v word now is b k =
-      let nothing : merge_all ls ≡ [] = none_is w words ls reserved c h (at_first ∙ k.0) in
-      let same : set ls i new ≡ ls = ap (set ls i) (k.1 ∙ sym (at_first ∙ k.0)) ∙ set-get_or ls i [] in
-      (
-        sym (ap (λ (u : CursorView). u.left) is) ∙ nothing,
-        same_view (merge_all (set ls i new)) (merge_all ls) (length (set ls i new)) (length ls) (length now) (length words)
-            (ap merge_all same) (ap length same) (ap length b ∙ length-set words i word) ∙ is,
-      )
-
-  pub ended : (v : CursorView) (word : ℕ) (now : List ℕ) → view_of ls words ≡ v → now ≡ set words i word →
-      IfNone r ((v.left ≡ []) × (view_of (set ls i new) now ≡ v))
-  ended v word now is b = seen_none r v word now is b none
+  -- or none, where nothing is left
+  pub ended : (v : CursorView) → view_of ls words ≡ v → IfNone r ((v.left ≡ []) × (merge_all (set ls i new) ≡ []))
+  ended v is = seen r none
+    where
+      seen : (r : Option E) → IfNone r ((old ≡ []) × (new ≡ [])) → IfNone r ((v.left ≡ []) × (merge_all (set ls i new) ≡ []))
+      seen (Some e) k = tt
+      seen None k =
+          let nothing : merge_all ls ≡ [] = none_is w words ls reserved c h (at_first ∙ k.0) in
+          let same : set ls i new ≡ ls = ap (set ls i) (k.1 ∙ sym (at_first ∙ k.0)) ∙ set-get_or ls i [] in
+          (sym (ap (λ (u : CursorView). u.left) is) ∙ nothing, ap merge_all same ∙ nothing)
 
 -- what is left where a list was added
 pub added : (ls new : List (List E)) (words now : List ℕ) (l : List E) (i word : ℕ) (v : CursorView) → view_of ls words ≡ v →
@@ -89,6 +79,6 @@ pub added : (ls new : List (List E)) (words now : List ℕ) (l : List E) (i word
     view_of new now ≡ record { left = merge by_key v.left l; logs = v.logs + 1; most = v.most }
 added ls new words now l i word v is a b =
     same_view (merge_all new) (merge by_key v.left l) (length new) (v.logs + 1) (length now) v.most
-        (ap merge_all a ∙ (merge_more [] ls l ∙ ap (λ (u : CursorView). merge by_key u.left l) is))
-        (ap length a ∙ (more_long ls l ∙ ap (λ (u : CursorView). u.logs + 1) is))
-        (ap length b ∙ (length-set words i word ∙ ap (λ (u : CursorView). u.most) is))
+    (ap merge_all a ∙ (merge_more [] ls l ∙ ap (λ (u : CursorView). merge by_key u.left l) is))
+    (ap length a ∙ (more_long ls l ∙ ap (λ (u : CursorView). u.logs + 1) is))
+    (ap length b ∙ (length-set words i word ∙ ap (λ (u : CursorView). u.most) is))

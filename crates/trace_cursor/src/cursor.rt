@@ -69,8 +69,10 @@ impl<'a> Cursor<'a> {
 
     /// The next entry, None exactly at the end.
     pub fn next(&mut self) -> Option<Entry>
-        ensures some { IfSome result (λ e. self.old ≡ record self.new { left = e ∷ self.new.left }) }
-        ensures none { IfNone result ((self.old.left ≡ []) × (self.new ≡ self.old)) }
+        ensures some { IfSome result (λ e. self.old.left ≡ e ∷ self.new.left) }
+        ensures none { IfNone result ((self.old.left ≡ []) × (self.new.left ≡ [])) }
+        ensures logs { self.new.logs ≡ self.old.logs }
+        ensures most { self.new.most ≡ self.old.most }
     {
         let place = self.tree.least() % 64;
         let i = place as usize;
@@ -90,7 +92,8 @@ fn word(walk: &Walk<'_>, place: u64) -> u64
     ensures value { result ≡ word_of place walk.now }
 {
     match walk.key() {
-        Some(key) => ((key.time * 128 + u64::from(key.sender)) * 2_097_152 + key.number) * 64 + place,
+        Some(key) => ((key.time * 128 + u64::from(key.sender)) * 2_097_152 + key.number) * 64
+            + place,
         None => u64::MAX,
     }
 }
