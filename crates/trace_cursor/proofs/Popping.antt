@@ -95,12 +95,12 @@ fit_more (x ∷ ls) l a b = (a.0, fit_more ls l a.1 b)
 
 -- ---- IsLeast
 
-module _ (w : ℕ) (words : List ℕ) (ls : List (List E)) (reserved : ℕ) (c : IsCursor ls words reserved) (h : IsLeast w words) where
+module _ (w : ℕ) (words : List ℕ) (ls : List (List E)) (reserved most : ℕ) (c : IsCursor ls words reserved most) (h : IsLeast w words) where
   few : length words ≤ 64
   few = c.few
 
   place : length ls ≤ length words
-  place = c.place
+  place = let a = c.place in let b = c.there in omega (arith, a, b)
 
   -- no list's word is less
   not_less : (j : ℕ) → j < length words → w ≤ word_of j (get_or ls j [])
@@ -183,16 +183,17 @@ module _ (w : ℕ) (words : List ℕ) (ls : List (List E)) (reserved : ℕ) (c :
 -- ---- IsCursor
 
 -- where a list's entries are taken, and its word set
-pub cursor_set : (ls : List (List E)) (words : List ℕ) (reserved i : ℕ) (l : List E) → IsCursor ls words reserved →
-    i < length ls → FitWords l → IsCursor (set ls i l) (set words i (word_of i l)) reserved
-cursor_set ls words reserved i l c there fit =
-    let place : length ls ≤ length words = c.place in
+pub cursor_set : (ls : List (List E)) (words : List ℕ) (reserved most i : ℕ) (l : List E) → IsCursor ls words reserved most →
+    i < length ls → FitWords l → IsCursor (set ls i l) (set words i (word_of i l)) reserved most
+cursor_set ls words reserved most i l c there fit =
+    let place : length ls ≤ length words = let a = c.place in let b = c.there in omega (arith, a, b) in
     let long_ls = length-set ls i l in
     let long_words = length-set words i (word_of i l) in
     record {
       few = let a = c.few in omega (arith, a, long_words);
-      place = omega (arith, place, long_ls, long_words);
-      room = let a = c.room in omega (arith, a, long_words);
+      place = let a = c.place in omega (arith, a, long_ls);
+      there = let a = c.there in omega (arith, a, long_words);
+      room = c.room;
       fit = fit_set ls i l c.fit fit;
       words_are = λ j lj. elim (cases_eq j i) [
         | inl e ↦
@@ -222,17 +223,19 @@ more_long [] l = refl
 more_long (x ∷ xs) l = let h = more_long xs l in omega (arith, h)
 
 -- where a list is added
-pub cursor_more : (ls : List (List E)) (words : List ℕ) (reserved now : ℕ) (l : List E) → IsCursor ls words reserved →
-    length ls < length words → reserved ≤ now → FitWords l →
-    IsCursor (ls ++ l ∷ []) (set words (length ls) (word_of (length ls) l)) now
-cursor_more ls words reserved now l c there more fit =
+pub cursor_more : (ls : List (List E)) (words : List ℕ) (reserved most now : ℕ) (l : List E) → IsCursor ls words reserved most →
+    length ls < most → reserved ≤ now → FitWords l →
+    IsCursor (ls ++ l ∷ []) (set words (length ls) (word_of (length ls) l)) now most
+cursor_more ls words reserved most now l c below more fit =
     let i : ℕ = length ls in
+    let there : length ls < length words = let a = c.there in omega (arith, a, below) in
     let long_ls = more_long ls l in
     let long_words = length-set words i (word_of i l) in
     record {
       few = let a = c.few in omega (arith, a, long_words);
-      place = omega (arith, there, long_ls, long_words);
-      room = let a = c.room in omega (arith, a, long_words, more);
+      place = omega (arith, below, long_ls);
+      there = let a = c.there in omega (arith, a, long_words);
+      room = let a = c.room in omega (arith, a, more);
       fit = fit_more ls l c.fit fit;
       words_are = λ j lj. elim (cases_eq j i) [
         | inl e ↦

@@ -13,9 +13,9 @@ use Rattle.trace_cursor.proofs.Popping.{fit_at, first_is, none_is, cursor_set, m
 abbrev seen : List E → ℕ → ℕ → CursorView
 seen left logs most = record { left = left; logs = logs; most = most }
 
--- what contracts see of these lists and words
-abbrev pub view_of : List (List E) → List ℕ → CursorView
-view_of ls words = record { left = merge_all ls; logs = length ls; most = length words }
+-- what contracts see of these lists, and of so many places
+abbrev pub view_of : List (List E) → ℕ → CursorView
+view_of ls most = record { left = merge_all ls; logs = length ls; most = most }
 
 -- an element of a list, whatever stands for one that is not there
 same_element : (ls : List (List E)) (i : ℕ) (d : List E) → i < length ls → get_or ls i d ≡ get_or ls i []
@@ -27,7 +27,7 @@ same_element (l ∷ ls) (suc i) d there = same_element ls i d (omega (arith, the
 same_view : (a b : List E) (m n p q : ℕ) → a ≡ b → m ≡ n → p ≡ q → seen a m p ≡ seen b n q
 same_view a b m n p q x y z = ap (λ l. seen l m p) x ∙ (ap (λ k. seen b k p) y ∙ ap (λ k. seen b n k) z)
 
-module _ (ls : List (List E)) (words : List ℕ) (reserved : ℕ) (c : IsCursor ls words reserved) (w : ℕ) (h : IsLeast w words)
+module _ (ls : List (List E)) (words : List ℕ) (reserved most : ℕ) (c : IsCursor ls words reserved most) (w : ℕ) (h : IsLeast w words)
     (there : w % 64 < length ls) (old new : List E) (at : old ≡ get_or ls (w % 64) old) (r : Option E)
     (some : IfSome r (λ e. old ≡ e ∷ new)) (none : IfNone r ((old ≡ []) × (new ≡ []))) where
   abbrev i : ℕ
@@ -43,18 +43,18 @@ module _ (ls : List (List E)) (words : List ℕ) (reserved : ℕ) (c : IsCursor 
 
   -- a cursor is left
   pub stepped : (now : List ℕ) (word : ℕ) (here : List E) → here ≡ get_or (set ls i new) i here → word ≡ word_of i here →
-      now ≡ set words i word → IsCursor (set ls i new) now reserved
+      now ≡ set words i word → IsCursor (set ls i new) now reserved most
   stepped now word here is a b =
       let same : here ≡ new = is ∙ get_or-set_same ls i new here there in
-      subst (λ l. IsCursor (set ls i new) l reserved) (sym (b ∙ ap (set words i) (a ∙ ap (word_of i) same)))
-      (cursor_set ls words reserved i new c there (new_fits r some none))
+      subst (λ l. IsCursor (set ls i new) l reserved most) (sym (b ∙ ap (set words i) (a ∙ ap (word_of i) same)))
+      (cursor_set ls words reserved most i new c there (new_fits r some none))
 
   -- with an entry less
   some_of : (r : Option E) → IfSome r (λ e. old ≡ e ∷ new) → IfSome r (λ e. merge_all ls ≡ e ∷ merge_all (set ls i new))
-  some_of (Some e) some = first_is w words ls reserved c h e new there (at_first ∙ some)
+  some_of (Some e) some = first_is w words ls reserved most c h e new there (at_first ∙ some)
   some_of None some = tt
 
-  pub given : (v : CursorView) → view_of ls words ≡ v → IfSome r (λ e. v.left ≡ e ∷ merge_all (set ls i new))
+  pub given : (v : CursorView) → view_of ls most ≡ v → IfSome r (λ e. v.left ≡ e ∷ merge_all (set ls i new))
   given v is = seen r (some_of r some)
     where
       seen : (r : Option E) → IfSome r (λ e. merge_all ls ≡ e ∷ merge_all (set ls i new)) →
@@ -63,22 +63,21 @@ module _ (ls : List (List E)) (words : List ℕ) (reserved : ℕ) (c : IsCursor 
       seen None k = tt
 
   -- or none, where nothing is left
-  pub ended : (v : CursorView) → view_of ls words ≡ v → IfNone r ((v.left ≡ []) × (merge_all (set ls i new) ≡ []))
+  pub ended : (v : CursorView) → view_of ls most ≡ v → IfNone r ((v.left ≡ []) × (merge_all (set ls i new) ≡ []))
   ended v is = seen r none
     where
       seen : (r : Option E) → IfNone r ((old ≡ []) × (new ≡ [])) → IfNone r ((v.left ≡ []) × (merge_all (set ls i new) ≡ []))
       seen (Some e) k = tt
       seen None k =
-          let nothing : merge_all ls ≡ [] = none_is w words ls reserved c h (at_first ∙ k.0) in
+          let nothing : merge_all ls ≡ [] = none_is w words ls reserved most c h (at_first ∙ k.0) in
           let same : set ls i new ≡ ls = ap (set ls i) (k.1 ∙ sym (at_first ∙ k.0)) ∙ set-get_or ls i [] in
           (sym (ap (λ (u : CursorView). u.left) is) ∙ nothing, ap merge_all same ∙ nothing)
 
 -- what is left where a list was added
-pub added : (ls new : List (List E)) (words now : List ℕ) (l : List E) (i word : ℕ) (v : CursorView) → view_of ls words ≡ v →
-    new ≡ ls ++ l ∷ [] → now ≡ set words i word →
-    view_of new now ≡ record { left = merge by_key v.left l; logs = v.logs + 1; most = v.most }
-added ls new words now l i word v is a b =
-    same_view (merge_all new) (merge by_key v.left l) (length new) (v.logs + 1) (length now) v.most
+pub added : (ls new : List (List E)) (most : ℕ) (l : List E) (v : CursorView) → view_of ls most ≡ v → new ≡ ls ++ l ∷ [] →
+    view_of new most ≡ record { left = merge by_key v.left l; logs = v.logs + 1; most = v.most }
+added ls new most l v is a =
+    same_view (merge_all new) (merge by_key v.left l) (length new) (v.logs + 1) most v.most
     (ap merge_all a ∙ (merge_more [] ls l ∙ ap (λ (u : CursorView). merge by_key u.left l) is))
     (ap length a ∙ (more_long ls l ∙ ap (λ (u : CursorView). u.logs + 1) is))
-    (ap length b ∙ (length-set words i word ∙ ap (λ (u : CursorView). u.most) is))
+    (ap (λ (u : CursorView). u.most) is)

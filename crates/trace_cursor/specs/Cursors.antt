@@ -16,10 +16,11 @@ pub record CursorView : Type 0 where
 abbrev pub AreWordsOf : List ℕ → List (List (Entry Msg Line)) → Type 0
 AreWordsOf words ls = (j : ℕ) → j < length words → get_or words j 0 ≡ word_of j (get_or ls j [])
 
--- the lists that are left, the words of their keys, and for how many lists there is memory
-pub record IsCursor (ls : List (List (Entry Msg Line))) (words : List ℕ) (reserved : ℕ) : Type 0 where
+-- the lists that are left, the words of their keys, for how many lists there is memory, and for how many there is place
+pub record IsCursor (ls : List (List (Entry Msg Line))) (words : List ℕ) (reserved most : ℕ) : Type 0 where
   pub few : length words ≤ 64
-  pub place : length ls ≤ length words
-  pub room : length words ≤ reserved
+  pub place : length ls ≤ most
+  pub there : most ≤ length words
+  pub room : most ≤ reserved
   pub fit : AllFit ls
   pub words_are : AreWordsOf words ls

@@ -16,8 +16,10 @@ use std::marker::Model;
 #[derive(Drop)]
 pub struct Cursor<'a> {
     walks: Vec<Walk<'a>>,
-    // for each place a log may have, the key of its next entry as a word
+    // for each place a log may have, the key of its next entry as a word; the places are a power of two, so that each
+    // way to the top is as long
     tree: Tree,
+    most: usize,
 }
 
 impl<'a> Model for Cursor<'a> {
@@ -27,9 +29,9 @@ impl<'a> Model for Cursor<'a> {
 
     ghost Value = { CursorView };
 
-    ghost view = { λ c. record { left = merge_all c.walks.items; logs = length c.walks.items; most = length c.tree } };
+    ghost view = { λ c. record { left = merge_all c.walks.items; logs = length c.walks.items; most = c.most } };
 
-    ghost invariant = { λ c. IsCursor c.walks.items c.tree (vec_capacity c.walks) };
+    ghost invariant = { λ c. IsCursor c.walks.items c.tree (vec_capacity c.walks) c.most };
 }
 
 impl<'a> Cursor<'a> {
@@ -40,8 +42,8 @@ impl<'a> Cursor<'a> {
         ensures value { IfOk result (λ c. c ≡ record { left = []; logs = 0; most = most }) }
     {
         let walks = Vec::with_capacity(alloc, most)?;
-        let tree = Tree::new(alloc, most)?;
-        Ok(Cursor { walks, tree })
+        let tree = Tree::new(alloc, places(most))?;
+        Ok(Cursor { walks, tree, most })
     }
 
     /// Leaves all logs.
@@ -82,6 +84,24 @@ impl<'a> Cursor<'a> {
         let entry = self.walks[i].next();
         self.tree.set(i, word(&self.walks[i], place));
         entry
+    }
+}
+
+// The least power of two that is not less.
+fn places(most: usize) -> usize
+    requires few { most ≤ 64 }
+    ensures all { most ≤ result }
+    ensures some { 1 ≤ result }
+    ensures few { result ≤ 64 }
+{
+    match most {
+        0..=1 => 1,
+        2 => 2,
+        3..=4 => 4,
+        5..=8 => 8,
+        9..=16 => 16,
+        17..=32 => 32,
+        _ => 64,
     }
 }
 
