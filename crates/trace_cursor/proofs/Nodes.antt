@@ -1,8 +1,8 @@
 -- The top of a tournament is the least of its words, and a change goes up to it node by node.
-use Rattle.std.proofs.Common.{◌≡◌, ◌≢◌, ◌⊎◌, ℕ, zero, suc, ◌+◌, ◌*◌, ◌-◌, ◌/◌, ◌%◌, ◌<◌, ◌≤◌, min, List, inl, inr, refl, sym, ap, ◌∙◌, subst, arith, length, get_or, set, drop, length-drop, eq-eqb, if◌then◌else◌}
+use Rattle.std.proofs.Common.{◌≡◌, ◌≢◌, ◌⊎◌, ℕ, zero, suc, ◌+◌, ◌*◌, ◌-◌, ◌/◌, ◌%◌, ◌<◌, ◌≤◌, min, List, inl, inr, sym, ap, ◌∙◌, subst, arith, length, get_or, set, drop, length-drop, eq-eqb, if◌then◌else◌}
 use Rattle.std.proofs.lemmas.Bool.{cases_lt, cases_eq, ne_eqb}
 use Rattle.std.proofs.lemmas.List.{length-set, get_or-set_same, get_or-set_other, get_or-drop, drop-set-lt, drop-set-add}
-use Rattle.trace_cursor.specs.Tournament.{beside, IsNode, AreNodesBut, IsTree, IsMending, IsLeast}
+use Rattle.trace_cursor.specs.Tournament.{beside, IsNode, IsTree, IsMending, IsLeast}
 
 -- ---- beside
 

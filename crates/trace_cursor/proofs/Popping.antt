@@ -1,12 +1,10 @@
 -- The least word tells which entry is the first of all, and a cursor stays one.
-use Rattle.std.proofs.Common.{◌≡◌, ◌≢◌, ◌⊎◌, ℕ, zero, suc, ◌+◌, ◌*◌, ◌%◌, ◌<◌, ◌≤◌, List, [], ◌∷◌, ◌++◌, inl, inr, refl, sym, ap, ◌∙◌, subst, arith, length, get_or, set, Option, Some, None}
-use Rattle.std.specs.Prelude.{IfSome, IfNone}
-use Rattle.std.specs.List.{AllByRecursion}
+use Rattle.std.proofs.Common.{◌≡◌, ◌≢◌, ◌⊎◌, ℕ, zero, suc, ◌+◌, ◌%◌, ◌<◌, ◌≤◌, List, [], ◌∷◌, ◌++◌, inl, inr, refl, sym, ap, ◌∙◌, subst, arith, length, get_or, set}
 use Rattle.std.specs.Cmp.{ranks, IsTotalOrder}
 use Rattle.std.specs.Ordering.{MatchOrdering, nat_cmp, ordering_then, ordering_reverse}
 use Rattle.std.specs.declared.cmp.Ordering.{Ordering}
 use Rattle.std.specs.declared.cmp.Ordering.TheVariants.{Less, Equal, Greater}
-use Rattle.std.proofs.lemmas.Bool.{cases_eq, cases_lt}
+use Rattle.std.proofs.lemmas.Bool.{cases_eq}
 use Rattle.std.proofs.lemmas.Cmp.{on_total}
 use Rattle.std.proofs.lemmas.List.{length-set, get_or-set_same, get_or-set_other, get_or_past}
 use Rattle.sim_base.specs.declared.message.Msg.{Msg}
@@ -14,8 +12,8 @@ use Rattle.run_laws.proofs.Rising.{key_total}
 use Rattle.log_chain.specs.Packing.{FitsWord, FitWords}
 use Rattle.trace_cursor.specs.Tournament.{IsLeast}
 use Rattle.trace_cursor.specs.Words.{by_key, no_word, packed, word_of, merge_all, AllFit}
-use Rattle.trace_cursor.specs.Cursors.{AreWordsOf, IsCursor}
-use Rattle.trace_cursor.proofs.Merged.{E, IsAfter, IsNotBefore, first_of_all, none_of_all}
+use Rattle.trace_cursor.specs.Cursors.{IsCursor}
+use Rattle.trace_cursor.proofs.Merged.{E, first_of_all, none_of_all}
 
 keys_total : IsTotalOrder by_key
 keys_total = on_total (λ (e : E). e.msg) (key_total (λ (m : Msg). m.key.time) (λ m. m.key.sender) (λ m. m.key.number))

@@ -1,5 +1,5 @@
 -- What a walk from a time on asks of a log, and what a cursor asks of the walk.
-use Rattle.std.proofs.Common.{◌≡◌, ℕ, ◌<◌, ◌≤◌, Bool, true, false, not, nat_lt, List, [], ◌∷◌, map, arith, if◌then◌else◌}
+use Rattle.std.proofs.Common.{◌≡◌, ℕ, ◌<◌, ◌≤◌, Bool, true, false, not, nat_lt, List, [], ◌∷◌, arith, if◌then◌else◌}
 use Rattle.std.specs.List.{AllByRecursion, filter}
 use Rattle.std.specs.Ordering.{MatchOrdering, nat_cmp, ordering_then}
 use Rattle.std.specs.declared.cmp.Ordering.{Ordering}
@@ -9,8 +9,8 @@ use Rattle.sim_base.specs.declared.entry.Entry.{Entry}
 use Rattle.sim_base.specs.declared.entry.Line.{Line}
 use Rattle.sim_base.specs.declared.message.Msg.{Msg}
 use Rattle.run_laws.specs.Queue.{Sorted}
-use Rattle.log_chain.specs.Packing.{FitsWord, FitWords}
-use Rattle.log_chain.specs.Times.{Rises, times_of, RiseByTime, from_time}
+use Rattle.log_chain.specs.Packing.{FitWords}
+use Rattle.log_chain.specs.Times.{times_of, RiseByTime, from_time}
 use Rattle.trace_cursor.specs.Words.{by_key}
 
 -- what is less by time first is not later

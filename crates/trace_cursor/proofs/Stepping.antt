@@ -1,7 +1,7 @@
 -- What a step of a cursor gives and leaves, by what the walk whose turn it is gave; and what an added list leaves.
-use Rattle.std.proofs.Common.{◌≡◌, ℕ, zero, suc, ◌+◌, ◌%◌, ◌<◌, ◌≤◌, List, [], ◌∷◌, ◌++◌, refl, sym, ap, ◌∙◌, subst, arith, length, get_or, set, Option, Some, None}
+use Rattle.std.proofs.Common.{◌≡◌, ℕ, zero, suc, ◌+◌, ◌%◌, ◌<◌, List, [], ◌∷◌, ◌++◌, refl, sym, ap, ◌∙◌, subst, arith, length, get_or, set, Option, Some, None}
 use Rattle.std.specs.Prelude.{IfSome, IfNone}
-use Rattle.std.proofs.lemmas.List.{length-set, get_or-set_same, set-get_or}
+use Rattle.std.proofs.lemmas.List.{get_or-set_same, set-get_or}
 use Rattle.run_laws.specs.Merges.{merge}
 use Rattle.log_chain.specs.Packing.{FitWords}
 use Rattle.trace_cursor.specs.Tournament.{IsLeast}

@@ -1,4 +1,4 @@
-use Rattle.std.proofs.Common.{ℕ, slice_set}
+use Rattle.std.proofs.Common.{slice_set}
 use Rattle.trace_cursor.specs.Tournament.{IsMending}
 use Rattle.trace_cursor.proofs.tree.Tree.set.Given as goal
 
