@@ -68,7 +68,8 @@ first_stays e es (l ∷ ls) h =
     ∙ first_stays e (merge by_key es l) ls (λ j there. h (suc j) (omega (arith, there)))
 
 -- the first of a list goes first of all, where those before begin after it, and those behind do not begin before it
-pub first_of_all : (all : List E) (i : ℕ) (ls : List (List E)) (e : E) (es : List E) → i < length ls → get_or ls i [] ≡ e ∷ es →
+pub first_of_all : (all : List E) (i : ℕ) (ls : List (List E)) (e : E) (es : List E) → i < length ls →
+    get_or ls i [] ≡ e ∷ es →
     IsAfter all e → ((j : ℕ) → j < i → IsAfter (get_or ls j []) e) →
     ((j : ℕ) → i < j → j < length ls → IsNotBefore (get_or ls j []) e) →
     merge_onto all ls ≡ e ∷ merge_onto all (set ls i es)
@@ -89,6 +90,7 @@ none_of_all (l ∷ ls) h =
     ap (λ x. merge_onto x ls) (h 0 (omega arith)) ∙ none_of_all ls (λ j there. h (suc j) (omega (arith, there)))
 
 -- a list more is merged with the others
-pub merge_more : (all : List E) (ls : List (List E)) (l : List E) → merge_onto all (ls ++ l ∷ []) ≡ merge by_key (merge_onto all ls) l
+pub merge_more : (all : List E) (ls : List (List E)) (l : List E) →
+    merge_onto all (ls ++ l ∷ []) ≡ merge by_key (merge_onto all ls) l
 merge_more all [] l = refl
 merge_more all (x ∷ xs) l = merge_more (merge by_key all x) xs l

@@ -93,7 +93,8 @@ fit_more (x ∷ ls) l a b = (a.0, fit_more ls l a.1 b)
 
 -- ---- IsLeast
 
-module _ (w : ℕ) (words : List ℕ) (ls : List (List E)) (reserved most : ℕ) (c : IsCursor ls words reserved most) (h : IsLeast w words) where
+module _ (w : ℕ) (words : List ℕ) (ls : List (List E)) (reserved most : ℕ) (c : IsCursor ls words reserved most)
+    (h : IsLeast w words) where
   few : length words ≤ 64
   few = c.few
 
@@ -181,7 +182,8 @@ module _ (w : ℕ) (words : List ℕ) (ls : List (List E)) (reserved most : ℕ)
 -- ---- IsCursor
 
 -- where a list's entries are taken, and its word set
-pub cursor_set : (ls : List (List E)) (words : List ℕ) (reserved most i : ℕ) (l : List E) → IsCursor ls words reserved most →
+pub cursor_set : (ls : List (List E)) (words : List ℕ) (reserved most i : ℕ) (l : List E) →
+    IsCursor ls words reserved most →
     i < length ls → FitWords l → IsCursor (set ls i l) (set words i (word_of i l)) reserved most
 cursor_set ls words reserved most i l c there fit =
     let place : length ls ≤ length words = let a = c.place in let b = c.there in omega (arith, a, b) in
@@ -197,7 +199,8 @@ cursor_set ls words reserved most i l c there fit =
         | inl e ↦
             let a = get_or-set_same words i (word_of i l) 0 (omega (arith, there, place)) in
             let b = get_or-set_same ls i l [] there in
-            subst (λ k. get_or (set words i (word_of i l)) k 0 ≡ word_of k (get_or (set ls i l) k [])) (sym e) (a ∙ ap (word_of i) (sym b))
+            subst (λ k. get_or (set words i (word_of i l)) k 0 ≡ word_of k (get_or (set ls i l) k [])) (sym e)
+            (a ∙ ap (word_of i) (sym b))
         | inr n ↦
             let a = get_or-set_other words i j (word_of i l) 0 n in
             let b = get_or-set_other ls i j l [] n in
@@ -221,7 +224,8 @@ more_long [] l = refl
 more_long (x ∷ xs) l = let h = more_long xs l in omega (arith, h)
 
 -- where a list is added
-pub cursor_more : (ls : List (List E)) (words : List ℕ) (reserved most now : ℕ) (l : List E) → IsCursor ls words reserved most →
+pub cursor_more : (ls : List (List E)) (words : List ℕ) (reserved most now : ℕ) (l : List E) →
+    IsCursor ls words reserved most →
     length ls < most → reserved ≤ now → FitWords l →
     IsCursor (ls ++ l ∷ []) (set words (length ls) (word_of (length ls) l)) now most
 cursor_more ls words reserved most now l c below more fit =
@@ -238,7 +242,8 @@ cursor_more ls words reserved most now l c below more fit =
       words_are = λ j lj. elim (cases_eq j i) [
         | inl e ↦
             let a = get_or-set_same words i (word_of i l) 0 there in
-            subst (λ k. get_or (set words i (word_of i l)) k 0 ≡ word_of k (get_or (ls ++ l ∷ []) k [])) (sym e) (a ∙ ap (word_of i) (sym (more_at ls l)))
+            subst (λ k. get_or (set words i (word_of i l)) k 0 ≡ word_of k (get_or (ls ++ l ∷ []) k [])) (sym e)
+            (a ∙ ap (word_of i) (sym (more_at ls l)))
         | inr n ↦
             let a = get_or-set_other words i j (word_of i l) 0 n in
             a ∙ (c.words_are j (omega (arith, lj, long_words)) ∙ ap (word_of j) (sym (more_other ls l j n)))

@@ -24,7 +24,8 @@ not_later : (e : Entry Msg Line) (es : List (Entry Msg Line)) → AllByRecursion
     AllByRecursion (λ n. e.msg.key.time ≤ n) (times_of es)
 not_later e [] h = tt
 not_later e (f ∷ fs) h = (
-  first_timed e.msg.key.time f.msg.key.time (nat_cmp e.msg.key.time f.msg.key.time) _ (ranks e.msg.key.time f.msg.key.time) h.0,
+  first_timed e.msg.key.time f.msg.key.time (nat_cmp e.msg.key.time f.msg.key.time) _
+      (ranks e.msg.key.time f.msg.key.time) h.0,
   not_later e fs h.1,
 )
 

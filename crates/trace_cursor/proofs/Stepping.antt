@@ -27,7 +27,8 @@ same_element (l ∷ ls) (suc i) d there = same_element ls i d (omega (arith, the
 same_view : (a b : List E) (m n p q : ℕ) → a ≡ b → m ≡ n → p ≡ q → seen a m p ≡ seen b n q
 same_view a b m n p q x y z = ap (λ l. seen l m p) x ∙ (ap (λ k. seen b k p) y ∙ ap (λ k. seen b n k) z)
 
-module _ (ls : List (List E)) (words : List ℕ) (reserved most : ℕ) (c : IsCursor ls words reserved most) (w : ℕ) (h : IsLeast w words)
+module _ (ls : List (List E)) (words : List ℕ) (reserved most : ℕ) (c : IsCursor ls words reserved most)
+    (w : ℕ) (h : IsLeast w words)
     (there : w % 64 < length ls) (old new : List E) (at : old ≡ get_or ls (w % 64) old) (r : Option E)
     (some : IfSome r (λ e. old ≡ e ∷ new)) (none : IfNone r ((old ≡ []) × (new ≡ []))) where
   abbrev i : ℕ
@@ -38,7 +39,9 @@ module _ (ls : List (List E)) (words : List ℕ) (reserved most : ℕ) (c : IsCu
 
   -- the keys that are left fit words
   new_fits : (r : Option E) → IfSome r (λ e. old ≡ e ∷ new) → IfNone r ((old ≡ []) × (new ≡ [])) → FitWords new
-  new_fits (Some e) some none = let all : FitWords (e ∷ new) = subst FitWords (at_first ∙ some) (fit_at ls i c.fit) in all.1
+  new_fits (Some e) some none =
+      let all : FitWords (e ∷ new) = subst FitWords (at_first ∙ some) (fit_at ls i c.fit) in
+      all.1
   new_fits None some none = subst FitWords (sym none.1) tt
 
   -- a cursor is left
@@ -66,7 +69,8 @@ module _ (ls : List (List E)) (words : List ℕ) (reserved most : ℕ) (c : IsCu
   pub ended : (v : CursorView) → view_of ls most ≡ v → IfNone r ((v.left ≡ []) × (merge_all (set ls i new) ≡ []))
   ended v is = seen r none
     where
-      seen : (r : Option E) → IfNone r ((old ≡ []) × (new ≡ [])) → IfNone r ((v.left ≡ []) × (merge_all (set ls i new) ≡ []))
+      seen : (r : Option E) → IfNone r ((old ≡ []) × (new ≡ [])) →
+          IfNone r ((v.left ≡ []) × (merge_all (set ls i new) ≡ []))
       seen (Some e) k = tt
       seen None k =
           let nothing : merge_all ls ≡ [] = none_is w words ls reserved most c h (at_first ∙ k.0) in
