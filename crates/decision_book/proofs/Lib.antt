@@ -5,3 +5,5 @@ pub mod Scripts
 pub mod ClonesByName
 pub mod AloneLaw
 pub mod OwnScripts
+pub mod Fulls
+pub mod JournalScripts

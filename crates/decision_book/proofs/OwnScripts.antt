@@ -1,5 +1,5 @@
 -- A clone's own script suffices for it.
-use Rattle.std.proofs.Common.{◌≡◌, ap, ◌∙◌}
+use Rattle.std.proofs.Common.{ap, ◌∙◌}
 use Rattle.net_model.specs.Net.{Net}
 use Rattle.decision_script.specs.Alone.{decisions}
 use Rattle.decision_script.proofs.OwnDecisions.{decisions_of_alone}

@@ -1,12 +1,15 @@
 -- What contracts see of a book, and what a book keeps.
-use Rattle.std.specs.Prelude.{◌≡◌, ℕ, ◌-◌, ◌≤◌, List, [], ◌∷◌, ◌++◌, length, map, take, drop}
+use Rattle.std.specs.Prelude.{◌≡◌, ◌≢◌, ℕ, ◌-◌, ◌≤◌, Option, MatchOption, List, [], ◌∷◌, ◌++◌, length, map, take, drop}
 use Rattle.sim_base.specs.Reserved.{ReservedView}
 use Rattle.sim_base.specs.Clones.{ListsView}
 use Rattle.sim_base.specs.declared.lists.TheConstants.{MOST_CLONES, MOST_DECISIONS}
 use Rattle.net_model.specs.Net.{Net}
 use Rattle.decision_book.specs.declared.call.Call.{Call}
 use Rattle.decision_book.specs.declared.call.TheConstants.{MOST_CALLS}
-use Rattle.decision_book.specs.Journal.{Event, raised, asked, after}
+use Rattle.sim_base.specs.declared.decision.Decision.{Decision}
+use Rattle.decision_book.specs.declared.call.Reply.{Reply}
+use Rattle.decision_book.specs.declared.call.Reply.TheVariants.{Full}
+use Rattle.decision_book.specs.Journal.{Event, raised, asked, after, call_of}
 use Rattle.decision_book.specs.Right.{IsRight}
 use Rattle.decision_book.specs.Plans.{ArePlanned}
 
@@ -41,3 +44,13 @@ pub record IsBook (net : Net) (lists : ListsView) (calls : ReservedView Call) (f
   pub reserved_clones : lists.reserved_clones ≡ MOST_CLONES
   pub reserved_plans : lists.reserved_plans ≡ MOST_DECISIONS
   pub reserved_calls : calls.reserved ≡ MOST_CALLS
+
+-- the call of a decision with this reply, and the book, whose last entry it is
+pub record IsEntered (old : BookView) (caller : ℕ) (d : Decision) (reply : Reply) (call : Call) (new : BookView) : Type 0 where
+  pub call_is : call ≡ call_of caller old.events d reply
+  pub new_is : new ≡ record old { events = old.events ++ asked call ∷ [] }
+
+-- the call is told, and is the last entry; or the reply is Full, no call is told, and the book stays as it was
+abbrev pub IsTold : BookView → ℕ → Decision → Reply → Option Call → BookView → Type 0
+IsTold old caller d reply told new = MatchOption told
+    ((reply ≡ Full) × (new ≡ old)) (λ call. (reply ≢ Full) × IsEntered old caller d reply call new)

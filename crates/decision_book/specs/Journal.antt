@@ -70,10 +70,14 @@ after_event s (asked call) = record s { clones = clones_after_reply s.net s.clon
 abbrev pub after : Net → List Event → Situation
 after net events = fold after_event (opening net) events
 
+-- the call of a decision that had this reply behind these events
+abbrev pub call_of : ℕ → List Event → Decision → Reply → Call
+call_of caller events d reply = record { caller = caller; fronts = length (fronts_of events); decision = d; reply = reply }
+
 -- the journal after a decision was asked and had this reply: Full leaves it as it was
 abbrev pub with_reply : List Event → ℕ → Decision → Reply → List Event
 with_reply events caller d Full = events
-with_reply events caller d reply = events ++ asked (record { caller = caller; fronts = length (fronts_of events); decision = d; reply = reply }) ∷ []
+with_reply events caller d reply = events ++ asked (call_of caller events d reply) ∷ []
 
 -- whether it is the reply of a full journal
 abbrev pub is_full : Reply → Bool

@@ -6,14 +6,15 @@ use Rattle.std.specs.Str.{bytes_eq}
 use Rattle.sim_base.specs.declared.decision.Decision.{Decision}
 use Rattle.sim_base.specs.Clones.{Clone, clone_at}
 use Rattle.net_model.specs.Net.{Net}
+use Rattle.decision_book.specs.declared.call.Call.{Call}
 use Rattle.decision_book.specs.declared.call.Reply.TheVariants.{Accepted}
 use Rattle.decision_script.specs.Alone.{alone, alone_of, decisions}
 use Rattle.decision_script.specs.Stating.{ScriptView}
-use Rattle.decision_book.specs.Journal.{Event, opening, clones_after, after, calls_of, fronts_of}
+use Rattle.decision_book.specs.Journal.{Event, asked, opening, clones_after, after, calls_of, fronts_of}
 use Rattle.decision_book.specs.Plans.{ArePlanned}
 use Rattle.decision_book.specs.Replies.{reply}
 use Rattle.decision_book.specs.Right.{journal_with, IsRight}
-use Rattle.decision_book.specs.Scripts.{Question, journal_of_script, next, after_all, lists_of, first_refusal, first_refusal_from}
+use Rattle.decision_book.specs.Scripts.{Question, journal_of_script, script_of, next, after_all, lists_of, first_refusal, first_refusal_from}
 
 -- the last of these numbers, or 0
 abbrev pub last_of : List ℕ → ℕ
@@ -77,3 +78,19 @@ pub record IsOwnScript (net : Net) (who : List ℕ) (s : ScriptView) : Type 0 wh
 -- the same for scripts
 abbrev pub OwnScriptSuffices : Net → Type 0
 OwnScriptSuffices net = (who : List ℕ) (s : ScriptView) → first_refusal net (decisions s.items) ≡ None → IsOwnScript net who s
+
+-- the accepted decisions of a journal, as a script
+pub record IsItsScript (net : Net) (events : List Event) : Type 0 where
+  -- are all accepted before the simulation begins
+  pub accepted : first_refusal net (script_of events) ≡ None
+  -- and leave the same clones
+  pub lists : lists_of net (script_of events) ≡ (after net events).clones
+
+-- so it is of each right journal
+abbrev pub JournalIsScript : Net → Type 0
+JournalIsScript net = (events : List Event) → IsRight net events → 0 < net.horizon → IsItsScript net events
+
+-- calls at the horizon leave the clones as they are
+abbrev pub ClosedChangesNothing : Net → Type 0
+ClosedChangesNothing net = (before : List Event) (calls : List Call) → (after net before).front ≡ net.horizon
+    → IsRight net (before ++ map asked calls) → (after net (before ++ map asked calls)).clones ≡ (after net before).clones

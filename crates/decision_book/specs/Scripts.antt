@@ -1,11 +1,12 @@
 -- The decisions of a script, made in order at front 0.
-use Rattle.std.specs.Prelude.{ℕ, ◌+◌, List, [], ◌∷◌, fold, Option, Some, None}
+use Rattle.std.specs.Prelude.{ℕ, ◌+◌, List, [], ◌∷◌, fold, map, Option, Some, None}
 use Rattle.sim_base.specs.declared.decision.Decision.{Decision}
 use Rattle.sim_base.specs.Clones.{Clone}
 use Rattle.net_model.specs.Net.{Net}
 use Rattle.decision_book.specs.declared.call.Reply.{Reply}
 use Rattle.decision_book.specs.declared.call.Reply.TheVariants.{Accepted, Full}
-use Rattle.decision_book.specs.Journal.{Event, Situation, opening, clones_after_reply}
+use Rattle.decision_book.specs.declared.call.Call.{Call}
+use Rattle.decision_book.specs.Journal.{Event, Situation, opening, clones_after_reply, calls_of}
 use Rattle.decision_book.specs.Replies.{reply}
 use Rattle.decision_book.specs.Right.{journal_with}
 
@@ -48,3 +49,17 @@ first_refusal_from s place (d ∷ ds) = refusal_or place (reply s d) (first_refu
 -- the first decision of a script that is refused: its place, from 0, and the refusal
 abbrev pub first_refusal : Net → List Decision → Option (ℕ × Reply)
 first_refusal net ds = first_refusal_from (opening net) 0 ds
+
+-- a call before others, where this reply is Accepted
+abbrev pub if_taken : Reply → Call → List Call → List Call
+if_taken Accepted call later = call ∷ later
+if_taken refusal call later = later
+
+-- the accepted ones of these calls, in order
+abbrev pub accepted_of : List Call → List Call
+accepted_of [] = []
+accepted_of (c ∷ cs) = if_taken c.reply c (accepted_of cs)
+
+-- the accepted decisions of a journal, in order
+abbrev pub script_of : List Event → List Decision
+script_of events = map (λ c. c.decision) (accepted_of (calls_of events))

@@ -39,9 +39,11 @@ fn fills_up(reply: Reply) -> bool
 }
 
 impl Book {
-    ghost use Rattle.std.specs.Prelude.{◌≡◌, ◌≤◌, ◌<◌, ◌++◌, ◌∷◌, [], length, OnOk, OnErr, IfOk};
-    ghost use Rattle.decision_book.specs.Journal.{after, calls_of, fronts_of, raised};
-    ghost use Rattle.decision_book.specs.Books.{journal_of};
+    ghost use Rattle.std.specs.Prelude.{◌≡◌, ◌≢◌, ◌↔◌, ◌≤◌, ◌<◌, ◌++◌, ◌∷◌, [], length, OnOk, OnErr, IfOk};
+    ghost use Rattle.decision_book.specs.declared.call.Reply.TheVariants.{Full};
+    ghost use Rattle.decision_book.specs.declared.call.TheConstants.{MOST_CALLS};
+    ghost use Rattle.decision_book.specs.Journal.{after, asked, call_of, calls_of, fronts_of, raised};
+    ghost use Rattle.decision_book.specs.Books.{journal_of, IsTold};
     ghost use Rattle.decision_book.specs.Replies.{reply};
     ghost use Rattle.decision_book.specs.Right.{journal_with, IsRight};
     ghost use Rattle.decision_book.specs.Plans.{ArePlanned};
@@ -76,6 +78,11 @@ impl Book {
         } }
         // and the situation is the one that the decision leads to
         ensures next { after self.old.net self.new.events ≡ next (after self.old.net self.old.events) d }
+        // it is Full exactly where the journal holds as many calls as it may
+        ensures full { (result ≡ Full) ↔ (MOST_CALLS ≤ length (calls_of self.old.events)) }
+        // and else the call is the last entry
+        ensures kept { result ≢ Full →
+            self.new.events ≡ self.old.events ++ asked (call_of caller self.old.events d result) ∷ [] }
     {
         let calls = self.calls.len();
         let reply = decide_by_table(&self.model, &mut self.lists, self.front, calls, &d);
@@ -91,6 +98,27 @@ impl Book {
             };
         }
         reply
+    }
+
+    /// The reply to a decision, and the call that is the last entry of the journal from now on: none
+    /// where the reply is Full. Takes no memory.
+    pub fn ask(&mut self, caller: u32, d: &Decision) -> (Reply, Option<Call>)
+        ensures reply { result.0 ≡ reply (after self.old.net self.old.events) d.now }
+        ensures told { IsTold self.old caller d.now result.0 result.1 self.new }
+        ensures full { (result.0 ≡ Full) ↔ (MOST_CALLS ≤ length (calls_of self.old.events)) }
+    {
+        let fronts = self.fronts.len() as u32;
+        let reply = self.decide(caller, *d);
+        if fills_up(reply) {
+            return (reply, None);
+        }
+        let call = Call {
+            caller,
+            fronts,
+            decision: *d,
+            reply,
+        };
+        (reply, Some(call))
     }
 
     /// Raises the front; out of memory leaves all unchanged.

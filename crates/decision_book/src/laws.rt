@@ -2,7 +2,7 @@
 //!
 //! `specs/Laws.antt` has the laws in words.
 ghost use Rattle.net_model.specs.Net.{Net};
-ghost use Rattle.decision_book.specs.Laws.{JournalStands, PlansAreForStations, AskingIsNext, ScriptStands, ScriptIsRight, AcceptedAdds, RefusedFirst, AcceptedGoesOn, RefusedIsFirst, AloneSuffices, OwnScriptSuffices};
+ghost use Rattle.decision_book.specs.Laws.{JournalStands, PlansAreForStations, AskingIsNext, ScriptStands, ScriptIsRight, AcceptedAdds, RefusedFirst, AcceptedGoesOn, RefusedIsFirst, AloneSuffices, OwnScriptSuffices, JournalIsScript, ClosedChangesNothing};
 
 /// How things stand after a journal, and how a decision changes that.
 #[tactic(auto, using(crate::proofs::Scripts::journal_stands, crate::proofs::Scripts::asking_is_next))]
@@ -37,4 +37,12 @@ pub fn alone_suffices()
 /// decisions of that are accepted.
 pub fn own_script_suffices()
     ensures { (net : Net) → OwnScriptSuffices net }
+{}
+
+/// The accepted decisions of a right journal are a script that leaves the same clones, and calls at
+/// the horizon leave the clones as they are.
+#[tactic(auto, using(crate::proofs::JournalScripts::journal_is_script, crate::proofs::JournalScripts::closed_changes_nothing))]
+pub fn journals_are_scripts()
+    ensures script { (net : Net) → JournalIsScript net }
+    ensures closed { (net : Net) → ClosedChangesNothing net }
 {}

@@ -100,8 +100,10 @@ fn decisions_during_a_run(rt: HostRuntime) -> Result<(), Fail> {
         [Reply::Accepted, Reply::Accepted, Reply::Late { front: 10 }]
     );
     assert_eq!(rt; closed, Reply::Closed);
-    let fronts = [3, 3, 3, 7];
-    assert_eq!(rt; book.calls().len(), 4);
+    let more = book.ask(2, &fork(&rt, b"x", b"base"));
+    assert_eq!(rt; more, (Reply::Closed, book.calls().last().copied()));
+    let fronts = [3, 3, 3, 7, 7];
+    assert_eq!(rt; book.calls().len(), 5);
     for (call, fronts) in book.calls().iter().zip(fronts) {
         assert_eq!(rt; call.fronts, fronts);
     }
@@ -228,6 +230,7 @@ fn a_full_book(rt: HostRuntime) -> Result<(), Fail> {
     let decision = fork(&rt, b"fresh", b"nobody");
     assert!(rt; raise(&mut book, 20) && fill(&mut book, &decision));
     assert_eq!(rt; book.decide(3, decision), Reply::Full);
+    assert_eq!(rt; book.ask(3, &decision), (Reply::Full, None));
     assert_eq!(rt; book.calls().len(), 4096);
     Ok(())
 }

@@ -1,8 +1,9 @@
 use Rattle.std.proofs.Common.{◌∙◌, ap, sym, List}
 use Rattle.decision_book.specs.Journal.{Event, after}
-use Rattle.decision_book.specs.Books.{journal_of}
+use Rattle.decision_book.specs.Books.{BookView, journal_of}
 use Rattle.decision_book.proofs.Scripts.{asking_is_next}
 use Rattle.decision_book.proofs.Booking.{called, journal_called}
+use Rattle.decision_book.proofs.Fulls.{full_where_full, replied, kept_of}
 use Rattle.decision_book.proofs.book.Book.decide.Goals as goal
 
 pub invariant_of-self : goal.invariant_of-self
@@ -24,3 +25,25 @@ returns-in-Ok-clause-next c =
     rw (c.in-Ok.ensures.ok, ← c.self.view_is) (ap (after b.model.value) (journal_called b.model.value b.lists b.calls b.fronts b.front _ c.self.invariant
     (record { stamp = c.len.ensures.value; answer = rw (← c.len-calls.ensures.value, ← c.deref.ensures) c.decide_by_table-reply.ensures.reply; not_full = sym c.if-not-fills_up.ensures.value }))
     ∙ asking_is_next b.model.value (journal_of b.calls.items b.fronts.items) c.args.caller c.args.d)
+
+pub returns-in-Ok-clause-full : goal.returns-in-Ok-clause-full
+returns-in-Ok-clause-full c =
+    let b = c.self.inside in
+    full_where_full c.args.self.now.net c.args.self.now.events c.args.d c.decide_by_table-reply.result
+    (replied b.model.value b.lists b.calls b.fronts b.front c.args.d c.decide_by_table-reply.result c.args.self.now c.self.invariant c.self.view_is
+    (rw (← c.len-calls.ensures.value, ← c.deref.ensures) c.decide_by_table-reply.ensures.reply))
+
+pub returns-else-not-fills_up-clause-full : goal.returns-else-not-fills_up-clause-full
+returns-else-not-fills_up-clause-full c =
+    let b = c.self.inside in
+    full_where_full c.args.self.now.net c.args.self.now.events c.args.d c.decide_by_table-reply.result
+    (replied b.model.value b.lists b.calls b.fronts b.front c.args.d c.decide_by_table-reply.result c.args.self.now c.self.invariant c.self.view_is
+    (rw (← c.len-calls.ensures.value, ← c.deref.ensures) c.decide_by_table-reply.ensures.reply))
+
+pub returns-in-Ok-clause-kept : goal.returns-in-Ok-clause-kept
+returns-in-Ok-clause-kept c not =
+    let b = c.self.inside in
+    ap (λ (v : BookView). v.events) (kept_of c.args.self.now _ c.args.caller c.args.d c.decide_by_table-reply.result
+    (replied b.model.value b.lists b.calls b.fronts b.front c.args.d c.decide_by_table-reply.result c.args.self.now c.self.invariant c.self.view_is
+    (rw (← c.len-calls.ensures.value, ← c.deref.ensures) c.decide_by_table-reply.ensures.reply))
+    (returns-in-Ok-clause-journal c) not)
