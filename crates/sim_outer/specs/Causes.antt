@@ -1,5 +1,5 @@
 -- Counts of faults and of calls.
-use Rattle.std.specs.Prelude.{◌≡◌, ℕ, ◌+◌, ◌-◌, ◌^◌, ◌≤◌, min, Option, Some, None}
+use Rattle.std.specs.Prelude.{◌≡◌, ℕ, zero, suc, ◌+◌, ◌-◌, ◌^◌, ◌≤◌, min, Option, Some, None}
 
 -- what a count of 64 bits is after one more: it stays at its last value
 abbrev pub next_count : ℕ → ℕ
@@ -13,3 +13,13 @@ Rose before now = next_count before ≤ now
 abbrev pub Counted : Option ℕ → Option ℕ → Type 0
 Counted None now = now ≡ None
 Counted (Some before) now = now ≡ Some (next_count before)
+
+-- a count after so many calls more
+abbrev pub counts_after : ℕ → ℕ → ℕ
+counts_after zero before = before
+counts_after (suc n) before = next_count (counts_after n before)
+
+-- there were so many calls, where calls are counted
+abbrev pub AreCounted : ℕ → Option ℕ → Option ℕ → Type 0
+AreCounted n None now = now ≡ None
+AreCounted n (Some before) now = now ≡ Some (counts_after n before)
