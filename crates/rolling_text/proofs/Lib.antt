@@ -1,0 +1,9 @@
+pub mod Over
+pub mod SamePlans
+pub mod Joined
+pub mod Heads
+pub mod Pieces
+pub mod Calls
+pub mod Puts
+pub mod Keeping
+pub mod Planned

@@ -1,0 +1,4 @@
+pub mod Sharing
+pub mod Pages
+pub mod Texts
+pub mod Counting

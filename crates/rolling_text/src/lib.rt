@@ -1,0 +1,11 @@
+//! The texts of all clones, one after the other through one buffer.
+#![tactic(auto)]
+
+mod page;
+mod putting;
+mod texts;
+mod traces;
+
+pub use putting::put_texts;
+pub use texts::{Keep, Texts, prepare};
+pub use traces::Traces;
