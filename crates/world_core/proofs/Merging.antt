@@ -1,5 +1,5 @@
 -- Merging the logs of a clone's stations, one after the other.
-use Rattle.std.proofs.Common.{◌≡◌, ℕ, zero, suc, ◌+◌, ◌<◌, ◌≤◌, List, [], ◌∷◌, ◌++◌, Some, refl, sym, ap, ◌∙◌, subst, arith, length, drop, slice_get, true, false, append-nil, append_assoc}
+use Rattle.std.proofs.Common.{◌≡◌, ℕ, zero, suc, ◌+◌, ◌<◌, ◌≤◌, List, [], ◌∷◌, ◌++◌, Some, refl, sym, ap, ◌∙◌, arith, length, drop, slice_get, false, append-nil, append_assoc}
 use Rattle.std.specs.List.{AllByRecursion}
 use Rattle.std.specs.declared.cmp.Ordering.{Ordering}
 use Rattle.std.specs.declared.cmp.Ordering.TheVariants.{Less, Equal, Greater}
@@ -18,9 +18,9 @@ use Rattle.run_laws.specs.Merges.{merge, merge_at, pick, merge_of_logs}
 use Rattle.run_laws.specs.Runs.{run_of, log_at}
 use Rattle.run_laws.proofs.Queue.{all_in}
 use Rattle.run_laws.proofs.Traces.{merge_of_logs-trace}
-use Rattle.phys_proc.specs.Own.{StationCopy}
+use Rattle.phys_proc.specs.Own.{StationCopy, IsCopy}
 use Rattle.phys_proc.specs.Procs.{ProcView}
-use Rattle.world_core.specs.Worlds.{StandsAt, WorldStands}
+use Rattle.world_core.specs.Worlds.{WorldStands}
 use Rattle.world_core.specs.Tracing.{by_key, HasLog}
 
 module _ {X : Type 0} (cmp : X → X → Ordering) where
@@ -80,8 +80,16 @@ module _ (net : Net) (cs : List Clone) (ended : List (ℕ × ℕ)) (front : ℕ)
       let a = (world.each i p got).stands.carried who there in
       false≢true (sym (all_in (λ (a : StationCopy). has a.set who ≡ false) p.copies a.0 none a.1) ∙ a.2)
 
-  log_is : (i : ℕ) (p : ProcView) (log : List (Entry Msg Line)) → slice_get procs i ≡ Some p → HasLog p.copies who log → log ≡ log_at (simulation net) (clone_at cs who) (i + 1) front
+  pub log_is : (i : ℕ) (p : ProcView) (log : List (Entry Msg Line)) → slice_get procs i ≡ Some p → HasLog p.copies who log → log ≡ log_at (simulation net) (clone_at cs who) (i + 1) front
   log_is i p log got h = h.is_log ∙ (world.each i p got).stands.log h.copy who h.is_copy h.is_in
+
+  -- no log is longer than the limit
+  pub log_short : (i : ℕ) (p : ProcView) (log : List (Entry Msg Line)) → slice_get procs i ≡ Some p → HasLog p.copies who log → length log ≤ net.limit
+  log_short i p log got h =
+      let is_copy : IsCopy net p.station h.copy = all_in (IsCopy net p.station) p.copies h.copy (world.each i p got).proc.copies h.is_copy in
+      let short = is_copy.short in
+      let same : length log ≡ length h.copy.log = ap length h.is_log in
+      omega (arith, short, same)
 
   pub one_more : (i : ℕ) (p : ProcView) (before log after : List (Entry Msg Line)) → slice_get procs i ≡ Some p → HasLog p.copies who log →
       before ≡ merge_of_logs (simulation net) sender_of number_of (clone_at cs who) front i → after ≡ merge by_key before log →
