@@ -1,0 +1,245 @@
+-- The least word tells which entry is the first of all, and a cursor stays one.
+use Rattle.std.proofs.Common.{◌≡◌, ◌≢◌, ◌⊎◌, ℕ, zero, suc, ◌+◌, ◌*◌, ◌%◌, ◌<◌, ◌≤◌, List, [], ◌∷◌, ◌++◌, inl, inr, refl, sym, ap, ◌∙◌, subst, arith, length, get_or, set, Option, Some, None}
+use Rattle.std.specs.Prelude.{IfSome, IfNone}
+use Rattle.std.specs.List.{AllByRecursion}
+use Rattle.std.specs.Cmp.{ranks, IsTotalOrder}
+use Rattle.std.specs.Ordering.{MatchOrdering, nat_cmp, ordering_then, ordering_reverse}
+use Rattle.std.specs.declared.cmp.Ordering.{Ordering}
+use Rattle.std.specs.declared.cmp.Ordering.TheVariants.{Less, Equal, Greater}
+use Rattle.std.proofs.lemmas.Bool.{cases_eq, cases_lt}
+use Rattle.std.proofs.lemmas.Cmp.{on_total}
+use Rattle.std.proofs.lemmas.List.{length-set, get_or-set_same, get_or-set_other, get_or_past}
+use Rattle.sim_base.specs.declared.message.Msg.{Msg}
+use Rattle.run_laws.proofs.Rising.{key_total}
+use Rattle.log_chain.specs.Packing.{FitsWord, FitWords}
+use Rattle.trace_cursor.specs.Tournament.{IsLeast}
+use Rattle.trace_cursor.specs.Words.{by_key, no_word, packed, word_of, merge_all, AllFit}
+use Rattle.trace_cursor.specs.Cursors.{AreWordsOf, IsCursor}
+use Rattle.trace_cursor.proofs.Merged.{E, IsAfter, IsNotBefore, first_of_all, none_of_all}
+
+keys_total : IsTotalOrder by_key
+keys_total = on_total (λ (e : E). e.msg) (key_total (λ (m : Msg). m.key.time) (λ m. m.key.sender) (λ m. m.key.number))
+
+-- ---- packed
+
+-- numbers by number, then by what comes next
+by_number : (x y : ℕ) (r s : Ordering) → MatchOrdering r (x < y) (x ≡ y) (y < x) → (y < x → ⊥) →
+    (x ≡ y → (s ≡ Less) ⊎ (s ≡ Equal)) → (ordering_then r s ≡ Less) ⊎ (ordering_then r s ≡ Equal)
+by_number x y Less s m f g = inl refl
+by_number x y Equal s m f g = g m
+by_number x y Greater s m f g = absurd (f m)
+
+last_number : (x y : ℕ) (r : Ordering) → MatchOrdering r (x < y) (x ≡ y) (y < x) → (y < x → ⊥) → (r ≡ Less) ⊎ (r ≡ Equal)
+last_number x y Less m f = inl refl
+last_number x y Equal m f = inr refl
+last_number x y Greater m f = absurd (f m)
+
+-- an entry of a lesser word does not come after
+less_word : (p q : ℕ) (e f : E) → FitsWord e.msg.key → FitsWord f.msg.key → p < 64 → q < 64 → packed p e < packed q f →
+    (by_key e f ≡ Less) ⊎ (by_key e f ≡ Equal)
+less_word p q e f a b l k h =
+    let se : e.msg.key.sender < 128 = a.sender in
+    let sf : f.msg.key.sender < 128 = b.sender in
+    let ne : e.msg.key.number < 2097152 = a.number in
+    let nf : f.msg.key.number < 2097152 = b.number in
+    by_number e.msg.key.time f.msg.key.time (nat_cmp e.msg.key.time f.msg.key.time) _ (ranks e.msg.key.time f.msg.key.time)
+    (λ g. omega (arith, g, h, se, sf, ne, nf, l, k)) (λ t.
+    by_number e.msg.key.sender f.msg.key.sender (nat_cmp e.msg.key.sender f.msg.key.sender) _ (ranks e.msg.key.sender f.msg.key.sender)
+    (λ g. omega (arith, g, t, h, ne, nf, l, k)) (λ s.
+    last_number e.msg.key.number f.msg.key.number (nat_cmp e.msg.key.number f.msg.key.number) (ranks e.msg.key.number f.msg.key.number)
+    (λ g. omega (arith, g, t, s, h, l, k))))
+
+-- what ties has one time, one sender and one number
+tie_is_one : (x y z u v w : ℕ) (r s t : Ordering) → MatchOrdering r (x < y) (x ≡ y) (y < x) →
+    MatchOrdering s (z < u) (z ≡ u) (u < z) → MatchOrdering t (v < w) (v ≡ w) (w < v) →
+    ordering_then r (ordering_then s t) ≡ Equal → (x ≡ y) × (z ≡ u) × (v ≡ w)
+tie_is_one x y z u v w Less s t a b c e = let h : ⊥ = cc in absurd h
+tie_is_one x y z u v w Greater s t a b c e = let h : ⊥ = cc in absurd h
+tie_is_one x y z u v w Equal Less t a b c e = let h : ⊥ = cc in absurd h
+tie_is_one x y z u v w Equal Greater t a b c e = let h : ⊥ = cc in absurd h
+tie_is_one x y z u v w Equal Equal Less a b c e = let h : ⊥ = cc in absurd h
+tie_is_one x y z u v w Equal Equal Greater a b c e = let h : ⊥ = cc in absurd h
+tie_is_one x y z u v w Equal Equal Equal a b c e = (a, b, c)
+
+-- and one of a later place comes before
+greater_word : (p q : ℕ) (e f : E) → FitsWord e.msg.key → FitsWord f.msg.key → p < 64 → q < p → packed p e < packed q f →
+    by_key f e ≡ Greater
+greater_word p q e f a b l k h = elim (less_word p q e f a b l (omega arith) h) [
+  | inl d ↦ keys_total.antisymm f e ∙ ap ordering_reverse d
+  | inr d ↦
+      let t = tie_is_one e.msg.key.time f.msg.key.time e.msg.key.sender f.msg.key.sender e.msg.key.number f.msg.key.number _ _ _
+      (ranks e.msg.key.time f.msg.key.time) (ranks e.msg.key.sender f.msg.key.sender) (ranks e.msg.key.number f.msg.key.number) d in
+      let t0 = t.0 in let t1 = t.1 in let t2 = t.2 in
+      absurd (omega (arith, t0, t1, t2, h, k))
+]
+
+-- ---- AllFit
+
+pub fit_at : (ls : List (List E)) (i : ℕ) → AllFit ls → FitWords (get_or ls i [])
+fit_at [] i h = tt
+fit_at (l ∷ ls) zero h = h.0
+fit_at (l ∷ ls) (suc i) h = fit_at ls i h.1
+
+-- the first of a list fits a word
+fit_first : (ls : List (List E)) (i : ℕ) (e : E) (es : List E) → AllFit ls → get_or ls i [] ≡ e ∷ es → FitsWord e.msg.key
+fit_first ls i e es h is = let all : FitWords (e ∷ es) = subst FitWords is (fit_at ls i h) in all.0
+
+fit_set : (ls : List (List E)) (i : ℕ) (l : List E) → AllFit ls → FitWords l → AllFit (set ls i l)
+fit_set [] i l a b = a
+fit_set (x ∷ ls) zero l a b = (b, a.1)
+fit_set (x ∷ ls) (suc i) l a b = (a.0, fit_set ls i l a.1 b)
+
+fit_more : (ls : List (List E)) (l : List E) → AllFit ls → FitWords l → AllFit (ls ++ l ∷ [])
+fit_more [] l a b = (b, tt)
+fit_more (x ∷ ls) l a b = (a.0, fit_more ls l a.1 b)
+
+-- ---- IsLeast
+
+module _ (w : ℕ) (words : List ℕ) (ls : List (List E)) (reserved : ℕ) (c : IsCursor ls words reserved) (h : IsLeast w words) where
+  few : length words ≤ 64
+  few = c.few
+
+  place : length ls ≤ length words
+  place = c.place
+
+  -- no list's word is less
+  not_less : (j : ℕ) → j < length words → w ≤ word_of j (get_or ls j [])
+  not_less j l = let a = h.least j l in let b = c.words_are j l in omega (arith, a, b)
+
+  -- the list that has the least word tells it
+  at_place : word_of h.place (get_or ls h.place []) ≡ w
+  at_place = sym (c.words_are h.place h.there) ∙ h.is
+
+  -- the least word is that of the list whose place it tells
+  here_of : (l : List E) → get_or ls h.place [] ≡ l → word_of h.place l ≡ w → w % 64 < length ls →
+      word_of (w % 64) (get_or ls (w % 64) []) ≡ w
+  here_of (x ∷ xs) is e there =
+      let p = h.there in
+      let same : w % 64 ≡ h.place = omega (arith, e, p, few) in
+      ap (λ i. word_of i (get_or ls i [])) same ∙ at_place
+  here_of [] is e there =
+      let last : w % 64 ≡ 63 = omega (arith, e) in
+      let le = not_less (w % 64) (omega (arith, there, place)) in
+      greatest (get_or ls (w % 64) []) (fit_at ls (w % 64) c.fit) le
+    where
+      -- no word is greater
+      greatest : (l : List E) → FitWords l → w ≤ word_of (w % 64) l → word_of (w % 64) l ≡ w
+      greatest [] fit le = e
+      greatest (y ∷ ys) fit le =
+          let a = fit.0.time in let b = fit.0.sender in let d = fit.0.number in
+          omega (arith, a, b, d, le, e)
+
+  here : w % 64 < length ls → word_of (w % 64) (get_or ls (w % 64) []) ≡ w
+  here = here_of (get_or ls h.place []) refl at_place
+
+  -- so that list's first entry is the first of all
+  pub first_is : (e : E) (es : List E) → w % 64 < length ls → get_or ls (w % 64) [] ≡ e ∷ es →
+      merge_all ls ≡ e ∷ merge_all (set ls (w % 64) es)
+  first_is e es there is =
+      let i : ℕ = w % 64 in
+      let word : packed i e ≡ w = sym (ap (word_of i) is) ∙ here there in
+      let fe : FitsWord e.msg.key = fit_first ls i e es c.fit is in
+      first_of_all [] i ls e es there is (λ f fs q. let a : ⊥ = cc in absurd a)
+      (λ j before f fs q.
+      let le = not_less j (omega (arith, before, there, place)) in
+      let wf = ap (word_of j) q in
+      greater_word i j e f fe (fit_first ls j f fs c.fit q) (omega (arith, there, place, few)) before
+      (omega (arith, word, le, wf, before, there, place, few)))
+      (λ j behind lj f fs q.
+      let le = not_less j (omega (arith, lj, place)) in
+      let wf = ap (word_of j) q in
+      less_word i j e f fe (fit_first ls j f fs c.fit q) (omega (arith, there, place, few)) (omega (arith, lj, place, few))
+      (omega (arith, word, le, wf, behind, lj, place, few)))
+
+  -- where that list has nothing left, the word is the greatest
+  greatest_of : (l : List E) → get_or ls h.place [] ≡ l → word_of h.place l ≡ w → get_or ls (w % 64) [] ≡ [] → w ≡ no_word
+  greatest_of [] is e none = sym e
+  greatest_of (x ∷ xs) is e none =
+      let p = h.there in
+      let same : w % 64 ≡ h.place = omega (arith, e, p, few) in
+      let q : get_or ls h.place [] ≡ [] = subst (λ i. get_or ls i [] ≡ []) same none in
+      let a : ⊥ = cc in absurd a
+
+  -- and no list has anything left
+  nothing_at : (j : ℕ) (l : List E) → j < length ls → get_or ls j [] ≡ l → get_or ls (w % 64) [] ≡ [] → l ≡ []
+  nothing_at j [] lj is none = refl
+  nothing_at j (f ∷ fs) lj is none =
+      let top : w ≡ no_word = greatest_of (get_or ls h.place []) refl at_place none in
+      let le = not_less j (omega (arith, lj, place)) in
+      let wf = ap (word_of j) is in
+      let ff = fit_first ls j f fs c.fit is in
+      let a = ff.time in let b = ff.sender in let d = ff.number in
+      let same : w % 64 ≡ j = omega (arith, top, le, wf, a, b, d, lj, place, few) in
+      let q : get_or ls j [] ≡ [] = subst (λ i. get_or ls i [] ≡ []) same none in
+      let x : ⊥ = cc in absurd x
+
+  pub none_is : get_or ls (w % 64) [] ≡ [] → merge_all ls ≡ []
+  none_is none = none_of_all ls (λ j lj. nothing_at j (get_or ls j []) lj refl none)
+
+  -- nor where there is no such list
+  pub none_past : length ls ≤ w % 64 → merge_all ls ≡ []
+  none_past past = none_is (get_or_past ls (w % 64) [] past)
+
+-- ---- IsCursor
+
+-- where a list's entries are taken, and its word set
+pub cursor_set : (ls : List (List E)) (words : List ℕ) (reserved i : ℕ) (l : List E) → IsCursor ls words reserved →
+    i < length ls → FitWords l → IsCursor (set ls i l) (set words i (word_of i l)) reserved
+cursor_set ls words reserved i l c there fit =
+    let place : length ls ≤ length words = c.place in
+    let long_ls = length-set ls i l in
+    let long_words = length-set words i (word_of i l) in
+    record {
+      few = let a = c.few in omega (arith, a, long_words);
+      place = omega (arith, place, long_ls, long_words);
+      room = let a = c.room in omega (arith, a, long_words);
+      fit = fit_set ls i l c.fit fit;
+      words_are = λ j lj. elim (cases_eq j i) [
+        | inl e ↦
+            let a = get_or-set_same words i (word_of i l) 0 (omega (arith, there, place)) in
+            let b = get_or-set_same ls i l [] there in
+            subst (λ k. get_or (set words i (word_of i l)) k 0 ≡ word_of k (get_or (set ls i l) k [])) (sym e) (a ∙ ap (word_of i) (sym b))
+        | inr n ↦
+            let a = get_or-set_other words i j (word_of i l) 0 n in
+            let b = get_or-set_other ls i j l [] n in
+            a ∙ (c.words_are j (omega (arith, lj, long_words)) ∙ ap (word_of j) (sym b))
+      ];
+    }
+
+-- the list behind the others
+more_at : (ls : List (List E)) (l : List E) → get_or (ls ++ l ∷ []) (length ls) [] ≡ l
+more_at [] l = refl
+more_at (x ∷ xs) l = more_at xs l
+
+more_other : (ls : List (List E)) (l : List E) (j : ℕ) → j ≢ length ls → get_or (ls ++ l ∷ []) j [] ≡ get_or ls j []
+more_other [] l zero n = absurd (n refl)
+more_other [] l (suc j) n = refl
+more_other (x ∷ xs) l zero n = refl
+more_other (x ∷ xs) l (suc j) n = more_other xs l j (λ e. n (omega (arith, e)))
+
+pub more_long : (ls : List (List E)) (l : List E) → length (ls ++ l ∷ []) ≡ length ls + 1
+more_long [] l = refl
+more_long (x ∷ xs) l = let h = more_long xs l in omega (arith, h)
+
+-- where a list is added
+pub cursor_more : (ls : List (List E)) (words : List ℕ) (reserved now : ℕ) (l : List E) → IsCursor ls words reserved →
+    length ls < length words → reserved ≤ now → FitWords l →
+    IsCursor (ls ++ l ∷ []) (set words (length ls) (word_of (length ls) l)) now
+cursor_more ls words reserved now l c there more fit =
+    let i : ℕ = length ls in
+    let long_ls = more_long ls l in
+    let long_words = length-set words i (word_of i l) in
+    record {
+      few = let a = c.few in omega (arith, a, long_words);
+      place = omega (arith, there, long_ls, long_words);
+      room = let a = c.room in omega (arith, a, long_words, more);
+      fit = fit_more ls l c.fit fit;
+      words_are = λ j lj. elim (cases_eq j i) [
+        | inl e ↦
+            let a = get_or-set_same words i (word_of i l) 0 there in
+            subst (λ k. get_or (set words i (word_of i l)) k 0 ≡ word_of k (get_or (ls ++ l ∷ []) k [])) (sym e) (a ∙ ap (word_of i) (sym (more_at ls l)))
+        | inr n ↦
+            let a = get_or-set_other words i j (word_of i l) 0 n in
+            a ∙ (c.words_are j (omega (arith, lj, long_words)) ∙ ap (word_of j) (sym (more_other ls l j n)))
+      ];
+    }

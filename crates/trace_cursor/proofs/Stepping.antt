@@ -1,0 +1,84 @@
+-- What a step of a cursor gives and leaves, by what the walk whose turn it is gave; and what an added list leaves.
+use Rattle.std.proofs.Common.{◌≡◌, ℕ, zero, suc, ◌+◌, ◌%◌, ◌<◌, ◌≤◌, List, [], ◌∷◌, ◌++◌, refl, sym, ap, ◌∙◌, subst, arith, length, get_or, set, Option, Some, None}
+use Rattle.std.specs.Prelude.{IfSome, IfNone}
+use Rattle.std.proofs.lemmas.List.{length-set, get_or-set_same, set-get_or}
+use Rattle.run_laws.specs.Merges.{merge}
+use Rattle.log_chain.specs.Packing.{FitWords}
+use Rattle.trace_cursor.specs.Tournament.{IsLeast}
+use Rattle.trace_cursor.specs.Words.{by_key, word_of, merge_all}
+use Rattle.trace_cursor.specs.Cursors.{CursorView, IsCursor}
+use Rattle.trace_cursor.proofs.Merged.{E, merge_more}
+use Rattle.trace_cursor.proofs.Popping.{fit_at, first_is, none_is, cursor_set, more_long}
+
+abbrev seen : List E → ℕ → ℕ → CursorView
+seen left logs most = record { left = left; logs = logs; most = most }
+
+-- what contracts see of these lists and words
+abbrev pub view_of : List (List E) → List ℕ → CursorView
+view_of ls words = record { left = merge_all ls; logs = length ls; most = length words }
+
+-- an element of a list, whatever stands for one that is not there
+same_element : (ls : List (List E)) (i : ℕ) (d : List E) → i < length ls → get_or ls i d ≡ get_or ls i []
+same_element [] i d there = absurd (omega (arith, there))
+same_element (l ∷ ls) zero d there = refl
+same_element (l ∷ ls) (suc i) d there = same_element ls i d (omega (arith, there))
+
+-- one view is another where their parts are
+same_view : (a b : List E) (m n p q : ℕ) → a ≡ b → m ≡ n → p ≡ q → seen a m p ≡ seen b n q
+same_view a b m n p q x y z = ap (λ l. seen l m p) x ∙ (ap (λ k. seen b k p) y ∙ ap (λ k. seen b n k) z)
+
+module _ (ls : List (List E)) (words : List ℕ) (reserved : ℕ) (c : IsCursor ls words reserved) (w : ℕ) (h : IsLeast w words)
+    (there : w % 64 < length ls) (old new : List E) (at : old ≡ get_or ls (w % 64) old) (r : Option E)
+    (some : IfSome r (λ e. old ≡ e ∷ new)) (none : IfNone r ((old ≡ []) × (new ≡ []))) where
+  abbrev i : ℕ
+  i = w % 64
+
+  at_first : get_or ls i [] ≡ old
+  at_first = sym (at ∙ same_element ls i old there)
+
+  -- the keys that are left fit words
+  new_fits : (r : Option E) → IfSome r (λ e. old ≡ e ∷ new) → IfNone r ((old ≡ []) × (new ≡ [])) → FitWords new
+  new_fits (Some e) some none = let all : FitWords (e ∷ new) = subst FitWords (at_first ∙ some) (fit_at ls i c.fit) in all.1
+  new_fits None some none = subst FitWords (sym none.1) tt
+
+  -- a cursor is left
+  pub stepped : (now : List ℕ) (word : ℕ) (here : List E) → here ≡ get_or (set ls i new) i here → word ≡ word_of i here →
+      now ≡ set words i word → IsCursor (set ls i new) now reserved
+  stepped now word here is a b =
+      let same : here ≡ new = is ∙ get_or-set_same ls i new here there in
+      subst (λ l. IsCursor (set ls i new) l reserved) (sym (b ∙ ap (set words i) (a ∙ ap (word_of i) same)))
+      (cursor_set ls words reserved i new c there (new_fits r some none))
+
+  -- with an entry less
+  some_of : (r : Option E) → IfSome r (λ e. old ≡ e ∷ new) → IfSome r (λ e. merge_all ls ≡ e ∷ merge_all (set ls i new))
+  some_of (Some e) some = first_is w words ls reserved c h e new there (at_first ∙ some)
+  some_of None some = tt
+
+  pub given : (v : CursorView) → view_of ls words ≡ v → IfSome r (λ e. v.left ≡ e ∷ merge_all (set ls i new))
+  given v is = seen r (some_of r some)
+    where
+      seen : (r : Option E) → IfSome r (λ e. merge_all ls ≡ e ∷ merge_all (set ls i new)) →
+          IfSome r (λ e. v.left ≡ e ∷ merge_all (set ls i new))
+      seen (Some e) k = sym (ap (λ (u : CursorView). u.left) is) ∙ k
+      seen None k = tt
+
+  -- or none, where nothing is left
+  pub ended : (v : CursorView) → view_of ls words ≡ v → IfNone r ((v.left ≡ []) × (merge_all (set ls i new) ≡ []))
+  ended v is = seen r none
+    where
+      seen : (r : Option E) → IfNone r ((old ≡ []) × (new ≡ [])) → IfNone r ((v.left ≡ []) × (merge_all (set ls i new) ≡ []))
+      seen (Some e) k = tt
+      seen None k =
+          let nothing : merge_all ls ≡ [] = none_is w words ls reserved c h (at_first ∙ k.0) in
+          let same : set ls i new ≡ ls = ap (set ls i) (k.1 ∙ sym (at_first ∙ k.0)) ∙ set-get_or ls i [] in
+          (sym (ap (λ (u : CursorView). u.left) is) ∙ nothing, ap merge_all same ∙ nothing)
+
+-- what is left where a list was added
+pub added : (ls new : List (List E)) (words now : List ℕ) (l : List E) (i word : ℕ) (v : CursorView) → view_of ls words ≡ v →
+    new ≡ ls ++ l ∷ [] → now ≡ set words i word →
+    view_of new now ≡ record { left = merge by_key v.left l; logs = v.logs + 1; most = v.most }
+added ls new words now l i word v is a b =
+    same_view (merge_all new) (merge by_key v.left l) (length new) (v.logs + 1) (length now) v.most
+    (ap merge_all a ∙ (merge_more [] ls l ∙ ap (λ (u : CursorView). merge by_key u.left l) is))
+    (ap length a ∙ (more_long ls l ∙ ap (λ (u : CursorView). u.logs + 1) is))
+    (ap length b ∙ (length-set words i word ∙ ap (λ (u : CursorView). u.most) is))

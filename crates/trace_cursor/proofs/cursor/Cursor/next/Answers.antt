@@ -1,0 +1,33 @@
+use Rattle.std.proofs.Common.{◌≤◌, ◌<◌, ◌%◌, length, sym, ap, ◌∙◌, arith}
+use Rattle.trace_cursor.specs.Cursors.{CursorView}
+use Rattle.trace_cursor.proofs.Popping.{none_past}
+use Rattle.trace_cursor.proofs.Stepping.{stepped, given, ended}
+use Rattle.trace_cursor.proofs.cursor.Cursor.next.Goals as goal
+
+pub returns-then-i-len-clause-none : goal.returns-then-i-len-clause-none
+returns-then-i-len-clause-none c =
+    let past : length c.self.inside.walks.items ≤ c.least-place.result % 64 = omega (arith, c.if-i-len.true, c.len.ensures, c.self.inside.walks.ok.0) in
+    let nothing = sym (ap (λ (v : CursorView). v.left) c.self.view_is)
+    ∙ none_past c.least-place.result c.self.inside.tree c.self.inside.walks.items _ c.self.invariant c.least-place.ensures.value past in
+    (nothing, nothing)
+
+pub invariant_of-self : goal.invariant_of-self
+invariant_of-self c =
+    let there : c.least-place.result % 64 < length c.self.inside.walks.items = omega (arith, c.if-i-len.false, c.len.ensures, c.self.inside.walks.ok.0) in
+    stepped c.self.inside.walks.items c.self.inside.tree _ c.self.invariant c.least-place.result c.least-place.ensures.value there
+    c.index_mut.result.now c.next-entry.new.self c.index_mut.ensures.value c.next-entry.result c.next-entry.ensures.some c.next-entry.ensures.none
+    c.set.new.self c.word.result c.index.result.now c.index.ensures c.word.ensures.value c.set.ensures.value
+
+pub returns-clause-some : goal.returns-clause-some
+returns-clause-some c =
+    let there : c.least-place.result % 64 < length c.self.inside.walks.items = omega (arith, c.if-i-len.false, c.len.ensures, c.self.inside.walks.ok.0) in
+    given c.self.inside.walks.items c.self.inside.tree _ c.self.invariant c.least-place.result c.least-place.ensures.value there
+    c.index_mut.result.now c.next-entry.new.self c.index_mut.ensures.value c.next-entry.result c.next-entry.ensures.some c.next-entry.ensures.none
+    c.args.self.now c.self.view_is
+
+pub returns-clause-none : goal.returns-clause-none
+returns-clause-none c =
+    let there : c.least-place.result % 64 < length c.self.inside.walks.items = omega (arith, c.if-i-len.false, c.len.ensures, c.self.inside.walks.ok.0) in
+    ended c.self.inside.walks.items c.self.inside.tree _ c.self.invariant c.least-place.result c.least-place.ensures.value there
+    c.index_mut.result.now c.next-entry.new.self c.index_mut.ensures.value c.next-entry.result c.next-entry.ensures.some c.next-entry.ensures.none
+    c.args.self.now c.self.view_is

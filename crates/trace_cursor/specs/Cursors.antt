@@ -1,0 +1,25 @@
+-- Cursors: what contracts see of them, and how they are kept.
+use Rattle.std.specs.Prelude.{◌≡◌, ℕ, ◌<◌, ◌≤◌, List, [], length, get_or}
+use Rattle.sim_base.specs.declared.entry.Entry.{Entry}
+use Rattle.sim_base.specs.declared.entry.Line.{Line}
+use Rattle.sim_base.specs.declared.message.Msg.{Msg}
+use Rattle.trace_cursor.specs.Words.{word_of, AllFit}
+
+pub record CursorView : Type 0 where
+  -- the entries that are left, in the order of their keys
+  pub left : List (Entry Msg Line)
+  -- how many logs were added, and for how many there is place
+  pub logs : ℕ
+  pub most : ℕ
+
+-- the words are those of the lists, and no word for the places that no list has
+abbrev pub AreWordsOf : List ℕ → List (List (Entry Msg Line)) → Type 0
+AreWordsOf words ls = (j : ℕ) → j < length words → get_or words j 0 ≡ word_of j (get_or ls j [])
+
+-- the lists that are left, the words of their keys, and for how many lists there is memory
+pub record IsCursor (ls : List (List (Entry Msg Line))) (words : List ℕ) (reserved : ℕ) : Type 0 where
+  pub few : length words ≤ 64
+  pub place : length ls ≤ length words
+  pub room : length words ≤ reserved
+  pub fit : AllFit ls
+  pub words_are : AreWordsOf words ls

@@ -1,0 +1,4 @@
+pub mod Tournament
+pub mod Words
+pub mod Cursors
+pub mod Rests

@@ -1,0 +1,38 @@
+-- A tournament of words: node 1 is the top, and the nodes below node i are 2 * i and 2 * i + 1.
+use Rattle.std.specs.Prelude.{◌≡◌, ◌≢◌, ℕ, ◌+◌, ◌-◌, ◌*◌, ◌/◌, ◌%◌, ◌<◌, ◌≤◌, ◌==◌, if◌then◌else◌, List, length, get_or, drop, min}
+
+-- the other node below the same one
+abbrev pub beside : ℕ → ℕ
+beside node = if node % 2 == 0 then node + 1 else node - 1
+
+-- a node has the lesser word of the two below it
+abbrev pub IsNode : List ℕ → ℕ → Type 0
+IsNode nodes i = get_or nodes i 0 ≡ min (get_or nodes (2 * i) 0) (get_or nodes (2 * i + 1) 0)
+
+-- each node that has others below it, but for one, has the lesser word of the two
+abbrev pub AreNodesBut : List ℕ → ℕ → ℕ → Type 0
+AreNodesBut nodes count p = (i : ℕ) → 1 ≤ i → i < count → i ≢ p → IsNode nodes i
+
+-- count nodes, the first of which is not used, and then count words
+pub record IsTree (nodes : List ℕ) (count : ℕ) : Type 0 where
+  pub some : 1 ≤ count
+  pub few : count ≤ 1048576
+  pub size : length nodes ≡ 2 * count
+  pub right : AreNodesBut nodes count 0
+
+-- the least of a list's words, and where it stands
+pub record IsLeast (word : ℕ) (words : List ℕ) : Type 0 where
+  pub place : ℕ
+  pub there : place < length words
+  pub is : get_or words place 0 ≡ word
+  pub least : (i : ℕ) → i < length words → word ≤ get_or words i 0
+
+-- a tree of which the node above this one may be wrong, with these words; `least` is the word of this node
+pub record IsMending (nodes : List ℕ) (count node least : ℕ) (words : List ℕ) : Type 0 where
+  pub few : count ≤ 1048576
+  pub size : length nodes ≡ 2 * count
+  pub some : 1 ≤ node
+  pub low : node < 2 * count
+  pub here : get_or nodes node 0 ≡ least
+  pub right : AreNodesBut nodes count (node / 2)
+  pub below : drop count nodes ≡ words

@@ -1,0 +1,99 @@
+//! Cursors.
+ghost use Rattle.std.specs.Prelude.{◌≡◌, ◌∷◌, [], ◌+◌, ◌<◌, ◌≤◌, IfSome, IfNone, IfOk};
+ghost use Rattle.run_laws.specs.Merges.{merge};
+ghost use Rattle.log_chain.specs.Packing.{FitWords};
+ghost use Rattle.trace_cursor.specs.Words.{by_key, word_of};
+
+use crate::tree::Tree;
+use log_chain::Walk;
+use sim_base::{Entry, NoMemory};
+use std::alloc::Global;
+use std::marker::Model;
+
+/// Several logs as one list, in the order of keys.
+///
+/// Contracts see the entries that are left, how many logs were added, and for how many there is place.
+#[derive(Drop)]
+pub struct Cursor<'a> {
+    walks: Vec<Walk<'a>>,
+    // for each place a log may have, the key of its next entry as a word
+    tree: Tree,
+}
+
+impl<'a> Model for Cursor<'a> {
+    ghost use Rattle.std.specs.Prelude.{length, vec_capacity};
+    ghost use Rattle.trace_cursor.specs.Cursors.{CursorView, IsCursor};
+    ghost use Rattle.trace_cursor.specs.Words.{merge_all};
+
+    ghost Value = { CursorView };
+
+    ghost view = { λ c. record { left = merge_all c.walks.items; logs = length c.walks.items; most = length c.tree } };
+
+    ghost invariant = { λ c. IsCursor c.walks.items c.tree (vec_capacity c.walks) };
+}
+
+impl<'a> Cursor<'a> {
+    /// No logs, and place for so many. It is all the memory that a cursor takes.
+    pub fn new(alloc: Global, most: usize) -> Result<Cursor<'a>, NoMemory>
+        requires some { 1 ≤ most }
+        requires few { most ≤ 64 }
+        ensures value { IfOk result (λ c. c ≡ record { left = []; logs = 0; most = most }) }
+    {
+        let walks = Vec::with_capacity(alloc, most)?;
+        let tree = Tree::new(alloc, most)?;
+        Ok(Cursor { walks, tree })
+    }
+
+    /// Leaves all logs.
+    pub fn clear(&mut self)
+        ensures value { self.new ≡ record { left = []; logs = 0; most = self.old.most } }
+    {
+        self.walks.clear();
+        self.tree.clear();
+    }
+
+    /// Adds what a walk has left. Where two keys are equal, what was added first goes first.
+    pub fn add(&mut self, walk: Walk<'a>)
+        requires place { self.old.logs < self.old.most }
+        requires fit { FitWords walk }
+        ensures value { self.new ≡ record { left = merge by_key self.old.left walk.entry; logs = self.old.logs + 1; most = self.old.most } }
+    {
+        let place = self.walks.len();
+        let word = word(&walk, place as u64);
+        match self.walks.push(walk) {
+            Ok(()) => {}
+            Err(_) => unreachable!(),
+        }
+        self.tree.set(place, word);
+    }
+
+    /// The next entry, None exactly at the end.
+    pub fn next(&mut self) -> Option<Entry>
+        ensures some { IfSome result (λ e. self.old.left ≡ e ∷ self.new.left) }
+        ensures none { IfNone result ((self.old.left ≡ []) × (self.new.left ≡ [])) }
+        ensures logs { self.new.logs ≡ self.old.logs }
+        ensures most { self.new.most ≡ self.old.most }
+    {
+        let place = self.tree.least() % 64;
+        let i = place as usize;
+        if i >= self.walks.len() {
+            return None;
+        }
+        let entry = self.walks[i].next();
+        self.tree.set(i, word(&self.walks[i], place));
+        entry
+    }
+}
+
+// The key of the next entry as a word, with the place of the walk; the greatest word at the end.
+fn word(walk: &Walk<'_>, place: u64) -> u64
+    requires few { place < 64 }
+    requires fit { FitWords walk.now }
+    ensures value { result ≡ word_of place walk.now }
+{
+    match walk.key() {
+        Some(key) => ((key.time * 128 + u64::from(key.sender)) * 2_097_152 + key.number) * 64
+            + place,
+        None => u64::MAX,
+    }
+}

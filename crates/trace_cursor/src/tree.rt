@@ -1,0 +1,77 @@
+//! Tournaments of words.
+ghost use Rattle.std.specs.Prelude.{◌≡◌, ◌+◌, ◌-◌, ◌^◌, ◌<◌, ◌≤◌, length, replicate, slice_set, IfOk};
+ghost use Rattle.trace_cursor.specs.Tournament.{beside, IsLeast};
+ghost use Rattle.trace_cursor.specs.Words.{no_word};
+
+use sim_base::NoMemory;
+use std::alloc::Global;
+use std::marker::Model;
+
+/// Words, and the least of them at hand: a change costs one `min` a level.
+#[derive(Drop)]
+pub struct Tree {
+    // node i has the lesser word of the nodes 2 * i and 2 * i + 1; the nodes from `count` on are the words
+    nodes: Vec<u64>,
+    count: usize,
+}
+
+impl Model for Tree {
+    ghost use Rattle.std.specs.Prelude.{ℕ, List, drop};
+    ghost use Rattle.trace_cursor.specs.Tournament.{IsTree};
+
+    ghost Value = { List ℕ };
+
+    ghost view = { λ t. drop t.count t.nodes.items };
+
+    ghost invariant = { λ t. IsTree t.nodes.items t.count };
+}
+
+impl Tree {
+    /// So many words, each the greatest.
+    pub fn new(alloc: Global, count: usize) -> Result<Tree, NoMemory>
+        requires some { 1 ≤ count }
+        requires few { count ≤ 1048576 }
+        ensures value { IfOk result (λ t. t ≡ replicate count no_word) }
+    {
+        let nodes = vec![in alloc; u64::MAX; 2 * count]?;
+        Ok(Tree { nodes, count })
+    }
+
+    /// Makes each word the greatest.
+    pub fn clear(&mut self)
+        ensures value { self.new ≡ replicate (length self.old) no_word }
+    {
+        self.nodes.fill(u64::MAX);
+    }
+
+    /// Puts a word in the place of another.
+    pub fn set(&mut self, i: usize, word: u64)
+        requires there { i < length self.old }
+        ensures value { self.new ≡ slice_set self.old i word }
+    {
+        let mut node = self.count + i;
+        let mut least = word;
+        self.nodes[node] = word;
+        while node > 1 {
+            least = least.min(self.nodes[beside(node)]);
+            node /= 2;
+            self.nodes[node] = least;
+        }
+    }
+
+    /// The least word.
+    pub fn least(&self) -> u64
+        ensures value { IsLeast result self.now }
+    {
+        self.nodes[1]
+    }
+}
+
+// The other node below the same one.
+fn beside(node: usize) -> usize
+    requires below { 1 < node }
+    requires small { node < 2 ^ 32 }
+    ensures value { result ≡ beside node }
+{
+    if node % 2 == 0 { node + 1 } else { node - 1 }
+}
