@@ -15,3 +15,4 @@ pub mod Lawful
 pub mod OpeningLaws
 pub mod GoodLaws
 pub mod ReplayLaws
+pub mod KeyLaws

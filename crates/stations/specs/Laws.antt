@@ -1,16 +1,21 @@
 -- Laws of these stations, in words that contracts cite: what a log leads to, and how what they send is numbered.
 use Rattle.std.specs.Prelude.{◌≡◌, ℕ, ◌+◌, ◌*◌, ◌^◌, ◌<◌, ◌≤◌, List, [], ◌∷◌, ◌++◌, length}
 use Rattle.std.specs.List.{AllByRecursion}
+use Rattle.sim_base.specs.Clones.{Clone}
+use Rattle.sim_base.specs.declared.message.Key.{Key}
 use Rattle.sim_base.specs.declared.message.Msg.{Msg}
 use Rattle.sim_base.specs.declared.entry.Entry.{Entry}
 use Rattle.sim_base.specs.declared.entry.Line.{Line}
 use Rattle.run_laws.specs.Queue.{In}
+use Rattle.run_laws.specs.Runs.{run_of}
+use Rattle.run_laws.specs.Handlers.{AreForStations}
+use Rattle.run_laws.specs.Laws.{IsMessageOf}
 use Rattle.net_model.specs.Net.{Net}
 use Rattle.stations.specs.Fits.{FitsState, SuitsNet}
 use Rattle.stations.specs.Good.{IsGood}
 use Rattle.stations.specs.Handling.{StateView, handle}
 use Rattle.stations.specs.Opening.{setup}
-use Rattle.stations.specs.Runs.{replay}
+use Rattle.stations.specs.Runs.{simulation, replay, log_at, IsBeyond}
 use Rattle.stations.specs.Sends.{AreSends, IsJob}
 
 module _ (net : Net) where
@@ -54,3 +59,24 @@ module _ (net : Net) where
   abbrev pub JobsTakeTheLookahead : Type 0
   JobsTakeTheLookahead = (s : ℕ) (st : StateView) (m z : Msg) → IsGood net s st → In z (handle net st m).sends →
       IsJob z.payload → m.key.time + net.lookahead ≤ z.key.time
+
+  -- a message's sender is the analyst, who is 0, or a station, and its number is below 2^21
+  pub record HasSmallKey (k : Key) : Type 0 where
+    pub sender : k.sender ≤ length net.sites
+    pub number : k.number < 2 ^ 21
+
+  -- at a front no station's log is beyond the limit, and the list has 2^21 decisions at most, for stations
+  pub record IsCounted (c : Clone) (front : ℕ) : Type 0 where
+    pub there : AreForStations (simulation net) c.plans
+    pub short : length c.plans ≤ 2 ^ 21
+    pub within : (s : ℕ) → 1 ≤ s → s ≤ length net.sites → ¬ (IsBeyond net s front c)
+
+  -- then each message of the clone's run, handled or pending there, has such a key
+  abbrev pub KeysAreSmall : Type 0
+  KeysAreSmall = (c : Clone) (front : ℕ) (m : Msg) → IsCounted c front →
+      IsMessageOf (run_of (simulation net) c front) m → HasSmallKey m.key
+
+  -- so has the message of each entry of a log, which comes before the front
+  abbrev pub LogKeysAreSmall : Type 0
+  LogKeysAreSmall = (c : Clone) (s front : ℕ) (e : Entry Msg Line) → IsCounted c front →
+      In e (log_at net c s front) → (e.msg.key.time < front) × HasSmallKey e.msg.key

@@ -5,7 +5,7 @@ ghost use Rattle.net_model.specs.Rules.{IsNet};
 ghost use Rattle.run_laws.specs.Handlers.{HandlesLawfully, SendsToStations, HandlesFreshly};
 ghost use Rattle.run_laws.specs.Laws.{TraceRises, StateIsReplay, EqualLogsEqualStates};
 ghost use Rattle.stations.specs.Good.{IsGood, sender_of, number_of, next_number};
-ghost use Rattle.stations.specs.Laws.{ReplayIsGood, ReplayCounts, ReplaySuits, ReplayFits, ReplayGoesOn, SendsNextNumbers, NumbersAreSmall, JobsTakeTheLookahead};
+ghost use Rattle.stations.specs.Laws.{ReplayIsGood, ReplayCounts, ReplaySuits, ReplayFits, ReplayGoesOn, SendsNextNumbers, NumbersAreSmall, KeysAreSmall, LogKeysAreSmall, JobsTakeTheLookahead};
 ghost use Rattle.stations.specs.Runs.{simulation};
 
 /// What the laws of runs ask of stations: each keeps what its kind keeps, sends later, to another station
@@ -42,6 +42,13 @@ pub fn logs_are_replayed()
 pub fn sends_are_numbered()
     ensures next { (net : Net) → IsNet net → SendsNextNumbers net }
     ensures small { (net : Net) → IsNet net → NumbersAreSmall net }
+{}
+
+/// Where no log is beyond the limit, the sender and the number of every message of a run are small, whether it was
+/// handled or is pending: with a time below the horizon a key fits into one word of 64 bits.
+pub fn keys_are_small()
+    ensures all { (net : Net) → IsNet net → KeysAreSmall net }
+    ensures logs { (net : Net) → IsNet net → LogKeysAreSmall net }
 {}
 
 /// A job takes at least the lookahead over any link, also over one that goes back to its own station.
