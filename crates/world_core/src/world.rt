@@ -104,6 +104,7 @@ impl World {
         ensures clones { result.now.clones ≡ self.now.clones }
         ensures few { length self.now.clones ≤ 256 }
         ensures in_net { AreInNet self.now.net self.now.clones }
+        ensures short { NoneBeyond self.now.net self.now.clones self.now.front }
     {
         self.lists.lists()
     }
