@@ -1,6 +1,6 @@
 -- How many bytes of the text before stay, by the lengths of what follows.
-use Rattle.std.proofs.Common.{◌≡◌, ℕ, suc, subst, ◌+◌, ◌-◌, ◌<◌, ◌≤◌, refl, sym, ◌∙◌, ap, arith, List, [], ◌++◌, not, nat_lt, Bool, true, length, take, length-append}
-use Rattle.std.specs.List.{filter, flat_map}
+use Rattle.std.proofs.Common.{◌≡◌, ℕ, suc, subst, ◌+◌, ◌-◌, ◌<◌, ◌≤◌, sym, ◌∙◌, ap, arith, List, ◌++◌, not, nat_lt, Bool, true, length, take, length-append}
+use Rattle.std.specs.List.{flat_map}
 use Rattle.std.proofs.lemmas.Grind.{flat_map-append, common_steps}
 use Rattle.std.proofs.lemmas.Bool.{le-ltb}
 use Rattle.sim_base.specs.Clones.{Clone, clone_at}
@@ -22,7 +22,8 @@ use Rattle.stations.specs.Good.{IsGood, sender_of, number_of, next_number}
 use Rattle.stations.proofs.GoodLaws.{lawful-stations, stations-to_stations, fresh-stations}
 use Rattle.trace_report.specs.TraceText.{entry_line}
 use Rattle.rolling_text.specs.Sharing.{same_plan}
-use Rattle.rolling_text.specs.Texts.{body, body_before, rest, shared_at, AreInNet, IsJoined}
+use Rattle.rolling_text.specs.Texts.{body, body_before, rest, shared_at, IsJoined}
+use Rattle.world_core.specs.Worlds.{AreInNet}
 use Rattle.rolling_text.proofs.SamePlans.{tells_plans}
 
 -- all lines come at 0 or later

@@ -5,5 +5,7 @@ pub mod Heads
 pub mod Pieces
 pub mod Calls
 pub mod Puts
+pub mod Partings
+pub mod Logs
 pub mod Keeping
 pub mod Planned

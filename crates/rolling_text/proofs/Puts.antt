@@ -1,5 +1,5 @@
 -- One text more is put.
-use Rattle.std.proofs.Common.{◌≡◌, ℕ, ◌+◌, ◌-◌, ◌<◌, sym, ap, ap₂, ◌∙◌, subst, List, ◌++◌, Option, codes, length, take, drop, get_or}
+use Rattle.std.proofs.Common.{◌≡◌, ℕ, ◌+◌, ◌-◌, ◌<◌, sym, ◌∙◌, subst, List, ◌++◌, Option, codes, length, take, drop, get_or}
 use Rattle.std.specs.List.{flat_map}
 use Rattle.sim_base.specs.Clones.{Clone, clone_at, nobody}
 use Rattle.sim_outer.specs.Bytes.{Appended, PartAppended}

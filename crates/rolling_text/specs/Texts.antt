@@ -1,10 +1,8 @@
 -- The texts of clones, each made of the one before it.
-use Rattle.std.specs.Prelude.{◌≡◌, ℕ, zero, suc, ◌+◌, ◌-◌, ◌<◌, ◌≤◌, List, [], ◌++◌, length, take, slice_get, Some}
+use Rattle.std.specs.Prelude.{◌≡◌, ℕ, zero, suc, ◌+◌, ◌-◌, ◌≤◌, List, [], ◌++◌, length, take, slice_get, Some}
 use Rattle.std.specs.List.{flat_map}
 use Rattle.sim_base.specs.Clones.{Clone, clone_at}
 use Rattle.net_model.specs.Net.{Net}
-use Rattle.run_laws.specs.Handlers.{AreForStations}
-use Rattle.run_laws.specs.Runs.{end_of}
 use Rattle.run_laws.specs.SharedTexts.{from_on, shared_to}
 use Rattle.stations.specs.Runs.{simulation, trace_of}
 use Rattle.trace_report.specs.TraceText.{entry_line}
@@ -53,8 +51,3 @@ ArePlanned net cs room ks = ArePlannedTo net cs (length cs) room ks
 pub record IsReady (net : Net) (cs : List Clone) (texts : Texts) : Type 0 where
   pub planned : ArePlanned net cs texts.page.room texts.keeps.items
   pub margin : length texts.page.text ≡ 32
-
--- clones whose decisions are for stations, and which end at the horizon at the latest
-pub record AreInNet (net : Net) (cs : List Clone) : Type 0 where
-  pub plans : (k : ℕ) → k < length cs → AreForStations (simulation net) (clone_at cs k).plans
-  pub ends : (k : ℕ) → k < length cs → end_of (simulation net) (clone_at cs k) ≤ net.horizon

@@ -2,7 +2,8 @@
 ghost use Rattle.std.specs.Prelude.{◌≡◌, ◌+◌, ◌^◌, ◌<◌, ◌≤◌, length, IfOk};
 ghost use Rattle.sim_base.specs.Clones.{clone_at};
 ghost use Rattle.net_model.specs.Rules.{IsNet};
-ghost use Rattle.rolling_text.specs.Texts.{AreInNet, ArePlanned, IsJoined, IsReady, body, body_before};
+ghost use Rattle.rolling_text.specs.Texts.{ArePlanned, IsJoined, IsReady, body, body_before};
+ghost use Rattle.world_core.specs.Worlds.{AreInNet};
 
 use crate::page::Page;
 use crate::traces::Traces;

@@ -3,7 +3,8 @@ ghost use Rattle.std.specs.Prelude.{◌≡◌, ◌+◌, ◌^◌, ◌<◌, ◌≤
 ghost use Rattle.sim_base.specs.Clones.{Clone as CloneOf, clone_at};
 ghost use Rattle.net_model.specs.Net.{Net};
 ghost use Rattle.net_model.specs.Rules.{IsNet};
-ghost use Rattle.rolling_text.specs.Texts.{AreInNet, rest, shared_at};
+ghost use Rattle.rolling_text.specs.Texts.{rest, shared_at};
+ghost use Rattle.world_core.specs.Worlds.{AreInNet};
 
 use sim_base::Name;
 

@@ -1,7 +1,7 @@
-use Rattle.std.proofs.Common.{◌≡◌, ◌+◌, ◌<◌, ◌≤◌, arith, refl, sym, ap, ap₂, ◌∙◌, length, drop}
+use Rattle.std.proofs.Common.{◌≡◌, ◌<◌, arith, refl, sym, ap, ap₂, ◌∙◌, length, drop}
 use Rattle.std.proofs.Math.ListN.{drop_of_length-le}
 use Rattle.sim_base.specs.Clones.{clone_at}
-use Rattle.rolling_text.specs.Texts.{body, body_before}
+use Rattle.rolling_text.specs.Texts.{body}
 use Rattle.rolling_text.proofs.Calls.{none_counted, counted_more, counted_to}
 use Rattle.rolling_text.proofs.Joined.{kept_at, next_before}
 use Rattle.rolling_text.proofs.Pieces.{appended_nothing}

@@ -1,5 +1,4 @@
-use Rattle.std.proofs.Common.{◌≡◌, ◌≤◌, length, ap, ◌∙◌, sym, arith, refl, ◌∷◌, ◌++◌, drop}
-use Rattle.std.proofs.lemmas.Grind.{common_steps}
+use Rattle.std.proofs.Common.{length, ap, ◌∙◌, refl, ◌∷◌, ◌++◌, drop}
 use Rattle.sim_base.proofs.NameBytes.{short_name}
 use Rattle.rolling_text.proofs.Heads.{second_fits, third_fits, head_size, head_lines, head_text}
 use Rattle.rolling_text.proofs.putting.put_head.Goals as goal

@@ -1,4 +1,4 @@
-use Rattle.std.proofs.Common.{◌+◌, length, arith, refl, []}
+use Rattle.std.proofs.Common.{arith, refl, []}
 use Rattle.rolling_text.proofs.Joined.{can_cut, has_room, rolled, margin_stays}
 use Rattle.rolling_text.proofs.putting.roll.Goals as goal
 

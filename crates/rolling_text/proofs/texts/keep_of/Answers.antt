@@ -1,6 +1,6 @@
-use Rattle.std.proofs.Common.{◌≡◌, ◌+◌, ◌-◌, ◌≤◌, arith, ap, sym, subst, ◌∙◌, length}
+use Rattle.std.proofs.Common.{◌≡◌, ◌+◌, ◌-◌, arith, ap, sym, subst, ◌∙◌, length}
 use Rattle.sim_base.specs.Clones.{clone_at}
-use Rattle.rolling_text.specs.Texts.{body_before, rest, shared_at, IsJoined}
+use Rattle.rolling_text.specs.Texts.{rest, shared_at, IsJoined}
 use Rattle.rolling_text.proofs.Keeping.{first_joined, first_len, next_fits, next_joined, next_len}
 use Rattle.rolling_text.proofs.texts.keep_of.Goals as goal
 

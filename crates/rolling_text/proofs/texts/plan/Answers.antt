@@ -1,4 +1,4 @@
-use Rattle.std.proofs.Common.{◌≡◌, ◌+◌, ◌∷◌, [], ◌++◌, ◌≤◌, arith, refl, ap, sym, subst, ◌∙◌, length}
+use Rattle.std.proofs.Common.{◌+◌, arith, ap, sym, subst, ◌∙◌, length}
 use Rattle.rolling_text.specs.Texts.{ArePlannedTo}
 use Rattle.rolling_text.proofs.Joined.{next_before}
 use Rattle.rolling_text.proofs.Planned.{plan_push}
