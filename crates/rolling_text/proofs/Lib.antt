@@ -7,5 +7,6 @@ pub mod Calls
 pub mod Puts
 pub mod Partings
 pub mod Logs
+pub mod ShortLists
 pub mod Keeping
 pub mod Planned
