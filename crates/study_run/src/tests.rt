@@ -1,0 +1,1 @@
+//! Studies of small models, under several crews.
