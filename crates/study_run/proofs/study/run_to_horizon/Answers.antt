@@ -1,9 +1,15 @@
-use Rattle.std.proofs.Common.{◌≡◌, ◌+◌, ◌-◌, ◌<◌, ◌≤◌, ◌∙◌, ap, arith, length, refl}
+use Rattle.std.proofs.Common.{◌≡◌, ℕ, ◌+◌, ◌-◌, ◌<◌, ◌≤◌, ◌∙◌, ap, arith, length, refl, subst, sym}
+use Rattle.world_core.specs.Overs.{IsFault}
 use Rattle.world_core.specs.Worlds.{total_handled}
+use Rattle.study_run.specs.Faults.{StopsAll}
 use Rattle.study_run.proofs.Meeting.{none_within}
 use Rattle.study_run.proofs.OverLaws.{comes_first, comes_last, within_horizon}
 use Rattle.study_run.proofs.Worlds.{comes_in, none_handled, rises_in, steps_in, stops_in}
 use Rattle.study_run.proofs.study.run_to_horizon.Goals as goal
+
+-- a relation of two numbers, by their other names
+both : {s t c d : ℕ} (P : ℕ → ℕ → Type 0) → s ≡ t → c ≡ d → P s c → P t d
+both {s} {t} {c} {d} P e f h = subst (λ k. P k d) e (subst (λ k. P s k) f h)
 
 pub window-init : goal.window-init
 window-init g c =
@@ -27,10 +33,13 @@ window-requires-clause-above g c κs within =
 pub returns-in-Err-EventLimit-clause-fault : goal.returns-in-Err-EventLimit-clause-fault
 returns-in-Err-EventLimit-clause-fault g c =
     let below : c.window.world.front < c.args.model.now.horizon = omega (arith, c.window-test.true, c.front.ensures.value, c.horizon.ensures.value) in
-    stops_in c.args.model.now c.window.world.net c.args.world.clones c.window.world.clones c.window.world.front c.bound-bound.result
+    let stops = stops_in c.args.model.now c.window.world.net c.args.world.clones c.window.world.clones c.window.world.front c.bound-bound.result
     c.window.invariant.net c.window.invariant.clones c.bound-bound.ensures.value below
-    c.args.steps.now c.window.steps c.window-in-window.new.steps c.in-Err-EventLimit.station c.in-Err-EventLimit.who _
-    c.horizon.ensures.valid c.window.invariant.come c.window.invariant.steps c.in-Err-EventLimit.ensures.fault
+    c.args.steps.now c.window.steps c.window-in-window.new.steps c.in-Err-EventLimit.station c.in-Err-EventLimit.who c.in-Err-EventLimit.field-0-2
+    c.horizon.ensures.valid c.window.invariant.come c.window.invariant.steps
+    (subst (λ e. IsFault c.window.world.net c.window.world.clones c.window.world.front c.bound-bound.result c.window.steps c.window-in-window.new.steps e)
+      c.in-Err-EventLimit.field-0-is c.in-Err-EventLimit.ensures.fault) in
+    both (StopsAll c.args.model.now c.args.world.clones c.args.steps.now c.window-in-window.new.steps) (sym c.in-Err-EventLimit.station-is) (sym c.in-Err-EventLimit.who-is) stops
 
 pub window-smaller : goal.window-smaller
 window-smaller g c =
