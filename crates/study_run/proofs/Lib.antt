@@ -5,3 +5,4 @@ pub mod Worlds
 pub mod Fulls
 pub mod SoloRuns
 pub mod Reports
+pub mod Accepting

@@ -14,7 +14,7 @@ use Rattle.stations.specs.Runs.{alone, copies, handled, simulation}
 use Rattle.trace_report.specs.ReportText.{report_text}
 use Rattle.study_run.specs.Laws.{TotalIsFew, TotalIsOfReport}
 use Rattle.study_run.specs.Limits.{AreWithin}
-use Rattle.study_run.specs.Outputs.{figures_of, figures_to, report}
+use Rattle.trace_report.specs.Outputs.{figures_of, figures_to, report}
 
 -- a clone at a station handles no more than the limit, and 64 stations of 256 clones no more than a number holds
 small : (net : Net) (cs : List Clone) → IsNet net → length cs ≤ 256 → length net.sites * (length cs * net.limit) < 2 ^ 64

@@ -12,7 +12,7 @@ use Rattle.solo_run.specs.Limit.{receiver, first_beyond}
 use Rattle.world_core.specs.Worlds.{total_handled}
 use Rattle.study_run.specs.Limits.{AreWithin, IsWithin, MeetsLimit, IsFirstFull, MeetsLimitAlone}
 use Rattle.study_run.specs.Overs.{first_over_of}
-use Rattle.study_run.specs.Outputs.{figures_to}
+use Rattle.trace_report.specs.Outputs.{figures_to}
 use Rattle.study_run.specs.Work.{most_handled}
 
 -- there is one station and one clone at which the limit is met

@@ -2,5 +2,5 @@ pub mod Limits
 pub mod Overs
 pub mod Work
 pub mod Faults
-pub mod Outputs
 pub mod Laws
+pub mod Accepted

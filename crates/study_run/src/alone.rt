@@ -6,7 +6,7 @@ ghost use Rattle.solo_run.specs.Limit.{first_beyond};
 ghost use Rattle.decision_book.specs.Plans.{ArePlanned};
 ghost use Rattle.study_run.specs.Faults.{IsFaultAlone};
 ghost use Rattle.study_run.specs.Limits.{IsWithin};
-ghost use Rattle.study_run.specs.Outputs.{clone_text};
+ghost use Rattle.trace_report.specs.Outputs.{clone_text};
 ghost use Rattle.study_run.specs.Work.{IsFew};
 
 use crate::fault::StudyFault;

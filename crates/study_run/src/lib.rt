@@ -24,6 +24,7 @@
 //! station and there the least clone are named, and no more was handled than stations, clones and limit allow.
 #![tactic(auto)]
 
+pub mod accepted;
 pub mod alone;
 pub mod crew;
 pub mod examples;
@@ -34,6 +35,7 @@ pub mod study;
 #[cfg(test)]
 mod tests;
 
+pub use accepted::accepted_calls;
 pub use alone::{run_alone, text_alone};
 pub use crew::StudyCrew;
 pub use fault::StudyFault;

@@ -1,7 +1,7 @@
 //! The report of a run: what the clones had in common.
 ghost use Rattle.std.specs.Prelude.{◌≡◌, ◌≤◌, length, IfOk};
 ghost use Rattle.study_run.specs.Limits.{AreWithin};
-ghost use Rattle.study_run.specs.Outputs.{report};
+ghost use Rattle.trace_report.specs.Outputs.{report};
 
 use net_model::Model;
 use sim_base::NoMemory;

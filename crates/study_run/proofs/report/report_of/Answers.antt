@@ -1,6 +1,6 @@
 use Rattle.std.proofs.Common.{◌≡◌, ◌<◌, ◌^◌, ◌∙◌, ap, arith, length, subst, sum_by, sym}
 use Rattle.sim_base.specs.declared.figures.Figures.{Figures}
-use Rattle.study_run.specs.Outputs.{figures_to}
+use Rattle.trace_report.specs.Outputs.{figures_to}
 use Rattle.study_run.proofs.Reports.{few_at, figures_count, figures_none, figures_pushed, figures_small, report_is, text_on}
 use Rattle.study_run.proofs.report.report_of.Goals as goal
 

@@ -1,5 +1,5 @@
 use Rattle.std.proofs.Common.{◌≡◌}
-use Rattle.study_run.specs.Outputs.{figures_to}
+use Rattle.trace_report.specs.Outputs.{figures_to}
 use Rattle.study_run.proofs.report.report_of.Given as goal
 
 abbrev pub invariant-loop-s : goal.invariant-loop-s
