@@ -1,6 +1,7 @@
 //! Laws of the limit and of the report: each function's contract is a law, and there is nothing to run.
 //!
 //! `specs/Laws.antt` has the laws in words.
+ghost use Rattle.study_run.specs.Accepted.{AcceptedIsTaken};
 ghost use Rattle.study_run.specs.Laws.{FullIsFound, FullIsOne, MeetingIsFound, MeetingIsOne, NotWithinAndMet, NotWithinAndMetAlone, TotalIsFew, TotalIsOfReport, WithinIsNotFound, WithinIsNotFull, WithinOrMet};
 
 /// Where the limit is met in a run of clones: there is one such place, and it is there exactly where some log of the
@@ -28,4 +29,10 @@ pub fn first_full_log()
 pub fn report_has_the_total()
     ensures total { TotalIsOfReport }
     ensures few { TotalIsFew }
+{}
+
+/// What a right journal without fronts accepted, a world may take at front 0.
+#[tactic(auto, using(crate::proofs::Accepting::accepted_is_taken))]
+pub fn accepted_calls_are_taken()
+    ensures { AcceptedIsTaken }
 {}
