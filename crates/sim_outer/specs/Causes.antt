@@ -1,5 +1,5 @@
--- Counts of faults.
-use Rattle.std.specs.Prelude.{ℕ, ◌+◌, ◌-◌, ◌^◌, ◌≤◌, min}
+-- Counts of faults and of calls.
+use Rattle.std.specs.Prelude.{◌≡◌, ℕ, zero, suc, ◌+◌, ◌-◌, ◌^◌, ◌≤◌, min, Option, Some, None}
 
 -- what a count of 64 bits is after one more: it stays at its last value
 abbrev pub next_count : ℕ → ℕ
@@ -8,3 +8,18 @@ next_count n = min (n + 1) (2 ^ 64 - 1)
 -- a count rose: it is greater than before, or stands at the last value of 64 bits
 abbrev pub Rose : ℕ → ℕ → Type 0
 Rose before now = next_count before ≤ now
+
+-- there was one call, where calls are counted
+abbrev pub Counted : Option ℕ → Option ℕ → Type 0
+Counted None now = now ≡ None
+Counted (Some before) now = now ≡ Some (next_count before)
+
+-- a count after so many calls more
+abbrev pub counts_after : ℕ → ℕ → ℕ
+counts_after zero before = before
+counts_after (suc n) before = next_count (counts_after n before)
+
+-- there were so many calls, where calls are counted
+abbrev pub AreCounted : ℕ → Option ℕ → Option ℕ → Type 0
+AreCounted n None now = now ≡ None
+AreCounted n (Some before) now = now ≡ Some (counts_after n before)

@@ -1,6 +1,6 @@
 //! Inputs.
 ghost use Rattle.std.specs.Prelude.{◌≡◌, ◌≤◌, ◌⊎◌, ℕ, Option, IfOk, IfErr};
-ghost use Rattle.sim_outer.specs.Causes.{Rose};
+ghost use Rattle.sim_outer.specs.Causes.{Counted, Rose};
 ghost use Rattle.sim_outer.specs.Files.{Files, Fetched, Lacks};
 
 use std::alloc::{AllocError, Global};
@@ -36,6 +36,9 @@ pub trait Inputs {
     // how many faults there were
     ghost faults: { Self → ℕ };
 
+    // how many calls there were, where the contract knows it
+    ghost calls: { Self → Option ℕ };
+
     /// The first [`MOST_FETCHED`] bytes of the file of this name, or the whole file if it is shorter.
     ///
     /// It fails only where the count of faults rises in this call, or where the contract knows the files and
@@ -45,5 +48,6 @@ pub trait Inputs {
         ensures cause { IfErr result (λ e. e ≡ FetchFault.Failed →
             Rose (faults self.old) (faults self.new) ⊎ Lacks (files self.old) name.now) }
         ensures later { faults self.old ≤ faults self.new }
-        ensures same { files self.new ≡ files self.old };
+        ensures same { files self.new ≡ files self.old }
+        ensures counted { Counted (calls self.old) (calls self.new) };
 }

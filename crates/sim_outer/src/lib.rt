@@ -3,7 +3,8 @@
 //! A program that is proved still meets files that are not there and pipes that break. What a file holds no
 //! clause can say; so a count of faults stands in its place. `Inputs` and `Sink` say what a caller may rely on:
 //! a fetch that fails raised the count, or the file is known not to exist; a put that fails raised the count,
-//! and a prefix of the piece was taken. The top call is written over these two traits:
+//! and a prefix of the piece was taken. Calls are counted too, where the contract knows the count, so that a
+//! caller can promise how often it fetches and puts. The top call is written over these two traits:
 //!
 //! ```text
 //!              Inputs                        Sink

@@ -3,7 +3,7 @@ ghost use Rattle.std.specs.Prelude.{◌≡◌, ◌≤◌, ◌⊎◌, ◌↔◌, 
 ghost use Rattle.std.specs.FinMap as finite;
 ghost use Rattle.std.specs.List.{list_any};
 ghost use Rattle.std.specs.Option.{option_map};
-ghost use Rattle.sim_outer.specs.Causes.{Rose};
+ghost use Rattle.sim_outer.specs.Causes.{Counted, Rose};
 ghost use Rattle.sim_outer.specs.Files.{Fetched, Lacks, prefix_of};
 ghost use Rattle.sim_outer.specs.MemInputsView.{named_bytes, files_by_name, prefix_by_name, next_prefix, after_fetch};
 
@@ -63,12 +63,15 @@ impl Inputs for MemInputs {
 
     ghost faults = { λ m. m.faults };
 
+    ghost calls = { λ m. Some m.calls };
+
     fn fetch(&mut self, alloc: Global, name: &str) -> Result<Vec<u8>, FetchFault>
         ensures bytes { IfOk result (λ v. Fetched (Some (files_by_name self.old.files)) name.now v.items) }
         ensures cause { IfErr result (λ e. e ≡ FetchFault.Failed → Rose self.old.faults self.new.faults
             ⊎ Lacks (Some (files_by_name self.old.files)) name.now) }
         ensures later { self.old.faults ≤ self.new.faults }
         ensures same { Some (files_by_name self.new.files) ≡ Some (files_by_name self.old.files) }
+        ensures counted { Counted (Some self.old.calls) (Some self.new.calls) }
 
         // exactly what is found, and exactly when the count rises
         ensures ok { IfOk result (λ v. next_prefix self.old name.now ≡ Some v.items) }

@@ -1,7 +1,7 @@
 //! Sinks in memory.
 ghost use Rattle.std.specs.Prelude.{◌≡◌, ◌≤◌, ◌↔◌, ◌&&◌, [], true, min, nat_le, length, is_none, unwrap_or, Some, OnOk, OnErr, IfOk, IsOk};
 ghost use Rattle.sim_outer.specs.Bytes.{Appended, PartAppended};
-ghost use Rattle.sim_outer.specs.Causes.{Rose};
+ghost use Rattle.sim_outer.specs.Causes.{Counted, Rose};
 ghost use Rattle.sim_outer.specs.MemSinkView.{stop_of, next_is_whole, after_put};
 
 use crate::sink::{PutFailed, Sink};
@@ -75,11 +75,14 @@ impl Sink for MemSink {
 
     ghost faults = { λ s. s.faults };
 
+    ghost calls = { λ s. Some s.calls };
+
     fn put(&mut self, piece: &[u8]) -> Result<(), PutFailed>
         ensures ok { OnOk result (Appended (Some self.old.taken) piece.now (Some self.new.taken)) }
         ensures part { OnErr result (PartAppended (Some self.old.taken) piece.now (Some self.new.taken)) }
         ensures cause { OnErr result (Rose self.old.faults self.new.faults) }
         ensures later { self.old.faults ≤ self.new.faults }
+        ensures counted { Counted (Some self.old.calls) (Some self.new.calls) }
 
         // exactly when it succeeds, what is taken, and when the count rises
         ensures succeeds { IsOk result ↔ (next_is_whole self.old (length piece.now) ≡ true) }

@@ -12,6 +12,8 @@ impl Sink for NullSink {
 
     ghost faults = { λ _. 0 };
 
+    ghost calls = { λ _. None };
+
     fn put(&mut self, _piece: &[u8]) -> Result<(), PutFailed>
         ensures takes { IsOk result }
     {

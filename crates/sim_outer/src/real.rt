@@ -40,6 +40,8 @@ impl<'a, R: Files> Inputs for FileInputs<'a, R> {
 
     ghost faults = { λ s. s };
 
+    ghost calls = { λ _. None };
+
     fn fetch(&mut self, alloc: Global, name: &str) -> Result<Vec<u8>, FetchFault> {
         let read = match fs::open(self.rt, name) {
             Ok(mut file) => read_prefix(alloc, &mut file),
@@ -81,6 +83,8 @@ impl<'a, R: Print> Sink for OutSink<'a, R> {
 
     ghost faults = { λ s. s };
 
+    ghost calls = { λ _. None };
+
     fn put(&mut self, piece: &[u8]) -> Result<(), PutFailed> {
         let put = write_whole(&mut io::writer(self.rt), piece);
         if put.is_err() {
@@ -119,6 +123,8 @@ impl<'a, R: Eprint> Sink for ErrSink<'a, R> {
     ghost bytes = { λ _. None };
 
     ghost faults = { λ s. s };
+
+    ghost calls = { λ _. None };
 
     fn put(&mut self, piece: &[u8]) -> Result<(), PutFailed> {
         let put = write_whole(&mut ErrorWriter { rt: self.rt }, piece);

@@ -1,7 +1,7 @@
 //! Sinks.
 ghost use Rattle.std.specs.Prelude.{◌≤◌, ℕ, List, Option, OnOk, OnErr};
 ghost use Rattle.sim_outer.specs.Bytes.{Appended, PartAppended};
-ghost use Rattle.sim_outer.specs.Causes.{Rose};
+ghost use Rattle.sim_outer.specs.Causes.{Counted, Rose};
 
 /// A piece was not taken whole.
 #[derive(Clone, Copy, Debug, PartialEq, Eq)]
@@ -15,11 +15,15 @@ pub trait Sink {
     // how many faults there were
     ghost faults: { Self → ℕ };
 
+    // how many calls there were, where the contract knows it
+    ghost calls: { Self → Option ℕ };
+
     /// Takes a piece, or fails and has taken a prefix of it. To take nothing of a piece that is not
     /// empty is a fault. It takes no memory.
     fn put(&mut self, piece: &[u8]) -> Result<(), PutFailed>
         ensures ok { OnOk result (Appended (bytes self.old) piece.now (bytes self.new)) }
         ensures part { OnErr result (PartAppended (bytes self.old) piece.now (bytes self.new)) }
         ensures cause { OnErr result (Rose (faults self.old) (faults self.new)) }
-        ensures later { faults self.old ≤ faults self.new };
+        ensures later { faults self.old ≤ faults self.new }
+        ensures counted { Counted (calls self.old) (calls self.new) };
 }

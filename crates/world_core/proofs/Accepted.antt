@@ -1,6 +1,6 @@
 -- What holds of a decision that was accepted: no row of the table of refusals is its.
-use Rattle.std.proofs.Common.{◌≡◌, ℕ, zero, suc, ◌+◌, ◌==◌, ◌<◌, ◌≤◌, Bool, true, false, List, [], ◌∷◌, refl, sym, ap, ◌∙◌, arith, length, Option, Some, None, Result, Ok, Err, is_some, is_none, option_map, nat_le, nat_lt, position, unwrap_or}
-use Rattle.std.proofs.lemmas.Bool.{lt-ltb, ltb-true, false≢true, cases_lt}
+use Rattle.std.proofs.Common.{◌≡◌, ℕ, ◌+◌, ◌==◌, ◌<◌, ◌≤◌, Bool, true, false, List, [], ◌∷◌, refl, sym, ◌∙◌, arith, length, Option, Some, None, Result, Ok, Err, is_some, is_none, option_map, nat_le, nat_lt, position}
+use Rattle.std.proofs.lemmas.Bool.{false≢true}
 use Rattle.std.proofs.lemmas.Bool.Decides.{nat_tests}
 use Rattle.std.specs.Str.{bytes_eq}
 use Rattle.sim_base.specs.Clones.{Clone, clone_at, place_of}
@@ -14,9 +14,9 @@ use Rattle.stations.specs.declared.change.ChangeFault.{ChangeFault}
 use Rattle.stations.specs.declared.change.ChangeFault.TheVariants as refused
 use Rattle.stations.specs.Changes.{accepts}
 use Rattle.decision_book.specs.declared.call.Reply.{Reply}
-use Rattle.decision_book.specs.declared.call.Reply.TheVariants.{Accepted, Full, Closed, UnknownClone, Ended, NameTaken, TooManyClones, UnknownStation, WrongParameter, OutOfRange, ListFull, PastHorizon, Late}
+use Rattle.decision_book.specs.declared.call.Reply.TheVariants.{Accepted, Full, Closed, Ended, NameTaken, TooManyClones, UnknownStation, ListFull, PastHorizon, Late}
 use Rattle.decision_book.specs.declared.call.TheConstants.{MOST_CALLS}
-use Rattle.decision_book.specs.Replies.{row, first_row, reply, rows, clone_rows, time_rows, fork_rows, set_rows, change_row, fault_row}
+use Rattle.decision_book.specs.Replies.{row, first_row, reply, rows, clone_rows, time_rows, change_row, fault_row}
 use Rattle.world_core.specs.Taking.{situation, IsAccepted}
 
 -- a row that does not hold is passed over

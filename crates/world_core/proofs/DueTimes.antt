@@ -1,5 +1,5 @@
 -- Due times and figures, by the copies.
-use Rattle.std.proofs.Common.{◌≡◌, ◌⊎◌, ℕ, zero, suc, ◌+◌, ◌-◌, ◌*◌, ◌++◌, take, ◌<◌, ◌≤◌, List, [], ◌∷◌, inl, inr, Option, Some, None, refl, sym, ap, ◌∙◌, subst, arith, length, slice_get, get_or, unwrap_or, option_map, true, sum_by, min}
+use Rattle.std.proofs.Common.{◌≡◌, ◌⊎◌, ℕ, zero, suc, ◌+◌, ◌-◌, ◌*◌, ◌++◌, take, ◌<◌, ◌≤◌, List, [], ◌∷◌, inl, inr, Option, Some, None, refl, sym, ap, ◌∙◌, subst, arith, length, slice_get, get_or, unwrap_or, option_map, sum_by}
 use Rattle.std.specs.List.{AllByRecursion}
 use Rattle.std.proofs.Math.Nat.{add-mul, mul-le-mul_left}
 use Rattle.std.proofs.lemmas.Bool.{cases_eq}
@@ -13,7 +13,6 @@ use Rattle.clone_sets.specs.Sets.{has, size}
 use Rattle.clone_sets.specs.declared.set.CloneSet.{CloneSet}
 use Rattle.clone_sets.proofs.CountLaws.{size_is_count}
 use Rattle.net_model.specs.Net.{Net}
-use Rattle.net_model.specs.Rules.{IsNet}
 use Rattle.stations.specs.Runs.{simulation, copies, handled, alone}
 use Rattle.stations.proofs.GoodLaws.{lawful-stations, stations-to_stations}
 use Rattle.run_laws.specs.Queue.{In}
@@ -31,7 +30,7 @@ use Rattle.phys_proc.specs.Own.{StationCopy, IsCopy, handled_alone, all_sizes, t
 use Rattle.phys_proc.specs.Procs.{ProcView, IsTakenBy, IsLeastTime, IsLeastOf, IsLeast}
 use Rattle.phys_proc.proofs.Onward.{sets_join}
 use Rattle.world_core.specs.Worlds.{StandsAt, WorldStands, copies_at}
-use Rattle.world_core.proofs.Places.{at_got, there_at}
+use Rattle.world_core.proofs.Places.{at_got}
 
 abbrev time_of : Msg → ℕ
 time_of m = m.key.time

@@ -1,5 +1,5 @@
 -- What a station's step gives, by its place in the list of stations.
-use Rattle.std.proofs.Common.{◌≡◌, ℕ, ◌+◌, sym, ◌∙◌, subst}
+use Rattle.std.proofs.Common.{◌≡◌, ℕ, ◌+◌, ◌∙◌, subst}
 use Rattle.clone_sets.specs.Sets.{has, empty}
 use Rattle.net_model.specs.Net.{Net}
 use Rattle.stations.specs.Runs.{simulation}

@@ -1,10 +1,8 @@
 -- A fork at the stations, one after the other.
-use Rattle.std.proofs.Common.{◌≡◌, ℕ, zero, suc, ◌+◌, ◌<◌, ◌≤◌, List, [], ◌∷◌, inl, inr, Some, refl, sym, ap, ◌∙◌, subst, arith, length, length-set, get_or, slice_get, slice_set, true, false}
-use Rattle.std.specs.List.{AllZip}
+use Rattle.std.proofs.Common.{◌≡◌, ℕ, ◌+◌, ◌<◌, ◌≤◌, List, inl, inr, Some, refl, sym, ap, ◌∙◌, subst, arith, length, length-set, get_or, slice_get, slice_set}
 use Rattle.std.proofs.lemmas.Bool.{cases_eq}
-use Rattle.clone_sets.specs.Sets.{has, with}
-use Rattle.phys_proc.specs.Procs.{ProcView, IsProc}
-use Rattle.world_core.specs.Forking.{AllForked, HasForked, LivesAtAll, LivesNowhere}
+use Rattle.phys_proc.specs.Procs.{ProcView}
+use Rattle.world_core.specs.Forking.{AllForked, HasForked}
 use Rattle.world_core.proofs.Places.{at_got, there_at, one_got}
 use Rattle.world_core.proofs.Delivering.{set_same, set_other, of_some}
 

@@ -1,5 +1,5 @@
 -- The world before anything was handled.
-use Rattle.std.proofs.Common.{◌≡◌, ◌↔◌, ◌==◌, true, false, ℕ, zero, suc, ◌+◌, List, [], ◌∷◌, ◌++◌, inl, inr, Some, refl, sym, ap, ◌∙◌, subst, arith, length, slice_get, eqb-true, eq-eqb, nat_lt}
+use Rattle.std.proofs.Common.{◌≡◌, ◌↔◌, ◌==◌, true, ℕ, zero, suc, ◌+◌, List, [], ◌∷◌, ◌++◌, inl, inr, refl, sym, ap, ◌∙◌, subst, arith, length, eqb-true, eq-eqb, nat_lt}
 use Rattle.std.proofs.Math.Path.{fun_ext}
 use Rattle.std.proofs.lemmas.Bool.Decides.{nat_tests}
 use Rattle.sim_base.specs.Clones.{base, clone_at}
@@ -8,15 +8,15 @@ use Rattle.clone_sets.specs.Sets.{has, one}
 use Rattle.clone_sets.proofs.SetLaws.{has-one}
 use Rattle.net_model.specs.Net.{Net}
 use Rattle.net_model.specs.Rules.{IsNet}
-use Rattle.stations.specs.Runs.{simulation, handled}
+use Rattle.stations.specs.Runs.{simulation}
 use Rattle.stations.proofs.GoodLaws.{lawful-stations, stations-to_stations}
 use Rattle.run_laws.specs.Handlers.{AreForStations}
-use Rattle.run_laws.specs.Copies.{Stands, ends_of, first_copy}
+use Rattle.run_laws.specs.Copies.{Stands, ends_of}
 use Rattle.run_laws.proofs.Beginning.{stands_first}
 use Rattle.run_laws.proofs.HandledStays.{handled-0}
 use Rattle.phys_proc.specs.Procs.{ProcView}
 use Rattle.phys_proc.specs.Gone.{ends_in}
-use Rattle.world_core.specs.Worlds.{StandsAt, WorldStands}
+use Rattle.world_core.specs.Worlds.{WorldStands}
 use Rattle.world_core.specs.Opening.{IsFirstProc, AreFirst}
 use Rattle.world_core.proofs.Places.{push_got, at_got}
 

@@ -1,5 +1,5 @@
 -- The first clone over the limit, where there is one.
-use Rattle.std.proofs.Common.{◌≡◌, ◌↔◌, ℕ, zero, suc, ◌+◌, ◌<◌, ◌≤◌, List, [], inl, inr, Option, Some, None, sym, ap, ◌∙◌, subst, true, arith, length, slice_get}
+use Rattle.std.proofs.Common.{◌≡◌, ◌↔◌, ℕ, zero, suc, ◌+◌, ◌<◌, ◌≤◌, List, inl, inr, Some, sym, ap, ◌∙◌, subst, true, arith, length, slice_get}
 use Rattle.std.proofs.lemmas.Bool.{false≢true}
 use Rattle.std.proofs.lemmas.Option.{slice_get_cases}
 use Rattle.sim_base.specs.Clones.{Clone, clone_at}
@@ -16,7 +16,7 @@ use Rattle.world_core.specs.Worlds.{StandsAt}
 use Rattle.world_core.specs.Windows.{AllFlow, NoneOver}
 use Rattle.world_core.specs.Overs.{IsFirstBeyond, IsFirstOver, NoneBeyond}
 use Rattle.world_core.proofs.Places.{at_got}
-use Rattle.world_core.proofs.AfterWindow.{flow_of, over_of, none_long}
+use Rattle.world_core.proofs.AfterWindow.{flow_of, over_of}
 
 module _ (net : Net) (valid : IsNet net) (cs : List Clone) (front bound : ℕ) (procs : List ProcView) (flows : List Flow)
     (are_procs : length procs ≡ length net.sites) (count : length flows ≡ length net.sites)

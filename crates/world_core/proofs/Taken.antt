@@ -1,8 +1,7 @@
 -- The world after a decision: the copies that stood for the clones stand for them again.
 use Rattle.std.proofs.Common.{◌≡◌, ℕ, zero, suc, ◌+◌, ◌==◌, ◌||◌, ◌<◌, ◌≤◌, Bool, true, false, cond, List, [], ◌∷◌, ◌++◌, inl, inr, refl, sym, ap, ◌∙◌, subst, arith, length, length-set, map, get_or, Option, Some, None, slice_get, min, nat_lt, eqb-true, eq-eqb}
-use Rattle.std.specs.List.{AllByRecursion}
 use Rattle.std.proofs.Math.Path.{fun_ext}
-use Rattle.std.proofs.lemmas.Bool.{cases_Bool, cases_eq, ne_eqb, lt-ltb, ltb-true, false≢true}
+use Rattle.std.proofs.lemmas.Bool.{cases_eq, ne_eqb, lt-ltb, false≢true}
 use Rattle.std.proofs.lemmas.Bool.Decides.{nat_tests}
 use Rattle.std.proofs.lemmas.List.{length_push}
 use Rattle.sim_base.specs.Order.{msg_cmp}
@@ -17,12 +16,12 @@ use Rattle.clone_sets.specs.Sets.{has, one, with}
 use Rattle.clone_sets.specs.declared.set.CloneSet.{CloneSet}
 use Rattle.clone_sets.proofs.SetLaws.{has-one, has-with}
 use Rattle.net_model.specs.Net.{Net}
-use Rattle.stations.specs.Runs.{simulation, set_message, handled}
+use Rattle.stations.specs.Runs.{simulation, set_message}
 use Rattle.stations.proofs.GoodLaws.{lawful-stations}
 use Rattle.run_laws.specs.Handlers.{IsStation, AreForStations}
-use Rattle.run_laws.specs.Copies.{Stands, ends_of, IsGiven}
+use Rattle.run_laws.specs.Copies.{Stands, ends_of}
 use Rattle.run_laws.specs.Runs.{end_of}
-use Rattle.run_laws.proofs.Queue.{all_in, all_from}
+use Rattle.run_laws.proofs.Queue.{all_from}
 use Rattle.run_laws.proofs.Places.{set_cases, clone_push_same, clone_push_other}
 use Rattle.run_laws.proofs.Deciding.{stands_after_decision, stands_after_other_decision, stands_end, stands_fork}
 use Rattle.run_laws.proofs.HandledStays.{handled-added, handled-ended, handled-forked}
@@ -31,8 +30,8 @@ use Rattle.phys_proc.specs.Own.{StationCopy, given}
 use Rattle.phys_proc.specs.Procs.{ProcView}
 use Rattle.phys_proc.proofs.Given.{all_given}
 use Rattle.world_core.specs.Worlds.{StandsAt, WorldStands}
-use Rattle.world_core.specs.Windows.{AllDelivered, AreNumbered, IsDeliveredTo, sent_to, given_all}
-use Rattle.world_core.specs.Forking.{AllForked, HasForked, LivesAtAll, LivesNowhere}
+use Rattle.world_core.specs.Windows.{AllDelivered, AreNumbered, given_all}
+use Rattle.world_core.specs.Forking.{AllForked, LivesAtAll, LivesNowhere}
 use Rattle.world_core.proofs.Places.{at_got, there_at}
 
 pub are_numbered : (net : Net) (cs : List Clone) (ended : List (ℕ × ℕ)) (front : ℕ) (procs : List ProcView) → WorldStands net cs ended front procs → AreNumbered procs

@@ -1,19 +1,18 @@
 -- The world after a window.
 use Rattle.std.proofs.Common.{◌≡◌, ℕ, ◌+◌, ◌*◌, ◌<◌, ◌≤◌, List, sym, ap, ◌∙◌, subst, arith, length, [], map, slice_get, Some, unwrap_or, option_map}
-use Rattle.std.proofs.lemmas.Option.{slice_get_cases}
 use Rattle.std.proofs.lemmas.List.{length-map}
 use Rattle.sim_base.specs.Clones.{Clone}
 use Rattle.clone_sets.specs.Sets.{has}
 use Rattle.net_model.specs.Net.{Net}
-use Rattle.stations.specs.Runs.{simulation, handled}
+use Rattle.stations.specs.Runs.{simulation}
 use Rattle.run_laws.specs.Fronts.{next_front, least}
 use Rattle.run_laws.specs.Copies.{Stands, ends_of}
 use Rattle.run_laws.proofs.NextFronts.{window_end-within}
 use Rattle.phys_proc.specs.Gone.{ends_in}
-use Rattle.phys_proc.specs.Own.{StationCopy}
 use Rattle.phys_proc.specs.Procs.{ProcView}
 use Rattle.phys_proc.specs.declared.proc.Flow.{Flow}
-use Rattle.world_core.specs.Worlds.{StandsAt, WorldStands, total_handled}
+use Rattle.phys_proc.proofs.Gone.{ends_soon}
+use Rattle.world_core.specs.Worlds.{AreInNet, StandsAt, WorldStands, total_handled}
 use Rattle.world_core.specs.Windows.{MayStep, AllNumbered, AllFlow, AllDelivered, AreNumbered, NoneOver, done_at, all_sent, all_handled, after_window, given_all, sent_to}
 use Rattle.world_core.specs.Overs.{IsFirstOver, IsFirstBeyond, NoneBeyond}
 use Rattle.world_core.proofs.Places.{at_got, got_map, map_got}
@@ -31,6 +30,16 @@ stands_for_reader net shown_net cs shown front i p e f at =
 -- the stations of a world may step, each its own copies
 pub all_numbered : (net : Net) (cs : List Clone) (ended : List (ℕ × ℕ)) (front : ℕ) (procs : List ProcView) → WorldStands net cs ended front procs → AllNumbered net procs
 all_numbered net cs ended front procs world = λ i p got. let h = world.each i p got in record { proc = h.proc; number = h.number }
+
+-- the clones of a world are in its network
+pub clones_in_net : (net : Net) (cs : List Clone) (ended : List (ℕ × ℕ)) (front : ℕ) (procs : List ProcView) → WorldStands net cs ended front procs → AreInNet net cs
+clones_in_net net cs ended front procs world = record {
+  plans = world.for_stations;
+  ends = λ k l.
+      let same : ends_in net.horizon ended k ≡ ends_of (simulation net) cs k = ap (λ f. f k) world.ends in
+      let soon = ends_soon net.horizon ended k in
+      omega (arith, same, soon);
+}
 
 module _ (net : Net) (cs : List Clone) (ended : List (ℕ × ℕ)) (front bound : ℕ) (procs : List ProcView) (world : WorldStands net cs ended front procs) (later : front < bound) (within : bound ≤ next_front (simulation net) cs front) where
   early : bound ≤ net.horizon

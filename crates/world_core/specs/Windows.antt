@@ -1,7 +1,7 @@
 -- A window: each station is a task that steps its own copies, and then each gets what the others sent to it.
-use Rattle.std.specs.Prelude.{◌≡◌, ℕ, ◌+◌, ◌*◌, ◌<◌, ◌≤◌, ◌==◌, List, [], ◌∷◌, length, map, slice_get, unwrap_or, option_map, Some, sum_by}
+use Rattle.std.specs.Prelude.{◌≡◌, ℕ, ◌+◌, ◌≤◌, ◌==◌, List, [], ◌∷◌, length, map, slice_get, unwrap_or, option_map, Some, sum_by}
 use Rattle.std.specs.List.{filter, flat_map}
-use Rattle.clone_sets.specs.Sets.{has, empty, size}
+use Rattle.clone_sets.specs.Sets.{has, empty}
 use Rattle.net_model.specs.Net.{Net}
 use Rattle.net_model.specs.Rules.{IsNet}
 use Rattle.stations.specs.Runs.{simulation}
@@ -9,7 +9,6 @@ use Rattle.run_laws.specs.Copies.{IsStepped, AreOver, GainTogether}
 use Rattle.phys_proc.specs.Own.{StationCopy, Marked, given}
 use Rattle.phys_proc.specs.Procs.{ProcView, IsProc}
 use Rattle.phys_proc.specs.declared.proc.Flow.{Flow}
-use Rattle.world_core.specs.Worlds.{copies_at}
 
 -- what the tasks of a window share: the network, when clones end, and how far the window goes
 pub record WindowView : Type 0 where

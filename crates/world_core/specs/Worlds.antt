@@ -1,5 +1,5 @@
 -- A world: all clones at a front, and what its stations keep of them.
-use Rattle.std.specs.Prelude.{◌≡◌, ℕ, ◌+◌, ◌<◌, ◌≤◌, List, [], ◌∷◌, Bool, length, option_map, slice_get, unwrap_or, nat_lt, Some, sum_by}
+use Rattle.std.specs.Prelude.{◌≡◌, ℕ, ◌+◌, ◌<◌, ◌≤◌, List, [], length, option_map, slice_get, unwrap_or, nat_lt, Some}
 use Rattle.sim_base.specs.Clones.{Clone, clone_at}
 use Rattle.clone_sets.specs.Sets.{has}
 use Rattle.net_model.specs.Net.{Net}
@@ -8,6 +8,7 @@ use Rattle.stations.specs.Runs.{simulation, handled}
 use Rattle.run_laws.specs.Handlers.{AreForStations}
 use Rattle.run_laws.specs.SharedTexts.{station_sum}
 use Rattle.run_laws.specs.Copies.{Stands, ends_of}
+use Rattle.run_laws.specs.Runs.{end_of}
 use Rattle.phys_proc.specs.Gone.{ends_in}
 use Rattle.phys_proc.specs.Own.{StationCopy}
 use Rattle.phys_proc.specs.Procs.{ProcView, IsProc}
@@ -44,3 +45,8 @@ pub record WorldStands (net : Net) (cs : List Clone) (ended : List (ℕ × ℕ))
 -- the messages that the stations have handled once, up to a front
 abbrev pub total_handled : Net → List Clone → ℕ → ℕ
 total_handled net cs front = station_sum (λ s. handled net cs s front) (length net.sites)
+
+-- clones whose decisions are for stations, and which end at the horizon at the latest
+pub record AreInNet (net : Net) (cs : List Clone) : Type 0 where
+  pub plans : (k : ℕ) → k < length cs → AreForStations (simulation net) (clone_at cs k).plans
+  pub ends : (k : ℕ) → k < length cs → end_of (simulation net) (clone_at cs k) ≤ net.horizon

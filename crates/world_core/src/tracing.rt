@@ -5,7 +5,7 @@ ghost use Rattle.sim_base.specs.Clones.{clone_at};
 ghost use Rattle.clone_sets.specs.Sets.{has};
 ghost use Rattle.stations.specs.Runs.{simulation};
 ghost use Rattle.run_laws.specs.Merges.{merge};
-ghost use Rattle.run_laws.specs.Runs.{run_of};
+ghost use Rattle.run_laws.specs.Runs.{run_of, log_at};
 ghost use Rattle.world_core.specs.Tracing.{by_key, HasLog};
 
 use crate::world::World;
@@ -70,6 +70,21 @@ fn log_of(copies: &[PhysCopy], c: u32) -> Option<&Log>
 }
 
 impl World {
+    /// The log of a clone at a station, up to the front: that of the copy which stands for the clone there. It takes
+    /// no memory.
+    pub fn log(&self, who: u32, station: u32) -> &Log
+        requires there { who < length self.now.clones }
+        requires low { 1 ≤ station }
+        requires high { station ≤ length self.now.net.sites }
+        ensures value { result.now ≡ log_at (simulation self.now.net) (clone_at self.now.clones who) station self.now.front }
+        ensures short { length result.now ≤ self.now.net.limit }
+    {
+        match log_of(self.procs[station as usize - 1].copies(), who) {
+            Some(log) => log,
+            None => unreachable!(),
+        }
+    }
+
     /// The trace of a clone up to the front: the logs of its stations, merged by time, sender and number.
     pub fn trace(&self, alloc: Global, who: u32) -> Result<Vec<Entry>, NoMemory>
         requires there { who < length self.now.clones }

@@ -3,7 +3,7 @@ ghost use Rattle.std.specs.Prelude.{◌≡◌, ℕ, ◌+◌, ◌<◌, ◌≤◌,
 ghost use Rattle.sim_base.specs.Clones.{base};
 ghost use Rattle.net_model.specs.Rules.{IsNet};
 ghost use Rattle.stations.specs.Runs.{next_front};
-ghost use Rattle.world_core.specs.Worlds.{total_handled};
+ghost use Rattle.world_core.specs.Worlds.{AreInNet, total_handled};
 ghost use Rattle.world_core.specs.Windows.{NoneOver};
 ghost use Rattle.world_core.specs.Opening.{AreFirst};
 ghost use Rattle.world_core.specs.Overs.{IsFault, IsFirstOver, NoneBeyond};
@@ -92,9 +92,19 @@ impl World {
         self.front
     }
 
+    /// The model.
+    pub fn model(&self) -> &Model
+        ensures value { result.now ≡ self.now.net }
+    {
+        &self.model
+    }
+
     /// The clones with their decisions and ends.
     pub fn lists(&self) -> &Lists
         ensures clones { result.now.clones ≡ self.now.clones }
+        ensures few { length self.now.clones ≤ 256 }
+        ensures in_net { AreInNet self.now.net self.now.clones }
+        ensures short { NoneBeyond self.now.net self.now.clones self.now.front }
     {
         self.lists.lists()
     }

@@ -1,4 +1,4 @@
-use Rattle.std.proofs.Common.{◌≡◌, ◌+◌, ◌<◌, ◌≤◌, ◌∷◌, ◌++◌, [], arith, ap, sym, ◌∙◌, subst, length, take}
+use Rattle.std.proofs.Common.{◌∷◌, [], arith, sym, subst, take}
 use Rattle.std.proofs.lemmas.List.{take_all}
 use Rattle.world_core.specs.Windows.{AllDelivered}
 use Rattle.world_core.proofs.Places.{take_next}

@@ -1,5 +1,4 @@
-use Rattle.std.proofs.Common.{◌≡◌, ◌+◌, ◌-◌, ◌<◌, ◌≤◌, arith, ap, sym, ◌∙◌, subst, length}
-use Rattle.phys_proc.specs.Procs.{ProcView}
+use Rattle.std.proofs.Common.{◌-◌, arith}
 use Rattle.world_core.proofs.Delivering.{to_none, to_one}
 use Rattle.world_core.proofs.delivery.deliver_to.Goals.{else-msg-ge1-via-then-msg-ge1+else-msg-len, else-msg-ge1-via-else-msg-ge1}
 use Rattle.world_core.proofs.delivery.deliver_to.Goals as goal

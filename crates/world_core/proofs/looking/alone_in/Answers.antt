@@ -1,8 +1,7 @@
-use Rattle.std.proofs.Common.{◌≡◌, ◌+◌, ◌*◌, ◌<◌, ◌≤◌, arith, ap, ap₂, sym, ◌∙◌, subst, length, take}
-use Rattle.std.proofs.Math.Nat.{mul-le-mul_right}
+use Rattle.std.proofs.Common.{◌≡◌, ◌+◌, ◌*◌, arith, ap, ap₂, sym, ◌∙◌, length, take}
 use Rattle.std.proofs.lemmas.List.{take_all}
 use Rattle.clone_sets.specs.Sets.{size}
-use Rattle.phys_proc.specs.Own.{handled_alone, all_sizes}
+use Rattle.phys_proc.specs.Own.{handled_alone}
 use Rattle.world_core.proofs.Places.{take_next}
 use Rattle.world_core.proofs.DueTimes.{alone_next, alone_within}
 use Rattle.world_core.proofs.looking.alone_in.Goals as goal

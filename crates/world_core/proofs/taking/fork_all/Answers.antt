@@ -1,4 +1,4 @@
-use Rattle.std.proofs.Common.{◌≡◌, ◌+◌, ◌<◌, ◌≤◌, arith, ap, sym, ◌∙◌, subst, length}
+use Rattle.std.proofs.Common.{◌<◌, arith, length}
 use Rattle.world_core.proofs.Forks.{forked_next, forked_all, still}
 use Rattle.world_core.proofs.taking.fork_all.Goals as goal
 

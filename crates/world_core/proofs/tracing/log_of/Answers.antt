@@ -1,4 +1,4 @@
-use Rattle.std.proofs.Common.{◌≡◌, ◌<◌, sym, ap, ◌∙◌, subst, arith, true}
+use Rattle.std.proofs.Common.{sym, ap, ◌∙◌}
 use Rattle.clone_sets.specs.Sets.{has}
 use Rattle.world_core.proofs.Places.{in_place}
 use Rattle.world_core.proofs.tracing.log_of.Goals as goal

@@ -1,6 +1,5 @@
-use Rattle.std.proofs.Common.{◌≡◌, ◌++◌, ◌-◌, ◌<◌, ◌≤◌, sym, ap, ap₂, ◌∙◌, subst, arith, length, drop, take, length-drop}
+use Rattle.std.proofs.Common.{◌≡◌, ◌++◌, ◌-◌, ap, ap₂, ◌∙◌, arith, length, drop, take, length-drop}
 use Rattle.std.proofs.lemmas.List.{take_all}
-use Rattle.run_laws.specs.Merges.{merge}
 use Rattle.world_core.specs.Tracing.{by_key}
 use Rattle.world_core.proofs.Merging.{first_left, second_left}
 use Rattle.world_core.proofs.tracing.merged.Goals.{then-loop-i-test+else-j-ys, else-loop-i-test}

@@ -1,5 +1,4 @@
-use Rattle.std.proofs.Common.{◌≡◌, ◌∷◌, [], sym, ◌∙◌, subst, arith, length-append}
-use Rattle.stations.specs.Runs.{simulation}
+use Rattle.std.proofs.Common.{◌∷◌, [], arith, length-append}
 use Rattle.world_core.proofs.Opening.{first_push}
 use Rattle.world_core.proofs.world.open_all.Goals as goal
 

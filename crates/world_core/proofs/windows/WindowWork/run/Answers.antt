@@ -1,4 +1,4 @@
-use Rattle.std.proofs.Common.{subst, ◌∙◌}
+use Rattle.std.proofs.Common.{subst}
 use Rattle.phys_proc.specs.Gone.{ends_in}
 use Rattle.world_core.specs.Windows.{WindowView, IsFlow}
 use Rattle.world_core.proofs.Flows.{is_flow}

@@ -1,11 +1,11 @@
-use Rattle.std.proofs.Common.{◌≡◌, ◌<◌, ◌≤◌, Some, None, sym, ap, ◌∙◌, subst, arith, length}
-use Rattle.sim_base.specs.Clones.{Clone, ListsView, clone_at, place_of}
+use Rattle.std.proofs.Common.{◌≡◌, None, sym, ap, ◌∙◌, subst}
+use Rattle.sim_base.specs.Clones.{ListsView, place_of}
 use Rattle.sim_base.specs.Decisions.{subject}
 use Rattle.decision_book.specs.declared.call.Reply.TheVariants.{Accepted}
 use Rattle.decision_book.specs.Replies.{first_row, rows}
 use Rattle.world_core.specs.Worlds.{WorldView}
 use Rattle.world_core.specs.Taking.{situation}
-use Rattle.world_core.proofs.Accepted.{is_open, may_fork, may_set, may_end, no_place}
+use Rattle.world_core.proofs.Accepted.{is_open, may_set, no_place}
 use Rattle.world_core.proofs.world.World.decided.Goals as goal
 
 pub unreachable-requires : goal.unreachable-requires

@@ -1,4 +1,4 @@
-use Rattle.std.proofs.Common.{◌≡◌, ◌+◌, ◌-◌, ◌<◌, ◌≤◌, sym, ap, ◌∙◌, subst, arith, length}
+use Rattle.std.proofs.Common.{◌≡◌, ◌-◌, ◌≤◌, sym, ap, ◌∙◌, subst, arith, length}
 use Rattle.std.specs.List.{AllByRecursion}
 use Rattle.stations.specs.Runs.{copies, handled, alone}
 use Rattle.phys_proc.specs.Own.{StationCopy, all_sizes, handled_alone}

@@ -1,7 +1,7 @@
 use Rattle.std.proofs.Common.{◌≡◌, ◌<◌, None, sym, ap, ◌∙◌, subst, length}
 use Rattle.sim_base.specs.Clones.{ListsView, clone_at}
 use Rattle.world_core.specs.Worlds.{WorldView, WorldStands}
-use Rattle.world_core.specs.Forking.{AllForked, LivesAtAll, LivesNowhere}
+use Rattle.world_core.specs.Forking.{AllForked, LivesNowhere}
 use Rattle.world_core.proofs.Taken.{world_forked, lives, lives_not}
 use Rattle.world_core.proofs.world.World.forked.Goals as goal
 

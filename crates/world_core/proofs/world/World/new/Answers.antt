@@ -1,9 +1,7 @@
-use Rattle.std.proofs.Common.{◌∷◌, ◌≡◌, [], sym, subst, length}
+use Rattle.std.proofs.Common.{◌∷◌, [], sym, subst}
 use Rattle.sim_base.specs.Clones.{base}
 use Rattle.net_model.specs.Net.{Net}
-use Rattle.net_model.specs.Rules.{IsNet}
 use Rattle.world_core.specs.Worlds.{WorldStands}
-use Rattle.world_core.specs.Opening.{AreFirst}
 use Rattle.world_core.proofs.Opening.{world_begins}
 use Rattle.world_core.proofs.world.World.new.Goals as goal
 

@@ -1,4 +1,4 @@
-use Rattle.std.proofs.Common.{◌≡◌, ◌+◌, ◌-◌, ◌<◌, ◌≤◌, sym, ap, ◌∙◌, subst, arith, length}
+use Rattle.std.proofs.Common.{◌-◌, ◌≤◌, sym, subst, arith, length}
 use Rattle.world_core.specs.Worlds.{WorldView}
 use Rattle.world_core.proofs.Places.{got_at}
 use Rattle.world_core.proofs.Worlds.{stands_for_reader}

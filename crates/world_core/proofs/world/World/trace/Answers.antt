@@ -1,4 +1,4 @@
-use Rattle.std.proofs.Common.{◌≡◌, ◌+◌, ◌<◌, ◌≤◌, ◌∷◌, sym, ap, ap₂, ◌∙◌, subst, arith, length, false, List}
+use Rattle.std.proofs.Common.{◌≡◌, ◌<◌, sym, ap₂, ◌∙◌, subst, arith, length, false, List}
 use Rattle.std.specs.List.{AllByRecursion}
 use Rattle.sim_base.specs.Clones.{clone_at}
 use Rattle.clone_sets.specs.Sets.{has}

@@ -4,7 +4,7 @@ use Rattle.stations.specs.Runs.{next_front}
 use Rattle.phys_proc.specs.Gone.{ends_in}
 use Rattle.phys_proc.specs.declared.proc.Flow.{Flow}
 use Rattle.world_core.specs.Worlds.{WorldView, total_handled}
-use Rattle.world_core.specs.Windows.{AllFlow, NoneOver, all_handled}
+use Rattle.world_core.specs.Windows.{AllFlow, NoneOver}
 use Rattle.world_core.specs.Overs.{IsFirstBeyond, IsFirstOver, NoneBeyond}
 use Rattle.world_core.proofs.Worlds.{first_beyond_is, few_are, done_numbered, none_are_beyond, steps_sum, world_after}
 use Rattle.world_core.proofs.world.World.window.Goals as goal

@@ -1,4 +1,4 @@
-use Rattle.std.proofs.Common.{◌≡◌, ◌<◌, ◌≤◌, None, sym, ap, ◌∙◌, subst, length}
+use Rattle.std.proofs.Common.{◌≡◌, ◌<◌, ◌≤◌, None, sym, subst, length}
 use Rattle.sim_base.specs.Clones.{clone_at}
 use Rattle.world_core.specs.Worlds.{WorldView, WorldStands}
 use Rattle.world_core.proofs.Taken.{world_ended}

@@ -1,0 +1,129 @@
+-- How many bytes of the text before stay, by the lengths of what follows.
+use Rattle.std.proofs.Common.{◌≡◌, ℕ, suc, subst, ◌+◌, ◌-◌, ◌<◌, ◌≤◌, sym, ◌∙◌, ap, arith, List, ◌++◌, not, nat_lt, Bool, true, length, take, length-append}
+use Rattle.std.specs.List.{flat_map}
+use Rattle.std.proofs.lemmas.Grind.{flat_map-append, common_steps}
+use Rattle.std.proofs.lemmas.Bool.{le-ltb}
+use Rattle.sim_base.specs.Clones.{Clone, clone_at}
+use Rattle.sim_base.specs.declared.entry.Entry.{Entry}
+use Rattle.sim_base.specs.declared.entry.Line.{Line}
+use Rattle.sim_base.specs.declared.message.Msg.{Msg}
+use Rattle.net_model.specs.Net.{Net}
+use Rattle.net_model.specs.Rules.{IsNet}
+use Rattle.run_laws.specs.Runs.{end_of}
+use Rattle.run_laws.specs.Laws.{before}
+use Rattle.run_laws.specs.Handlers.{AreForStations, HandlesLawfully, SendsToStations, HandlesFreshly}
+use Rattle.run_laws.specs.SharedTexts.{from_on, shared_to}
+use Rattle.run_laws.proofs.Queue.{all_from}
+use Rattle.run_laws.proofs.Lists.{filter_all}
+use Rattle.run_laws.proofs.SharedTextsAgreeing.{agree_to_parting}
+use Rattle.run_laws.proofs.SharedTextsWeighing.{trace_split, lines_agree}
+use Rattle.stations.specs.Runs.{simulation, trace_of}
+use Rattle.stations.specs.Good.{IsGood, sender_of, number_of, next_number}
+use Rattle.stations.proofs.GoodLaws.{lawful-stations, stations-to_stations, fresh-stations}
+use Rattle.trace_report.specs.TraceText.{entry_line}
+use Rattle.rolling_text.specs.Sharing.{same_plan}
+use Rattle.rolling_text.specs.Texts.{body, body_before, rest, shared_at, IsJoined}
+use Rattle.world_core.specs.Worlds.{AreInNet}
+use Rattle.rolling_text.proofs.SamePlans.{tells_plans}
+
+-- all lines come at 0 or later
+pub rest_from_0 : (net : Net) (c : Clone) → rest net c 0 ≡ body net c
+unfolding rest body
+rest_from_0 net c =
+    let late : Entry Msg Line → Bool = λ e. not (nat_lt e.msg.key.time 0) in
+    ap (flat_map (entry_line net)) (filter_all late (trace_of net c)
+    (all_from (λ (e : Entry Msg Line). late e ≡ true) (trace_of net c) (λ e i. ap not (le-ltb e.msg.key.time 0 (omega arith)))))
+
+-- ---- two clones that are in a network, of which the second is made of the first
+
+module _ (net : Net) (valid : IsNet net) (c d : Clone)
+    (c_ends : end_of (simulation net) c ≤ net.horizon) (d_ends : end_of (simulation net) d ≤ net.horizon)
+    (c_there : AreForStations (simulation net) c.plans) (d_there : AreForStations (simulation net) d.plans) where
+  abbrev law : HandlesLawfully (simulation net) (IsGood net)
+  law = lawful-stations net valid
+
+  abbrev stations : SendsToStations (simulation net) (IsGood net)
+  stations = stations-to_stations net valid
+
+  abbrev fresh : HandlesFreshly (simulation net) (IsGood net) sender_of number_of next_number
+  fresh = fresh-stations net valid
+
+  abbrev shared : ℕ
+  shared = shared_to (simulation net) same_plan c d
+
+  -- the lines that they share
+  abbrev kept : List ℕ
+  kept = flat_map (entry_line net) (before (simulation net) shared (trace_of net d))
+
+  -- the lines of the first are those, and its rest
+  lines_before : body net c ≡ kept ++ rest net c shared
+  unfolding rest body
+  lines_before =
+      ap (flat_map (entry_line net)) (trace_split law stations fresh c shared c_there)
+      ∙ flat_map-append (entry_line net) (before (simulation net) shared (trace_of net c)) (from_on (simulation net) shared (trace_of net c))
+      ∙ ap (λ l. flat_map (entry_line net) l ++ flat_map (entry_line net) (from_on (simulation net) shared (trace_of net c)))
+      (agree_to_parting law same_plan c d (tells_plans net) c_ends d_ends)
+
+  -- so many bytes of the first, and the second's rest, are the lines of the second
+  lines_after : body net d ≡ take (length kept) (body net c) ++ rest net d shared
+  unfolding rest body
+  lines_after = lines_agree law stations fresh same_plan c d (entry_line net) (tells_plans net) c_ends d_ends c_there d_there
+
+  -- where the first's rest is taken off its length, the bytes that both share are left
+  pub kept_bytes : (bytes : ℕ) → bytes + length (rest net c shared) ≡ length (body net c) →
+      (bytes ≤ length (body net c)) × (body net d ≡ take bytes (body net c) ++ rest net d shared)
+  kept_bytes bytes e =
+      let a = ap length lines_before in
+      let b = length-append kept (rest net c shared) in
+      let s : length kept ≡ bytes = omega (arith, a, b, e) in
+      (omega (arith, e), lines_after ∙ ap (λ n. take n (body net c) ++ rest net d shared) s)
+
+  -- the rest is no longer than all
+  pub rest_short : length (rest net c shared) ≤ length (body net c)
+  rest_short = let a = ap length lines_before in let b = length-append kept (rest net c shared) in omega (arith, a, b)
+
+-- ---- the first clone keeps nothing
+
+pub first_joined : (net : Net) (cs : List Clone) (c : ℕ) → c ≡ 0 → IsJoined net cs c (record { bytes = 0; time = 0 })
+first_joined net cs c e = subst (λ k. IsJoined net cs k (record { bytes = 0; time = 0 })) (sym e)
+    (record { within = omega arith; joins = sym (rest_from_0 net (clone_at cs 0)) })
+
+pub first_len : (net : Net) (cs : List Clone) (c n : ℕ) → c ≡ 0 → n ≡ length (rest net (clone_at cs 0) 0) → n ≡ length (body net (clone_at cs c))
+first_len net cs c n e h = h ∙ ap length (rest_from_0 net (clone_at cs 0)) ∙ ap (λ k. length (body net (clone_at cs k))) (sym e)
+
+-- ---- every other keeps what it shares with the one before it
+
+module _ (net : Net) (valid : IsNet net) (cs : List Clone) (in_net : AreInNet net cs) (c : ℕ) (some : 1 ≤ c) (there : c < length cs) where
+  abbrev old : Clone
+  old = clone_at cs (c - 1)
+
+  abbrev time : ℕ
+  time = shared_at net cs c
+
+  before_is : body_before net cs c ≡ body net old
+  before_is = let e : c ≡ suc (c - 1) = omega arith in ap (body_before net cs) e
+
+  there_old : c - 1 < length cs
+  there_old = omega (arith, there)
+
+  -- what is taken off the length of the lines before is within it
+  pub next_fits : length (rest net old time) ≤ length (body_before net cs c)
+  next_fits =
+      let a = rest_short net valid old (clone_at cs c) (in_net.ends (c - 1) there_old) (in_net.ends c there) (in_net.plans (c - 1) there_old) (in_net.plans c there) in
+      let b = ap length before_is in
+      omega (arith, a, b)
+
+  pub next_joined : (bytes : ℕ) → bytes + length (rest net old time) ≡ length (body_before net cs c) → IsJoined net cs c (record { bytes = bytes; time = time })
+  next_joined bytes e =
+      let h = kept_bytes net valid old (clone_at cs c) (in_net.ends (c - 1) there_old) (in_net.ends c there) (in_net.plans (c - 1) there_old) (in_net.plans c there) bytes (e ∙ ap length before_is) in
+      let w = h.0 in let l = ap length before_is in
+      record { within = omega (arith, w, l); joins = h.1 ∙ ap (λ b. take bytes b ++ rest net (clone_at cs c) time) (sym before_is) }
+
+  pub next_len : (bytes n : ℕ) → bytes + length (rest net old time) ≡ length (body_before net cs c) →
+      n ≡ bytes + length (rest net (clone_at cs c) time) → n ≡ length (body net (clone_at cs c))
+  next_len bytes n e f =
+      let j = next_joined bytes e in
+      let a = ap length j.joins in
+      let b = length-append (take bytes (body_before net cs c)) (rest net (clone_at cs c) time) in
+      let d : length (take bytes (body_before net cs c)) ≡ bytes = let w = j.within in grind (arith, common_steps, w) in
+      omega (arith, a, b, d, f)

@@ -1,0 +1,12 @@
+pub mod Over
+pub mod SamePlans
+pub mod Joined
+pub mod Heads
+pub mod Pieces
+pub mod Calls
+pub mod Puts
+pub mod Partings
+pub mod Logs
+pub mod ShortLists
+pub mod Keeping
+pub mod Planned

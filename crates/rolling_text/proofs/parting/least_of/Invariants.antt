@@ -1,0 +1,7 @@
+use Rattle.std.proofs.Common.{◌≡◌, [], drop}
+use Rattle.run_laws.specs.SharedTexts.{parting}
+use Rattle.rolling_text.specs.Sharing.{same_plan}
+use Rattle.rolling_text.proofs.parting.least_of.Given as goal
+
+abbrev pub invariant-loop-plan : goal.invariant-loop-plan
+invariant-loop-plan l = parting same_plan l.least (drop l.plan-index l.plans) [] ≡ parting same_plan l.most l.plans []

@@ -1,0 +1,5 @@
+pub mod Sharing
+pub mod Pages
+pub mod Texts
+pub mod Counting
+pub mod WorldTraces

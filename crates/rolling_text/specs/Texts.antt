@@ -1,0 +1,53 @@
+-- The texts of clones, each made of the one before it.
+use Rattle.std.specs.Prelude.{◌≡◌, ℕ, zero, suc, ◌+◌, ◌-◌, ◌≤◌, List, [], ◌++◌, length, take, slice_get, Some}
+use Rattle.std.specs.List.{flat_map}
+use Rattle.sim_base.specs.Clones.{Clone, clone_at}
+use Rattle.net_model.specs.Net.{Net}
+use Rattle.run_laws.specs.SharedTexts.{from_on, shared_to}
+use Rattle.stations.specs.Runs.{simulation, trace_of}
+use Rattle.trace_report.specs.TraceText.{entry_line}
+use Rattle.rolling_text.specs.Sharing.{same_plan}
+use Rattle.rolling_text.specs.declared.texts.Keep.{Keep}
+use Rattle.rolling_text.specs.declared.texts.Texts.{Texts}
+
+-- the lines of a clone
+unfoldable pub body : Net → Clone → List ℕ
+body net c = flat_map (entry_line net) (trace_of net c)
+
+-- those from a time on
+unfoldable pub rest : Net → Clone → ℕ → List ℕ
+rest net c t = flat_map (entry_line net) (from_on (simulation net) t (trace_of net c))
+
+-- the lines of the clone before this one
+abbrev pub body_before : Net → List Clone → ℕ → List ℕ
+body_before net cs zero = []
+body_before net cs (suc c) = body net (clone_at cs c)
+
+-- the time before which a clone and the one before it have one trace
+abbrev pub shared_at : Net → List Clone → ℕ → ℕ
+shared_at net cs c = shared_to (simulation net) same_plan (clone_at cs (c - 1)) (clone_at cs c)
+
+-- so many bytes of the clone before are kept, and then come the lines from a time on
+pub record IsJoined (net : Net) (cs : List Clone) (c : ℕ) (k : Keep) : Type 0 where
+  pub within : k.bytes ≤ length (body_before net cs c)
+  pub joins : body net (clone_at cs c) ≡ take k.bytes (body_before net cs c) ++ rest net (clone_at cs c) k.time
+
+-- and there is room for them, with 32 bytes before and 256 behind
+pub record IsKept (net : Net) (cs : List Clone) (room c : ℕ) (k : Keep) : Type 0 where
+  pub within : k.bytes ≤ length (body_before net cs c)
+  pub joins : body net (clone_at cs c) ≡ take k.bytes (body_before net cs c) ++ rest net (clone_at cs c) k.time
+  pub fits : 32 + length (body net (clone_at cs c)) + 256 ≤ room
+
+-- what is kept for each of the first n clones
+pub record ArePlannedTo (net : Net) (cs : List Clone) (n room : ℕ) (ks : List Keep) : Type 0 where
+  pub many : length ks ≡ n
+  pub each : (c : ℕ) (k : Keep) → slice_get ks c ≡ Some k → IsKept net cs room c k
+
+-- and for all
+abbrev pub ArePlanned : Net → List Clone → ℕ → List Keep → Type 0
+ArePlanned net cs room ks = ArePlannedTo net cs (length cs) room ks
+
+-- all that the texts of these clones need is there: what each keeps, and a buffer with room for the longest
+pub record IsReady (net : Net) (cs : List Clone) (texts : Texts) : Type 0 where
+  pub planned : ArePlanned net cs texts.page.room texts.keeps.items
+  pub margin : length texts.page.text ≡ 32

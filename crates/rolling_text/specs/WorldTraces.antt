@@ -1,0 +1,33 @@
+-- The traces of the clones of a world.
+use Rattle.std.specs.Prelude.{◌≡◌, ℕ, ◌^◌, ◌<◌, ◌≤◌, List, length}
+use Rattle.sim_base.specs.Clones.{Clone, clone_at}
+use Rattle.net_model.specs.Net.{Net}
+use Rattle.net_model.specs.Rules.{IsNet}
+use Rattle.trace_report.specs.Slots.{AreNames}
+use Rattle.trace_report.specs.declared.names.Slot.{Slot}
+use Rattle.world_core.specs.Overs.{NoneBeyond}
+use Rattle.world_core.specs.Worlds.{AreInNet, WorldView}
+
+-- what contracts see of them: the network, and the clones with their decisions and ends
+pub record TracesView : Type 0 where
+  pub net : Net
+  pub clones : List Clone
+
+-- each clone has at most 2^21 decisions, so that their numbers fit a word
+abbrev pub AreShort : List Clone → Type 0
+AreShort cs = (k : ℕ) → k < length cs → length (clone_at cs k).plans ≤ 2 ^ 21
+
+-- a world at the horizon
+pub record IsOver (world : WorldView) : Type 0 where
+  pub valid : IsNet world.net
+  pub in_net : AreInNet world.net world.clones
+  pub few : length world.clones ≤ 256
+  pub done : world.front ≡ world.net.horizon
+  pub within : NoneBeyond world.net world.clones world.front
+  pub short : AreShort world.clones
+
+-- and what its lines are made with: the stations' names, and place for their logs
+pub record MayTrace (world : WorldView) (names : List Slot) (most : ℕ) : Type 0 where
+  pub over : IsOver world
+  pub names_are : AreNames world.net names
+  pub place : most ≡ length world.net.sites

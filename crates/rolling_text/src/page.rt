@@ -1,0 +1,93 @@
+//! A buffer that is taken once, and written forward.
+ghost use Rattle.std.specs.Prelude.{◌≡◌, ◌+◌, ◌<◌, ◌≤◌, ◌++◌, length, take, drop, IfOk};
+ghost use Rattle.sim_base.specs.Clones.{clone_at};
+ghost use Rattle.rolling_text.specs.Texts.{rest};
+
+use crate::traces::Traces;
+use sim_base::NoMemory;
+use std::alloc::Global;
+use std::marker::Model;
+
+/// Text in a buffer that never grows.
+#[derive(Drop)]
+pub struct Page {
+    bytes: Vec<u8>,
+    len: usize,
+}
+
+impl Model for Page {
+    ghost use Rattle.std.specs.Prelude.{◌≤◌, length, take};
+    ghost use Rattle.rolling_text.specs.Pages.{PageView};
+
+    ghost Value = { PageView };
+
+    ghost view = { λ p. record { text = take p.len p.bytes.items; room = length p.bytes.items } };
+
+    ghost invariant = { λ p. p.len ≤ length p.bytes.items };
+}
+
+impl Page {
+    /// A text of so many bytes, the first of so many.
+    pub fn new(alloc: Global, text: usize, room: usize) -> Result<Page, NoMemory>
+        requires within { text ≤ room }
+        ensures text { IfOk result (λ p. length p.text ≡ text) }
+        ensures room { IfOk result (λ p. p.room ≡ room) }
+    {
+        let bytes = vec![in alloc; b' '; room]?;
+        Ok(Page { bytes, len: text })
+    }
+
+    /// How long the text is.
+    pub fn len(&self) -> usize
+        ensures value { result ≡ length self.now.text }
+    {
+        self.len
+    }
+
+    /// Keeps the first bytes.
+    pub fn cut(&mut self, keep: usize)
+        requires within { keep ≤ length self.old.text }
+        ensures text { self.new.text ≡ take keep self.old.text }
+        ensures room { self.new.room ≡ self.old.room }
+    {
+        self.len = keep;
+    }
+
+    /// Writes bytes over some of the text.
+    #[tactic(auto, using(crate::proofs::Over::over))]
+    pub fn put_at(&mut self, at: usize, piece: &[u8])
+        requires within { at + length piece.now ≤ length self.old.text }
+        ensures text { self.new.text ≡ take at self.old.text ++ (piece.now ++ drop (at + length piece.now) self.old.text) }
+        ensures room { self.new.room ≡ self.old.room }
+    {
+        overwrite(&mut self.bytes, at, piece);
+    }
+
+    /// Writes the lines of a clone from a time on behind the text.
+    pub fn put_rest<T: Traces>(&mut self, traces: &mut T, c: u32, time: u64)
+        requires there { c < length (T.clones traces.old) }
+        requires room { length self.old.text + length (rest (T.net traces.old) (clone_at (T.clones traces.old) c) time) + 256 ≤ self.old.room }
+        ensures text { self.new.text ≡ self.old.text ++ rest (T.net traces.old) (clone_at (T.clones traces.old) c) time }
+        ensures room { self.new.room ≡ self.old.room }
+        ensures net { T.net traces.new ≡ T.net traces.old }
+        ensures clones { T.clones traces.new ≡ T.clones traces.old }
+    {
+        self.len = traces.write_rest(c, time, &mut self.bytes, self.len);
+    }
+
+    /// The text.
+    pub fn as_bytes(&self) -> &[u8]
+        ensures value { result.now ≡ self.now.text }
+    {
+        &self.bytes[..self.len]
+    }
+}
+
+fn overwrite(bytes: &mut [u8], at: usize, piece: &[u8])
+    requires within { at + length piece.now ≤ length bytes.old }
+    ensures value { bytes.new ≡ take at bytes.old ++ (piece.now ++ drop (at + length piece.now) bytes.old) }
+    ensures size { length bytes.new ≡ length bytes.old }
+{
+    let end = at + piece.len();
+    bytes[at..end].copy_from_slice(piece);
+}

@@ -1,0 +1,55 @@
+use Rattle.std.proofs.Common.{◌≡◌, ◌+◌, ◌-◌, ◌<◌, ◌≤◌, sym, ap, ◌∙◌, subst, arith, length, false, List}
+use Rattle.std.specs.List.{AllByRecursion}
+use Rattle.sim_base.specs.Clones.{clone_at}
+use Rattle.clone_sets.specs.Sets.{has}
+use Rattle.stations.specs.Runs.{simulation}
+use Rattle.run_laws.specs.Runs.{log_at}
+use Rattle.phys_proc.specs.Own.{StationCopy}
+use Rattle.world_core.specs.Worlds.{WorldView}
+use Rattle.world_core.specs.Tracing.{HasLog}
+use Rattle.world_core.proofs.Places.{got_at}
+use Rattle.world_core.proofs.Merging.{has_a_copy, log_is, log_short}
+use Rattle.world_core.proofs.world.World.log.Goals as goal
+
+pub unreachable-requires : goal.unreachable-requires
+unreachable-requires c =
+    let w = c.self.inside in
+    let procs = w.procs.items in
+    let i = c.args.station - 1 in
+    let p = c.index.result.now in
+    let there = subst (λ (w : WorldView). c.args.who < length w.clones) (sym c.self.view_is) c.requires.there in
+    let high = subst (λ (w : WorldView). c.args.station ≤ length w.net.sites) (sym c.self.view_is) c.requires.high in
+    let many = c.self.invariant.count in
+    let got = got_at procs i p (omega (arith, c.requires.low, high, many)) c.index.ensures in
+    has_a_copy w.model.value w.lists.clones w.ends w.front procs c.self.invariant c.args.who there i p got
+    (subst (AllByRecursion (λ (a : StationCopy). has a.set c.args.who ≡ false)) c.copies.ensures.value c.in-None.ensures.none)
+
+pub returns-clause-value : goal.returns-clause-value
+returns-clause-value c =
+    let w = c.self.inside in
+    let procs = w.procs.items in
+    let i = c.args.station - 1 in
+    let p = c.index.result.now in
+    let there = subst (λ (w : WorldView). c.args.who < length w.clones) (sym c.self.view_is) c.requires.there in
+    let high = subst (λ (w : WorldView). c.args.station ≤ length w.net.sites) (sym c.self.view_is) c.requires.high in
+    let many = c.self.invariant.count in
+    let got = got_at procs i p (omega (arith, c.requires.low, high, many)) c.index.ensures in
+    let has_log = subst (λ (k : List StationCopy). HasLog k c.args.who c.in-Some.log.now) c.copies.ensures.value c.in-Some.ensures.some in
+    let same : i + 1 ≡ c.args.station = omega (arith, c.requires.low) in
+    subst (λ (w : WorldView). c.in-Some.log.now ≡ log_at (simulation w.net) (clone_at w.clones c.args.who) c.args.station w.front) c.self.view_is
+    (log_is w.model.value w.lists.clones w.ends w.front procs c.self.invariant c.args.who there i p c.in-Some.log.now got has_log
+    ∙ ap (λ s. log_at (simulation w.model.value) (clone_at w.lists.clones c.args.who) s w.front) same)
+
+pub returns-clause-short : goal.returns-clause-short
+returns-clause-short c =
+    let w = c.self.inside in
+    let procs = w.procs.items in
+    let i = c.args.station - 1 in
+    let p = c.index.result.now in
+    let there = subst (λ (w : WorldView). c.args.who < length w.clones) (sym c.self.view_is) c.requires.there in
+    let high = subst (λ (w : WorldView). c.args.station ≤ length w.net.sites) (sym c.self.view_is) c.requires.high in
+    let many = c.self.invariant.count in
+    let got = got_at procs i p (omega (arith, c.requires.low, high, many)) c.index.ensures in
+    let has_log = subst (λ (k : List StationCopy). HasLog k c.args.who c.in-Some.log.now) c.copies.ensures.value c.in-Some.ensures.some in
+    subst (λ (w : WorldView). length c.in-Some.log.now ≤ w.net.limit) c.self.view_is
+    (log_short w.model.value w.lists.clones w.ends w.front procs c.self.invariant c.args.who there i p c.in-Some.log.now got has_log)
