@@ -1,6 +1,5 @@
 -- The first log of a trace that is full, and the lengths of all.
 use Rattle.std.proofs.Common.{◌≡◌, inl, inr, ℕ, ◌<◌, ◌≤◌, ◌==◌, cond, refl, ap, sym, subst, ◌∙◌, List, [], ◌∷◌, ◌++◌, length, length-append, append-nil, Option, Some, None, arith}
-use Rattle.std.specs.Prelude.{◌↔◌}
 use Rattle.std.proofs.lemmas.Bool.{cases_eq, cases_lt, lt-leb}
 use Rattle.std.proofs.lemmas.List.{append_assoc}
 use Rattle.std.proofs.lemmas.List.Elements.{filter-append}
@@ -15,7 +14,7 @@ use Rattle.stations.specs.Runs.{trace_of}
 use Rattle.solo_run.specs.Limit.{receiver, first_beyond}
 use Rattle.solo_run.proofs.OneTurn.{beyond_append, beyond_here}
 use Rattle.study_run.specs.Limits.{IsFirstFull, IsWithin, MeetsLimitAlone}
-use Rattle.study_run.specs.Laws.{FullIsFound, FullIsOne, NotWithinAndMetAlone, WithinIsNotFull}
+use Rattle.study_run.specs.Laws.{FullIsFound, FullIsLonger, FullIsOne, NotWithinAndMetAlone, WithinIsNotFull}
 
 module _ (limit : ℕ) where
   -- the walk goes on behind an entry whose log was not full
@@ -99,6 +98,9 @@ full_is_one limit es s t a b =
     let second = found_at limit es t b in
     let same : Some s ≡ Some t = sym first ∙ second in
     cc
+
+pub full_is_longer : FullIsLonger
+full_is_longer limit es s f = longer limit [] es s (found_at limit es s f)
 
 pub within_is_not_full : WithinIsNotFull
 within_is_not_full limit es = (λ h. none_found limit es (first_beyond limit [] es) refl h, λ none. within limit [] es (λ s. omega arith) none)

@@ -1,6 +1,5 @@
 -- Where the limit is met in a run of clones.
 use Rattle.std.proofs.Common.{◌≡◌, ◌⊎◌, inl, inr, ℕ, zero, suc, ◌<◌, ◌≤◌, refl, sym, ap, ◌∙◌, subst, arith, List, [], ◌∷◌, length, Option, Some, None}
-use Rattle.std.specs.Prelude.{◌↔◌}
 use Rattle.std.proofs.lemmas.Bool.{cases_lt}
 use Rattle.sim_base.specs.Clones.{Clone, clone_at}
 use Rattle.net_model.specs.Net.{Net}
@@ -12,7 +11,7 @@ use Rattle.run_laws.proofs.NextFronts.{fronts-go_on, fronts-unique, window_end-w
 use Rattle.stations.specs.Runs.{AreFronts, log_at, next_front, simulation}
 use Rattle.stations.proofs.GoodLaws.{lawful-stations}
 use Rattle.world_core.specs.Overs.{IsFirstBeyond, NoneBeyond}
-use Rattle.study_run.specs.Limits.{AreWithin, IsWindowEnd, MeetsLimit}
+use Rattle.study_run.specs.Limits.{AreWithin, MeetsLimit}
 use Rattle.study_run.specs.Laws.{MeetingIsFound, MeetingIsOne, NotWithinAndMet, WithinIsNotFound, WithinOrMet}
 use Rattle.study_run.specs.Overs.{first_over, first_over_of, over_at, sooner}
 use Rattle.study_run.proofs.OverLaws.{ended, is_first, no_windows, none_beyond, rises, window_more, within_horizon}
@@ -139,14 +138,16 @@ first_is_one net cs bound s c t d a b = elim (cases_lt s t) [
     | inl less ↦ absurd (a.least_station t b.low less d b.clone b.beyond)
     | inr least ↦
         let same : t ≡ s = omega (arith, most, least) in
-        let b' : IsFirstBeyond net cs bound s d = subst (λ k. IsFirstBeyond net cs bound k d) same b in
-        (sym same, elim (cases_lt c d) [
-          | inl less ↦ absurd (b'.least_clone c less a.beyond)
-          | inr many ↦ elim (cases_lt d c) [
-            | inl less ↦ absurd (a.least_clone d less b'.beyond)
-            | inr few ↦ omega (arith, many, few)
-          ]
-        ])
+        let b' : IsFirstBeyond net cs bound s d = subst (λ k. IsFirstBeyond net cs bound k d) same b in (
+          sym same,
+          elim (cases_lt c d) [
+            | inl less ↦ absurd (b'.least_clone c less a.beyond)
+            | inr many ↦ elim (cases_lt d c) [
+              | inl less ↦ absurd (a.least_clone d less b'.beyond)
+              | inr few ↦ omega (arith, many, few)
+            ]
+          ],
+        )
   ]
 ]
 

@@ -1,8 +1,8 @@
 -- The figures of a report, and their total.
-use Rattle.std.proofs.Common.{◌≡◌, inl, inr, ℕ, zero, suc, ◌+◌, ◌*◌, ◌^◌, ◌<◌, ◌≤◌, refl, sym, ap, ap₂, ◌∙◌, subst, arith, suc-mul, List, [], ◌∷◌, ◌++◌, length, length-append, sum_by, Result, Ok, Err, IfOk}
+use Rattle.std.proofs.Common.{◌≡◌, ℕ, zero, suc, ◌+◌, ◌*◌, ◌^◌, ◌<◌, ◌≤◌, refl, sym, ap, ap₂, ◌∙◌, subst, arith, suc-mul, List, [], ◌∷◌, ◌++◌, length, length-append, sum_by, Result, Ok, Err, IfOk}
 use Rattle.std.proofs.lemmas.List.Sums.{sum_by_push}
 use Rattle.std.proofs.Math.Nat.{mul-le-mul}
-use Rattle.sim_base.specs.Clones.{Clone, clone_at}
+use Rattle.sim_base.specs.Clones.{Clone}
 use Rattle.sim_base.specs.Same.{same_entry}
 use Rattle.sim_base.specs.declared.figures.Figures.{Figures}
 use Rattle.net_model.specs.Net.{Net}

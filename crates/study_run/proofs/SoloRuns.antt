@@ -1,5 +1,5 @@
 -- The run of one clone by itself.
-use Rattle.std.proofs.Common.{◌≡◌, ℕ, zero, suc, ◌+◌, ◌*◌, ◌≤◌, refl, sym, subst, ap, ap₂, ◌∙◌, arith, min, List, [], ◌∷◌, length, Option, None, Some, Result, Ok, Err, unwrap_or, IfOk, IfErr, OnOk}
+use Rattle.std.proofs.Common.{◌≡◌, ℕ, zero, suc, ◌+◌, ◌*◌, refl, sym, subst, ap, ap₂, ◌∙◌, arith, min, List, [], ◌∷◌, length, Option, unwrap_or}
 use Rattle.std.specs.List.{AllByRecursion}
 use Rattle.sim_base.specs.Order.{msg_cmp}
 use Rattle.sim_base.specs.Clones.{Clone, clone_at}

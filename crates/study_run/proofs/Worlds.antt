@@ -1,5 +1,5 @@
 -- A world that goes from window to window, by what it tells of its network and its clones.
-use Rattle.std.proofs.Common.{◌≡◌, ℕ, zero, suc, ◌+◌, ◌*◌, ◌<◌, ◌≤◌, refl, sym, ap, ap₂, ◌∙◌, subst, arith, List, length}
+use Rattle.std.proofs.Common.{◌≡◌, ℕ, zero, suc, ◌+◌, ◌<◌, refl, sym, ap, ap₂, ◌∙◌, subst, arith, List}
 use Rattle.sim_base.specs.Clones.{Clone}
 use Rattle.sim_base.specs.Same.{same_entry}
 use Rattle.net_model.specs.Net.{Net}

@@ -1,5 +1,5 @@
 -- What is proved of the limit and of the report, in words that contracts cite.
-use Rattle.std.specs.Prelude.{◌≡◌, ◌↔◌, ◌⊎◌, ℕ, ◌≤◌, List, [], length, Some, None, sum_by}
+use Rattle.std.specs.Prelude.{◌≡◌, ◌↔◌, ◌⊎◌, ℕ, ◌<◌, ◌≤◌, List, [], length, Some, None, sum_by}
 use Rattle.sim_base.specs.Clones.{Clone}
 use Rattle.sim_base.specs.declared.message.Msg.{Msg}
 use Rattle.sim_base.specs.declared.entry.Entry.{Entry}
@@ -7,7 +7,6 @@ use Rattle.sim_base.specs.declared.entry.Line.{Line}
 use Rattle.net_model.specs.Net.{Net}
 use Rattle.net_model.specs.Rules.{IsNet}
 use Rattle.run_laws.specs.World.{log_of}
-use Rattle.stations.specs.Runs.{trace_of}
 use Rattle.solo_run.specs.Limit.{receiver, first_beyond}
 use Rattle.world_core.specs.Worlds.{total_handled}
 use Rattle.study_run.specs.Limits.{AreWithin, IsWithin, MeetsLimit, IsFirstFull, MeetsLimitAlone}
@@ -42,7 +41,11 @@ NotWithinAndMet = (net : Net) → IsNet net → (clones : List Clone) (s who : �
 abbrev pub FullIsOne : Type 0
 FullIsOne = (limit : ℕ) (trace : List (Entry Msg Line)) (s t : ℕ) → IsFirstFull limit trace s → IsFirstFull limit trace t → s ≡ t
 
--- exactly where a walk over its entries finds it
+-- in the end it is longer than the limit
+abbrev pub FullIsLonger : Type 0
+FullIsLonger = (limit : ℕ) (trace : List (Entry Msg Line)) (s : ℕ) → IsFirstFull limit trace s → limit < length (log_of receiver s trace)
+
+-- it is exactly where a walk over the entries finds it
 abbrev pub FullIsFound : Type 0
 FullIsFound = (limit : ℕ) (trace : List (Entry Msg Line)) (s : ℕ) → IsFirstFull limit trace s ↔ (first_beyond limit [] trace ≡ Some s)
 

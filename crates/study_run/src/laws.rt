@@ -2,7 +2,7 @@
 //!
 //! `specs/Laws.antt` has the laws in words.
 ghost use Rattle.study_run.specs.Accepted.{AcceptedIsTaken};
-ghost use Rattle.study_run.specs.Laws.{FullIsFound, FullIsOne, MeetingIsFound, MeetingIsOne, NotWithinAndMet, NotWithinAndMetAlone, TotalIsFew, TotalIsOfReport, WithinIsNotFound, WithinIsNotFull, WithinOrMet};
+ghost use Rattle.study_run.specs.Laws.{FullIsFound, FullIsLonger, FullIsOne, MeetingIsFound, MeetingIsOne, NotWithinAndMet, NotWithinAndMetAlone, TotalIsFew, TotalIsOfReport, WithinIsNotFound, WithinIsNotFull, WithinOrMet};
 
 /// Where the limit is met in a run of clones: there is one such place, and it is there exactly where some log of the
 /// whole run is longer.
@@ -20,6 +20,7 @@ pub fn limit_is_met_once()
 pub fn first_full_log()
     ensures one { FullIsOne }
     ensures found { FullIsFound }
+    ensures longer { FullIsLonger }
     ensures within { WithinIsNotFull }
     ensures not_both { NotWithinAndMetAlone }
 {}

@@ -32,8 +32,6 @@ pub mod fault;
 pub mod laws;
 pub mod report;
 pub mod study;
-#[cfg(test)]
-mod tests;
 
 pub use accepted::accepted_calls;
 pub use alone::{run_alone, text_alone};

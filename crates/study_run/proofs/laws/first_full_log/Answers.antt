@@ -1,4 +1,4 @@
-use Rattle.study_run.proofs.Fulls.{full_is_found, full_is_one, not_both_alone, within_is_not_full}
+use Rattle.study_run.proofs.Fulls.{full_is_found, full_is_longer, full_is_one, not_both_alone, within_is_not_full}
 use Rattle.study_run.proofs.laws.first_full_log.Goals as goal
 
 pub returns-clause-one : goal.returns-clause-one
@@ -12,3 +12,6 @@ returns-clause-within c = within_is_not_full
 
 pub returns-clause-not_both : goal.returns-clause-not_both
 returns-clause-not_both c = not_both_alone
+
+pub returns-clause-longer : goal.returns-clause-longer
+returns-clause-longer c = full_is_longer

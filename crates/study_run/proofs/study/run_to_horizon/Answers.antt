@@ -1,4 +1,4 @@
-use Rattle.std.proofs.Common.{◌≡◌, ℕ, ◌+◌, ◌-◌, ◌<◌, ◌≤◌, ◌∙◌, ap, arith, length, refl, subst, sym}
+use Rattle.std.proofs.Common.{◌≡◌, ℕ, ◌-◌, ◌<◌, ◌∙◌, ap, arith, length, refl, subst, sym}
 use Rattle.world_core.specs.Overs.{IsFault}
 use Rattle.world_core.specs.Worlds.{total_handled}
 use Rattle.study_run.specs.Faults.{StopsAll}
@@ -38,7 +38,7 @@ returns-in-Err-EventLimit-clause-fault g c =
     c.args.steps.now c.window.steps c.window-in-window.new.steps c.in-Err-EventLimit.station c.in-Err-EventLimit.who c.in-Err-EventLimit.field-0-2
     c.horizon.ensures.valid c.window.invariant.come c.window.invariant.steps
     (subst (λ e. IsFault c.window.world.net c.window.world.clones c.window.world.front c.bound-bound.result c.window.steps c.window-in-window.new.steps e)
-      c.in-Err-EventLimit.field-0-is c.in-Err-EventLimit.ensures.fault) in
+    c.in-Err-EventLimit.field-0-is c.in-Err-EventLimit.ensures.fault) in
     both (StopsAll c.args.model.now c.args.world.clones c.args.steps.now c.window-in-window.new.steps) (sym c.in-Err-EventLimit.station-is) (sym c.in-Err-EventLimit.who-is) stops
 
 pub window-smaller : goal.window-smaller
@@ -68,4 +68,4 @@ pub returns-clause-within : goal.returns-clause-within
 returns-clause-within g c =
     none_within c.args.model.now c.args.world.clones
     (within_horizon c.args.model.now c.args.world.clones c.horizon.ensures.valid
-      (comes_last c.args.model.now c.args.world.clones c.window.world.front (omega (arith, c.window-test.false, c.front.ensures.value, c.horizon.ensures.value)) c.window.invariant.come))
+    (comes_last c.args.model.now c.args.world.clones c.window.world.front (omega (arith, c.window-test.false, c.front.ensures.value, c.horizon.ensures.value)) c.window.invariant.come))
