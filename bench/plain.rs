@@ -1,0 +1,762 @@
+//! A plain simulator of the networks of `cloner`, written by hand and not proved: what `cloner` is measured with.
+//!
+//!     plain MODEL SCRIPT              each clone alone, one full run after the other; one write at the end
+//!     plain MODEL SCRIPT --stream     the same, but each trace is written as soon as its run has ended
+//!     plain MODEL SCRIPT --share      the whole simulation is copied where lists of decisions first differ
+//!
+//! It writes the traces of `cloner run`, byte for byte, and no report. It trusts that the model and the script are
+//! valid, and knows of TOML what the workloads use: integers, strings, arrays, inline tables and `[[station]]`.
+//! Build it with `rustc -O plain.rs`; it needs no crates.
+
+use std::cmp::Reverse;
+use std::collections::{BinaryHeap, HashMap, VecDeque};
+use std::io::Write;
+use std::rc::Rc;
+
+// ---- random numbers ----
+
+/// The generator PCG32 of one station.
+#[derive(Clone)]
+struct Random {
+    state: u64,
+    increment: u64,
+}
+
+impl Random {
+    fn new(seed: u64, stream: u64) -> Random {
+        let increment = stream << 1 | 1;
+        let mut random = Random { state: seed.wrapping_add(increment), increment };
+        random.word();
+        random
+    }
+
+    /// The next word.
+    fn word(&mut self) -> u32 {
+        let old = self.state;
+        self.state = old.wrapping_mul(6364136223846793005).wrapping_add(self.increment);
+        ((((old >> 18) ^ old) >> 27) as u32).rotate_right((old >> 59) as u32)
+    }
+}
+
+// ---- messages ----
+
+const TICK: u64 = 0;
+const JOB: u64 = 1;
+const DONE: u64 = 2;
+
+/// A message's place in the order of handling: time, sender (0 is the analyst), number.
+fn key(time: u64, sender: usize, number: u64) -> u64 {
+    time << 33 | (sender as u64) << 26 | number
+}
+
+/// A job in one word: its source, its count there, its time of birth.
+fn job_word(source: usize, count: u64, born: u64) -> u64 {
+    (source as u64) << 50 | count << 30 | born
+}
+
+/// The messages that wait, least key first. One is two words: its key, then kind, receiver and job.
+#[derive(Clone)]
+struct Pending {
+    heap: BinaryHeap<Reverse<u128>>,
+    horizon: u64,
+}
+
+impl Pending {
+    /// Adds a message, unless it is for the horizon or later.
+    fn add(&mut self, time: u64, key: u64, kind: u64, receiver: usize, job: u64) {
+        if time < self.horizon {
+            let content = kind << 62 | (receiver as u64) << 56 | job;
+            self.heap.push(Reverse((key as u128) << 64 | content as u128));
+        }
+    }
+}
+
+// ---- stations ----
+
+#[derive(Clone, Copy, PartialEq)]
+enum Kind {
+    Source,
+    Server,
+    Delay,
+    Weights,
+    Turn,
+    Sink,
+}
+
+#[derive(Clone, Copy)]
+struct Link {
+    to: usize,
+    delay: u64,
+    weight: u32,
+}
+
+/// A station and its state. `count` is sent, done, passed or got, `second` is lost or stay.
+#[derive(Clone)]
+struct Station {
+    kind: Kind,
+    me: usize,
+    random: Random,
+    range: (u32, u32),
+    servers: u32,
+    room: usize,
+    jobs: u64,
+    by_class: bool,
+    links: Vec<Link>,
+    weights: u32,
+    next_number: u64,
+    handled: u64,
+    busy: u32,
+    count: u64,
+    second: u64,
+    waiting: usize,
+    lines: [VecDeque<u64>; 4],
+}
+
+impl Station {
+    fn draw(&mut self) -> u64 {
+        let (low, high) = self.range;
+        (low + self.random.word() % (high - low + 1)) as u64
+    }
+
+    /// The link that the next job takes.
+    fn pick(&mut self) -> Link {
+        if self.links.len() == 1 {
+            return self.links[0];
+        }
+        let drawn = self.random.word() % self.weights;
+        let mut sum = 0;
+        let exceeds = |link: &&Link| {
+            sum += link.weight;
+            sum > drawn
+        };
+        *self.links.iter().find(exceeds).expect("the weights' sum exceeds what was drawn")
+    }
+
+    fn sum_weights(&mut self) {
+        self.weights = self.links.iter().map(|link| link.weight).sum();
+    }
+
+    /// Sends a message, which takes the next number.
+    fn send(&mut self, pending: &mut Pending, time: u64, kind: u64, receiver: usize, job: u64) {
+        pending.add(time, key(time, self.me + 1, self.next_number), kind, receiver, job);
+        self.next_number += 1;
+    }
+
+    fn tick(&mut self, now: u64, pending: &mut Pending) {
+        let job = job_word(self.me, self.count, now);
+        self.count += 1;
+        let link = self.pick();
+        self.send(pending, now + link.delay, JOB, link.to, job);
+        if self.count < self.jobs {
+            let time = now + self.draw();
+            self.send(pending, time, TICK, self.me, 0);
+        }
+    }
+
+    /// Starts the service of a job.
+    fn start(&mut self, now: u64, job: u64, pending: &mut Pending) {
+        self.busy += 1;
+        let time = now + self.draw();
+        self.send(pending, time, DONE, self.me, job);
+    }
+
+    /// Starts jobs of the line while a server is free, at most `most` of them.
+    fn serve(&mut self, now: u64, most: usize, pending: &mut Pending) {
+        for _ in 0..most {
+            if self.waiting == 0 || self.busy >= self.servers {
+                return;
+            }
+            let job = self.lines.iter_mut().find_map(VecDeque::pop_front).expect("a job waits");
+            self.waiting -= 1;
+            self.start(now, job, pending);
+        }
+    }
+
+    fn done(&mut self, now: u64, job: u64, pending: &mut Pending) {
+        self.busy -= 1;
+        self.count += 1;
+        let link = self.pick();
+        self.send(pending, now + link.delay, JOB, link.to, job);
+        self.serve(now, 1, pending);
+    }
+
+    fn arrive_at_server(&mut self, now: u64, job: u64, class: u8, pending: &mut Pending) {
+        if self.busy < self.servers {
+            self.start(now, job, pending);
+        } else if self.waiting < self.room {
+            let line = if self.by_class { class as usize - 1 } else { 0 };
+            self.lines[line].push_back(job);
+            self.waiting += 1;
+        } else {
+            self.second += 1;
+        }
+    }
+
+    fn pass(&mut self, now: u64, job: u64, pending: &mut Pending) {
+        let link = match self.kind {
+            Kind::Turn => self.links[self.count as usize % self.links.len()],
+            _ => self.pick(),
+        };
+        let held = if self.kind == Kind::Delay { self.draw() } else { 0 };
+        self.count += 1;
+        self.send(pending, now + held + link.delay, JOB, link.to, job);
+    }
+
+    fn arrive(&mut self, now: u64, job: u64, class: u8, pending: &mut Pending) {
+        match self.kind {
+            Kind::Server => self.arrive_at_server(now, job, class, pending),
+            Kind::Sink => {
+                self.count += 1;
+                self.second += now - (job & ((1 << 30) - 1));
+            }
+            Kind::Source => {}
+            Kind::Delay | Kind::Weights | Kind::Turn => self.pass(now, job, pending),
+        }
+    }
+
+    /// Takes a changed parameter.
+    fn change(&mut self, now: u64, set: &Set, pending: &mut Pending) {
+        let (first, second) = (set.values[0], *set.values.last().expect("a set has a value"));
+        match set.parameter.as_str() {
+            "servers" => {
+                self.servers = first;
+                self.serve(now, usize::MAX, pending);
+            }
+            "room" => self.room = first as usize,
+            "weight" => {
+                self.links[first as usize - 1].weight = second;
+                self.sum_weights();
+            }
+            _ => self.range = (first, second),
+        }
+    }
+}
+
+// ---- the model ----
+
+/// A value of the TOML that this program knows.
+enum Value {
+    Number(u64),
+    Text(String),
+    List(Vec<Value>),
+    Table(HashMap<String, Value>),
+}
+
+impl Value {
+    fn number(&self) -> u64 {
+        match self {
+            Value::Number(number) => *number,
+            _ => panic!("a number was expected"),
+        }
+    }
+
+    fn text(&self) -> &str {
+        match self {
+            Value::Text(text) => text,
+            _ => panic!("a string was expected"),
+        }
+    }
+
+    fn list(&self) -> &[Value] {
+        match self {
+            Value::List(values) => values,
+            _ => panic!("an array was expected"),
+        }
+    }
+
+    fn table(&self) -> &HashMap<String, Value> {
+        match self {
+            Value::Table(table) => table,
+            _ => panic!("a table was expected"),
+        }
+    }
+}
+
+/// Reads TOML from its bytes, from left to right.
+struct Reader<'a> {
+    rest: &'a [u8],
+}
+
+impl Reader<'_> {
+    /// Skips blanks, line ends and comments, and gives the next byte, 0 at the end.
+    fn next(&mut self) -> u8 {
+        loop {
+            match self.rest.first() {
+                Some(b'#') => {
+                    let end = self.rest.iter().position(|&byte| byte == b'\n').unwrap_or(self.rest.len());
+                    self.rest = &self.rest[end..];
+                }
+                Some(b' ' | b'\t' | b'\r' | b'\n') => self.rest = &self.rest[1..],
+                found => return found.copied().unwrap_or(0),
+            }
+        }
+    }
+
+    /// Takes the text if it is next.
+    fn takes(&mut self, text: &str) -> bool {
+        self.next();
+        let found = self.rest.starts_with(text.as_bytes());
+        if found {
+            self.rest = &self.rest[text.len()..];
+        }
+        found
+    }
+
+    fn word(&mut self) -> String {
+        self.next();
+        let is_word = |byte: &u8| byte.is_ascii_alphanumeric() || *byte == b'_';
+        let end = self.rest.iter().position(|byte| !is_word(byte)).unwrap_or(self.rest.len());
+        let (word, rest) = self.rest.split_at(end);
+        self.rest = rest;
+        String::from_utf8(word.to_vec()).expect("words are ASCII")
+    }
+
+    fn pair(&mut self, table: &mut HashMap<String, Value>) {
+        let name = self.word();
+        assert!(self.takes("="), "no value after the key '{name}'");
+        let value = self.value();
+        table.insert(name, value);
+    }
+
+    fn value(&mut self) -> Value {
+        if self.takes("\"") {
+            let text = self.word();
+            assert!(self.takes("\""), "the string '{text}' doesn't end");
+            return Value::Text(text);
+        }
+        if self.takes("[") {
+            let mut values = Vec::new();
+            while !self.takes("]") {
+                values.push(self.value());
+                self.takes(",");
+            }
+            return Value::List(values);
+        }
+        if self.takes("{") {
+            let mut table = HashMap::new();
+            while !self.takes("}") {
+                self.pair(&mut table);
+                self.takes(",");
+            }
+            return Value::Table(table);
+        }
+        Value::Number(self.word().parse().expect("a number"))
+    }
+
+    /// The keys up to the next `[[station]]` or the end.
+    fn section(&mut self) -> HashMap<String, Value> {
+        let mut table = HashMap::new();
+        while !matches!(self.next(), 0 | b'[') {
+            self.pair(&mut table);
+        }
+        table
+    }
+}
+
+/// A network as it begins, and what its texts need.
+struct Network {
+    names: Vec<String>,
+    classes: Vec<u8>,
+    shows_class: bool,
+    horizon: u64,
+    limit: u64,
+    stations: Vec<Station>,
+}
+
+fn number_or(table: &HashMap<String, Value>, name: &str, absent: u64) -> u64 {
+    table.get(name).map_or(absent, Value::number)
+}
+
+fn kind_of(table: &HashMap<String, Value>) -> Kind {
+    match table["kind"].text() {
+        "source" => Kind::Source,
+        "server" => Kind::Server,
+        "delay" => Kind::Delay,
+        "router" if table["by"].text() == "turn" => Kind::Turn,
+        "router" => Kind::Weights,
+        _ => Kind::Sink,
+    }
+}
+
+fn links_of(table: &HashMap<String, Value>, names: &[String]) -> Vec<Link> {
+    let link = |value: &Value| {
+        let keys = value.table();
+        let to = names.iter().position(|name| name == keys["to"].text()).expect("the link leads to a station");
+        Link { to, delay: keys["delay"].number(), weight: number_or(keys, "weight", 1) as u32 }
+    };
+    table.get("link").map_or(Vec::new(), |links| links.list().iter().map(link).collect())
+}
+
+fn station_of(table: &HashMap<String, Value>, names: &[String], me: usize, seed: u64) -> Station {
+    let range = ["every", "service", "hold"].iter().find_map(|name| table.get(*name));
+    let range = range.map_or((0, 0), |pair| (pair.list()[0].number() as u32, pair.list()[1].number() as u32));
+    let mut station = Station {
+        kind: kind_of(table),
+        me,
+        random: Random::new(seed, number_or(table, "stream", me as u64 + 1)),
+        range,
+        servers: number_or(table, "servers", 0) as u32,
+        room: number_or(table, "room", 0) as usize,
+        jobs: number_or(table, "jobs", 0),
+        by_class: table.get("order").is_some_and(|order| order.text() == "class"),
+        links: links_of(table, names),
+        weights: 0,
+        next_number: 0,
+        handled: 0,
+        busy: 0,
+        count: 0,
+        second: 0,
+        waiting: 0,
+        lines: Default::default(),
+    };
+    station.sum_weights();
+    station
+}
+
+impl Network {
+    fn read(text: &[u8]) -> Network {
+        let mut reader = Reader { rest: text };
+        let top = reader.section();
+        let mut tables = Vec::new();
+        while reader.takes("[[station]]") {
+            tables.push(reader.section());
+        }
+        let names: Vec<String> = tables.iter().map(|table| table["name"].text().to_string()).collect();
+        let seed = number_or(&top, "seed", 0);
+        let stations = tables.iter().enumerate().map(|(me, table)| station_of(table, &names, me, seed));
+        Network {
+            stations: stations.collect(),
+            names,
+            classes: tables.iter().map(|table| number_or(table, "class", 1) as u8).collect(),
+            shows_class: number_or(&top, "format", 1) == 2,
+            horizon: top["horizon"].number(),
+            limit: number_or(&top, "limit", 16384),
+        }
+    }
+}
+
+// ---- the script ----
+
+/// A change of a parameter.
+#[derive(Clone, PartialEq)]
+struct Set {
+    time: u64,
+    station: usize,
+    parameter: String,
+    values: Vec<u32>,
+}
+
+/// One clone: its name, its changes in the order of their keys, and its end.
+#[derive(Clone)]
+struct Branch {
+    name: String,
+    sets: Vec<(u64, Set)>,
+    end: u64,
+}
+
+fn read_set(words: &[&str], network: &Network) -> Set {
+    Set {
+        time: words[3].parse().expect("a time"),
+        station: network.names.iter().position(|name| name == words[4]).expect("a station"),
+        parameter: words[5].to_string(),
+        values: words[6..].iter().map(|word| word.parse().expect("a value")).collect(),
+    }
+}
+
+/// The clones of a script, in the order in which they are made.
+fn read_script(text: &str, network: &Network) -> Vec<Branch> {
+    let mut branches = vec![Branch { name: "base".to_string(), sets: Vec::new(), end: network.horizon }];
+    let mut places = HashMap::from([("base".to_string(), 0)]);
+    for line in text.lines() {
+        let words: Vec<&str> = line.split_ascii_whitespace().collect();
+        match words.first() {
+            Some(&"fork") => {
+                let old = branches[places[words[3]]].clone();
+                places.insert(words[1].to_string(), branches.len());
+                branches.push(Branch { name: words[1].to_string(), ..old });
+            }
+            Some(&"set") => {
+                let sets = &mut branches[places[words[1]]].sets;
+                let set = read_set(&words, network);
+                sets.push((key(set.time, 0, sets.len() as u64), set));
+            }
+            Some(&"end") => branches[places[words[1]]].end = words[3].parse().expect("a time"),
+            _ => {}
+        }
+    }
+    for branch in &mut branches {
+        branch.sets.retain(|(_, set)| set.time < branch.end);
+        branch.sets.sort_by_key(|(key, _)| *key);
+    }
+    branches
+}
+
+// ---- the traces' texts ----
+
+const DIGITS: [[u8; 2]; 100] = digits();
+
+const fn digits() -> [[u8; 2]; 100] {
+    let mut pairs = [[b'0'; 2]; 100];
+    let mut number = 0;
+    while number < 100 {
+        pairs[number] = [b'0' + (number / 10) as u8, b'0' + (number % 10) as u8];
+        number += 1;
+    }
+    pairs
+}
+
+fn put_number(text: &mut Vec<u8>, number: u64) {
+    if number < 10 {
+        return text.push(b'0' + number as u8);
+    }
+    if number < 100 {
+        return text.extend_from_slice(&DIGITS[number as usize]);
+    }
+    let (mut buffer, mut place, mut rest) = ([0; 20], 20, number);
+    while rest >= 100 {
+        place -= 2;
+        buffer[place..place + 2].copy_from_slice(&DIGITS[(rest % 100) as usize]);
+        rest /= 100;
+    }
+    place -= 2;
+    buffer[place..place + 2].copy_from_slice(&DIGITS[rest as usize]);
+    place += (rest < 10) as usize;
+    text.extend_from_slice(&buffer[place..]);
+}
+
+fn put_counts(text: &mut Vec<u8>, station: &Station) {
+    let one = |text: &mut Vec<u8>, name: &[u8], number: u64| {
+        text.extend_from_slice(name);
+        put_number(text, number);
+    };
+    match station.kind {
+        Kind::Source => one(text, b" sent=", station.count),
+        Kind::Server => {
+            one(text, b" busy=", station.busy as u64);
+            one(text, b" wait=", station.waiting as u64);
+            one(text, b" done=", station.count);
+            one(text, b" lost=", station.second);
+        }
+        Kind::Sink => {
+            one(text, b" got=", station.count);
+            one(text, b" stay=", station.second);
+        }
+        Kind::Delay | Kind::Weights | Kind::Turn => one(text, b" passed=", station.count),
+    }
+    text.push(b'\n');
+}
+
+/// The beginning of a line: time, receiver, sender and number.
+fn put_head(text: &mut Vec<u8>, time: u64, receiver: &str, sender: &str, number: u64) {
+    put_number(text, time);
+    text.push(b' ');
+    text.extend_from_slice(receiver.as_bytes());
+    text.push(b' ');
+    text.extend_from_slice(sender.as_bytes());
+    text.push(b' ');
+    put_number(text, number);
+}
+
+fn put_payload(text: &mut Vec<u8>, network: &Network, kind: u64, job: u64) {
+    if kind == TICK {
+        return text.extend_from_slice(b" tick");
+    }
+    let source = (job >> 50 & 63) as usize;
+    text.extend_from_slice(if kind == JOB { b" job " } else { b" done " });
+    text.extend_from_slice(network.names[source].as_bytes());
+    text.push(b'.');
+    put_number(text, job >> 30 & ((1 << 20) - 1));
+    if network.shows_class {
+        text.extend_from_slice(&[b':', b'0' + network.classes[source]]);
+    }
+}
+
+// ---- a run ----
+
+/// The state of a whole simulation, and its text since the last copy.
+#[derive(Clone)]
+struct World {
+    stations: Vec<Station>,
+    pending: Pending,
+    text: Vec<u8>,
+}
+
+impl World {
+    /// The state before the first message: each source has drawn its first tick.
+    fn begin(network: &Network) -> World {
+        let pending = Pending { heap: BinaryHeap::new(), horizon: network.horizon };
+        let mut world = World { stations: network.stations.clone(), pending, text: Vec::new() };
+        for station in world.stations.iter_mut().filter(|station| station.kind == Kind::Source && station.jobs > 0) {
+            let time = station.draw();
+            let me = station.me;
+            station.send(&mut world.pending, time, TICK, me, 0);
+        }
+        world
+    }
+
+    /// Handles all messages with keys below `stop`.
+    fn advance(&mut self, network: &Network, stop: u64) {
+        while let Some(&Reverse(next)) = self.pending.heap.peek() {
+            let key = (next >> 64) as u64;
+            if key >= stop {
+                return;
+            }
+            self.pending.heap.pop();
+            self.handle(network, key, next as u64);
+        }
+    }
+
+    fn handle(&mut self, network: &Network, key: u64, content: u64) {
+        let (time, sender, number) = (key >> 33, (key >> 26 & 127) as usize, key & ((1 << 26) - 1));
+        let (kind, receiver, job) = (content >> 62, (content >> 56 & 63) as usize, content & ((1 << 56) - 1));
+        let station = &mut self.stations[receiver];
+        count_handled(station, network);
+        match kind {
+            TICK => station.tick(time, &mut self.pending),
+            DONE => station.done(time, job, &mut self.pending),
+            _ => station.arrive(time, job, network.classes[(job >> 50) as usize], &mut self.pending),
+        }
+        self.text.reserve(160);
+        put_head(&mut self.text, time, &network.names[receiver], &network.names[sender - 1], number);
+        put_payload(&mut self.text, network, kind, job);
+        put_counts(&mut self.text, station);
+    }
+
+    /// Handles all that comes before a change, and the change.
+    fn change(&mut self, network: &Network, key: u64, set: &Set) {
+        self.advance(network, key);
+        let station = &mut self.stations[set.station];
+        count_handled(station, network);
+        station.change(set.time, set, &mut self.pending);
+        put_head(&mut self.text, set.time, &network.names[set.station], "analyst", key & ((1 << 26) - 1));
+        self.text.extend_from_slice(format!(" set {}", set.parameter).as_bytes());
+        for value in &set.values {
+            self.text.extend_from_slice(format!(" {value}").as_bytes());
+        }
+        put_counts(&mut self.text, station);
+    }
+}
+
+fn count_handled(station: &mut Station, network: &Network) {
+    if station.handled == network.limit {
+        eprintln!("plain: limit {} met at station {}", network.limit, network.names[station.me]);
+        std::process::exit(7);
+    }
+    station.handled += 1;
+}
+
+/// Runs one clone by itself, and adds its trace to the text.
+fn run_alone(network: &Network, branch: &Branch, text: Vec<u8>) -> Vec<u8> {
+    let mut world = World::begin(network);
+    world.text = text;
+    world.text.extend_from_slice(format!("clone {}\n", branch.name).as_bytes());
+    for (key, set) in &branch.sets {
+        world.change(network, *key, set);
+    }
+    world.advance(network, key(branch.end, 0, 0));
+    world.text
+}
+
+// ---- shared runs ----
+
+/// A part of the traces of some clones, and the part before it.
+struct Piece {
+    before: Option<Rc<Piece>>,
+    text: Vec<u8>,
+}
+
+/// Runs clones that are still the same, and copies the simulation where one departs.
+struct Sharing<'a> {
+    network: &'a Network,
+    branches: &'a [Branch],
+    last_pieces: Vec<Option<Rc<Piece>>>,
+}
+
+impl Sharing<'_> {
+    /// What comes next in a clone that has taken `taken` changes: the key, and the change if it isn't the end.
+    fn next_of(&self, clone: usize, taken: usize) -> (u64, Option<&Set>) {
+        let branch = &self.branches[clone];
+        branch.sets.get(taken).map_or((key(branch.end, 0, 0), None), |(key, set)| (*key, Some(set)))
+    }
+
+    /// Runs the clones of a group to their ends; all have taken the same changes, `taken` of them.
+    fn run(&mut self, mut group: Vec<usize>, mut taken: usize, mut world: World, mut before: Option<Rc<Piece>>) {
+        while let Some(&first) = group.iter().min_by_key(|&&clone| self.next_of(clone, taken).0) {
+            let (stop, set) = self.next_of(first, taken);
+            let set = set.cloned();
+            world.advance(self.network, stop);
+            let (same, rest): (Vec<usize>, Vec<usize>) =
+                group.into_iter().partition(|&clone| self.next_of(clone, taken) == (stop, set.as_ref()));
+            group = match (set, rest.is_empty()) {
+                (Some(set), true) => {
+                    world.change(self.network, stop, &set);
+                    taken += 1;
+                    same
+                }
+                (set, _) => {
+                    before = Some(Rc::new(Piece { before, text: std::mem::take(&mut world.text) }));
+                    self.depart(same, taken, &world, before.clone(), set.map(|set| (stop, set)));
+                    rest
+                }
+            };
+        }
+    }
+
+    /// The clones that leave a group: to their end, or in a copy of the simulation that takes a change.
+    fn depart(&mut self, same: Vec<usize>, taken: usize, world: &World, before: Option<Rc<Piece>>, set: Option<(u64, Set)>) {
+        if let Some((key, set)) = set {
+            let mut copy = world.clone();
+            copy.change(self.network, key, &set);
+            return self.run(same, taken + 1, copy, before);
+        }
+        for clone in same {
+            self.last_pieces[clone] = before.clone();
+        }
+    }
+}
+
+/// Runs all clones with sharing, and writes their traces.
+fn run_shared(network: &Network, branches: &[Branch], out: &mut impl Write) -> std::io::Result<()> {
+    let mut sharing = Sharing { network, branches, last_pieces: vec![None; branches.len()] };
+    sharing.run((0..branches.len()).collect(), 0, World::begin(network), None);
+    for (branch, last) in branches.iter().zip(&sharing.last_pieces) {
+        let mut pieces: Vec<&Piece> = std::iter::successors(last.as_deref(), |piece| piece.before.as_deref()).collect();
+        pieces.reverse();
+        out.write_all(format!("clone {}\n", branch.name).as_bytes())?;
+        for piece in pieces {
+            out.write_all(&piece.text)?;
+        }
+    }
+    Ok(())
+}
+
+/// Runs each clone alone; `stream` writes each trace at once.
+fn run_each(network: &Network, branches: &[Branch], stream: bool, out: &mut impl Write) -> std::io::Result<()> {
+    let mut text = Vec::new();
+    for branch in branches {
+        text = run_alone(network, branch, text);
+        if stream {
+            out.write_all(&text)?;
+            text.clear();
+        }
+    }
+    out.write_all(&text)
+}
+
+fn main() -> std::io::Result<()> {
+    let words: Vec<String> = std::env::args().collect();
+    let (files, options): (Vec<&String>, Vec<&String>) = words[1..].iter().partition(|word| !word.starts_with("--"));
+    let known = |option: &&String| *option == "--share" || *option == "--stream";
+    if files.len() != 2 || options.len() > 1 || !options.iter().all(known) {
+        eprintln!("usage: plain MODEL SCRIPT [--stream | --share]");
+        std::process::exit(2);
+    }
+    let network = Network::read(&std::fs::read(files[0])?);
+    let branches = read_script(&std::fs::read_to_string(files[1])?, &network);
+    use std::os::fd::AsFd;
+    let mut out = std::fs::File::from(std::io::stdout().as_fd().try_clone_to_owned()?);
+    match options.first().map(|option| option.as_str()) {
+        Some("--share") => run_shared(&network, &branches, &mut out),
+        option => run_each(&network, &branches, option == Some("--stream"), &mut out),
+    }
+}
