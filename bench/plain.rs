@@ -358,6 +358,7 @@ struct Network {
     names: Vec<String>,
     classes: Vec<u8>,
     shows_class: bool,
+    words: Vec<Words>,
     horizon: u64,
     limit: u64,
     stations: Vec<Station>,
@@ -423,12 +424,17 @@ impl Network {
         }
         let names: Vec<String> = tables.iter().map(|table| table["name"].text().to_string()).collect();
         let seed = number_or(&top, "seed", 0);
+        let shows_class = number_or(&top, "format", 1) == 2;
+        let words = |(table, name): (&HashMap<String, Value>, &String)| {
+            Words::new(name, number_or(table, "class", 1), shows_class)
+        };
         let stations = tables.iter().enumerate().map(|(me, table)| station_of(table, &names, me, seed));
         Network {
             stations: stations.collect(),
+            words: tables.iter().zip(&names).map(words).collect(),
             names,
             classes: tables.iter().map(|table| number_or(table, "class", 1) as u8).collect(),
-            shows_class: number_or(&top, "format", 1) == 2,
+            shows_class,
             horizon: top["horizon"].number(),
             limit: number_or(&top, "limit", 16384),
         }
@@ -505,69 +511,136 @@ const fn digits() -> [[u8; 2]; 100] {
     pairs
 }
 
-fn put_number(text: &mut Vec<u8>, number: u64) {
-    if number < 10 {
-        return text.push(b'0' + number as u8);
-    }
-    if number < 100 {
-        return text.extend_from_slice(&DIGITS[number as usize]);
-    }
-    let (mut buffer, mut place, mut rest) = ([0; 20], 20, number);
-    while rest >= 100 {
-        place -= 2;
-        buffer[place..place + 2].copy_from_slice(&DIGITS[(rest % 100) as usize]);
-        rest /= 100;
-    }
-    place -= 2;
-    buffer[place..place + 2].copy_from_slice(&DIGITS[rest as usize]);
-    place += (rest < 10) as usize;
-    text.extend_from_slice(&buffer[place..]);
+/// A short text in a field of fixed size, which is copied whole.
+#[derive(Clone, Copy)]
+struct Word {
+    bytes: [u8; 24],
+    length: usize,
 }
 
-fn put_counts(text: &mut Vec<u8>, station: &Station) {
-    let one = |text: &mut Vec<u8>, name: &[u8], number: u64| {
-        text.extend_from_slice(name);
-        put_number(text, number);
-    };
-    match station.kind {
-        Kind::Source => one(text, b" sent=", station.count),
-        Kind::Server => {
-            one(text, b" busy=", station.busy as u64);
-            one(text, b" wait=", station.waiting as u64);
-            one(text, b" done=", station.count);
-            one(text, b" lost=", station.second);
+const fn word(text: &str) -> Word {
+    let (from, mut bytes, mut place) = (text.as_bytes(), [0; 24], 0);
+    while place < from.len() {
+        bytes[place] = from[place];
+        place += 1;
+    }
+    Word { bytes, length: from.len() }
+}
+
+const SENT: Word = word(" sent=");
+const BUSY: Word = word(" busy=");
+const WAIT: Word = word(" wait=");
+const WORKED: Word = word(" done=");
+const LOST: Word = word(" lost=");
+const PASSED: Word = word(" passed=");
+const GOT: Word = word(" got=");
+const STAY: Word = word(" stay=");
+const TICKED: Word = word(" tick");
+const ANALYST: Word = word("analyst ");
+
+/// The words of one station in the lines of a trace.
+struct Words {
+    receiver: Word,
+    sender: Word,
+    job: Word,
+    done: Word,
+    class: Word,
+}
+
+impl Words {
+    fn new(name: &str, class: u64, shows_class: bool) -> Words {
+        Words {
+            receiver: word(&format!(" {name} ")),
+            sender: word(&format!("{name} ")),
+            job: word(&format!(" job {name}.")),
+            done: word(&format!(" done {name}.")),
+            class: if shows_class { word(&format!(":{class}")) } else { word("") },
         }
-        Kind::Sink => {
-            one(text, b" got=", station.count);
-            one(text, b" stay=", station.second);
+    }
+}
+
+/// One line of a trace while it is made.
+struct Line {
+    bytes: [u8; 256],
+    length: usize,
+}
+
+impl Line {
+    fn new() -> Line {
+        Line { bytes: [0; 256], length: 0 }
+    }
+
+    fn put(&mut self, word: &Word) {
+        self.bytes[self.length..self.length + 24].copy_from_slice(&word.bytes);
+        self.length += word.length;
+    }
+
+    fn put_number(&mut self, number: u64) {
+        if number < 10 {
+            self.bytes[self.length] = b'0' + number as u8;
+            self.length += 1;
+            return;
         }
-        Kind::Delay | Kind::Weights | Kind::Turn => one(text, b" passed=", station.count),
+        let length = number.ilog10() as usize + 1;
+        let place = &mut self.bytes[self.length..self.length + length];
+        let mut rest = number;
+        for pair in place.rchunks_exact_mut(2) {
+            pair.copy_from_slice(&DIGITS[(rest % 100) as usize]);
+            rest /= 100;
+        }
+        if length % 2 == 1 {
+            place[0] = b'0' + rest as u8;
+        }
+        self.length += length;
     }
-    text.push(b'\n');
-}
 
-/// The beginning of a line: time, receiver, sender and number.
-fn put_head(text: &mut Vec<u8>, time: u64, receiver: &str, sender: &str, number: u64) {
-    put_number(text, time);
-    text.push(b' ');
-    text.extend_from_slice(receiver.as_bytes());
-    text.push(b' ');
-    text.extend_from_slice(sender.as_bytes());
-    text.push(b' ');
-    put_number(text, number);
-}
-
-fn put_payload(text: &mut Vec<u8>, network: &Network, kind: u64, job: u64) {
-    if kind == TICK {
-        return text.extend_from_slice(b" tick");
+    /// A word and a number.
+    fn put_count(&mut self, word: &Word, number: u64) {
+        self.put(word);
+        self.put_number(number);
     }
-    let source = (job >> 50 & 63) as usize;
-    text.extend_from_slice(if kind == JOB { b" job " } else { b" done " });
-    text.extend_from_slice(network.names[source].as_bytes());
-    text.push(b'.');
-    put_number(text, job >> 30 & ((1 << 20) - 1));
-    if network.shows_class {
-        text.extend_from_slice(&[b':', b'0' + network.classes[source]]);
+
+    /// The beginning of a line: time, receiver, sender and number.
+    fn begin(&mut self, time: u64, receiver: &Word, sender: &Word, number: u64) {
+        self.length = 0;
+        self.put_number(time);
+        self.put(receiver);
+        self.put_count(sender, number);
+    }
+
+    fn put_payload(&mut self, network: &Network, kind: u64, job: u64) {
+        if kind == TICK {
+            return self.put(&TICKED);
+        }
+        let words = &network.words[(job >> 50 & 63) as usize];
+        self.put_count(if kind == JOB { &words.job } else { &words.done }, job >> 30 & ((1 << 20) - 1));
+        if network.shows_class {
+            self.put(&words.class);
+        }
+    }
+
+    /// The end of a line: the station's counts.
+    fn put_counts(&mut self, station: &Station) {
+        match station.kind {
+            Kind::Source => self.put_count(&SENT, station.count),
+            Kind::Server => {
+                self.put_count(&BUSY, station.busy as u64);
+                self.put_count(&WAIT, station.waiting as u64);
+                self.put_count(&WORKED, station.count);
+                self.put_count(&LOST, station.second);
+            }
+            Kind::Sink => {
+                self.put_count(&GOT, station.count);
+                self.put_count(&STAY, station.second);
+            }
+            Kind::Delay | Kind::Weights | Kind::Turn => self.put_count(&PASSED, station.count),
+        }
+        self.bytes[self.length] = b'\n';
+        self.length += 1;
+    }
+
+    fn text(&self) -> &[u8] {
+        &self.bytes[..self.length]
     }
 }
 
@@ -596,17 +669,18 @@ impl World {
 
     /// Handles all messages with keys below `stop`.
     fn advance(&mut self, network: &Network, stop: u64) {
+        let mut line = Line::new();
         while let Some(&Reverse(next)) = self.pending.heap.peek() {
             let key = (next >> 64) as u64;
             if key >= stop {
                 return;
             }
             self.pending.heap.pop();
-            self.handle(network, key, next as u64);
+            self.handle(network, key, next as u64, &mut line);
         }
     }
 
-    fn handle(&mut self, network: &Network, key: u64, content: u64) {
+    fn handle(&mut self, network: &Network, key: u64, content: u64, line: &mut Line) {
         let (time, sender, number) = (key >> 33, (key >> 26 & 127) as usize, key & ((1 << 26) - 1));
         let (kind, receiver, job) = (content >> 62, (content >> 56 & 63) as usize, content & ((1 << 56) - 1));
         let station = &mut self.stations[receiver];
@@ -616,10 +690,10 @@ impl World {
             DONE => station.done(time, job, &mut self.pending),
             _ => station.arrive(time, job, network.classes[(job >> 50) as usize], &mut self.pending),
         }
-        self.text.reserve(160);
-        put_head(&mut self.text, time, &network.names[receiver], &network.names[sender - 1], number);
-        put_payload(&mut self.text, network, kind, job);
-        put_counts(&mut self.text, station);
+        line.begin(time, &network.words[receiver].receiver, &network.words[sender - 1].sender, number);
+        line.put_payload(network, kind, job);
+        line.put_counts(station);
+        self.text.extend_from_slice(line.text());
     }
 
     /// Handles all that comes before a change, and the change.
@@ -628,12 +702,14 @@ impl World {
         let station = &mut self.stations[set.station];
         count_handled(station, network);
         station.change(set.time, set, &mut self.pending);
-        put_head(&mut self.text, set.time, &network.names[set.station], "analyst", key & ((1 << 26) - 1));
-        self.text.extend_from_slice(format!(" set {}", set.parameter).as_bytes());
+        let mut line = Line::new();
+        line.begin(set.time, &network.words[set.station].receiver, &ANALYST, key & ((1 << 26) - 1));
+        line.put(&word(&format!(" set {}", set.parameter)));
         for value in &set.values {
-            self.text.extend_from_slice(format!(" {value}").as_bytes());
+            line.put_count(&word(" "), *value as u64);
         }
-        put_counts(&mut self.text, station);
+        line.put_counts(station);
+        self.text.extend_from_slice(line.text());
     }
 }
 
