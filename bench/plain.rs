@@ -5,13 +5,15 @@
 //!     plain MODEL SCRIPT --share      the whole simulation is copied where lists of decisions first differ
 //!
 //! It writes the traces of `cloner run`, byte for byte, and no report. It trusts that the model and the script are
-//! valid, and knows of TOML what the workloads use: integers, strings, arrays, inline tables and `[[station]]`.
-//! Build it with `rustc -O plain.rs`; it needs no crates.
+//! valid, and knows of TOML what plain_toml.rs says. Build it with `rustc -O plain.rs`; it needs no crates.
 
 use std::cmp::Reverse;
 use std::collections::{BinaryHeap, HashMap, VecDeque};
 use std::io::Write;
 use std::rc::Rc;
+
+mod plain_toml;
+use plain_toml::{Reader, Value};
 
 // ---- random numbers ----
 
@@ -234,125 +236,6 @@ impl Station {
 
 // ---- the model ----
 
-/// A value of the TOML that this program knows.
-enum Value {
-    Number(u64),
-    Text(String),
-    List(Vec<Value>),
-    Table(HashMap<String, Value>),
-}
-
-impl Value {
-    fn number(&self) -> u64 {
-        match self {
-            Value::Number(number) => *number,
-            _ => panic!("a number was expected"),
-        }
-    }
-
-    fn text(&self) -> &str {
-        match self {
-            Value::Text(text) => text,
-            _ => panic!("a string was expected"),
-        }
-    }
-
-    fn list(&self) -> &[Value] {
-        match self {
-            Value::List(values) => values,
-            _ => panic!("an array was expected"),
-        }
-    }
-
-    fn table(&self) -> &HashMap<String, Value> {
-        match self {
-            Value::Table(table) => table,
-            _ => panic!("a table was expected"),
-        }
-    }
-}
-
-/// Reads TOML from its bytes, from left to right.
-struct Reader<'a> {
-    rest: &'a [u8],
-}
-
-impl Reader<'_> {
-    /// Skips blanks, line ends and comments, and gives the next byte, 0 at the end.
-    fn next(&mut self) -> u8 {
-        loop {
-            match self.rest.first() {
-                Some(b'#') => {
-                    let end = self.rest.iter().position(|&byte| byte == b'\n').unwrap_or(self.rest.len());
-                    self.rest = &self.rest[end..];
-                }
-                Some(b' ' | b'\t' | b'\r' | b'\n') => self.rest = &self.rest[1..],
-                found => return found.copied().unwrap_or(0),
-            }
-        }
-    }
-
-    /// Takes the text if it is next.
-    fn takes(&mut self, text: &str) -> bool {
-        self.next();
-        let found = self.rest.starts_with(text.as_bytes());
-        if found {
-            self.rest = &self.rest[text.len()..];
-        }
-        found
-    }
-
-    fn word(&mut self) -> String {
-        self.next();
-        let is_word = |byte: &u8| byte.is_ascii_alphanumeric() || *byte == b'_';
-        let end = self.rest.iter().position(|byte| !is_word(byte)).unwrap_or(self.rest.len());
-        let (word, rest) = self.rest.split_at(end);
-        self.rest = rest;
-        String::from_utf8(word.to_vec()).expect("words are ASCII")
-    }
-
-    fn pair(&mut self, table: &mut HashMap<String, Value>) {
-        let name = self.word();
-        assert!(self.takes("="), "no value after the key '{name}'");
-        let value = self.value();
-        table.insert(name, value);
-    }
-
-    fn value(&mut self) -> Value {
-        if self.takes("\"") {
-            let text = self.word();
-            assert!(self.takes("\""), "the string '{text}' doesn't end");
-            return Value::Text(text);
-        }
-        if self.takes("[") {
-            let mut values = Vec::new();
-            while !self.takes("]") {
-                values.push(self.value());
-                self.takes(",");
-            }
-            return Value::List(values);
-        }
-        if self.takes("{") {
-            let mut table = HashMap::new();
-            while !self.takes("}") {
-                self.pair(&mut table);
-                self.takes(",");
-            }
-            return Value::Table(table);
-        }
-        Value::Number(self.word().parse().expect("a number"))
-    }
-
-    /// The keys up to the next `[[station]]` or the end.
-    fn section(&mut self) -> HashMap<String, Value> {
-        let mut table = HashMap::new();
-        while !matches!(self.next(), 0 | b'[') {
-            self.pair(&mut table);
-        }
-        table
-    }
-}
-
 /// A network as it begins, and what its texts need.
 struct Network {
     names: Vec<String>,
@@ -399,7 +282,7 @@ fn station_of(table: &HashMap<String, Value>, names: &[String], me: usize, seed:
         servers: number_or(table, "servers", 0) as u32,
         room: number_or(table, "room", 0) as usize,
         jobs: number_or(table, "jobs", 0),
-        by_class: table.get("order").is_some_and(|order| order.text() == "class"),
+        by_class: table.get("order").map_or(false, |order| order.text() == "class"),
         links: links_of(table, names),
         weights: 0,
         next_number: 0,
@@ -499,16 +382,18 @@ fn read_script(text: &str, network: &Network) -> Vec<Branch> {
 
 // ---- the traces' texts ----
 
-const DIGITS: [[u8; 2]; 100] = digits();
+/// The four digits of each number below 10,000, the first one in the lowest byte.
+static DIGITS: [u32; 10000] = digits();
 
-const fn digits() -> [[u8; 2]; 100] {
-    let mut pairs = [[b'0'; 2]; 100];
+const fn digits() -> [u32; 10000] {
+    let mut table = [0; 10000];
     let mut number = 0;
-    while number < 100 {
-        pairs[number] = [b'0' + (number / 10) as u8, b'0' + (number % 10) as u8];
+    while number < 10000 {
+        let [a, b, c, d] = [number / 1000, number / 100 % 10, number / 10 % 10, number % 10];
+        table[number] = u32::from_le_bytes([b'0' + a as u8, b'0' + b as u8, b'0' + c as u8, b'0' + d as u8]);
         number += 1;
     }
-    pairs
+    table
 }
 
 /// A short text in a field of fixed size, which is copied whole.
@@ -575,23 +460,24 @@ impl Line {
         self.length += word.length;
     }
 
-    fn put_number(&mut self, number: u64) {
-        if number < 10 {
-            self.bytes[self.length] = b'0' + number as u8;
-            self.length += 1;
-            return;
-        }
-        let length = number.ilog10() as usize + 1;
-        let place = &mut self.bytes[self.length..self.length + length];
-        let mut rest = number;
-        for pair in place.rchunks_exact_mut(2) {
-            pair.copy_from_slice(&DIGITS[(rest % 100) as usize]);
-            rest /= 100;
-        }
-        if length % 2 == 1 {
-            place[0] = b'0' + rest as u8;
-        }
+    fn put_digits(&mut self, digits: u32, length: usize) {
+        self.bytes[self.length..self.length + 4].copy_from_slice(&digits.to_le_bytes());
         self.length += length;
+    }
+
+    #[inline]
+    fn put_number(&mut self, number: u64) {
+        if number >= 10000 {
+            return self.put_long_number(number);
+        }
+        let length = 1 + (number >= 10) as usize + (number >= 100) as usize + (number >= 1000) as usize;
+        self.put_digits(DIGITS[number as usize] >> (8 * (4 - length)), length);
+    }
+
+    /// A number of more than four digits.
+    fn put_long_number(&mut self, number: u64) {
+        self.put_number(number / 10000);
+        self.put_digits(DIGITS[(number % 10000) as usize], 4);
     }
 
     /// A word and a number.
@@ -779,7 +665,8 @@ impl Sharing<'_> {
     }
 
     /// The clones that leave a group: to their end, or in a copy of the simulation that takes a change.
-    fn depart(&mut self, same: Vec<usize>, taken: usize, world: &World, before: Option<Rc<Piece>>, set: Option<(u64, Set)>) {
+    fn depart(&mut self, same: Vec<usize>, taken: usize, world: &World, before: Option<Rc<Piece>>,
+              set: Option<(u64, Set)>) {
         if let Some((key, set)) = set {
             let mut copy = world.clone();
             copy.change(self.network, key, &set);

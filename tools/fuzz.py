@@ -22,6 +22,7 @@ from pathlib import Path
 from fuzz_cases import made_case
 
 TOP = Path(__file__).resolve().parent.parent
+BUILT = TOP / "crates" / "cloner_cli" / "out" / "cloner_cli"
 SECONDS = 60
 ERRORS = {4: rb"cloner: model: refusal \d+ at station \d+( key [a-z0-9_?]{0,32})?\n",
           5: rb"cloner: script: refusal \d+ at line \d+\n",
@@ -38,7 +39,7 @@ class Difference(Exception):
 def arguments():
     """The options of this script."""
     parser = argparse.ArgumentParser(description="Compares `cloner run` with `cloner solo` and itself on made cases.")
-    parser.add_argument("--bin", type=Path, metavar="FILE", default=TOP / "crates" / "cloner_cli" / "out" / "cloner_cli")
+    parser.add_argument("--bin", type=Path, metavar="FILE", default=BUILT, help="the program; by default as built")
     parser.add_argument("--cases", type=int, default=1000, metavar="N", help="how many cases; by default 1000")
     parser.add_argument("--seed", type=int, default=1, metavar="N", help="the cases' seed; by default 1")
     parser.add_argument("--first", type=int, default=0, metavar="N", help="the first case's number; by default 0")
@@ -203,7 +204,7 @@ def check_case(runner, plainest):
     for number in runner.workers:
         other = runner.run("--workers", number)
         if other != ended:
-            raise Difference(f"{number} workers: status {other.status} {other.err[:200]!r}, other output or line than 1")
+            raise Difference(f"{number} workers: status {other.status} {other.err[:200]!r}; not as 1 worker")
     if ended.status:
         check_refused(runner, ended)
     else:

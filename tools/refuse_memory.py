@@ -18,6 +18,7 @@ from pathlib import Path
 
 HERE = Path(__file__).resolve().parent
 TOP = HERE.parent
+BUILT = TOP / "crates" / "cloner_cli" / "out" / "cloner_cli"
 SMALL = ["run", str(TOP / "examples" / "small.toml"), str(TOP / "examples" / "small.txt")]
 OUT_OF_MEMORY = b"cloner: out of memory\n"
 
@@ -25,10 +26,10 @@ OUT_OF_MEMORY = b"cloner: out of memory\n"
 def arguments():
     """The options of this script."""
     parser = argparse.ArgumentParser(description="Refuses each allocation of `cloner` in turn.")
-    parser.add_argument("--bin", type=Path, metavar="FILE", default=TOP / "crates" / "cloner_cli" / "out" / "cloner_cli")
+    parser.add_argument("--bin", type=Path, metavar="FILE", default=BUILT, help="the program; by default as built")
     parser.add_argument("--after", action="store_true", help="refuse all allocations from the n-th on")
     parser.add_argument("--step", type=int, default=1, metavar="N", help="try every N-th number only; by default 1")
-    parser.add_argument("words", nargs="*", metavar="WORD", help="the command line; by default run of the small example")
+    parser.add_argument("words", nargs="*", metavar="WORD", help="the words; by default run of the small example")
     return parser.parse_args()
 
 
