@@ -182,7 +182,7 @@ def measure_growth(bench, plotted):
         cells = ["`cloner`, ms", "to the first row"] if silent else ["messages", "`cloner`, ns a message",
                                                                     "to the first row", "plain", "to the first row"]
         headed(f"Growth with the number of {kind}: least processor time" +
-               (" of a run that ends at its limit, without texts" if silent else ""), [kind, *cells])
+               (" of a run that ends at its limit, without texts" if silent else ""), ["number", *cells])
         lines, first = {}, None
         for name, (number, _) in grown.items():
             messages, times = growth_row(bench, name, silent)
