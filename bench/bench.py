@@ -63,8 +63,8 @@ class Bench:
     def __init__(self, chosen, folder):
         self.cloner, self.folder, self.rounds = program(chosen.bin), folder, chosen.rounds
         self.plain = str(folder / "plain")
-        subprocess.run(["rustc", "-O", "-C", "codegen-units=1", "--edition", "2021", "-o", self.plain,
-                        HERE / "plain.rs"], check=True)
+        subprocess.run(["rustc", "-O", "-C", "codegen-units=1", "-C", "panic=abort", "--edition", "2021",
+                        "-o", self.plain, HERE / "plain.rs"], check=True)
         small = [str(TOP / "examples" / name) for name in ("small.toml", "small.txt")]
         self.small = [self.cloner, "run", *small]
         more = ["--workers", str(chosen.workers)]

@@ -444,56 +444,66 @@ impl Words {
     }
 }
 
-/// One line of a trace while it is made.
-struct Line {
-    bytes: [u8; 256],
-    length: usize,
+/// How long a line can be at most, with room for the fields behind it.
+const LONGEST: usize = 256;
+
+/// Room for the last lines of a trace, before they are added to its text.
+type Room = [u8; ROOM];
+const ROOM: usize = 16384;
+
+/// Adds the digits of a number of more than four digits; gives the place behind them.
+fn put_long_number(room: &mut Room, place: usize, number: u64) -> usize {
+    let mut line = Line { room, place };
+    line.put_number(number / 10000);
+    line.put_digits(DIGITS[(number % 10000) as usize], 4);
+    line.place
 }
 
-impl Line {
-    fn new() -> Line {
-        Line { bytes: [0; 256], length: 0 }
-    }
+/// A line of a trace while it is made: where it is made, and the place of what comes next.
+struct Line<'a> {
+    room: &'a mut Room,
+    place: usize,
+}
 
+impl Line<'_> {
+    #[inline(always)]
     fn put(&mut self, word: &Word) {
-        self.bytes[self.length..self.length + 24].copy_from_slice(&word.bytes);
-        self.length += word.length;
+        self.room[self.place..self.place + 24].copy_from_slice(&word.bytes);
+        self.place += word.length;
     }
 
+    #[inline(always)]
     fn put_digits(&mut self, digits: u32, length: usize) {
-        self.bytes[self.length..self.length + 4].copy_from_slice(&digits.to_le_bytes());
-        self.length += length;
+        self.room[self.place..self.place + 4].copy_from_slice(&digits.to_le_bytes());
+        self.place += length;
     }
 
-    #[inline]
+    #[inline(always)]
     fn put_number(&mut self, number: u64) {
         if number >= 10000 {
-            return self.put_long_number(number);
+            self.place = put_long_number(self.room, self.place, number);
+            return;
         }
         let length = 1 + (number >= 10) as usize + (number >= 100) as usize + (number >= 1000) as usize;
         self.put_digits(DIGITS[number as usize] >> (8 * (4 - length)), length);
     }
 
-    /// A number of more than four digits.
-    fn put_long_number(&mut self, number: u64) {
-        self.put_number(number / 10000);
-        self.put_digits(DIGITS[(number % 10000) as usize], 4);
-    }
-
     /// A word and a number.
+    #[inline(always)]
     fn put_count(&mut self, word: &Word, number: u64) {
         self.put(word);
         self.put_number(number);
     }
 
     /// The beginning of a line: time, receiver, sender and number.
+    #[inline(always)]
     fn begin(&mut self, time: u64, receiver: &Word, sender: &Word, number: u64) {
-        self.length = 0;
         self.put_number(time);
         self.put(receiver);
         self.put_count(sender, number);
     }
 
+    #[inline(always)]
     fn put_payload(&mut self, network: &Network, kind: u64, job: u64) {
         if kind == TICK {
             return self.put(&TICKED);
@@ -505,8 +515,9 @@ impl Line {
         }
     }
 
-    /// The end of a line: the station's counts.
-    fn put_counts(&mut self, station: &Station) {
+    /// The end of a line: the station's counts. Gives the place behind it.
+    #[inline(always)]
+    fn end(mut self, station: &Station) -> usize {
         match station.kind {
             Kind::Source => self.put_count(&SENT, station.count),
             Kind::Server => {
@@ -521,12 +532,8 @@ impl Line {
             }
             Kind::Delay | Kind::Weights | Kind::Turn => self.put_count(&PASSED, station.count),
         }
-        self.bytes[self.length] = b'\n';
-        self.length += 1;
-    }
-
-    fn text(&self) -> &[u8] {
-        &self.bytes[..self.length]
+        self.room[self.place] = b'\n';
+        self.place + 1
     }
 }
 
@@ -555,18 +562,24 @@ impl World {
 
     /// Handles all messages with keys below `stop`.
     fn advance(&mut self, network: &Network, stop: u64) {
-        let mut line = Line::new();
+        let (mut room, mut place) = ([0; ROOM], 0);
         while let Some(&Reverse(next)) = self.pending.heap.peek() {
             let key = (next >> 64) as u64;
             if key >= stop {
-                return;
+                break;
             }
             self.pending.heap.pop();
-            self.handle(network, key, next as u64, &mut line);
+            place = self.handle(network, key, next as u64, &mut room, place);
+            if place > ROOM - LONGEST {
+                self.text.extend_from_slice(&room[..place]);
+                place = 0;
+            }
         }
+        self.text.extend_from_slice(&room[..place]);
     }
 
-    fn handle(&mut self, network: &Network, key: u64, content: u64, line: &mut Line) {
+    /// Handles a message, and makes its line at a place of the room. Gives the place behind it.
+    fn handle(&mut self, network: &Network, key: u64, content: u64, room: &mut Room, place: usize) -> usize {
         let (time, sender, number) = (key >> 33, (key >> 26 & 127) as usize, key & ((1 << 26) - 1));
         let (kind, receiver, job) = (content >> 62, (content >> 56 & 63) as usize, content & ((1 << 56) - 1));
         let station = &mut self.stations[receiver];
@@ -576,10 +589,10 @@ impl World {
             DONE => station.done(time, job, &mut self.pending),
             _ => station.arrive(time, job, network.classes[(job >> 50) as usize], &mut self.pending),
         }
+        let mut line = Line { room, place };
         line.begin(time, &network.words[receiver].receiver, &network.words[sender - 1].sender, number);
         line.put_payload(network, kind, job);
-        line.put_counts(station);
-        self.text.extend_from_slice(line.text());
+        line.end(station)
     }
 
     /// Handles all that comes before a change, and the change.
@@ -588,14 +601,15 @@ impl World {
         let station = &mut self.stations[set.station];
         count_handled(station, network);
         station.change(set.time, set, &mut self.pending);
-        let mut line = Line::new();
+        let mut room = [0; ROOM];
+        let mut line = Line { room: &mut room, place: 0 };
         line.begin(set.time, &network.words[set.station].receiver, &ANALYST, key & ((1 << 26) - 1));
         line.put(&word(&format!(" set {}", set.parameter)));
         for value in &set.values {
             line.put_count(&word(" "), *value as u64);
         }
-        line.put_counts(station);
-        self.text.extend_from_slice(line.text());
+        let end = line.end(station);
+        self.text.extend_from_slice(&room[..end]);
     }
 }
 
@@ -665,8 +679,14 @@ impl Sharing<'_> {
     }
 
     /// The clones that leave a group: to their end, or in a copy of the simulation that takes a change.
-    fn depart(&mut self, same: Vec<usize>, taken: usize, world: &World, before: Option<Rc<Piece>>,
-              set: Option<(u64, Set)>) {
+    fn depart(
+        &mut self,
+        same: Vec<usize>,
+        taken: usize,
+        world: &World,
+        before: Option<Rc<Piece>>,
+        set: Option<(u64, Set)>,
+    ) {
         if let Some((key, set)) = set {
             let mut copy = world.clone();
             copy.change(self.network, key, &set);
