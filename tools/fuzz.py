@@ -5,8 +5,9 @@
 
 Of each case: `run` against `solo` of each clone; 1 against 4 and 16 workers, where the program knows
 `--workers`; the report against counts out of the traces; the traces' order; the form of error lines,
-and no output beside one. With --plain also the traces of the plain simulator of bench/. A case that
-fails is kept in a folder, with its model, its script and what was found. Status 1 where one failed.
+and no output beside one; on a valid model the script's refusal, or its clones, against the formats
+written once more. With --plain also the traces of the plain simulator of bench/. A case that fails is
+kept in a folder, with its model, its script and what was found. Status 1 where one failed.
 """
 import argparse
 import collections
@@ -20,6 +21,7 @@ import time
 from pathlib import Path
 
 from fuzz_cases import made_case
+from fuzz_script import expected
 
 TOP = Path(__file__).resolve().parent.parent
 BUILT = TOP / "crates" / "cloner_cli" / "out" / "cloner_cli"
@@ -195,25 +197,42 @@ def check_refused(runner, ended):
         raise Difference(f"`run` says {ended.err!r}, `solo` of {clone} {alone.status} {alone.err[:200]!r}")
 
 
-def check_case(runner, plainest):
+def check_said(case, ended):
+    """On a valid model: the error line of the script, or the clones, against what the formats say."""
+    line, clones = expected(case.script, case.valid)
+    if line and ended.err.decode() != line:
+        raise Difference(f"the script must get {line!r}, it gets status {ended.status} {ended.err!r}")
+    if not line and ended.status not in (0, 7):
+        raise Difference(f"a valid model and script get {ended.err!r}")
+    if not line and ended.status == 0 and list(split(ended.out)[0]) != clones:
+        raise Difference(f"the traces are not those of {clones}")
+
+
+def check_plain(runner, case, ended):
+    """The traces against those of the plain simulator."""
+    write(runner.plainest, case.plainest)
+    words = [runner.plain, runner.plainest, runner.script]
+    plain = runner.started(words + ["--share"] if len(case.script) % 2 else words)
+    if plain.status or plain.out != ended.out[:ended.out.rindex(b"report\n")]:
+        raise Difference(f"the plain simulator differs: status {plain.status} {plain.err[:200]!r}")
+
+
+def check_case(runner, case):
     """All comparisons of the present case; gives the status of its run."""
     ended = runner.run()
     check_end(ended)
-    if plainest and ended.status not in (0, 6, 7):
-        raise Difference(f"a valid model and script got status {ended.status}: {ended.err!r}")
+    if case.valid:
+        check_said(case, ended)
     for number in runner.workers:
         other = runner.run("--workers", number)
         if other != ended:
             raise Difference(f"{number} workers: status {other.status} {other.err[:200]!r}; not as 1 worker")
     if ended.status:
         check_refused(runner, ended)
-    else:
-        check_whole(runner, ended)
-        if plainest and runner.plain:
-            write(runner.plainest, plainest)
-            plain = runner.started([runner.plain, runner.plainest, runner.script])
-            if plain.status or plain.out != ended.out[:ended.out.rindex(b"report\n")]:
-                raise Difference(f"the plain simulator differs: status {plain.status} {plain.err[:200]!r}")
+        return ended.status
+    check_whole(runner, ended)
+    if case.valid and runner.plain:
+        check_plain(runner, case, ended)
     return ended.status
 
 
@@ -221,7 +240,7 @@ def keep(folder, name, case, why):
     """Writes a case that failed, and what was found, into a folder."""
     place = folder / name
     place.mkdir(parents=True, exist_ok=True)
-    for part, data in zip(("model.toml", "script.txt", "found.txt"), (case[0], case[1], f"{why}\n".encode())):
+    for part, data in zip(("model.toml", "script.txt", "found.txt"), (case.model, case.script, f"{why}\n".encode())):
         write(place / part, data)
     print(f"case {name}: {why}", flush=True)
 
@@ -231,10 +250,10 @@ def fuzz(chosen, runner):
     statuses, failures = collections.Counter(), 0
     for number in range(chosen.first, chosen.first + chosen.cases):
         case = made_case(chosen.seed, number)
-        write(runner.model, case[0])
-        write(runner.script, case[1])
+        write(runner.model, case.model)
+        write(runner.script, case.script)
         try:
-            statuses[check_case(runner, case[2])] += 1
+            statuses[check_case(runner, case)] += 1
         except Difference as why:
             failures += 1
             keep(chosen.keep, f"{chosen.seed}-{number}", case, why)

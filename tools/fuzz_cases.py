@@ -202,17 +202,20 @@ def mutated(rng, text):
     return bytes(data)
 
 
+class Case:
+    """The texts of model and script; the model itself where its text is valid, and its plainest text."""
+
+    def __init__(self, model, script, valid=None):
+        self.model, self.script, self.valid = model, script, valid
+        self.plainest = valid and model_text(valid).encode()
+
+
 def made_case(seed, number):
-    """Case `number` of a seed: the texts of model and script, and a plain model text where it is valid."""
+    """Case `number` of a seed: valid, or with a mutated model, a mutated script, or both."""
     rng = random.Random(f"{seed} {number}")
     model = made_model(rng)
     script = made_script(rng, model)
-    if rng.random() < 0.6:
-        return model_text(model, rng).encode(), script.encode(), model_text(model).encode()
-    model_bytes, script_bytes = model_text(model, rng).encode(), script.encode()
     which = rng.random()
-    if which < 0.6:
-        model_bytes = mutated(rng, model_text(model, rng))
-    if which > 0.4:
-        script_bytes = mutated(rng, script)
-    return model_bytes, script_bytes, None
+    script = mutated(rng, script) if 0.4 < which < 0.7 else script.encode()
+    text = model_text(model, rng)
+    return Case(mutated(rng, text), script) if which > 0.6 else Case(text.encode(), script, model)
