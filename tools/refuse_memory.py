@@ -64,11 +64,13 @@ def fault(run, whole):
 
 def tried(command, preload, chosen):
     """Runs with each number in turn: the statuses' counts, the faults, and how many are asked in all."""
-    whole = subprocess.run(command, capture_output=True, check=True).stdout
+    first = subprocess.run(command, capture_output=True, check=False)
+    if first.returncode:
+        sys.exit(f"with all its memory the program ends with status {first.returncode}: {first.stderr.decode()}")
     statuses, faults, number = collections.Counter(), [], 1
     while True:
         reached, run = refused(command, preload, number, chosen.after)
-        why = fault(run, whole)
+        why = fault(run, first.stdout)
         if why:
             faults.append((number, why))
         if not reached:
