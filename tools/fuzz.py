@@ -21,6 +21,7 @@ import time
 from pathlib import Path
 
 from fuzz_cases import made_case
+from fuzz_model import expected_model
 from fuzz_script import expected
 
 TOP = Path(__file__).resolve().parent.parent
@@ -198,10 +199,15 @@ def check_refused(runner, ended):
 
 
 def check_said(case, ended):
-    """On a valid model: the error line of the script, or the clones, against what the formats say."""
-    line, clones = expected(case.script, case.valid)
+    """The error line, or the clones, against what the formats say of the two texts."""
+    line, model = expected_model(case.model)
+    if case.plainest and line:
+        raise Difference(f"fuzz itself: a made model would get {line!r}")
+    clones = None
+    if not line:
+        line, clones = expected(case.script, model)
     if line and ended.err.decode() != line:
-        raise Difference(f"the script must get {line!r}, it gets status {ended.status} {ended.err!r}")
+        raise Difference(f"{line!r} must be said, it is status {ended.status} {ended.err!r}")
     if not line and ended.status not in (0, 7):
         raise Difference(f"a valid model and script get {ended.err!r}")
     if not line and ended.status == 0 and list(split(ended.out)[0]) != clones:
@@ -221,8 +227,7 @@ def check_case(runner, case):
     """All comparisons of the present case; gives the status of its run."""
     ended = runner.run()
     check_end(ended)
-    if case.valid:
-        check_said(case, ended)
+    check_said(case, ended)
     for number in runner.workers:
         other = runner.run("--workers", number)
         if other != ended:
@@ -231,7 +236,7 @@ def check_case(runner, case):
         check_refused(runner, ended)
         return ended.status
     check_whole(runner, ended)
-    if case.valid and runner.plain:
+    if case.plainest and runner.plain:
         check_plain(runner, case, ended)
     return ended.status
 
