@@ -6,6 +6,8 @@ KINDS = ["source", "server", "delay", "router", "sink"]
 NUMBERS = ["0", "1", "2", "16", "17", "64", "255", "256", "4096", "4097", "65535", "65536", "65537", "1000000",
            "1000001", "1000000000", "1000000001", "2147483647", "4294967295", "4294967296", "9223372036854775807",
            "9223372036854775808", "-1", "08", "1.5", "0x10", "1_000", "true", '"1"', "[1, 2]", "1979-05-27"]
+VALUES = [0, 1, 2, 5, -1, 16, 17, 4097, 65537, 1000001, 10**9 + 1, 2**63 - 1, "x", "", "analyst", "class", "turn",
+          "source", "sink", [1, 2], [2, 1], [0, 0], [1, 2, 3], [], ["a", 1], [1, 1000001]]
 WORDS = ["base", "analyst", "fork", "set", "end", "look", "from", "at", "service", "servers", "room", "every", "hold",
          "weight", "horizon", "lookahead", "station", "link", "class", "order", "format", "seed", "limit", "#", "="]
 
@@ -202,6 +204,29 @@ def mutated(rng, text):
     return bytes(data)
 
 
+def spoiled(rng, model):
+    """The model with one key dropped, added or changed somewhere; it may still be valid."""
+    stations = [station.keys for station in model.stations]
+    links = [link for station in model.stations for link in station.links]
+    table = rng.choice([model.top, rng.choice(stations), rng.choice(stations), rng.choice(links or stations)])
+    names = [station.name for station in model.stations]
+    way = rng.randrange(6)
+    if way == 0 and table:
+        del table[rng.choice(list(table))]
+    elif way == 1:
+        table[rng.choice(["speed", "class", "order", "servers", "link", "to", "weight", "a-b"])] = rng.choice(VALUES)
+    elif way == 2:
+        rng.choice(stations)["name"] = rng.choice(names + ["Desk", "analyst"])
+    elif way == 3 and links:
+        rng.choice(links)["to"] = rng.choice(names + ["nobody", "analyst", "no name"])
+    elif way == 4:
+        place = rng.choice(model.stations)
+        place.links = place.links * rng.choice([0, 2, 17])
+    elif table:
+        table[rng.choice(list(table))] = rng.choice(VALUES)
+    return model
+
+
 class Case:
     """The texts of model and script; the model itself where its text is valid, and its plainest text."""
 
@@ -211,11 +236,13 @@ class Case:
 
 
 def made_case(seed, number):
-    """Case `number` of a seed: valid, or with a mutated model, a mutated script, or both."""
+    """Case `number` of a seed: valid, or with a mutated or spoiled model, a mutated script, or both."""
     rng = random.Random(f"{seed} {number}")
     model = made_model(rng)
     script = made_script(rng, model)
     which = rng.random()
     script = mutated(rng, script) if 0.4 < which < 0.7 else script.encode()
+    if which > 0.8:
+        return Case(model_text(spoiled(rng, model), rng).encode(), script)
     text = model_text(model, rng)
     return Case(mutated(rng, text), script) if which > 0.6 else Case(text.encode(), script, model)
