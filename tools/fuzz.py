@@ -6,8 +6,8 @@
 Of each case: `run` against `solo` of each clone; 1 against 4 and 16 workers, where the program knows
 `--workers`; the report against counts out of the traces; the traces' order; the form of error lines,
 and no output beside one; the refusal of the model, the script or a decision, or the clones, against
-the formats written once more. With --plain also the traces of the plain simulator of bench/. A case that fails is
-kept in a folder, with its model, its script and what was found. Status 1 where one failed.
+the formats written once more. With --plain also the traces of the plain simulator of bench/. A case
+that fails is kept in a folder, with its model, its script and what was found. Status 1 where one failed.
 """
 import argparse
 import collections
