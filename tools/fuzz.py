@@ -203,6 +203,8 @@ def check_said(case, ended):
     line, model = expected_model(case.model)
     if case.plainest and line:
         raise Difference(f"fuzz itself: a made model would get {line!r}")
+    if not line and not model:
+        return
     clones = None
     if not line:
         line, clones = expected(case.script, model)

@@ -1,4 +1,7 @@
-"""What docs/FORMATS.md says of a model's text, written once more over Python's reader of TOML, for fuzz.py."""
+"""What docs/FORMATS.md says of a model's text, written once more over Python's reader of TOML, for fuzz.py.
+
+Python reads TOML 1.0 and `cloner` TOML 1.1. Where only the later one may take a text, nothing is said of it.
+"""
 import re
 import tomllib
 
@@ -6,6 +9,8 @@ from fuzz_cases import Model, Station
 
 NAME = re.compile(r"[a-z][a-z0-9_]{0,15}\Z")
 MOST = 2**63 - 1
+# Line ends or a last comma in an inline table, two more escapes, and times without seconds.
+LATER = re.compile(rb"\{[^{}]*(\n|,\s*\})|\\[ex]|\d\d:\d\d(?!:)")
 KINDS = ("source", "server", "delay", "router", "sink")
 # Of each key: the kinds that have it, whether it is required, its type, and its range or words.
 STATION = {"stream": (KINDS, False, int, (0, MOST)), "every": (("source",), True, list, (1, 1000000)),
@@ -16,6 +21,10 @@ STATION = {"stream": (KINDS, False, int, (0, MOST)), "every": (("source",), True
            "by": (("router",), True, str, ("weights", "turn"))}
 TOP = {"format": (False, (1, 2)), "lookahead": (True, (1, 1000000)), "horizon": (True, (1, 1000000000)),
        "seed": (False, (0, MOST)), "limit": (False, (1, 65536))}
+
+
+class Unsure(Exception):
+    """The text may be TOML 1.1 alone."""
 
 
 class Refused(Exception):
@@ -135,7 +144,7 @@ def tested(data):
     try:
         model = tomllib.loads(data.decode())
     except (ValueError, RecursionError):
-        raise Refused(2, 0, None) from None
+        raise Unsure if LATER.search(data) else Refused(2, 0, None) from None
     if has_long_number(model):
         raise Refused(2, 0, None)
     test_top(model)
@@ -152,8 +161,10 @@ def tested(data):
 
 
 def expected_model(data):
-    """The error line that a model must get, or the model."""
+    """The error line that a model must get, or the model; neither where that is unsure."""
     try:
         return None, tested(data)
+    except Unsure:
+        return None, None
     except Refused as why:
         return why.line(), None
