@@ -1,186 +1,245 @@
 #!/usr/bin/env python3
-"""Measures `cloner run` beside the plain simulator of the yardsticks, workload by workload.
+"""Builds all that `cloner` is measured with, measures, and prints the tables as Markdown.
 
-    bench/bench.py [--bin FILE] [--yardsticks DIR] [--rounds N] [WORKLOAD ..]
+    bench/bench.py [--bin FILE] [--rounds N] [--workers N] [--only PART] [--plot FILE] [WORKLOAD ..]
 
-The two programs run in turn within each round, with their output thrown away. Before that each runs
-once for its bytes and its peak memory, and the bytes must be equal. Where the yardsticks are not
-there, the program is measured alone, on examples/. Status 1 where a run failed or the bytes differ.
+Parts: `workloads` (beside the plain simulator), `solo`, `start`, `growth` (also a plot as SVG), and
+`simpy`; by default all. Within each round all programs run in turn, with their output thrown away. Before
+that each runs once for its bytes and its peak memory, and the bytes must be equal. Status 1 where a run
+failed or bytes differ. README.md says what the columns mean.
 """
 import argparse
-import itertools
 import os
 import statistics
 import subprocess
 import sys
 import tempfile
-import time
 from pathlib import Path
 
-TOP = Path(__file__).resolve().parent.parent
+import plot
+import workloads
+from running import Failed, begins, peak_and_bytes, rounds_of, seconds
+
+HERE = Path(__file__).resolve().parent
+TOP = HERE.parent
 CRATE = TOP / "crates" / "cloner_cli"
 BUILT = CRATE / "out" / "cloner_cli"
-GNU_TIME = Path("/usr/bin/time")
-
-
-class Failed(Exception):
-    """A run or a comparison that ends the measurement; the text says which."""
+PARTS = ("workloads", "solo", "start", "growth", "simpy")
 
 
 def arguments():
-    parser = argparse.ArgumentParser(description="Measures `cloner run` beside the plain simulator.")
-    parser.add_argument("--bin", type=Path, metavar="FILE",
-                        help="the program; by default crates/cloner_cli/out/cloner_cli, built if absent")
-    parser.add_argument("--yardsticks", type=Path, metavar="DIR", default=TOP.parent / "shared" / "bench",
-                        help="the folder of the yardsticks; by default ../shared/bench beside the checkout")
-    parser.add_argument("--rounds", type=int, default=11, metavar="N",
-                        help="how often each program is timed; by default 11")
-    parser.add_argument("workloads", nargs="*", metavar="WORKLOAD",
-                        help="names that the yardsticks know, by default clinic heavy wide; without "
-                             "yardsticks names of examples, by default all of them")
+    """The options of this script."""
+    parser = argparse.ArgumentParser(description="Measures `cloner` beside unproved programs.")
+    parser.add_argument("--bin", type=Path, metavar="FILE", help="the program; by default as built, built if absent")
+    parser.add_argument("--rounds", type=int, default=7, metavar="N", help="how often each is timed; by default 7")
+    parser.add_argument("--workers", type=int, default=4, metavar="N", help="measure so many workers too; by default 4")
+    parser.add_argument("--only", action="append", choices=PARTS, metavar="PART", help="this part alone; repeatable")
+    parser.add_argument("--plot", type=Path, metavar="FILE", default=Path("growth.svg"),
+                        help="where the plot is written; by default growth.svg")
+    parser.add_argument("workloads", nargs="*", metavar="WORKLOAD", help="names of workloads; by default all")
     chosen = parser.parse_args()
-    if chosen.rounds < 1:
-        parser.error("--rounds must be at least 1")
+    unknown = [name for name in chosen.workloads if name not in workloads.WORKLOADS]
+    if unknown or chosen.rounds < 1:
+        parser.error(f"no workload {unknown[0]}" if unknown else "--rounds must be at least 1")
     return chosen
 
 
 def program(given):
     """The program to measure, built where it is absent."""
     if given:
-        return given.resolve()
+        return str(given.resolve())
     if not BUILT.exists():
         print("building the program with `rt run`; this proves it first and takes its time", flush=True)
         # `rt run` also runs what it built. Whether that run went well is not the question here.
         subprocess.run(["rt", "run"], cwd=CRATE, check=False)
     if not BUILT.exists():
         raise Failed(f"`rt run` in {CRATE.relative_to(TOP)} left no out/cloner_cli")
-    return BUILT
+    return str(BUILT)
 
 
-def built_plain(yardsticks):
-    """The plain simulator, built by cargo outside the folder of the yardsticks."""
-    target = os.environ.get("CARGO_TARGET_DIR") or Path(tempfile.gettempdir()) / "cloner-bench-target"
-    subprocess.run(["cargo", "build", "--release", "--offline", "--quiet"], cwd=yardsticks / "plain",
-                   env=dict(os.environ, CARGO_TARGET_DIR=str(target)), check=True)
-    return Path(target) / "release" / "plain"
+class Bench:
+    """The programs, the folder for files, and the number of rounds."""
+
+    def __init__(self, chosen, folder):
+        self.cloner, self.folder, self.rounds = program(chosen.bin), folder, chosen.rounds
+        self.plain = str(folder / "plain")
+        subprocess.run(["rustc", "-O", "-C", "codegen-units=1", "-C", "panic=abort", "--edition", "2021",
+                        "-o", self.plain, HERE / "plain.rs"], check=True)
+        small = [str(TOP / "examples" / name) for name in ("small.toml", "small.txt")]
+        self.small = [self.cloner, "run", *small]
+        more = ["--workers", str(chosen.workers)]
+        self.workers = more if chosen.workers > 1 and begins([*self.small, *more]) else None
+
+    def files(self, name):
+        """The files of a workload, as words of a command."""
+        return [str(file) for file in workloads.write(self.folder, name)]
 
 
-def beside_plain(binary, yardsticks, names, folder):
-    """For each workload the commands of both programs, fed with the same network and decisions."""
-    plain = built_plain(yardsticks)
-    python = [sys.executable, "-B"]
-    subprocess.run(python + [yardsticks / "workloads" / "make.py", folder, *names], check=True)
-    for name in names:
-        model, script, flat = (folder / f"{name}.{end}" for end in ("model", "script", "flat"))
-        with open(flat, "wb") as out:
-            subprocess.run(python + [yardsticks / "flatten.py", model, script], stdout=out, check=True)
-        yield name, {"cloner": [binary, "run", model, script], "plain": [plain, flat]}
-
-
-def on_examples(binary, names):
-    """For each example the command of the program."""
-    for name in names or sorted(path.stem for path in (TOP / "examples").glob("*.toml")):
-        model, script = (TOP / "examples" / f"{name}.{end}" for end in ("toml", "txt"))
-        yield name, {"cloner": [binary, "run", model, script]}
-
-
-def written(command, out):
-    """One run into the file `out`: the traces that it wrote, and its peak memory in KiB or None.
-
-    The kernel counts the memory of this script to a child that it starts itself. GNU time is a small
-    process of its own, so what it says of its child is right down to about 2 MB."""
-    peak = out.with_suffix(".peak")
-    wrapped = [GNU_TIME, "-q", "-f", "%M", "-o", peak] + command if GNU_TIME.exists() else command
-    with open(out, "wb") as sink:
-        run = subprocess.run(wrapped, stdout=sink, stderr=subprocess.PIPE, check=False)
-    if run.returncode:
-        said = run.stderr.decode(errors="replace").strip()
-        raise Failed(f"{shown(command)}: status {run.returncode}: {said}")
-    traces = out.read_bytes()
-    if not traces.startswith(b"clone "):
-        raise Failed(f"{shown(command)}: wrote no traces")
-    report = traces.rfind(b"\nreport\n")
-    kept = traces if report < 0 else traces[:report + 1]
-    return kept, int(peak.read_text()) if GNU_TIME.exists() else None
-
-
-def shown(command):
-    return " ".join(str(word) for word in command)
-
-
-def first_difference(ours, theirs):
-    """The first line in which two traces differ, for a message."""
-    lines = itertools.zip_longest(ours.splitlines(), theirs.splitlines())
-    number, (a, b) = next((n, pair) for n, pair in enumerate(lines, 1) if pair[0] != pair[1])
-    return f"line {number}: {a!r} for {b!r}"
-
-
-def seconds(command):
-    """Wall time and processor time of one run whose output is thrown away."""
-    with open(os.devnull, "wb") as sink:
-        begin = time.perf_counter()
-        child = subprocess.Popen(command, stdout=sink, stderr=subprocess.DEVNULL)
-        _, status, used = os.wait4(child.pid, 0)
-        wall = time.perf_counter() - begin
-    child.returncode = os.waitstatus_to_exitcode(status)
-    if child.returncode:
-        raise Failed(f"{shown(command)}: status {child.returncode} in a timed run")
-    return wall, used.ru_utime + used.ru_stime
-
-
-def measure(name, commands, folder, rounds):
-    """The row of one workload."""
-    runs = {label: written(command, folder / f"{name}.{label}") for label, command in commands.items()}
-    ours = runs["cloner"][0]
-    if "plain" in runs and ours != runs["plain"][0]:
-        raise Failed(f"{name}: the traces differ from plain's in {first_difference(ours, runs['plain'][0])}")
-    clones = ours.count(b"\nclone ") + 1
-    events = ours.count(b"\n") - clones
-    times = {label: [] for label in commands}
-    for _ in range(rounds):
-        for label, command in commands.items():
-            times[label].append(seconds(command))
-    row = {"workload": name, "clones": clones, "events": events}
-    for label in commands:
-        wall = statistics.median(t[0] for t in times[label])
-        row[f"{label} ns"] = f"{wall / max(events, 1) * 1e9:.0f}"
-    if "plain" in commands:
-        pairs = list(zip(times["cloner"], times["plain"]))
-        row["ratio"] = f"{statistics.median(a[0] / b[0] for a, b in pairs):.2f}"
-        row["cpu ratio"] = f"{statistics.median(a[1] / max(b[1], 1e-6) for a, b in pairs):.2f}"
-    peaks = {label: run[1] for label, run in runs.items()}
-    for label, peak in peaks.items():
-        row[f"{label} MB"] = "-" if peak is None else f"{peak / 1024:.1f}"
-    if "plain" in commands:
-        row["memory ratio"] = "-" if None in peaks.values() else f"{peaks['cloner'] / peaks['plain']:.2f}"
-    return row
-
-
-def print_row(cells):
+def printed(cells):
+    """One row of a table."""
     print("| " + " | ".join(str(cell) for cell in cells) + " |", flush=True)
 
 
+def headed(title, cells):
+    """A title and the head of a table."""
+    print(f"\n**{title}**\n")
+    printed(cells)
+    printed(["---"] * len(cells))
+
+
+def ratio(times, label, other, kind):
+    """The median over the rounds of a program's time to another's in the same round; kind 0 is wall, 1 processor."""
+    return statistics.median(a[kind] / max(b[kind], 1e-6) for a, b in zip(times[label], times[other]))
+
+
+def counts_of(name, outputs):
+    """The counts of a run: clones, messages alone, messages handled once. All bytes must be equal."""
+    whole = outputs["cloner"]
+    place = whole.rfind(b"report\n")
+    traces = whole[:place]
+    for label, output in outputs.items():
+        same = output == whole if label in ("cloner", "workers") else output == traces
+        if not same:
+            raise Failed(f"{name}: the bytes of {label} differ from those of `cloner run`")
+    total = dict(word.split(b"=") for word in whole.splitlines()[-1].split()[1:])
+    return traces.count(b"\nclone ") + 1, int(total[b"alone"]), int(total[b"handled"])
+
+
+def workload_row(bench, name):
+    """The cells of one workload."""
+    files = bench.files(name)
+    commands = {"plain": [bench.plain, *files], "stream": [bench.plain, *files, "--stream"],
+                "share": [bench.plain, *files, "--share"], "cloner": [bench.cloner, "run", *files]}
+    if bench.workers:
+        commands["workers"] = [bench.cloner, "run", *files, *bench.workers]
+    runs = {label: peak_and_bytes(command, bench.folder) for label, command in commands.items()}
+    clones, alone, handled = counts_of(name, {label: run[1] for label, run in runs.items()})
+    peaks = [runs[label][0] for label in ("cloner", "plain")]
+    del runs
+    times = rounds_of(commands, bench.rounds)
+    nanoseconds = min(time[1] for time in times["plain"]) / alone * 1e9
+    ratios = [f"{ratio(times, label, 'plain', 1):.2f}" for label in ("cloner", "stream", "share")]
+    best = f"{ratio(times, 'cloner', 'share', 1):.2f}"
+    side = f"{ratio(times, 'workers', 'cloner', 0):.2f}" if bench.workers else "-"
+    memory = f"{peaks[0] / peaks[1]:.2f}" if None not in peaks else "-"
+    return [name, clones, f"{alone:,}", f"{handled:,}", f"{nanoseconds:.0f}", *ratios, best, side, memory]
+
+
+def measure_workloads(bench, names):
+    """The table of workloads: processor times to plain's."""
+    side = f"{bench.workers[1]} workers to 1, wall" if bench.workers else "workers"
+    headed("Whole runs: processor time, to `plain`",
+           ["workload", "clones", "messages", "handled once", "plain, ns a message", "`cloner`", "`plain --stream`",
+            "`plain --share`", "`cloner` to `--share`", side, "memory, to plain"])
+    for name in names or workloads.WORKLOADS:
+        printed(workload_row(bench, name))
+
+
+def measure_solo(bench):
+    """The table of `cloner solo`, on models without a script."""
+    headed("`cloner solo` of `base`, without decisions: processor time", ["model", "messages", "plain, ns a message",
+                                                                         "`solo`, to plain"])
+    empty = bench.folder / "empty.txt"
+    empty.write_text("")
+    for name in ("clinic", "wide", "heavy"):
+        files = [bench.files(name)[0], str(empty)]
+        commands = {"plain": [bench.plain, *files], "solo": [bench.cloner, "solo", *files, "--clone", "base"]}
+        outputs = [peak_and_bytes(command, bench.folder)[1] for command in commands.values()]
+        if outputs[0] != outputs[1]:
+            raise Failed(f"{name}: the bytes of `solo` differ from plain's")
+        messages = outputs[0].count(b"\n") - 1
+        times = rounds_of(commands, bench.rounds)
+        nanoseconds = min(time[1] for time in times["plain"]) / messages * 1e9
+        printed([name, f"{messages:,}", f"{nanoseconds:.0f}", f"{ratio(times, 'solo', 'plain', 1):.2f}"])
+
+
+def measure_start(bench):
+    """How long the small example takes, beside a program that does nothing."""
+    times = rounds_of({"small": bench.small, "true": ["/bin/true"]}, max(bench.rounds, 5) * 20)
+    least = {label: min(time[0] for time in rounds) * 1e3 for label, rounds in times.items()}
+    print(f"\n**Start**: `cloner run` of the small example {least['small']:.2f} ms, `true` {least['true']:.2f} ms "
+          "(least wall time)")
+
+
+def growth_row(bench, name, silent):
+    """The messages of a run (None where it is silent), and the least processor time by program."""
+    files = bench.files(name)
+    commands = {"cloner": [bench.cloner, "run", *files]}
+    messages = None
+    if not silent:
+        commands["plain"] = [bench.plain, *files]
+        messages = counts_of(name, {label: peak_and_bytes(command, bench.folder)[1]
+                                    for label, command in commands.items()})[1]
+    times = rounds_of(commands, bench.rounds, 7 if silent else 0)
+    return messages, {label: min(time[1] for time in rounds) for label, rounds in times.items()}
+
+
+def measure_growth(bench, plotted):
+    """The tables of growth, and their plot."""
+    panels = []
+    for kind, grown in workloads.GROWTH.items():
+        silent = kind in workloads.SILENT
+        cells = ["`cloner`, ms", "to the first row"] if silent else ["messages", "`cloner`, ns a message",
+                                                                    "to the first row", "plain", "to the first row"]
+        headed(f"Growth with the number of {kind}: least processor time" +
+               (" of a run that ends at its limit, without texts" if silent else ""), ["number", *cells])
+        lines, first = {}, None
+        for name, (number, _) in grown.items():
+            messages, times = growth_row(bench, name, silent)
+            costs = {label: time * (1e3 if silent else 1e9 / messages) for label, time in times.items()}
+            first = first or costs
+            row = [f"{number:,}"] if silent else [f"{number:,}", f"{messages:,}"]
+            for label, cost in costs.items():
+                row += [f"{cost:.1f}", f"{cost / first[label]:.2f}"]
+                lines.setdefault(label, []).append((number, cost / first[label]))
+            printed(row)
+        panels.append(plot.Panel("time of a run" if silent else "time a message", kind, lines))
+    plotted.write_text(plot.svg(panels))
+    print(f"\nThe plot is {plotted}; 1 is the first row of each table.")
+
+
+def measure_simpy(bench):
+    """The clinic without questions in SimPy, and in the other programs."""
+    python = next((path for path in ("/usr/bin/python3", sys.executable) if begins([path, "-c", "import simpy"])), None)
+    if not python:
+        print("\nSimPy is not there (Debian: python3-simpy3), so it is not measured.")
+        return
+    headed("The clinic without questions, one run a clone", ["program", "messages", "microseconds a message"])
+    said = {}
+    for label, more in (("SimPy", []), ("SimPy, with texts", ["--trace"])):
+        command = [python, "-B", HERE / "simpy_clinic.py", *more]
+        out = subprocess.run(command, capture_output=True, check=True, text=True)
+        said[label] = dict(word.split("=") for word in out.stdout.split())
+        printed([label, said[label]["messages"], f"{1e6 / float(said[label]['messages_a_second']):.2f}"])
+    empty = bench.folder / "empty.txt"
+    empty.write_text("")
+    files = [bench.files("clinic")[0], str(empty)]
+    for label, command in (("plain", [bench.plain, *files]), ("`cloner run`", [bench.cloner, "run", *files])):
+        output = peak_and_bytes(command, bench.folder)[1]
+        messages = output.partition(b"report\n")[0].count(b"\n") - 1
+        times = [seconds(command)[1] for _ in range(bench.rounds)]
+        printed([f"{label}, with start and texts", messages, f"{min(times) / messages * 1e6:.2f}"])
+    patients = int(said["SimPy"]["left"]) / 5
+    print(f"\nSimPy's five runs: {patients:.0f} patients left a run, mean stay {said['SimPy']['mean_stay']} minutes.")
+
+
 def main():
+    """Measures the parts that are asked for."""
     chosen = arguments()
-    binary = program(chosen.bin)
-    print(f"{os.cpu_count()} processors, load {os.getloadavg()[0]:.1f}, {chosen.rounds} rounds")
-    if not GNU_TIME.exists():
-        print(f"{GNU_TIME} is not there: peak memory is not measured")
+    parts = chosen.only or (["workloads"] if chosen.workloads else PARTS)
     with tempfile.TemporaryDirectory() as scratch:
-        folder = Path(scratch)
-        if (chosen.yardsticks / "plain").is_dir():
-            names = chosen.workloads or ["clinic", "heavy", "wide"]
-            work = beside_plain(binary, chosen.yardsticks.resolve(), names, folder)
-        else:
-            print(f"the yardsticks are not there ({chosen.yardsticks}):")
-            print("the program is measured alone, on examples/, and its bytes are compared with nothing")
-            work = on_examples(binary, chosen.workloads)
-        for number, (name, commands) in enumerate(work):
-            row = measure(name, commands, folder, chosen.rounds)
-            if number == 0:
-                print_row(row)
-                print_row(["---"] * len(row))
-            print_row(row.values())
+        bench = Bench(chosen, Path(scratch))
+        print(f"{os.cpu_count()} processors, load {os.getloadavg()[0]:.1f}, {chosen.rounds} rounds")
+        if "workloads" in parts:
+            measure_workloads(bench, chosen.workloads)
+        if "solo" in parts:
+            measure_solo(bench)
+        if "start" in parts:
+            measure_start(bench)
+        if "growth" in parts:
+            measure_growth(bench, chosen.plot)
+        if "simpy" in parts:
+            measure_simpy(bench)
 
 
 if __name__ == "__main__":
