@@ -1,0 +1,89 @@
+#!/usr/bin/env python3
+"""explain.py MODEL SCRIPT < ERRORLINE
+
+Says what an error line of cloner means, and which line of the model or the script it is about:
+
+    cloner run MODEL SCRIPT > TRACES 2> ERROR || examples/explain.py MODEL SCRIPT < ERROR
+
+The rules are read from the tables of docs/FORMATS.md.
+"""
+import os
+import re
+import sys
+import tomllib
+
+FORMATS = os.path.join(os.path.dirname(os.path.abspath(__file__)), "..", "docs", "FORMATS.md")
+# what helps to find the cause, where the rule alone doesn't say it
+HINTS = {
+    ("model", 6): "Look at `name`, and at `to` of the station's links: 1 to 16 of a-z, 0-9 and _, the first a letter.",
+    ("script", 3): "A comment stands on a line of its own; TIME comes before the station.",
+    ("script", 4): "A number has no sign, no leading zero, no point and no separators.",
+    ("decision", 3): "A fork goes before all that uses its clone.",
+    ("decision", 12): "Forks and sets of a clone go before its end.",
+}
+
+
+def rules(subject):
+    """The meaning of each refusal number of a model, a script or a decision."""
+    text = open(FORMATS, encoding="utf-8").read()
+    section = text.split(f"### Refusals of a {subject}\n", 1)[1].split("\n##", 1)[0]
+    rows = re.findall(r"^\| (\d+) \| `\w+` \| (.*?) \|", section, re.M)
+    return {int(number): meaning for number, meaning in rows}
+
+
+def station_lines(lines, station):
+    """From which line to which the station of this number is stated; the keys at the top for number 0."""
+    heads = [i for i, line in enumerate(lines) if re.match(r'\s*\[\[\s*"?station"?\s*\]\]', line)]
+    if station == 0:
+        return 0, heads[0] if heads else len(lines)
+    if station > len(heads):
+        return None
+    return heads[station - 1], (heads + [len(lines)])[station]
+
+
+def of_model(path, number, station, key):
+    if number == 2:
+        try:
+            tomllib.load(open(path, "rb"))
+        except (tomllib.TOMLDecodeError, UnicodeDecodeError) as fault:
+            print(f"  {path}: {fault}")
+        return
+    lines = open(path, encoding="utf-8", errors="replace").read().split("\n")
+    stated = station_lines(lines, station)
+    if stated is None:
+        return
+    first, last = stated
+    with_key = [i for i in range(first, last) if key and re.match(rf"\s*{re.escape(key)}\s*=", lines[i])]
+    for i in with_key:
+        print(f"  {path}:{i + 1}: {lines[i].strip()}")
+    if not with_key and station > 0:
+        print(f"  {path}:{first + 1}: {lines[first].strip()}   (station {station} begins here)")
+
+
+def of_script(path, number):
+    lines = open(path, encoding="latin-1").read().split("\n")
+    if 1 <= number <= len(lines):
+        print(f"  {path}:{number}: {lines[number - 1].strip()}")
+
+
+def explain(model, script, said):
+    print(said)
+    if found := re.fullmatch(r"cloner: model: refusal (\d+) at station (\d+)(?: key (.*))?", said):
+        number = int(found[1])
+        print(f"  {rules('model')[number]}")
+        of_model(model, number, int(found[2]), found[3])
+        subject = "model"
+    elif found := re.fullmatch(r"cloner: (script|decision): refusal (\d+) at line (\d+)", said):
+        subject, number = found[1], int(found[2])
+        print(f"  {rules(subject)[number]}")
+        of_script(script, int(found[3]))
+    else:
+        return
+    if hint := HINTS.get((subject, number)):
+        print(f"  {hint}")
+
+
+if __name__ == "__main__":
+    if len(sys.argv) != 3:
+        sys.exit(__doc__)
+    explain(sys.argv[1], sys.argv[2], sys.stdin.read().strip())

@@ -1,0 +1,59 @@
+#!/usr/bin/env python3
+"""check_docs.py [PAGE ..]
+
+Runs each command of the pages (README.md and examples/README.md where none is named) at the top of the checkout, and
+compares what it prints with the page. A command is a block ```sh; what it prints is the block ```text right behind it.
+`cloner` is the built program, crates/cloner_cli/out/cloner_cli. Ends with status 1 where something is otherwise.
+"""
+import os
+import re
+import shutil
+import subprocess
+import sys
+import tempfile
+
+TOP = os.path.join(os.path.dirname(os.path.abspath(__file__)), "..")
+PROGRAM = os.path.join(TOP, "crates", "cloner_cli", "out", "cloner_cli")
+
+
+def commands(page):
+    """Each command of a page with what it is shown to print, None where nothing is shown."""
+    text = open(os.path.join(TOP, page), encoding="utf-8").read()
+    blocks = re.findall(r"^```(\w*)\n(.*?)^```$", text, re.S | re.M)
+    for (kind, command), (next_kind, shown) in zip(blocks, blocks[1:] + [("", "")]):
+        if kind == "sh":
+            yield command, shown if next_kind == "text" else None
+
+
+def printed(command, path):
+    done = subprocess.run(
+        ["bash", "-c", command], cwd=TOP, capture_output=True, text=True, check=False, env=dict(os.environ, PATH=path)
+    )
+    return done.stdout + done.stderr
+
+
+def check(pages, path):
+    """How many commands print what is shown, and how many something else."""
+    same, other = 0, 0
+    for page in pages:
+        for command, shown in commands(page):
+            got = printed(command, path)
+            if shown is None or shown.strip() == got.strip():
+                same += 1
+            else:
+                other += 1
+                print(f"{page}: {command.strip()}\n--- shown\n{shown}--- printed\n{got}")
+    return same, other
+
+
+def main():
+    pages = sys.argv[1:] or ["README.md", "examples/README.md"]
+    with tempfile.TemporaryDirectory() as folder:
+        shutil.copy(PROGRAM, os.path.join(folder, "cloner"))
+        same, other = check(pages, folder + os.pathsep + os.environ["PATH"])
+    print(f"{same} as shown, {other} otherwise")
+    return 1 if other else 0
+
+
+if __name__ == "__main__":
+    sys.exit(main())
