@@ -1,11 +1,11 @@
 //! The copies of one station.
-ghost use Rattle.std.specs.Prelude.{◌≡◌, ℕ, ◌<◌, ◌≤◌, ◌+◌, ◌*◌, ◌∷◌, [], true, false, OnOk, IfOk, IsTrue, map, length};
+ghost use Rattle.std.specs.Prelude.{◌≡◌, ℕ, ◌<◌, ◌≤◌, ◌+◌, ◌*◌, ◌∷◌, [], true, false, OnOk, IfOk, map, length};
 ghost use Rattle.std.specs.List.{AllByRecursion, AllZip};
 ghost use Rattle.clone_sets.specs.Sets.{has, one, with, empty, size};
 ghost use Rattle.net_model.specs.Net.{Net};
 ghost use Rattle.stations.specs.Runs.{simulation};
 ghost use Rattle.run_laws.specs.Copies.{first_copy, IsForked, IsStepped, AreOver, GainTogether, Stands};
-ghost use Rattle.phys_proc.specs.Own.{given, forked, but_pending, pending_of, AreLate, IsCopy};
+ghost use Rattle.phys_proc.specs.Own.{given, forked, but_pending, pending_of, IsCopy};
 ghost use Rattle.phys_proc.specs.Gone.{ends_in};
 ghost use Rattle.phys_proc.specs.Procs.{IsProc, AreShared};
 ghost use Rattle.phys_proc.specs.Racks.{seen};
@@ -289,12 +289,5 @@ impl Proc {
         ensures shared { AreShared self.now.living self.now.copies }
     {
         self.copies.as_slice()
-    }
-
-    /// Whether nothing is pending before the bound.
-    pub fn is_idle(&self, bound: u64) -> bool
-        ensures late { IsTrue result → AreLate bound self.now.copies }
-    {
-        self.copies.is_idle(bound)
     }
 }

@@ -2,3 +2,4 @@ pub mod Slots
 pub mod TraceText
 pub mod ReportText
 pub mod Examples
+pub mod Outputs

@@ -20,6 +20,14 @@ use Rattle.world_core.proofs.Places.{at_got, got_map, map_got}
 use Rattle.world_core.proofs.AfterWindow.{proc_of, flow_of, few_handled, stand_after, total_grows, grown_at}
 use Rattle.world_core.proofs.Overs.{first_beyond, none_beyond}
 
+-- the copies at a place stand for the clones also where the network and the lists are those that a reader is handed
+pub stands_for_reader : (net shown_net : Net) (cs shown : List Clone) (front i : ℕ) (p : ProcView) → shown_net ≡ net → shown ≡ cs →
+    StandsAt net cs front i p → Stands (simulation shown_net) has shown front p.station p.copies
+stands_for_reader net shown_net cs shown front i p e f at =
+    subst (λ n. Stands (simulation n) has shown front p.station p.copies) (sym e)
+    (subst (λ ds. Stands (simulation net) has ds front p.station p.copies) (sym f)
+    (subst (λ s. Stands (simulation net) has cs front s p.copies) (sym at.number) at.stands))
+
 -- the stations of a world may step, each its own copies
 pub all_numbered : (net : Net) (cs : List Clone) (ended : List (ℕ × ℕ)) (front : ℕ) (procs : List ProcView) → WorldStands net cs ended front procs → AllNumbered net procs
 all_numbered net cs ended front procs world = λ i p got. let h = world.each i p got in record { proc = h.proc; number = h.number }

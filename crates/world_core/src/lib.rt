@@ -37,6 +37,8 @@
 
 mod delivery;
 mod looking;
+mod racks;
+mod shared_lists;
 mod taking;
 #[cfg(test)]
 mod tests;

@@ -65,7 +65,7 @@ impl World {
         ensures front { IfOk result (λ w. w.front ≡ self.front) }
         ensures clones { IfOk result (λ w. w.clones ≡ clones_after self.net self.clones decision.now) }
     {
-        let Some(clone) = self.lists.find(&decision.subject()) else {
+        let Some(clone) = self.lists.lists().find(&decision.subject()) else {
             unreachable!()
         };
         match *decision {
@@ -117,7 +117,7 @@ impl World {
             mut procs,
             last,
         } = self;
-        let number = lists.len();
+        let number = lists.lists().len();
         lists.fork(alloc, new, old)?;
         fork_all(&mut procs, old, number);
         Ok(World {
@@ -148,7 +148,7 @@ impl World {
             mut procs,
             last,
         } = self;
-        let msg = message_of(lists.list(who).len(), &plan);
+        let msg = message_of(lists.lists().list(who).len(), &plan);
         lists.add(who, plan)?;
         deliver_to(&mut procs, msg, CloneSet::one(who))?;
         Ok(World {

@@ -4,6 +4,7 @@ ghost use Rattle.std.specs.Prelude.{◌≡◌, ◌<◌};
 use crate::world::{World, WorldFault};
 use crew_pool::{Crew, Forked, Gate, NoGate, Serial, Stealing, Workers};
 use net_model::read_model;
+use phys_proc::{Found, Glance};
 use sim_base::{Change, Entry, Figures, Name, Param, Planned, Steps};
 use std::alloc::Global;
 use std::marker::Brand;
@@ -181,6 +182,72 @@ fn has_trace(alloc: Global, world: &World, who: u32, keys: &[(u64, u32, u32, u64
     true
 }
 
+/// Station, clone, and what a look at the station's rack finds of it, after the last window.
+const SHOWN: [(u32, &str, Option<Found>); 4] = [
+    (
+        1,
+        "fast",
+        Some(Found {
+            handled: 2,
+            shared: 2,
+        }),
+    ),
+    (
+        2,
+        "base",
+        Some(Found {
+            handled: 4,
+            shared: 1,
+        }),
+    ),
+    (
+        2,
+        "fast",
+        Some(Found {
+            handled: 5,
+            shared: 1,
+        }),
+    ),
+    (2, "slow", None),
+];
+
+/// Whether a look at the station's rack finds this of the clone.
+fn has_glance(
+    alloc: Global,
+    world: &mut World,
+    station: u32,
+    who: &str,
+    found: Option<Found>,
+) -> bool {
+    if station < 1 || station > world.model.len() {
+        return false;
+    }
+    let Some(who) = Name::read(who.as_bytes()) else {
+        return false;
+    };
+    let Ok(rack) = world.rack(alloc, station) else {
+        return false;
+    };
+    rack.station() == station
+        && rack.glance(&who)
+            == Glance {
+                front: world.front(),
+                clones: world.lists().len(),
+                found,
+            }
+}
+
+/// Whether all looks find what stands in the table.
+fn has_glances(alloc: Global, world: &mut World) -> bool {
+    for i in 0..SHOWN.len() {
+        let (station, who, found) = SHOWN[i];
+        if !has_glance(alloc, world, station, who, found) {
+            return false;
+        }
+    }
+    true
+}
+
 /// Whether each window of the two clones comes to what stands in the table, and the run to the two traces.
 fn windows_are<C: Crew, G: Gate, L: Ledger, R: Threads + Wait + Sync>(
     rt: &R,
@@ -212,7 +279,9 @@ fn windows_are<C: Crew, G: Gate, L: Ledger, R: Threads + Wait + Sync>(
             return false;
         }
     }
-    has_trace(alloc, &world, 0, &BASE) && has_trace(alloc, &world, 1, &FAST)
+    has_trace(alloc, &world, 0, &BASE)
+        && has_trace(alloc, &world, 1, &FAST)
+        && has_glances(alloc, &mut world)
 }
 
 /// The same, on a counter of its own.
@@ -237,6 +306,65 @@ impl Gate for Counts {
     }
 
     fn before_call<R: Wait>(&self, _rt: &R, _analyst: u32, _k: u32) {}
+}
+
+/// A source whose windows have 600 messages, and a sink.
+const BUSY: &str = r#"lookahead = 600
+horizon = 3000
+[[station]]
+name = "gate"
+kind = "source"
+every = [1, 1]
+jobs = 3000
+link = [{ to = "out", delay = 600 }]
+[[station]]
+name = "out"
+kind = "sink"
+"#;
+
+/// Which workers ran a task, a bit for each.
+#[derive(Drop)]
+struct Ran {
+    workers: AtomicU64,
+}
+
+impl Gate for Ran {
+    fn before<R: Wait>(&self, _rt: &R, worker: u32, _task: u32) {
+        self.workers.fetch_or(1 << (worker % 64), Ordering::SeqCst);
+    }
+
+    fn before_call<R: Wait>(&self, _rt: &R, _analyst: u32, _k: u32) {}
+}
+
+/// Three windows of a world by two workers, each with some of the tasks.
+fn three_windows<G: Gate, L: Ledger, R: Threads + Wait + Sync>(
+    rt: &R,
+    alloc: Global,
+    gate: &G,
+    blank: Blank,
+) -> Option<World>
+    requires name { blank.name ≡ L.name }
+    requires parts { blank.parts ≡ L.parts }
+    requires some { 0 < L.parts }
+{
+    let mut steps = Steps::<L>::new(blank);
+    let crew = Forked {
+        workers: Workers { count: 2 },
+    };
+    let mut world = begun(alloc, BUSY)?;
+    for _ in 0..3 {
+        world = window(rt, alloc, &crew, gate, world, 3000, &mut steps).ok()?;
+    }
+    Some(world)
+}
+
+/// The same, on a counter of its own.
+fn three_busy_windows<G: Gate, R: Threads + Wait + Sync>(
+    rt: &R,
+    alloc: Global,
+    gate: &G,
+) -> Option<World> {
+    three_windows::<G, Brand, R>(rt, alloc, gate, Blank::new(1))
 }
 
 /// Twenty windows, each so long at the most.
@@ -282,6 +410,42 @@ fn short_windows_are<R: Threads + Wait + Sync>(rt: &R, alloc: Global) -> bool {
         && has_trace(alloc, &world, 1, &FAST)
         && has_figures(&world, 2, [2, 8, 9])
         && has_figures(&world, 3, [2, 3, 4])
+}
+
+/// With so many clones in all, which are alike.
+fn with_clones(alloc: Global, world: World, clones: u32) -> Option<World> {
+    let mut world = world;
+    while world.lists().len() < clones && world.lists().len() < 256 {
+        let number = world.lists().len() as u8;
+        let digits = [
+            b'c',
+            b'0' + number / 100,
+            b'0' + number / 10 % 10,
+            b'0' + number % 10,
+        ];
+        let new = Name::read(&digits)?;
+        let None = world.lists().find(&new) else {
+            return None;
+        };
+        let None = world.lists().end_of(0) else {
+            return None;
+        };
+        world = world.forked(alloc, new, 0).ok()?;
+    }
+    Some(world)
+}
+
+/// Whether 256 clones that are alike share every message, and the last one has its trace.
+fn all_is_shared<R: Threads + Wait + Sync>(rt: &R, alloc: Global) -> Option<bool> {
+    let world = begun(alloc, ONE_DESK)?;
+    let world = with_clones(alloc, world, 256)?;
+    let world = run_all(rt, alloc, world, 20)?;
+    Some(
+        has_figures(&world, 1, [1, 2, 512])
+            && has_figures(&world, 2, [1, 4, 1024])
+            && has_figures(&world, 3, [1, 2, 512])
+            && has_trace(alloc, &world, 255, &BASE),
+    )
 }
 
 /// Whether a clone that ends at 13 handles nothing from then on.
@@ -369,12 +533,50 @@ fn worked_example_by_three_crews(rt: HostRuntime) -> Result<(), Fail> {
 }
 
 #[test]
+fn worked_example_by_any_number_of_workers(rt: HostRuntime) -> Result<(), Fail> {
+    for count in 1..=16 {
+        let workers = Workers { count };
+        assert!(rt;
+            windows_by(&rt, rt.alloc(), &Stealing { workers }, &NoGate),
+            "{}",
+            count
+        );
+    }
+    Ok(())
+}
+
+#[test]
+fn clones_that_are_alike(rt: HostRuntime) -> Result<(), Fail> {
+    assert!(rt; all_is_shared(&rt, rt.alloc()) == Some(true));
+    Ok(())
+}
+
+#[test]
 fn windows_counted(rt: HostRuntime) -> Result<(), Fail> {
     let gate = Counts {
         calls: AtomicU64::new(0),
     };
     let stands = windows_by(&rt, rt.alloc(), &Serial, &gate);
     assert!(rt; stands && gate.calls.load(Ordering::SeqCst) == 21);
+    Ok(())
+}
+
+#[test]
+fn busy_windows_run_on_two_threads(rt: HostRuntime) -> Result<(), Fail> {
+    let gate = Ran {
+        workers: AtomicU64::new(0),
+    };
+    let front = match three_busy_windows(&rt, rt.alloc(), &gate) {
+        Some(world) => world.front(),
+        None => 0,
+    };
+    let ran = gate.workers.load(Ordering::SeqCst);
+    assert!(rt;
+        front == 1801 && ran == 0b11,
+        "front {}, workers {}",
+        front,
+        ran
+    );
     Ok(())
 }
 

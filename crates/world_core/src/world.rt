@@ -9,6 +9,7 @@ ghost use Rattle.world_core.specs.Opening.{AreFirst};
 ghost use Rattle.world_core.specs.Overs.{IsFault, IsFirstOver, NoneBeyond};
 
 use crate::delivery::hand_over;
+use crate::shared_lists::SharedLists;
 use crate::windows::step_all;
 use crew_pool::{Crew, Gate};
 use net_model::Model;
@@ -23,7 +24,7 @@ use std::thread::Threads;
 #[derive(Drop)]
 pub struct World {
     pub(crate) model: Arc<Model>,
-    pub(crate) lists: Lists,
+    pub(crate) lists: SharedLists,
     pub(crate) ends: CloneEnds,
     pub(crate) front: u64,
     pub(crate) procs: Vec<Proc>,
@@ -72,7 +73,7 @@ impl World {
         ensures begins { IfOk result (λ w. w ≡ record { net = model.value; clones = base ∷ []; front = 0 }) }
     {
         let procs = open_all(alloc, &model)?;
-        let lists = Lists::new(alloc)?;
+        let lists = SharedLists::new(alloc)?;
         Ok(World {
             model,
             lists,
@@ -95,7 +96,7 @@ impl World {
     pub fn lists(&self) -> &Lists
         ensures clones { result.now.clones ≡ self.now.clones }
     {
-        &self.lists
+        self.lists.lists()
     }
 
     /// Handles what comes before the bound, at each station by itself, and gives each station what the others sent

@@ -1,5 +1,5 @@
 use Rattle.std.proofs.Common.{◌≡◌, ◌<◌, ◌≤◌, Some, None, sym, ap, ◌∙◌, subst, arith, length}
-use Rattle.sim_base.specs.Clones.{Clone, clone_at, place_of}
+use Rattle.sim_base.specs.Clones.{Clone, ListsView, clone_at, place_of}
 use Rattle.sim_base.specs.Decisions.{subject}
 use Rattle.decision_book.specs.declared.call.Reply.TheVariants.{Accepted}
 use Rattle.decision_book.specs.Replies.{first_row, rows}
@@ -12,7 +12,9 @@ pub unreachable-requires : goal.unreachable-requires
 unreachable-requires c =
     let o = is_open c.args.self.net c.args.self.clones c.args.self.front c.args.decision.now c.requires.accepted in
     no_place (subject c.args.decision.now) c.args.self.clones o.clone o.place
-    (sym (subst (λ (w : WorldView). place_of (subject c.args.decision.now) w.clones ≡ None) c.self.view_is (sym (ap (λ n. place_of n c.self.inside.lists.clones) c.subject.ensures.value) ∙ sym c.find.ensures.value ∙ c.in_default.is)))
+    (sym (subst (λ (w : WorldView). place_of (subject c.args.decision.now) w.clones ≡ None) c.self.view_is
+    (subst (λ (l : ListsView). place_of (subject c.args.decision.now) l.clones ≡ None) c.lists.ensures.value
+    (sym (ap (λ n. place_of n c.lists.result.now.clones) c.subject.ensures.value) ∙ sym c.find.ensures.value ∙ c.in_default.is))))
 
 pub with_set-requires-clause-late : goal.with_set-requires-clause-late
 with_set-requires-clause-late c =

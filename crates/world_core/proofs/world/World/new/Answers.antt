@@ -1,5 +1,5 @@
 use Rattle.std.proofs.Common.{◌∷◌, ◌≡◌, [], sym, subst, length}
-use Rattle.sim_base.specs.Clones.{ListsView, base}
+use Rattle.sim_base.specs.Clones.{base}
 use Rattle.net_model.specs.Net.{Net}
 use Rattle.net_model.specs.Rules.{IsNet}
 use Rattle.world_core.specs.Worlds.{WorldStands}
@@ -12,6 +12,6 @@ invariant_of-result c =
     let net = c.args.model.value in
     let procs = c.in_ok-procs.procs.items in
     let h = c.in_ok-procs.ensures in
-    subst (λ (l : ListsView). WorldStands net l.clones c.none.result 0 procs) (sym c.in_ok-lists.ensures.value)
+    subst (λ cs. WorldStands net cs c.none.result 0 procs) (sym c.in_ok-lists.ensures.value)
     (subst (λ e. WorldStands net (base ∷ []) e 0 procs) (sym c.none.ensures.none)
     (subst (λ (n : Net). WorldStands n (base ∷ []) [] 0 procs) c.deref.ensures (world_begins c.deref.result.now procs h.valid h.count h.first)))

@@ -1,5 +1,5 @@
 use Rattle.std.proofs.Common.{◌≡◌, ◌<◌, ◌≤◌, None, sym, ap, ◌∙◌, subst, length}
-use Rattle.sim_base.specs.Clones.{ListsView, clone_at}
+use Rattle.sim_base.specs.Clones.{clone_at}
 use Rattle.world_core.specs.Worlds.{WorldView, WorldStands}
 use Rattle.world_core.proofs.Taken.{world_ended}
 use Rattle.world_core.proofs.world.World.with_end.Goals as goal
@@ -12,5 +12,5 @@ invariant_of-result c =
     let open_end = subst (λ (w : WorldView). (clone_at w.clones c.args.who).end ≡ None) (sym c.self.view_is) c.requires.open in
     let late = subst (λ (w : WorldView). w.front ≤ c.args.at) (sym c.self.view_is) c.requires.late in
     let early = subst (λ (w : WorldView). c.args.at ≤ w.net.horizon) (sym c.self.view_is) c.requires.early in
-    subst (λ (l : ListsView). WorldStands net l.clones c.end-2.new.self c.self.inside.front c.self.inside.procs.items) (sym c.end.ensures.value)
+    subst (λ cs. WorldStands net cs c.end-2.new.self c.self.inside.front c.self.inside.procs.items) (sym c.end.ensures.clones)
     (world_ended net cs c.args.who c.args.at there open_end c.self.inside.ends c.end-2.new.self c.self.inside.front c.self.inside.procs.items late early (c.in_ok-end.ensures.ends net.horizon) c.self.invariant)

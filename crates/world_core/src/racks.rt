@@ -1,0 +1,35 @@
+//! What a world shows to readers.
+ghost use Rattle.std.specs.Prelude.{◌≡◌, ◌≤◌, length, IfOk};
+
+use crate::world::World;
+use net_model::Model;
+use phys_proc::Rack;
+use sim_base::NoMemory;
+use std::alloc::Global;
+use std::sync::Arc;
+
+// One share more of the model.
+fn shared(model: &Arc<Model>) -> Result<Arc<Model>, NoMemory>
+    ensures value { IfOk result (λ m. m.value ≡ model.now.value) }
+{
+    Ok(model.clone()?)
+}
+
+impl World {
+    /// What readers are shown of a station, now: its copies, and the lists of the clones that they stand for.
+    ///
+    /// The world is unchanged, also out of memory.
+    pub fn rack(&mut self, alloc: Global, station: u32) -> Result<Rack, NoMemory>
+        requires low { 1 ≤ station }
+        requires high { station ≤ length self.old.net.sites }
+        ensures net { IfOk result (λ r. r.net ≡ self.old.net) }
+        ensures clones { IfOk result (λ r. r.clones ≡ self.old.clones) }
+        ensures station { IfOk result (λ r. r.station ≡ station) }
+        ensures front { IfOk result (λ r. r.front ≡ self.old.front) }
+        ensures same { self.new ≡ self.old }
+    {
+        let model = shared(&self.model)?;
+        let lists = self.lists.show(alloc)?;
+        self.procs[station as usize - 1].rack(alloc, model, lists, self.front)
+    }
+}

@@ -1,0 +1,87 @@
+//! The clones' lists, of which readers are shown a copy.
+ghost use Rattle.std.specs.Prelude.{◌≡◌, ◌∷◌, [], ◌+◌, ◌^◌, ◌<◌, length, IfOk, OnOk, None};
+ghost use Rattle.sim_base.specs.Clones.{added, base, clone_at, ended, forked, place_of};
+
+use sim_base::{Lists, Name, NoMemory, Planned};
+use std::alloc::Global;
+use std::sync::Arc;
+
+/// Decision lists, and the copy that all readers since the last decision share.
+#[derive(Drop)]
+pub struct SharedLists {
+    lists: Lists,
+    shown: Option<Arc<Lists>>,
+}
+
+impl std::marker::Model for SharedLists {
+    ghost use Rattle.std.specs.Prelude.{◌≡◌, IfSome};
+    ghost use Rattle.sim_base.specs.Clones.{ListsView};
+
+    ghost Value = { ListsView };
+
+    ghost view = { λ s. s.lists };
+
+    ghost invariant = { λ s. IfSome s.shown (λ shown. shown.value.clones ≡ s.lists.clones) };
+}
+
+impl SharedLists {
+    /// The base clone alone.
+    pub fn new(alloc: Global) -> Result<SharedLists, NoMemory>
+        ensures value { IfOk result (λ s. s.clones ≡ base ∷ []) }
+    {
+        Ok(SharedLists {
+            lists: Lists::new(alloc)?,
+            shown: None,
+        })
+    }
+
+    /// The lists.
+    pub fn lists(&self) -> &Lists
+        ensures value { result.now ≡ self.now }
+    {
+        &self.lists
+    }
+
+    /// Gives a clone its end.
+    pub fn end(&mut self, c: u32, at: u64)
+        requires there { c < length self.old.clones }
+        requires once { (clone_at self.old.clones c).end ≡ None }
+        ensures clones { self.new.clones ≡ ended self.old.clones c at }
+    {
+        self.shown = None;
+        self.lists.end(c, at);
+    }
+
+    /// Adds a decision to a clone's list.
+    pub fn add(&mut self, c: u32, plan: Planned) -> Result<(), NoMemory>
+        requires there { c < length self.old.clones }
+        ensures clones { OnOk result (self.new.clones ≡ added self.old.clones c plan) }
+    {
+        self.shown = None;
+        self.lists.add(c, plan)
+    }
+
+    /// A further clone with an old one's decisions and no end.
+    pub fn fork(&mut self, alloc: Global, new: Name, old: u32) -> Result<(), NoMemory>
+        requires there { old < length self.old.clones }
+        requires unused { place_of new self.old.clones ≡ None }
+        requires few { length self.old.clones + 1 < 2 ^ 32 }
+        ensures clones { OnOk result (self.new.clones ≡ forked self.old.clones new old) }
+    {
+        self.shown = None;
+        self.lists.fork(alloc, new, old)
+    }
+
+    /// The lists to be shared with readers: one copy for all of them until the next decision.
+    pub fn show(&mut self, alloc: Global) -> Result<Arc<Lists>, NoMemory>
+        ensures value { IfOk result (λ shown. shown.value.clones ≡ self.old.clones) }
+        ensures same { self.new ≡ self.old }
+    {
+        if let Some(shown) = &self.shown {
+            return Ok(shown.clone()?);
+        }
+        let shown = Arc::new(alloc, self.lists.copy(alloc)?)?;
+        self.shown = Some(shown.clone()?);
+        Ok(shown)
+    }
+}
