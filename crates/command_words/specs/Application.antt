@@ -1,0 +1,21 @@
+-- The command that clap reads the words by: two options and up to three positionals, without help and without
+-- abbreviated names. A mode of three names more is one positional more.
+use Rattle.std.specs.Prelude.{ℕ, true, codes, List, Some}
+use Rattle.clap.specs.Words.{App, Rule, new_app, new_rule, with_rule}
+use Rattle.clap.specs.Simple.{on_top}
+use Rattle.clap.specs.declared.builder.ArgAction.TheVariants.{Set}
+
+-- `--NAME V` or `--NAME=V`
+abbrev pub option : List ℕ → Rule
+option name = record (new_rule name) { long = Some name; action = Some Set }
+
+abbrev pub positional : List ℕ → Rule
+positional name = new_rule name
+
+abbrev pub bare : App
+bare = on_top (λ s. record s { no_binary_name = true; disable_help_flag = true }) (new_app (codes "cloner"))
+
+abbrev pub cloner : App
+cloner =
+    with_rule (with_rule (with_rule (with_rule (with_rule bare (option (codes "workers"))) (option (codes "clone")))
+    (positional (codes "mode"))) (positional (codes "first"))) (positional (codes "second"))

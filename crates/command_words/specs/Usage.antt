@@ -1,0 +1,5 @@
+-- The line that tells the modes.
+use Rattle.std.specs.Prelude.{ℕ, List, codes}
+
+abbrev pub usage_line : List ℕ
+usage_line = codes "usage: cloner run MODEL SCRIPT [--workers N], solo MODEL SCRIPT --clone NAME, gen NUMBER [--workers N]\n"

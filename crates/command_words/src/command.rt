@@ -1,0 +1,47 @@
+//! The command that the words are read by.
+ghost use Rattle.std.specs.Prelude.{◌≡◌, IfOk, false};
+ghost use Rattle.clap.specs.Words.{app_of, rule_of, with_rule};
+ghost use Rattle.command_words.specs.Application.{cloner, bare, option, positional};
+
+use clap::{Arg, ArgAction, Command};
+use std::alloc::{AllocError, Global};
+
+fn option_arg<'a>(alloc: Global, name: &'a str) -> Arg<'a>
+    ensures rule { rule_of result ≡ option name.entry.now }
+    ensures local { result.global ≡ false }
+{
+    Arg::new(alloc, name).long(name).action(ArgAction::Set)
+}
+
+fn positional_arg<'a>(alloc: Global, name: &'a str) -> Arg<'a>
+    ensures rule { rule_of result ≡ positional name.entry.now }
+    ensures local { result.global ≡ false }
+{
+    Arg::new(alloc, name)
+}
+
+fn bare_command<'a>(alloc: Global) -> Command<'a>
+    ensures value { app_of result ≡ bare }
+{
+    Command::new(alloc, "cloner")
+        .no_binary_name(true)
+        .disable_help_flag(true)
+}
+
+fn with_arg<'a>(command: Command<'a>, arg: Arg<'a>) -> Result<Command<'a>, AllocError>
+    requires local { arg.global ≡ false }
+    ensures value { IfOk result (λ c. app_of c ≡ with_rule (app_of command.entry) (rule_of arg.entry)) }
+{
+    command.arg(arg)
+}
+
+/// The command.
+pub(crate) fn command<'a>(alloc: Global) -> Result<Command<'a>, AllocError>
+    ensures value { IfOk result (λ c. app_of c ≡ cloner) }
+{
+    let command = with_arg(bare_command(alloc), option_arg(alloc, "workers"))?;
+    let command = with_arg(command, option_arg(alloc, "clone"))?;
+    let command = with_arg(command, positional_arg(alloc, "mode"))?;
+    let command = with_arg(command, positional_arg(alloc, "first"))?;
+    with_arg(command, positional_arg(alloc, "second"))
+}

@@ -1,0 +1,35 @@
+//! The words of the command line, read with `clap`.
+//!
+//! A planner says which study is to be run in one of three ways; options stand anywhere before a word `--`:
+//!
+//! ```text
+//! cloner run MODEL SCRIPT [--workers N]     all clones of a script
+//! cloner solo MODEL SCRIPT --clone NAME     one clone by itself
+//! cloner gen NUMBER [--workers N]           a made workload, all its clones
+//! ```
+//!
+//! `read_words` gives a `Request`: the clones that are run, where the two texts come from, and the workers.
+//! What is asked (`Asked`) has no workers, so that no promise about the output can speak of them. An example:
+//!
+//! ```text
+//! let request = read_words(alloc, words)?;      // run m.toml s.txt --workers=4
+//! request.source                                // Named { model: "m.toml", script: "s.txt" }
+//! request.workers                               // 4
+//! ```
+//!
+//! The parse takes memory, once, for a command of five arguments and for the words. Here rests the promise that a
+//! command line of no form is refused before anything is read, and that none is taken for another.
+#![tactic(auto)]
+
+mod command;
+mod given;
+mod number;
+pub mod reading;
+pub mod request;
+#[cfg(test)]
+mod tests;
+pub mod usage;
+
+pub use reading::read_words;
+pub use request::{MOST_NUMBER, MOST_WORKERS, Mode, Request, Source, WordsFault};
+pub use usage::usage_line;

@@ -1,0 +1,48 @@
+//! What a command line asks for.
+ghost use Rattle.std.specs.Prelude.{◌≤◌};
+ghost use Rattle.command_words.specs.declared.request.TheConstants.{MOST_WORKERS};
+
+use sim_base::Name;
+
+/// The most workers that may be asked for.
+pub const MOST_WORKERS: u32 = 16;
+
+/// The greatest number that a workload may be made of.
+pub const MOST_NUMBER: u32 = 999_999;
+
+/// Which of a script's clones are run.
+#[derive(Clone, Copy, Debug, PartialEq, Eq)]
+pub enum Mode {
+    /// All of them.
+    All,
+    /// The one of this name, by itself.
+    One(Name),
+}
+
+/// Where the model and the script come from.
+#[derive(Clone, Copy, Debug)]
+pub enum Source<'a> {
+    /// Two files by their names, the model and the script.
+    Named { model: &'a str, script: &'a str },
+    /// Both are made of this number.
+    Made(u32),
+}
+
+/// What is to be done, and by how many workers.
+#[derive(Clone, Copy, Debug)]
+pub struct Request<'a> {
+    pub mode: Mode,
+    pub source: Source<'a>,
+    pub workers: u32,
+    ghost some: { 1 ≤ workers },
+    ghost few: { workers ≤ MOST_WORKERS },
+}
+
+/// Why there is no request.
+#[derive(Clone, Copy, Debug, PartialEq, Eq)]
+pub enum WordsFault {
+    /// Out of memory.
+    NoMemory,
+    /// The words are of no form.
+    Usage,
+}

@@ -1,0 +1,10 @@
+//! The line that tells the modes.
+ghost use Rattle.std.specs.Prelude.{◌≡◌};
+ghost use Rattle.command_words.specs.Usage.{usage_line as told};
+
+/// The line for words of no form.
+pub fn usage_line() -> &'static str
+    ensures value { result.now ≡ told }
+{
+    "usage: cloner run MODEL SCRIPT [--workers N], solo MODEL SCRIPT --clone NAME, gen NUMBER [--workers N]\n"
+}
