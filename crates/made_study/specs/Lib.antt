@@ -1,0 +1,5 @@
+pub mod Numbers
+pub mod Texts
+pub mod Scripts
+pub mod Branches
+pub mod Nets

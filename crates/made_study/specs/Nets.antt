@@ -1,0 +1,55 @@
+-- The made model as a network.
+use Rattle.std.specs.Prelude.{ℕ, ◌+◌, List, [], ◌∷◌, ◌++◌, codes, map, false}
+use Rattle.std.specs.List.{range_with_len}
+use Rattle.net_model.specs.declared.station.Kind.TheVariants.{Source, Server, Delay, Router, Sink}
+use Rattle.net_model.specs.declared.station.Link.{Link}
+use Rattle.net_model.specs.Net.{Net, Site}
+use Rattle.made_study.specs.Numbers.{longest_gap, longest_service, ward_name, ward_servers, wards}
+
+abbrev pub link_to : ℕ → ℕ → Link
+link_to station delay = record { to = station; delay = delay; weight = 1 }
+
+-- the way from the triage to the ward of this number, which is station i + 2
+abbrev pub way : ℕ → Link
+way i = record { to = i + 2; delay = 2; weight = i }
+
+abbrev pub door : ℕ → Site
+door n = record { name = codes "door"; kind = Source 1 (longest_gap n) 5000 1; stream = 1; links = link_to 2 2 ∷ [] }
+
+abbrev pub triage : ℕ → Site
+triage count = record { name = codes "triage"; kind = Router false; stream = 2; links = map way (range_with_len 1 count) }
+
+-- the ward of this number among so many
+abbrev pub ward : ℕ → ℕ → Site
+ward count i = record {
+  name = ward_name i;
+  kind = Server (ward_servers i) 20 3 (longest_service i) false;
+  stream = i + 2;
+  links = link_to (count + 3) 3 ∷ [];
+}
+
+abbrev pub walk : ℕ → Site
+walk count = record { name = codes "walk"; kind = Delay 0 4; stream = count + 3; links = link_to (count + 4) 2 ∷ [] }
+
+abbrev pub exit : ℕ → Site
+exit count = record { name = codes "exit"; kind = Sink; stream = count + 4; links = [] }
+
+-- a network with so many wards
+abbrev pub made_sites : ℕ → ℕ → List Site
+made_sites n count =
+    door n ∷ triage count ∷ map (ward count) (range_with_len 1 count) ++ walk count ∷ exit count ∷ []
+
+-- a network of this seed with so many wards
+abbrev pub net_with : ℕ → ℕ → Net
+net_with n count = record {
+  format = 1;
+  lookahead = 2;
+  horizon = 5000;
+  seed = n;
+  limit = 16384;
+  sites = made_sites n count;
+}
+
+-- the network of this number
+abbrev pub made_net : ℕ → Net
+made_net n = net_with n (wards n)

@@ -1,0 +1,25 @@
+-- The numbers of a made study.
+use Rattle.std.specs.Prelude.{ℕ, ◌+◌, ◌*◌, ◌%◌, List, codes, decimal, ◌++◌}
+
+-- how many plans a made script has
+abbrev pub PLANS : ℕ
+PLANS = 16
+
+-- the longest time between two arrivals
+abbrev pub longest_gap : ℕ → ℕ
+longest_gap n = 1 + n % 5
+
+-- how many wards there are
+abbrev pub wards : ℕ → ℕ
+wards n = 1 + n % 8
+
+-- how many jobs the ward of this number serves at a time
+abbrev pub ward_servers : ℕ → ℕ
+ward_servers i = 1 + i % 3
+
+-- and for how long it serves one at most
+abbrev pub longest_service : ℕ → ℕ
+longest_service i = 3 + 2 * i
+
+abbrev pub ward_name : ℕ → List ℕ
+ward_name i = codes "ward" ++ decimal i

@@ -1,0 +1,37 @@
+-- The script of every made study: sixteen plans, each a fork of an earlier one with a faster first ward.
+use Rattle.std.specs.Prelude.{ℕ, ◌+◌, ◌*◌, ◌/◌, ◌-◌, ◌==◌, if◌then◌else◌, List, [], ◌∷◌, ◌++◌, codes, decimal}
+use Rattle.std.specs.List.{flat_map, range_with_len}
+use Rattle.sim_base.specs.declared.decision.Decision.{Decision}
+use Rattle.sim_base.specs.declared.decision.Decision.TheVariants.{Fork, Set}
+use Rattle.sim_base.specs.declared.message.Param.TheVariants.{Service}
+use Rattle.decision_script.specs.declared.item.Act.TheVariants.{Decide}
+use Rattle.decision_script.specs.declared.item.Item.{Item}
+use Rattle.decision_script.specs.Stating.{ScriptView}
+use Rattle.made_study.specs.Numbers.{PLANS, ward_name}
+
+abbrev pub plan_name : ℕ → List ℕ
+plan_name j = codes "plan" ++ decimal j
+
+-- what a plan is a fork of: the first of the base, and each other one of the plan of half its number
+abbrev pub parent : ℕ → List ℕ
+parent j = if j == 1 then codes "base" else plan_name (j / 2)
+
+abbrev pub fork_of_plan : ℕ → Decision
+fork_of_plan j = Fork (plan_name j) (parent j)
+
+-- from a time on, the first ward serves a patient for 1 to 2 + j
+abbrev pub set_of_plan : ℕ → Decision
+set_of_plan j = Set (plan_name j) (100 * j) (ward_name 1) (record { param = Service; a = 1; b = 2 + j })
+
+-- two lines for a plan, both of the analyst main
+abbrev pub items_of_plan : ℕ → List Item
+items_of_plan j =
+    record { line = 2 * j - 1; analyst = 1; act = Decide (fork_of_plan j) }
+    ∷ record { line = 2 * j; analyst = 1; act = Decide (set_of_plan j) } ∷ []
+
+-- the made script
+abbrev pub made_script : ScriptView
+made_script = record {
+  analysts = codes "main" ∷ [];
+  items = flat_map items_of_plan (range_with_len 1 PLANS);
+}
