@@ -1,0 +1,118 @@
+-- The first log of a trace that is full, and the lengths of all.
+use Rattle.std.proofs.Common.{◌≡◌, inl, inr, ℕ, ◌<◌, ◌≤◌, ◌==◌, cond, refl, ap, sym, subst, ◌∙◌, List, [], ◌∷◌, ◌++◌, length, length-append, append-nil, Option, Some, None, arith}
+use Rattle.std.specs.Prelude.{◌↔◌}
+use Rattle.std.proofs.lemmas.Bool.{cases_eq, cases_lt, lt-leb}
+use Rattle.std.proofs.lemmas.List.{append_assoc}
+use Rattle.std.proofs.lemmas.List.Elements.{filter-append}
+use Rattle.sim_base.specs.Clones.{Clone}
+use Rattle.sim_base.specs.declared.message.Msg.{Msg}
+use Rattle.sim_base.specs.declared.entry.Entry.{Entry}
+use Rattle.sim_base.specs.declared.entry.Line.{Line}
+use Rattle.net_model.specs.Net.{Net}
+use Rattle.run_laws.specs.World.{log_of}
+use Rattle.run_laws.proofs.Worlds.{log_here, log_there}
+use Rattle.stations.specs.Runs.{trace_of}
+use Rattle.solo_run.specs.Limit.{receiver, first_beyond}
+use Rattle.solo_run.proofs.OneTurn.{beyond_append, beyond_here}
+use Rattle.study_run.specs.Limits.{IsFirstFull, IsWithin, MeetsLimitAlone}
+use Rattle.study_run.specs.Laws.{FullIsFound, FullIsOne, NotWithinAndMetAlone, WithinIsNotFull}
+
+module _ (limit : ℕ) where
+  -- the walk goes on behind an entry whose log was not full
+  later : (seen : List (Entry Msg Line)) (e : Entry Msg Line) (es : List (Entry Msg Line)) → length (log_of receiver e.msg.to seen) < limit
+      → first_beyond limit seen (e ∷ es) ≡ first_beyond limit (seen ++ e ∷ []) es
+  later seen e es below = ap (λ b. cond b (Some e.msg.to) (first_beyond limit (seen ++ e ∷ []) es)) (lt-leb limit (length (log_of receiver e.msg.to seen)) below)
+
+  -- the logs stay within the limit with an entry whose log was not full
+  grown : (seen : List (Entry Msg Line)) (e : Entry Msg Line) → ((s : ℕ) → length (log_of receiver s seen) ≤ limit) → length (log_of receiver e.msg.to seen) < limit
+      → (s : ℕ) → length (log_of receiver s (seen ++ e ∷ [])) ≤ limit
+  grown seen e h below s = elim (cases_eq e.msg.to s) [
+    | inl same ↦
+        let more = length-append (log_of receiver s seen) (e ∷ []) in
+        let is = ap length (log_here receiver s seen e same) in
+        let free : length (log_of receiver s seen) < limit = subst (λ k. length (log_of receiver k seen) < limit) same below in
+        omega (arith, more, is, free)
+    | inr other ↦ subst (λ l. length l ≤ limit) (sym (log_there receiver s seen e other)) (h s)
+  ]
+
+  -- where the walk finds none, no log is longer
+  within : (seen es : List (Entry Msg Line)) → ((s : ℕ) → length (log_of receiver s seen) ≤ limit) → first_beyond limit seen es ≡ None
+      → (s : ℕ) → length (log_of receiver s (seen ++ es)) ≤ limit
+  within seen [] h none s = subst (λ t. length (log_of receiver s t) ≤ limit) (sym (append-nil seen)) (h s)
+  within seen (e ∷ es) h none s = elim (cases_lt (length (log_of receiver e.msg.to seen)) limit) [
+    | inr full ↦ absurd (let k = sym (beyond_here limit seen e es full) ∙ none in cc)
+    | inl below ↦ subst (λ t. length (log_of receiver s t) ≤ limit) (append_assoc seen (e ∷ []) es)
+        (within (seen ++ e ∷ []) es (grown seen e h below) (sym (later seen e es below) ∙ none) s)
+  ]
+
+  -- the log that it finds is longer in the end
+  longer : (seen es : List (Entry Msg Line)) (s : ℕ) → first_beyond limit seen es ≡ Some s → limit < length (log_of receiver s (seen ++ es))
+  longer seen [] s some = absurd (cc)
+  longer seen (e ∷ es) s some = elim (cases_lt (length (log_of receiver e.msg.to seen)) limit) [
+    | inr full ↦
+        let at : Some e.msg.to ≡ Some s = sym (beyond_here limit seen e es full) ∙ some in
+        let same : e.msg.to ≡ s = cc in
+        let whole = ap (λ t. length (log_of receiver s t)) (append_assoc seen (e ∷ []) es) in
+        let parts = ap length (filter-append (λ (x : Entry Msg Line). x.msg.to == s) (seen ++ e ∷ []) es) in
+        let lengths = length-append (log_of receiver s (seen ++ e ∷ [])) (log_of receiver s es) in
+        let here = ap length (log_here receiver s seen e same) in
+        let more = length-append (log_of receiver s seen) (e ∷ []) in
+        let is_full : limit ≤ length (log_of receiver s seen) = subst (λ k. limit ≤ length (log_of receiver k seen)) same full in
+        omega (arith, whole, parts, lengths, here, more, is_full)
+    | inl below ↦ subst (λ t. limit < length (log_of receiver s t)) (append_assoc seen (e ∷ []) es) (longer (seen ++ e ∷ []) es s (sym (later seen e es below) ∙ some))
+  ]
+
+  -- the entry at which the walk ends is the first whose log is full
+  full_at : (seen es : List (Entry Msg Line)) (s : ℕ) → ((t : ℕ) → length (log_of receiver t seen) ≤ limit) → first_beyond limit seen es ≡ Some s → IsFirstFull limit (seen ++ es) s
+  full_at seen [] s h some = absurd (cc)
+  full_at seen (e ∷ es) s h some = elim (cases_lt (length (log_of receiver e.msg.to seen)) limit) [
+    | inr full ↦
+        let at : Some e.msg.to ≡ Some s = sym (beyond_here limit seen e es full) ∙ some in
+        let same : e.msg.to ≡ s = cc in
+        let most = h s in
+        let least : limit ≤ length (log_of receiver s seen) = subst (λ k. limit ≤ length (log_of receiver k seen)) same full in
+        record { done = seen; entry = e; rest = es; parts = refl; is_for = same; full = omega (arith, most, least); within = h }
+    | inl below ↦ subst (λ t. IsFirstFull limit t s) (append_assoc seen (e ∷ []) es)
+        (full_at (seen ++ e ∷ []) es s (grown seen e h below) (sym (later seen e es below) ∙ some))
+  ]
+
+  -- where no log is longer, the walk finds none
+  none_found : (es : List (Entry Msg Line)) (o : Option ℕ) → first_beyond limit [] es ≡ o → ((s : ℕ) → length (log_of receiver s es) ≤ limit) → o ≡ None
+  none_found es None e h = refl
+  none_found es (Some s) e h = let long = longer [] es s e in let short = h s in absurd (omega (arith, long, short))
+
+  -- the first entry whose log is full is found
+  found_at : (es : List (Entry Msg Line)) (s : ℕ) → IsFirstFull limit es s → first_beyond limit [] es ≡ Some s
+  found_at es s f =
+      let none = none_found f.done (first_beyond limit [] f.done) refl f.within in
+      let full = f.full in
+      let least : limit ≤ length (log_of receiver s f.done) = omega (arith, full) in
+      let here : limit ≤ length (log_of receiver f.entry.msg.to f.done) = subst (λ k. limit ≤ length (log_of receiver k f.done)) (sym f.is_for) least in
+      ap (first_beyond limit []) f.parts ∙ (beyond_append limit [] f.done (f.entry ∷ f.rest) none ∙ (beyond_here limit f.done f.entry f.rest here ∙ ap Some f.is_for))
+
+pub full_is_found : FullIsFound
+full_is_found limit es s = (found_at limit es s, λ some. full_at limit [] es s (λ t. omega arith) some)
+
+pub full_is_one : FullIsOne
+full_is_one limit es s t a b =
+    let first = found_at limit es s a in
+    let second = found_at limit es t b in
+    let same : Some s ≡ Some t = sym first ∙ second in
+    cc
+
+pub within_is_not_full : WithinIsNotFull
+within_is_not_full limit es = (λ h. none_found limit es (first_beyond limit [] es) refl h, λ none. within limit [] es (λ s. omega arith) none)
+
+pub not_both_alone : NotWithinAndMetAlone
+not_both_alone net c s h m =
+    let long = longer net.limit [] (trace_of net c) s (found_at net.limit (trace_of net c) s m.first) in
+    let short = h s m.low m.high in
+    absurd (omega (arith, long, short))
+
+-- the logs of a clone's run are within the limit where the walk over its trace finds none
+pub within_alone : (net : Net) (c : Clone) → first_beyond net.limit [] (trace_of net c) ≡ None → IsWithin net c
+within_alone net c none s low high = within net.limit [] (trace_of net c) (λ t. omega arith) none s
+
+-- the limit is met where it finds one
+pub met_alone : (net : Net) (c : Clone) (s : ℕ) → 1 ≤ s → s ≤ length net.sites → first_beyond net.limit [] (trace_of net c) ≡ Some s → MeetsLimitAlone net c s
+met_alone net c s low high some = record { low = low; high = high; first = full_at net.limit [] (trace_of net c) s (λ t. omega arith) some }

@@ -1,0 +1,81 @@
+-- The run of one clone by itself.
+use Rattle.std.proofs.Common.{◌≡◌, ℕ, zero, suc, ◌+◌, ◌*◌, ◌≤◌, refl, sym, subst, ap, ap₂, ◌∙◌, arith, min, List, [], ◌∷◌, length, Option, None, Some, Result, Ok, Err, unwrap_or, IfOk, IfErr, OnOk}
+use Rattle.std.specs.List.{AllByRecursion}
+use Rattle.sim_base.specs.Order.{msg_cmp}
+use Rattle.sim_base.specs.Clones.{Clone, clone_at}
+use Rattle.sim_base.specs.declared.decision.Planned.{Planned}
+use Rattle.net_model.specs.Net.{Net}
+use Rattle.run_laws.specs.Handlers.{AreForStations}
+use Rattle.run_laws.specs.Machine.{run_to}
+use Rattle.run_laws.specs.Runs.{run}
+use Rattle.stations.specs.Runs.{simulation, trace_of}
+use Rattle.solo_run.specs.Beginning.{start_of}
+use Rattle.solo_run.specs.Limit.{first_beyond}
+use Rattle.solo_run.specs.SoloView.{IsSolo, SoloView, config_of}
+use Rattle.solo_run.specs.Turns.{Stops, run_from, step_of}
+use Rattle.solo_run.specs.declared.turn.SoloFault.TheVariants.{Limit}
+use Rattle.solo_run.proofs.OneTurn.{sum_most}
+use Rattle.decision_book.specs.Plans.{IsPlan, IsPlanned, ArePlanned}
+use Rattle.study_run.specs.Faults.{StopsAlone}
+use Rattle.study_run.specs.Limits.{IsWithin, MeetsLimitAlone}
+use Rattle.study_run.specs.Work.{IsFew}
+use Rattle.study_run.proofs.Fulls.{met_alone, within_alone}
+
+-- decisions that stations take are for stations
+for_stations : (net : Net) (plans : List Planned) → AllByRecursion (IsPlan net) plans → AreForStations (simulation net) plans
+for_stations net [] h = tt
+for_stations net (p ∷ ps) h = ((h.0.first, h.0.last), for_stations net ps h.1)
+
+-- those of a planned clone
+planned_at : (net : Net) (cs : List Clone) (c : ℕ) → AllByRecursion (IsPlanned net) cs → AreForStations (simulation net) (clone_at cs c).plans
+planned_at net [] c h = tt
+planned_at net (k ∷ ks) zero h = for_stations net k.plans h.0.plans
+planned_at net (k ∷ ks) (suc c) h = planned_at net ks c h.1
+
+pub plans_at : (net : Net) (cs : List Clone) (c : ℕ) (plans : List Planned) → ArePlanned net cs → plans ≡ (clone_at cs c).plans → AreForStations (simulation net) plans
+plans_at net cs c plans h e = subst (AreForStations (simulation net)) (sym e) (planned_at net cs c h.each)
+
+-- a clone's run goes to its end, or else to the horizon
+module _ (net : Net) (c : Clone) (plans : List Planned) (end : Option ℕ) (front : ℕ) (v : SoloView)
+    (same_plans : plans ≡ c.plans) (same_end : end ≡ c.end) (is_last : front ≡ min net.horizon (unwrap_or end net.horizon))
+    (begins : config_of net v ≡ start_of net plans) where
+  -- the trace of the run from where it begins
+  pub trace_from : (run_from net v front).at.trace ≡ trace_of net c
+  trace_from = ap (λ k. (run_to msg_cmp (step_of net) (λ m. m.key.time) k front).at.trace) begins
+      ∙ ap₂ (λ ps b. (run (simulation net) ps b).at.trace) same_plans (is_last ∙ ap (λ o. min net.horizon (unwrap_or o net.horizon)) same_end)
+
+  -- at first nothing was handled
+  none_yet : length v.trace ≡ 0
+  none_yet = ap (λ k. length k.at.trace) begins
+
+  module _ (s : SoloView) (old new : ℕ) (ends : config_of net s ≡ run_from net v front) (solo : IsSolo net s) (steps : new + length v.trace ≡ old + length s.trace) where
+    pub whole_trace : s.trace ≡ trace_of net c
+    whole_trace = ap (λ k. k.at.trace) ends ∙ trace_from
+
+    pub steps_exact : new ≡ old + length (trace_of net c)
+    steps_exact = let none = none_yet in let all = ap length whole_trace in omega (arith, none, all, steps)
+
+    pub stays_within : IsWithin net c
+    stays_within = within_alone net c (ap (first_beyond net.limit []) (sym whole_trace) ∙ solo.below)
+
+    -- the stations have handled at most as many messages as they may
+    pub steps_few : IsFew net 1 old new
+    steps_few =
+        let all = sum_most (λ st. st.handled) net.limit s.states (λ i st is. (solo.states i st is).within) in
+        let count : length s.states * net.limit ≡ length net.sites * net.limit = ap (λ n. n * net.limit) solo.count in
+        let total = solo.total in
+        let none = none_yet in
+        omega (arith, all, count, total, none, steps)
+
+  pub stops_alone : (cs : List Clone) (place old new station kept : ℕ) → clone_at cs place ≡ c → Stops net v front old new (Limit station kept)
+      → StopsAlone net cs place old new station place
+  stops_alone cs place old new station kept is h =
+      let none = none_yet in
+      let steps = h.steps in
+      let bounded = h.bounded in
+      let some = ap (first_beyond net.limit []) (sym trace_from) ∙ h.first in
+      record {
+        meets = subst (λ k. MeetsLimitAlone net k station) (sym is) (met_alone net c station h.first_station h.last_station some);
+        is_it = refl;
+        few = omega (arith, none, steps, bounded);
+      }

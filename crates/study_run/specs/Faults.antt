@@ -1,0 +1,28 @@
+-- Why a run has no result.
+use Rattle.std.specs.Prelude.{◌≡◌, ℕ, List, length}
+use Rattle.sim_base.specs.Clones.{Clone, clone_at}
+use Rattle.net_model.specs.Net.{Net}
+use Rattle.study_run.specs.Limits.{MeetsLimit, MeetsLimitAlone}
+use Rattle.study_run.specs.Work.{IsFew}
+use Rattle.study_run.specs.declared.fault.StudyFault.{StudyFault}
+use Rattle.study_run.specs.declared.fault.StudyFault.TheVariants.{NoMemory, LimitMet}
+
+-- the run of all clones ends where the limit is met, and no more was handled than the limit allows
+pub record StopsAll (net : Net) (clones : List Clone) (old_steps new_steps station who : ℕ) : Type 0 where
+  pub meets : MeetsLimit net clones station who
+  pub few : IsFew net (length clones) old_steps new_steps
+
+-- out of memory needs no cause
+abbrev pub IsFaultOfAll : Net → List Clone → ℕ → ℕ → StudyFault → Type 0
+IsFaultOfAll net clones old_steps new_steps NoMemory = Unit {0}
+IsFaultOfAll net clones old_steps new_steps (LimitMet station who) = StopsAll net clones old_steps new_steps station who
+
+-- the run of the clone at a place ends so
+pub record StopsAlone (net : Net) (clones : List Clone) (c old_steps new_steps station who : ℕ) : Type 0 where
+  pub meets : MeetsLimitAlone net (clone_at clones c) station
+  pub is_it : who ≡ c
+  pub few : IsFew net 1 old_steps new_steps
+
+abbrev pub IsFaultAlone : Net → List Clone → ℕ → ℕ → ℕ → StudyFault → Type 0
+IsFaultAlone net clones c old_steps new_steps NoMemory = Unit {0}
+IsFaultAlone net clones c old_steps new_steps (LimitMet station who) = StopsAlone net clones c old_steps new_steps station who

@@ -1,0 +1,65 @@
+-- What is proved of the limit and of the report, in words that contracts cite.
+use Rattle.std.specs.Prelude.{◌≡◌, ◌↔◌, ◌⊎◌, ℕ, ◌≤◌, List, [], length, Some, None, sum_by}
+use Rattle.sim_base.specs.Clones.{Clone}
+use Rattle.sim_base.specs.declared.message.Msg.{Msg}
+use Rattle.sim_base.specs.declared.entry.Entry.{Entry}
+use Rattle.sim_base.specs.declared.entry.Line.{Line}
+use Rattle.net_model.specs.Net.{Net}
+use Rattle.net_model.specs.Rules.{IsNet}
+use Rattle.run_laws.specs.World.{log_of}
+use Rattle.stations.specs.Runs.{trace_of}
+use Rattle.solo_run.specs.Limit.{receiver, first_beyond}
+use Rattle.world_core.specs.Worlds.{total_handled}
+use Rattle.study_run.specs.Limits.{AreWithin, IsWithin, MeetsLimit, IsFirstFull, MeetsLimitAlone}
+use Rattle.study_run.specs.Overs.{first_over_of}
+use Rattle.trace_report.specs.Outputs.{figures_to}
+use Rattle.study_run.specs.Work.{most_handled}
+
+-- there is one station and one clone at which the limit is met
+abbrev pub MeetingIsOne : Type 0
+MeetingIsOne = (net : Net) (clones : List Clone) (s who t other : ℕ) → MeetsLimit net clones s who → MeetsLimit net clones t other →
+    (s ≡ t) × (who ≡ other)
+
+-- it is met exactly where a search through the windows finds it
+abbrev pub MeetingIsFound : Type 0
+MeetingIsFound = (net : Net) → IsNet net → (clones : List Clone) (s who : ℕ) →
+    MeetsLimit net clones s who ↔ (first_over_of net clones ≡ Some (s, who))
+
+-- which finds nothing exactly where all logs of the whole run are within the limit
+abbrev pub WithinIsNotFound : Type 0
+WithinIsNotFound = (net : Net) → IsNet net → (clones : List Clone) → AreWithin net clones ↔ (first_over_of net clones ≡ None)
+
+-- so all logs are within it, or it is met
+abbrev pub WithinOrMet : Type 0
+WithinOrMet = (net : Net) → IsNet net → (clones : List Clone) →
+    AreWithin net clones ⊎ ((s : ℕ) × ((who : ℕ) × MeetsLimit net clones s who))
+
+-- and never both
+abbrev pub NotWithinAndMet : Type 0
+NotWithinAndMet = (net : Net) → IsNet net → (clones : List Clone) (s who : ℕ) → AreWithin net clones → MeetsLimit net clones s who → ⊥
+
+-- in a trace one station's log is the first that is full
+abbrev pub FullIsOne : Type 0
+FullIsOne = (limit : ℕ) (trace : List (Entry Msg Line)) (s t : ℕ) → IsFirstFull limit trace s → IsFirstFull limit trace t → s ≡ t
+
+-- exactly where a walk over its entries finds it
+abbrev pub FullIsFound : Type 0
+FullIsFound = (limit : ℕ) (trace : List (Entry Msg Line)) (s : ℕ) → IsFirstFull limit trace s ↔ (first_beyond limit [] trace ≡ Some s)
+
+-- which finds nothing exactly where all logs are within the limit
+abbrev pub WithinIsNotFull : Type 0
+WithinIsNotFull = (limit : ℕ) (trace : List (Entry Msg Line)) →
+    ((s : ℕ) → length (log_of receiver s trace) ≤ limit) ↔ (first_beyond limit [] trace ≡ None)
+
+-- the logs of a clone's run are not all within the limit where it is met
+abbrev pub NotWithinAndMetAlone : Type 0
+NotWithinAndMetAlone = (net : Net) (c : Clone) (s : ℕ) → IsWithin net c → MeetsLimitAlone net c s → ⊥
+
+-- what the report says was handled in all is what was handled once at the stations together
+abbrev pub TotalIsOfReport : Type 0
+TotalIsOfReport = (net : Net) (clones : List Clone) →
+    sum_by (λ f. f.handled) (figures_to net clones (length net.sites)) ≡ total_handled net clones net.horizon
+
+-- and no more than the limit allows
+abbrev pub TotalIsFew : Type 0
+TotalIsFew = (net : Net) (clones : List Clone) → AreWithin net clones → total_handled net clones net.horizon ≤ most_handled net (length clones)

@@ -1,0 +1,6 @@
+pub mod Limits
+pub mod Overs
+pub mod Work
+pub mod Faults
+pub mod Laws
+pub mod Accepted

@@ -1,0 +1,51 @@
+-- The limit of a log: when the logs of a run are within it, and where it is met first.
+use Rattle.std.specs.Prelude.{◌≡◌, ℕ, ◌<◌, ◌≤◌, List, ◌∷◌, ◌++◌, length}
+use Rattle.sim_base.specs.Clones.{Clone, clone_at}
+use Rattle.sim_base.specs.declared.message.Msg.{Msg}
+use Rattle.sim_base.specs.declared.entry.Entry.{Entry}
+use Rattle.sim_base.specs.declared.entry.Line.{Line}
+use Rattle.net_model.specs.Net.{Net}
+use Rattle.run_laws.specs.Queue.{In}
+use Rattle.run_laws.specs.World.{log_of}
+use Rattle.stations.specs.Runs.{AreFronts, log_at, trace_of}
+use Rattle.solo_run.specs.Limit.{receiver}
+use Rattle.world_core.specs.Overs.{IsFirstBeyond, NoneBeyond}
+
+-- no station's log of the clone's whole run is longer than the limit
+abbrev pub IsWithin : Net → Clone → Type 0
+IsWithin net c = (s : ℕ) → 1 ≤ s → s ≤ length net.sites → length (log_at net c s net.horizon) ≤ net.limit
+
+-- nor of any of the clones
+abbrev pub AreWithin : Net → List Clone → Type 0
+AreWithin net clones = (c : ℕ) → c < length clones → IsWithin net (clone_at clones c)
+
+-- a window of the clones' run ends at f: f is one of their next fronts from 0 on
+pub record IsWindowEnd (net : Net) (clones : List Clone) (f : ℕ) : Type 0 where
+  pub fronts : List ℕ
+  pub are_fronts : AreFronts net clones 0 fronts
+  pub is_one : In f fronts
+
+-- the limit is met in a run of these clones: at the least window end at which some log is longer, the station is the
+-- least that has one, and there the clone is the least
+pub record MeetsLimit (net : Net) (clones : List Clone) (station who : ℕ) : Type 0 where
+  pub bound : ℕ
+  pub is_end : IsWindowEnd net clones bound
+  pub first : IsFirstBeyond net clones bound station who
+  pub before : (f : ℕ) → IsWindowEnd net clones f → f < bound → NoneBeyond net clones f
+
+-- a station's log has so many entries before an entry of its own, and there no log has more
+pub record IsFirstFull (limit : ℕ) (trace : List (Entry Msg Line)) (station : ℕ) : Type 0 where
+  pub done : List (Entry Msg Line)
+  pub entry : Entry Msg Line
+  pub rest : List (Entry Msg Line)
+  pub parts : trace ≡ done ++ entry ∷ rest
+  pub is_for : entry.msg.to ≡ station
+  pub full : length (log_of receiver station done) ≡ limit
+  pub within : (s : ℕ) → length (log_of receiver s done) ≤ limit
+
+-- the limit is met in the run of one clone: its trace goes on where the log of this station is full, and no log is
+-- longer before
+pub record MeetsLimitAlone (net : Net) (c : Clone) (station : ℕ) : Type 0 where
+  pub low : 1 ≤ station
+  pub high : station ≤ length net.sites
+  pub first : IsFirstFull net.limit (trace_of net c) station

@@ -1,0 +1,38 @@
+//! Laws of the limit and of the report: each function's contract is a law, and there is nothing to run.
+//!
+//! `specs/Laws.antt` has the laws in words.
+ghost use Rattle.study_run.specs.Accepted.{AcceptedIsTaken};
+ghost use Rattle.study_run.specs.Laws.{FullIsFound, FullIsOne, MeetingIsFound, MeetingIsOne, NotWithinAndMet, NotWithinAndMetAlone, TotalIsFew, TotalIsOfReport, WithinIsNotFound, WithinIsNotFull, WithinOrMet};
+
+/// Where the limit is met in a run of clones: there is one such place, and it is there exactly where some log of the
+/// whole run is longer.
+#[tactic(auto, using(crate::proofs::Meeting::meeting_is_one, crate::proofs::Meeting::meeting_is_found, crate::proofs::Meeting::within_is_not_found, crate::proofs::Meeting::within_or_met, crate::proofs::Meeting::not_both))]
+pub fn limit_is_met_once()
+    ensures one { MeetingIsOne }
+    ensures found { MeetingIsFound }
+    ensures within { WithinIsNotFound }
+    ensures either { WithinOrMet }
+    ensures not_both { NotWithinAndMet }
+{}
+
+/// Where it is met in one clone's trace.
+#[tactic(auto, using(crate::proofs::Fulls::full_is_one, crate::proofs::Fulls::full_is_found, crate::proofs::Fulls::within_is_not_full, crate::proofs::Fulls::not_both_alone))]
+pub fn first_full_log()
+    ensures one { FullIsOne }
+    ensures found { FullIsFound }
+    ensures within { WithinIsNotFull }
+    ensures not_both { NotWithinAndMetAlone }
+{}
+
+/// The total of the report is what was handled once, and it is no more than the limit allows.
+#[tactic(auto, using(crate::proofs::Reports::total_is_of_report, crate::proofs::Reports::total_is_few))]
+pub fn report_has_the_total()
+    ensures total { TotalIsOfReport }
+    ensures few { TotalIsFew }
+{}
+
+/// What a right journal without fronts accepted, a world may take at front 0.
+#[tactic(auto, using(crate::proofs::Accepting::accepted_is_taken))]
+pub fn accepted_calls_are_taken()
+    ensures { AcceptedIsTaken }
+{}

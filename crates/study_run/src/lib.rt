@@ -1,0 +1,43 @@
+//! Runs of studies: all branches of a model in one world, or one of them by itself.
+//!
+//! A study is a model and the decisions that were accepted before its simulation begins. Its run opens the world of
+//! the base clone, takes the decisions at front 0, and goes from window to window up to the horizon, the stop time.
+//! A crew of threads shares out the stations of each window; what comes of it does not depend on the crew.
+//!
+//! ```text
+//! calls --take--> { base fast } --window--> 5 --window--> 7 --window--> 10 .. --window--> horizon
+//!                                             a log is longer than the limit: LimitMet, and the world is given up
+//! ```
+//!
+//! ```text
+//! let crew = StudyCrew { workers };
+//! let world = run_study(&rt, alloc, &crew, &NoGate, &model, book.calls(), &mut steps)?;
+//! let report = report_of(alloc, &model, &world)?;               // what the branches shared
+//! let solo = run_alone(alloc, &model, book.lists(), 1, &mut steps)?;     // the same trace, without sharing
+//! ```
+//!
+//! What it costs: a step for each message that is handled, one for all clones that share it; the memory of the world.
+//! A clone by itself costs a step for each message of its trace.
+//!
+//! The promises that it carries: **bounded work, each shared message handled once**. At the horizon the steps rose by
+//! exactly the report's total; where a log would get longer than the limit, the least window end, there the least
+//! station and there the least clone are named, and no more was handled than stations, clones and limit allow.
+#![tactic(auto)]
+
+pub mod accepted;
+pub mod alone;
+pub mod crew;
+pub mod examples;
+pub mod fault;
+pub mod laws;
+pub mod report;
+pub mod study;
+#[cfg(test)]
+mod tests;
+
+pub use accepted::accepted_calls;
+pub use alone::{run_alone, text_alone};
+pub use crew::StudyCrew;
+pub use fault::StudyFault;
+pub use report::report_of;
+pub use study::run_study;

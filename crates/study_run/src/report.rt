@@ -1,0 +1,25 @@
+//! The report of a run: what the clones had in common.
+ghost use Rattle.std.specs.Prelude.{◌≡◌, ◌≤◌, length, IfOk};
+ghost use Rattle.study_run.specs.Limits.{AreWithin};
+ghost use Rattle.trace_report.specs.Outputs.{report};
+
+use net_model::Model;
+use sim_base::NoMemory;
+use std::alloc::Global;
+use trace_report::report_text;
+use world_core::World;
+
+/// The text of the report of a world that has come to the horizon.
+pub fn report_of(alloc: Global, model: &Model, world: &World) -> Result<Vec<u8>, NoMemory>
+    requires net { world.now.net ≡ model.now }
+    requires ended { world.now.front ≡ model.now.horizon }
+    requires few { length world.now.clones ≤ 256 }
+    requires within { AreWithin model.now world.now.clones }
+    ensures text { IfOk result (λ text. text.items ≡ report model.now world.now.clones) }
+{
+    let mut figures = Vec::new(alloc);
+    for s in 0..model.len() {
+        figures.push(world.figures(s + 1))?;
+    }
+    report_text(alloc, model, figures.as_slice())
+}
