@@ -1,7 +1,7 @@
 -- The report of a run, and its work.
 use Rattle.std.proofs.Common.{◌≡◌, inl, inr, ℕ, zero, suc, ◌+◌, ◌*◌, ◌^◌, ◌<◌, ◌≤◌, refl, sym, ap, ap₂, ◌∙◌, subst, arith, suc-mul, List, [], ◌∷◌, ◌++◌, append-nil, length, length-append, sum_by, Result, Ok, Err, IfOk}
 use Rattle.std.proofs.lemmas.Bool.{cases_lt}
-use Rattle.std.specs.List.{flat_map}
+use Rattle.std.specs.List.{AllByRecursion, flat_map}
 use Rattle.std.proofs.lemmas.Grind.{flat_map-append}
 use Rattle.std.proofs.lemmas.List.Sums.{sum_by_push}
 use Rattle.std.proofs.Math.Nat.{mul-le-mul}
@@ -19,10 +19,12 @@ use Rattle.run_laws.specs.SharedTexts.{station_sum}
 use Rattle.run_laws.proofs.FewGains.{counts_are_few}
 use Rattle.stations.specs.Runs.{alone, copies, handled, log_at, simulation}
 use Rattle.trace_report.specs.ReportText.{report_text}
-use Rattle.trace_report.specs.TraceText.{trace_text}
 use Rattle.world_core.specs.Overs.{NoneBeyond}
 use Rattle.world_core.specs.Worlds.{total_handled}
-use Rattle.cloner_top.specs.Outputs.{clone_text, clone_trace, figures_of, figures_to, report}
+use Rattle.trace_report.specs.Outputs.{clone_texts}
+use Rattle.decision_book.specs.Plans.{ArePlanned, IsPlanned}
+use Rattle.rolling_text.specs.WorldTraces.{AreShort}
+use Rattle.cloner_top.specs.Outputs.{clone_text, clone_trace, figures_of, figures_to, report, traces}
 use Rattle.cloner_top.specs.Stopping.{most_of_clone}
 
 -- a clone at a station handles no more than the limit, and 64 stations of 256 clones no more than a number holds
@@ -118,9 +120,16 @@ pub report_is : (net : Net) (cs : List Clone) (figures : List Figures) → figur
 unfolding report
 report_is net cs figures e = ap (report_text net) e
 
--- the text of a trace, as a world tells it at the horizon
-pub traced_is : (net told : Net) (c : Clone) (front : ℕ) (name : List ℕ) (entries : List (Entry Msg Line)) → told ≡ net → front ≡ net.horizon → name ≡ c.name
-    → entries ≡ (run_of (simulation told) c front).at.trace → trace_text net name entries ≡ clone_text net c
+-- the texts of all clones, by both names
+pub texts_are : (net : Net) (cs : List Clone) → clone_texts net cs ≡ traces net cs
 unfolding clone_text clone_trace
-traced_is net told c front name entries n h is e =
-    ap₂ (trace_text net) is (e ∙ ap₂ (λ (k : Net) t. (run_of (simulation k) c t).at.trace) n h)
+texts_are net cs = refl
+
+-- the lists of planned clones are short
+pub short_planned : (net : Net) (cs : List Clone) → ArePlanned net cs → AreShort cs
+short_planned net cs planned = of_each cs planned.each
+  where
+    of_each : (cs : List Clone) → AllByRecursion (IsPlanned net) cs → AreShort cs
+    of_each [] each k l = absurd (omega (arith, l))
+    of_each (c ∷ cs) each zero l = let s = each.0.short in omega (arith, s)
+    of_each (c ∷ cs) each (suc k) l = of_each cs each.1 k (omega (arith, l))

@@ -9,3 +9,4 @@ pub mod Work
 pub mod Facts
 pub mod Limits
 pub mod OwnScripts
+pub mod Kept

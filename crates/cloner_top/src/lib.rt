@@ -23,6 +23,7 @@
 mod deciding;
 pub mod error_line;
 pub mod laws;
+mod pieces;
 pub mod program;
 mod reading;
 pub mod refusal;

@@ -6,6 +6,8 @@ ghost use Rattle.net_model.specs.Net.{site_of};
 ghost use Rattle.solo_run.specs.Limit.{first_beyond};
 ghost use Rattle.decision_book.specs.Journal.{after};
 ghost use Rattle.decision_book.specs.Plans.{ArePlanned, IsPlan};
+ghost use Rattle.trace_report.specs.Outputs.{clone_texts};
+ghost use Rattle.rolling_text.specs.WorldTraces.{AreShort};
 ghost use Rattle.world_core.specs.Overs.{NoneBeyond};
 ghost use Rattle.world_core.specs.Taking.{AreAccepted, clones_after_calls};
 ghost use Rattle.world_core.specs.Worlds.{total_handled};
@@ -15,10 +17,12 @@ ghost use Rattle.cloner_top.specs.Overs.{IsRunFault, first_over_of};
 ghost use Rattle.cloner_top.specs.Stopping.{IsFew, IsStop, most_of_clone, run_trace};
 ghost use Rattle.cloner_top.specs.Work.{IsWork};
 
+use crate::pieces::Pieces;
 use crate::refusal::Refusal;
 use crew_pool::{Gate, Serial};
 use decision_book::{Book, Call};
 use net_model::Model;
+use rolling_text::{WorldTraces, prepare, put_texts};
 use sim_base::{Lists, Name, NoMemory, Planned, Steps};
 use solo_run::{Solo, SoloFault};
 use std::alloc::Global;
@@ -140,15 +144,19 @@ fn run_world<G: Gate, L: Ledger, R: Threads + Wait + Sync>(
     Ok(world)
 }
 
-// The text of the trace of the clone at a place.
-fn traced(alloc: Global, model: &Model, world: &World, c: u32) -> Result<Vec<u8>, NoMemory>
-    requires net { world.now.net ≡ model.now }
-    requires ended { world.now.front ≡ model.now.horizon }
-    requires there { c < length world.now.clones }
-    ensures value { IfOk result (λ text. text.items ≡ text_of model.now (clone_at world.now.clones c)) }
+// The texts of the traces of all clones. One buffer holds the lines that neighbours share.
+fn trace_texts(alloc: Global, world: &World) -> Result<Vec<Vec<u8>>, NoMemory>
+    requires ended { world.now.front ≡ world.now.net.horizon }
+    requires short { AreShort world.now.clones }
+    ensures value { IfOk result (λ texts. flat_map (λ t. t.items) texts.items ≡ clone_texts world.now.net world.now.clones) }
 {
-    let trace = world.trace(alloc, c)?;
-    trace_text(alloc, model, &world.lists().name(c), trace.as_slice())
+    let mut traces = WorldTraces::new(alloc, world)?;
+    let texts = prepare(alloc, &traces)?;
+    let mut pieces = Pieces::none(alloc);
+    match put_texts(&mut traces, texts, &mut pieces) {
+        Ok(()) => Ok(pieces.into_texts()),
+        Err(_) => Err(NoMemory),
+    }
 }
 
 // The text of the report.
@@ -171,15 +179,12 @@ fn world_texts(alloc: Global, model: &Model, world: &World) -> Result<Vec<Vec<u8
     requires net { world.now.net ≡ model.now }
     requires ended { world.now.front ≡ model.now.horizon }
     requires few { length world.now.clones ≤ 256 }
+    requires short { AreShort world.now.clones }
     requires within { NoneBeyond model.now world.now.clones model.now.horizon }
     ensures value { IfOk result (λ texts.
         flat_map (λ t. t.items) texts.items ≡ traces model.now world.now.clones ++ report model.now world.now.clones) }
 {
-    let mut texts = Vec::new(alloc);
-    for c in 0..world.lists().len() {
-        let text = traced(alloc, model, world, c)?;
-        texts.push(text)?;
-    }
+    let mut texts = trace_texts(alloc, world)?;
     let report = reported(alloc, model, world)?;
     texts.push(report)?;
     Ok(texts)
