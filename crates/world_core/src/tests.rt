@@ -415,13 +415,15 @@ fn short_windows_are<R: Threads + Wait + Sync>(rt: &R, alloc: Global) -> bool {
 /// With so many clones in all, which are alike.
 fn with_clones(alloc: Global, world: World, clones: u32) -> Option<World> {
     let mut world = world;
-    while world.lists().len() < clones && world.lists().len() < 256 {
-        let number = world.lists().len() as u8;
+    for c in 1..clones {
+        if world.lists().len() >= 256 {
+            return None;
+        }
         let digits = [
             b'c',
-            b'0' + number / 100,
-            b'0' + number / 10 % 10,
-            b'0' + number % 10,
+            b'0' + (c / 100 % 10) as u8,
+            b'0' + (c / 10 % 10) as u8,
+            b'0' + (c % 10) as u8,
         ];
         let new = Name::read(&digits)?;
         let None = world.lists().find(&new) else {
