@@ -1,5 +1,6 @@
 -- A set's size is the number of its clones.
-use Rattle.std.proofs.Common.{◌≡◌, ◌≢◌, ◌⊎◌, inl, inr, ℕ, zero, suc, ◌+◌, ◌/◌, ◌^◌, ◌<◌, ◌≤◌, Bool, true, false, List, [], ◌∷◌, length, refl, sym, ap, ◌∙◌, arith, pow-suc}
+use Rattle.std.proofs.Common.{◌≡◌, ◌≢◌, ◌⊎◌, inl, inr, ℕ, zero, suc, ◌+◌, ◌/◌, ◌^◌, ◌<◌, ◌≤◌}
+use Rattle.std.proofs.Common.{Bool, true, false, List, [], ◌∷◌, length, refl, sym, ap, ◌∙◌, arith, pow-suc}
 use Rattle.std.specs.Prelude.{count_ones}
 use Rattle.std.proofs.lemmas.Bool.{cases_eq, false≢true}
 use Rattle.sim_base.specs.Counts.{In, Apart, IsCount}
@@ -47,7 +48,8 @@ has_among zero c s d l m h = absurd (omega arith)
 has_among (suc k) c s d l m h =
     elim (cases_eq d c) [
       | inl e ↦ picked_front (has s c) c d (members_among k (c + 1) s) (ap (has s) (sym e) ∙ h) e
-      | inr ne ↦ picked_rest (has s c) c d (members_among k (c + 1) s) (has_among k (c + 1) s d (omega arith) (omega arith) h)
+      | inr ne ↦ picked_rest (has s c) c d (members_among k (c + 1) s)
+          (has_among k (c + 1) s d (omega arith) (omega arith) h)
     ]
 
 -- none of them stands twice
@@ -81,7 +83,8 @@ size_is_count s =
     }
 
 -- what is counted as more than none is there
-counted_some : (P : ℕ → Type 0) (n : ℕ) (xs : List ℕ) → length xs ≡ n → 0 < n → ((x : ℕ) → In x xs → P x) → (c : ℕ) × P c
+counted_some : (P : ℕ → Type 0) (n : ℕ) (xs : List ℕ) → length xs ≡ n → 0 < n → ((x : ℕ) → In x xs → P x)
+    → (c : ℕ) × P c
 counted_some P n [] e some exact = absurd (omega (arith, e))
 counted_some P n (x ∷ xs) e some exact = (x, exact x (inl refl))
 

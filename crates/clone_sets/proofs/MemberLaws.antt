@@ -1,5 +1,6 @@
 -- The clones of a set one after the other.
-use Rattle.std.proofs.Common.{◌≡◌, ◌≢◌, inl, inr, ℕ, zero, suc, ◌+◌, ◌/◌, ◌^◌, ◌<◌, ◌≤◌, ◌==◌, ◌&&◌, not, Bool, true, false, List, [], ◌∷◌, length, refl, sym, ap, ap₂, ◌∙◌, subst, arith, eq-eqb, pow-suc}
+use Rattle.std.proofs.Common.{◌≡◌, ◌≢◌, inl, inr, ℕ, zero, suc, ◌+◌, ◌/◌, ◌^◌, ◌<◌, ◌≤◌, ◌==◌, ◌&&◌, not, Bool, true}
+use Rattle.std.proofs.Common.{false, List, [], ◌∷◌, length, refl, sym, ap, ap₂, ◌∙◌, subst, arith, eq-eqb, pow-suc}
 use Rattle.std.specs.Prelude.{count_ones, if◌then◌else◌}
 use Rattle.std.specs.Int.{bit_at}
 use Rattle.std.specs.Int.Count.{ones_step}
@@ -30,7 +31,8 @@ members_among-empty (suc k) c = ap₂ (λ b xs. picked b c xs) (has-empty c) (me
 -- sets with the same clones from c on have the same members from c on
 members_among_same : (k c s t : ℕ) → ((d : ℕ) → c ≤ d → has s d ≡ has t d) → members_among k c s ≡ members_among k c t
 members_among_same zero c s t h = refl
-members_among_same (suc k) c s t h = ap₂ (λ b xs. picked b c xs) (h c (omega arith)) (members_among_same k (c + 1) s t (λ d l. h d (omega arith)))
+members_among_same (suc k) c s t h =
+    ap₂ (λ b xs. picked b c xs) (h c (omega arith)) (members_among_same k (c + 1) s t (λ d l. h d (omega arith)))
 
 -- without one clone, the others stay
 has_without_other : (s f d : ℕ) → f ≢ d → has (without s f) d ≡ has s d
@@ -41,16 +43,20 @@ has_without_same : (s f d : ℕ) → f ≡ d → has (without s f) d ≡ false
 has_without_same s f d e = has-without s f d ∙ ap (λ b. not b && has s d) (eq-eqb f d e)
 
 -- the least clone comes first, and the others follow
-members_among_first : (k c s f : ℕ) → IsFirst s f → c ≤ f → f < c + k → members_among k c s ≡ f ∷ members_among k c (without s f)
+members_among_first : (k c s f : ℕ) → IsFirst s f → c ≤ f → f < c + k
+    → members_among k c s ≡ f ∷ members_among k c (without s f)
 members_among_first zero c s f h l m = absurd (omega arith)
 members_among_first (suc k) c s f h l m =
     elim (cases_eq f c) [
       | inl e ↦
-          ap₂ (λ b xs. picked b c xs) (ap (has s) (sym e) ∙ h.in_set) (members_among_same k (c + 1) s (without s f) (λ d n. sym (has_without_other s f d (omega arith))))
+          ap₂ (λ b xs. picked b c xs) (ap (has s) (sym e) ∙ h.in_set)
+          (members_among_same k (c + 1) s (without s f) (λ d n. sym (has_without_other s f d (omega arith))))
           ∙ ap₂ (λ x b. x ∷ picked b c (members_among k (c + 1) (without s f))) (sym e) (sym (has_without_same s f c e))
       | inr ne ↦
-          ap₂ (λ b xs. picked b c xs) (h.least c (omega arith)) (members_among_first k (c + 1) s f h (omega arith) (omega arith))
-          ∙ ap (λ b. f ∷ picked b c (members_among k (c + 1) (without s f))) (sym (has_without_other s f c ne ∙ h.least c (omega arith)))
+          ap₂ (λ b xs. picked b c xs) (h.least c (omega arith))
+          (members_among_first k (c + 1) s f h (omega arith) (omega arith))
+          ∙ ap (λ b. f ∷ picked b c (members_among k (c + 1) (without s f)))
+          (sym (has_without_other s f c ne ∙ h.least c (omega arith)))
     ]
 
 -- the empty set has no members
@@ -76,7 +82,8 @@ length-members_among zero c s l = omega (arith, ones_le_self (s / 2 ^ c))
 length-members_among (suc k) c s l =
     let half : s / 2 ^ c / 2 ≡ s / 2 ^ (c + 1) = shr-shr s c 1 in
     length_picked (bit_at s c) c (members_among k (c + 1) s) (bit_at-lt s c)
-    ∙ ap (λ n. bit_at s c + n) (length-members_among k (c + 1) s (omega (arith, half, pow-suc 2 k)) ∙ ap count_ones (sym half))
+    ∙ ap (λ n. bit_at s c + n) (length-members_among k (c + 1) s (omega (arith, half, pow-suc 2 k))
+    ∙ ap count_ones (sym half))
     ∙ sym (ones_step (s / 2 ^ c))
 
 -- there are as many members as the set's size
@@ -90,7 +97,8 @@ length-members s l = let e : s / 2 ^ 0 ≡ s = omega arith in length-members_amo
 numbers_below : All (λ c. c < 256) (range_with_len 0 256)
 numbers_below =
     All-from_get_or (λ c. c < 256) (range_with_len 0 256) 0
-    (λ i l. let low : i < 256 = omega (arith, length-range_with_len 0 256) in omega (arith, get_or-range_with_len 0 256 i 0 low))
+    (λ i l. let low : i < 256 = omega (arith, length-range_with_len 0 256) in
+    omega (arith, get_or-range_with_len 0 256 i 0 low))
 
 -- and they rise
 numbers_rise : IsStrictlyIncreasing (range_with_len 0 256)
@@ -130,7 +138,8 @@ in_members_among (suc k) c s d l m h =
       | inl e ↦
           let here : has s c ≡ true = ap (has s) e ∙ h in
           subst (λ b. Contains (picked b c (members_among k (c + 1) s)) d) (sym here) (0, omega arith, e)
-      | inr ne ↦ contains_picked (has s c) c d (members_among k (c + 1) s) (in_members_among k (c + 1) s d (omega arith) (omega arith) h)
+      | inr ne ↦ contains_picked (has s c) c d (members_among k (c + 1) s)
+          (in_members_among k (c + 1) s d (omega arith) (omega arith) h)
     ]
 
 -- each clone of the set is a member

@@ -1,10 +1,12 @@
 -- What is in a set after each operation, and which sets are equal.
-use Rattle.std.proofs.Common.{◌≡◌, ◌≢◌, inl, inr, ℕ, zero, suc, ◌+◌, ◌%◌, ◌^◌, ◌<◌, ◌≤◌, min, max, ◌==◌, ◌||◌, ◌&&◌, not, Bool, true, false, Some, None, refl, sym, ap, ◌∙◌, subst, arith, eq-eqb}
+use Rattle.std.proofs.Common.{◌≡◌, ◌≢◌, inl, inr, ℕ, zero, suc, ◌+◌, ◌%◌, ◌^◌, ◌<◌, ◌≤◌, min, max, ◌==◌}
+use Rattle.std.proofs.Common.{◌||◌, ◌&&◌, not, Bool, true, false, Some, None, refl, sym, ap, ◌∙◌, subst, arith, eq-eqb}
 use Rattle.std.specs.Prelude.{bit_and, if◌then◌else◌}
 use Rattle.std.specs.Int.{bit_at}
 use Rattle.std.proofs.lemmas.Bool.{cases_eq, cases_order, ne_eqb, cases_lt, false≢true}
 use Rattle.std.proofs.lemmas.Option.{none-some}
-use Rattle.std.proofs.lemmas.Nat.Bits.{bit_at_and, bit_at_or, bit_at_xor, bit_at-lt, bit_at-zero, bit_at-pow_same, bit_at-pow_other, bit_at_above, same_from_bits}
+use Rattle.std.proofs.lemmas.Nat.Bits.{bit_at_and, bit_at_or, bit_at_xor, bit_at-lt, bit_at-zero}
+use Rattle.std.proofs.lemmas.Nat.Bits.{bit_at-pow_same, bit_at-pow_other, bit_at_above, same_from_bits}
 use Rattle.clone_sets.specs.Sets.{has, empty, one, union, meet, minus, with, without, met, IsFirst}
 
 -- ---- one bit
@@ -55,12 +57,14 @@ has-empty c = ap (λ x. x == 1) (bit_at-zero c)
 -- a clone is in a union where it is in either
 pub has-union : (a b c : ℕ) → has (union a b) c ≡ (has a c || has b c)
 unfolding has union
-has-union a b c = ap (λ x. x == 1) (bit_at_or a b c) ∙ digit_or (bit_at a c) (bit_at b c) (bit_at-lt a c) (bit_at-lt b c)
+has-union a b c = ap (λ x. x == 1) (bit_at_or a b c) ∙ digit_or (bit_at a c) (bit_at b c) (bit_at-lt a c)
+    (bit_at-lt b c)
 
 -- a clone is in a meet where it is in both
 pub has-meet : (a b c : ℕ) → has (meet a b) c ≡ (has a c && has b c)
 unfolding has meet
-has-meet a b c = ap (λ x. x == 1) (bit_at_and a b c) ∙ digit_and (bit_at a c) (bit_at b c) (bit_at-lt a c) (bit_at-lt b c)
+has-meet a b c = ap (λ x. x == 1) (bit_at_and a b c) ∙ digit_and (bit_at a c) (bit_at b c) (bit_at-lt a c)
+    (bit_at-lt b c)
 
 -- a clone is in what is left where it is in the first and not in the second
 pub has-minus : (a b c : ℕ) → has (minus a b) c ≡ (has a c && not (has b c))
@@ -81,7 +85,11 @@ one_other c d ne = ap (λ x. x == 1) (bit_at-pow_other c d (λ e. ne (sym e)))
 
 -- a clone is in the set of one where it is that one
 pub has-one : (c d : ℕ) → has (one c) d ≡ (c == d)
-has-one c d = elim (cases_eq c d) [ inl e ↦ one_same c d e ∙ sym (eq-eqb c d e) | inr ne ↦ one_other c d ne ∙ sym (ne_eqb c d ne) ]
+has-one c d = elim (cases_eq c d) [
+  | inl e ↦ one_same c d e ∙ sym (eq-eqb c d e)
+  | inr ne ↦ one_other c d ne
+      ∙ sym (ne_eqb c d ne)
+]
 
 -- the order of an or is free
 or_turned : (x y : Bool) → (x || y) ≡ (y || x)
@@ -103,14 +111,16 @@ has-with s c d = has-union s (one c) d ∙ ap (λ x. has s d || x) (has-one c d)
 
 -- a clone is in the set with one less where it is another and was there
 pub has-without : (s c d : ℕ) → has (without s c) d ≡ (not (c == d) && has s d)
-has-without s c d = has-minus s (one c) d ∙ ap (λ x. has s d && not x) (has-one c d) ∙ and_turned (has s d) (not (c == d))
+has-without s c d = has-minus s (one c) d ∙ ap (λ x. has s d && not x) (has-one c d)
+    ∙ and_turned (has s d) (not (c == d))
 
 -- ---- equal sets
 
 -- two sets with the same clones are equal
 pub same_members : (a b : ℕ) → ((c : ℕ) → has a c ≡ has b c) → a ≡ b
 unfolding has
-same_members a b h = same_from_bits a b (λ c. digit_same (bit_at a c) (bit_at b c) (bit_at-lt a c) (bit_at-lt b c) (h c))
+same_members a b h = same_from_bits a b (λ c. digit_same (bit_at a c) (bit_at b c) (bit_at-lt a c) (bit_at-lt b c)
+    (h c))
 
 -- a set below the number 2 ^ k has no clone from k on
 pub none_from : (s k c : ℕ) → s < 2 ^ k → k ≤ c → has s c ≡ false
@@ -119,7 +129,12 @@ none_from s k c p q = ap (λ x. x == 1) (bit_at_above s k c p q)
 
 -- two sets with the same clones below k are equal, where all their clones are below k
 pub same_members_below : (k a b : ℕ) → a < 2 ^ k → b < 2 ^ k → ((c : ℕ) → c < k → has a c ≡ has b c) → a ≡ b
-same_members_below k a b p q h = same_members a b (λ c. elim (cases_lt c k) [ inl l ↦ h c l | inr m ↦ none_from a k c p m ∙ sym (none_from b k c q m) ])
+same_members_below k a b p q h =
+    same_members a b (λ c. elim (cases_lt c k) [
+      | inl l ↦ h c l
+      | inr m ↦ none_from a k c p m
+          ∙ sym (none_from b k c q m)
+    ])
 
 -- a set with no clone is empty
 pub empty_from_none : (s : ℕ) → ((c : ℕ) → has s c ≡ false) → s ≡ empty
@@ -152,7 +167,10 @@ met_on a b ne = ap (λ t. if t then None else Some (meet a b)) (ne_eqb (meet a b
 
 -- where nothing is given, no clone is in both
 pub met_none : (a b : ℕ) → met a b ≡ None → (c : ℕ) → (has a c && has b c) ≡ false
-met_none a b e c = elim (cases_eq (meet a b) 0) [ inl z ↦ sym (has-meet a b c) ∙ ap (λ s. has s c) z ∙ has-empty c | inr ne ↦ absurd (none-some _ (sym e ∙ met_on a b ne)) ]
+met_none a b e c = elim (cases_eq (meet a b) 0) [
+  | inl z ↦ sym (has-meet a b c) ∙ ap (λ s. has s c) z ∙ has-empty c
+  | inr ne ↦ absurd (none-some _ (sym e ∙ met_on a b ne))
+]
 
 -- what is given is the meet, and not empty
 pub met_is : (a b k : ℕ) → met a b ≡ Some k → (k ≡ meet a b) × (k ≢ empty)

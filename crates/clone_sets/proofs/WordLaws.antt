@@ -1,9 +1,11 @@
 -- The set operations, word by word.
-use Rattle.std.proofs.Common.{◌≡◌, ◌≢◌, inl, inr, eq-eqb, ℕ, zero, suc, ◌+◌, ◌-◌, ◌*◌, ◌/◌, ◌%◌, ◌^◌, ◌<◌, ◌≤◌, ◌==◌, true, false, sym, ap, ◌∙◌, arith}
+use Rattle.std.proofs.Common.{◌≡◌, ◌≢◌, inl, inr, eq-eqb, ℕ, zero, suc, ◌+◌, ◌-◌, ◌*◌, ◌/◌}
+use Rattle.std.proofs.Common.{◌%◌, ◌^◌, ◌<◌, ◌≤◌, ◌==◌, true, false, sym, ap, ◌∙◌, arith}
 use Rattle.std.specs.Prelude.{bit_and, bit_or, bit_xor, count_ones, if◌then◌else◌}
 use Rattle.std.specs.Int.{bit_at, bit_not, trailing_zeros, w64}
 use Rattle.std.proofs.lemmas.Nat.{and_le_l, or_block, and_block, xor_block, xor_lt, ones_cat, pow-add, le_or_l, le_or_r}
-use Rattle.std.proofs.lemmas.Nat.Bits.{bit_at_and, bit_at_xor, bit_at_not, bit_at-lt, bit_at-zero, same_from_bits, same_from_bits_below, bit_at_cat_low, bit_at_cat_high, bit_at-trailing_zeros}
+use Rattle.std.proofs.lemmas.Nat.Bits.{bit_at_and, bit_at_xor, bit_at_not, bit_at-lt, bit_at-zero, same_from_bits}
+use Rattle.std.proofs.lemmas.Nat.Bits.{same_from_bits_below, bit_at_cat_low, bit_at_cat_high, bit_at-trailing_zeros}
 use Rattle.std.specs.Int.Bits.{xor_self}
 use Rattle.std.proofs.lemmas.Bool.{cases_eq, cases_lt, ne_eqb}
 use Rattle.clone_sets.specs.Sets.{has, one, union, meet, minus, size, IsFirst}
@@ -13,20 +15,24 @@ use Rattle.clone_sets.proofs.SetLaws.{has-empty}
 -- ---- a word below further ones
 
 -- a union, word by word
-pub union_above : (a b r s : ℕ) → r < 2 ^ 64 → s < 2 ^ 64 → union (above_word a r) (above_word b s) ≡ above_word (union a b) (union r s)
+pub union_above : (a b r s : ℕ) → r < 2 ^ 64 → s < 2 ^ 64
+    → union (above_word a r) (above_word b s) ≡ above_word (union a b) (union r s)
 unfolding above_word union
 union_above a b r s = or_block 64 a b r s
 
 -- a meet, word by word
-pub meet_above : (a b r s : ℕ) → r < 2 ^ 64 → s < 2 ^ 64 → meet (above_word a r) (above_word b s) ≡ above_word (meet a b) (meet r s)
+pub meet_above : (a b r s : ℕ) → r < 2 ^ 64 → s < 2 ^ 64
+    → meet (above_word a r) (above_word b s) ≡ above_word (meet a b) (meet r s)
 unfolding above_word meet
 meet_above a b r s = and_block 64 a b r s
 
 -- what is left, word by word
-pub minus_above : (a b r s : ℕ) → r < 2 ^ 64 → s < 2 ^ 64 → minus (above_word a r) (above_word b s) ≡ above_word (minus a b) (minus r s)
+pub minus_above : (a b r s : ℕ) → r < 2 ^ 64 → s < 2 ^ 64
+    → minus (above_word a r) (above_word b s) ≡ above_word (minus a b) (minus r s)
 unfolding above_word minus
 minus_above a b r s p q =
-    ap (bit_xor (a * 2 ^ 64 + r)) (and_block 64 a b r s p q) ∙ xor_block 64 a (bit_and a b) r (bit_and r s) p (omega (arith, and_le_l r s))
+    ap (bit_xor (a * 2 ^ 64 + r)) (and_block 64 a b r s p q) ∙ xor_block 64 a (bit_and a b) r (bit_and r s) p
+    (omega (arith, and_le_l r s))
 
 -- the sizes add up
 pub size_above : (h l : ℕ) → l < 2 ^ 64 → size (above_word h l) ≡ size h + size l
@@ -49,8 +55,17 @@ has_above_high h l d p q = ap (λ x. x == 1) (bit_at_cat_high h 64 l d p q)
 pub and_not_word : (a b : ℕ) → a < 2 ^ 64 → b < 2 ^ 64 → bit_and a (bit_not w64 b) ≡ minus a b
 unfolding minus
 and_not_word a b p q =
-    same_from_bits_below 64 (bit_and a (bit_not w64 b)) (bit_xor a (bit_and a b)) (omega (arith, and_le_l a (bit_not w64 b))) (xor_lt 64 a (bit_and a b) p (omega (arith, and_le_l a b)))
-    (λ i l. omega (arith, bit_at_and a (bit_not w64 b) i, bit_at_not w64 b i q l, bit_at_xor a (bit_and a b) i, bit_at_and a b i, bit_at-lt a i, bit_at-lt b i))
+    same_from_bits_below 64 (bit_and a (bit_not w64 b)) (bit_xor a (bit_and a b))
+    (omega (arith, and_le_l a (bit_not w64 b))) (xor_lt 64 a (bit_and a b) p (omega (arith, and_le_l a b)))
+    (λ i l. omega (
+      arith,
+      bit_at_and a (bit_not w64 b) i,
+      bit_at_not w64 b i q l,
+      bit_at_xor a (bit_and a b) i,
+      bit_at_and a b i,
+      bit_at-lt a i,
+      bit_at-lt b i,
+    ))
 
 -- a bit that is 0 is not set
 zero_digit : (n : ℕ) → n ≡ 0 → (n == 1) ≡ false
@@ -89,7 +104,14 @@ first_high h l t z f =
 -- words that differ in no bit are equal
 xor_none : (a b : ℕ) → bit_xor a b ≡ 0 → a ≡ b
 xor_none a b e =
-    same_from_bits a b (λ i. omega (arith, bit_at_xor a b i, ap (λ x. bit_at x i) e, bit_at-zero i, bit_at-lt a i, bit_at-lt b i))
+    same_from_bits a b (λ i. omega (
+      arith,
+      bit_at_xor a b i,
+      ap (λ x. bit_at x i) e,
+      bit_at-zero i,
+      bit_at-lt a i,
+      bit_at-lt b i,
+    ))
 
 -- equal words differ in no bit
 xor_same : (a b : ℕ) → a ≡ b → bit_xor a b ≡ 0
@@ -97,7 +119,10 @@ xor_same a b e = ap (bit_xor a) (sym e) ∙ xor_self a
 
 -- two tests agree where each holds where the other does
 same_test : (x y z : ℕ) → (x ≡ 0 → y ≡ z) → (y ≡ z → x ≡ 0) → (x == 0) ≡ (y == z)
-same_test x y z p q = elim (cases_eq x 0) [ inl e ↦ eq-eqb x 0 e ∙ sym (eq-eqb y z (p e)) | inr ne ↦ ne_eqb x 0 ne ∙ sym (ne_eqb y z (λ e. ne (q e))) ]
+same_test x y z p q = elim (cases_eq x 0) [
+  | inl e ↦ eq-eqb x 0 e ∙ sym (eq-eqb y z (p e))
+  | inr ne ↦ ne_eqb x 0 ne ∙ sym (ne_eqb y z (λ e. ne (q e)))
+]
 
 -- two tests for 0 agree where each number is 0 where the other is
 same_zero : (x y : ℕ) → (x ≡ 0 → y ≡ 0) → (y ≡ 0 → x ≡ 0) → (x == 0) ≡ (y == 0)
@@ -107,7 +132,8 @@ same_zero x y = same_test x y 0
 
 module _ (a0 a1 a2 a3 b0 b1 b2 b3 : ℕ) (p : AreWords a0 a1 a2 a3) (q : AreWords b0 b1 b2 b3) where
   -- a union of words is a union of sets
-  pub set_of-union : set_of (bit_or a0 b0) (bit_or a1 b1) (bit_or a2 b2) (bit_or a3 b3) ≡ union (set_of a0 a1 a2 a3) (set_of b0 b1 b2 b3)
+  pub set_of-union : set_of (bit_or a0 b0) (bit_or a1 b1) (bit_or a2 b2) (bit_or a3 b3) ≡ union (set_of a0 a1 a2 a3)
+      (set_of b0 b1 b2 b3)
   unfolding union
   set_of-union = sym (
       union_above _ _ a0 b0 p.word0 q.word0
@@ -115,7 +141,8 @@ module _ (a0 a1 a2 a3 b0 b1 b2 b3 : ℕ) (p : AreWords a0 a1 a2 a3) (q : AreWord
       ∙ ap (λ h. above_word h (bit_or a1 b1)) (union_above a3 b3 a2 b2 p.word2 q.word2)))
 
   -- a meet of words is a meet of sets
-  pub set_of-meet : set_of (bit_and a0 b0) (bit_and a1 b1) (bit_and a2 b2) (bit_and a3 b3) ≡ meet (set_of a0 a1 a2 a3) (set_of b0 b1 b2 b3)
+  pub set_of-meet : set_of (bit_and a0 b0) (bit_and a1 b1) (bit_and a2 b2) (bit_and a3 b3) ≡ meet (set_of a0 a1 a2 a3)
+      (set_of b0 b1 b2 b3)
   unfolding meet
   set_of-meet = sym (
       meet_above _ _ a0 b0 p.word0 q.word0
@@ -123,16 +150,19 @@ module _ (a0 a1 a2 a3 b0 b1 b2 b3 : ℕ) (p : AreWords a0 a1 a2 a3) (q : AreWord
       ∙ ap (λ h. above_word h (bit_and a1 b1)) (meet_above a3 b3 a2 b2 p.word2 q.word2)))
 
   -- words without the bits of others are a set without the other's clones
-  pub set_of-minus : set_of (bit_and a0 (bit_not w64 b0)) (bit_and a1 (bit_not w64 b1)) (bit_and a2 (bit_not w64 b2)) (bit_and a3 (bit_not w64 b3)) ≡ minus (set_of a0 a1 a2 a3) (set_of b0 b1 b2 b3)
+  pub set_of-minus : set_of (bit_and a0 (bit_not w64 b0)) (bit_and a1 (bit_not w64 b1)) (bit_and a2 (bit_not w64 b2))
+      (bit_and a3 (bit_not w64 b3)) ≡ minus (set_of a0 a1 a2 a3) (set_of b0 b1 b2 b3)
   set_of-minus =
-      (λ i. set_of (and_not_word a0 b0 p.word0 q.word0 i) (and_not_word a1 b1 p.word1 q.word1 i) (and_not_word a2 b2 p.word2 q.word2 i) (and_not_word a3 b3 p.word3 q.word3 i))
+      (λ i. set_of (and_not_word a0 b0 p.word0 q.word0 i) (and_not_word a1 b1 p.word1 q.word1 i)
+      (and_not_word a2 b2 p.word2 q.word2 i) (and_not_word a3 b3 p.word3 q.word3 i))
       ∙ sym (
       minus_above _ _ a0 b0 p.word0 q.word0
       ∙ ap (λ h. above_word h (minus a0 b0)) (minus_above _ _ a1 b1 p.word1 q.word1
       ∙ ap (λ h. above_word h (minus a1 b1)) (minus_above a3 b3 a2 b2 p.word2 q.word2)))
 
   -- two sets are equal where no word of theirs differs in a bit
-  pub words_xor : (bit_or (bit_or (bit_or (bit_xor a0 b0) (bit_xor a1 b1)) (bit_xor a2 b2)) (bit_xor a3 b3) == 0) ≡ (set_of a0 a1 a2 a3 == set_of b0 b1 b2 b3)
+  pub words_xor : (bit_or (bit_or (bit_or (bit_xor a0 b0) (bit_xor a1 b1)) (bit_xor a2 b2)) (bit_xor a3 b3) == 0)
+      ≡ (set_of a0 a1 a2 a3 == set_of b0 b1 b2 b3)
   words_xor =
       let x0 = bit_xor a0 b0 in
       let x1 = bit_xor a1 b1 in
@@ -142,8 +172,18 @@ module _ (a0 a1 a2 a3 b0 b1 b2 b3 : ℕ) (p : AreWords a0 a1 a2 a3) (q : AreWord
       (λ e.
       let e3 : x3 ≡ 0 = omega (arith, le_or_r (bit_or (bit_or x0 x1) x2) x3) in
       let e2 : x2 ≡ 0 = omega (arith, le_or_l (bit_or (bit_or x0 x1) x2) x3, le_or_r (bit_or x0 x1) x2) in
-      let e1 : x1 ≡ 0 = omega (arith, le_or_l (bit_or (bit_or x0 x1) x2) x3, le_or_l (bit_or x0 x1) x2, le_or_r x0 x1) in
-      let e0 : x0 ≡ 0 = omega (arith, le_or_l (bit_or (bit_or x0 x1) x2) x3, le_or_l (bit_or x0 x1) x2, le_or_l x0 x1) in
+      let e1 : x1 ≡ 0 = omega (
+        arith,
+        le_or_l (bit_or (bit_or x0 x1) x2) x3,
+        le_or_l (bit_or x0 x1) x2,
+        le_or_r x0 x1,
+      ) in
+      let e0 : x0 ≡ 0 = omega (
+        arith,
+        le_or_l (bit_or (bit_or x0 x1) x2) x3,
+        le_or_l (bit_or x0 x1) x2,
+        le_or_l x0 x1,
+      ) in
       λ i. set_of (xor_none a0 b0 e0 i) (xor_none a1 b1 e1 i) (xor_none a2 b2 e2 i) (xor_none a3 b3 e3 i))
       (λ e.
       let a = words_back a0 a1 a2 a3 p in
@@ -158,7 +198,12 @@ module _ (w0 w1 w2 w3 : ℕ) (h : AreWords w0 w1 w2 w3) where
   -- the sizes of the words together are the size of the set
   pub set_of-size : count_ones w0 + count_ones w1 + count_ones w2 + count_ones w3 ≡ size (set_of w0 w1 w2 w3)
   unfolding size
-  set_of-size = omega (arith, size_above (above_word (above_word w3 w2) w1) w0 h.word0, size_above (above_word w3 w2) w1 h.word1, size_above w3 w2 h.word2)
+  set_of-size = omega (
+    arith,
+    size_above (above_word (above_word w3 w2) w1) w0 h.word0,
+    size_above (above_word w3 w2) w1 h.word1,
+    size_above w3 w2 h.word2,
+  )
 
   -- the set has in word i what it has from 64 * i on
   pub in_word0 : (i j : ℕ) → i ≡ 0 → j < 64 → has w0 j ≡ has (set_of w0 w1 w2 w3) (64 * i + j)
@@ -169,7 +214,8 @@ module _ (w0 w1 w2 w3 : ℕ) (h : AreWords w0 w1 w2 w3) where
   pub in_word1 : (i j : ℕ) → i ≡ 1 → j < 64 → has w1 j ≡ has (set_of w0 w1 w2 w3) (64 * i + j)
   in_word1 i j o l =
       let e : 64 * i + j - 64 ≡ j = omega arith in
-      sym (has_above_high _ w0 (64 * i + j) h.word0 (omega arith) ∙ ap (has (above_word (above_word w3 w2) w1)) e ∙ has_above_low _ w1 j l)
+      sym (has_above_high _ w0 (64 * i + j) h.word0 (omega arith) ∙ ap (has (above_word (above_word w3 w2) w1)) e
+      ∙ has_above_low _ w1 j l)
 
   pub in_word2 : (i j : ℕ) → i ≡ 2 → j < 64 → has w2 j ≡ has (set_of w0 w1 w2 w3) (64 * i + j)
   in_word2 i j o l =
@@ -235,14 +281,17 @@ module _ (w0 w1 w2 w3 : ℕ) (h : AreWords w0 w1 w2 w3) where
 
 -- the words of one clone alone, where word q has it at bit r
 one_by : (q c r : ℕ) → q < 4 → c ≡ q * 64 + r
-    → set_of (if q == 0 then 2 ^ r else 0) (if q == 1 then 2 ^ r else 0) (if q == 2 then 2 ^ r else 0) (if q == 3 then 2 ^ r else 0) ≡ one c
+    → set_of (if q == 0 then 2 ^ r else 0) (if q == 1 then 2 ^ r else 0) (if q == 2 then 2 ^ r else 0)
+    (if q == 3 then 2 ^ r else 0) ≡ one c
 unfolding above_word one
 one_by zero c r l e = let f : c ≡ r = omega arith in omega (arith, ap (λ x. 2 ^ x) f)
 one_by (suc zero) c r l e = let f : c ≡ 64 + r = omega arith in omega (arith, ap (λ x. 2 ^ x) f, pow-add 2 64 r)
 one_by (suc (suc zero)) c r l e = let f : c ≡ 128 + r = omega arith in omega (arith, ap (λ x. 2 ^ x) f, pow-add 2 128 r)
-one_by (suc (suc (suc zero))) c r l e = let f : c ≡ 192 + r = omega arith in omega (arith, ap (λ x. 2 ^ x) f, pow-add 2 192 r)
+one_by (suc (suc (suc zero))) c r l e = let f : c ≡ 192 + r = omega arith in
+    omega (arith, ap (λ x. 2 ^ x) f, pow-add 2 192 r)
 one_by (suc (suc (suc (suc q)))) c r l e = absurd (omega arith)
 
 -- the words of one clone alone make the set of it
-pub set_of-one : (c : ℕ) → c < 256 → set_of (bit_in_word c 0) (bit_in_word c 1) (bit_in_word c 2) (bit_in_word c 3) ≡ one c
+pub set_of-one : (c : ℕ) → c < 256 → set_of (bit_in_word c 0) (bit_in_word c 1) (bit_in_word c 2) (bit_in_word c 3)
+    ≡ one c
 set_of-one c l = one_by (c / 64) c (c % 64) (omega arith) (omega arith)

@@ -1,5 +1,6 @@
 -- A finite set of clone numbers, seen as the number whose bit c says whether c is in it.
-use Rattle.std.specs.Prelude.{◌≡◌, ℕ, ◌^◌, ◌<◌, ◌==◌, Bool, true, false, List, Option, Some, None, if◌then◌else◌, filter, bit_and, bit_or, bit_xor, count_ones}
+use Rattle.std.specs.Prelude.{◌≡◌, ℕ, ◌^◌, ◌<◌, ◌==◌, Bool, true, false, List}
+use Rattle.std.specs.Prelude.{Option, Some, None, if◌then◌else◌, filter, bit_and, bit_or, bit_xor, count_ones}
 use Rattle.std.specs.Int.{bit_at}
 use Rattle.std.specs.List.{range_with_len}
 use Rattle.clone_sets.specs.declared.set.CloneSet.{CloneSet}

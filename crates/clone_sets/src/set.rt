@@ -1,5 +1,6 @@
 //! A set of clones.
-ghost use Rattle.std.specs.Prelude.{◌≡◌, ℕ, ◌+◌, ◌*◌, ◌<◌, ◌==◌, true, false, ◌||◌, ◌&&◌, not, IfNone, IfSome, IsTrue, ◌↔◌, length, nat_eq, All, Contains};
+ghost use Rattle.std.specs.Prelude.{◌≡◌, ℕ, ◌+◌, ◌*◌, ◌<◌, ◌==◌, true, false, ◌||◌, ◌&&◌};
+ghost use Rattle.std.specs.Prelude.{not, IfNone, IfSome, IsTrue, ◌↔◌, length, nat_eq, All, Contains};
 ghost use Rattle.std.specs.List.Sorted.{IsStrictlyIncreasing};
 ghost use Rattle.std.specs.Cmp.{nat_eq_equiv, partial_equiv_from_equiv};
 ghost use Rattle.clone_sets.specs.Sets.{has, empty, one, union, meet, minus, with, without, size, IsFirst, members};

@@ -1,5 +1,6 @@
 -- The digits of a number.
-use Rattle.std.proofs.Common.{◌≡◌, ℕ, ◌+◌, ◌*◌, ◌-◌, ◌<◌, ◌≤◌, ◌^◌, ◌&&◌, nat_le, List, [], ◌∷◌, length, take, true, get_or, arith, zero, suc, refl, add-one}
+use Rattle.std.proofs.Common.{◌≡◌, ℕ, ◌+◌, ◌*◌, ◌-◌, ◌<◌, ◌≤◌, ◌^◌, ◌&&◌, nat_le, List}
+use Rattle.std.proofs.Common.{[], ◌∷◌, length, take, true, get_or, arith, zero, suc, refl, add-one}
 use Rattle.std.proofs.Math.Nat.{pow-succ'}
 use Rattle.std.specs.List.{list_all}
 use Rattle.std.specs.Char.{digit_value}
@@ -18,8 +19,10 @@ digits_at [] i h b = absurd (omega arith)
 digits_at (d ∷ ds) zero h b = (and_parts (is_digit d) (list_all is_digit ds) h).0
 digits_at (d ∷ ds) (suc i) h b = digits_at ds i (and_parts (is_digit d) (list_all is_digit ds) h).1 (omega arith)
 
-pub value_more : (ds : List ℕ) (i n : ℕ) → list_all is_digit ds ≡ true → i < length ds → n ≡ digits_value 10 (take i ds) → n < 10 ^ i
-    → (n * 10 + (get_or ds i 0 - 48) ≡ digits_value 10 (take (i + 1) ds)) × (n * 10 + (get_or ds i 0 - 48) < 10 ^ (i + 1))
+pub value_more : (ds : List ℕ) (i n : ℕ) → list_all is_digit ds ≡ true → i < length ds
+    → n ≡ digits_value 10 (take i ds) → n < 10 ^ i
+    → (n * 10 + (get_or ds i 0 - 48) ≡ digits_value 10 (take (i + 1) ds))
+    × (n * 10 + (get_or ds i 0 - 48) < 10 ^ (i + 1))
 value_more ds i n all b same fits =
     let digit = digits_at ds i all b in
     let is = digit_value-digit (get_or ds i 0) digit in

@@ -1,11 +1,13 @@
 -- What the parse of the command comes to.
-use Rattle.std.proofs.Common.{◌≡◌, inl, inr, ℕ, Bool, true, false, List, [], ◌∷◌, map, refl, ap, Some, None, option_map, codes, slice_get, cond}
+use Rattle.std.proofs.Common.{◌≡◌, inl, inr, ℕ, Bool, true, false, List, [], ◌∷◌}
+use Rattle.std.proofs.Common.{map, refl, ap, Some, None, option_map, codes, slice_get, cond}
 use Rattle.std.specs.Prelude.{find, option_and_then}
 use Rattle.std.specs.Str.{bytes_eq}
 use Rattle.std.specs.Borrow.{Bor}
 use Rattle.clap.specs.Facts.{Entry}
 use Rattle.clap.specs.Walk.{row_of, texts}
-use Rattle.clap.specs.Words.{Kinds, HasKind, fault_of, is_simple, is_simple_and_free, first_of, first_value, found_of, rows_of, kind_of, matches_of}
+use Rattle.clap.specs.Words.{Kinds, HasKind, fault_of, is_simple, is_simple_and_free, first_of}
+use Rattle.clap.specs.Words.{first_value, found_of, rows_of, kind_of, matches_of}
 use Rattle.clap.specs.declared.error.Error.{Error}
 use Rattle.clap.specs.declared.error.kind.ErrorKind.TheVariants.{OutOfMemory}
 use Rattle.clap.specs.declared.parser.matches.ArgMatches.{ArgMatches}
@@ -22,7 +24,8 @@ pub simple_and_free : is_simple_and_free cloner ≡ true
 unfolding clap_on_literals
 simple_and_free = refl
 
-pub refused : (kinds : Kinds) (e : Error) (g : Values) → HasKind kinds e → (kind_of e ≡ OutOfMemory → ⊥) → None ≡ unless_fault kinds g
+pub refused : (kinds : Kinds) (e : Error) (g : Values) → HasKind kinds e → (kind_of e ≡ OutOfMemory → ⊥)
+    → None ≡ unless_fault kinds g
 refused [] e g (inl memory) other = absurd (other memory)
 refused [] e g (inr among) other = absurd among
 refused (k ∷ ks) e g h other = refl
@@ -31,24 +34,32 @@ first_text : (xs : List (Bor (List ℕ))) → slice_get (texts xs) 0 ≡ option_
 first_text [] = refl
 first_text (x ∷ xs) = refl
 
-first_in : (es : List Entry) (id : List ℕ) → first_of id (map row_of es) ≡ option_and_then (λ a. option_map (λ s. s.now) (slice_get a.vals.items 0)) (option_map (λ e. e.1) (find (λ e. bytes_eq e.0.now id) es))
+first_in : (es : List Entry) (id : List ℕ)
+    → first_of id (map row_of es) ≡ option_and_then (λ a. option_map (λ s. s.now) (slice_get a.vals.items 0))
+    (option_map (λ e. e.1) (find (λ e. bytes_eq e.0.now id) es))
 first_in [] id = refl
 first_in (e ∷ es) id = one (bytes_eq e.0.now id) (first_in es id)
   where
-    one : (b : Bool) → first_of id (map row_of es) ≡ option_and_then (λ a. option_map (λ s. s.now) (slice_get a.vals.items 0)) (option_map (λ x. x.1) (find (λ x. bytes_eq x.0.now id) es))
-        → option_and_then (λ r. slice_get r.values 0) (cond b (Some (row_of e)) (find (λ r. bytes_eq r.id id) (map row_of es)))
-        ≡ option_and_then (λ a. option_map (λ s. s.now) (slice_get a.vals.items 0)) (option_map (λ x. x.1) (cond b (Some e) (find (λ x. bytes_eq x.0.now id) es)))
+    one : (b : Bool) → first_of id (map row_of es) ≡ option_and_then
+        (λ a. option_map (λ s. s.now) (slice_get a.vals.items 0))
+        (option_map (λ x. x.1) (find (λ x. bytes_eq x.0.now id) es))
+        → option_and_then (λ r. slice_get r.values 0)
+        (cond b (Some (row_of e)) (find (λ r. bytes_eq r.id id) (map row_of es)))
+        ≡ option_and_then (λ a. option_map (λ s. s.now) (slice_get a.vals.items 0))
+        (option_map (λ x. x.1) (cond b (Some e) (find (λ x. bytes_eq x.0.now id) es)))
     one true again = first_text e.1.vals.items
     one false again = again
 
 first_is : (f : Found) (id : List ℕ) → first_of id (rows_of f) ≡ first_value f id
 first_is f id = first_in f.entries.items id
 
-pub refused_words : (words : List (List ℕ)) (e : Error) → HasKind (fault_of cloner words) e → (kind_of e ≡ OutOfMemory → ⊥) → None ≡ values_of words
+pub refused_words : (words : List (List ℕ)) (e : Error) → HasKind (fault_of cloner words) e
+    → (kind_of e ≡ OutOfMemory → ⊥) → None ≡ values_of words
 unfolding values_of
 refused_words words e h other = refused (fault_of cloner words) e _ h other
 
-pub read_words : (words : List (List ℕ)) (m : ArgMatches) → fault_of cloner words ≡ [] → rows_of (found_of m) ≡ matches_of cloner words
+pub read_words : (words : List (List ℕ)) (m : ArgMatches) → fault_of cloner words ≡ []
+    → rows_of (found_of m) ≡ matches_of cloner words
     → Some (record {
       mode = first_value (found_of m) (codes "mode");
       first = first_value (found_of m) (codes "first");
@@ -57,7 +68,16 @@ pub read_words : (words : List (List ℕ)) (m : ArgMatches) → fault_of cloner 
       clone = first_value (found_of m) (codes "clone");
     }) ≡ values_of words
 unfolding values_of
-read_words words m none rows = rw (none, ← rows, first_is (found_of m) (codes "mode"), first_is (found_of m) (codes "first"), first_is (found_of m) (codes "second"), first_is (found_of m) (codes "workers"), first_is (found_of m) (codes "clone")) refl
+read_words words m none rows =
+    rw (
+      none,
+      ← rows,
+      first_is (found_of m) (codes "mode"),
+      first_is (found_of m) (codes "first"),
+      first_is (found_of m) (codes "second"),
+      first_is (found_of m) (codes "workers"),
+      first_is (found_of m) (codes "clone"),
+    ) refl
 
 -- words that are read as they are
 pub same_words : (words : List (List ℕ)) → map (λ w. w) words ≡ words

@@ -7,11 +7,17 @@ use Rattle.command_words.specs.Values.{values_of}
 
 -- all clones of the texts m and s, by so many workers
 abbrev run_by : ℕ → Option RequestView
-run_by workers = Some (record { asked = record { mode = All; source = named (codes "m") (codes "s") }; workers = workers })
+run_by workers = Some (record {
+  asked = record { mode = All; source = named (codes "m") (codes "s") };
+  workers = workers;
+})
 
 -- the clone `fast` of the texts m and s
 abbrev solo_fast : Option RequestView
-solo_fast = Some (record { asked = record { mode = One (codes "fast"); source = named (codes "m") (codes "s") }; workers = 1 })
+solo_fast = Some (record {
+  asked = record { mode = One (codes "fast"); source = named (codes "m") (codes "s") };
+  workers = 1;
+})
 
 -- what is made of a number, by so many workers
 abbrev gen_by : ℕ → ℕ → Option RequestView
@@ -87,15 +93,18 @@ gen_between = refl
 
 -- ---- each option at most once, and no name is abbreviated
 
-twice : form (codes "run" ∷ codes "m" ∷ codes "s" ∷ codes "--workers" ∷ codes "4" ∷ codes "--workers" ∷ codes "4" ∷ []) ≡ None
+twice : form (codes "run" ∷ codes "m" ∷ codes "s" ∷ codes "--workers" ∷ codes "4" ∷ codes "--workers" ∷ codes
+    "4" ∷ []) ≡ None
 unfolding values_of clap_on_literals
 twice = refl
 
-twice_mixed : form (codes "run" ∷ codes "--workers=4" ∷ codes "m" ∷ codes "s" ∷ codes "--workers" ∷ codes "2" ∷ []) ≡ None
+twice_mixed : form (codes "run" ∷ codes "--workers=4" ∷ codes "m" ∷ codes "s" ∷ codes "--workers" ∷ codes "2" ∷ [])
+    ≡ None
 unfolding values_of clap_on_literals
 twice_mixed = refl
 
-clone_twice : form (codes "solo" ∷ codes "m" ∷ codes "s" ∷ codes "--clone" ∷ codes "fast" ∷ codes "--clone=fast" ∷ []) ≡ None
+clone_twice : form (codes "solo" ∷ codes "m" ∷ codes "s" ∷ codes "--clone" ∷ codes "fast" ∷ codes "--clone=fast" ∷ [])
+    ≡ None
 unfolding values_of clap_on_literals
 clone_twice = refl
 
@@ -186,7 +195,8 @@ gen_with_clone : form (codes "gen" ∷ codes "7" ∷ codes "--clone" ∷ codes "
 unfolding values_of clap_on_literals
 gen_with_clone = refl
 
-solo_with_workers : form (codes "solo" ∷ codes "m" ∷ codes "s" ∷ codes "--clone" ∷ codes "fast" ∷ codes "--workers" ∷ codes "4" ∷ []) ≡ None
+solo_with_workers : form (codes "solo" ∷ codes "m" ∷ codes "s" ∷ codes "--clone" ∷ codes "fast" ∷ codes
+    "--workers" ∷ codes "4" ∷ []) ≡ None
 unfolding values_of clap_on_literals
 solo_with_workers = refl
 
@@ -252,7 +262,8 @@ gen-plus = refl
 
 -- ---- a dash alone is a word, and so is a word with a dash behind `--`
 
-dash_alone : form (codes "run" ∷ codes "m" ∷ codes "-" ∷ []) ≡ Some (record { asked = record { mode = All; source = named (codes "m") (codes "-") }; workers = 1 })
+dash_alone : form (codes "run" ∷ codes "m" ∷ codes "-" ∷ [])
+    ≡ Some (record { asked = record { mode = All; source = named (codes "m") (codes "-") }; workers = 1 })
 unfolding values_of clap_on_literals
 dash_alone = refl
 
@@ -260,6 +271,7 @@ dashed_word : form (codes "run" ∷ codes "-m" ∷ codes "s" ∷ []) ≡ None
 unfolding values_of clap_on_literals
 dashed_word = refl
 
-dashed_behind : form (codes "run" ∷ codes "--" ∷ codes "-m" ∷ codes "--workers" ∷ []) ≡ Some (record { asked = record { mode = All; source = named (codes "-m") (codes "--workers") }; workers = 1 })
+dashed_behind : form (codes "run" ∷ codes "--" ∷ codes "-m" ∷ codes "--workers" ∷ [])
+    ≡ Some (record { asked = record { mode = All; source = named (codes "-m") (codes "--workers") }; workers = 1 })
 unfolding values_of clap_on_literals
 dashed_behind = refl

@@ -12,6 +12,7 @@ is_positive (d ∷ ds) = (nat_le 49 d && nat_le d 57) && list_all is_digit ds
 -- the number from 1 to `most` that the word writes in decimal, without leading zero or sign; `most` is below 10 ^ 6
 abbrev pub number_to : ℕ → List ℕ → Option ℕ
 number_to most word =
-    if (is_positive word && nat_le (length word) 6) && (nat_le 1 (digits_value 10 word) && nat_le (digits_value 10 word) most)
+    if (is_positive word && nat_le (length word) 6) &&
+    (nat_le 1 (digits_value 10 word) && nat_le (digits_value 10 word) most)
     then Some (digits_value 10 word)
     else None

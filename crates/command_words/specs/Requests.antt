@@ -1,5 +1,6 @@
 -- What the words of a command line ask for.
-use Rattle.std.specs.Prelude.{◌&&◌, ℕ, Bool, true, false, codes, if◌then◌else◌, List, [], ◌∷◌, Option, Some, None, option_map, option_and_then}
+use Rattle.std.specs.Prelude.{◌&&◌, ℕ, Bool, true, false, codes, if◌then◌else◌, List}
+use Rattle.std.specs.Prelude.{[], ◌∷◌, Option, Some, None, option_map, option_and_then}
 use Rattle.std.specs.Str.{bytes_eq}
 use Rattle.sim_base.specs.Names.{is_name}
 use Rattle.command_words.specs.declared.request.Mode.{Mode}
@@ -63,7 +64,8 @@ solo_form model script _ _ = None
 -- `gen NUMBER [--workers N]`
 abbrev pub gen_form : List ℕ → Option (List ℕ) → Option (List ℕ) → Option RequestView
 gen_form number workers (Some clone) = None
-gen_form number workers None = option_and_then (λ n. option_map (all_of (made n)) (workers_of workers)) (number_to 999999 number)
+gen_form number workers None = option_and_then (λ n. option_map (all_of (made n)) (workers_of workers))
+    (number_to 999999 number)
 
 -- the modes of two positionals more; a later mode of two names is one `else if` more
 abbrev pub of_two : List ℕ → List ℕ → List ℕ → Option (List ℕ) → Option (List ℕ) → Option RequestView
@@ -77,7 +79,8 @@ abbrev pub of_one : List ℕ → List ℕ → Option (List ℕ) → Option (List
 of_one mode number workers clone = if bytes_eq mode (codes "gen") then gen_form number workers clone else None
 
 -- by how many positionals follow the mode
-abbrev pub by_count : Option (List ℕ) → Option (List ℕ) → Option (List ℕ) → Option (List ℕ) → Option (List ℕ) → Option RequestView
+abbrev pub by_count : Option (List ℕ) → Option (List ℕ) → Option (List ℕ) → Option (List ℕ) → Option (List ℕ)
+    → Option RequestView
 by_count (Some mode) (Some first) (Some second) workers clone = of_two mode first second workers clone
 by_count (Some mode) (Some first) None workers clone = of_one mode first workers clone
 by_count _ _ _ workers clone = None
@@ -85,6 +88,6 @@ by_count _ _ _ workers clone = None
 abbrev pub form_of : Values → Option RequestView
 form_of v = by_count v.mode v.first v.second v.workers v.clone
 
--- what the words ask for, None where they are of no form
+-- what the words ask for, None where the command line has no known form
 abbrev pub form : List (List ℕ) → Option RequestView
 form words = option_and_then form_of (values_of words)

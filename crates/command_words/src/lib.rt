@@ -18,7 +18,7 @@
 //! ```
 //!
 //! The parse takes memory, once, for a command of five arguments and for the words. Here rests the promise that a
-//! command line of no form is refused before anything is read, and that none is taken for another.
+//! command line of no known form is refused before anything is read, and that none is taken for another.
 #![tactic(auto)]
 
 mod command;

@@ -1,6 +1,7 @@
 //! The reading of a command line.
 ghost use Rattle.std.specs.Prelude.{◌≡◌, ◌⊎◌, ◌≤◌, IfOk, IfSome, None, Err, option_map};
-ghost use Rattle.command_words.specs.Requests.{form, form_of, is_text as is_text_of, of_one, of_two, gen_form, run_form, solo_form, request_view, workers_of as workers_in};
+ghost use Rattle.command_words.specs.Requests.{form, form_of, is_text as is_text_of, of_one, of_two};
+ghost use Rattle.command_words.specs.Requests.{gen_form, run_form, solo_form, request_view, workers_of as workers_in};
 ghost use Rattle.command_words.specs.Values.{values_view};
 
 use crate::given::{Given, given_words};
@@ -37,7 +38,8 @@ fn run_request<'a>(
     workers: Option<&str>,
     clone: Option<&str>,
 ) -> Option<Request<'a>>
-    ensures value { option_map request_view result ≡ run_form model.entry.now script.entry.now (option_map (λ s. s.now) workers.entry) (option_map (λ s. s.now) clone.entry) }
+    ensures value { option_map request_view result ≡ run_form model.entry.now script.entry.now
+        (option_map (λ s. s.now) workers.entry) (option_map (λ s. s.now) clone.entry) }
 {
     if clone.is_some() || !is_text(model) || !is_text(script) {
         return None;
@@ -57,7 +59,8 @@ fn solo_request<'a>(
     workers: Option<&str>,
     clone: Option<&str>,
 ) -> Option<Request<'a>>
-    ensures value { option_map request_view result ≡ solo_form model.entry.now script.entry.now (option_map (λ s. s.now) workers.entry) (option_map (λ s. s.now) clone.entry) }
+    ensures value { option_map request_view result ≡ solo_form model.entry.now script.entry.now
+        (option_map (λ s. s.now) workers.entry) (option_map (λ s. s.now) clone.entry) }
 {
     if workers.is_some() || !is_text(model) || !is_text(script) {
         return None;
@@ -75,7 +78,8 @@ fn solo_request<'a>(
 
 // `gen NUMBER [--workers N]`
 fn gen_request<'a>(number: &str, workers: Option<&str>, clone: Option<&str>) -> Option<Request<'a>>
-    ensures value { option_map request_view result ≡ gen_form number.now (option_map (λ s. s.now) workers.entry) (option_map (λ s. s.now) clone.entry) }
+    ensures value { option_map request_view result ≡ gen_form number.now (option_map (λ s. s.now) workers.entry)
+        (option_map (λ s. s.now) clone.entry) }
 {
     if clone.is_some() {
         return None;
@@ -96,7 +100,8 @@ fn request_of_two<'a>(
     workers: Option<&str>,
     clone: Option<&str>,
 ) -> Option<Request<'a>>
-    ensures value { option_map request_view result ≡ of_two mode.now model.entry.now script.entry.now (option_map (λ s. s.now) workers.entry) (option_map (λ s. s.now) clone.entry) }
+    ensures value { option_map request_view result ≡ of_two mode.now model.entry.now script.entry.now
+        (option_map (λ s. s.now) workers.entry) (option_map (λ s. s.now) clone.entry) }
 {
     if mode == "run" {
         run_request(model, script, workers, clone)
@@ -113,7 +118,8 @@ fn request_of_one<'a>(
     workers: Option<&str>,
     clone: Option<&str>,
 ) -> Option<Request<'a>>
-    ensures value { option_map request_view result ≡ of_one mode.now number.now (option_map (λ s. s.now) workers.entry) (option_map (λ s. s.now) clone.entry) }
+    ensures value { option_map request_view result ≡ of_one mode.now number.now
+        (option_map (λ s. s.now) workers.entry) (option_map (λ s. s.now) clone.entry) }
 {
     if mode == "gen" {
         gen_request(number, workers, clone)
@@ -139,9 +145,10 @@ pub fn read_words<'a>(alloc: Global, words: &'a [Word]) -> Result<Request<'a>, W
     // what is given is what the words ask for
     ensures value { IfOk result (λ r. form words.entry.now ≡ Some (request_view r)) }
 
-    // refused only where the words are of no form, and there always, unless memory is refused
+    // refused only where the command line has no known form, and there always, unless memory is refused
     ensures refused { result ≡ Err WordsFault.Usage → form words.entry.now ≡ None }
-    ensures formless { form words.entry.now ≡ None → (result ≡ Err WordsFault.Usage) ⊎ (result ≡ Err WordsFault.NoMemory) }
+    ensures formless { form words.entry.now ≡ None → (result ≡ Err WordsFault.Usage)
+        ⊎ (result ≡ Err WordsFault.NoMemory) }
 {
     let given = match given_words(alloc, words) {
         Ok(Some(given)) => given,

@@ -43,6 +43,6 @@ pub struct Request<'a> {
 pub enum WordsFault {
     /// Out of memory.
     NoMemory,
-    /// The words are of no form.
+    /// The command line has no known form.
     Usage,
 }

@@ -2,7 +2,7 @@
 ghost use Rattle.std.specs.Prelude.{◌≡◌};
 ghost use Rattle.command_words.specs.Usage.{usage_line as told};
 
-/// The line for words of no form.
+/// The line for a command line of no known form.
 pub fn usage_line() -> &'static str
     ensures value { result.now ≡ told }
 {

@@ -16,4 +16,5 @@ EachAnswers-push answers [] x all one zero d below = one
 EachAnswers-push answers [] x all one (suc i) d below = absurd (omega (arith, below))
 EachAnswers-push answers (y ∷ ys) x all one zero d below = all zero d (omega arith)
 EachAnswers-push answers (y ∷ ys) x all one (suc i) d below =
-    EachAnswers-push (λ n. answers (suc n)) ys x (λ j e less. all (suc j) e (omega (arith, less))) one i d (omega (arith, below))
+    EachAnswers-push (λ n. answers (suc n)) ys x (λ j e less. all (suc j) e (omega (arith, less))) one i d
+    (omega (arith, below))

@@ -27,7 +27,8 @@ use lib.ListN.{get_elem?}
 use Rattle.crossbeam_deque.specs.Tasks.{Pushes, Takes, Forks, Merges, Finds}
 use Rattle.crossbeam_deque.proofs.Lists.{at_set, at_snoc, set_else}
 use Rattle.crew_pool.specs.declared.task_deque.SeatView.{SeatView}
-use Rattle.crew_pool.specs.Deque.{seat_view, total, occurrences, one_if_same, one_if_below, KnowsDealt, EachKnowsDealt, NumbersOnce, TakesNumbers, IsComplete}
+use Rattle.crew_pool.specs.Deque.{seat_view, total, occurrences, one_if_same, one_if_below}
+use Rattle.crew_pool.specs.Deque.{KnowsDealt, EachKnowsDealt, NumbersOnce, TakesNumbers, IsComplete}
 
 -- ---- occurrences
 
@@ -61,7 +62,8 @@ total-push f [] w = omega arith
 total-push f (u ∷ us) w = omega (arith, total-push f us w)
 
 -- no seat has more than the total
-total-bounds : (f : SeatView → ℕ) (views : List SeatView) (port : ℕ) (v : SeatView) → get_elem? views port ≡ some v → f v ≤ total f views
+total-bounds : (f : SeatView → ℕ) (views : List SeatView) (port : ℕ) (v : SeatView) → get_elem? views port ≡ some v
+    → f v ≤ total f views
 total-bounds f [] port v e = absurd (some-ne-none v (sym e))
 total-bounds f (u ∷ us) zero v e = let d : f u ≡ f v = ap f (some-injective u v e) in omega arith
 total-bounds f (u ∷ us) (suc port) v e = omega (arith, total-bounds f us port v e)
@@ -123,13 +125,19 @@ NumbersOnce-takes port v part (x ∷ []) queue views _ _ h at =
     let w : SeatView = seat_view v.parts v.dealt (v.taken ++ x ∷ []) in
     let known = h.3 port v at in
     let rest = total (λ u. occurrences x u.taken) views in
-    let there : x < h.0 = one_if_below-in x h.0 rest (occurrences x queue) (omega (arith, h.2 x, one_if_same-refl x)) in (
+    let there : x < h.0 = one_if_below-in x h.0 rest (occurrences x queue)
+    (omega (arith, h.2 x, one_if_same-refl x)) in (
       w,
       (
         h.0,
         omega (arith, total-set (λ u. u.parts) views port v w at, h.1),
         (λ y.
-            omega (arith, total-set (λ u. occurrences y u.taken) views port v w at, h.2 y, occurrences-append y v.taken (x ∷ []))),
+            omega (
+              arith,
+              total-set (λ u. occurrences y u.taken) views port v w at,
+              h.2 y,
+              occurrences-append y v.taken (x ∷ []),
+            )),
         EachKnowsDealt-set h.0 views port w ((λ none. absurd (omega (arith, none, part))), λ _. known.1 part) h.3,
       ),
       ((omega (arith, known.1 part, there), tt), refl),
@@ -217,7 +225,8 @@ pub NumbersOnce-finds : (port : ℕ) (v : SeatView) → Finds NumbersOnce port v
 NumbersOnce-finds port v views h at every x =
     let w : SeatView = seat_view 0 0 [] in
     let none : KnowsDealt h.0 w = ((λ _. refl), λ part. absurd (omega (arith, part))) in
-    let parts : total (λ u. u.parts) (set views port w) ≡ 0 = omega (arith, total-set (λ u. u.parts) views port v w at, h.1, every) in
+    let parts : total (λ u. u.parts) (set views port w) ≡ 0 =
+    omega (arith, total-set (λ u. u.parts) views port v w at, h.1, every) in
     let rest = EachKnowsDealt-idle x h.0 (set views port w) (EachKnowsDealt-set h.0 views port w none h.3) parts in
     let known = (h.3 port v at).1 (omega (arith, every)) in
     let same : one_if_below x h.0 ≡ one_if_below x v.dealt = ap (one_if_below x) (sym known) in

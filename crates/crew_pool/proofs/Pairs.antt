@@ -83,7 +83,8 @@ Without-remove asks (q ∷ qs) (suc k) p less e =
 -- ---- get_or
 
 -- what is read at one place twice is the same
-pub get_or-same : {X : Type 0} (l : List X) (k : ℕ) (a b : X) → k < length l → a ≡ get_or l k a → b ≡ get_or l k b → a ≡ b
+pub get_or-same : {X : Type 0} (l : List X) (k : ℕ) (a b : X) → k < length l → a ≡ get_or l k a → b ≡ get_or l k b
+    → a ≡ b
 get_or-same [] k a b less e f = absurd (omega (arith, less))
 get_or-same (x ∷ xs) zero a b less e f = e ∙ sym f
 get_or-same (x ∷ xs) (suc k) a b less e f = get_or-same xs k a b (omega (arith, less)) e f

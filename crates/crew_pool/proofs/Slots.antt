@@ -47,7 +47,8 @@ slots_ready {X} {Y} ready items slots filled each =
 
 -- as many answers as items
 pub slots_count : {X Y : Type 0} (items : List X) (olds news : List (Slot X Y)) (ys : List Y)
-    → olds ≡ map slot_with items → length news ≡ length olds → map answer_in news ≡ map Some ys → length ys ≡ length items
+    → olds ≡ map slot_with items → length news ≡ length olds → map answer_in news ≡ map Some ys
+    → length ys ≡ length items
 slots_count {X} {Y} items olds news ys filled same taken =
     omega (
       arith,
@@ -60,7 +61,8 @@ slots_count {X} {Y} items olds news ys filled same taken =
     )
 
 -- the answers of the slots are answers to the items that they held
-pub slots_answers : {X Y : Type 0} (answers : ℕ → X → Y → Type 0) (items : List X) (olds news : List (Slot X Y)) (ys : List Y)
+pub slots_answers : {X Y : Type 0} (answers : ℕ → X → Y → Type 0) (items : List X) (olds news : List (Slot X Y))
+    (ys : List Y)
     → olds ≡ map slot_with items → length news ≡ length olds → map answer_in news ≡ map Some ys
     → EachSlotAnswers answers olds news → EachAnswers (AnswersTo answers items) ys
 slots_answers {X} {Y} answers items olds news ys filled same taken each i e less d =

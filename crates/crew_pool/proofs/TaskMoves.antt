@@ -65,11 +65,13 @@ pub TasksOnce-forks : {X : Type 0} (items : List X) (port : ℕ) (v : SeatView) 
 TasksOnce-forks items port v two tasks views h at = (NumbersOnce-forks port v two (numbers tasks) views h.0 at, h.1)
 
 pub TasksOnce-merges : {X : Type 0} (items : List X) (port : ℕ) (v : SeatView) (other : ℕ) (u : SeatView) → 0 < v.parts
-    → Merges (TasksOnce items) port v other u (seat_view (v.parts + u.parts) v.dealt (v.taken ++ u.taken)) (seat_view 0 0 [])
+    → Merges (TasksOnce items) port v other u (seat_view (v.parts + u.parts) v.dealt (v.taken ++ u.taken))
+    (seat_view 0 0 [])
 TasksOnce-merges items port v other u part tasks views h at two at' =
     (NumbersOnce-merges port v other u part (numbers tasks) views h.0 at two at', h.1)
 
-pub TasksOnce-finds : {X : Type 0} (items : List X) (port : ℕ) (v : SeatView) → Finds (TasksOnce items) port v (IsComplete v)
+pub TasksOnce-finds : {X : Type 0} (items : List X) (port : ℕ) (v : SeatView)
+    → Finds (TasksOnce items) port v (IsComplete v)
 TasksOnce-finds items port v views h at = NumbersOnce-finds port v views h.0 at
 
 -- ---- IsItemAt
@@ -85,7 +87,8 @@ pub IsItemAt-answers : {X Y : Type 0} (answers : ℕ → X → Y → Type 0) (it
 IsItemAt-answers answers items i x y is one d = subst (λ z. answers i z y) (sym (is.1 d)) one
 
 -- what is read at a place is the item there
-pub IsItemAt-read : {X : Type 0} (items : List X) (i : ℕ) (x : X) → i < length items → x ≡ get_or items i x → IsItemAt items i x
+pub IsItemAt-read : {X : Type 0} (items : List X) (i : ℕ) (x : X) → i < length items → x ≡ get_or items i x
+    → IsItemAt items i x
 IsItemAt-read {X} items i x less e = (less, λ d. same items i d less ∙ sym e)
   where
     same : (l : List X) (k : ℕ) (d : X) → k < length l → get_or l k d ≡ get_or l k x

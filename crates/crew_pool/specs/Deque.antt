@@ -108,14 +108,16 @@ TasksOnce items tasks views = NumbersOnce (numbers tasks) views × EachPair (IsI
 
 -- the seat takes these tasks, each number with its item
 abbrev pub TakesTasks : {X : Type 0} → List X → SeatView → List (ℕ × X) → SeatView → Type 0
-TakesTasks items v tasks w = EachPair (IsItemAt items) tasks × (w ≡ seat_view v.parts v.dealt (v.taken ++ numbers tasks))
+TakesTasks items v tasks w = EachPair (IsItemAt items) tasks
+    × (w ≡ seat_view v.parts v.dealt (v.taken ++ numbers tasks))
 
 -- a thief begins with a seat at this deque that has one part and has taken nothing
 abbrev pub IsStart : {X A : Type 0} → ℕ → RowsId × A → Pass (ℕ × X) SeatView A → Type 0
 IsStart dealt deque seat = IsPassOf deque seat × (view seat ≡ seat_view 1 dealt [])
 
 -- a thief ends with its seat, and with an answer of each task that the seat has taken
-abbrev pub IsEnd : {X Y A Z E : Type 0} → (ℕ → Y → Type 0) → ℕ → RowsId × A → Pass (ℕ × X) SeatView A × Result (Vec (ℕ × Y) Z) E → Type 0
+abbrev pub IsEnd : {X Y A Z E : Type 0} → (ℕ → Y → Type 0) → ℕ → RowsId × A
+    → Pass (ℕ × X) SeatView A × Result (Vec (ℕ × Y) Z) E → Type 0
 IsEnd answers dealt deque end =
     IsPassOf deque end.0
     × IfOk end.1 (λ outs. (view end.0 ≡ seat_view 1 dealt (numbers outs.items)) × EachPair answers outs.items)

@@ -1,7 +1,8 @@
 //! After the join: the owner takes the thieves' seats back, and the answers are put in the order of their tasks.
 ghost use Rattle.std.specs.Prelude.{◌≡◌, ℕ, ◌+◌, ◌<◌, ◌≤◌, IfOk, OnOk, All, length, MatchOption};
 ghost use Rattle.crossbeam_deque.specs.Handles.{view, IsPassOf, worker_deque, worker_view};
-ghost use Rattle.crew_pool.specs.Deque.{SameDeque, seat_view, numbers, EachPair, occurrences, one_if_below, Without, IsEnd};
+ghost use Rattle.crew_pool.specs.Deque.{SameDeque, seat_view, numbers, EachPair};
+ghost use Rattle.crew_pool.specs.Deque.{occurrences, one_if_below, Without, IsEnd};
 ghost use Rattle.crew_pool.specs.Tasks.{AnswersTo, EachAnswers};
 
 use crate::lists::{add, add_all};

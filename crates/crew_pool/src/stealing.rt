@@ -1,7 +1,8 @@
 //! The crew whose workers take tasks one by one from a deque (work stealing).
 ghost use Rattle.std.specs.Prelude.{◌≡◌, ℕ, ◌+◌, ◌-◌, ◌<◌, ◌≤◌, [], ◌∷◌, ◌++◌, sum_by, IfOk, OnOk, All, length};
 ghost use Rattle.crossbeam_deque.specs.Handles.{IsPassOf, worker_deque, stealer_deque, worker_view, worker_flavor};
-ghost use Rattle.crew_pool.specs.Deque.{SameDeque, seat_view, view_after, numbers, EachPair, IsItemAt, IsComplete, IsStart, IsEnd};
+ghost use Rattle.crew_pool.specs.Deque.{SameDeque, seat_view, view_after, numbers, EachPair};
+ghost use Rattle.crew_pool.specs.Deque.{IsItemAt, IsComplete, IsStart, IsEnd};
 ghost use Rattle.crew_pool.specs.Tasks.{EachReady, AnswersTo, EachAnswers};
 ghost use Rattle.crew_pool.specs.declared.crew.TheConstants.{MOST_TASKS};
 
@@ -146,8 +147,10 @@ fn run_thieves<W: Work, B: Batch<W::In>, G: Gate, R: Threads + Wait + Sync>(
         rt,
         starts,
         &|start: ThiefStart<W::In>| -> (Seat<W::In>, NumberedAnswers<W::Out>)
-            requires { EachReady (W.ready work.now) B.items × IsStart (length B.items) (stealer_deque thief.now) start.seat }
-            ensures { IsEnd (AnswersTo (W.answers work.entry.now) B.items) (length B.items) (stealer_deque thief.entry.now) result }
+            requires { EachReady (W.ready work.now) B.items
+                × IsStart (length B.items) (stealer_deque thief.now) start.seat }
+            ensures { IsEnd (AnswersTo (W.answers work.entry.now) B.items) (length B.items)
+                (stealer_deque thief.entry.now) result }
         { run_thief::<W, B, G, R>(rt, alloc, work, gate, start.worker, thief, start.seat) },
     );
     match ends {
@@ -241,7 +244,8 @@ fn gather<W: Work, B: Batch<W::In>, G: Gate, R: Wait>(
 ) -> Result<Vec<W::Out>, NoMemory>
     requires tasks { tasks ≡ length B.items }
     requires ready { EachReady (W.ready work.now) B.items }
-    requires each { All (IsEnd (AnswersTo (W.answers work.now) B.items) (worker_view owner).dealt (worker_deque owner)) ends.items }
+    requires each { All (IsEnd (AnswersTo (W.answers work.now) B.items) (worker_view owner).dealt
+        (worker_deque owner)) ends.items }
     requires own { ((worker_view owner).taken ≡ numbers all.items) × (0 < (worker_view owner).parts) }
     requires old { EachPair (AnswersTo (W.answers work.now) B.items) all.items }
     requires every_part { (worker_view owner).parts + length ends.items ≡ 1024 }

@@ -1,5 +1,7 @@
 -- The decisions that reach one clone give it what all decisions give it.
-use Rattle.std.proofs.Common.{◌≡◌, ℕ, ◌+◌, ◌≤◌, Bool, true, false, nat_le, cond, List, [], ◌∷◌, ◌++◌, length, refl, sym, ap, ◌∙◌, arith, Option, Some, None, is_some, option_map, unwrap_or, slice_set, subst, length-set}
+use Rattle.std.proofs.Common.{◌≡◌, ℕ, ◌+◌, ◌≤◌, Bool, true, false, nat_le, cond, List}
+use Rattle.std.proofs.Common.{[], ◌∷◌, ◌++◌, length, refl, sym, ap, ◌∙◌, arith, Option}
+use Rattle.std.proofs.Common.{Some, None, is_some, option_map, unwrap_or, slice_set, subst, length-set}
 use Rattle.std.proofs.lemmas.List.{length_push}
 use Rattle.std.specs.Prelude.{◌==◌}
 use Rattle.std.specs.Option.{option_or}
@@ -19,10 +21,12 @@ use Rattle.decision_book.specs.Journal.{Situation, clones_after, plan_of_set}
 use Rattle.decision_book.specs.Replies.{row, first_row, reply, rows, fork_rows, clone_rows}
 use Rattle.decision_book.specs.Scripts.{next, after_all, first_refusal_from}
 use Rattle.decision_book.specs.Laws.{clone_named, AloneSuffices}
-use Rattle.decision_book.proofs.ClonesByName.{placed, place_of-none, clone_named-place, clone_named-none, clone_named-push, clone_named-set, same_name, name_itself, name_at}
+use Rattle.decision_book.proofs.ClonesByName.{placed, place_of-none, clone_named-place, clone_named-none}
+use Rattle.decision_book.proofs.ClonesByName.{clone_named-push, clone_named-set, same_name, name_itself, name_at}
 use Rattle.decision_book.proofs.Scripts.{accepted_first, next_accepted}
 
-passed : (b : Bool) (r : Reply) (more : List (Option Reply)) → (r ≡ Accepted → ⊥) → first_row (row b r ∷ more) ≡ Accepted → (b ≡ false) × (first_row more ≡ Accepted)
+passed : (b : Bool) (r : Reply) (more : List (Option Reply)) → (r ≡ Accepted → ⊥)
+    → first_row (row b r ∷ more) ≡ Accepted → (b ≡ false) × (first_row more ≡ Accepted)
 passed true r more other h = absurd (other h)
 passed false r more other h = (refl, h)
 
@@ -41,11 +45,13 @@ not_full h = cc
 not_closed : Closed ≡ Accepted → ⊥
 not_closed h = cc
 
-open_end : (end : Option ℕ) (more : List (Option Reply)) → first_row (option_map (λ at. Ended at) end ∷ more) ≡ Accepted → (end ≡ None) × (first_row more ≡ Accepted)
+open_end : (end : Option ℕ) (more : List (Option Reply))
+    → first_row (option_map (λ at. Ended at) end ∷ more) ≡ Accepted → (end ≡ None) × (first_row more ≡ Accepted)
 open_end None more h = (refl, h)
 open_end (Some at) more h = absurd cc
 
-open_clone : (j : Situation) (d : Decision) → nat_le MOST_CALLS j.calls ≡ false → (j.front == j.net.horizon) ≡ false → (o : Option ℕ) → place_of (subject d) j.clones ≡ o → first_row (clone_rows j d o) ≡ Accepted → IsOpen j d
+open_clone : (j : Situation) (d : Decision) → nat_le MOST_CALLS j.calls ≡ false → (j.front == j.net.horizon) ≡ false
+    → (o : Option ℕ) → place_of (subject d) j.clones ≡ o → first_row (clone_rows j d o) ≡ Accepted → IsOpen j d
 open_clone j d few running None e h = absurd cc
 open_clone j d few running (Some clone) e h =
     let going = open_end (clone_at j.clones clone).end (rows j clone d) h in
@@ -53,8 +59,10 @@ open_clone j d few running (Some clone) e h =
 
 pub opened : (j : Situation) (d : Decision) → reply j d ≡ Accepted → IsOpen j d
 opened j d h =
-    let one = passed (nat_le MOST_CALLS j.calls) Full (row (j.front == j.net.horizon) Closed ∷ clone_rows j d (place_of (subject d) j.clones)) not_full h in
-    let two = passed (j.front == j.net.horizon) Closed (clone_rows j d (place_of (subject d) j.clones)) not_closed one.1 in
+    let one = passed (nat_le MOST_CALLS j.calls) Full
+    (row (j.front == j.net.horizon) Closed ∷ clone_rows j d (place_of (subject d) j.clones)) not_full h in
+    let two = passed (j.front == j.net.horizon) Closed (clone_rows j d (place_of (subject d) j.clones)) not_closed
+    one.1 in
     open_clone j d one.0 two.0 (place_of (subject d) j.clones) refl two.1
 
 pub reopened : (j : Situation) (d : Decision) → IsOpen j d → reply j d ≡ Accepted
@@ -79,7 +87,8 @@ pub record InBoth (j k : Situation) (d : Decision) : Type 0 where
 in_both : (j k : Situation) (d : Decision) → reply j d ≡ Accepted → Same (subject d) j.clones k.clones → InBoth j k d
 in_both j k d h s =
     let found = opened j d h in
-    let at = placed (subject d) k.clones (clone_at j.clones found.clone) (sym s.same ∙ clone_named-place (subject d) j.clones found.clone found.place) in
+    let at = placed (subject d) k.clones (clone_at j.clones found.clone)
+    (sym s.same ∙ clone_named-place (subject d) j.clones found.clone found.place) in
     record { found = found; place = at.at; placed = at.place; clone = at.clone }
 
 is_none_from : {X : Type 0} (o : Option X) → is_some o ≡ false → o ≡ None
@@ -99,7 +108,8 @@ pub record IsFresh (clones : List Clone) (new : List ℕ) : Type 0 where
 
 fresh_from : (clones : List Clone) (new : List ℕ) → first_row (fork_rows clones new) ≡ Accepted → IsFresh clones new
 fresh_from clones new h =
-    let one = passed (is_some (place_of new clones)) NameTaken (row (nat_le MOST_CLONES (length clones)) TooManyClones ∷ []) not_taken h in
+    let one = passed (is_some (place_of new clones)) NameTaken
+    (row (nat_le MOST_CLONES (length clones)) TooManyClones ∷ []) not_taken h in
     let two = passed (nat_le MOST_CLONES (length clones)) TooManyClones [] not_many one.1 in
     record { fresh = is_none_from (place_of new clones) one.0; few = two.0 }
 
@@ -109,7 +119,8 @@ fresh_again full own new s f = record {
   few = (let few = f.few in let less = s.shorter in grind (arith, nat_tests));
 }
 
-rows_again : (net : Net) (n m : ℕ) (full own : List Clone) (d : Decision) (i k : ℕ) → Same (subject d) full own → clone_at own k ≡ clone_at full i
+rows_again : (net : Net) (n m : ℕ) (full own : List Clone) (d : Decision) (i k : ℕ) → Same (subject d) full own
+    → clone_at own k ≡ clone_at full i
     → first_row (rows (at_opening net n full) i d) ≡ Accepted → first_row (rows (at_opening net m own) k d) ≡ Accepted
 rows_again net n m full own (Fork new old) i k s e h =
     let f = fresh_again full own new s (fresh_from full new h) in
@@ -117,7 +128,8 @@ rows_again net n m full own (Fork new old) i k s e h =
 rows_again net n m full own (Set who at station change) i k s e h = rw e h
 rows_again net n m full own (End who at) i k s e h = h
 
-pub again : (net : Net) (n m : ℕ) (full own : List Clone) (d : Decision) → m ≤ n → Same (subject d) full own → reply (at_opening net n full) d ≡ Accepted → reply (at_opening net m own) d ≡ Accepted
+pub again : (net : Net) (n m : ℕ) (full own : List Clone) (d : Decision) → m ≤ n → Same (subject d) full own
+    → reply (at_opening net n full) d ≡ Accepted → reply (at_opening net m own) d ≡ Accepted
 again net n m full own d less s h =
     let b = in_both (at_opening net n full) (at_opening net m own) d h s in
     reopened (at_opening net m own) d (record {
@@ -160,40 +172,56 @@ set_none : (b : Bool) (k : Clone) (o : Option Clone) → cond b (Some k) o ≡ N
 set_none true k o h = absurd cc
 set_none false k o h = refl
 
-fork_effect : (net : Net) (clones : List Clone) (new old : List ℕ) (i : ℕ) → place_of new clones ≡ None → Effect net (Fork new old) clones (forked clones new i) i
+fork_effect : (net : Net) (clones : List Clone) (new old : List ℕ) (i : ℕ) → place_of new clones ≡ None
+    → Effect net (Fork new old) clones (forked clones new i) i
 fork_effect net clones new old i fresh =
     let k : Clone = record { name = new; plans = (clone_at clones i).plans; end = None } in
     record {
-      self = clone_named-push new clones k ∙ ap (λ o. option_or o (cond (bytes_eq new new) (Some k) None)) (clone_named-none new clones fresh) ∙ ap (λ b. cond b (Some k) None) (name_itself new);
-      others = λ m other. clone_named-push m clones k ∙ ap (λ b. option_or (clone_named m clones) (cond b (Some k) None)) other ∙ option_or-none (clone_named m clones);
+      self = clone_named-push new clones k ∙ ap (λ o. option_or o (cond (bytes_eq new new) (Some k) None))
+          (clone_named-none new clones fresh) ∙ ap (λ b. cond b (Some k) None) (name_itself new);
+      others = λ m other. clone_named-push m clones k
+          ∙ ap (λ b. option_or (clone_named m clones) (cond b (Some k) None)) other
+          ∙ option_or-none (clone_named m clones);
       none = λ m gone. pushed_none (clone_named m clones) (bytes_eq new m) k (sym (clone_named-push m clones k) ∙ gone);
       length_is = length_push clones k;
     }
 
 -- a set or an end
-change_effect : (net : Net) (d : Decision) (clones : List Clone) (i : ℕ) → grows d ≡ 0 → place_of (object d) clones ≡ Some i → (made net d (clone_at clones i)).name ≡ object d → Effect net d clones (slice_set clones i (made net d (clone_at clones i))) i
+change_effect : (net : Net) (d : Decision) (clones : List Clone) (i : ℕ) → grows d ≡ 0
+    → place_of (object d) clones ≡ Some i → (made net d (clone_at clones i)).name ≡ object d
+    → Effect net d clones (slice_set clones i (made net d (clone_at clones i))) i
 change_effect net d clones i none place name =
     let k = made net d (clone_at clones i) in
     record {
-      self = clone_named-set (object d) (object d) clones i k place name ∙ ap (λ b. cond b (Some k) (clone_named (object d) clones)) (name_itself (object d));
-      others = λ m other. clone_named-set m (object d) clones i k place name ∙ ap (λ b. cond b (Some k) (clone_named m clones)) other;
-      none = λ m gone. set_none (bytes_eq (object d) m) k (clone_named m clones) (sym (clone_named-set m (object d) clones i k place name) ∙ gone);
+      self = clone_named-set (object d) (object d) clones i k place name
+          ∙ ap (λ b. cond b (Some k) (clone_named (object d) clones)) (name_itself (object d));
+      others = λ m other. clone_named-set m (object d) clones i k place name
+          ∙ ap (λ b. cond b (Some k) (clone_named m clones)) other;
+      none = λ m gone. set_none (bytes_eq (object d) m) k (clone_named m clones)
+          (sym (clone_named-set m (object d) clones i k place name) ∙ gone);
       length_is = omega (arith, length-set clones i k, none);
     }
 
-effect : (net : Net) (n : ℕ) (clones : List Clone) (d : Decision) (o : IsOpen (at_opening net n clones) d) → Effect net d clones (clones_after net clones d) o.clone
+effect : (net : Net) (n : ℕ) (clones : List Clone) (d : Decision) (o : IsOpen (at_opening net n clones) d)
+    → Effect net d clones (clones_after net clones d) o.clone
 effect net n clones (Fork new old) o =
     let f = fresh_from clones new o.rest in
-    subst (λ (i : ℕ). Effect net (Fork new old) clones (forked clones new i) o.clone) (sym (ap (λ p. unwrap_or p 0) o.place)) (fork_effect net clones new old o.clone f.fresh)
+    subst (λ (i : ℕ). Effect net (Fork new old) clones (forked clones new i) o.clone)
+    (sym (ap (λ p. unwrap_or p 0) o.place)) (fork_effect net clones new old o.clone f.fresh)
 effect net n clones (Set who at station change) o =
     let d : Decision = Set who at station change in
-    subst (λ (i : ℕ). Effect net d clones (slice_set clones i (made net d (clone_at clones i))) o.clone) (sym (ap (λ p. unwrap_or p 0) o.place)) (change_effect net d clones o.clone refl o.place (name_at who clones o.clone o.place))
+    subst (λ (i : ℕ). Effect net d clones (slice_set clones i (made net d (clone_at clones i))) o.clone)
+    (sym (ap (λ p. unwrap_or p 0) o.place))
+    (change_effect net d clones o.clone refl o.place (name_at who clones o.clone o.place))
 effect net n clones (End who at) o =
     let d : Decision = End who at in
-    subst (λ (i : ℕ). Effect net d clones (slice_set clones i (made net d (clone_at clones i))) o.clone) (sym (ap (λ p. unwrap_or p 0) o.place)) (change_effect net d clones o.clone refl o.place (name_at who clones o.clone o.place))
+    subst (λ (i : ℕ). Effect net d clones (slice_set clones i (made net d (clone_at clones i))) o.clone)
+    (sym (ap (λ p. unwrap_or p 0) o.place))
+    (change_effect net d clones o.clone refl o.place (name_at who clones o.clone o.place))
 
 -- a decision of the history keeps the two states alike, at the clone that it makes or changes
-history_same : (net : Net) (n m : ℕ) (full own : List Clone) (d : Decision) → m ≤ n → Same (subject d) full own → reply (at_opening net n full) d ≡ Accepted → Same (object d) (clones_after net full d) (clones_after net own d)
+history_same : (net : Net) (n m : ℕ) (full own : List Clone) (d : Decision) → m ≤ n → Same (subject d) full own
+    → reply (at_opening net n full) d ≡ Accepted → Same (object d) (clones_after net full d) (clones_after net own d)
 history_same net n m full own d less s h =
     let b = in_both (at_opening net n full) (at_opening net m own) d h s in
     let mine = opened (at_opening net m own) d (again net n m full own d less s h) in
@@ -203,12 +231,14 @@ history_same net n m full own d less s h =
     let clones : clone_at own mine.clone ≡ clone_at full b.found.clone = ap (clone_at own) place ∙ b.clone in
     record {
       same = all.self ∙ sym (part.self ∙ ap (λ k. Some (made net d k)) clones);
-      fewer = λ q gone. (let other = all.none q gone in part.others q other ∙ s.fewer q (sym (all.others q other) ∙ gone));
+      fewer = λ q gone. (let other = all.none q gone in
+          part.others q other ∙ s.fewer q (sym (all.others q other) ∙ gone));
       shorter = omega (arith, all.length_is, part.length_is, s.shorter);
     }
 
 -- another decision leaves them alike
-dropped_same : (net : Net) (n : ℕ) (t : List ℕ) (full own : List Clone) (d : Decision) → bytes_eq (object d) t ≡ false → Same t full own → reply (at_opening net n full) d ≡ Accepted → Same t (clones_after net full d) own
+dropped_same : (net : Net) (n : ℕ) (t : List ℕ) (full own : List Clone) (d : Decision) → bytes_eq (object d) t ≡ false
+    → Same t full own → reply (at_opening net n full) d ≡ Accepted → Same t (clones_after net full d) own
 dropped_same net n t full own d other s h =
     let all = effect net n full d (opened (at_opening net n full) d h) in
     record {
@@ -218,35 +248,47 @@ dropped_same net n t full own d other s h =
     }
 
 -- what became of the clone's own decisions, from where they stand
-pub record IsAloneFrom (net : Net) (m k : ℕ) (own : List Clone) (ds : List Decision) (who : List ℕ) (end : List Clone) : Type 0 where
+pub record IsAloneFrom (net : Net) (m k : ℕ) (own : List Clone) (ds : List Decision) (who : List ℕ)
+    (end : List Clone) : Type 0 where
   pub accepted : first_refusal_from (at_opening net m own) k ds ≡ None
   pub same : clone_named who (after_all (at_opening net m own) ds).clones ≡ clone_named who end
 
 -- one decision of the history before the others
-history_first : (net : Net) (m k : ℕ) (own : List Clone) (d : Decision) (ds : List Decision) (who : List ℕ) (end : List Clone) → reply (at_opening net m own) d ≡ Accepted → IsAloneFrom net (m + 1) (k + 1) (clones_after net own d) ds who end → IsAloneFrom net m k own (d ∷ ds) who end
+history_first : (net : Net) (m k : ℕ) (own : List Clone) (d : Decision) (ds : List Decision) (who : List ℕ)
+    (end : List Clone) → reply (at_opening net m own) d ≡ Accepted
+    → IsAloneFrom net (m + 1) (k + 1) (clones_after net own d) ds who end → IsAloneFrom net m k own (d ∷ ds) who end
 history_first net m k own d ds who end h on =
     record {
       accepted = rw h on.accepted;
-      same = subst (λ (t : Situation). clone_named who (after_all t ds).clones ≡ clone_named who end) (sym (next_accepted (at_opening net m own) d h)) on.same;
+      same = subst (λ (t : Situation). clone_named who (after_all t ds).clones ≡ clone_named who end)
+          (sym (next_accepted (at_opening net m own) d h)) on.same;
     }
 
-alone_by : (net : Net) (n m k : ℕ) (who : List ℕ) (full own end : List Clone) (d : Decision) (rest : List ℕ × List Decision) → m ≤ n → reply (at_opening net n full) d ≡ Accepted
-    → ((l j : ℕ) (mine : List Clone) → l ≤ n + 1 → Same rest.0 (clones_after net full d) mine → IsAloneFrom net l j mine rest.1 who end)
-    → (b : Bool) → bytes_eq (object d) rest.0 ≡ b → Same (history_if b d (subject d) rest).0 full own → IsAloneFrom net m k own (history_if b d (subject d) rest).1 who end
+alone_by : (net : Net) (n m k : ℕ) (who : List ℕ) (full own end : List Clone) (d : Decision)
+    (rest : List ℕ × List Decision) → m ≤ n → reply (at_opening net n full) d ≡ Accepted
+    → ((l j : ℕ) (mine : List Clone) → l ≤ n + 1 → Same rest.0 (clones_after net full d) mine
+    → IsAloneFrom net l j mine rest.1 who end)
+    → (b : Bool) → bytes_eq (object d) rest.0 ≡ b → Same (history_if b d (subject d) rest).0 full own
+    → IsAloneFrom net m k own (history_if b d (subject d) rest).1 who end
 alone_by net n m k who full own end d rest less h go true e s =
     let after = history_same net n m full own d less s h in
-    let on = go (m + 1) (k + 1) (clones_after net own d) (omega arith) (subst (λ (t : List ℕ). Same t (clones_after net full d) (clones_after net own d)) (same_name (object d) rest.0 e) after) in
+    let on = go (m + 1) (k + 1) (clones_after net own d) (omega arith)
+    (subst (λ (t : List ℕ). Same t (clones_after net full d) (clones_after net own d))
+    (same_name (object d) rest.0 e) after) in
     history_first net m k own d rest.1 who end (again net n m full own d less s h) on
 alone_by net n m k who full own end d rest less h go false e s =
     go m k own (omega arith) (dropped_same net n rest.0 full own d e s h)
 
-pub alone_from : (net : Net) (n i m k : ℕ) (who : List ℕ) (full own : List Clone) (ds : List Decision) → m ≤ n → Same (history who ds).0 full own → first_refusal_from (at_opening net n full) i ds ≡ None
+pub alone_from : (net : Net) (n i m k : ℕ) (who : List ℕ) (full own : List Clone) (ds : List Decision) → m ≤ n
+    → Same (history who ds).0 full own → first_refusal_from (at_opening net n full) i ds ≡ None
     → IsAloneFrom net m k own (history who ds).1 who (after_all (at_opening net n full) ds).clones
 alone_from net n i m k who full own [] less s h = record { accepted = refl; same = sym s.same }
 alone_from net n i m k who full own (d ∷ ds) less s h =
-    let one = accepted_first i (reply (at_opening net n full) d) (first_refusal_from (next (at_opening net n full) d) (i + 1) ds) h in
+    let one = accepted_first i (reply (at_opening net n full) d)
+    (first_refusal_from (next (at_opening net n full) d) (i + 1) ds) h in
     let moved = next_accepted (at_opening net n full) d one.0 in
-    let rest : first_refusal_from (at_opening net (n + 1) (clones_after net full d)) (i + 1) ds ≡ None = subst (λ (t : Situation). first_refusal_from t (i + 1) ds ≡ None) moved one.1 in
+    let rest : first_refusal_from (at_opening net (n + 1) (clones_after net full d)) (i + 1) ds ≡ None =
+    subst (λ (t : Situation). first_refusal_from t (i + 1) ds ≡ None) moved one.1 in
     let end = (after_all (at_opening net (n + 1) (clones_after net full d)) ds).clones in
     subst (λ (t : Situation). IsAloneFrom net m k own (history who (d ∷ ds)).1 who (after_all t ds).clones) (sym moved)
     (alone_by net n m k who full own end d (history who ds) less one.0
@@ -255,5 +297,6 @@ alone_from net n i m k who full own (d ∷ ds) less s h =
 
 pub alone_suffices : (net : Net) → AloneSuffices net
 alone_suffices net who ds h =
-    let a = alone_from net 0 0 0 0 who (base ∷ []) (base ∷ []) ds (omega arith) (record { same = refl; fewer = λ n gone. gone; shorter = omega arith }) h in
+    let a = alone_from net 0 0 0 0 who (base ∷ []) (base ∷ []) ds (omega arith)
+    (record { same = refl; fewer = λ n gone. gone; shorter = omega arith }) h in
     record { accepted = a.accepted; same = a.same }

@@ -1,5 +1,6 @@
 -- Clones by their names.
-use Rattle.std.proofs.Common.{◌≡◌, ℕ, ◌+◌, Bool, true, false, not, nat_lt, cond, List, [], ◌∷◌, ◌++◌, length, refl, sym, ap, ◌∙◌, arith, zero, suc, Option, Some, None, option_map, slice_set}
+use Rattle.std.proofs.Common.{◌≡◌, ℕ, ◌+◌, Bool, true, false, not, nat_lt, cond, List, [], ◌∷◌, ◌++◌}
+use Rattle.std.proofs.Common.{length, refl, sym, ap, ◌∙◌, arith, zero, suc, Option, Some, None, option_map, slice_set}
 use Rattle.std.specs.List.{prefix_len}
 use Rattle.std.specs.Str.{bytes_eq}
 use Rattle.std.proofs.lemmas.Slice.Eq.{bytes_eq-Decides}
@@ -15,7 +16,8 @@ same_name a b h = (bytes_eq-Decides a b).0 h
 pub name_itself : (a : List ℕ) → bytes_eq a a ≡ true
 name_itself a = (bytes_eq-Decides a a).1 refl
 
-next_place : (k n : ℕ) → cond (nat_lt (1 + k) (suc n)) (Some (1 + k)) None ≡ option_map (λ i. suc i) (cond (nat_lt k n) (Some k) None)
+next_place : (k n : ℕ) → cond (nat_lt (1 + k) (suc n)) (Some (1 + k)) None ≡ option_map (λ i. suc i)
+    (cond (nat_lt k n) (Some k) None)
 next_place k n =
     let same : nat_lt (1 + k) (suc n) ≡ nat_lt k n = grind (arith, nat_tests) in
     let one : 1 + k ≡ suc k = omega arith in
@@ -25,10 +27,12 @@ next_place k n =
     by true = refl
     by false = refl
 
-pub place_of-cons : (m : List ℕ) (c : Clone) (cs : List Clone) → place_of m (c ∷ cs) ≡ cond (bytes_eq c.name m) (Some 0) (option_map (λ i. suc i) (place_of m cs))
+pub place_of-cons : (m : List ℕ) (c : Clone) (cs : List Clone)
+    → place_of m (c ∷ cs) ≡ cond (bytes_eq c.name m) (Some 0) (option_map (λ i. suc i) (place_of m cs))
 place_of-cons m c cs = by (bytes_eq c.name m)
   where
-    by : (b : Bool) → cond (nat_lt (cond (not b) (1 + prefix_len (λ x. not (bytes_eq x.name m)) cs) 0) (suc (length cs))) (Some (cond (not b) (1 + prefix_len (λ x. not (bytes_eq x.name m)) cs) 0)) None
+    by : (b : Bool) → cond (nat_lt (cond (not b) (1 + prefix_len (λ x. not (bytes_eq x.name m)) cs) 0)
+        (suc (length cs))) (Some (cond (not b) (1 + prefix_len (λ x. not (bytes_eq x.name m)) cs) 0)) None
         ≡ cond b (Some 0) (option_map (λ i. suc i) (place_of m cs))
     by true = let lt : nat_lt 0 (suc (length cs)) ≡ true = grind (arith, nat_tests) in rw lt refl
     by false = next_place (prefix_len (λ x. not (bytes_eq x.name m)) cs) (length cs)
@@ -39,7 +43,8 @@ pub record IsPlaced (m : List ℕ) (clones : List Clone) (k : Clone) : Type 0 wh
   pub place : place_of m clones ≡ Some at
   pub clone : clone_at clones at ≡ k
 
-placed_by : (m : List ℕ) (c : Clone) (cs : List Clone) (k : Clone) → (clone_named m cs ≡ Some k → IsPlaced m cs k) → (b : Bool) → bytes_eq c.name m ≡ b → cond b (Some c) (clone_named m cs) ≡ Some k → IsPlaced m (c ∷ cs) k
+placed_by : (m : List ℕ) (c : Clone) (cs : List Clone) (k : Clone) → (clone_named m cs ≡ Some k → IsPlaced m cs k)
+    → (b : Bool) → bytes_eq c.name m ≡ b → cond b (Some c) (clone_named m cs) ≡ Some k → IsPlaced m (c ∷ cs) k
 placed_by m c cs k again true e g = record { at = 0; place = place_of-cons m c cs ∙ rw e refl; clone = cc }
 placed_by m c cs k again false e g =
     let rest = again g in
@@ -50,7 +55,8 @@ placed m [] k h = absurd cc
 placed m (c ∷ cs) k h = placed_by m c cs k (placed m cs k) (bytes_eq c.name m) refl h
 
 -- and it has none where it has no clone
-none_by : (m : List ℕ) (c : Clone) (cs : List Clone) → (clone_named m cs ≡ None → place_of m cs ≡ None) → (b : Bool) → bytes_eq c.name m ≡ b → cond b (Some c) (clone_named m cs) ≡ None → place_of m (c ∷ cs) ≡ None
+none_by : (m : List ℕ) (c : Clone) (cs : List Clone) → (clone_named m cs ≡ None → place_of m cs ≡ None) → (b : Bool)
+    → bytes_eq c.name m ≡ b → cond b (Some c) (clone_named m cs) ≡ None → place_of m (c ∷ cs) ≡ None
 none_by m c cs again true e g = absurd cc
 none_by m c cs again false e g = place_of-cons m c cs ∙ rw (e, again g) refl
 
@@ -59,7 +65,8 @@ place_of-none m [] h = refl
 place_of-none m (c ∷ cs) h = none_by m c cs (place_of-none m cs) (bytes_eq c.name m) refl h
 
 -- the other way
-pub clone_named-place : (m : List ℕ) (clones : List Clone) (i : ℕ) → place_of m clones ≡ Some i → clone_named m clones ≡ Some (clone_at clones i)
+pub clone_named-place : (m : List ℕ) (clones : List Clone) (i : ℕ) → place_of m clones ≡ Some i
+    → clone_named m clones ≡ Some (clone_at clones i)
 clone_named-place m clones i h = by (clone_named m clones) refl
   where
     by : (o : Option Clone) → clone_named m clones ≡ o → clone_named m clones ≡ Some (clone_at clones i)
@@ -77,7 +84,8 @@ clone_named-none m clones h = by (clone_named m clones) refl
     by (Some k) e = let at = placed m clones k e in absurd cc
 
 -- a clone that is pushed
-pub clone_named-push : (m : List ℕ) (clones : List Clone) (k : Clone) → clone_named m (clones ++ k ∷ []) ≡ option_or (clone_named m clones) (cond (bytes_eq k.name m) (Some k) None)
+pub clone_named-push : (m : List ℕ) (clones : List Clone) (k : Clone)
+    → clone_named m (clones ++ k ∷ []) ≡ option_or (clone_named m clones) (cond (bytes_eq k.name m) (Some k) None)
 clone_named-push m clones k = find-append (λ c. bytes_eq c.name m) clones (k ∷ [])
 
 -- a clone that is changed and keeps its name
@@ -94,34 +102,45 @@ no_place None h = cc
 no_place (Some i) h = let bad : suc i ≡ 0 = cc in omega arith
 
 -- of two tests at most one holds
-swapped : {X : Type 0} (a b : Bool) (x y z : X) → (a ≡ true → b ≡ true → ⊥) → cond a x (cond b y z) ≡ cond b y (cond a x z)
+swapped : {X : Type 0} (a b : Bool) (x y z : X) → (a ≡ true → b ≡ true → ⊥)
+    → cond a x (cond b y z) ≡ cond b y (cond a x z)
 swapped true true x y z other = absurd (other refl refl)
 swapped true false x y z other = refl
 swapped false b x y z other = refl
 
-set_by : (m who : List ℕ) (c : Clone) (cs : List Clone) (k : Clone) → k.name ≡ who → ((j : ℕ) → place_of who cs ≡ Some j → clone_named m (slice_set cs j k) ≡ cond (bytes_eq who m) (Some k) (clone_named m cs))
-    → (b : Bool) → bytes_eq c.name who ≡ b → (i : ℕ) → cond b (Some 0) (option_map (λ i. suc i) (place_of who cs)) ≡ Some i
-    → clone_named m (slice_set (c ∷ cs) i k) ≡ cond (bytes_eq who m) (Some k) (cond (bytes_eq c.name m) (Some c) (clone_named m cs))
+set_by : (m who : List ℕ) (c : Clone) (cs : List Clone) (k : Clone) → k.name ≡ who
+    → ((j : ℕ) → place_of who cs ≡ Some j → clone_named m (slice_set cs j k) ≡ cond (bytes_eq who m) (Some k)
+    (clone_named m cs))
+    → (b : Bool) → bytes_eq c.name who ≡ b → (i : ℕ) → cond b (Some 0) (option_map (λ i. suc i) (place_of who cs))
+    ≡ Some i
+    → clone_named m (slice_set (c ∷ cs) i k) ≡ cond (bytes_eq who m) (Some k)
+    (cond (bytes_eq c.name m) (Some c) (clone_named m cs))
 set_by m who c cs k e again true f zero g =
     let old : c.name ≡ who = same_name c.name who f in
-    ap (λ n. cond (bytes_eq n m) (Some k) (clone_named m cs)) e ∙ twice (bytes_eq who m) (Some k) (Some c) (clone_named m cs)
+    ap (λ n. cond (bytes_eq n m) (Some k) (clone_named m cs)) e ∙ twice (bytes_eq who m) (Some k) (Some c)
+    (clone_named m cs)
     ∙ ap (λ n. cond (bytes_eq who m) (Some k) (cond (bytes_eq n m) (Some c) (clone_named m cs))) (sym old)
 set_by m who c cs k e again true f (suc j) g = let bad : 0 ≡ suc j = cc in absurd (omega arith)
 set_by m who c cs k e again false f zero g = absurd (no_place _ g)
 set_by m who c cs k e again false f (suc j) g =
     let apart : bytes_eq c.name m ≡ true → bytes_eq who m ≡ true → ⊥ =
-    λ x y. (let same : bytes_eq c.name who ≡ true = rw (same_name c.name m x, same_name who m y) (name_itself m) in cc) in
-    ap (λ o. cond (bytes_eq c.name m) (Some c) o) (again j (suc_place _ j g)) ∙ swapped (bytes_eq c.name m) (bytes_eq who m) (Some c) (Some k) (clone_named m cs) apart
+    λ x y. (let same : bytes_eq c.name who ≡ true = rw (same_name c.name m x, same_name who m y) (name_itself m) in
+    cc) in
+    ap (λ o. cond (bytes_eq c.name m) (Some c) o) (again j (suc_place _ j g))
+    ∙ swapped (bytes_eq c.name m) (bytes_eq who m) (Some c) (Some k) (clone_named m cs) apart
 
-pub clone_named-set : (m who : List ℕ) (clones : List Clone) (i : ℕ) (k : Clone) → place_of who clones ≡ Some i → k.name ≡ who → clone_named m (slice_set clones i k) ≡ cond (bytes_eq who m) (Some k) (clone_named m clones)
+pub clone_named-set : (m who : List ℕ) (clones : List Clone) (i : ℕ) (k : Clone) → place_of who clones ≡ Some i
+    → k.name ≡ who → clone_named m (slice_set clones i k) ≡ cond (bytes_eq who m) (Some k) (clone_named m clones)
 clone_named-set m who [] i k h e = absurd cc
-clone_named-set m who (c ∷ cs) i k h e = set_by m who c cs k e (λ j g. clone_named-set m who cs j k g e) (bytes_eq c.name who) refl i (sym (place_of-cons who c cs) ∙ h)
+clone_named-set m who (c ∷ cs) i k h e = set_by m who c cs k e (λ j g. clone_named-set m who cs j k g e)
+    (bytes_eq c.name who) refl i (sym (place_of-cons who c cs) ∙ h)
 
 found_name : (m : List ℕ) (clones : List Clone) (k : Clone) → clone_named m clones ≡ Some k → k.name ≡ m
 found_name m [] k h = absurd cc
 found_name m (c ∷ cs) k h = by (bytes_eq c.name m) refl h (found_name m cs k)
   where
-    by : (b : Bool) → bytes_eq c.name m ≡ b → cond b (Some c) (clone_named m cs) ≡ Some k → (clone_named m cs ≡ Some k → k.name ≡ m) → k.name ≡ m
+    by : (b : Bool) → bytes_eq c.name m ≡ b → cond b (Some c) (clone_named m cs) ≡ Some k
+        → (clone_named m cs ≡ Some k → k.name ≡ m) → k.name ≡ m
     by true e g again = let same : c ≡ k = cc in ap (λ x. x.name) (sym same) ∙ same_name c.name m e
     by false e g again = again g
 

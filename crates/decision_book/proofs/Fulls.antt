@@ -1,5 +1,6 @@
 -- A decision is answered Full exactly where the journal is full.
-use Rattle.std.proofs.Common.{◌≡◌, ◌≢◌, ◌↔◌, ◌==◌, ◌≤◌, ℕ, List, ◌∷◌, [], ◌++◌, Option, Some, None, Result, Ok, Err, Bool, true, false, nat_le, sym, subst, ap, ◌∙◌, refl, length, arith, option_map}
+use Rattle.std.proofs.Common.{◌≡◌, ◌≢◌, ◌↔◌, ◌==◌, ◌≤◌, ℕ, List, ◌∷◌, [], ◌++◌, Option, Some, None, Result}
+use Rattle.std.proofs.Common.{Ok, Err, Bool, true, false, nat_le, sym, subst, ap, ◌∙◌, refl, length, arith, option_map}
 use Rattle.sim_base.specs.declared.decision.Decision.{Decision}
 use Rattle.sim_base.specs.declared.decision.Decision.TheVariants.{Fork, Set, End}
 use Rattle.sim_base.specs.declared.message.Change.{Change}
@@ -14,8 +15,10 @@ use Rattle.stations.specs.Changes.{accepts}
 use Rattle.decision_book.specs.declared.call.Call.{Call}
 use Rattle.decision_book.specs.declared.call.TheConstants.{MOST_CALLS}
 use Rattle.decision_book.specs.declared.call.Reply.{Reply}
-use Rattle.decision_book.specs.declared.call.Reply.TheVariants.{Full, Closed, Ended, NameTaken, TooManyClones, UnknownStation, ListFull, PastHorizon, Late}
-use Rattle.decision_book.specs.Journal.{Event, Situation, asked, call_of, calls_of, fronts_of, with_reply, after, is_full}
+use Rattle.decision_book.specs.declared.call.Reply.TheVariants.{Full, Closed, Ended, NameTaken, TooManyClones}
+use Rattle.decision_book.specs.declared.call.Reply.TheVariants.{UnknownStation, ListFull, PastHorizon, Late}
+use Rattle.decision_book.specs.Journal.{Event, Situation, asked, call_of, calls_of}
+use Rattle.decision_book.specs.Journal.{fronts_of, with_reply, after, is_full}
 use Rattle.decision_book.specs.Right.{journal_with}
 use Rattle.decision_book.specs.Books.{BookView, IsBook, IsTold, journal_of}
 use Rattle.decision_book.specs.Replies.{row, first_row, time_rows, fault_row, change_row, rows, clone_rows, reply}
@@ -47,13 +50,22 @@ change_not_full net None change e = absurd cc
 change_not_full net (Some s) change e = fault_not_full (accepts (site_of net s) change) e
 
 time_not_full : (net : Net) (front at : ℕ) → NoneFull (time_rows net front at)
-time_not_full net front at = (row_not_full _ PastHorizon (λ e. absurd cc), (row_not_full _ (Late front) (λ e. absurd cc), tt))
+time_not_full net front at = (
+  row_not_full _ PastHorizon (λ e. absurd cc),
+  (row_not_full _ (Late front) (λ e. absurd cc), tt),
+)
 
 -- the rows behind the first
 rows_not_full : (s : Situation) (clone : ℕ) (d : Decision) → NoneFull (rows s clone d)
-rows_not_full s clone (Fork new old) = (row_not_full _ NameTaken (λ e. absurd cc), (row_not_full _ TooManyClones (λ e. absurd cc), tt))
-rows_not_full s clone (Set who at station change) =
-    (row_not_full _ UnknownStation (λ e. absurd cc), (change_not_full s.net (number_of station s.net) change, (row_not_full _ ListFull (λ e. absurd cc), time_not_full s.net s.front at)))
+rows_not_full s clone (Fork new old) =
+    (row_not_full _ NameTaken (λ e. absurd cc), (row_not_full _ TooManyClones (λ e. absurd cc), tt))
+rows_not_full s clone (Set who at station change) = (
+  row_not_full _ UnknownStation (λ e. absurd cc),
+  (
+    change_not_full s.net (number_of station s.net) change,
+    (row_not_full _ ListFull (λ e. absurd cc), time_not_full s.net s.front at),
+  ),
+)
 rows_not_full s clone (End who at) = time_not_full s.net s.front at
 
 ended_not_full : (end : Option ℕ) → option_map (λ at. Ended at) end ≡ Some Full → ⊥
@@ -71,52 +83,67 @@ at_row false os h e = absurd (first_not_full os h e)
 -- a reply that is Full comes of a full journal
 full_is_full : (s : Situation) (d : Decision) → reply s d ≡ Full → MOST_CALLS ≤ s.calls
 full_is_full s d e =
-    let b = at_row (nat_le MOST_CALLS s.calls) (row (s.front == s.net.horizon) Closed ∷ clone_rows s d (place_of (subject d) s.clones)) (row_not_full _ Closed (λ x. absurd cc), clone_not_full s d (place_of (subject d) s.clones)) e in
+    let b = at_row (nat_le MOST_CALLS s.calls)
+    (row (s.front == s.net.horizon) Closed ∷ clone_rows s d (place_of (subject d) s.clones))
+    (row_not_full _ Closed (λ x. absurd cc), clone_not_full s d (place_of (subject d) s.clones)) e in
     grind (arith, b)
 
 -- and a full journal answers Full
 full_is_said : (s : Situation) (d : Decision) → MOST_CALLS ≤ s.calls → reply s d ≡ Full
 full_is_said s d h =
     let b : nat_le MOST_CALLS s.calls ≡ true = grind (arith, h) in
-    ap (λ x. first_row (row x Full ∷ row (s.front == s.net.horizon) Closed ∷ clone_rows s d (place_of (subject d) s.clones))) b
+    ap (λ x. first_row (row x Full ∷ row (s.front == s.net.horizon) Closed ∷ clone_rows s d
+    (place_of (subject d) s.clones))) b
 
 calls_are : (net : Net) (es : List Event) → (after net es).calls ≡ length (calls_of es)
 calls_are net es = ap (λ (s : Situation). s.calls) (journal_stands net es)
 
 -- the reply is Full exactly where the journal holds as many calls as it may
-pub full_where_full : (net : Net) (es : List Event) (d : Decision) (r : Reply) → r ≡ reply (after net es) d → (r ≡ Full) ↔ (MOST_CALLS ≤ length (calls_of es))
+pub full_where_full : (net : Net) (es : List Event) (d : Decision) (r : Reply) → r ≡ reply (after net es) d
+    → (r ≡ Full) ↔ (MOST_CALLS ≤ length (calls_of es))
 full_where_full net es d r is = (
   (λ e. omega (arith, full_is_full (after net es) d (sym is ∙ e), calls_are net es)),
   λ h. is ∙ full_is_said (after net es) d (omega (arith, h, calls_are net es)),
 )
 
 -- a call that isn't answered Full is the last of the journal
-pub last_entry : (es : List Event) (caller : ℕ) (d : Decision) (r : Reply) → r ≢ Full → with_reply es caller d r ≡ es ++ asked (call_of caller es d r) ∷ []
+pub last_entry : (es : List Event) (caller : ℕ) (d : Decision) (r : Reply) → r ≢ Full
+    → with_reply es caller d r ≡ es ++ asked (call_of caller es d r) ∷ []
 last_entry es caller d Full not = absurd (not refl)
 last_entry es caller d r not = refl
 
 -- a reply of a book's parts is one of its journal
-pub replied : (net : Net) (lists : ListsView) (calls : ReservedView Call) (fronts : ReservedView ℕ) (last : ℕ) (d : Decision) (r : Reply) (v : BookView) → IsBook net lists calls fronts last
-    → record { net = net; events = journal_of calls.items fronts.items } ≡ v → r ≡ reply (record { net = net; clones = lists.clones; front = last; calls = length calls.items }) d → r ≡ reply (after v.net v.events) d
-replied net lists calls fronts last d r v h is e = subst (λ (w : BookView). r ≡ reply (after w.net w.events) d) is (e ∙ ap (λ (s : Situation). reply s d) (sym h.stands))
+pub replied : (net : Net) (lists : ListsView) (calls : ReservedView Call) (fronts : ReservedView ℕ) (last : ℕ)
+    (d : Decision) (r : Reply) (v : BookView) → IsBook net lists calls fronts last
+    → record { net = net; events = journal_of calls.items fronts.items } ≡ v
+    → r ≡ reply (record { net = net; clones = lists.clones; front = last; calls = length calls.items }) d
+    → r ≡ reply (after v.net v.events) d
+replied net lists calls fronts last d r v h is e = subst (λ (w : BookView). r ≡ reply (after w.net w.events) d) is
+    (e ∙ ap (λ (s : Situation). reply s d) (sym h.stands))
 
 -- a book with the call of a decision that isn't answered Full
-pub kept_of : (old new : BookView) (caller : ℕ) (d : Decision) (r : Reply) → r ≡ reply (after old.net old.events) d → new ≡ record old { events = journal_with old.net old.events caller d }
+pub kept_of : (old new : BookView) (caller : ℕ) (d : Decision) (r : Reply) → r ≡ reply (after old.net old.events) d
+    → new ≡ record old { events = journal_with old.net old.events caller d }
     → r ≢ Full → new ≡ record old { events = old.events ++ asked (call_of caller old.events d r) ∷ [] }
 kept_of old new caller d r is then not =
-    then ∙ (ap (λ (x : Reply). record old { events = with_reply old.events caller d x }) (sym is) ∙ ap (λ (es : List Event). record old { events = es }) (last_entry old.events caller d r not))
+    then ∙ (ap (λ (x : Reply). record old { events = with_reply old.events caller d x }) (sym is)
+    ∙ ap (λ (es : List Event). record old { events = es }) (last_entry old.events caller d r not))
 
 not_full : (r : Reply) → is_full r ≡ false → r ≢ Full
 not_full r h e = let bad : is_full r ≡ true = ap is_full e in cc
 
 -- the call that is told of it, where so many fronts stood before
-pub told_call : (old new : BookView) (caller : ℕ) (d : Decision) (r : Reply) (n : ℕ) → n ≡ length (fronts_of old.events) → r ≡ reply (after old.net old.events) d
+pub told_call : (old new : BookView) (caller : ℕ) (d : Decision) (r : Reply) (n : ℕ)
+    → n ≡ length (fronts_of old.events) → r ≡ reply (after old.net old.events) d
     → new ≡ record old { events = journal_with old.net old.events caller d } → is_full r ≡ false
     → IsTold old caller d r (Some (record { caller = caller; fronts = n; decision = d; reply = r })) new
 told_call old new caller d r n stamp is then room =
-    subst (λ (k : ℕ). IsTold old caller d r (Some (record { caller = caller; fronts = k; decision = d; reply = r })) new) (sym stamp)
+    subst (λ (k : ℕ). IsTold old caller d r (Some (record { caller = caller; fronts = k; decision = d; reply = r }))
+    new) (sym stamp)
     (not_full r room, record { call_is = refl; new_is = kept_of old new caller d r is then (not_full r room) })
 
 -- so many fronts stand in the journal of a book
-pub stamped : (net : Net) (calls : List Call) (fronts : List ℕ) (v : BookView) → record { net = net; events = journal_of calls fronts } ≡ v → length fronts ≡ length (fronts_of v.events)
-stamped net calls fronts v is = subst (λ (w : BookView). length fronts ≡ length (fronts_of w.events)) is (ap length (sym (fronts_of-journal_from 0 calls fronts)))
+pub stamped : (net : Net) (calls : List Call) (fronts : List ℕ) (v : BookView)
+    → record { net = net; events = journal_of calls fronts } ≡ v → length fronts ≡ length (fronts_of v.events)
+stamped net calls fronts v is = subst (λ (w : BookView). length fronts ≡ length (fronts_of w.events)) is
+    (ap length (sym (fronts_of-journal_from 0 calls fronts)))

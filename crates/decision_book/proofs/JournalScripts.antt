@@ -1,5 +1,7 @@
 -- The accepted calls of a right journal are a script that leaves the same clones.
-use Rattle.std.proofs.Common.{◌≡◌, ◌⊎◌, inl, inr, ⊎_elim, ◌==◌, ℕ, ◌+◌, ◌<◌, ◌≤◌, Bool, true, false, true≢false, List, [], ◌∷◌, ◌++◌, map, Option, Some, None, nat_lt, nat_le, refl, sym, ap, ◌∙◌, subst, arith, fold, append_assoc, append-nil}
+use Rattle.std.proofs.Common.{◌≡◌, ◌⊎◌, inl, inr, ⊎_elim, ◌==◌, ℕ, ◌+◌, ◌<◌, ◌≤◌, Bool}
+use Rattle.std.proofs.Common.{true, false, true≢false, List, [], ◌∷◌, ◌++◌, map, Option, Some, None}
+use Rattle.std.proofs.Common.{nat_lt, nat_le, refl, sym, ap, ◌∙◌, subst, arith, fold, append_assoc, append-nil}
 use Rattle.sim_base.specs.declared.decision.Decision.{Decision}
 use Rattle.sim_base.specs.declared.decision.Decision.TheVariants.{Fork, Set, End}
 use Rattle.sim_base.specs.Clones.{Clone}
@@ -8,7 +10,8 @@ use Rattle.decision_book.specs.declared.call.Call.{Call}
 use Rattle.decision_book.specs.declared.call.TheConstants.{MOST_CALLS}
 use Rattle.decision_book.specs.declared.call.Reply.{Reply}
 use Rattle.decision_book.specs.declared.call.Reply.TheVariants.{Accepted, PastHorizon, Late}
-use Rattle.decision_book.specs.Journal.{Event, Situation, raised, asked, after, after_event, opening, clones_after, if_accepted, calls_of}
+use Rattle.decision_book.specs.Journal.{Event, Situation, raised, asked, after}
+use Rattle.decision_book.specs.Journal.{after_event, opening, clones_after, if_accepted, calls_of}
 use Rattle.decision_book.specs.Replies.{row, first_row, rows, reply}
 use Rattle.decision_book.specs.Right.{MayFollow, EachAfter}
 use Rattle.decision_book.specs.Scripts.{next, after_all, refusal_or, first_refusal_from, if_taken, accepted_of}
@@ -17,7 +20,8 @@ use Rattle.decision_book.proofs.AloneLaw.{opened, reopened}
 use Rattle.decision_book.proofs.Scripts.{next_accepted}
 
 -- rows that all fail fail with another last row that fails
-last_row : (xs : List (Option Reply)) (b : Bool) (r q : Reply) → first_row (xs ++ row b r ∷ []) ≡ Accepted → first_row (xs ++ row false q ∷ []) ≡ Accepted
+last_row : (xs : List (Option Reply)) (b : Bool) (r q : Reply) → first_row (xs ++ row b r ∷ []) ≡ Accepted
+    → first_row (xs ++ row false q ∷ []) ≡ Accepted
 last_row [] b r q h = refl
 last_row (Some p ∷ xs) b r q h = h
 last_row (None ∷ xs) b r q h = last_row xs b r q h
@@ -29,26 +33,37 @@ at_start s m = record s { front = 0; calls = m }
 no_late : (at : ℕ) → false ≡ nat_lt at 0
 no_late at = grind arith
 
-rows_at_start : (s : Situation) (m clone : ℕ) (d : Decision) → first_row (rows s clone d) ≡ Accepted → first_row (rows (at_start s m) clone d) ≡ Accepted
+rows_at_start : (s : Situation) (m clone : ℕ) (d : Decision) → first_row (rows s clone d) ≡ Accepted
+    → first_row (rows (at_start s m) clone d) ≡ Accepted
 rows_at_start s m clone (Fork new old) h = h
 rows_at_start s m clone (Set who at station change) h =
     let xs : List (Option Reply) = first_four (rows s clone (Set who at station change)) in
-    subst (λ b. first_row (xs ++ row b (Late 0) ∷ []) ≡ Accepted) (no_late at) (last_row xs (nat_lt at s.front) (Late s.front) (Late 0) h)
+    subst (λ b. first_row (xs ++ row b (Late 0) ∷ []) ≡ Accepted) (no_late at)
+    (last_row xs (nat_lt at s.front) (Late s.front) (Late 0) h)
   where
     first_four : List (Option Reply) → List (Option Reply)
     first_four (a ∷ b ∷ c ∷ d ∷ more) = a ∷ b ∷ c ∷ d ∷ []
     first_four _ = []
 rows_at_start s m clone (End who at) h =
     let xs : List (Option Reply) = row (nat_le s.net.horizon at) PastHorizon ∷ [] in
-    subst (λ b. first_row (xs ++ row b (Late 0) ∷ []) ≡ Accepted) (no_late at) (last_row xs (nat_lt at s.front) (Late s.front) (Late 0) h)
+    subst (λ b. first_row (xs ++ row b (Late 0) ∷ []) ≡ Accepted) (no_late at)
+    (last_row xs (nat_lt at s.front) (Late s.front) (Late 0) h)
 
 -- what is accepted at a front, with calls before it, is accepted at front 0 with no more calls
-accepted_at_start : (s : Situation) (m : ℕ) (d : Decision) → 0 < s.net.horizon → m ≤ s.calls → reply s d ≡ Accepted → reply (at_start s m) d ≡ Accepted
+accepted_at_start : (s : Situation) (m : ℕ) (d : Decision) → 0 < s.net.horizon → m ≤ s.calls → reply s d ≡ Accepted
+    → reply (at_start s m) d ≡ Accepted
 accepted_at_start s m d some_time few h =
     let o = opened s d h in
     let running : (0 == s.net.horizon) ≡ false = grind (arith, some_time) in
     let room : nat_le MOST_CALLS m ≡ false = grind (arith, few, o.few) in
-    reopened (at_start s m) d (record { few = room; running = running; clone = o.clone; place = o.place; going = o.going; rest = rows_at_start s m o.clone d o.rest })
+    reopened (at_start s m) d (record {
+      few = room;
+      running = running;
+      clone = o.clone;
+      place = o.place;
+      going = o.going;
+      rest = rows_at_start s m o.clone d o.rest;
+    })
 
 -- a reply that takes no call into the script, and leaves the clones as they are
 abbrev pub Passes : Reply → Type 0
@@ -60,26 +75,30 @@ kind_of Accepted = inl refl
 kind_of r = inr ((λ c cs. refl), λ new old. refl)
 
 -- how things stand after two journals, one behind the other
-pub fold_append : (s : Situation) (xs ys : List Event) → fold after_event s (xs ++ ys) ≡ fold after_event (fold after_event s xs) ys
+pub fold_append : (s : Situation) (xs ys : List Event)
+    → fold after_event s (xs ++ ys) ≡ fold after_event (fold after_event s xs) ys
 fold_append s [] ys = refl
 fold_append s (x ∷ xs) ys = fold_append (after_event s x) xs ys
 
 -- these decisions are all accepted at front 0, and lead to these clones
 abbrev Leads : Situation → ℕ → ℕ → List Decision → List Clone → Type 0
-Leads s m place ds clones = (first_refusal_from (at_start s m) place ds ≡ None) × ((after_all (at_start s m) ds).clones ≡ clones)
+Leads s m place ds clones = (first_refusal_from (at_start s m) place ds ≡ None)
+    × ((after_all (at_start s m) ds).clones ≡ clones)
 
 -- the situation after a decision that is accepted
 abbrev moved_by : Situation → Decision → Situation
 moved_by s d = record s { clones = clones_after s.net s.clones d; calls = s.calls + 1 }
 
 -- one decision more, which is accepted
-leads_on : (s : Situation) (m place : ℕ) (d : Decision) (ds : List Decision) (clones : List Clone) → 0 < s.net.horizon → m ≤ s.calls → reply s d ≡ Accepted
+leads_on : (s : Situation) (m place : ℕ) (d : Decision) (ds : List Decision) (clones : List Clone) → 0 < s.net.horizon
+    → m ≤ s.calls → reply s d ≡ Accepted
     → Leads (moved_by s d) (m + 1) (place + 1) ds clones → Leads s m place (d ∷ ds) clones
 leads_on s m place d ds clones some_time few h more =
     let start = at_start s m in
     let ok : reply start d ≡ Accepted = accepted_at_start s m d some_time few h in
     let step : next start d ≡ at_start (moved_by s d) (m + 1) = next_accepted start d ok in (
-      ap (λ r. refusal_or place r (first_refusal_from (next start d) (place + 1) ds)) ok ∙ (ap (λ (x : Situation). first_refusal_from x (place + 1) ds) step ∙ more.0),
+      ap (λ r. refusal_or place r (first_refusal_from (next start d) (place + 1) ds)) ok
+          ∙ (ap (λ (x : Situation). first_refusal_from x (place + 1) ds) step ∙ more.0),
       ap (λ (x : Situation). (after_all x ds).clones) step ∙ more.1,
     )
 
@@ -87,26 +106,42 @@ abbrev decisions_of : List Call → List Decision
 decisions_of cs = map (λ c. c.decision) cs
 
 -- the accepted calls of the rest of a right journal lead to the clones that the journal leaves
-from_here : (net : Net) (before es : List Event) (s : Situation) (m place : ℕ) → after net before ≡ s → EachAfter (MayFollow net) before es → 0 < s.net.horizon → m ≤ s.calls
+from_here : (net : Net) (before es : List Event) (s : Situation) (m place : ℕ) → after net before ≡ s
+    → EachAfter (MayFollow net) before es → 0 < s.net.horizon → m ≤ s.calls
     → Leads s m place (decisions_of (accepted_of (calls_of es))) (fold after_event s es).clones
 from_here net before [] s m place is right some_time few = (refl, refl)
 from_here net before (raised f ∷ es) s m place is right some_time few =
-    from_here net (before ++ raised f ∷ []) es (after_event s (raised f)) m place (fold_append (opening net) before (raised f ∷ []) ∙ ap (λ (x : Situation). after_event x (raised f)) is) right.1 some_time few
+    from_here net (before ++ raised f ∷ []) es (after_event s (raised f)) m place
+    (fold_append (opening net) before (raised f ∷ []) ∙ ap (λ (x : Situation). after_event x (raised f)) is)
+    right.1 some_time few
 from_here net before (asked c ∷ es) s m place is right some_time few =
     let then = fold_append (opening net) before (asked c ∷ []) ∙ ap (λ (x : Situation). after_event x (asked c)) is in
     let answer : c.reply ≡ reply s c.decision = right.0.answer ∙ ap (λ (x : Situation). reply x c.decision) is in
     ⊎_elim
     (λ (h : c.reply ≡ Accepted).
-    let moved : after_event s (asked c) ≡ moved_by s c.decision = ap (λ r. record s { clones = if_accepted r (clones_after s.net s.clones c.decision) s.clones; calls = s.calls + 1 }) h in
-    let more = from_here net (before ++ asked c ∷ []) es (moved_by s c.decision) (m + 1) (place + 1) (then ∙ moved) right.1 some_time (omega (arith, few)) in
-    let one = leads_on s m place c.decision (decisions_of (accepted_of (calls_of es))) (fold after_event (moved_by s c.decision) es).clones some_time few (sym answer ∙ h) more in
-    subst (λ cl. Leads s m place (decisions_of (if_taken c.reply c (accepted_of (calls_of es)))) cl) (ap (λ (x : Situation). (fold after_event x es).clones) (sym moved))
-    (subst (λ r. Leads s m place (decisions_of (if_taken r c (accepted_of (calls_of es)))) (fold after_event (moved_by s c.decision) es).clones) (sym h) one))
+    let moved : after_event s (asked c) ≡ moved_by s c.decision =
+    ap (λ r. record s {
+      clones = if_accepted r (clones_after s.net s.clones c.decision) s.clones;
+      calls = s.calls + 1;
+    }) h in
+    let more = from_here net (before ++ asked c ∷ []) es (moved_by s c.decision) (m + 1) (place + 1)
+    (then ∙ moved) right.1 some_time (omega (arith, few)) in
+    let one = leads_on s m place c.decision (decisions_of (accepted_of (calls_of es)))
+    (fold after_event (moved_by s c.decision) es).clones some_time few (sym answer ∙ h) more in
+    subst (λ cl. Leads s m place (decisions_of (if_taken c.reply c (accepted_of (calls_of es)))) cl)
+    (ap (λ (x : Situation). (fold after_event x es).clones) (sym moved))
+    (subst (λ r. Leads s m place (decisions_of (if_taken r c (accepted_of (calls_of es))))
+    (fold after_event (moved_by s c.decision) es).clones) (sym h) one))
     (λ (h : Passes c.reply).
-    let moved : after_event s (asked c) ≡ record s { calls = s.calls + 1 } = ap (λ l. record s { clones = l; calls = s.calls + 1 }) (h.1 (clones_after s.net s.clones c.decision) s.clones) in
-    let more = from_here net (before ++ asked c ∷ []) es (record s { calls = s.calls + 1 }) m place (then ∙ moved) right.1 some_time (omega (arith, few)) in
-    subst (λ cl. Leads s m place (decisions_of (if_taken c.reply c (accepted_of (calls_of es)))) cl) (ap (λ (x : Situation). (fold after_event x es).clones) (sym moved))
-    (subst (λ l. Leads s m place (decisions_of l) (fold after_event (record s { calls = s.calls + 1 }) es).clones) (sym (h.0 c (accepted_of (calls_of es)))) more))
+    let moved : after_event s (asked c) ≡ record s { calls = s.calls + 1 } =
+    ap (λ l. record s { clones = l; calls = s.calls + 1 })
+    (h.1 (clones_after s.net s.clones c.decision) s.clones) in
+    let more = from_here net (before ++ asked c ∷ []) es (record s { calls = s.calls + 1 }) m place
+    (then ∙ moved) right.1 some_time (omega (arith, few)) in
+    subst (λ cl. Leads s m place (decisions_of (if_taken c.reply c (accepted_of (calls_of es)))) cl)
+    (ap (λ (x : Situation). (fold after_event x es).clones) (sym moved))
+    (subst (λ l. Leads s m place (decisions_of l) (fold after_event (record s { calls = s.calls + 1 }) es).clones)
+    (sym (h.0 c (accepted_of (calls_of es)))) more))
     (kind_of c.reply)
 
 pub journal_is_script : (net : Net) → JournalIsScript net
@@ -115,15 +150,18 @@ journal_is_script net events right some_time =
     record { accepted = l.0; lists = l.1 }
 
 -- what holds of each event of a journal holds of its later part behind the earlier one
-pub each_later : (P : List Event → Event → Type 0) (before xs ys : List Event) → EachAfter P before (xs ++ ys) → EachAfter P (before ++ xs) ys
+pub each_later : (P : List Event → Event → Type 0) (before xs ys : List Event) → EachAfter P before (xs ++ ys)
+    → EachAfter P (before ++ xs) ys
 each_later P before [] ys h = subst (λ (es : List Event). EachAfter P es ys) (sym (append-nil before)) h
-each_later P before (x ∷ xs) ys h = subst (λ (es : List Event). EachAfter P es ys) (append_assoc before (x ∷ []) xs) (each_later P (before ++ x ∷ []) xs ys h.1)
+each_later P before (x ∷ xs) ys h = subst (λ (es : List Event). EachAfter P es ys) (append_assoc before (x ∷ []) xs)
+    (each_later P (before ++ x ∷ []) xs ys h.1)
 
 same_number : (a b : ℕ) → a ≡ b → (a == b) ≡ true
 same_number a b e = grind (arith, e)
 
 -- calls behind events at whose front the horizon is reached
-closed_from : (net : Net) (before : List Event) (calls : List Call) (s : Situation) → after net before ≡ s → s.front ≡ s.net.horizon → EachAfter (MayFollow net) before (map asked calls)
+closed_from : (net : Net) (before : List Event) (calls : List Call) (s : Situation) → after net before ≡ s
+    → s.front ≡ s.net.horizon → EachAfter (MayFollow net) before (map asked calls)
     → (fold after_event s (map asked calls)).clones ≡ s.clones
 closed_from net before [] s is closed right = refl
 closed_from net before (c ∷ cs) s is closed right =
@@ -146,4 +184,6 @@ net_stays s (asked c ∷ es) = net_stays (after_event s (asked c)) es
 pub closed_changes_nothing : (net : Net) → ClosedChangesNothing net
 closed_changes_nothing net before calls closed right =
     ap (λ (s : Situation). s.clones) (fold_append (opening net) before (map asked calls))
-    ∙ closed_from net before calls (after net before) refl (closed ∙ ap (λ (n : Net). n.horizon) (sym (net_stays (opening net) before))) (each_later (MayFollow net) [] before (map asked calls) right)
+    ∙ closed_from net before calls (after net before) refl
+    (closed ∙ ap (λ (n : Net). n.horizon) (sym (net_stays (opening net) before)))
+    (each_later (MayFollow net) [] before (map asked calls) right)

@@ -1,5 +1,6 @@
 -- Accepted decisions keep the lists as they are planned.
-use Rattle.std.proofs.Common.{◌≡◌, ℕ, ◌+◌, ◌<◌, ◌≤◌, List, [], ◌∷◌, ◌++◌, length, arith, zero, suc, Some, None, slice_set, length-set, true, Option, option_map, Result, Ok, Err, is_ok, position, refl}
+use Rattle.std.proofs.Common.{◌≡◌, ℕ, ◌+◌, ◌<◌, ◌≤◌, List, [], ◌∷◌, ◌++◌, length, arith, zero, suc, Some, None}
+use Rattle.std.proofs.Common.{slice_set, length-set, true, Option, option_map, Result, Ok, Err, is_ok, position, refl}
 use Rattle.std.specs.List.{AllByRecursion}
 use Rattle.std.proofs.lemmas.List.{length_push}
 use Rattle.sim_base.specs.declared.decision.Planned.{Planned}
@@ -14,12 +15,14 @@ use Rattle.stations.specs.Changes.{accepts}
 use Rattle.decision_book.specs.Laws.{PlansAreForStations}
 use Rattle.decision_book.specs.Plans.{IsPlan, IsPlanned, ArePlanned}
 
-planned_at : (net : Net) (clones : List Clone) (c : ℕ) → AllByRecursion (IsPlanned net) clones → IsPlanned net (clone_at clones c)
+planned_at : (net : Net) (clones : List Clone) (c : ℕ) → AllByRecursion (IsPlanned net) clones
+    → IsPlanned net (clone_at clones c)
 planned_at net [] c h = record { plans = tt; short = omega arith; end = tt }
 planned_at net (k ∷ ks) zero h = h.0
 planned_at net (k ∷ ks) (suc c) h = planned_at net ks c h.1
 
-pub planned_forked : (net : Net) (clones : List Clone) (new : List ℕ) (old : ℕ) → ArePlanned net clones → length clones < MOST_CLONES → ArePlanned net (forked clones new old)
+pub planned_forked : (net : Net) (clones : List Clone) (new : List ℕ) (old : ℕ) → ArePlanned net clones
+    → length clones < MOST_CLONES → ArePlanned net (forked clones new old)
 planned_forked net clones new old h few =
     let from = planned_at net clones old h.each in
     let fork : Clone = record { name = new; plans = (clone_at clones old).plans; end = None } in
@@ -28,19 +31,27 @@ planned_forked net clones new old h few =
       each = all_push (IsPlanned net) clones fork h.each (record { plans = from.plans; short = from.short; end = tt });
     }
 
-replaced : (net : Net) (clones : List Clone) (c : ℕ) (k : Clone) → ArePlanned net clones → IsPlanned net k → ArePlanned net (slice_set clones c k)
+replaced : (net : Net) (clones : List Clone) (c : ℕ) (k : Clone) → ArePlanned net clones → IsPlanned net k
+    → ArePlanned net (slice_set clones c k)
 replaced net clones c k h p = record { few = rw length-set h.few; each = all_set (IsPlanned net) clones c k h.each p }
 
-pub planned_ended : (net : Net) (clones : List Clone) (c at : ℕ) → ArePlanned net clones → at < net.horizon → ArePlanned net (ended clones c at)
+pub planned_ended : (net : Net) (clones : List Clone) (c at : ℕ) → ArePlanned net clones → at < net.horizon
+    → ArePlanned net (ended clones c at)
 planned_ended net clones c at h early =
     let from = planned_at net clones c h.each in
-    replaced net clones c (record (clone_at clones c) { end = Some at }) h (record { plans = from.plans; short = from.short; end = early })
+    replaced net clones c (record (clone_at clones c) { end = Some at }) h
+    (record { plans = from.plans; short = from.short; end = early })
 
-pub planned_added : (net : Net) (clones : List Clone) (c : ℕ) (plan : Planned) → ArePlanned net clones → length (clone_at clones c).plans < MOST_DECISIONS → IsPlan net plan → ArePlanned net (added clones c plan)
+pub planned_added : (net : Net) (clones : List Clone) (c : ℕ) (plan : Planned) → ArePlanned net clones
+    → length (clone_at clones c).plans < MOST_DECISIONS → IsPlan net plan → ArePlanned net (added clones c plan)
 planned_added net clones c plan h s p =
     let from = planned_at net clones c h.each in
     replaced net clones c (record (clone_at clones c) { plans = (clone_at clones c).plans ++ plan ∷ [] }) h
-    (record { plans = all_push (IsPlan net) (clone_at clones c).plans plan from.plans p; short = omega (arith, s, length_push (clone_at clones c).plans plan); end = from.end })
+    (record {
+      plans = all_push (IsPlan net) (clone_at clones c).plans plan from.plans p;
+      short = omega (arith, s, length_push (clone_at clones c).plans plan);
+      end = from.end;
+    })
 
 -- a set that was accepted
 
@@ -52,7 +63,8 @@ taken_from : (r : Result (Unit {0}) ChangeFault) (u : Unit {0}) → r ≡ Ok u �
 taken_from (Ok v) u h = refl
 taken_from (Err e) u h = absurd cc
 
-pub plan_taken : (net : Net) (at s : ℕ) (station : List ℕ) (change : Change) (u : Unit {0}) → number_of station net ≡ Some s → s ≤ length net.sites → accepts (site_of net s) change ≡ Ok u → at < net.horizon
+pub plan_taken : (net : Net) (at s : ℕ) (station : List ℕ) (change : Change) (u : Unit {0})
+    → number_of station net ≡ Some s → s ≤ length net.sites → accepts (site_of net s) change ≡ Ok u → at < net.horizon
     → IsPlan net (record { at = at; station = s; change = change })
 plan_taken net at s station change u number last taken early = record {
   early = early;
@@ -61,9 +73,11 @@ plan_taken net at s station change u number last taken early = record {
   taken = taken_from (accepts (site_of net s) change) u taken;
 }
 
-for_stations : (net : Net) (plans : List Planned) → AllByRecursion (IsPlan net) plans → AllByRecursion (λ p. (0 < p.station) × (p.station ≤ length net.sites)) plans
+for_stations : (net : Net) (plans : List Planned) → AllByRecursion (IsPlan net) plans
+    → AllByRecursion (λ p. (0 < p.station) × (p.station ≤ length net.sites)) plans
 for_stations net [] h = tt
 for_stations net (p ∷ ps) h = let one = h.0 in ((omega (arith, one.first), one.last), for_stations net ps h.1)
 
 pub plans_are_for_stations : (net : Net) → PlansAreForStations net
-plans_are_for_stations net clones c h = let one = planned_at net clones c h.each in for_stations net (clone_at clones c).plans one.plans
+plans_are_for_stations net clones c h = let one = planned_at net clones c h.each in
+    for_stations net (clone_at clones c).plans one.plans

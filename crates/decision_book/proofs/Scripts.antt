@@ -1,53 +1,71 @@
 -- The decisions of a script, one after the other.
-use Rattle.std.proofs.Common.{◌≡◌, ℕ, ◌+◌, List, [], ◌∷◌, ◌++◌, length, map, fold, Option, Some, None, refl, ap, ◌∙◌, arith}
+use Rattle.std.proofs.Common.{◌≡◌, ℕ, ◌+◌, List, [], ◌∷◌, ◌++◌, length, map}
+use Rattle.std.proofs.Common.{fold, Option, Some, None, refl, ap, ◌∙◌, arith}
 use Rattle.std.proofs.lemmas.List.Sums.{fold_push}
 use Rattle.std.specs.Option.{option_or}
 use Rattle.sim_base.specs.declared.decision.Decision.{Decision}
 use Rattle.net_model.specs.Net.{Net}
 use Rattle.decision_book.specs.declared.call.Reply.{Reply}
 use Rattle.decision_book.specs.declared.call.Reply.TheVariants.{Accepted, Full}
-use Rattle.decision_book.specs.Journal.{Event, asked, calls_of, fronts_of, Situation, opening, after_event, after, clones_after_reply, clones_after, with_reply}
+use Rattle.decision_book.specs.Journal.{Event, asked, calls_of, fronts_of, Situation, opening}
+use Rattle.decision_book.specs.Journal.{after_event, after, clones_after_reply, clones_after, with_reply}
 use Rattle.decision_book.specs.Replies.{reply}
 use Rattle.decision_book.specs.Right.{journal_with, MayFollow, IsRight}
-use Rattle.decision_book.specs.Scripts.{Question, calls_after, next, after_all, refusal_or, first_refusal_from, first_refusal}
-use Rattle.decision_book.specs.Laws.{last_of, JournalStands, AskingIsNext, ScriptStands, ScriptIsRight, AcceptedAdds, RefusedFirst, AcceptedGoesOn, RefusedIsFirst}
+use Rattle.decision_book.specs.Scripts.{Question, calls_after, next, after_all}
+use Rattle.decision_book.specs.Scripts.{refusal_or, first_refusal_from, first_refusal}
+use Rattle.decision_book.specs.Laws.{last_of, JournalStands, AskingIsNext, ScriptStands, ScriptIsRight}
+use Rattle.decision_book.specs.Laws.{AcceptedAdds, RefusedFirst, AcceptedGoesOn, RefusedIsFirst}
 use Rattle.decision_book.proofs.Growing.{each_push, stands_by}
 
 -- how things stand after this reply
 abbrev by_reply : Situation → Decision → Reply → Situation
 by_reply s d r = record s { clones = clones_after_reply s.net s.clones d r; calls = calls_after r s.calls }
 
-after-with_reply : (net : Net) (es : List Event) (caller : ℕ) (d : Decision) (r : Reply) → after net (with_reply es caller d r) ≡ by_reply (after net es) d r
+after-with_reply : (net : Net) (es : List Event) (caller : ℕ) (d : Decision) (r : Reply)
+    → after net (with_reply es caller d r) ≡ by_reply (after net es) d r
 after-with_reply net es caller d Full = refl
-after-with_reply net es caller d r = fold_push after_event (opening net) es (asked (record { caller = caller; fronts = length (fronts_of es); decision = d; reply = r }))
+after-with_reply net es caller d r =
+    fold_push after_event (opening net) es
+    (asked (record { caller = caller; fronts = length (fronts_of es); decision = d; reply = r }))
 
 pub asking_is_next : (net : Net) → AskingIsNext net
 asking_is_next net es caller d = after-with_reply net es caller d (reply (after net es) d)
 
 pub journal_stands : (net : Net) → JournalStands net
 journal_stands net es = let none : 0 + length (calls_of es) ≡ length (calls_of es) = omega arith in
-    stands_by (opening net) es ∙ ap (λ n. record { net = net; clones = (after net es).clones; front = last_of (fronts_of es); calls = n }) none
+    stands_by (opening net) es ∙ ap
+    (λ n. record { net = net; clones = (after net es).clones; front = last_of (fronts_of es); calls = n }) none
 
-stands_from : (net : Net) (es : List Event) (s : Situation) (qs : List Question) → after net es ≡ s → after net (fold (λ events q. journal_with net events q.caller q.decision) es qs) ≡ after_all s (map (λ q. q.decision) qs)
+stands_from : (net : Net) (es : List Event) (s : Situation) (qs : List Question) → after net es ≡ s
+    → after net (fold (λ events q. journal_with net events q.caller q.decision) es qs) ≡ after_all s
+    (map (λ q. q.decision) qs)
 stands_from net es s [] h = h
-stands_from net es s (q ∷ qs) h = stands_from net (journal_with net es q.caller q.decision) (next s q.decision) qs (asking_is_next net es q.caller q.decision ∙ ap (λ t. next t q.decision) h)
+stands_from net es s (q ∷ qs) h = stands_from net (journal_with net es q.caller q.decision) (next s q.decision) qs
+    (asking_is_next net es q.caller q.decision ∙ ap (λ t. next t q.decision) h)
 
 pub script_stands : (net : Net) → ScriptStands net
 script_stands net qs = stands_from net [] (opening net) qs refl
 
-right_reply : (net : Net) (es : List Event) (caller : ℕ) (d : Decision) (r : Reply) → r ≡ reply (after net es) d → IsRight net es → IsRight net (with_reply es caller d r)
+right_reply : (net : Net) (es : List Event) (caller : ℕ) (d : Decision) (r : Reply) → r ≡ reply (after net es) d
+    → IsRight net es → IsRight net (with_reply es caller d r)
 right_reply net es caller d Full e h = h
-right_reply net es caller d r e h = each_push (MayFollow net) [] es (asked (record { caller = caller; fronts = length (fronts_of es); decision = d; reply = r })) h (record { fronts = refl; answer = e; not_full = λ full. cc })
+right_reply net es caller d r e h =
+    each_push (MayFollow net) [] es
+    (asked (record { caller = caller; fronts = length (fronts_of es); decision = d; reply = r })) h
+    (record { fronts = refl; answer = e; not_full = λ full. cc })
 
-right_from : (net : Net) (es : List Event) (qs : List Question) → IsRight net es → IsRight net (fold (λ events q. journal_with net events q.caller q.decision) es qs)
+right_from : (net : Net) (es : List Event) (qs : List Question) → IsRight net es
+    → IsRight net (fold (λ events q. journal_with net events q.caller q.decision) es qs)
 right_from net es [] h = h
-right_from net es (q ∷ qs) h = right_from net (journal_with net es q.caller q.decision) qs (right_reply net es q.caller q.decision (reply (after net es) q.decision) refl h)
+right_from net es (q ∷ qs) h = right_from net (journal_with net es q.caller q.decision) qs
+    (right_reply net es q.caller q.decision (reply (after net es) q.decision) refl h)
 
 pub script_is_right : (net : Net) → ScriptIsRight net
 script_is_right net qs = right_from net [] qs tt
 
 -- a decision that is accepted
-pub next_accepted : (s : Situation) (d : Decision) → reply s d ≡ Accepted → next s d ≡ record s { clones = clones_after s.net s.clones d; calls = s.calls + 1 }
+pub next_accepted : (s : Situation) (d : Decision) → reply s d ≡ Accepted
+    → next s d ≡ record s { clones = clones_after s.net s.clones d; calls = s.calls + 1 }
 next_accepted s d h = ap (by_reply s d) h
 
 net_stays : (s : Situation) (ds : List Decision) → (after_all s ds).net ≡ s.net
@@ -60,39 +78,53 @@ accepted_adds net ds d h =
     ap (λ t. t.clones) (fold_push next (opening net) ds d ∙ next_accepted s d h)
     ∙ ap (λ n. clones_after n s.clones d) (net_stays (opening net) ds)
 
-refusal_or-or : (place : ℕ) (r : Reply) (x y : Option (ℕ × Reply)) → refusal_or place r (option_or x y) ≡ option_or (refusal_or place r x) y
+refusal_or-or : (place : ℕ) (r : Reply) (x y : Option (ℕ × Reply))
+    → refusal_or place r (option_or x y) ≡ option_or (refusal_or place r x) y
 refusal_or-or place Accepted x y = refl
 refusal_or-or place r x y = refl
 
-refused_first_from : (s : Situation) (place : ℕ) (ds more : List Decision) → first_refusal_from s place (ds ++ more) ≡ option_or (first_refusal_from s place ds) (first_refusal_from (after_all s ds) (place + length ds) more)
-refused_first_from s place [] more = let none : place ≡ place + 0 = omega arith in ap (λ p. first_refusal_from s p more) none
+refused_first_from : (s : Situation) (place : ℕ) (ds more : List Decision)
+    → first_refusal_from s place (ds ++ more) ≡ option_or (first_refusal_from s place ds)
+    (first_refusal_from (after_all s ds) (place + length ds) more)
+refused_first_from s place [] more = let none : place ≡ place + 0 = omega arith in
+    ap (λ p. first_refusal_from s p more) none
 refused_first_from s place (d ∷ ds) more =
     let one : place + 1 + length ds ≡ place + length (d ∷ ds) = omega arith in
-    ap (refusal_or place (reply s d)) (refused_first_from (next s d) (place + 1) ds more ∙ ap (λ p. option_or (first_refusal_from (next s d) (place + 1) ds) (first_refusal_from (after_all (next s d) ds) p more)) one)
-    ∙ refusal_or-or place (reply s d) (first_refusal_from (next s d) (place + 1) ds) (first_refusal_from (after_all (next s d) ds) (place + length (d ∷ ds)) more)
+    ap (refusal_or place (reply s d)) (refused_first_from (next s d) (place + 1) ds more
+    ∙ ap (λ p. option_or (first_refusal_from (next s d) (place + 1) ds)
+    (first_refusal_from (after_all (next s d) ds) p more)) one)
+    ∙ refusal_or-or place (reply s d) (first_refusal_from (next s d) (place + 1) ds)
+    (first_refusal_from (after_all (next s d) ds) (place + length (d ∷ ds)) more)
 
 pub refused_first : (net : Net) → RefusedFirst net
 refused_first net ds more =
     let none : 0 + length ds ≡ length ds = omega arith in
-    refused_first_from (opening net) 0 ds more ∙ ap (λ p. option_or (first_refusal net ds) (first_refusal_from (after_all (opening net) ds) p more)) none
+    refused_first_from (opening net) 0 ds more
+    ∙ ap (λ p. option_or (first_refusal net ds) (first_refusal_from (after_all (opening net) ds) p more)) none
 
 -- where none is refused, the first is accepted and none of the others is refused
-pub accepted_first : (place : ℕ) (r : Reply) (later : Option (ℕ × Reply)) → refusal_or place r later ≡ None → (r ≡ Accepted) × (later ≡ None)
+pub accepted_first : (place : ℕ) (r : Reply) (later : Option (ℕ × Reply)) → refusal_or place r later ≡ None
+    → (r ≡ Accepted) × (later ≡ None)
 accepted_first place Accepted later h = (refl, h)
 accepted_first place r later h = absurd cc
 
-refusal_or-refusal : (place : ℕ) (r : Reply) (later : Option (ℕ × Reply)) → (r ≡ Accepted → ⊥) → refusal_or place r later ≡ Some (place, r)
+refusal_or-refusal : (place : ℕ) (r : Reply) (later : Option (ℕ × Reply)) → (r ≡ Accepted → ⊥)
+    → refusal_or place r later ≡ Some (place, r)
 refusal_or-refusal place Accepted later other = absurd (other refl)
 refusal_or-refusal place r later other = refl
 
 -- where none is refused, the first refusal is among the others
-first_refusal-none : (net : Net) (ds more : List Decision) → first_refusal net ds ≡ None → first_refusal net (ds ++ more) ≡ first_refusal_from (after_all (opening net) ds) (length ds) more
-first_refusal-none net ds more none = refused_first net ds more ∙ ap (λ o. option_or o (first_refusal_from (after_all (opening net) ds) (length ds) more)) none
+first_refusal-none : (net : Net) (ds more : List Decision) → first_refusal net ds ≡ None
+    → first_refusal net (ds ++ more) ≡ first_refusal_from (after_all (opening net) ds) (length ds) more
+first_refusal-none net ds more none = refused_first net ds more
+    ∙ ap (λ o. option_or o (first_refusal_from (after_all (opening net) ds) (length ds) more)) none
 
 pub accepted_goes_on : (net : Net) → AcceptedGoesOn net
-accepted_goes_on net ds d none accepted = first_refusal-none net ds (d ∷ []) none ∙ ap (λ r. refusal_or (length ds) r None) accepted
+accepted_goes_on net ds d none accepted = first_refusal-none net ds (d ∷ []) none
+    ∙ ap (λ r. refusal_or (length ds) r None) accepted
 
 pub refused_is_first : (net : Net) → RefusedIsFirst net
 refused_is_first net ds d more none other =
     let s = after_all (opening net) ds in
-    first_refusal-none net ds (d ∷ more) none ∙ refusal_or-refusal (length ds) (reply s d) (first_refusal_from (next s d) (length ds + 1) more) other
+    first_refusal-none net ds (d ∷ more) none ∙ refusal_or-refusal (length ds) (reply s d)
+    (first_refusal_from (next s d) (length ds + 1) more) other

@@ -18,10 +18,12 @@ pub record BookView : Type 0 where
   pub net : Net
   pub events : List Event
 
--- the journal of these calls and fronts, where so many fronts stood before it; each call says how many stood before the call
+-- the journal of these calls and fronts, where so many fronts stood before it; each call says how many stood before
+-- the call
 abbrev pub journal_from : ℕ → List Call → List ℕ → List Event
 journal_from n [] fronts = map raised fronts
-journal_from n (c ∷ cs) fronts = map raised (take (c.fronts - n) fronts) ++ (asked c ∷ journal_from c.fronts cs (drop (c.fronts - n) fronts))
+journal_from n (c ∷ cs) fronts =
+    map raised (take (c.fronts - n) fronts) ++ (asked c ∷ journal_from c.fronts cs (drop (c.fronts - n) fronts))
 
 -- the whole journal of calls and fronts
 abbrev pub journal_of : List Call → List ℕ → List Event
@@ -32,9 +34,16 @@ abbrev pub AreStamped : ℕ → ℕ → List Call → Type 0
 AreStamped n all [] = n ≤ all
 AreStamped n all (c ∷ cs) = (n ≤ c.fronts) × AreStamped c.fronts all cs
 
--- lists, front and number of calls are those of the journal, which is right, and memory is reserved for all calls, clones and decisions
-pub record IsBook (net : Net) (lists : ListsView) (calls : ReservedView Call) (fronts : ReservedView ℕ) (last : ℕ) : Type 0 where
-  pub stands : after net (journal_of calls.items fronts.items) ≡ record { net = net; clones = lists.clones; front = last; calls = length calls.items }
+-- lists, front and number of calls are those of the journal, which is right, and memory is reserved for all calls,
+-- clones and decisions
+pub record IsBook (net : Net) (lists : ListsView) (calls : ReservedView Call) (fronts : ReservedView ℕ) (last : ℕ) :
+    Type 0 where
+  pub stands : after net (journal_of calls.items fronts.items) ≡ record {
+    net = net;
+    clones = lists.clones;
+    front = last;
+    calls = length calls.items;
+  }
   pub right : IsRight net (journal_of calls.items fronts.items)
   pub stamps : AreStamped 0 (length fronts.items) calls.items
   pub few : length fronts.items ≤ last
@@ -46,7 +55,8 @@ pub record IsBook (net : Net) (lists : ListsView) (calls : ReservedView Call) (f
   pub reserved_calls : calls.reserved ≡ MOST_CALLS
 
 -- the call of a decision with this reply, and the book, whose last entry it is
-pub record IsEntered (old : BookView) (caller : ℕ) (d : Decision) (reply : Reply) (call : Call) (new : BookView) : Type 0 where
+pub record IsEntered (old : BookView) (caller : ℕ) (d : Decision) (reply : Reply) (call : Call) (new : BookView) :
+    Type 0 where
   pub call_is : call ≡ call_of caller old.events d reply
   pub new_is : new ≡ record old { events = old.events ++ asked call ∷ [] }
 

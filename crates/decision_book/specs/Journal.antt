@@ -49,7 +49,8 @@ plan_of_set net at station change = record { at = at; station = unwrap_or (numbe
 -- what an accepted decision makes of the clones
 abbrev pub clones_after : Net → List Clone → Decision → List Clone
 clones_after net clones (Fork new old) = forked clones new (clone_place old clones)
-clones_after net clones (Set who at station change) = added clones (clone_place who clones) (plan_of_set net at station change)
+clones_after net clones (Set who at station change) =
+    added clones (clone_place who clones) (plan_of_set net at station change)
 clones_after net clones (End who at) = ended clones (clone_place who clones) at
 
 -- the new clones where a decision is accepted: a refusal leaves them as they are
@@ -64,7 +65,10 @@ clones_after_reply net clones d reply = if_accepted reply (clones_after net clon
 -- how things stand after one event more
 abbrev pub after_event : Situation → Event → Situation
 after_event s (raised f) = record s { front = f }
-after_event s (asked call) = record s { clones = clones_after_reply s.net s.clones call.decision call.reply; calls = s.calls + 1 }
+after_event s (asked call) = record s {
+  clones = clones_after_reply s.net s.clones call.decision call.reply;
+  calls = s.calls + 1;
+}
 
 -- how things stand after a journal
 abbrev pub after : Net → List Event → Situation
@@ -72,7 +76,8 @@ after net events = fold after_event (opening net) events
 
 -- the call of a decision that had this reply behind these events
 abbrev pub call_of : ℕ → List Event → Decision → Reply → Call
-call_of caller events d reply = record { caller = caller; fronts = length (fronts_of events); decision = d; reply = reply }
+call_of caller events d reply =
+    record { caller = caller; fronts = length (fronts_of events); decision = d; reply = reply }
 
 -- the journal after a decision was asked and had this reply: Full leaves it as it was
 abbrev pub with_reply : List Event → ℕ → Decision → Reply → List Event

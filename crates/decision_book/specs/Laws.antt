@@ -14,7 +14,8 @@ use Rattle.decision_book.specs.Journal.{Event, asked, opening, clones_after, aft
 use Rattle.decision_book.specs.Plans.{ArePlanned}
 use Rattle.decision_book.specs.Replies.{reply}
 use Rattle.decision_book.specs.Right.{journal_with, IsRight}
-use Rattle.decision_book.specs.Scripts.{Question, journal_of_script, script_of, next, after_all, lists_of, first_refusal, first_refusal_from}
+use Rattle.decision_book.specs.Scripts.{Question, journal_of_script, script_of, next}
+use Rattle.decision_book.specs.Scripts.{after_all, lists_of, first_refusal, first_refusal_from}
 
 -- the last of these numbers, or 0
 abbrev pub last_of : List ℕ → ℕ
@@ -22,19 +23,28 @@ last_of ns = fold (λ last n. n) 0 ns
 
 -- the front after a journal is its last one, or 0, and the number of calls is how many it has
 abbrev pub JournalStands : Net → Type 0
-JournalStands net = (events : List Event) → after net events ≡ record { net = net; clones = (after net events).clones; front = last_of (fronts_of events); calls = length (calls_of events) }
+JournalStands net = (events : List Event)
+    → after net events ≡ record {
+      net = net;
+      clones = (after net events).clones;
+      front = last_of (fronts_of events);
+      calls = length (calls_of events);
+    }
 
 -- the decisions of a planned clone are for stations that are there
 abbrev pub PlansAreForStations : Net → Type 0
-PlansAreForStations net = (clones : List Clone) (c : ℕ) → ArePlanned net clones → AllByRecursion (λ p. (0 < p.station) × (p.station ≤ length net.sites)) (clone_at clones c).plans
+PlansAreForStations net = (clones : List Clone) (c : ℕ) → ArePlanned net clones
+    → AllByRecursion (λ p. (0 < p.station) × (p.station ≤ length net.sites)) (clone_at clones c).plans
 
 -- a decision that is asked takes things to where they stand next, whoever asks
 abbrev pub AskingIsNext : Net → Type 0
-AskingIsNext net = (events : List Event) (caller : ℕ) (d : Decision) → after net (journal_with net events caller d) ≡ next (after net events) d
+AskingIsNext net = (events : List Event) (caller : ℕ) (d : Decision)
+    → after net (journal_with net events caller d) ≡ next (after net events) d
 
 -- after the journal of a script, things stand where its decisions lead
 abbrev pub ScriptStands : Net → Type 0
-ScriptStands net = (questions : List Question) → after net (journal_of_script net questions) ≡ after_all (opening net) (map (λ q. q.decision) questions)
+ScriptStands net = (questions : List Question) → after net (journal_of_script net questions) ≡ after_all (opening net)
+    (map (λ q. q.decision) questions)
 
 -- the journal of a script is right
 abbrev pub ScriptIsRight : Net → Type 0
@@ -42,19 +52,24 @@ ScriptIsRight net = (questions : List Question) → IsRight net (journal_of_scri
 
 -- a decision more that is accepted does to the lists what it says
 abbrev pub AcceptedAdds : Net → Type 0
-AcceptedAdds net = (ds : List Decision) (d : Decision) → reply (after_all (opening net) ds) d ≡ Accepted → lists_of net (ds ++ d ∷ []) ≡ clones_after net (lists_of net ds) d
+AcceptedAdds net = (ds : List Decision) (d : Decision) → reply (after_all (opening net) ds) d ≡ Accepted
+    → lists_of net (ds ++ d ∷ []) ≡ clones_after net (lists_of net ds) d
 
--- the first refusal among more decisions is the first among those before, if there is one, and else the first among the others
+-- the first refusal among more decisions is the first among those before, if there is one, and else the first among
+-- the others
 abbrev pub RefusedFirst : Net → Type 0
-RefusedFirst net = (ds more : List Decision) → first_refusal net (ds ++ more) ≡ option_or (first_refusal net ds) (first_refusal_from (after_all (opening net) ds) (length ds) more)
+RefusedFirst net = (ds more : List Decision) → first_refusal net (ds ++ more) ≡ option_or (first_refusal net ds)
+    (first_refusal_from (after_all (opening net) ds) (length ds) more)
 
 -- so a decision more that is accepted leaves no refusal, where there was none
 abbrev pub AcceptedGoesOn : Net → Type 0
-AcceptedGoesOn net = (ds : List Decision) (d : Decision) → first_refusal net ds ≡ None → reply (after_all (opening net) ds) d ≡ Accepted → first_refusal net (ds ++ d ∷ []) ≡ None
+AcceptedGoesOn net = (ds : List Decision) (d : Decision) → first_refusal net ds ≡ None
+    → reply (after_all (opening net) ds) d ≡ Accepted → first_refusal net (ds ++ d ∷ []) ≡ None
 
 -- and one that is refused is the first, whatever comes after it
 abbrev pub RefusedIsFirst : Net → Type 0
-RefusedIsFirst net = (ds : List Decision) (d : Decision) (more : List Decision) → first_refusal net ds ≡ None → reply (after_all (opening net) ds) d ≢ Accepted
+RefusedIsFirst net = (ds : List Decision) (d : Decision) (more : List Decision) → first_refusal net ds ≡ None
+    → reply (after_all (opening net) ds) d ≢ Accepted
     → first_refusal net (ds ++ d ∷ more) ≡ Some (length ds, reply (after_all (opening net) ds) d)
 
 -- the clone of a name
@@ -73,11 +88,13 @@ AloneSuffices net = (who : List ℕ) (ds : List Decision) → first_refusal net 
 -- the decisions of a clone's own script are all accepted, and give it the same list and the same end
 pub record IsOwnScript (net : Net) (who : List ℕ) (s : ScriptView) : Type 0 where
   pub accepted : first_refusal net (decisions (alone_of s who).items) ≡ None
-  pub same : clone_named who (lists_of net (decisions (alone_of s who).items)) ≡ clone_named who (lists_of net (decisions s.items))
+  pub same : clone_named who (lists_of net (decisions (alone_of s who).items)) ≡ clone_named who
+      (lists_of net (decisions s.items))
 
 -- the same for scripts
 abbrev pub OwnScriptSuffices : Net → Type 0
-OwnScriptSuffices net = (who : List ℕ) (s : ScriptView) → first_refusal net (decisions s.items) ≡ None → IsOwnScript net who s
+OwnScriptSuffices net = (who : List ℕ) (s : ScriptView) → first_refusal net (decisions s.items) ≡ None
+    → IsOwnScript net who s
 
 -- the accepted decisions of a journal, as a script
 pub record IsItsScript (net : Net) (events : List Event) : Type 0 where
@@ -93,4 +110,5 @@ JournalIsScript net = (events : List Event) → IsRight net events → 0 < net.h
 -- calls at the horizon leave the clones as they are
 abbrev pub ClosedChangesNothing : Net → Type 0
 ClosedChangesNothing net = (before : List Event) (calls : List Call) → (after net before).front ≡ net.horizon
-    → IsRight net (before ++ map asked calls) → (after net (before ++ map asked calls)).clones ≡ (after net before).clones
+    → IsRight net (before ++ map asked calls)
+    → (after net (before ++ map asked calls)).clones ≡ (after net before).clones

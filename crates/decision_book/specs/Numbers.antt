@@ -1,7 +1,9 @@
 -- The numbers of the refusals. They are not in the order of the table: Ended came last.
 use Rattle.std.specs.Prelude.{ℕ}
 use Rattle.decision_book.specs.declared.call.Reply.{Reply}
-use Rattle.decision_book.specs.declared.call.Reply.TheVariants.{Accepted, Full, Closed, UnknownClone, Ended, NameTaken, TooManyClones, UnknownStation, WrongParameter, OutOfRange, ListFull, PastHorizon, Late}
+use Rattle.decision_book.specs.declared.call.Reply.TheVariants.{Accepted, Full, Closed, UnknownClone, Ended, NameTaken}
+use Rattle.decision_book.specs.declared.call.Reply.TheVariants.{TooManyClones, UnknownStation, WrongParameter}
+use Rattle.decision_book.specs.declared.call.Reply.TheVariants.{OutOfRange, ListFull, PastHorizon, Late}
 
 -- the number of a refusal; 0 where there is none
 abbrev pub reply_number : Reply → ℕ

@@ -27,6 +27,7 @@ abbrev pub EachAfter : (List Event → Event → Type 0) → List Event → List
 EachAfter P before [] = Unit {0}
 EachAfter P before (e ∷ es) = P before e × EachAfter P (before ++ e ∷ []) es
 
--- each call has the reply of the table after the events before it, none is Full, and the fronts rise and are at most the horizon
+-- each call has the reply of the table after the events before it, none is Full, and the fronts rise and are at most
+-- the horizon
 abbrev pub IsRight : Net → List Event → Type 0
 IsRight net events = EachAfter (MayFollow net) [] events

@@ -26,7 +26,10 @@ calls_after _ calls = calls + 1
 
 -- how things stand after a decision; who asked makes no difference
 abbrev pub next : Situation → Decision → Situation
-next s d = record s { clones = clones_after_reply s.net s.clones d (reply s d); calls = calls_after (reply s d) s.calls }
+next s d = record s {
+  clones = clones_after_reply s.net s.clones d (reply s d);
+  calls = calls_after (reply s d) s.calls;
+}
 
 -- how things stand after these decisions
 abbrev pub after_all : Situation → List Decision → Situation

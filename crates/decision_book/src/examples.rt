@@ -5,7 +5,8 @@
 ghost use Rattle.std.specs.Prelude.{◌≡◌, Some, None, codes};
 ghost use Rattle.stations.specs.Examples.OneDesk.{one_desk};
 ghost use Rattle.decision_script.specs.Alone.{alone};
-ghost use Rattle.decision_book.specs.Examples.{during_a_run, clones_of_the_run, script, clones_of_the_script, script_of_b, refused_script};
+ghost use Rattle.decision_book.specs.Examples.{during_a_run, clones_of_the_run, script};
+ghost use Rattle.decision_book.specs.Examples.{clones_of_the_script, script_of_b, refused_script};
 ghost use Rattle.decision_book.specs.Journal.{after};
 ghost use Rattle.decision_book.specs.Right.{IsRight};
 ghost use Rattle.decision_book.specs.Scripts.{lists_of, first_refusal};

@@ -2,7 +2,9 @@
 //!
 //! `specs/Laws.antt` has the laws in words.
 ghost use Rattle.net_model.specs.Net.{Net};
-ghost use Rattle.decision_book.specs.Laws.{JournalStands, PlansAreForStations, AskingIsNext, ScriptStands, ScriptIsRight, AcceptedAdds, RefusedFirst, AcceptedGoesOn, RefusedIsFirst, AloneSuffices, OwnScriptSuffices, JournalIsScript, ClosedChangesNothing};
+ghost use Rattle.decision_book.specs.Laws.{JournalStands, PlansAreForStations, AskingIsNext, ScriptStands};
+ghost use Rattle.decision_book.specs.Laws.{ScriptIsRight, AcceptedAdds, RefusedFirst, AcceptedGoesOn, RefusedIsFirst};
+ghost use Rattle.decision_book.specs.Laws.{AloneSuffices, OwnScriptSuffices, JournalIsScript, ClosedChangesNothing};
 
 /// How things stand after a journal, and how a decision changes that.
 #[tactic(auto, using(crate::proofs::Scripts::journal_stands, crate::proofs::Scripts::asking_is_next))]

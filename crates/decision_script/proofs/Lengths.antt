@@ -1,5 +1,6 @@
 -- How long a canonical text is.
-use Rattle.std.proofs.Common.{ℕ, ◌+◌, ◌*◌, ◌≤◌, ◌==◌, Bool, true, false, cond, List, [], ◌∷◌, ◌++◌, length, map, arith, length-append}
+use Rattle.std.proofs.Common.{ℕ, ◌+◌, ◌*◌, ◌≤◌, ◌==◌, Bool, true, false, cond}
+use Rattle.std.proofs.Common.{List, [], ◌∷◌, ◌++◌, length, map, arith, length-append}
 use Rattle.std.specs.List.{AllByRecursion, flat_map, join_with_byte}
 use Rattle.std.proofs.lemmas.Bool.Decides.{nat_tests}
 use Rattle.std.proofs.lemmas.List.Concat.{flat_map-append}
@@ -10,7 +11,8 @@ use Rattle.decision_script.specs.declared.item.Act.{Act}
 use Rattle.decision_script.specs.declared.item.Act.TheVariants.{Decide, Look}
 use Rattle.decision_script.specs.declared.item.Item.{Item}
 use Rattle.decision_script.specs.Stating.{IsAct, IsItem, IsNamed, analyst_name}
-use Rattle.decision_script.specs.Printing.{item_lines, line_text, section_before, words_of_act, words_of_change, words_of_section}
+use Rattle.decision_script.specs.Printing.{item_lines, line_text, section_before}
+use Rattle.decision_script.specs.Printing.{words_of_act, words_of_change, words_of_section}
 use Rattle.decision_script.proofs.Again.{AreKnown, AreNew}
 use Rattle.decision_script.proofs.Saying.{act_words, section_words}
 use Rattle.decision_script.proofs.Words.{IsWord}
@@ -47,24 +49,47 @@ act_length : (act : Act) → IsAct act → length (line_text (words_of_act act))
 act_length act h = omega (arith, line_length (words_of_act act) (act_words act h), few_words act)
 
 -- the sections at the top
-pub sections_length : (before more : List (List ℕ)) → AreNew before more → length (flat_map line_text (map words_of_section more)) ≤ 35 * length more
+pub sections_length : (before more : List (List ℕ)) → AreNew before more
+    → length (flat_map line_text (map words_of_section more)) ≤ 35 * length more
 sections_length before [] h = omega arith
 sections_length before (name ∷ more) h =
-    omega (arith, length-append (line_text (words_of_section name)) (flat_map line_text (map words_of_section more)), section_length name h.0, sections_length (before ++ name ∷ []) more h.2)
+    omega (
+      arith,
+      length-append (line_text (words_of_section name)) (flat_map line_text (map words_of_section more)),
+      section_length name h.0,
+      sections_length (before ++ name ∷ []) more h.2,
+    )
 
-section_before_length : (analysts : List (List ℕ)) (item : Item) → AreKnown analysts → IsItem (length analysts) item → (b : Bool)
+section_before_length : (analysts : List (List ℕ)) (item : Item) → AreKnown analysts → IsItem (length analysts) item
+    → (b : Bool)
     → length (flat_map line_text (cond b [] (words_of_section (analyst_name analysts item.analyst) ∷ []))) ≤ 35
 section_before_length analysts item known h true = omega arith
 section_before_length analysts item known h false =
-    omega (arith, length-append (line_text (words_of_section (analyst_name analysts item.analyst))) [], section_length (analyst_name analysts item.analyst) (known.named item.analyst h.low h.high))
+    omega (
+      arith,
+      length-append (line_text (words_of_section (analyst_name analysts item.analyst))) [],
+      section_length (analyst_name analysts item.analyst) (known.named item.analyst h.low h.high),
+    )
 
 -- the lines of the items
-pub items_length : (analysts : List (List ℕ)) (force : ℕ) (items : List Item) → AreKnown analysts → AllByRecursion (IsItem (length analysts)) items → length (flat_map line_text (item_lines analysts force items)) ≤ 172 * length items
+pub items_length : (analysts : List (List ℕ)) (force : ℕ) (items : List Item) → AreKnown analysts
+    → AllByRecursion (IsItem (length analysts)) items
+    → length (flat_map line_text (item_lines analysts force items)) ≤ 172 * length items
 items_length analysts force [] known h = omega arith
 items_length analysts force (i ∷ is) known h =
     let rest = flat_map line_text (item_lines analysts i.analyst is) in
-    let parts = flat_map-append line_text (section_before analysts force i) (words_of_act i.act ∷ item_lines analysts i.analyst is) in
+    let parts = flat_map-append line_text (section_before analysts force i)
+    (words_of_act i.act ∷ item_lines analysts i.analyst is) in
     let first = section_before_length analysts i known h.0 (i.analyst == force) in
-    let longer : length (flat_map line_text (section_before analysts force i) ++ (line_text (words_of_act i.act) ++ rest)) ≤ 172 * length (i ∷ is)
-    = omega (arith, first, length-append (flat_map line_text (section_before analysts force i)) (line_text (words_of_act i.act) ++ rest), length-append (line_text (words_of_act i.act)) rest, act_length i.act h.0.act, items_length analysts i.analyst is known h.1) in
+    let longer : length (flat_map line_text (section_before analysts force i)
+    ++ (line_text (words_of_act i.act) ++ rest)) ≤ 172 * length (i ∷ is)
+    = omega (
+      arith,
+      first,
+      length-append (flat_map line_text (section_before analysts force i))
+          (line_text (words_of_act i.act) ++ rest),
+      length-append (line_text (words_of_act i.act)) rest,
+      act_length i.act h.0.act,
+      items_length analysts i.analyst is known h.1,
+    ) in
     rw parts longer

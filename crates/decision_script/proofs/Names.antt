@@ -1,5 +1,6 @@
 -- The names of analysts, each of which is the first of its name.
-use Rattle.std.proofs.Common.{◌≡◌, ℕ, ◌-◌, ◌<◌, ◌≤◌, Bool, true, false, List, [], ◌∷◌, ◌++◌, length, get_or, refl, sym, subst, arith, Some, None, append_assoc, length-append}
+use Rattle.std.proofs.Common.{◌≡◌, ℕ, ◌-◌, ◌<◌, ◌≤◌, Bool, true, false, List, [], ◌∷◌}
+use Rattle.std.proofs.Common.{◌++◌, length, get_or, refl, sym, subst, arith, Some, None, append_assoc, length-append}
 use Rattle.std.specs.List.{All, AllPairs, position_or_len}
 use Rattle.std.specs.Str.{bytes_eq}
 use Rattle.std.proofs.lemmas.Grind.{common_steps}
@@ -17,20 +18,25 @@ abbrev AreDistinct : List (List ℕ) → Type 0
 AreDistinct names = AllPairs (λ a b. bytes_eq a b ≡ false) names
 
 -- a name behind others has no place among them
-unplaced : (before : List (List ℕ)) (name : List ℕ) (more : List (List ℕ)) → AreDistinct (before ++ name ∷ more) → place_of name before ≡ None
+unplaced : (before : List (List ℕ)) (name : List ℕ) (more : List (List ℕ)) → AreDistinct (before ++ name ∷ more)
+    → place_of name before ≡ None
 unplaced before name more h =
     let p : List ℕ → Bool = λ x. bytes_eq x name in
     let long = length-append before (name ∷ more) in
     let none : position_or_len p before ≡ length before = position_or_len_is p before (length before) [] (omega arith)
     (λ k lt. subst (λ x. bytes_eq x name ≡ false) (get_or_append_left before (name ∷ more) [] k lt)
-    (subst (λ x. bytes_eq (get_or (before ++ name ∷ more) k []) x ≡ false) (get_or-append_seam before name more []) (h k (length before) [] lt (omega (arith, long)))))
+    (subst (λ x. bytes_eq (get_or (before ++ name ∷ more) k []) x ≡ false) (get_or-append_seam before name more [])
+    (h k (length before) [] lt (omega (arith, long)))))
     (λ within. absurd (omega arith)) in
     grind (arith, common_steps)
 
 pub are_new : (before more : List (List ℕ)) → AreDistinct (before ++ more) → All IsNamed more → AreNew before more
 are_new before [] h named = tt
-are_new before (name ∷ more) h named =
-    (All-head IsNamed name more named, unplaced before name more h, are_new (before ++ name ∷ []) more (rw append_assoc h) (All-tail IsNamed name more named))
+are_new before (name ∷ more) h named = (
+  All-head IsNamed name more named,
+  unplaced before name more h,
+  are_new (before ++ name ∷ []) more (rw append_assoc h) (All-tail IsNamed name more named),
+)
 
 pub are_known : (names : List (List ℕ)) → AreDistinct names → All IsNamed names → AreKnown names
 are_known names h named = record {
@@ -43,6 +49,9 @@ are_known names h named = record {
         let name = analyst_name names a in
         let p : List ℕ → Bool = λ x. bytes_eq x name in
         let at : get_or names (a - 1) [] ≡ name = sym (unwrap_or-slice_get names (a - 1) []) in
-        let first : position_or_len p names ≡ a - 1 = position_or_len_is p names (a - 1) [] (omega arith) (λ k lt. subst (λ x. bytes_eq (get_or names k []) x ≡ false) at (h k (a - 1) [] lt (omega arith))) (λ within. subst (λ x. bytes_eq x name ≡ true) (sym at) ((bytes_eq-Decides name name).1 refl)) in
+        let first : position_or_len p names ≡ a - 1 =
+        position_or_len_is p names (a - 1) [] (omega arith)
+        (λ k lt. subst (λ x. bytes_eq (get_or names k []) x ≡ false) at (h k (a - 1) [] lt (omega arith)))
+        (λ within. subst (λ x. bytes_eq x name ≡ true) (sym at) ((bytes_eq-Decides name name).1 refl)) in
         let there : a - 1 < length names = omega arith in
         grind (arith, common_steps)

@@ -1,9 +1,11 @@
 -- What is written of a number is read as that number.
-use Rattle.std.proofs.Common.{◌≡◌, ℕ, ◌<◌, ◌≤◌, ◌^◌, ◌⊎◌, inl, inr, true, List, [], ◌∷◌, length, get_or, refl, ap, arith, zero, suc, Ok, Some, decimal}
+use Rattle.std.proofs.Common.{◌≡◌, ℕ, ◌<◌, ◌≤◌, ◌^◌, ◌⊎◌, inl, inr, true, List, []}
+use Rattle.std.proofs.Common.{◌∷◌, length, get_or, refl, ap, arith, zero, suc, Ok, Some, decimal}
 use Rattle.std.specs.List.{list_all}
 use Rattle.std.specs.Str.Parse.{digits_value}
 use Rattle.std.proofs.lemmas.Str.Parse.{IsNumeralModel, IsDigitsTest, numerals_by_value}
-use Rattle.std.proofs.lemmas.Fmt.{digits_decimal, digits_value-decimal, decimal_digit, first_decimal, decimal_nonempty, length-decimal-le}
+use Rattle.std.proofs.lemmas.Fmt.{digits_decimal, digits_value-decimal, decimal_digit}
+use Rattle.std.proofs.lemmas.Fmt.{first_decimal, decimal_nonempty, length-decimal-le}
 use Rattle.std.proofs.lemmas.Bool.{and_parts}
 use Rattle.std.proofs.lemmas.Bool.Decides.{nat_tests}
 use Rattle.sim_base.specs.Names.{is_digit}
@@ -16,14 +18,16 @@ use Rattle.decision_script.proofs.Words.{is_letter, IsWord}
 tells : IsDigitsTest (λ ds. list_all is_digit ds ≡ true)
 tells = record {
   empty = refl;
-  parts = λ c cs h. let (digit, rest) = and_parts (is_digit c) (list_all is_digit cs) h in (grind (arith, nat_tests), rest);
+  parts = λ c cs h. let (digit, rest) = and_parts (is_digit c) (list_all is_digit cs) h in
+      (grind (arith, nat_tests), rest);
   more = λ c cs range rest. grind (arith, nat_tests);
 }
 
 own : IsNumeralModel (λ ds. list_all is_digit ds ≡ true) (digits_value 10)
 own = numerals_by_value _ tells
 
-form : (ds : List ℕ) → list_all is_digit ds ≡ true → 0 < length ds → (length ds ≡ 1) ⊎ (48 < get_or ds 0 0) → has_number_form ds ≡ true
+form : (ds : List ℕ) → list_all is_digit ds ≡ true → 0 < length ds → (length ds ≡ 1) ⊎ (48 < get_or ds 0 0)
+    → has_number_form ds ≡ true
 form [] all some first = absurd (omega arith)
 form (d ∷ []) all some first = (and_parts (is_digit d) true all).0
 form (d ∷ e ∷ ds) all some first =
@@ -32,8 +36,10 @@ form (d ∷ e ∷ ds) all some first =
     grind (arith, nat_tests)
 
 pub form_of_decimal : (n : ℕ) → n < 2 ^ 64 → has_number_form (decimal n) ≡ true
-form_of_decimal zero h = form (decimal 0) (digits_decimal own 0 h) (decimal_nonempty 0 h) (inl (ap length (decimal_digit 0 (omega arith))))
-form_of_decimal (suc n) h = form (decimal (suc n)) (digits_decimal own (suc n) h) (decimal_nonempty (suc n) h) (inr (first_decimal (suc n) (omega arith) h))
+form_of_decimal zero h = form (decimal 0) (digits_decimal own 0 h) (decimal_nonempty 0 h)
+    (inl (ap length (decimal_digit 0 (omega arith))))
+form_of_decimal (suc n) h = form (decimal (suc n)) (digits_decimal own (suc n) h) (decimal_nonempty (suc n) h)
+    (inr (first_decimal (suc n) (omega arith) h))
 
 pub number-decimal : (n : ℕ) → n < 2 ^ 32 → number (decimal n) ≡ Some n
 number-decimal n h =

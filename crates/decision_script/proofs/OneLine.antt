@@ -14,23 +14,36 @@ pub record IsPart (text : List ℕ) (n : ℕ) (part : List ℕ) : Type 0 where
   pub at : part ≡ get_or (slice_split is_newline text) n part
 
 turn : (text : List ℕ) (n : ℕ) (part : List ℕ) → IsPart text n part → (r : Reading)
-    → after_lines (n + 1) r (drop n (lines text)) ≡ (after_line (n + 1) r (strip_carriage_return part) >>= λ next. after_lines (n + 1 + 1) next (drop (n + 1) (lines text)))
+    → after_lines (n + 1) r (drop n (lines text)) ≡ (after_line (n + 1) r (strip_carriage_return part) >>= λ next.
+    after_lines (n + 1 + 1) next (drop (n + 1) (lines text)))
 unfolding after_lines
 turn text n part h r =
     let within : n < length (lines text) = rw length-map h.within in
-    let at : get_or (lines text) n (strip_carriage_return part) ≡ strip_carriage_return part = get_or-map strip_carriage_return (slice_split is_newline text) n part (strip_carriage_return part) h.within ∙ ap strip_carriage_return (sym h.at) in
-    at_drop_more (after_lines (n + 1) r) (lines text) n (strip_carriage_return part) within ∙ ap (λ l. after_line (n + 1) r l >>= λ next. after_lines (n + 1 + 1) next (drop (n + 1) (lines text))) at
+    let at : get_or (lines text) n (strip_carriage_return part) ≡ strip_carriage_return part =
+    get_or-map strip_carriage_return (slice_split is_newline text) n part (strip_carriage_return part) h.within
+    ∙ ap strip_carriage_return (sym h.at) in
+    at_drop_more (after_lines (n + 1) r) (lines text) n (strip_carriage_return part) within
+    ∙ ap (λ l. after_line (n + 1) r l >>= λ next. after_lines (n + 1 + 1) next (drop (n + 1) (lines text))) at
 
-pub line_read : (text : List ℕ) (n : ℕ) (part : List ℕ) → IsPart text n part → (r next : Reading) (all : Result Reading ScriptFault)
-    → after_lines (n + 1) r (drop n (lines text)) ≡ all → after_line (n + 1) r (strip_carriage_return part) ≡ Ok next → after_lines (n + 1 + 1) next (drop (n + 1) (lines text)) ≡ all
-line_read text n part h r next all same read = ap (λ x. x >>= λ next. after_lines (n + 1 + 1) next (drop (n + 1) (lines text))) (sym read) ∙ sym (turn text n part h r) ∙ same
+pub line_read : (text : List ℕ) (n : ℕ) (part : List ℕ) → IsPart text n part
+    → (r next : Reading) (all : Result Reading ScriptFault)
+    → after_lines (n + 1) r (drop n (lines text)) ≡ all → after_line (n + 1) r (strip_carriage_return part) ≡ Ok next
+    → after_lines (n + 1 + 1) next (drop (n + 1) (lines text)) ≡ all
+line_read text n part h r next all same read =
+    ap (λ x. x >>= λ next. after_lines (n + 1 + 1) next (drop (n + 1) (lines text))) (sym read)
+    ∙ sym (turn text n part h r) ∙ same
 
-pub line_refused : (text : List ℕ) (n : ℕ) (part : List ℕ) → IsPart text n part → (r : Reading) (e : ScriptFault) (all : Result Reading ScriptFault)
-    → after_lines (n + 1) r (drop n (lines text)) ≡ all → after_line (n + 1) r (strip_carriage_return part) ≡ Err e → all ≡ Err e
-line_refused text n part h r e all same refused = sym same ∙ turn text n part h r ∙ ap (λ x. x >>= λ next. after_lines (n + 1 + 1) next (drop (n + 1) (lines text))) refused
+pub line_refused : (text : List ℕ) (n : ℕ) (part : List ℕ) → IsPart text n part
+    → (r : Reading) (e : ScriptFault) (all : Result Reading ScriptFault)
+    → after_lines (n + 1) r (drop n (lines text)) ≡ all → after_line (n + 1) r (strip_carriage_return part) ≡ Err e
+    → all ≡ Err e
+line_refused text n part h r e all same refused = sym same ∙ turn text n part h r
+    ∙ ap (λ x. x >>= λ next. after_lines (n + 1 + 1) next (drop (n + 1) (lines text))) refused
 
-pub lines_read : (text : List ℕ) (n : ℕ) (r : Reading) (all : Result Reading ScriptFault) → n ≡ length (slice_split is_newline text) → after_lines (n + 1) r (drop n (lines text)) ≡ all → all ≡ Ok r
+pub lines_read : (text : List ℕ) (n : ℕ) (r : Reading) (all : Result Reading ScriptFault)
+    → n ≡ length (slice_split is_newline text) → after_lines (n + 1) r (drop n (lines text)) ≡ all → all ≡ Ok r
 unfolding after_lines
 lines_read text n r all end same =
-    let none : drop n (lines text) ≡ [] = drop_all n (lines text) (omega (arith, length-map (slice_split is_newline text) strip_carriage_return)) in
+    let none : drop n (lines text) ≡ [] =
+    drop_all n (lines text) (omega (arith, length-map (slice_split is_newline text) strip_carriage_return)) in
     sym same ∙ ap (after_lines (n + 1) r) none

@@ -1,5 +1,6 @@
 -- A clone's own script, item after item from the last one.
-use Rattle.std.proofs.Common.{◌≡◌, ℕ, ◌+◌, ◌<◌, ◌≤◌, Bool, true, false, List, [], ◌∷◌, ◌++◌, length, take, reverse, get_or, sym, ap, ◌∙◌, arith}
+use Rattle.std.proofs.Common.{◌≡◌, ℕ, ◌+◌, ◌<◌, ◌≤◌, Bool, true, false, List, []}
+use Rattle.std.proofs.Common.{◌∷◌, ◌++◌, length, take, reverse, get_or, sym, ap, ◌∙◌, arith}
 use Rattle.std.specs.List.{All}
 use Rattle.std.specs.Str.{bytes_eq}
 use Rattle.std.proofs.lemmas.List.{take_more, take_all, reverse-append, reverse-reverse}
@@ -12,32 +13,47 @@ use Rattle.decision_script.specs.Stating.{ScriptView, IsItem, IsScript}
 use Rattle.decision_script.specs.Alone.{object, history_if, act_history, item_history, alone_of}
 
 -- one item more, before those that were taken
-pub history_more : (items : List Item) (who : List ℕ) (n : ℕ) (item : Item) (history : List ℕ × List Item) → n < length (reverse items) → item ≡ get_or (reverse items) n item → history ≡ item_history who (reverse (take n (reverse items)))
+pub history_more : (items : List Item) (who : List ℕ) (n : ℕ) (item : Item) (history : List ℕ × List Item)
+    → n < length (reverse items) → item ≡ get_or (reverse items) n item
+    → history ≡ item_history who (reverse (take n (reverse items)))
     → act_history item item.act history ≡ item_history who (reverse (take (n + 1) (reverse items)))
 history_more items who n item history within at same =
-    let next : take (n + 1) (reverse items) ≡ take n (reverse items) ++ item ∷ [] = take_more (reverse items) n item within ∙ ap (λ x. take n (reverse items) ++ x ∷ []) (sym at) in
-    ap (act_history item item.act) same ∙ ap (item_history who) (sym (reverse-append (take n (reverse items)) (item ∷ []))) ∙ ap (λ xs. item_history who (reverse xs)) (sym next)
+    let next : take (n + 1) (reverse items) ≡ take n (reverse items) ++ item ∷ [] =
+    take_more (reverse items) n item within ∙ ap (λ x. take n (reverse items) ++ x ∷ []) (sym at) in
+    ap (act_history item item.act) same
+    ∙ ap (item_history who) (sym (reverse-append (take n (reverse items)) (item ∷ [])))
+    ∙ ap (λ xs. item_history who (reverse xs)) (sym next)
 
 -- all items
-pub history_all : (items : List Item) (who : List ℕ) (n : ℕ) (history : List ℕ × List Item) → n ≡ length (reverse items) → history ≡ item_history who (reverse (take n (reverse items))) → history ≡ item_history who items
-history_all items who n history end same = same ∙ ap (λ xs. item_history who (reverse xs)) (take_all n (reverse items) (omega arith)) ∙ ap (item_history who) (reverse-reverse items)
+pub history_all : (items : List Item) (who : List ℕ) (n : ℕ) (history : List ℕ × List Item)
+    → n ≡ length (reverse items) → history ≡ item_history who (reverse (take n (reverse items)))
+    → history ≡ item_history who items
+history_all items who n history end same =
+    same ∙ ap (λ xs. item_history who (reverse xs)) (take_all n (reverse items) (omega arith))
+    ∙ ap (item_history who) (reverse-reverse items)
 
 -- no more items than before, each of which was one
 record IsPart (P : Item → Type 0) (items own : List Item) : Type 0 where
   pub fewer : length own ≤ length items
   pub all : All P own
 
-part_if : (P : Item → Type 0) (b : Bool) (item : Item) (target : List ℕ) (items : List Item) (later : List ℕ × List Item) → P item → IsPart P items later.1 → IsPart P (item ∷ items) (history_if b item target later).1
-part_if P true item target items later is h = record { fewer = omega (arith, h.fewer); all = All-cons P item later.1 is h.all }
+part_if : (P : Item → Type 0) (b : Bool) (item : Item) (target : List ℕ) (items : List Item)
+    (later : List ℕ × List Item) → P item → IsPart P items later.1
+    → IsPart P (item ∷ items) (history_if b item target later).1
+part_if P true item target items later is h =
+    record { fewer = omega (arith, h.fewer); all = All-cons P item later.1 is h.all }
 part_if P false item target items later is h = record { fewer = omega (arith, h.fewer); all = h.all }
 
-part_act : (P : Item → Type 0) (item : Item) (act : Act) (items : List Item) (later : List ℕ × List Item) → P item → IsPart P items later.1 → IsPart P (item ∷ items) (act_history item act later).1
+part_act : (P : Item → Type 0) (item : Item) (act : Act) (items : List Item) (later : List ℕ × List Item) → P item
+    → IsPart P items later.1 → IsPart P (item ∷ items) (act_history item act later).1
 part_act P item (Decide d) items later is h = part_if P (bytes_eq (object d) later.0) item (subject d) items later is h
 part_act P item (Look who station) items later is h = record { fewer = omega (arith, h.fewer); all = h.all }
 
-history_part : (P : Item → Type 0) (who : List ℕ) (items : List Item) → All P items → IsPart P items (item_history who items).1
+history_part : (P : Item → Type 0) (who : List ℕ) (items : List Item) → All P items
+    → IsPart P items (item_history who items).1
 history_part P who [] h = record { fewer = omega arith; all = All-nil P }
-history_part P who (i ∷ is) h = part_act P i i.act is (item_history who is) (All-head P i is h) (history_part P who is (All-tail P i is h))
+history_part P who (i ∷ is) h = part_act P i i.act is (item_history who is) (All-head P i is h)
+    (history_part P who is (All-tail P i is h))
 
 -- a clone's own script is one
 pub alone_is_script : (s : ScriptView) (who : List ℕ) → IsScript s → IsScript (alone_of s who)

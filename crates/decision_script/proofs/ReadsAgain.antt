@@ -1,5 +1,6 @@
 -- The canonical text of every script is read as that script.
-use Rattle.std.proofs.Common.{◌≡◌, ℕ, ◌≤◌, false, nat_lt, List, [], ◌∷◌, ◌++◌, length, map, sym, ap, ◌∙◌, subst, arith, codes, Ok, Err, length-append, cond}
+use Rattle.std.proofs.Common.{◌≡◌, ℕ, ◌≤◌, false, nat_lt, List, [], ◌∷◌, ◌++◌, length, map}
+use Rattle.std.proofs.Common.{sym, ap, ◌∙◌, subst, arith, codes, Ok, Err, length-append, cond}
 use Rattle.std.specs.List.{flat_map}
 use Rattle.std.proofs.lemmas.Bool.Decides.{nat_tests}
 use Rattle.std.proofs.lemmas.List.Elements.{All-tail, recursion_from_All}
@@ -16,13 +17,17 @@ use Rattle.decision_script.proofs.Lengths.{items_length, sections_length}
 use Rattle.decision_script.proofs.Names.{are_known, are_new}
 use Rattle.decision_script.proofs.TextParts.{text_in_parts}
 
-read_of_text : (text : List ℕ) (t : Reading) → length text ≤ 1048576 → after_lines 1 opening (lines text) ≡ Ok t → script text ≡ Ok (script_of t)
+read_of_text : (text : List ℕ) (t : Reading) → length text ≤ 1048576 → after_lines 1 opening (lines text) ≡ Ok t
+    → script text ≡ Ok (script_of t)
 read_of_text text t short read =
     let fits : nat_lt 1048576 (length text) ≡ false = grind (arith, nat_tests) in
-    ap (λ b. cond b (Err TooLong) (after_lines 1 opening (lines text) >>= λ r. Ok (script_of r))) fits ∙ ap (λ x. x >>= λ r. Ok (script_of r)) read
+    ap (λ b. cond b (Err TooLong) (after_lines 1 opening (lines text) >>= λ r. Ok (script_of r))) fits
+    ∙ ap (λ x. x >>= λ r. Ok (script_of r)) read
 
 -- with main first
-of_main : (more : List (List ℕ)) (items : List Item) → IsScript (record { analysts = codes "main" ∷ more; items = items }) → ReadAgain (record { analysts = codes "main" ∷ more; items = items })
+of_main : (more : List (List ℕ)) (items : List Item)
+    → IsScript (record { analysts = codes "main" ∷ more; items = items })
+    → ReadAgain (record { analysts = codes "main" ∷ more; items = items })
 of_main more items h =
     let s : ScriptView = record { analysts = codes "main" ∷ more; items = items } in
     let new = are_new (codes "main" ∷ []) more h.distinct (All-tail IsNamed (codes "main") more h.named) in
@@ -31,7 +36,14 @@ of_main more items h =
     let few : length more ≤ 15 = omega (arith, h.few_analysts) in
     let front = flat_map line_text (map words_of_section more) in
     let back = flat_map line_text (item_lines (codes "main" ∷ more) (length (codes "main" ∷ more)) items) in
-    let short : length (front ++ back) ≤ 1048576 = omega (arith, h.few_items, length-append front back, sections_length (codes "main" ∷ []) more new, items_length (codes "main" ∷ more) (length (codes "main" ∷ more)) items known valid) in
+    let short : length (front ++ back) ≤ 1048576 =
+    omega (
+      arith,
+      h.few_items,
+      length-append front back,
+      sections_length (codes "main" ∷ []) more new,
+      items_length (codes "main" ∷ more) (length (codes "main" ∷ more)) items known valid,
+    ) in
     let (t, read, analysts, same) = text_read more items new known few h.few_items valid in
     record {
       again = script_of t;
@@ -41,11 +53,13 @@ of_main more items h =
     }
 
 -- whichever is first
-of_first : (analysts : List (List ℕ)) (items : List Item) → IsScript (record { analysts = analysts; items = items }) → ReadAgain (record { analysts = analysts; items = items })
+of_first : (analysts : List (List ℕ)) (items : List Item) → IsScript (record { analysts = analysts; items = items })
+    → ReadAgain (record { analysts = analysts; items = items })
 of_first [] items h = absurd (let none = h.first in cc)
 of_first (a ∷ more) items h =
     let main : a ≡ codes "main" = (let first = h.first in cc) in
-    subst (λ a. IsScript (record { analysts = a ∷ more; items = items }) → ReadAgain (record { analysts = a ∷ more; items = items })) (sym main) (of_main more items) h
+    subst (λ a. IsScript (record { analysts = a ∷ more; items = items })
+    → ReadAgain (record { analysts = a ∷ more; items = items })) (sym main) (of_main more items) h
 
 pub canonical_text_reads_again : CanonicalTextReadsAgain
 canonical_text_reads_again s h = of_first s.analysts s.items h

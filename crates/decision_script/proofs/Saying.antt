@@ -20,32 +20,42 @@ pub saying-section : (name : List ℕ) → IsNamed name → saying (words_of_sec
 unfolding section
 saying-section name h = rw h refl
 
-saying-fork : (new old : List ℕ) → IsNamed new → IsNamed old → saying (words_of_act (Decide (Fork new old))) ≡ Ok (Says (Decide (Fork new old)))
+saying-fork : (new old : List ℕ) → IsNamed new → IsNamed old
+    → saying (words_of_act (Decide (Fork new old))) ≡ Ok (Says (Decide (Fork new old)))
 unfolding fork
 saying-fork new old n o = rw (n, o) refl
 
-saying-look : (who station : List ℕ) → IsNamed who → IsNamed station → saying (words_of_act (Look who station)) ≡ Ok (Says (Look who station))
+saying-look : (who station : List ℕ) → IsNamed who → IsNamed station
+    → saying (words_of_act (Look who station)) ≡ Ok (Says (Look who station))
 unfolding look
 saying-look who station w s = rw (w, s) refl
 
-saying-end : (who : List ℕ) (at : ℕ) → IsNamed who → at < 2 ^ 32 → saying (words_of_act (Decide (End who at))) ≡ Ok (Says (Decide (End who at)))
+saying-end : (who : List ℕ) (at : ℕ) → IsNamed who → at < 2 ^ 32
+    → saying (words_of_act (Decide (End who at))) ≡ Ok (Says (Decide (End who at)))
 unfolding end
 saying-end who at w h = rw (w, word_number-decimal at h) refl
 
-saying-set : (who station : List ℕ) (at a b : ℕ) (param : Param) → IsNamed who → at < 2 ^ 32 → IsNamed station → IsChange param a b
-    → saying (words_of_act (Decide (Set who at station (record { param = param; a = a; b = b })))) ≡ Ok (Says (Decide (Set who at station (record { param = param; a = a; b = b }))))
+saying-set : (who station : List ℕ) (at a b : ℕ) (param : Param) → IsNamed who → at < 2 ^ 32 → IsNamed station
+    → IsChange param a b
+    → saying (words_of_act (Decide (Set who at station (record { param = param; a = a; b = b }))))
+    ≡ Ok (Says (Decide (Set who at station (record { param = param; a = a; b = b }))))
 unfolding set one_value two_values
-saying-set who station at a b Every w t s c = rw (w, s, word_number-decimal at t, word_number-decimal a c.0, word_number-decimal b c.1) refl
-saying-set who station at a b Service w t s c = rw (w, s, word_number-decimal at t, word_number-decimal a c.0, word_number-decimal b c.1) refl
-saying-set who station at a b Hold w t s c = rw (w, s, word_number-decimal at t, word_number-decimal a c.0, word_number-decimal b c.1) refl
+saying-set who station at a b Every w t s c =
+    rw (w, s, word_number-decimal at t, word_number-decimal a c.0, word_number-decimal b c.1) refl
+saying-set who station at a b Service w t s c =
+    rw (w, s, word_number-decimal at t, word_number-decimal a c.0, word_number-decimal b c.1) refl
+saying-set who station at a b Hold w t s c =
+    rw (w, s, word_number-decimal at t, word_number-decimal a c.0, word_number-decimal b c.1) refl
 saying-set who station at a b Servers w t s c = rw (w, s, word_number-decimal at t, word_number-decimal a c.0, c.1) refl
 saying-set who station at a b Room w t s c = rw (w, s, word_number-decimal at t, word_number-decimal a c.0, c.1) refl
-saying-set who station at a b Weight w t s c = rw (w, s, word_number-decimal at t, word_number-decimal a c.0, word_number-decimal b c.1) refl
+saying-set who station at a b Weight w t s c =
+    rw (w, s, word_number-decimal at t, word_number-decimal a c.0, word_number-decimal b c.1) refl
 
 pub saying-act : (act : Act) → IsAct act → saying (words_of_act act) ≡ Ok (Says act)
 saying-act (Look who station) h = saying-look who station h.0 h.1
 saying-act (Decide (Fork new old)) h = saying-fork new old h.0 h.1
-saying-act (Decide (Set who at station change)) h = saying-set who station at change.a change.b change.param h.0 h.1 h.2 h.3
+saying-act (Decide (Set who at station change)) h =
+    saying-set who station at change.a change.b change.param h.0 h.1 h.2 h.3
 saying-act (Decide (End who at)) h = saying-end who at h.0 h.1
 
 letters_of_name : (bs : List ℕ) → list_all is_name_byte bs ≡ true → list_all is_letter bs ≡ true
@@ -61,21 +71,62 @@ name_is_word (b ∷ bs) h =
     let (named, short) = and_parts (is_lower b && list_all is_name_byte bs) (nat_le (length bs) 15) h in
     let (lower, rest) = and_parts (is_lower b) (list_all is_name_byte bs) named in
     let letter : is_letter b ≡ true = grind (arith, nat_tests) in
-    record { some = grind (arith, nat_tests); letters = rw (letter, letters_of_name bs rest) refl; short = grind (arith, nat_tests) }
+    record {
+      some = grind (arith, nat_tests);
+      letters = rw (letter, letters_of_name bs rest) refl;
+      short = grind (arith, nat_tests);
+    }
 
 change_words : (param : Param) (a b : ℕ) → IsChange param a b → AllByRecursion IsWord (words_of_change param a b)
-change_words Every a b h = (record { some = refl; letters = refl; short = refl }, (decimal_is_word a (omega arith), (decimal_is_word b (omega arith), tt)))
-change_words Service a b h = (record { some = refl; letters = refl; short = refl }, (decimal_is_word a (omega arith), (decimal_is_word b (omega arith), tt)))
-change_words Hold a b h = (record { some = refl; letters = refl; short = refl }, (decimal_is_word a (omega arith), (decimal_is_word b (omega arith), tt)))
-change_words Servers a b h = (record { some = refl; letters = refl; short = refl }, (decimal_is_word a (omega arith), tt))
+change_words Every a b h = (
+  record { some = refl; letters = refl; short = refl },
+  (decimal_is_word a (omega arith), (decimal_is_word b (omega arith), tt)),
+)
+change_words Service a b h = (
+  record { some = refl; letters = refl; short = refl },
+  (decimal_is_word a (omega arith), (decimal_is_word b (omega arith), tt)),
+)
+change_words Hold a b h = (
+  record { some = refl; letters = refl; short = refl },
+  (decimal_is_word a (omega arith), (decimal_is_word b (omega arith), tt)),
+)
+change_words Servers a b h = (
+  record { some = refl; letters = refl; short = refl },
+  (decimal_is_word a (omega arith), tt),
+)
 change_words Room a b h = (record { some = refl; letters = refl; short = refl }, (decimal_is_word a (omega arith), tt))
-change_words Weight a b h = (record { some = refl; letters = refl; short = refl }, (decimal_is_word a (omega arith), (decimal_is_word b (omega arith), tt)))
+change_words Weight a b h = (
+  record { some = refl; letters = refl; short = refl },
+  (decimal_is_word a (omega arith), (decimal_is_word b (omega arith), tt)),
+)
 
 pub act_words : (act : Act) → IsAct act → AllByRecursion IsWord (words_of_act act)
-act_words (Look who station) h = (record { some = refl; letters = refl; short = refl }, (name_is_word who h.0, (name_is_word station h.1, tt)))
-act_words (Decide (Fork new old)) h = (record { some = refl; letters = refl; short = refl }, (name_is_word new h.0, (record { some = refl; letters = refl; short = refl }, (name_is_word old h.1, tt))))
-act_words (Decide (Set who at station change)) h = (record { some = refl; letters = refl; short = refl }, (name_is_word who h.0, (record { some = refl; letters = refl; short = refl }, (decimal_is_word at (omega arith), (name_is_word station h.2, change_words change.param change.a change.b h.3)))))
-act_words (Decide (End who at)) h = (record { some = refl; letters = refl; short = refl }, (name_is_word who h.0, (record { some = refl; letters = refl; short = refl }, (decimal_is_word at (omega arith), tt))))
+act_words (Look who station) h =
+    (record { some = refl; letters = refl; short = refl }, (name_is_word who h.0, (name_is_word station h.1, tt)))
+act_words (Decide (Fork new old)) h = (
+  record { some = refl; letters = refl; short = refl },
+  (name_is_word new h.0, (record { some = refl; letters = refl; short = refl }, (name_is_word old h.1, tt))),
+)
+act_words (Decide (Set who at station change)) h = (
+  record { some = refl; letters = refl; short = refl },
+  (
+    name_is_word who h.0,
+    (
+      record { some = refl; letters = refl; short = refl },
+      (decimal_is_word at (omega arith), (name_is_word station h.2, change_words change.param change.a change.b h.3)),
+    ),
+  ),
+)
+act_words (Decide (End who at)) h = (
+  record { some = refl; letters = refl; short = refl },
+  (
+    name_is_word who h.0,
+    (
+      record { some = refl; letters = refl; short = refl },
+      (decimal_is_word at (omega arith), tt),
+    ),
+  ),
+)
 
 pub section_words : (name : List ℕ) → IsNamed name → AllByRecursion IsWord (words_of_section name)
 section_words name h = (record { some = refl; letters = refl; short = refl }, (name_is_word name h, tt))

@@ -1,5 +1,7 @@
--- Words that are joined by spaces are these words again, and lines that are written one after the other are these lines.
-use Rattle.std.proofs.Common.{◌≡◌, ℕ, ◌&&◌, Bool, true, false, nat_le, List, [], ◌∷◌, ◌++◌, length, map, filter, refl, ap, ◌∙◌, arith, cond, nat_lt, nat_eq, slice_index, zero, suc, append_assoc, ◌-◌}
+-- Words that are joined by spaces are these words again, and lines that are written one after the other are these
+-- lines.
+use Rattle.std.proofs.Common.{◌≡◌, ℕ, ◌&&◌, Bool, true, false, nat_le, List, [], ◌∷◌, ◌++◌, length, map, filter, refl}
+use Rattle.std.proofs.Common.{ap, ◌∙◌, arith, cond, nat_lt, nat_eq, slice_index, zero, suc, append_assoc, ◌-◌}
 use Rattle.std.specs.List.{slice_split, onto_first, join_with_byte, list_all, AllByRecursion, flat_map}
 use Rattle.std.proofs.lemmas.List.Folds.{list_all-append}
 use Rattle.std.specs.Str.Lines.{strip_carriage_return}
@@ -28,13 +30,16 @@ is_printed b = nat_le 32 b && nat_le b 126
 abbrev pub Excludes : (ℕ → Bool) → (ℕ → Bool) → Type 0
 Excludes q p = (b : ℕ) → q b ≡ true → p b ≡ false
 
-pub split_at : (q p : ℕ → Bool) (word rest : List ℕ) (y : ℕ) → Excludes q p → list_all q word ≡ true → p y ≡ true → slice_split p (word ++ (y ∷ rest)) ≡ word ∷ slice_split p rest
+pub split_at : (q p : ℕ → Bool) (word rest : List ℕ) (y : ℕ) → Excludes q p → list_all q word ≡ true → p y ≡ true
+    → slice_split p (word ++ (y ∷ rest)) ≡ word ∷ slice_split p rest
 split_at q p [] rest y passes h stop = slice_split-cons_yes p y rest stop
 split_at q p (b ∷ bs) rest y passes h stop =
     let (letter, letters) = and_parts (q b) (list_all q bs) h in
-    slice_split-cons_no p b (bs ++ (y ∷ rest)) (passes b letter) ∙ ap (onto_first b) (split_at q p bs rest y passes letters stop)
+    slice_split-cons_no p b (bs ++ (y ∷ rest)) (passes b letter)
+    ∙ ap (onto_first b) (split_at q p bs rest y passes letters stop)
 
-pub split_none : (q p : ℕ → Bool) (word : List ℕ) → Excludes q p → list_all q word ≡ true → slice_split p word ≡ word ∷ []
+pub split_none : (q p : ℕ → Bool) (word : List ℕ) → Excludes q p → list_all q word ≡ true
+    → slice_split p word ≡ word ∷ []
 split_none q p [] passes h = refl
 split_none q p (b ∷ bs) passes h =
     let (letter, letters) = and_parts (q b) (list_all q bs) h in
@@ -46,12 +51,14 @@ blank_passes b h = grind (arith, nat_tests)
 pub newline_passes : Excludes is_printed is_newline
 newline_passes b h = grind (arith, nat_tests)
 
-pub filter_yes : (word : List ℕ) (rest : List (List ℕ)) → has_bytes word ≡ true → filter has_bytes (word ∷ rest) ≡ word ∷ filter has_bytes rest
+pub filter_yes : (word : List ℕ) (rest : List (List ℕ)) → has_bytes word ≡ true
+    → filter has_bytes (word ∷ rest) ≡ word ∷ filter has_bytes rest
 filter_yes word rest h = ap (λ b. cond b (word ∷ filter has_bytes rest) (filter has_bytes rest)) h
 
 pub words-join : (ws : List (List ℕ)) → AllByRecursion IsWord ws → words (join_with_byte 32 ws) ≡ ws
 words-join [] h = refl
-words-join (w ∷ []) h = ap (filter has_bytes) (split_none is_letter is_blank w blank_passes h.0.letters) ∙ filter_yes w [] h.0.some
+words-join (w ∷ []) h = ap (filter has_bytes) (split_none is_letter is_blank w blank_passes h.0.letters)
+    ∙ filter_yes w [] h.0.some
 words-join (w ∷ v ∷ ws) h =
     ap (filter has_bytes) (split_at is_letter is_blank w (join_with_byte 32 (v ∷ ws)) 32 blank_passes h.0.letters refl)
     ∙ filter_yes w (slice_split is_blank (join_with_byte 32 (v ∷ ws))) h.0.some
@@ -67,7 +74,8 @@ printed (b ∷ bs) h =
 pub printed_join : (ws : List (List ℕ)) → AllByRecursion IsWord ws → list_all is_printed (join_with_byte 32 ws) ≡ true
 printed_join [] h = refl
 printed_join (w ∷ []) h = printed w h.0.letters
-printed_join (w ∷ v ∷ ws) h = list_all-append is_printed w (32 ∷ join_with_byte 32 (v ∷ ws)) ∙ rw (printed w h.0.letters, printed_join (v ∷ ws) h.1) refl
+printed_join (w ∷ v ∷ ws) h = list_all-append is_printed w (32 ∷ join_with_byte 32 (v ∷ ws))
+    ∙ rw (printed w h.0.letters, printed_join (v ∷ ws) h.1) refl
 
 pub printed_is_ascii : (bs : List ℕ) → list_all is_printed bs ≡ true → is_ascii bs ≡ true
 printed_is_ascii [] h = refl
@@ -90,10 +98,13 @@ pub line_saying-join : (ws : List (List ℕ)) → AllByRecursion IsWord ws → l
 line_saying-join ws h = rw (printed_is_ascii (join_with_byte 32 ws) (printed_join ws h), words-join ws h) refl
 
 -- the lines of a text that is written line by line
-pub lines-text : (ls : List (List (List ℕ))) → AllByRecursion (AllByRecursion IsWord) ls → lines (flat_map line_text ls) ≡ map (join_with_byte 32) ls ++ ([] ∷ [])
+pub lines-text : (ls : List (List (List ℕ))) → AllByRecursion (AllByRecursion IsWord) ls
+    → lines (flat_map line_text ls) ≡ map (join_with_byte 32) ls ++ ([] ∷ [])
 lines-text [] h = refl
 lines-text (ws ∷ ls) h =
     ap lines (append_assoc (join_with_byte 32 ws) (10 ∷ []) (flat_map line_text ls))
-    ∙ ap (map strip_carriage_return) (split_at is_printed is_newline (join_with_byte 32 ws) (flat_map line_text ls) 10 newline_passes (printed_join ws h.0) refl)
+    ∙ ap (map strip_carriage_return)
+    (split_at is_printed is_newline (join_with_byte 32 ws) (flat_map line_text ls) 10 newline_passes
+    (printed_join ws h.0) refl)
     ∙ ap (λ l. l ∷ lines (flat_map line_text ls)) (strip-printed (join_with_byte 32 ws) (printed_join ws h.0))
     ∙ ap (λ rest. join_with_byte 32 ws ∷ rest) (lines-text ls h.1)

@@ -20,7 +20,8 @@ abbrev pub history_if : {A : Type 0} → Bool → A → List ℕ → List ℕ ×
 history_if true x target later = (target, x ∷ later.1)
 history_if false x target later = later
 
--- the history of a clone: the clone that it goes back to before these decisions, and those of them that it has, each for being on the clone of that time
+-- the history of a clone: the clone that it goes back to before these decisions, and those of them that it has, each
+-- for being on the clone of that time
 abbrev pub history : List ℕ → List Decision → List ℕ × List Decision
 history who [] = (who, [])
 history who (d ∷ ds) = history_if (bytes_eq (object d) (history who ds).0) d (subject d) (history who ds)

@@ -20,7 +20,8 @@ set_service who at a b = Decide (Set who at (codes "desk") (record { param = Ser
 
 -- two clones of the base, of which each gets a faster desk
 abbrev pub two_clones_text : List ℕ
-two_clones_text = text_of (codes "fork a from base" ∷ codes "fork b from base" ∷ codes "set a at 8 desk service 2 2" ∷ codes "set b at 8 desk service 2 2" ∷ [])
+two_clones_text = text_of (codes "fork a from base" ∷ codes "fork b from base" ∷ codes
+    "set a at 8 desk service 2 2" ∷ codes "set b at 8 desk service 2 2" ∷ [])
 
 abbrev pub two_clones : ScriptView
 two_clones = record {
@@ -37,7 +38,8 @@ b_alone_text = text_of (codes "fork b from base" ∷ codes "set b at 8 desk serv
 
 -- a clone of a clone: it takes over what was decided for the first before the fork
 abbrev pub clone_of_clone_text : List ℕ
-clone_of_clone_text = text_of (codes "fork a from base" ∷ codes "set a at 8 desk service 2 2" ∷ codes "fork b from a" ∷ codes "set a at 9 desk service 3 3" ∷ codes "look b desk" ∷ codes "end b at 12" ∷ [])
+clone_of_clone_text = text_of (codes "fork a from base" ∷ codes "set a at 8 desk service 2 2" ∷ codes
+    "fork b from a" ∷ codes "set a at 9 desk service 3 3" ∷ codes "look b desk" ∷ codes "end b at 12" ∷ [])
 
 abbrev pub clone_of_clone : ScriptView
 clone_of_clone = record {
@@ -51,20 +53,25 @@ clone_of_clone = record {
 }
 
 abbrev pub clone_of_clone_alone_text : List ℕ
-clone_of_clone_alone_text = text_of (codes "fork a from base" ∷ codes "set a at 8 desk service 2 2" ∷ codes "fork b from a" ∷ codes "end b at 12" ∷ [])
+clone_of_clone_alone_text = text_of
+    (codes "fork a from base" ∷ codes "set a at 8 desk service 2 2" ∷ codes "fork b from a" ∷ codes "end b at 12" ∷ [])
 
 -- two analysts, and a comment
 abbrev pub two_planners_text : List ℕ
-two_planners_text = text_of (codes "# two planners" ∷ codes "fork fast from base" ∷ codes "analyst ben" ∷ codes "look   fast desk" ∷ [])
+two_planners_text = text_of (codes "# two planners" ∷ codes "fork fast from base" ∷ codes "analyst ben" ∷ codes
+    "look   fast desk" ∷ [])
 
 abbrev pub two_planners : ScriptView
 two_planners = record {
   analysts = codes "main" ∷ codes "ben" ∷ [];
-  items = item_at 2 1 (Decide (Fork (codes "fast") (codes "base"))) ∷ item_at 4 2 (Look (codes "fast") (codes "desk")) ∷ [];
+  items = item_at 2 1 (Decide (Fork (codes "fast") (codes "base"))) ∷ item_at 4 2
+      (Look (codes "fast") (codes "desk")) ∷ [];
 }
 
 abbrev pub two_planners_canonical : List ℕ
-two_planners_canonical = text_of (codes "analyst ben" ∷ codes "analyst main" ∷ codes "fork fast from base" ∷ codes "analyst ben" ∷ codes "look fast desk" ∷ [])
+two_planners_canonical = text_of
+    (codes "analyst ben" ∷ codes "analyst main" ∷ codes "fork fast from base" ∷ codes "analyst ben" ∷ codes
+    "look fast desk" ∷ [])
 
 -- carriage returns, an empty line, tabs, a section, and a last line without a line feed
 abbrev pub loose_text : List ℕ

@@ -1,7 +1,8 @@
 -- What is told of a fault.
 use Rattle.std.specs.Prelude.{ℕ}
 use Rattle.decision_script.specs.declared.fault.ScriptFault.{ScriptFault}
-use Rattle.decision_script.specs.declared.fault.ScriptFault.TheVariants.{TooLong, NotAscii, BadLine, BadNumber, TooManyLines, TooManyAnalysts, NoMemory}
+use Rattle.decision_script.specs.declared.fault.ScriptFault.TheVariants.{TooLong, NotAscii, BadLine, BadNumber}
+use Rattle.decision_script.specs.declared.fault.ScriptFault.TheVariants.{TooManyLines, TooManyAnalysts, NoMemory}
 
 -- the numbers of the refusals
 abbrev pub fault_number : ScriptFault → ℕ

@@ -1,5 +1,6 @@
 -- The lines of a text, the words of a line, and the number that a word writes.
-use Rattle.std.specs.Prelude.{◌||◌, ◌==◌, ◌&&◌, ℕ, Bool, false, not, nat_le, nat_lt, if◌then◌else◌, List, [], ◌∷◌, length, map, filter, Option, Some, None}
+use Rattle.std.specs.Prelude.{◌||◌, ◌==◌, ◌&&◌, ℕ, Bool, false, not, nat_le, nat_lt, if◌then◌else◌}
+use Rattle.std.specs.Prelude.{List, [], ◌∷◌, length, map, filter, Option, Some, None}
 use Rattle.std.specs.List.{slice_split, list_all}
 use Rattle.std.specs.Str.Lines.{strip_carriage_return}
 use Rattle.std.specs.Str.Parse.{digits_value}
@@ -16,7 +17,8 @@ is_blank b = b == 32 || b == 9
 abbrev pub has_bytes : List ℕ → Bool
 has_bytes bs = not (length bs == 0)
 
--- the parts between line feeds, each without the one carriage return at its end; what follows the last line feed is a part too, which says nothing where it is empty
+-- the parts between line feeds, each without the one carriage return at its end; what follows the last line feed is a
+-- part too, which says nothing where it is empty
 abbrev pub lines : List ℕ → List (List ℕ)
 lines text = map strip_carriage_return (slice_split is_newline text)
 
@@ -36,4 +38,5 @@ has_number_form (d ∷ e ∷ ds) = (nat_le 49 d && nat_le d 57) && list_all is_d
 
 -- the number of one to ten digits without a leading zero, at most 4,294,967,295
 abbrev pub number : List ℕ → Option ℕ
-number word = if (has_number_form word && nat_le (length word) 10) && nat_le (digits_value 10 word) 4294967295 then Some (digits_value 10 word) else None
+number word = if (has_number_form word && nat_le (length word) 10) && nat_le (digits_value 10 word) 4294967295 then
+    Some (digits_value 10 word) else None

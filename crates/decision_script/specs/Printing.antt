@@ -21,7 +21,8 @@ words_of_change param a b = param_word param ∷ value_words (param_values param
 -- the words of a decision's line
 abbrev pub words_of_decision : Decision → List (List ℕ)
 words_of_decision (Fork new old) = codes "fork" ∷ new ∷ codes "from" ∷ old ∷ []
-words_of_decision (Set who at station change) = codes "set" ∷ who ∷ codes "at" ∷ decimal at ∷ station ∷ words_of_change change.param change.a change.b
+words_of_decision (Set who at station change) =
+    codes "set" ∷ who ∷ codes "at" ∷ decimal at ∷ station ∷ words_of_change change.param change.a change.b
 words_of_decision (End who at) = codes "end" ∷ who ∷ codes "at" ∷ decimal at ∷ []
 
 abbrev pub words_of_act : Act → List (List ℕ)
@@ -34,12 +35,14 @@ words_of_section name = codes "analyst" ∷ name ∷ []
 
 -- the section line before an item whose analyst is not the one in force
 abbrev pub section_before : List (List ℕ) → ℕ → Item → List (List (List ℕ))
-section_before analysts force i = if i.analyst == force then [] else words_of_section (analyst_name analysts i.analyst) ∷ []
+section_before analysts force i =
+    if i.analyst == force then [] else words_of_section (analyst_name analysts i.analyst) ∷ []
 
 -- the lines of the items, where this analyst is in force before them
 abbrev pub item_lines : List (List ℕ) → ℕ → List Item → List (List (List ℕ))
 item_lines analysts force [] = []
-item_lines analysts force (i ∷ is) = section_before analysts force i ++ (words_of_act i.act ∷ item_lines analysts i.analyst is)
+item_lines analysts force (i ∷ is) =
+    section_before analysts force i ++ (words_of_act i.act ∷ item_lines analysts i.analyst is)
 
 -- a section line for each analyst from the second on, and then the items
 abbrev pub script_lines : ScriptView → List (List (List ℕ))

@@ -1,5 +1,6 @@
 -- What a script's text states.
-use Rattle.std.specs.Prelude.{ℕ, ◌+◌, nat_lt, codes, if◌then◌else◌, List, [], ◌∷◌, ◌++◌, length, position, Option, Some, None, Result, Ok, Err}
+use Rattle.std.specs.Prelude.{ℕ, ◌+◌, nat_lt, codes, if◌then◌else◌, List, [], ◌∷◌, ◌++◌}
+use Rattle.std.specs.Prelude.{length, position, Option, Some, None, Result, Ok, Err}
 use Rattle.std.specs.Str.{bytes_eq}
 use Rattle.decision_script.specs.declared.item.Act.{Act}
 use Rattle.decision_script.specs.declared.item.Item.{Item}
@@ -8,7 +9,8 @@ use Rattle.decision_script.specs.declared.line.Said.TheVariants.{Nothing, Sectio
 use Rattle.decision_script.specs.declared.fault.LineFault.{LineFault}
 use Rattle.decision_script.specs.declared.fault.LineFault.TheVariants as broken
 use Rattle.decision_script.specs.declared.fault.ScriptFault.{ScriptFault}
-use Rattle.decision_script.specs.declared.fault.ScriptFault.TheVariants.{TooLong, NotAscii, BadLine, BadNumber, TooManyLines, TooManyAnalysts, NoMemory}
+use Rattle.decision_script.specs.declared.fault.ScriptFault.TheVariants.{TooLong, NotAscii, BadLine, BadNumber}
+use Rattle.decision_script.specs.declared.fault.ScriptFault.TheVariants.{TooManyLines, TooManyAnalysts, NoMemory}
 use Rattle.decision_script.specs.declared.script.TheConstants.{MOST_BYTES, MOST_ANALYSTS, MOST_ITEMS}
 use Rattle.decision_script.specs.Lines.{lines}
 use Rattle.sim_base.specs.Chain.{◌>>=◌}
@@ -72,4 +74,5 @@ script_of r = record { analysts = r.analysts; items = r.items }
 
 -- what a text states, or the first rule that it breaks
 abbrev pub script : List ℕ → Result ScriptView ScriptFault
-script text = if nat_lt MOST_BYTES (length text) then Err TooLong else (after_lines 1 opening (lines text) >>= λ r. Ok (script_of r))
+script text = if nat_lt MOST_BYTES (length text) then Err TooLong else (after_lines 1 opening (lines text) >>= λ r.
+    Ok (script_of r))

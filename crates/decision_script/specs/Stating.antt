@@ -1,5 +1,6 @@
 -- What a script is, and which rules every script meets.
-use Rattle.std.specs.Prelude.{ℕ, ◌-◌, ◌^◌, ◌<◌, ◌≤◌, ◌≡◌, false, true, codes, List, [], length, slice_get, unwrap_or, Some}
+use Rattle.std.specs.Prelude.{ℕ, ◌-◌, ◌^◌, ◌<◌, ◌≤◌, ◌≡◌, false, true}
+use Rattle.std.specs.Prelude.{codes, List, [], length, slice_get, unwrap_or, Some}
 use Rattle.std.specs.List.{All, AllPairs}
 use Rattle.std.specs.Str.{bytes_eq}
 use Rattle.sim_base.specs.Names.{is_name}
@@ -33,7 +34,8 @@ IsChange _ a b = (a < 2 ^ 32) × (b < 2 ^ 32)
 -- names are names, and numbers fit 32 bits
 abbrev pub IsDecision : Decision → Type 0
 IsDecision (Fork new old) = IsNamed new × IsNamed old
-IsDecision (Set who at station change) = IsNamed who × (at < 2 ^ 32) × IsNamed station × IsChange change.param change.a change.b
+IsDecision (Set who at station change) = IsNamed who × (at < 2 ^ 32) × IsNamed station
+    × IsChange change.param change.a change.b
 IsDecision (End who at) = IsNamed who × (at < 2 ^ 32)
 
 abbrev pub IsAct : Act → Type 0

@@ -5,7 +5,10 @@
 //! to run.
 ghost use Rattle.std.specs.Prelude.{◌≡◌, ◌++◌, ◌∷◌, [], Ok, Err, codes};
 ghost use Rattle.decision_script.specs.Alone.{alone_of};
-ghost use Rattle.decision_script.specs.Examples.{b_alone_text, clone_of_clone, clone_of_clone_alone_text, clone_of_clone_text, loose, loose_text, sections, two_clones, two_clones_text, two_planners, two_planners_canonical, two_planners_text};
+ghost use Rattle.decision_script.specs.Examples.{b_alone_text, clone_of_clone, clone_of_clone_alone_text};
+ghost use Rattle.decision_script.specs.Examples.{clone_of_clone_text, loose, loose_text};
+ghost use Rattle.decision_script.specs.Examples.{sections, two_clones, two_clones_text};
+ghost use Rattle.decision_script.specs.Examples.{two_planners, two_planners_canonical, two_planners_text};
 ghost use Rattle.decision_script.specs.Printing.{canonical_text};
 ghost use Rattle.decision_script.specs.Reading.{script};
 

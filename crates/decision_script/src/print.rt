@@ -1,7 +1,8 @@
 //! The canonical text of a script.
 ghost use Rattle.std.specs.Prelude.{◌≡◌, ◌++◌, ◌∷◌, [], ◌≤◌, drop, length, map, OnOk, IfOk, decimal, codes};
 ghost use Rattle.std.specs.List.{All, flat_map, join_with_byte};
-ghost use Rattle.decision_script.specs.Printing.{canonical_text, item_lines, line_text, section_before, words_of_act, words_of_change, words_of_section};
+ghost use Rattle.decision_script.specs.Printing.{canonical_text, item_lines, line_text, section_before};
+ghost use Rattle.decision_script.specs.Printing.{words_of_act, words_of_change, words_of_section};
 
 use crate::item::{Act, Item};
 use crate::script::Script;
@@ -94,7 +95,8 @@ fn push_end(out: &mut Vec<u8>, who: &Name, at: u64) -> Result<(), NoMemory>
 }
 
 fn push_look(out: &mut Vec<u8>, who: &Name, station: &Name) -> Result<(), NoMemory>
-    ensures value { OnOk result (out.new.items ≡ out.old.items ++ line_text (codes "look" ∷ who.now ∷ station.now ∷ [])) }
+    ensures value { OnOk result (out.new.items ≡ out.old.items
+        ++ line_text (codes "look" ∷ who.now ∷ station.now ∷ [])) }
 {
     out.extend_from_slice(b"look")?;
     push_name(out, who)?;

@@ -36,7 +36,8 @@ impl Model for Reader {
 impl Reader {
     ghost use Rattle.std.specs.Prelude.{◌≡◌, ◌≢◌, Ok, Err, OnOk, IfOk, IfErr};
     ghost use Rattle.decision_script.specs.Stating.{IsScript};
-    ghost use Rattle.decision_script.specs.Reading.{place_of, in_section, with_act, after_saying, after_line, opening, script_of};
+    ghost use Rattle.decision_script.specs.Reading.{place_of, in_section, with_act, after_saying};
+    ghost use Rattle.decision_script.specs.Reading.{after_line, opening, script_of};
 
     fn new(alloc: Global) -> Result<Reader, ScriptFault>
         ensures ok { IfOk result (λ r. r ≡ opening) }

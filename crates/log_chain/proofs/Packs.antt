@@ -1,5 +1,6 @@
 -- Packed entries one after another, and their side list.
-use Rattle.std.proofs.Common.{◌≡◌, ℕ, ◌<◌, ◌≤◌, Bool, true, false, List, [], ◌∷◌, ◌++◌, length, refl, sym, ap, ap₂, ◌∙◌, arith}
+use Rattle.std.proofs.Common.{◌≡◌, ℕ, ◌<◌, ◌≤◌, Bool, true, false, List, []}
+use Rattle.std.proofs.Common.{◌∷◌, ◌++◌, length, refl, sym, ap, ap₂, ◌∙◌, arith}
 use Rattle.std.specs.Prelude.{slice_index_or, if◌then◌else◌}
 use Rattle.std.proofs.lemmas.Bool.{false≢true}
 use Rattle.std.proofs.lemmas.List.{map-append}
@@ -8,7 +9,8 @@ use Rattle.std.proofs.Math.Seq.{get_or-append_seam}
 use Rattle.sim_base.specs.declared.entry.Entry.{Entry}
 use Rattle.sim_base.specs.declared.entry.Line.{Line}
 use Rattle.sim_base.specs.declared.message.Msg.{Msg}
-use Rattle.log_chain.specs.Packing.{unpacked, is_wide, entry_of, entries_of, FitsWord, IsNarrow, IsPlaced, ArePlaced, FitWords}
+use Rattle.log_chain.specs.Packing.{unpacked, is_wide, entry_of, entries_of, FitsWord}
+use Rattle.log_chain.specs.Packing.{IsNarrow, IsPlaced, ArePlaced, FitWords}
 use Rattle.log_chain.specs.declared.packed.Packed.{Packed}
 
 -- an entry, out of the side list or not
@@ -18,55 +20,69 @@ picked b wide n e = if b then slice_index_or wide n e else e
 -- ---- one entry
 
 -- a longer side list changes nothing
-entry_more : (b : Bool) (wide more : List (Entry Msg Line)) (n : ℕ) (e : Entry Msg Line) → (b ≡ true → n < length wide) → picked b (wide ++ more) n e ≡ picked b wide n e
+entry_more : (b : Bool) (wide more : List (Entry Msg Line)) (n : ℕ) (e : Entry Msg Line)
+    → (b ≡ true → n < length wide) → picked b (wide ++ more) n e ≡ picked b wide n e
 entry_more true wide more n e h = get_or-append wide more e n (h refl)
 entry_more false wide more n e h = refl
 
 -- nor does another, where the entry fits
-entry_other : (b : Bool) (wide other : List (Entry Msg Line)) (n : ℕ) (e : Entry Msg Line) → (b ≡ true → n < 0) → picked b wide n e ≡ picked b other n e
+entry_other : (b : Bool) (wide other : List (Entry Msg Line)) (n : ℕ) (e : Entry Msg Line) → (b ≡ true → n < 0)
+    → picked b wide n e ≡ picked b other n e
 entry_other true wide other n e h = let below : n < 0 = h refl in absurd (omega arith)
 entry_other false wide other n e h = refl
 
 -- an entry that fits is its packed form's
-entry_narrow : (b : Bool) (wide : List (Entry Msg Line)) (n : ℕ) (e : Entry Msg Line) → b ≡ false → picked b wide n e ≡ e
+entry_narrow : (b : Bool) (wide : List (Entry Msg Line)) (n : ℕ) (e : Entry Msg Line) → b ≡ false
+    → picked b wide n e ≡ e
 entry_narrow true wide n e h = absurd (false≢true (sym h))
 entry_narrow false wide n e h = refl
 
 -- the last of the side list
-entry_last : (b : Bool) (wide : List (Entry Msg Line)) (n : ℕ) (e x : Entry Msg Line) → b ≡ true → n ≡ length wide → picked b (wide ++ x ∷ []) n e ≡ x
-entry_last true wide n e x h place = ap (λ k. slice_index_or (wide ++ x ∷ []) k e) place ∙ get_or-append_seam wide x [] e
+entry_last : (b : Bool) (wide : List (Entry Msg Line)) (n : ℕ) (e x : Entry Msg Line) → b ≡ true → n ≡ length wide
+    → picked b (wide ++ x ∷ []) n e ≡ x
+entry_last true wide n e x h place = ap (λ k. slice_index_or (wide ++ x ∷ []) k e) place
+    ∙ get_or-append_seam wide x [] e
 entry_last false wide n e x h place = absurd (false≢true h)
 
 -- ---- entries
 
 -- the entries of two lists
-pub entries_append : (wide : List (Entry Msg Line)) (ps qs : List Packed) → entries_of wide (ps ++ qs) ≡ entries_of wide ps ++ entries_of wide qs
+pub entries_append : (wide : List (Entry Msg Line)) (ps qs : List Packed)
+    → entries_of wide (ps ++ qs) ≡ entries_of wide ps ++ entries_of wide qs
 entries_append wide ps qs = map-append (entry_of wide) ps qs
 
 -- a longer side list changes nothing
-pub entries_more : (wide more : List (Entry Msg Line)) (ps : List Packed) → ArePlaced (length wide) ps → entries_of (wide ++ more) ps ≡ entries_of wide ps
+pub entries_more : (wide more : List (Entry Msg Line)) (ps : List Packed) → ArePlaced (length wide) ps
+    → entries_of (wide ++ more) ps ≡ entries_of wide ps
 entries_more wide more [] h = refl
 entries_more wide more (p ∷ ps) h =
-    ap₂ (λ e es. e ∷ es) (entry_more (is_wide p.msg.kind) wide more p.msg.count (unpacked p) h.0.wide) (entries_more wide more ps h.1)
+    ap₂ (λ e es. e ∷ es) (entry_more (is_wide p.msg.kind) wide more p.msg.count (unpacked p) h.0.wide)
+    (entries_more wide more ps h.1)
 
 -- nor does another, where all entries fit
-pub entries_other : (wide other : List (Entry Msg Line)) (ps : List Packed) → ArePlaced 0 ps → entries_of wide ps ≡ entries_of other ps
+pub entries_other : (wide other : List (Entry Msg Line)) (ps : List Packed) → ArePlaced 0 ps
+    → entries_of wide ps ≡ entries_of other ps
 entries_other wide other [] h = refl
 entries_other wide other (p ∷ ps) h =
-    ap₂ (λ e es. e ∷ es) (entry_other (is_wide p.msg.kind) wide other p.msg.count (unpacked p) h.0.wide) (entries_other wide other ps h.1)
+    ap₂ (λ e es. e ∷ es) (entry_other (is_wide p.msg.kind) wide other p.msg.count (unpacked p) h.0.wide)
+    (entries_other wide other ps h.1)
 
 -- the entries with one more that fits
-pub entries_push : (wide : List (Entry Msg Line)) (ps : List Packed) (p : Packed) (e : Entry Msg Line) → unpacked p ≡ e → IsNarrow p.msg → entries_of wide (ps ++ p ∷ []) ≡ entries_of wide ps ++ e ∷ []
+pub entries_push : (wide : List (Entry Msg Line)) (ps : List Packed) (p : Packed) (e : Entry Msg Line)
+    → unpacked p ≡ e → IsNarrow p.msg → entries_of wide (ps ++ p ∷ []) ≡ entries_of wide ps ++ e ∷ []
 entries_push wide ps p e is fits =
     entries_append wide ps (p ∷ [])
-    ∙ ap (λ x. entries_of wide ps ++ x ∷ []) (entry_narrow (is_wide p.msg.kind) wide p.msg.count (unpacked p) fits.narrow ∙ is)
+    ∙ ap (λ x. entries_of wide ps ++ x ∷ [])
+    (entry_narrow (is_wide p.msg.kind) wide p.msg.count (unpacked p) fits.narrow ∙ is)
 
 -- the entries with one more of the side list
-pub entries_push_wide : (wide : List (Entry Msg Line)) (ps : List Packed) (p : Packed) (e : Entry Msg Line) → ArePlaced (length wide) ps → is_wide p.msg.kind ≡ true → p.msg.count ≡ length wide
+pub entries_push_wide : (wide : List (Entry Msg Line)) (ps : List Packed) (p : Packed) (e : Entry Msg Line)
+    → ArePlaced (length wide) ps → is_wide p.msg.kind ≡ true → p.msg.count ≡ length wide
     → entries_of (wide ++ e ∷ []) (ps ++ p ∷ []) ≡ entries_of wide ps ++ e ∷ []
 entries_push_wide wide ps p e h is place =
     entries_append (wide ++ e ∷ []) ps (p ∷ [])
-    ∙ ap₂ (λ es x. es ++ x ∷ []) (entries_more wide (e ∷ []) ps h) (entry_last (is_wide p.msg.kind) wide p.msg.count (unpacked p) e is place)
+    ∙ ap₂ (λ es x. es ++ x ∷ []) (entries_more wide (e ∷ []) ps h)
+    (entry_last (is_wide p.msg.kind) wide p.msg.count (unpacked p) e is place)
 
 -- ---- where they are
 
@@ -83,7 +99,10 @@ placed_append n (p ∷ ps) qs h l = (h.0, placed_append n ps qs h.1 l)
 -- a longer side list has them too
 pub placed_more : (n m : ℕ) (ps : List Packed) → n ≤ m → ArePlaced n ps → ArePlaced m ps
 placed_more n m [] l h = tt
-placed_more n m (p ∷ ps) l h = (record { wide = λ e. let below : p.msg.count < n = h.0.wide e in omega arith; narrow = h.0.narrow }, placed_more n m ps l h.1)
+placed_more n m (p ∷ ps) l h = (
+  record { wide = λ e. let below : p.msg.count < n = h.0.wide e in omega arith; narrow = h.0.narrow },
+  placed_more n m ps l h.1,
+)
 
 -- an entry that fits
 pub narrow_placed : (n : ℕ) (p : Packed) → IsNarrow p.msg → IsPlaced n p
@@ -96,14 +115,18 @@ wide_placed n p is below = record { wide = λ _. below; narrow = λ e. absurd (f
 -- ---- their keys
 
 -- the key of one entry
-word_of : (b : Bool) (wide : List (Entry Msg Line)) (n : ℕ) (e : Entry Msg Line) → (b ≡ true → n < 0) → (b ≡ false → FitsWord e.msg.key) → FitsWord (picked b wide n e).msg.key
+word_of : (b : Bool) (wide : List (Entry Msg Line)) (n : ℕ) (e : Entry Msg Line) → (b ≡ true → n < 0)
+    → (b ≡ false → FitsWord e.msg.key) → FitsWord (picked b wide n e).msg.key
 word_of true wide n e h f = let below : n < 0 = h refl in absurd (omega arith)
 word_of false wide n e h f = f refl
 
 -- where nothing is in the side list, each key fits one word
 pub words_fit : (wide : List (Entry Msg Line)) (ps : List Packed) → ArePlaced 0 ps → FitWords (entries_of wide ps)
 words_fit wide [] h = tt
-words_fit wide (p ∷ ps) h = (word_of (is_wide p.msg.kind) wide p.msg.count (unpacked p) h.0.wide h.0.narrow, words_fit wide ps h.1)
+words_fit wide (p ∷ ps) h = (
+  word_of (is_wide p.msg.kind) wide p.msg.count (unpacked p) h.0.wide h.0.narrow,
+  words_fit wide ps h.1,
+)
 
 -- the keys of two lists
 pub words_append : (xs ys : List (Entry Msg Line)) → FitWords xs → FitWords ys → FitWords (xs ++ ys)

@@ -1,5 +1,6 @@
 -- Where the entries at a time or later begin.
-use Rattle.std.proofs.Common.{◌≡◌, ℕ, zero, suc, ◌<◌, ◌≤◌, Bool, true, false, not, List, [], ◌∷◌, length, drop, get_or, refl, sym, ap, ◌∙◌, arith}
+use Rattle.std.proofs.Common.{◌≡◌, ℕ, zero, suc, ◌<◌, ◌≤◌, Bool, true, false, not, List}
+use Rattle.std.proofs.Common.{[], ◌∷◌, length, drop, get_or, refl, sym, ap, ◌∙◌, arith}
 use Rattle.std.specs.Prelude.{Some, option_map, slice_get, nat_lt, if◌then◌else◌}
 use Rattle.std.specs.List.{AllByRecursion}
 use Rattle.std.proofs.lemmas.Bool.{false≢true, ltb-true, lt-ltb}
@@ -33,20 +34,26 @@ let_in true x xs n = absurd (n refl)
 let_in false x xs n = refl
 
 -- the entries at a time or later begin where those before it end
-pub begins_at : (es : List (Entry Msg Line)) (t n : ℕ) → n ≤ length es → ((k : ℕ) → k < n → get_or (times_of es) k 0 < t)
+pub begins_at : (es : List (Entry Msg Line)) (t n : ℕ) → n ≤ length es
+    → ((k : ℕ) → k < n → get_or (times_of es) k 0 < t)
     → ((k : ℕ) → n ≤ k → k < length es → t ≤ get_or (times_of es) k 0) → drop n es ≡ from_time t es
 begins_at [] t zero l before behind = refl
 begins_at [] t (suc n) l before behind = absurd (omega (arith, l))
 begins_at (e ∷ es) t zero l before behind =
     let late : t ≤ e.msg.key.time = behind 0 (omega arith) (omega arith) in
-    sym (let_in (nat_lt e.msg.key.time t) e (from_time t es) (λ b. let early : e.msg.key.time < t = ltb-true _ _ b in omega arith)
-    ∙ ap (λ xs. e ∷ xs) (sym (begins_at es t zero (omega arith) (λ k b. absurd (omega (arith, b))) (λ k _ there. behind (suc k) (omega arith) (omega (arith, there))))))
+    sym (let_in (nat_lt e.msg.key.time t) e (from_time t es) (λ b. let early : e.msg.key.time < t = ltb-true _ _ b in
+    omega arith)
+    ∙ ap (λ xs. e ∷ xs) (sym (begins_at es t zero (omega arith) (λ k b. absurd (omega (arith, b)))
+    (λ k _ there. behind (suc k) (omega arith) (omega (arith, there))))))
 begins_at (e ∷ es) t (suc n) l before behind =
-    begins_at es t n (omega (arith, l)) (λ k b. before (suc k) (omega (arith, b))) (λ k o there. behind (suc k) (omega (arith, o)) (omega (arith, there)))
+    begins_at es t n (omega (arith, l)) (λ k b. before (suc k) (omega (arith, b)))
+    (λ k o there. behind (suc k) (omega (arith, o)) (omega (arith, there)))
     ∙ sym (left_out (nat_lt e.msg.key.time t) e (from_time t es) (lt-ltb _ _ (before 0 (omega arith))))
 
 -- the key of a place
-pub time_there : (es : List (Entry Msg Line)) (i : ℕ) (k : Key) → i < length es → Some k ≡ option_map (λ (e : Entry Msg Line). e.msg.key) (slice_get (drop i es) 0) → k.time ≡ get_or (times_of es) i 0
+pub time_there : (es : List (Entry Msg Line)) (i : ℕ) (k : Key) → i < length es
+    → Some k ≡ option_map (λ (e : Entry Msg Line). e.msg.key) (slice_get (drop i es) 0)
+    → k.time ≡ get_or (times_of es) i 0
 time_there [] i k l is = absurd (omega (arith, l))
 time_there (e ∷ es) zero k l is = let same : k ≡ e.msg.key = cc in ap (λ (x : Key). x.time) same
 time_there (e ∷ es) (suc i) k l is = time_there es i k (omega (arith, l)) is

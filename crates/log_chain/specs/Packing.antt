@@ -42,7 +42,11 @@ key_of m = record { time = m.time; sender = m.sender; number = m.number }
 
 -- the message
 abbrev pub msg_of : PackedMsg → Msg
-msg_of m = record { key = key_of m; to = m.to; payload = payload_of m.kind (record { source = m.source; count = m.count; born = m.born }) }
+msg_of m = record {
+  key = key_of m;
+  to = m.to;
+  payload = payload_of m.kind (record { source = m.source; count = m.count; born = m.born });
+}
 
 -- the counts of a kind of line
 abbrev pub counts_of : LineKind → PackedLine → Line

@@ -27,7 +27,8 @@ abbrev pub IsFit : List ℕ → ℕ → ℕ → Type 0
 IsFit ns k size = 0 < k → 2 * size < slice_index ns (k - 1)
 
 -- a log's segments and how many entries they have, its blocks and how many those have
-pub record IsChain {X Z : Type 0} (segments : List (Arc (List X) Z)) (shared : ℕ) (blocks : List (List X)) (more : ℕ) : Type 0 where
+pub record IsChain {X Z : Type 0} (segments : List (Arc (List X) Z)) (shared : ℕ) (blocks : List (List X))
+    (more : ℕ) : Type 0 where
   pub halving : IsHalving (lengths segments)
   pub count : shared ≡ length (entries_in segments)
   pub blocks_fit : AreBlocks blocks

@@ -1,5 +1,6 @@
 //! Logs.
-ghost use Rattle.std.specs.Prelude.{◌≡◌, ◌++◌, ◌∷◌, [], ◌+◌, ◌^◌, ◌<◌, ◌≤◌, length, drop, OnOk, OnErr, IfOk, IsTrue, ◌↔◌, slice_index, slice_index_or};
+ghost use Rattle.std.specs.Prelude.{◌≡◌, ◌++◌, ◌∷◌, [], ◌+◌, ◌^◌, ◌<◌, ◌≤◌, length};
+ghost use Rattle.std.specs.Prelude.{drop, OnOk, OnErr, IfOk, IsTrue, ◌↔◌, slice_index, slice_index_or};
 ghost use Rattle.log_chain.specs.Packing.{FitWords};
 ghost use Rattle.log_chain.specs.Times.{RiseByTime, from_time, times_of};
 

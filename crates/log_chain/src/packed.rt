@@ -1,7 +1,8 @@
 //! Entries in 32 bytes, where their numbers are small enough.
 ghost use Rattle.std.specs.Prelude.{◌≡◌, true, false, IfSome};
 ghost use Rattle.sim_base.specs.declared.message.Job.{Job as JobOf};
-ghost use Rattle.log_chain.specs.Packing.{set_of, payload_of, key_of, msg_of, line_of, unpacked, is_wide, entry_of, IsNarrow};
+ghost use Rattle.log_chain.specs.Packing.{set_of, payload_of, key_of, msg_of, line_of};
+ghost use Rattle.log_chain.specs.Packing.{unpacked, is_wide, entry_of, IsNarrow};
 
 use sim_base::{Change, Entry, Job, Key, Line, Msg, Param, Payload};
 
@@ -217,7 +218,13 @@ fn pack_line(line: &Line) -> Option<PackedLine>
 }
 
 fn with_counts(kind: LineKind, first: u64, second: u64, third: u64, busy: u64) -> Option<PackedLine>
-    ensures value { IfSome result (λ l. l ≡ record { first = first; second = second; third = third; busy = busy; kind = kind }) }
+    ensures value { IfSome result (λ l. l ≡ record {
+      first = first;
+      second = second;
+      third = third;
+      busy = busy;
+      kind = kind;
+    }) }
 {
     if first < 1 << 32 && second < 1 << 32 && third < 1 << 16 && busy < 1 << 8 {
         Some(PackedLine {

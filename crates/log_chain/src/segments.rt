@@ -1,5 +1,6 @@
 //! Segments: runs of entries that several logs may share.
-ghost use Rattle.std.specs.Prelude.{◌≡◌, ◌++◌, ◌∷◌, [], ◌+◌, ◌*◌, ◌^◌, ◌<◌, ◌≤◌, length, take, drop, OnOk, OnErr, IfOk, IsTrue};
+ghost use Rattle.std.specs.Prelude.{◌≡◌, ◌++◌, ◌∷◌, [], ◌+◌, ◌*◌, ◌^◌, ◌<◌};
+ghost use Rattle.std.specs.Prelude.{◌≤◌, length, take, drop, OnOk, OnErr, IfOk, IsTrue};
 ghost use Rattle.log_chain.specs.Segments.{entries_of_segment, entries_in, lengths, IsFit};
 ghost use Rattle.log_chain.specs.Blocks.{all_of};
 ghost use Rattle.log_chain.specs.Packing.{FitWords};

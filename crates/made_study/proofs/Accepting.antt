@@ -1,5 +1,7 @@
--- The made script is accepted by every made network: plan by plan, each in the situation that the plans before it leave.
-use Rattle.std.proofs.Common.{◌≡◌, ℕ, zero, suc, ◌+◌, ◌*◌, ◌/◌, ◌%◌, List, [], ◌∷◌, ◌++◌, refl, ap, ◌∙◌, subst, arith, None, Some, Ok, nat_lt, nat_le, ◌==◌, true, false, length}
+-- The made script is accepted by every made network: plan by plan, each in the situation that the plans before it
+-- leave.
+use Rattle.std.proofs.Common.{◌≡◌, ℕ, zero, suc, ◌+◌, ◌*◌, ◌/◌, ◌%◌, List, [], ◌∷◌, ◌++◌, refl}
+use Rattle.std.proofs.Common.{ap, ◌∙◌, subst, arith, None, Some, Ok, nat_lt, nat_le, ◌==◌, true, false, length}
 use Rattle.std.specs.Fmt.{digits}
 use Rattle.std.specs.List.{AllByRecursion, flat_map, range_with_len}
 use Rattle.sim_base.specs.declared.decision.Decision.{Decision}
@@ -168,7 +170,8 @@ is_next n others count (fork, forks, room, there, going, takes, free, early, add
     let found = first_ward n others in
     let late = not_late at in
     let set : reply (between n others count) (set_of_plan (count + 1)) ≡ Accepted =
-    set_accepted net clones calls (count + 1) at who (ward_name 1) change room refl there going found takes free early late in
+    set_accepted net clones calls (count + 1) at who (ward_name 1) change room refl there going found takes free early
+    late in
     let leads : next (between n others count) (set_of_plan (count + 1)) ≡ after_plans n others (count + 1) =
     set_leads net clones calls (count + 1) at who (ward_name 1) change set there found ∙ adds in
     record {
@@ -197,13 +200,15 @@ none_refused n others before zero place plans = refl
 none_refused n others before (suc count) place (made, plans) =
     let plan = is_next n others before made in
     let further = decisions_of_plans (before + 1 + 1) count in
-    passed (after_plans n others before) place (fork_of_plan (before + 1)) (set_of_plan (before + 1)) further plan.fork plan.set
+    passed (after_plans n others before) place (fork_of_plan (before + 1))
+    (set_of_plan (before + 1)) further plan.fork plan.set
     ∙ ap (λ s. first_refusal_from s (place + 1 + 1) further) plan.leads
     ∙ none_refused n others (before + 1) count (place + 1 + 1) plans
 
 -- and they leave the clones of all plans
 all_lead : (n others before count : ℕ) → AllByRecursion (Facts n others) (range_with_len before count)
-    → after_all (after_plans n others before) (decisions_of_plans (before + 1) count) ≡ after_plans n others (before + count)
+    → after_all (after_plans n others before) (decisions_of_plans (before + 1) count) ≡ after_plans n others
+    (before + count)
 all_lead n others before zero plans = ap (after_plans n others) (omega arith)
 all_lead n others before (suc count) (made, plans) =
     let plan = is_next n others before made in

@@ -30,7 +30,8 @@ set_line : (a b c d e : List ℕ)
     → line_text (words_of_set a b c d e)
     ≡ codes "set plan"
     ++ (a
-    ++ (codes " at " ++ (b ++ (codes " ward" ++ (c ++ (codes " service " ++ (d ++ (codes " " ++ (e ++ codes "\n")))))))))
+    ++ (codes " at " ++ (b ++ (codes " ward"
+    ++ (c ++ (codes " service " ++ (d ++ (codes " " ++ (e ++ codes "\n")))))))))
 set_line a b c d e =
     let at_d = append_assoc d (codes " " ++ e) (codes "\n") in
     let from_c = codes " service " ++ (d ++ (codes " " ++ e)) in

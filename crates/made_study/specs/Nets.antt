@@ -17,7 +17,12 @@ abbrev pub door : ℕ → Site
 door n = record { name = codes "door"; kind = Source 1 (longest_gap n) 5000 1; stream = 1; links = link_to 2 2 ∷ [] }
 
 abbrev pub triage : ℕ → Site
-triage count = record { name = codes "triage"; kind = Router false; stream = 2; links = map way (range_with_len 1 count) }
+triage count = record {
+  name = codes "triage";
+  kind = Router false;
+  stream = 2;
+  links = map way (range_with_len 1 count);
+}
 
 -- the ward of this number among so many
 abbrev pub ward : ℕ → ℕ → Site

@@ -1,5 +1,6 @@
 -- To put marked messages in their places keeps for which clones they are, and the order.
-use Rattle.std.proofs.Common.{◌≡◌, ℕ, Bool, true, false, ◌||◌, ◌&&◌, List, [], ◌∷◌, Ordering, Less, Equal, Greater, refl, sym, ap, ◌∙◌}
+use Rattle.std.proofs.Common.{◌≡◌, ℕ, Bool, true, false, ◌||◌, ◌&&◌, List, []}
+use Rattle.std.proofs.Common.{◌∷◌, Ordering, Less, Equal, Greater, refl, sym, ap, ◌∙◌}
 use Rattle.std.specs.List.{AllByRecursion}
 use Rattle.std.specs.List.Sorted.{IsStrictlySortedBy}
 use Rattle.std.specs.Map.{keys_of}
@@ -54,19 +55,22 @@ module _ (m : Msg) (c : ℕ) where
       ap (λ b. (is_eq (msg_cmp m y.0) && b) || is_for m c ys) (has-union y.1 k c)
       ∙ or_joined (is_eq (msg_cmp m y.0)) (has y.1 c) (has k c) (is_for m c ys)
       ∙ ap (λ r. (is_eq r && has k c) || is_for m c (y ∷ ys)) (sym (alike_right msg_total x y.0 m e))
-  is_for-place Greater x k y ys rest e h = ap (λ b. is_pair y.0 y.1 || b) h ∙ or_turned (is_pair y.0 y.1) (is_pair x k) (is_for m c ys)
+  is_for-place Greater x k y ys rest e h = ap (λ b. is_pair y.0 y.1 || b) h
+      ∙ or_turned (is_pair y.0 y.1) (is_pair x k) (is_for m c ys)
 
   -- the same of an insert
   is_for-insert : (x : Msg) (k : ℕ) (q : List (Msg × ℕ))
       → is_for m c (insert_marked union msg_cmp x k q) ≡ (is_pair x k || is_for m c q)
   is_for-insert x k [] = refl
-  is_for-insert x k (y ∷ ys) = is_for-place (msg_cmp x y.0) x k y ys (insert_marked union msg_cmp x k ys) refl (is_for-insert x k ys)
+  is_for-insert x k (y ∷ ys) = is_for-place (msg_cmp x y.0) x k y ys (insert_marked union msg_cmp x k ys) refl
+      (is_for-insert x k ys)
 
   -- the same of all pairs
   is_for-group_onto : (xs q : List (Msg × ℕ)) → is_for m c (group_onto xs q) ≡ (is_for m c xs || is_for m c q)
   is_for-group_onto [] q = refl
   is_for-group_onto (x ∷ xs) q =
-      is_for-group_onto xs (insert_marked union msg_cmp x.0 x.1 q) ∙ ap (λ b. is_for m c xs || b) (is_for-insert x.0 x.1 q)
+      is_for-group_onto xs (insert_marked union msg_cmp x.0 x.1 q)
+      ∙ ap (λ b. is_for m c xs || b) (is_for-insert x.0 x.1 q)
       ∙ or_onto (is_for m c xs) (is_pair x.0 x.1) (is_for m c q)
 
 -- ---- the order
@@ -106,7 +110,8 @@ ordered_place : (r : Ordering) (x : Msg) (k : ℕ) (y : Msg × ℕ) (ys : List (
 unfolding IsStrictlySortedBy
 ordered_place Less x k y ys e s h = ((e, above_trans x y.0 ys e s.0), s)
 ordered_place Equal x k y ys e s h = s
-ordered_place Greater x k y ys e s h = (above_insert y.0 x k ys (msg_total.antisymm y.0 x ∙ ap ordering_reverse e) s.0, h)
+ordered_place Greater x k y ys e s h =
+    (above_insert y.0 x k ys (msg_total.antisymm y.0 x ∙ ap ordering_reverse e) s.0, h)
 
 -- the same of an insert
 ordered_insert : (x : Msg) (k : ℕ) (q : List (Msg × ℕ)) → Ordered q → Ordered (insert_marked union msg_cmp x k q)

@@ -1,5 +1,6 @@
 -- The parts are exactly the nonempty meets.
-use Rattle.std.proofs.Common.{◌≡◌, ◌≢◌, ℕ, zero, suc, ◌+◌, ◌<◌, ◌==◌, Bool, true, false, Some, None, List, [], ◌∷◌, map, length, Less, refl, sym, ap, ◌∙◌, subst, arith, nat_cmp}
+use Rattle.std.proofs.Common.{◌≡◌, ◌≢◌, ℕ, zero, suc, ◌+◌, ◌<◌, ◌==◌, Bool, true, false, Some, None}
+use Rattle.std.proofs.Common.{List, [], ◌∷◌, map, length, Less, refl, sym, ap, ◌∙◌, subst, arith, nat_cmp}
 use Rattle.std.specs.Prelude.{option_map, if◌then◌else◌}
 use Rattle.std.specs.List.{AllByRecursion, Contains, cons_option, enumerate_from, filter_map}
 use Rattle.std.specs.List.Sorted.{IsStrictlySortedBy}
@@ -18,7 +19,8 @@ module _ (s : ℕ) where
 
   -- a part at the front, unless the meet is empty
   abbrev part_before : Bool → ℕ → ℕ → List Part → List Part
-  part_before none n set parts = cons_option (option_map (λ k. record { receiver = n; set = k }) (if none then None else Some set)) parts
+  part_before none n set parts =
+      cons_option (option_map (λ k. record { receiver = n; set = k }) (if none then None else Some set)) parts
 
   -- the part is that of the receiver at some place i
   record Among (n : ℕ) (rs : List ℕ) (p : Part) : Type 0 where
@@ -33,7 +35,13 @@ module _ (s : ℕ) where
       → AllByRecursion (Among (n + 1) rs) parts → AllByRecursion (Among n (r ∷ rs)) parts
   among_later n r rs [] h = tt
   among_later n r rs (p ∷ ps) h = (
-    record { i = suc h.0.i; there = omega (arith, h.0.there); number = omega (arith, h.0.number); set = h.0.set; some = h.0.some },
+    record {
+      i = suc h.0.i;
+      there = omega (arith, h.0.there);
+      number = omega (arith, h.0.number);
+      set = h.0.set;
+      some = h.0.some;
+    },
     among_later n r rs ps h.1,
   )
 
@@ -42,20 +50,23 @@ module _ (s : ℕ) where
       → (b ≡ false → meet s r ≢ empty) → AllByRecursion (Among n (r ∷ rs)) parts
       → AllByRecursion (Among n (r ∷ rs)) (part_before b n (meet s r) parts)
   among_before true n r rs parts e h = h
-  among_before false n r rs parts e h = (record { i = 0; there = omega arith; number = omega arith; set = refl; some = e refl }, h)
+  among_before false n r rs parts e h =
+      (record { i = 0; there = omega arith; number = omega arith; set = refl; some = e refl }, h)
 
   -- each part is that of some receiver
   among_parts : (n : ℕ) (rs : List ℕ) → AllByRecursion (Among n rs) (parts_from n rs)
   among_parts n [] = tt
   among_parts n (r ∷ rs) =
-      among_before (meet s r == empty) n r rs (parts_from (n + 1) rs) (eqb-false (meet s r) empty) (among_later n r rs (parts_from (n + 1) rs) (among_parts (n + 1) rs))
+      among_before (meet s r == empty) n r rs (parts_from (n + 1) rs) (eqb-false (meet s r) empty)
+      (among_later n r rs (parts_from (n + 1) rs) (among_parts (n + 1) rs))
 
   -- what a list has, a longer one has
   contains_later : (p q : Part) (ps : List Part) → Contains ps p → Contains (q ∷ ps) p
   contains_later p q ps h = (suc h.0, omega (arith, h.1), h.2)
 
   -- also where the longer one may be the same
-  contains_before : (b : Bool) (n set : ℕ) (p : Part) (ps : List Part) → Contains ps p → Contains (part_before b n set ps) p
+  contains_before : (b : Bool) (n set : ℕ) (p : Part) (ps : List Part) → Contains ps p
+      → Contains (part_before b n set ps) p
   contains_before true n set p ps h = h
   contains_before false n set p ps h = contains_later p _ ps h
 
@@ -67,7 +78,8 @@ module _ (s : ℕ) where
 
   -- each meet that is not empty has its part
   contains_part : (n : ℕ) (rs : List ℕ) (i : ℕ)
-      → i < length rs → shared_at s rs i ≢ empty → Contains (parts_from n rs) (record { receiver = n + i; set = shared_at s rs i })
+      → i < length rs → shared_at s rs i ≢ empty
+      → Contains (parts_from n rs) (record { receiver = n + i; set = shared_at s rs i })
   contains_part n [] i l some = absurd (omega arith)
   contains_part n (r ∷ rs) zero l some =
       let e : n ≡ n + 0 = omega arith in
@@ -76,7 +88,8 @@ module _ (s : ℕ) where
   contains_part n (r ∷ rs) (suc i) l some =
       let e : n + 1 + i ≡ n + suc i = omega arith in
       subst (λ k. Contains (parts_from n (r ∷ rs)) (record { receiver = k; set = shared_at s rs i })) e
-      (contains_before (meet s r == empty) n (meet s r) _ (parts_from (n + 1) rs) (contains_part (n + 1) rs i (omega arith) some))
+      (contains_before (meet s r == empty) n (meet s r) _ (parts_from (n + 1) rs)
+      (contains_part (n + 1) rs i (omega arith) some))
 
   -- the numbers of the parts' receivers
   abbrev numbers : List Part → List ℕ
@@ -105,7 +118,8 @@ module _ (s : ℕ) where
   unfolding IsStrictlySortedBy
   rising_parts n [] = tt
   rising_parts n (r ∷ rs) =
-      rising_before (meet s r == empty) n (meet s r) (parts_from (n + 1) rs) (above_later n rs (parts_from (n + 1) rs) (among_parts (n + 1) rs)) (rising_parts (n + 1) rs)
+      rising_before (meet s r == empty) n (meet s r) (parts_from (n + 1) rs)
+      (above_later n rs (parts_from (n + 1) rs) (among_parts (n + 1) rs)) (rising_parts (n + 1) rs)
 
   -- a part of the receiver at a place is what they share
   shared_from : (rs : List ℕ) (p : Part) → Among 0 rs p → IsShared s rs p
@@ -119,7 +133,10 @@ module _ (s : ℕ) where
   -- the parts are exactly the meets that are not empty
   pub parts_are_cut : (rs : List ℕ) → IsCut s rs (parts_of s rs)
   parts_are_cut rs = record {
-    each = All-weaker (Among 0 rs) (IsShared s rs) (shared_from rs) (parts_of s rs) (All-from_recursion (Among 0 rs) (parts_of s rs) (among_parts 0 rs));
-    all = λ i l some. let e : 0 + i ≡ i = omega arith in subst (λ k. Contains (parts_of s rs) (record { receiver = k; set = shared_at s rs i })) e (contains_part 0 rs i l some);
+    each = All-weaker (Among 0 rs) (IsShared s rs) (shared_from rs) (parts_of s rs)
+        (All-from_recursion (Among 0 rs) (parts_of s rs) (among_parts 0 rs));
+    all = λ i l some. let e : 0 + i ≡ i = omega arith in
+        subst (λ k. Contains (parts_of s rs) (record { receiver = k; set = shared_at s rs i })) e
+        (contains_part 0 rs i l some);
     rising = IsStrictlyIncreasing-from_sorted (numbers (parts_of s rs)) (rising_parts 0 rs);
   }

@@ -1,5 +1,6 @@
 -- Which messages a clone takes.
-use Rattle.std.proofs.Common.{◌≡◌, ◌⊎◌, inl, inr, ℕ, zero, suc, ◌<◌, Bool, true, false, ◌||◌, ◌&&◌, List, [], ◌∷◌, length, get_or, Ordering, Less, Equal, Greater, refl, sym, ap, ◌∙◌, subst, arith}
+use Rattle.std.proofs.Common.{◌≡◌, ◌⊎◌, inl, inr, ℕ, zero, suc, ◌<◌, Bool, true, false, ◌||◌, ◌&&◌, List}
+use Rattle.std.proofs.Common.{[], ◌∷◌, length, get_or, Ordering, Less, Equal, Greater, refl, sym, ap, ◌∙◌, subst, arith}
 use Rattle.std.specs.Prelude.{◌↔◌, nat_lt, if◌then◌else◌}
 use Rattle.std.specs.List.{Contains}
 use Rattle.std.specs.Ordering.{is_eq, ordering_reverse}
@@ -77,7 +78,8 @@ module _ (ends : ℕ → ℕ) (m : Msg) (c : ℕ) where
   -- ---- what a clone takes
 
   -- what a clone takes is for it, and before its end
-  taken_is_for : (sent : List (Msg × ℕ)) → In m (taken_before ends c sent) → (is_for m c sent ≡ true) × (m.key.time < ends c)
+  taken_is_for : (sent : List (Msg × ℕ)) → In m (taken_before ends c sent)
+      → (is_for m c sent ≡ true) × (m.key.time < ends c)
   taken_is_for [] h = absurd h
   taken_is_for (x ∷ xs) h =
       elim (in_front (takes_before ends x.0 x.1 c) m x.0 (taken_before ends c xs) h) [
@@ -90,7 +92,8 @@ module _ (ends : ℕ → ℕ) (m : Msg) (c : ℕ) where
       ]
 
   -- and it takes all of that
-  is_for_taken : (sent : List (Msg × ℕ)) → is_for m c sent ≡ true → m.key.time < ends c → In m (taken_before ends c sent)
+  is_for_taken : (sent : List (Msg × ℕ)) → is_for m c sent ≡ true → m.key.time < ends c
+      → In m (taken_before ends c sent)
   is_for_taken [] e l = absurd (false≢true e)
   is_for_taken (x ∷ xs) e l =
       elim (or_one (is_eq (msg_cmp m x.0) && has x.1 c) (is_for m c xs) e) [
@@ -104,11 +107,13 @@ module _ (ends : ℕ → ℕ) (m : Msg) (c : ℕ) where
       ]
 
   -- a clone takes the messages that are for it and come before its end
-  pub taken_are_for : (sent : List (Msg × ℕ)) → In m (taken_before ends c sent) ↔ ((is_for m c sent ≡ true) × (m.key.time < ends c))
+  pub taken_are_for : (sent : List (Msg × ℕ)) → In m (taken_before ends c sent)
+      ↔ ((is_for m c sent ≡ true) × (m.key.time < ends c))
   taken_are_for sent = (taken_is_for sent, λ h. is_for_taken sent h.0 h.1)
 
   -- a clone takes the same of messages that are joined
-  pub group_is_taken : (sent : List (Msg × ℕ)) → In m (taken_before ends c (group_of sent)) ↔ In m (taken_before ends c sent)
+  pub group_is_taken : (sent : List (Msg × ℕ)) → In m (taken_before ends c (group_of sent))
+      ↔ In m (taken_before ends c sent)
   group_is_taken sent =
       let same = (group_is_grouped sent).kept m c in (
         λ h. let there = taken_is_for (group_of sent) h in is_for_taken sent (sym same ∙ there.0) there.1,
@@ -125,7 +130,11 @@ module _ {X : Type 0} where
   -- an element stands at some place
   in_at : (xs : List X) (x : X) → In x xs → Contains xs x
   in_at [] x h = absurd h
-  in_at (y ∷ ys) x h = elim h [ inl e ↦ (0, omega arith, sym e) | inr i ↦ let there = in_at ys x i in (suc there.0, omega (arith, there.1), there.2) ]
+  in_at (y ∷ ys) x h = elim h [
+    | inl e ↦ (0, omega arith, sym e)
+    | inr i ↦ let there = in_at ys x i in
+        (suc there.0, omega (arith, there.1), there.2)
+  ]
 
   -- a list has its elements
   pub contains_is_in : (xs : List X) (x : X) → Contains xs x ↔ In x xs

@@ -1,5 +1,6 @@
 -- The model of an ASCII text, which is UTF-8.
-use Rattle.std.proofs.Common.{◌≡◌, refl, ap, ℕ, zero, suc, ◌<◌, nat_lt, true, if◌then◌else◌, List, [], ◌∷◌, length, Result, Err, arith}
+use Rattle.std.proofs.Common.{◌≡◌, refl, ap, ℕ, zero, suc, ◌<◌, nat_lt, true}
+use Rattle.std.proofs.Common.{if◌then◌else◌, List, [], ◌∷◌, length, Result, Err, arith}
 use Rattle.std.specs.List.{list_all}
 use Rattle.std.specs.Str.{IsAscii}
 use Rattle.std.proofs.lemmas.Bool.{and_parts}
@@ -33,4 +34,5 @@ model_parsed text = if nat_lt MOST_BYTES (length text) then Err TooLong else mod
 
 -- the model of an ASCII text, without the test that it is UTF-8
 pub ascii_model : (text : List ℕ) → list_all (λ b. nat_lt b 128) text ≡ true → model text ≡ model_parsed text
-ascii_model text h = ap (λ t. if nat_lt MOST_BYTES (length text) then Err TooLong else model_of_tree t) (ascii_tree text h)
+ascii_model text h = ap (λ t. if nat_lt MOST_BYTES (length text) then Err TooLong else model_of_tree t)
+    (ascii_tree text h)

@@ -1,5 +1,6 @@
 -- The bytes of a key text: zeros stand behind them, and they are text.
-use Rattle.std.proofs.Common.{◌≡◌, ℕ, zero, suc, ◌-◌, ◌<◌, ◌≤◌, min, refl, ap, sym, ◌∙◌, List, [], ◌∷◌, ◌++◌, length, map, take, drop, replicate, true, inl, inr, arith, length-take-le}
+use Rattle.std.proofs.Common.{◌≡◌, ℕ, zero, suc, ◌-◌, ◌<◌, ◌≤◌, min, refl, ap, sym, ◌∙◌, List}
+use Rattle.std.proofs.Common.{[], ◌∷◌, ◌++◌, length, map, take, drop, replicate, true, inl, inr, arith, length-take-le}
 use Rattle.std.specs.List.{list_all}
 use Rattle.std.specs.Str.{IsAscii, IsUtf8}
 use Rattle.std.proofs.lemmas.Bool.{cases_Bool, and_parts}
@@ -67,7 +68,8 @@ module _ (key : List ℕ) (len : ℕ) (copied front : List ℕ)
   pub key_text_bytes : take len (front ++ drop len (copied ++ drop len (replicate 32 0))) ≡ key_text key
   key_text_bytes =
       let first : take len key ≡ take 32 key = ap (λ n. take n key) (size ∙ omega arith) ∙ take_min 32 key in
-      seam front (drop len (copied ++ drop len (replicate 32 0))) len front_len ∙ (front_is ∙ ap (map shown) (copy ∙ first))
+      seam front (drop len (copied ++ drop len (replicate 32 0))) len front_len
+      ∙ (front_is ∙ ap (map shown) (copy ∙ first))
 
   pub key_text_padded : IsKeyText (front ++ drop len (copied ++ drop len (replicate 32 0))) len
   key_text_padded = record {

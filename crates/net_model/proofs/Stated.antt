@@ -12,8 +12,10 @@ use Rattle.net_model.specs.Top.{stations_at, top_of}
 abbrev with_sites_read : Top → Result (List Site) ModelFault → Result Net ModelFault
 with_sites_read top sites = sites >>= (λ sites. Ok (with_sites top sites))
 
-abbrev from_parts : Result (Unit {0}) ModelFault → Result Top ModelFault → Result (List Data) ModelFault → Result Net ModelFault
-from_parts known top tables = known >>= (λ _. top >>= (λ top. tables >>= (λ ds. with_sites_read top (sites_of_tables top ds))))
+abbrev from_parts : Result (Unit {0}) ModelFault → Result Top ModelFault → Result (List Data) ModelFault
+    → Result Net ModelFault
+from_parts known top tables = known >>=
+    (λ _. top >>= (λ top. tables >>= (λ ds. with_sites_read top (sites_of_tables top ds))))
 
 module _ (root : Data) where
   parts : model_of root ≡ from_parts (only_known 0 top_keys root) (top_of root) (stations_at root)

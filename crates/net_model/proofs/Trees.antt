@@ -1,12 +1,14 @@
 -- The tree of a text, and the lists in it.
-use Rattle.std.proofs.Common.{◌≡◌, refl, ap, sym, ◌∙◌, ℕ, true, false, is_some, if◌then◌else◌, List, [], ◌∷◌, map, Some, None, Ok, Err, inl, inr}
+use Rattle.std.proofs.Common.{◌≡◌, refl, ap, sym, ◌∙◌, ℕ, true, false, is_some, if◌then◌else◌}
+use Rattle.std.proofs.Common.{List, [], ◌∷◌, map, Some, None, Ok, Err, inl, inr}
 use Rattle.std.specs.List.{list_all}
 use Rattle.std.specs.Str.{IsUtf8, is_utf8}
 use Rattle.std.proofs.lemmas.Bool.{cases_Bool}
 use Rattle.std.proofs.lemmas.List.Folds.{list_all-map}
 use Rattle.std.proofs.lemmas.Option.{same_Some}
 use Rattle.std.proofs.lemmas.Str.{is_utf8-from_IsUtf8, IsUtf8-from_is_utf8}
-use Rattle.toml.specs.Data.{Data, Items, Members, string, integer, float, boolean, datetime, array, table, as_array, as_table}
+use Rattle.toml.specs.Data.{Data, Items, Members, string, integer, float}
+use Rattle.toml.specs.Data.{boolean, datetime, array, table, as_array, as_table}
 use Rattle.toml.specs.Parse.{parse_document}
 use Rattle.toml.specs.View.{view, items_view}
 use Rattle.toml.specs.declared.value.Value.{Value}
@@ -39,15 +41,19 @@ array_of (boolean b) ds h = absurd (cc)
 array_of (datetime t) ds h = absurd (cc)
 array_of (table ms) ds h = absurd (cc)
 
-pub tables_listed : (place : ℕ) (field : Field) (d : Data) (vs : List Value) → Some (items_view vs) ≡ as_array d → tables_of place field d ≡ (if list_all (λ v. is_some (as_table (view v))) vs then Ok (map view vs) else Err (WrongType place field))
+pub tables_listed : (place : ℕ) (field : Field) (d : Data) (vs : List Value) → Some (items_view vs) ≡ as_array d
+    → tables_of place field d ≡ (if list_all (λ v. is_some (as_table (view v))) vs then Ok (map view vs) else Err
+    (WrongType place field))
 tables_listed place field d vs h =
     ap (tables_of place field) (array_of d (items_view vs) h)
     ∙ (ap (all_tables place field) (listed vs)
     ∙ rw (list_all-map (λ d. is_some (as_table d)) view vs) refl)
 
 -- the elements of an array, all of them tables, or not
-pub tables_there : (place : ℕ) (field : Field) (d : Data) (vs : List Value) → Some (items_view vs) ≡ as_array d → list_all (λ v. is_some (as_table (view v))) vs ≡ true → Ok (map view vs) ≡ tables_of place field d
+pub tables_there : (place : ℕ) (field : Field) (d : Data) (vs : List Value) → Some (items_view vs) ≡ as_array d
+    → list_all (λ v. is_some (as_table (view v))) vs ≡ true → Ok (map view vs) ≡ tables_of place field d
 tables_there place field d vs h all = sym (tables_listed place field d vs h ∙ rw all refl)
 
-pub tables_refused : (place : ℕ) (field : Field) (d : Data) (vs : List Value) → Some (items_view vs) ≡ as_array d → list_all (λ v. is_some (as_table (view v))) vs ≡ false → Err (WrongType place field) ≡ tables_of place field d
+pub tables_refused : (place : ℕ) (field : Field) (d : Data) (vs : List Value) → Some (items_view vs) ≡ as_array d
+    → list_all (λ v. is_some (as_table (view v))) vs ≡ false → Err (WrongType place field) ≡ tables_of place field d
 tables_refused place field d vs h all = sym (tables_listed place field d vs h ∙ rw all refl)

@@ -1,5 +1,6 @@
 -- The keys of a table rise, so its first unknown key is the least.
-use Rattle.std.proofs.Common.{◌≡◌, refl, ap, ◌∙◌, ℕ, Bool, true, false, if◌then◌else◌, List, [], ◌∷◌, Option, Some, None, String, Global, Less, string_bytes}
+use Rattle.std.proofs.Common.{◌≡◌, refl, ap, ◌∙◌, ℕ, Bool, true, false, if◌then◌else◌, List}
+use Rattle.std.proofs.Common.{[], ◌∷◌, Option, Some, None, String, Global, Less, string_bytes}
 use Rattle.std.specs.List.{AllByRecursion}
 use Rattle.std.specs.List.Sorted.{IsStrictlySortedBy}
 use Rattle.std.specs.Map.{keys_of}
@@ -17,24 +18,28 @@ first_unknown fields (member key d ms) = if is_known fields key then first_unkno
 
 module _ (fields : List Field) where
   -- a key below all others is the lesser one
-  least_above : (k : String Global) (es : List (String Global × Value)) → AllByRecursion (λ l. string_cmp k l ≡ Less) (keys_of es)
+  least_above : (k : String Global) (es : List (String Global × Value))
+      → AllByRecursion (λ l. string_cmp k l ≡ Less) (keys_of es)
       → lesser_key (string_bytes k) (first_unknown fields (members_view es)) ≡ string_bytes k
   least_above k [] above = refl
   least_above k (e ∷ es) above = by (is_known fields (string_bytes e.0)) (least_above k es above.1)
     where
       by : (b : Bool) → lesser_key (string_bytes k) (first_unknown fields (members_view es)) ≡ string_bytes k
-          → lesser_key (string_bytes k) (if b then first_unknown fields (members_view es) else Some (string_bytes e.0)) ≡ string_bytes k
+          → lesser_key (string_bytes k) (if b then first_unknown fields (members_view es) else Some
+          (string_bytes e.0)) ≡ string_bytes k
       by true later = later
       by false later = rw above.0 refl
 
   -- among keys that rise the first unknown one is the least
-  pub least-first : (es : List (String Global × Value)) → IsStrictlySortedBy string_cmp (keys_of es) → least_unknown fields (members_view es) ≡ first_unknown fields (members_view es)
+  pub least-first : (es : List (String Global × Value)) → IsStrictlySortedBy string_cmp (keys_of es)
+      → least_unknown fields (members_view es) ≡ first_unknown fields (members_view es)
   unfolding IsStrictlySortedBy
   least-first [] rises = refl
   least-first (e ∷ es) rises = by (is_known fields (string_bytes e.0)) (least-first es rises.1)
     where
       by : (b : Bool) → least_unknown fields (members_view es) ≡ first_unknown fields (members_view es)
-          → (if b then least_unknown fields (members_view es) else Some (lesser_key (string_bytes e.0) (least_unknown fields (members_view es))))
+          → (if b then least_unknown fields (members_view es) else Some
+          (lesser_key (string_bytes e.0) (least_unknown fields (members_view es))))
           ≡ (if b then first_unknown fields (members_view es) else Some (string_bytes e.0))
       by true later = later
       by false later = ap (λ o. Some (lesser_key (string_bytes e.0) o)) later ∙ ap Some (least_above e.0 es rises.0)

@@ -1,5 +1,7 @@
 -- Every model that is read meets the rules.
-use Rattle.std.proofs.Common.{◌≡◌, ◌≢◌, refl, ap, sym, ◌∙◌, subst, ℕ, zero, suc, ◌+◌, ◌<◌, ◌≤◌, ◌==◌, ◌||◌, nat_lt, not, true, false, codes, if◌then◌else◌, List, [], ◌∷◌, length, map, slice_get, option_map, unwrap_or, position, Option, Some, None, Ok, Err, ◌⊎◌, inl, inr, arith}
+use Rattle.std.proofs.Common.{◌≡◌, ◌≢◌, refl, ap, sym, ◌∙◌, subst, ℕ, zero, suc, ◌+◌, ◌<◌, ◌≤◌, ◌==◌, ◌||◌, nat_lt, not}
+use Rattle.std.proofs.Common.{true, false, codes, if◌then◌else◌, List, [], ◌∷◌, length, map, slice_get, option_map}
+use Rattle.std.proofs.Common.{unwrap_or, position, Option, Some, None, Ok, Err, ◌⊎◌, inl, inr, arith}
 use Rattle.std.specs.List.{AllByRecursion, IsDistinct}
 use Rattle.std.specs.Str.{bytes_eq}
 use Rattle.std.proofs.lemmas.Bool.{false≢true}
@@ -9,7 +11,8 @@ use Rattle.std.proofs.lemmas.List.Quantifiers.{position-Some}
 use Rattle.std.proofs.lemmas.Option.{slice_get-map}
 use Rattle.toml.specs.Data.{Data}
 use Rattle.sim_base.specs.Names.{is_name}
-use Rattle.net_model.specs.declared.fault.ModelFault.TheVariants.{UnknownStation, IntoSource, ShortDelay, NoWayOut, OutOfRange, TooMany}
+use Rattle.net_model.specs.declared.fault.ModelFault.TheVariants.{UnknownStation, IntoSource, ShortDelay}
+use Rattle.net_model.specs.declared.fault.ModelFault.TheVariants.{NoWayOut, OutOfRange, TooMany}
 use Rattle.net_model.specs.declared.field.Field.TheVariants.{Format, Lookahead, Horizon, Seed, Limit, Station}
 use Rattle.net_model.specs.declared.links.NamedLink.{NamedLink}
 use Rattle.net_model.specs.declared.station.Kind.{Kind}
@@ -21,14 +24,16 @@ use Rattle.net_model.specs.Drafts.{DraftSite, drafts_of}
 use Rattle.net_model.specs.Keys.{only_known, top_keys}
 use Rattle.net_model.specs.Net.{Net, Site, is_sink, is_source, no_site, site_of}
 use Rattle.net_model.specs.Reading.{integer_at, tables_of, value_at}
-use Rattle.net_model.specs.Resolving.{links_of_named, kind_after, link_along, link_of_named, site_of_draft, sites_of, with_way_out}
+use Rattle.net_model.specs.Resolving.{links_of_named, kind_after, link_along, link_of_named}
+use Rattle.net_model.specs.Resolving.{site_of_draft, sites_of, with_way_out}
 use Rattle.net_model.specs.Rules.{HasWayOut, IsKind, IsLink, IsNet, IsOfFormat1, IsSite}
 use Rattle.net_model.specs.Text.{model_of, sites_of_tables, with_sites}
 use Rattle.net_model.specs.Top.{in_number, stations_at, top_of}
 use Rattle.net_model.proofs.Bounds.{le_of_not, if-Err, if-Ok, Err-not-Ok, required_bounds, Ok-injective, usual_bounds}
 use Rattle.sim_base.proofs.Chain.{bind-Ok}
 use Rattle.net_model.proofs.Stations.{AreDrafts, IsDraft, IsNamedLink, drafts_hold}
-use Rattle.net_model.specs.declared.limits.TheConstants.{MOST_HORIZON, MOST_LIMIT, MOST_LINKS, MOST_SEED, MOST_STATIONS, MOST_TIME, MOST_WEIGHT, USUAL_LIMIT}
+use Rattle.net_model.specs.declared.limits.TheConstants.{MOST_HORIZON, MOST_LIMIT, MOST_LINKS, MOST_SEED}
+use Rattle.net_model.specs.declared.limits.TheConstants.{MOST_STATIONS, MOST_TIME, MOST_WEIGHT, USUAL_LIMIT}
 
 -- a link that leads to the station after `others` others
 pub record IsResolved (lookahead : ℕ) (all : List DraftSite) (link : Link) : Type 0 where
@@ -41,13 +46,18 @@ pub record IsResolved (lookahead : ℕ) (all : List DraftSite) (link : Link) : T
   pub heavy : 1 ≤ link.weight
   pub light : link.weight ≤ MOST_WEIGHT
 
-along : (lookahead : ℕ) (all : List DraftSite) (place : ℕ) (link : NamedLink) (found : Option ℕ) (l : Link) → position (λ draft. bytes_eq draft.name link.to) all ≡ found → IsNamedLink link → link_along lookahead all place link found ≡ Ok l → IsResolved lookahead all l
+along : (lookahead : ℕ) (all : List DraftSite) (place : ℕ) (link : NamedLink) (found : Option ℕ) (l : Link)
+    → position (λ draft. bytes_eq draft.name link.to) all ≡ found → IsNamedLink link
+    → link_along lookahead all place link found ≡ Ok l → IsResolved lookahead all l
 along lookahead all place link None l is named h = absurd (Err-not-Ok (UnknownStation place) l h)
 along lookahead all place link (Some i) l is named h =
     let anyone : DraftSite = record { name = []; kind = Sink; stream = 0; links = [] } in
     let (there, same, first) = position-Some (λ draft. bytes_eq draft.name link.to) all i anyone is in
-    let (receives, h1) = if-Err (is_source (kind_after i all)) (if nat_lt link.delay lookahead then Err (ShortDelay place) else Ok (record { to = i + 1; delay = link.delay; weight = link.weight })) l (IntoSource place) h in
-    let (slow, h2) = if-Err (nat_lt link.delay lookahead) (Ok (record { to = i + 1; delay = link.delay; weight = link.weight })) l (ShortDelay place) h1 in
+    let (receives, h1) = if-Err (is_source (kind_after i all))
+    (if nat_lt link.delay lookahead then Err (ShortDelay place) else Ok
+    (record { to = i + 1; delay = link.delay; weight = link.weight })) l (IntoSource place) h in
+    let (slow, h2) = if-Err (nat_lt link.delay lookahead)
+    (Ok (record { to = i + 1; delay = link.delay; weight = link.weight })) l (ShortDelay place) h1 in
     let made : Link = record { to = i + 1; delay = link.delay; weight = link.weight } in
     subst (λ (x : Link). IsResolved lookahead all x) {x = made} (Ok-injective made l h2)
     (record {
@@ -61,16 +71,26 @@ along lookahead all place link (Some i) l is named h =
       light = named.light;
     })
 
-each_is_resolved : (lookahead : ℕ) (all : List DraftSite) (place : ℕ) (named : List NamedLink) (links : List Link) → AllByRecursion IsNamedLink named → links_of_named lookahead all place named ≡ Ok links → AllByRecursion (IsResolved lookahead all) links × (length links ≡ length named)
-each_is_resolved lookahead all place [] links are h = subst (λ (ls : List Link). AllByRecursion (IsResolved lookahead all) ls × (length ls ≡ 0)) (Ok-injective [] links h) (tt, refl)
+each_is_resolved : (lookahead : ℕ) (all : List DraftSite) (place : ℕ) (named : List NamedLink) (links : List Link)
+    → AllByRecursion IsNamedLink named → links_of_named lookahead all place named ≡ Ok links
+    → AllByRecursion (IsResolved lookahead all) links × (length links ≡ length named)
+each_is_resolved lookahead all place [] links are h =
+    subst (λ (ls : List Link). AllByRecursion (IsResolved lookahead all) ls × (length ls ≡ 0))
+    (Ok-injective [] links h) (tt, refl)
 each_is_resolved lookahead all place (n ∷ named) links are h =
-    let (first, e1, h1) = bind-Ok (link_of_named lookahead all place n) (λ first. links_of_named lookahead all place named >>= (λ others. Ok (first ∷ others))) links h in
-    let (others, e2, h2) = bind-Ok (links_of_named lookahead all place named) (λ others. Ok (first ∷ others)) links h1 in
+    let (first, e1, h1) = bind-Ok (link_of_named lookahead all place n)
+    (λ first. links_of_named lookahead all place named >>= (λ others. Ok (first ∷ others))) links h in
+    let (others, e2, h2) = bind-Ok (links_of_named lookahead all place named) (λ others. Ok (first ∷ others)) links
+    h1 in
     let (holds, count) = each_is_resolved lookahead all place named others are.1 e2 in
-    subst (λ (ls : List Link). AllByRecursion (IsResolved lookahead all) ls × (length ls ≡ length (n ∷ named))) (Ok-injective (first ∷ others) links h2)
-    ((along lookahead all place n (position (λ draft. bytes_eq draft.name n.to) all) first refl are.0 e1, holds), omega (arith, count))
+    subst (λ (ls : List Link). AllByRecursion (IsResolved lookahead all) ls × (length ls ≡ length (n ∷ named)))
+    (Ok-injective (first ∷ others) links h2) (
+      (along lookahead all place n (position (λ draft. bytes_eq draft.name n.to) all) first refl are.0 e1, holds),
+      omega (arith, count),
+    )
 
-way_out : (kind : Kind) (links : List Link) → (is_sink kind || not (length links == 0)) ≡ true → (is_sink kind ≡ true → length links ≡ 0) → HasWayOut kind links
+way_out : (kind : Kind) (links : List Link) → (is_sink kind || not (length links == 0)) ≡ true
+    → (is_sink kind ≡ true → length links ≡ 0) → HasWayOut kind links
 way_out Sink links some closed = closed refl
 way_out (Source lo hi jobs class) [] some closed = absurd (false≢true some)
 way_out (Server servers room lo hi by_class) [] some closed = absurd (false≢true some)
@@ -93,15 +113,21 @@ pub record IsPlaced (format lookahead : ℕ) (all : List DraftSite) (site : Site
   pub way : HasWayOut site.kind site.links
 
 abbrev SiteHolds : ℕ → ℕ → List DraftSite → DraftSite → Site → Type 0
-SiteHolds format lookahead all draft site = IsPlaced format lookahead all site × (site.name ≡ draft.name) × (site.kind ≡ draft.kind)
+SiteHolds format lookahead all draft site = IsPlaced format lookahead all site × (site.name ≡ draft.name)
+    × (site.kind ≡ draft.kind)
 
-site_holds : (format lookahead : ℕ) (all : List DraftSite) (place : ℕ) (draft : DraftSite) (site : Site) → IsDraft format draft → site_of_draft lookahead all place draft ≡ Ok site → SiteHolds format lookahead all draft site
+site_holds : (format lookahead : ℕ) (all : List DraftSite) (place : ℕ) (draft : DraftSite) (site : Site)
+    → IsDraft format draft → site_of_draft lookahead all place draft ≡ Ok site
+    → SiteHolds format lookahead all draft site
 site_holds format lookahead all place draft site is h =
-    let (links, e1, h1) = bind-Ok (links_of_named lookahead all place draft.links >>= with_way_out place draft.kind) (λ links. Ok (record { name = draft.name; kind = draft.kind; stream = draft.stream; links = links })) site h in
-    let (found, e2, h2) = bind-Ok (links_of_named lookahead all place draft.links) (with_way_out place draft.kind) links e1 in
+    let (links, e1, h1) = bind-Ok (links_of_named lookahead all place draft.links >>= with_way_out place draft.kind)
+    (λ links. Ok (record { name = draft.name; kind = draft.kind; stream = draft.stream; links = links })) site h in
+    let (found, e2, h2) = bind-Ok (links_of_named lookahead all place draft.links)
+    (with_way_out place draft.kind) links e1 in
     let (holds, count) = each_is_resolved lookahead all place draft.links found is.links e2 in
     let (some, same) = if-Ok (is_sink draft.kind || not (length found == 0)) found links (NoWayOut place) h2 in
-    let placed : SiteHolds format lookahead all draft (record { name = draft.name; kind = draft.kind; stream = draft.stream; links = found }) = (
+    let placed : SiteHolds format lookahead all draft
+    (record { name = draft.name; kind = draft.kind; stream = draft.stream; links = found }) = (
       record {
         named = is.named;
         no_analyst = is.no_analyst;
@@ -115,8 +141,10 @@ site_holds format lookahead all place draft site is h =
       refl,
       refl,
     ) in
-    subst (λ (s : Site). SiteHolds format lookahead all draft s) (Ok-injective (record { name = draft.name; kind = draft.kind; stream = draft.stream; links = links }) site h1)
-    (subst (λ (ls : List Link). SiteHolds format lookahead all draft (record { name = draft.name; kind = draft.kind; stream = draft.stream; links = ls })) same placed)
+    subst (λ (s : Site). SiteHolds format lookahead all draft s)
+    (Ok-injective (record { name = draft.name; kind = draft.kind; stream = draft.stream; links = links }) site h1)
+    (subst (λ (ls : List Link). SiteHolds format lookahead all draft
+    (record { name = draft.name; kind = draft.kind; stream = draft.stream; links = ls })) same placed)
 
 -- the stations of the network
 pub record ArePlaced (format lookahead : ℕ) (all drafts : List DraftSite) (sites : List Site) : Type 0 where
@@ -124,11 +152,15 @@ pub record ArePlaced (format lookahead : ℕ) (all drafts : List DraftSite) (sit
   pub names : map (λ s. s.name) sites ≡ map (λ x. x.name) drafts
   pub kinds : map (λ s. s.kind) sites ≡ map (λ x. x.kind) drafts
 
-sites_hold : (format lookahead : ℕ) (all : List DraftSite) (place : ℕ) (drafts : List DraftSite) (sites : List Site) → AllByRecursion (IsDraft format) drafts → sites_of lookahead all place drafts ≡ Ok sites → ArePlaced format lookahead all drafts sites
+sites_hold : (format lookahead : ℕ) (all : List DraftSite) (place : ℕ) (drafts : List DraftSite) (sites : List Site)
+    → AllByRecursion (IsDraft format) drafts → sites_of lookahead all place drafts ≡ Ok sites
+    → ArePlaced format lookahead all drafts sites
 sites_hold format lookahead all place [] sites are h =
-    subst (λ (ss : List Site). ArePlaced format lookahead all [] ss) (Ok-injective [] sites h) (record { placed = tt; names = refl; kinds = refl })
+    subst (λ (ss : List Site). ArePlaced format lookahead all [] ss) (Ok-injective [] sites h)
+    (record { placed = tt; names = refl; kinds = refl })
 sites_hold format lookahead all place (x ∷ drafts) sites are h =
-    let (site, e1, h1) = bind-Ok (site_of_draft lookahead all place x) (λ site. sites_of lookahead all (place + 1) drafts >>= (λ sites. Ok (site ∷ sites))) sites h in
+    let (site, e1, h1) = bind-Ok (site_of_draft lookahead all place x)
+    (λ site. sites_of lookahead all (place + 1) drafts >>= (λ sites. Ok (site ∷ sites))) sites h in
     let (rest, e2, h2) = bind-Ok (sites_of lookahead all (place + 1) drafts) (λ sites. Ok (site ∷ sites)) sites h1 in
     let first = site_holds format lookahead all place x site are.0 e1 in
     let others = sites_hold format lookahead all (place + 1) drafts rest are.1 e2 in
@@ -139,7 +171,8 @@ sites_hold format lookahead all place (x ∷ drafts) sites are h =
       kinds = ap (λ k. k ∷ map (λ s. s.kind) rest) first.2 ∙ ap (λ ks. x.kind ∷ ks) others.kinds;
     })
 
-for_all : {X : Type 0} (P Q : X → Type 0) → ((x : X) → P x → Q x) → (xs : List X) → AllByRecursion P xs → AllByRecursion Q xs
+for_all : {X : Type 0} (P Q : X → Type 0) → ((x : X) → P x → Q x) → (xs : List X) → AllByRecursion P xs
+    → AllByRecursion Q xs
 for_all P Q f [] h = tt
 for_all P Q f (x ∷ xs) h = (f x h.0, for_all P Q f xs h.1)
 
@@ -148,12 +181,16 @@ site_kind : (found : Option Site) → (unwrap_or found no_site).kind ≡ unwrap_
 site_kind None = refl
 site_kind (Some s) = refl
 
-kind_there : (sites : List Site) (drafts : List DraftSite) (i : ℕ) → map (λ s. s.kind) sites ≡ map (λ x. x.kind) drafts → (unwrap_or (slice_get sites i) no_site).kind ≡ kind_after i drafts
+kind_there : (sites : List Site) (drafts : List DraftSite) (i : ℕ)
+    → map (λ s. s.kind) sites ≡ map (λ x. x.kind) drafts
+    → (unwrap_or (slice_get sites i) no_site).kind ≡ kind_after i drafts
 kind_there sites drafts i kinds =
     site_kind (slice_get sites i)
-    ∙ ap (λ o. unwrap_or o Sink) (sym (slice_get-map (λ s. s.kind) sites i) ∙ (ap (λ ks. slice_get ks i) kinds ∙ slice_get-map (λ x. x.kind) drafts i))
+    ∙ ap (λ o. unwrap_or o Sink) (sym (slice_get-map (λ s. s.kind) sites i)
+    ∙ (ap (λ ks. slice_get ks i) kinds ∙ slice_get-map (λ x. x.kind) drafts i))
 
-module _ (top : Top) (drafts : List DraftSite) (sites : List Site) (holds : ArePlaced top.format top.lookahead drafts drafts sites) where
+module _ (top : Top) (drafts : List DraftSite) (sites : List Site)
+    (holds : ArePlaced top.format top.lookahead drafts drafts sites) where
   many : length sites ≡ length drafts
   many = sym (length-map sites (λ s. s.kind)) ∙ (ap length holds.kinds ∙ length-map drafts (λ x. x.kind))
 
@@ -186,7 +223,8 @@ module _ (top : Top) (drafts : List DraftSite) (sites : List Site) (holds : AreP
       }
 
   pub sites_are : AllByRecursion (IsSite (with_sites top sites)) sites
-  sites_are = for_all (IsPlaced top.format top.lookahead drafts) (IsSite (with_sites top sites)) site_is sites holds.placed
+  sites_are = for_all (IsPlaced top.format top.lookahead drafts) (IsSite (with_sites top sites)) site_is sites
+      holds.placed
 
 -- the numbers at the top
 pub record IsTop (top : Top) : Type 0 where
@@ -207,11 +245,56 @@ one_or_two (suc (suc (suc n))) low high = absurd (omega arith)
 
 top_holds : (root : Data) (top : Top) → top_of root ≡ Ok top → IsTop top
 top_holds root top h =
-    let (format, e1, h1) = bind-Ok (integer_at 0 Format 1 2 (Some 1) root) (λ format. integer_at 0 Lookahead 1 MOST_TIME None root >>= (λ lookahead. integer_at 0 Horizon 1 MOST_HORIZON None root >>= (λ horizon. integer_at 0 Seed 0 MOST_SEED (Some 0) root >>= (λ seed. integer_at 0 Limit 1 MOST_LIMIT (Some USUAL_LIMIT) root >>= (λ limit. Ok (record { format = format; lookahead = lookahead; horizon = horizon; seed = seed; limit = limit })))))) top h in
-    let (lookahead, e2, h2) = bind-Ok (integer_at 0 Lookahead 1 MOST_TIME None root) (λ lookahead. integer_at 0 Horizon 1 MOST_HORIZON None root >>= (λ horizon. integer_at 0 Seed 0 MOST_SEED (Some 0) root >>= (λ seed. integer_at 0 Limit 1 MOST_LIMIT (Some USUAL_LIMIT) root >>= (λ limit. Ok (record { format = format; lookahead = lookahead; horizon = horizon; seed = seed; limit = limit }))))) top h1 in
-    let (horizon, e3, h3) = bind-Ok (integer_at 0 Horizon 1 MOST_HORIZON None root) (λ horizon. integer_at 0 Seed 0 MOST_SEED (Some 0) root >>= (λ seed. integer_at 0 Limit 1 MOST_LIMIT (Some USUAL_LIMIT) root >>= (λ limit. Ok (record { format = format; lookahead = lookahead; horizon = horizon; seed = seed; limit = limit })))) top h2 in
-    let (seed, e4, h4) = bind-Ok (integer_at 0 Seed 0 MOST_SEED (Some 0) root) (λ seed. integer_at 0 Limit 1 MOST_LIMIT (Some USUAL_LIMIT) root >>= (λ limit. Ok (record { format = format; lookahead = lookahead; horizon = horizon; seed = seed; limit = limit }))) top h3 in
-    let (limit, e5, h5) = bind-Ok (integer_at 0 Limit 1 MOST_LIMIT (Some USUAL_LIMIT) root) (λ limit. Ok (record { format = format; lookahead = lookahead; horizon = horizon; seed = seed; limit = limit })) top h4 in
+    let (format, e1, h1) = bind-Ok (integer_at 0 Format 1 2 (Some 1) root)
+    (λ format. integer_at 0 Lookahead 1 MOST_TIME None root >>=
+    (λ lookahead. integer_at 0 Horizon 1 MOST_HORIZON None root >>=
+    (λ horizon. integer_at 0 Seed 0 MOST_SEED (Some 0) root >>=
+    (λ seed. integer_at 0 Limit 1 MOST_LIMIT (Some USUAL_LIMIT) root >>=
+    (λ limit. Ok (record {
+      format = format;
+      lookahead = lookahead;
+      horizon = horizon;
+      seed = seed;
+      limit = limit;
+    })))))) top h in
+    let (lookahead, e2, h2) = bind-Ok (integer_at 0 Lookahead 1 MOST_TIME None root)
+    (λ lookahead. integer_at 0 Horizon 1 MOST_HORIZON None root >>=
+    (λ horizon. integer_at 0 Seed 0 MOST_SEED (Some 0) root >>=
+    (λ seed. integer_at 0 Limit 1 MOST_LIMIT (Some USUAL_LIMIT) root >>=
+    (λ limit. Ok (record {
+      format = format;
+      lookahead = lookahead;
+      horizon = horizon;
+      seed = seed;
+      limit = limit;
+    }))))) top h1 in
+    let (horizon, e3, h3) = bind-Ok (integer_at 0 Horizon 1 MOST_HORIZON None root)
+    (λ horizon. integer_at 0 Seed 0 MOST_SEED (Some 0) root >>=
+    (λ seed. integer_at 0 Limit 1 MOST_LIMIT (Some USUAL_LIMIT) root >>=
+    (λ limit. Ok (record {
+      format = format;
+      lookahead = lookahead;
+      horizon = horizon;
+      seed = seed;
+      limit = limit;
+    })))) top h2 in
+    let (seed, e4, h4) = bind-Ok (integer_at 0 Seed 0 MOST_SEED (Some 0) root)
+    (λ seed. integer_at 0 Limit 1 MOST_LIMIT (Some USUAL_LIMIT) root >>=
+    (λ limit. Ok (record {
+      format = format;
+      lookahead = lookahead;
+      horizon = horizon;
+      seed = seed;
+      limit = limit;
+    }))) top h3 in
+    let (limit, e5, h5) = bind-Ok (integer_at 0 Limit 1 MOST_LIMIT (Some USUAL_LIMIT) root)
+    (λ limit. Ok (record {
+      format = format;
+      lookahead = lookahead;
+      horizon = horizon;
+      seed = seed;
+      limit = limit;
+    })) top h4 in
     let formats = usual_bounds 0 Format 1 2 1 root format (omega arith) (omega arith) e1 in
     let aheads = required_bounds 0 Lookahead 1 MOST_TIME root lookahead e2 in
     let horizons = required_bounds 0 Horizon 1 MOST_HORIZON root horizon e3 in
@@ -236,15 +319,21 @@ some_if n h = grind (arith, nat_tests)
 count_holds : (root : Data) (ds : List Data) → stations_at root ≡ Ok ds → (1 ≤ length ds) × (length ds ≤ MOST_STATIONS)
 count_holds root ds h =
     let (read, e1, h1) = bind-Ok (value_at 0 Station root >>= tables_of 0 Station) in_number ds h in
-    let (some, h2) = if-Err (length read == 0) (if nat_lt MOST_STATIONS (length read) then Err (TooMany 0) else Ok read) ds (OutOfRange 0 Station) h1 in
+    let (some, h2) = if-Err (length read == 0)
+    (if nat_lt MOST_STATIONS (length read) then Err (TooMany 0) else Ok read) ds (OutOfRange 0 Station) h1 in
     let (few, h3) = if-Err (nat_lt MOST_STATIONS (length read)) (Ok read) ds (TooMany 0) h2 in
-    subst (λ (xs : List Data). (1 ≤ length xs) × (length xs ≤ MOST_STATIONS)) (Ok-injective read ds h3) (some_if (length read) some, le_of_not MOST_STATIONS (length read) few)
+    subst (λ (xs : List Data). (1 ≤ length xs) × (length xs ≤ MOST_STATIONS)) (Ok-injective read ds h3)
+    (some_if (length read) some, le_of_not MOST_STATIONS (length read) few)
 
-net_holds : (top : Top) (ds : List Data) (sites : List Site) → IsTop top → (1 ≤ length ds) × (length ds ≤ MOST_STATIONS) → sites_of_tables top ds ≡ Ok sites → IsNet (with_sites top sites)
+net_holds : (top : Top) (ds : List Data) (sites : List Site) → IsTop top
+    → (1 ≤ length ds) × (length ds ≤ MOST_STATIONS) → sites_of_tables top ds ≡ Ok sites → IsNet (with_sites top sites)
 net_holds top ds sites is count h =
-    let (drafts, e1, h1) = bind-Ok (drafts_of top.format [] 1 ds) (λ drafts. sites_of top.lookahead drafts 1 drafts) sites h in
-    let read : AreDrafts top.format [] drafts (length ds) = drafts_hold top.format [] 1 ds drafts (omega (arith, count.1)) e1 in
-    let placed : ArePlaced top.format top.lookahead drafts drafts sites = sites_hold top.format top.lookahead drafts 1 drafts sites read.all h1 in
+    let (drafts, e1, h1) = bind-Ok (drafts_of top.format [] 1 ds) (λ drafts. sites_of top.lookahead drafts 1 drafts)
+    sites h in
+    let read : AreDrafts top.format [] drafts (length ds) =
+    drafts_hold top.format [] 1 ds drafts (omega (arith, count.1)) e1 in
+    let placed : ArePlaced top.format top.lookahead drafts drafts sites =
+    sites_hold top.format top.lookahead drafts 1 drafts sites read.all h1 in
     let size : length sites ≡ length drafts = many top drafts sites placed in
     record {
       format = is.format;
@@ -265,9 +354,14 @@ net_holds top ds sites is count h =
 pub stated_is_net : (root : Data) (net : Net) → model_of root ≡ Ok net → IsNet net
 unfolding model_of
 stated_is_net root net h =
-    let (known, e1, h1) = bind-Ok (only_known 0 top_keys root) (λ _. top_of root >>= (λ top. stations_at root >>= (λ ds. sites_of_tables top ds >>= (λ sites. Ok (with_sites top sites))))) net h in
-    let (top, e2, h2) = bind-Ok (top_of root) (λ top. stations_at root >>= (λ ds. sites_of_tables top ds >>= (λ sites. Ok (with_sites top sites)))) net h1 in
-    let (ds, e3, h3) = bind-Ok (stations_at root) (λ ds. sites_of_tables top ds >>= (λ sites. Ok (with_sites top sites))) net h2 in
+    let (known, e1, h1) = bind-Ok (only_known 0 top_keys root)
+    (λ _. top_of root >>= (λ top. stations_at root >>=
+    (λ ds. sites_of_tables top ds >>= (λ sites. Ok (with_sites top sites))))) net h in
+    let (top, e2, h2) = bind-Ok (top_of root)
+    (λ top. stations_at root >>= (λ ds. sites_of_tables top ds >>= (λ sites. Ok (with_sites top sites)))) net h1 in
+    let (ds, e3, h3) = bind-Ok (stations_at root)
+    (λ ds. sites_of_tables top ds >>= (λ sites. Ok (with_sites top sites))) net h2 in
     let (sites, e4, h4) = bind-Ok (sites_of_tables top ds) (λ sites. Ok (with_sites top sites)) net h3 in
     let made : Net = with_sites top sites in
-    subst (λ (n : Net). IsNet n) {x = made} (Ok-injective made net h4) (net_holds top ds sites (top_holds root top e2) (count_holds root ds e3) e4)
+    subst (λ (n : Net). IsNet n) {x = made} (Ok-injective made net h4)
+    (net_holds top ds sites (top_holds root top e2) (count_holds root ds e3) e4)

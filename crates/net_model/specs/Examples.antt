@@ -74,7 +74,17 @@ small = record {
   seed = 0;
   limit = 16384;
   sites =
-      record { name = codes "gate"; kind = Source 3 3 2 1; stream = 1; links = record { to = 2; delay = 2; weight = 1 } ∷ [] }
-      ∷ record { name = codes "desk"; kind = Server 1 5 4 4 false; stream = 2; links = record { to = 3; delay = 2; weight = 1 } ∷ [] }
+      record {
+        name = codes "gate";
+        kind = Source 3 3 2 1;
+        stream = 1;
+        links = record { to = 2; delay = 2; weight = 1 } ∷ [];
+      }
+      ∷ record {
+        name = codes "desk";
+        kind = Server 1 5 4 4 false;
+        stream = 2;
+        links = record { to = 3; delay = 2; weight = 1 } ∷ [];
+      }
       ∷ record { name = codes "out"; kind = Sink; stream = 3; links = [] } ∷ [];
 }

@@ -1,7 +1,9 @@
 -- The numbers of the faults, and the stations and the keys that they name.
 use Rattle.std.specs.Prelude.{ℕ, List, Option, Some, None}
 use Rattle.net_model.specs.declared.fault.ModelFault.{ModelFault}
-use Rattle.net_model.specs.declared.fault.ModelFault.TheVariants.{TooLong, NotToml, Missing, WrongType, UnknownKey, BadName, NameTwice, OutOfRange, UnknownStation, ShortDelay, NoWayOut, TooMany, NoMemory, IntoSource}
+use Rattle.net_model.specs.declared.fault.ModelFault.TheVariants.{TooLong, NotToml, Missing, WrongType, UnknownKey}
+use Rattle.net_model.specs.declared.fault.ModelFault.TheVariants.{BadName, NameTwice, OutOfRange, UnknownStation}
+use Rattle.net_model.specs.declared.fault.ModelFault.TheVariants.{ShortDelay, NoWayOut, TooMany, NoMemory, IntoSource}
 use Rattle.net_model.specs.Fields.{key_of}
 
 abbrev pub fault_number : ModelFault → ℕ

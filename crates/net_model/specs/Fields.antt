@@ -1,7 +1,9 @@
 -- The keys of a model file as they are written.
 use Rattle.std.specs.Prelude.{ℕ, List, codes}
 use Rattle.net_model.specs.declared.field.Field.{Field}
-use Rattle.net_model.specs.declared.field.Field.TheVariants.{Format, Lookahead, Horizon, Seed, Limit, Station, Name, Kind, Stream, Every, Jobs, Class, Servers, Room, Service, Order, Hold, By, Link, To, Delay, Weight}
+use Rattle.net_model.specs.declared.field.Field.TheVariants.{Format, Lookahead, Horizon, Seed, Limit, Station, Name}
+use Rattle.net_model.specs.declared.field.Field.TheVariants.{Kind, Stream, Every, Jobs, Class, Servers, Room, Service}
+use Rattle.net_model.specs.declared.field.Field.TheVariants.{Order, Hold, By, Link, To, Delay, Weight}
 
 abbrev pub key_of : Field → List ℕ
 key_of Format = codes "format"

@@ -1,5 +1,6 @@
 -- How an unknown key is shown: its first 32 bytes, with `?` for each byte that no key has.
-use Rattle.std.specs.Prelude.{◌≡◌, ◌||◌, ◌==◌, ℕ, ◌-◌, ◌≤◌, ◌++◌, Bool, true, if◌then◌else◌, List, length, map, take, drop, replicate}
+use Rattle.std.specs.Prelude.{◌≡◌, ◌||◌, ◌==◌, ℕ, ◌-◌, ◌≤◌, ◌++◌, Bool}
+use Rattle.std.specs.Prelude.{true, if◌then◌else◌, List, length, map, take, drop, replicate}
 use Rattle.std.specs.List.{list_all}
 use Rattle.std.proofs.Common.{arith, take-append-drop, length-take-le}
 use Rattle.sim_base.specs.Names.{is_name_byte}
@@ -20,7 +21,8 @@ pub record IsKeyText (bytes : List ℕ) (len : ℕ) : Type 0 where
   pub zeros : drop len bytes ≡ replicate (32 - len) 0
   pub shown : list_all is_shown (take len bytes) ≡ true
 
-pub key_text_back : (bytes : List ℕ) (len : ℕ) → IsKeyText bytes len → (take len bytes ++ replicate (32 - length (take len bytes)) 0 ≡ bytes) × (length (take len bytes) ≡ len)
+pub key_text_back : (bytes : List ℕ) (len : ℕ) → IsKeyText bytes len
+    → (take len bytes ++ replicate (32 - length (take len bytes)) 0 ≡ bytes) × (length (take len bytes) ≡ len)
 key_text_back bytes len h =
     let long : length (take len bytes) ≡ len = length-take-le len bytes (omega (arith, h.room, h.size)) in
     (rw (long, ← h.zeros) (take-append-drop len bytes), long)

@@ -8,9 +8,13 @@ use Rattle.toml.specs.Data.{Data, table, Members, no_members, member}
 use Rattle.net_model.specs.declared.fault.ModelFault.{ModelFault}
 use Rattle.net_model.specs.declared.fault.ModelFault.TheVariants.{UnknownKey}
 use Rattle.net_model.specs.declared.field.Field.{Field}
-use Rattle.net_model.specs.declared.field.Field.TheVariants.{Format, Lookahead, Horizon, Seed, Limit, Station, Name, Kind, Stream, Every, Jobs, Class, Servers, Room, Service, Order, Hold, By, Link, To, Delay, Weight}
+use Rattle.net_model.specs.declared.field.Field.TheVariants.{Format, Lookahead, Horizon, Seed, Limit, Station, Name}
+use Rattle.net_model.specs.declared.field.Field.TheVariants.{Kind, Stream, Every, Jobs, Class, Servers, Room, Service}
+use Rattle.net_model.specs.declared.field.Field.TheVariants.{Order, Hold, By, Link, To, Delay, Weight}
 use Rattle.net_model.specs.declared.keys.KindWord.{KindWord}
-use Rattle.net_model.specs.declared.keys.KindWord.TheVariants.{Source as SourceWord, Server as ServerWord, Delay as DelayWord, Router as RouterWord, Sink as SinkWord}
+use Rattle.net_model.specs.declared.keys.KindWord.TheVariants.{Source as SourceWord, Server as ServerWord}
+use Rattle.net_model.specs.declared.keys.KindWord.TheVariants.{Delay as DelayWord, Router as RouterWord}
+use Rattle.net_model.specs.declared.keys.KindWord.TheVariants.{Sink as SinkWord}
 use Rattle.net_model.specs.Fields.{key_of}
 use Rattle.net_model.specs.KeyTexts.{key_text}
 
@@ -25,7 +29,8 @@ lesser_key key (Some other) = match_ordering (slice_cmp nat_cmp key other) key k
 -- the least key that is none of the fields
 abbrev pub least_unknown : List Field → Members → Option (List ℕ)
 least_unknown fields no_members = None
-least_unknown fields (member key d ms) = if is_known fields key then least_unknown fields ms else Some (lesser_key key (least_unknown fields ms))
+least_unknown fields (member key d ms) = if is_known fields key then least_unknown fields ms else Some
+    (lesser_key key (least_unknown fields ms))
 
 abbrev pub none_unknown : ℕ → Option (List ℕ) → Result (Unit {0}) ModelFault
 none_unknown place None = Ok tt
@@ -41,8 +46,12 @@ top_keys = Format ∷ Lookahead ∷ Horizon ∷ Seed ∷ Limit ∷ Station ∷ [
 
 -- format 1 knows neither classes nor orders
 abbrev pub station_keys : ℕ → KindWord → List Field
-station_keys format SourceWord = if format == 1 then Name ∷ Kind ∷ Stream ∷ Every ∷ Jobs ∷ Link ∷ [] else Name ∷ Kind ∷ Stream ∷ Every ∷ Jobs ∷ Class ∷ Link ∷ []
-station_keys format ServerWord = if format == 1 then Name ∷ Kind ∷ Stream ∷ Servers ∷ Room ∷ Service ∷ Link ∷ [] else Name ∷ Kind ∷ Stream ∷ Servers ∷ Room ∷ Service ∷ Order ∷ Link ∷ []
+station_keys format SourceWord =
+    if format == 1 then Name ∷ Kind ∷ Stream ∷ Every ∷ Jobs ∷ Link ∷ [] else
+    Name ∷ Kind ∷ Stream ∷ Every ∷ Jobs ∷ Class ∷ Link ∷ []
+station_keys format ServerWord =
+    if format == 1 then Name ∷ Kind ∷ Stream ∷ Servers ∷ Room ∷ Service ∷ Link ∷ [] else
+    Name ∷ Kind ∷ Stream ∷ Servers ∷ Room ∷ Service ∷ Order ∷ Link ∷ []
 station_keys format DelayWord = Name ∷ Kind ∷ Stream ∷ Hold ∷ Link ∷ []
 station_keys format RouterWord = Name ∷ Kind ∷ Stream ∷ By ∷ Link ∷ []
 station_keys format SinkWord = Name ∷ Kind ∷ Stream ∷ []

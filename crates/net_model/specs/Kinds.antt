@@ -1,13 +1,17 @@
 -- What a station does, as its keys state it.
-use Rattle.std.specs.Prelude.{◌==◌, ℕ, Bool, true, false, codes, if◌then◌else◌, List, Option, Some, None, Result, Ok, Err}
+use Rattle.std.specs.Prelude.{◌==◌, ℕ, Bool, true, false, codes, if◌then◌else◌}
+use Rattle.std.specs.Prelude.{List, Option, Some, None, Result, Ok, Err}
 use Rattle.std.specs.Str.{bytes_eq}
 use Rattle.toml.specs.Data.{Data, get}
 use Rattle.net_model.specs.declared.fault.ModelFault.{ModelFault}
 use Rattle.net_model.specs.declared.fault.ModelFault.TheVariants.{OutOfRange}
 use Rattle.net_model.specs.declared.field.Field.{Field}
-use Rattle.net_model.specs.declared.field.Field.TheVariants.{Kind as KindField, Every, Jobs, Class, Servers, Room, Service, Order, Hold, By}
+use Rattle.net_model.specs.declared.field.Field.TheVariants.{Kind as KindField, Every, Jobs, Class, Servers}
+use Rattle.net_model.specs.declared.field.Field.TheVariants.{Room, Service, Order, Hold, By}
 use Rattle.net_model.specs.declared.keys.KindWord.{KindWord}
-use Rattle.net_model.specs.declared.keys.KindWord.TheVariants.{Source as SourceWord, Server as ServerWord, Delay as DelayWord, Router as RouterWord, Sink as SinkWord}
+use Rattle.net_model.specs.declared.keys.KindWord.TheVariants.{Source as SourceWord, Server as ServerWord}
+use Rattle.net_model.specs.declared.keys.KindWord.TheVariants.{Delay as DelayWord, Router as RouterWord}
+use Rattle.net_model.specs.declared.keys.KindWord.TheVariants.{Sink as SinkWord}
 use Rattle.net_model.specs.declared.station.Kind.{Kind}
 use Rattle.net_model.specs.declared.station.Kind.TheVariants.{Source, Server, Delay, Router, Sink}
 use Rattle.sim_base.specs.Chain.{◌>>=◌}
@@ -37,7 +41,8 @@ class_at format place d = if format == 1 then Ok 1 else integer_at place Class 1
 
 -- whether the order is by class
 abbrev pub order_word : List ℕ → Option Bool
-order_word text = if bytes_eq text (codes "arrival") then Some false else (if bytes_eq text (codes "class") then Some true else None)
+order_word text = if bytes_eq text (codes "arrival") then Some false else
+    (if bytes_eq text (codes "class") then Some true else None)
 
 abbrev pub found_order : ℕ → Option Data → Result Bool ModelFault
 found_order place None = Ok false
@@ -48,7 +53,8 @@ order_at format place d = if format == 1 then Ok false else found_order place (g
 
 -- whether a router goes by turn
 abbrev pub by_word : List ℕ → Option Bool
-by_word text = if bytes_eq text (codes "weights") then Some false else (if bytes_eq text (codes "turn") then Some true else None)
+by_word text = if bytes_eq text (codes "weights") then Some false else
+    (if bytes_eq text (codes "turn") then Some true else None)
 
 abbrev pub source_of : ℕ → ℕ → Data → Result Kind ModelFault
 source_of format place d =

@@ -1,5 +1,6 @@
 -- The network that a model states, as plain data.
-use Rattle.std.specs.Prelude.{ℕ, zero, suc, ◌+◌, List, [], Bool, true, false, Option, None, slice_get, unwrap_or, position, option_map}
+use Rattle.std.specs.Prelude.{ℕ, zero, suc, ◌+◌, List, [], Bool, true}
+use Rattle.std.specs.Prelude.{false, Option, None, slice_get, unwrap_or, position, option_map}
 use Rattle.std.specs.Str.{bytes_eq}
 use Rattle.net_model.specs.declared.station.Kind.{Kind}
 use Rattle.net_model.specs.declared.station.Kind.TheVariants.{Source, Server, Router, Sink}

@@ -1,5 +1,6 @@
 -- How the value of one key is read: what it states, or the first rule that it breaks.
-use Rattle.std.specs.Prelude.{◌&&◌, ℕ, ℤ, pos, negsuc, nat_le, is_some, if◌then◌else◌, List, [], ◌∷◌, Option, Some, None, Result, Ok, Err}
+use Rattle.std.specs.Prelude.{◌&&◌, ℕ, ℤ, pos, negsuc, nat_le, is_some, if◌then◌else◌, List}
+use Rattle.std.specs.Prelude.{[], ◌∷◌, Option, Some, None, Result, Ok, Err}
 use Rattle.std.specs.List.{list_all}
 use Rattle.toml.specs.Data.{Data, integer, string, array, Items, no_items, item, get, as_table, as_integer}
 use Rattle.sim_base.specs.Names.{is_name}
@@ -58,7 +59,8 @@ name_at place field t = text_at place field t >>= as_name place
 
 -- a range of times, from lo to hi, both at most MOST_TIME
 abbrev pub span : ℕ → Field → ℕ → ℕ → ℕ → Result Span ModelFault
-span place field low lo hi = if (nat_le low lo && nat_le lo hi) && nat_le hi MOST_TIME then Ok (record { lo = lo; hi = hi }) else Err (OutOfRange place field)
+span place field low lo hi = if (nat_le low lo && nat_le lo hi) && nat_le hi MOST_TIME then Ok
+    (record { lo = lo; hi = hi }) else Err (OutOfRange place field)
 
 abbrev pub span_to : ℕ → Field → ℕ → ℕ → ℤ → Result Span ModelFault
 span_to place field low lo (pos hi) = span place field low lo hi

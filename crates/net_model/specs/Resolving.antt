@@ -1,5 +1,6 @@
 -- The stations of the network: each link leads to the station of its name.
-use Rattle.std.specs.Prelude.{◌==◌, ◌||◌, ℕ, ◌+◌, not, nat_lt, if◌then◌else◌, List, [], ◌∷◌, length, Option, Some, None, option_map, position, slice_get, unwrap_or, Result, Ok, Err}
+use Rattle.std.specs.Prelude.{◌==◌, ◌||◌, ℕ, ◌+◌, not, nat_lt, if◌then◌else◌, List, [], ◌∷◌, length}
+use Rattle.std.specs.Prelude.{Option, Some, None, option_map, position, slice_get, unwrap_or, Result, Ok, Err}
 use Rattle.std.specs.Str.{bytes_eq}
 use Rattle.net_model.specs.declared.fault.ModelFault.{ModelFault}
 use Rattle.net_model.specs.declared.fault.ModelFault.TheVariants.{UnknownStation, IntoSource, ShortDelay, NoWayOut}
@@ -27,7 +28,8 @@ link_along lookahead drafts place link None = Err (UnknownStation place)
 link_along lookahead drafts place link (Some i) = link_to lookahead place link i (kind_after i drafts)
 
 abbrev pub link_of_named : ℕ → List DraftSite → ℕ → NamedLink → Result Link ModelFault
-link_of_named lookahead drafts place link = link_along lookahead drafts place link (position (λ draft. bytes_eq draft.name link.to) drafts)
+link_of_named lookahead drafts place link =
+    link_along lookahead drafts place link (position (λ draft. bytes_eq draft.name link.to) drafts)
 
 abbrev pub links_of_named : ℕ → List DraftSite → ℕ → List NamedLink → Result (List Link) ModelFault
 links_of_named lookahead drafts place [] = Ok []

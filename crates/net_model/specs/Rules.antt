@@ -7,7 +7,9 @@ use Rattle.net_model.specs.declared.station.Kind.{Kind}
 use Rattle.net_model.specs.declared.station.Kind.TheVariants.{Source, Server, Delay, Router, Sink}
 use Rattle.net_model.specs.declared.station.Link.{Link}
 use Rattle.net_model.specs.Net.{Net, Site, site_of, is_source}
-use Rattle.net_model.specs.declared.limits.TheConstants.{MOST_TIME, MOST_HORIZON, MOST_SEED, MOST_LIMIT, MOST_STATIONS, MOST_LINKS, MOST_JOBS, MOST_CLASS, MOST_SERVERS, MOST_ROOM, MOST_WEIGHT}
+use Rattle.net_model.specs.declared.limits.TheConstants.{MOST_TIME, MOST_HORIZON, MOST_SEED, MOST_LIMIT}
+use Rattle.net_model.specs.declared.limits.TheConstants.{MOST_STATIONS, MOST_LINKS, MOST_JOBS, MOST_CLASS}
+use Rattle.net_model.specs.declared.limits.TheConstants.{MOST_SERVERS, MOST_ROOM, MOST_WEIGHT}
 
 -- a range of times
 pub record IsRange (low lo hi : ℕ) : Type 0 where

@@ -8,4 +8,11 @@ as_site s = record { name = s.name; kind = s.kind; stream = s.stream; links = s.
 
 abbrev pub net_of : ℕ → ℕ → ℕ → ℕ → ℕ → List Station → Net
 net_of format lookahead horizon seed limit stations =
-    record { format = format; lookahead = lookahead; horizon = horizon; seed = seed; limit = limit; sites = map as_site stations }
+    record {
+      format = format;
+      lookahead = lookahead;
+      horizon = horizon;
+      seed = seed;
+      limit = limit;
+      sites = map as_site stations;
+    }

@@ -23,7 +23,14 @@ abbrev pub sites_of_tables : Top → List Data → Result (List Site) ModelFault
 sites_of_tables top ds = drafts_of top.format [] 1 ds >>= (λ drafts. sites_of top.lookahead drafts 1 drafts)
 
 abbrev pub with_sites : Top → List Site → Net
-with_sites top sites = record { format = top.format; lookahead = top.lookahead; horizon = top.horizon; seed = top.seed; limit = top.limit; sites = sites }
+with_sites top sites = record {
+  format = top.format;
+  lookahead = top.lookahead;
+  horizon = top.horizon;
+  seed = top.seed;
+  limit = top.limit;
+  sites = sites;
+}
 
 -- the model that a tree states
 unfoldable pub model_of : Data → Result Net ModelFault

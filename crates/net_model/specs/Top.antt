@@ -7,7 +7,8 @@ use Rattle.net_model.specs.declared.field.Field.TheVariants.{Format, Lookahead, 
 use Rattle.net_model.specs.declared.top.Top.{Top}
 use Rattle.sim_base.specs.Chain.{◌>>=◌}
 use Rattle.net_model.specs.Reading.{integer_at, value_at, tables_of}
-use Rattle.net_model.specs.declared.limits.TheConstants.{MOST_TIME, MOST_HORIZON, MOST_SEED, MOST_LIMIT, USUAL_LIMIT, MOST_STATIONS}
+use Rattle.net_model.specs.declared.limits.TheConstants.{MOST_TIME, MOST_HORIZON, MOST_SEED}
+use Rattle.net_model.specs.declared.limits.TheConstants.{MOST_LIMIT, USUAL_LIMIT, MOST_STATIONS}
 
 -- the numbers of the whole model, in the order in which they are tested
 abbrev pub top_of : Data → Result Top ModelFault
@@ -21,7 +22,8 @@ top_of root =
 
 -- 1 to 64 stations
 abbrev pub in_number : List Data → Result (List Data) ModelFault
-in_number ds = if length ds == 0 then Err (OutOfRange 0 Station) else (if nat_lt MOST_STATIONS (length ds) then Err (TooMany 0) else Ok ds)
+in_number ds = if length ds == 0 then Err (OutOfRange 0 Station) else
+    (if nat_lt MOST_STATIONS (length ds) then Err (TooMany 0) else Ok ds)
 
 abbrev pub stations_at : Data → Result (List Data) ModelFault
 stations_at root = value_at 0 Station root >>= tables_of 0 Station >>= in_number

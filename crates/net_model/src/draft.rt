@@ -62,7 +62,8 @@ fn read_draft(
     place: u32,
     table: &Value,
 ) -> Result<Draft, ModelFault>
-    ensures { result_map_both as_draft (λ e. e) result ≡ draft_of format (map as_draft earlier.now) place (view table.now) }
+    ensures { result_map_both as_draft (λ e. e) result ≡ draft_of format (map as_draft earlier.now) place
+        (view table.now) }
 {
     let name = station_name(place, earlier, table)?;
     let word = kind_key(place, table)?;
@@ -87,7 +88,8 @@ pub fn read_drafts(alloc: Global, format: u32, tables: &[Value]) -> Result<Vec<D
     requires { length tables.now < 2 ^ 31 }
     ensures count { IfOk result (λ v. length v.items ≡ length tables.now) }
     ensures ok { IfOk result (λ v. drafts_of format [] 1 (map view tables.now) ≡ Ok (map as_draft v.items)) }
-    ensures refused { IfErr result (λ e. e ≢ ModelFault.NoMemory → drafts_of format [] 1 (map view tables.now) ≡ Err e) }
+    ensures refused { IfErr result (λ e. e ≢ ModelFault.NoMemory
+        → drafts_of format [] 1 (map view tables.now) ≡ Err e) }
 {
     let mut drafts = Vec::new(alloc);
     'drafts: for (i, table) in tables.iter().enumerate() {

@@ -4,9 +4,13 @@
 //! to run.
 ghost use Rattle.std.specs.Prelude.{◌≡◌, ◌++◌, [], Ok, Err, codes};
 ghost use Rattle.net_model.specs.Text.{model};
-ghost use Rattle.net_model.specs.Examples.{cut_text, linked_desk, linked_out, named_desk, sinks, small, small_text, timed_desk, top_text, top_with, with_top, without_link};
+ghost use Rattle.net_model.specs.Examples.{cut_text, linked_desk, linked_out, named_desk, sinks, small};
+ghost use Rattle.net_model.specs.Examples.{small_text, timed_desk, top_text, top_with, with_top, without_link};
 ghost use Rattle.net_model.specs.declared.field.Field.TheVariants.{Lookahead, Horizon, Service};
-ghost use Rattle.net_model.specs.declared.limits.TheConstants.{MOST_BYTES, MOST_CLASS, MOST_HORIZON, MOST_JOBS, MOST_LIMIT, MOST_LINKS, MOST_ROOM, MOST_SEED, MOST_SERVERS, MOST_STATIONS, MOST_TIME, MOST_WEIGHT, USUAL_LIMIT};
+ghost use Rattle.net_model.specs.declared.limits.TheConstants.{MOST_BYTES, MOST_CLASS, MOST_HORIZON, MOST_JOBS};
+ghost use Rattle.net_model.specs.declared.limits.TheConstants.{MOST_LIMIT, MOST_LINKS, MOST_ROOM, MOST_SEED};
+ghost use Rattle.net_model.specs.declared.limits.TheConstants.{MOST_SERVERS, MOST_STATIONS, MOST_TIME, MOST_WEIGHT};
+ghost use Rattle.net_model.specs.declared.limits.TheConstants.{USUAL_LIMIT};
 
 use crate::fault::ModelFault;
 
@@ -19,7 +23,8 @@ pub fn small_model()
 pub fn refused_at_the_top()
     ensures empty { model [] ≡ Err (ModelFault.Missing 0 Lookahead) }
     ensures unknown { model (codes "speed = 3\n" ++ small_text) ≡ Err (ModelFault.UnknownKey 0 (codes "speed")) }
-    ensures no_number { model (with_top (top_with (codes "\"2\"") (codes "20"))) ≡ Err (ModelFault.WrongType 0 Lookahead) }
+    ensures no_number { model (with_top (top_with (codes "\"2\"") (codes "20")))
+        ≡ Err (ModelFault.WrongType 0 Lookahead) }
     ensures no_time { model (with_top (top_with (codes "2") (codes "0"))) ≡ Err (ModelFault.OutOfRange 0 Horizon) }
     ensures cut { model cut_text ≡ Err ModelFault.NotToml }
     ensures crowd { model (top_text ++ sinks 65) ≡ Err (ModelFault.TooMany 0) }

@@ -1,7 +1,8 @@
 //! The keys that a table may have.
 ghost use Rattle.std.specs.Prelude.{◌≡◌};
 ghost use Rattle.toml.specs.View.{table_view, view};
-ghost use Rattle.net_model.specs.Keys.{is_known, least_unknown, link_keys, none_unknown, only_known, station_keys, top_keys};
+ghost use Rattle.net_model.specs.Keys.{is_known, least_unknown, link_keys, none_unknown};
+ghost use Rattle.net_model.specs.Keys.{only_known, station_keys, top_keys};
 
 use crate::fault::ModelFault;
 use crate::field::Field;

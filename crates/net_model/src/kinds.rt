@@ -1,7 +1,8 @@
 //! Reads what a station does.
 ghost use Rattle.std.specs.Prelude.{◌≡◌, ◌≤◌, IfOk};
 ghost use Rattle.toml.specs.View.{view};
-ghost use Rattle.net_model.specs.Kinds.{by_word, class_at, delay_of, kind_of, kind_word, kind_word_at, order_at, order_word, router_of, server_of, source_of};
+ghost use Rattle.net_model.specs.Kinds.{by_word, class_at, delay_of, kind_of, kind_word, kind_word_at};
+ghost use Rattle.net_model.specs.Kinds.{order_at, order_word, router_of, server_of, source_of};
 
 use crate::fault::ModelFault;
 use crate::field::Field;

@@ -86,7 +86,8 @@ fn read_each(place: u32, tables: &[Value]) -> Result<ArrayVec<NamedLink, 16>, Mo
 }
 
 fn link_values(place: u32, table: &Value) -> Result<&[Value], ModelFault>
-    ensures value { result_map_both (λ vs. map view vs.now) (λ e. e) result ≡ link_tables place (get (key_of Field.Link) (view table.now)) }
+    ensures value { result_map_both (λ vs. map view vs.now) (λ e. e) result ≡ link_tables place
+        (get (key_of Field.Link) (view table.now)) }
     ensures few { IfOk result (λ vs. length vs.now ≤ 16) }
 {
     let field = Field::Link;

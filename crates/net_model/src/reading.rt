@@ -4,7 +4,8 @@ ghost use Rattle.std.specs.List.{list_all};
 ghost use Rattle.std.specs.Result.{result_map_both};
 ghost use Rattle.toml.specs.Data.{as_table};
 ghost use Rattle.toml.specs.View.{view};
-ghost use Rattle.net_model.specs.Reading.{integer_at, integer_of, name_at, span_at, span_of, span_of_list, span_of_two, tables_of, text_at, text_of, value_at};
+ghost use Rattle.net_model.specs.Reading.{integer_at, integer_of, name_at, span_at, span_of, span_of_list};
+ghost use Rattle.net_model.specs.Reading.{span_of_two, tables_of, text_at, text_of, value_at};
 
 use crate::fault::ModelFault;
 use crate::field::Field;
@@ -185,7 +186,8 @@ fn are_tables(values: &[Value]) -> bool
 
 /// The elements of an array of tables.
 pub fn read_tables<'a>(spot: Spot, value: &'a Value) -> Result<&'a [Value], ModelFault>
-    ensures { result_map_both (λ vs. map view vs.now) (λ e. e) result ≡ tables_of spot.place spot.field (view value.now) }
+    ensures { result_map_both (λ vs. map view vs.now) (λ e. e) result ≡ tables_of spot.place spot.field
+        (view value.now) }
 {
     match value.as_array() {
         Some(values) => {

@@ -69,7 +69,8 @@ fn resolve_links(
 ) -> Result<ArrayVec<Link, 16>, ModelFault>
     requires some { length drafts.now < 2 ^ 31 }
     requires few { length links.now ≤ 16 }
-    ensures { result_map_both (λ v. v.items) (λ e. e) result ≡ links_of_named lookahead (map as_draft drafts.now) place links.now }
+    ensures { result_map_both (λ v. v.items) (λ e. e) result ≡ links_of_named lookahead
+        (map as_draft drafts.now) place links.now }
 {
     let mut found = ArrayVec::new();
     'links: for link in links {
@@ -88,7 +89,8 @@ fn resolve_station(
     draft: &Draft,
 ) -> Result<Station, ModelFault>
     requires { length drafts.now < 2 ^ 31 }
-    ensures { result_map_both as_site (λ e. e) result ≡ site_of_draft lookahead (map as_draft drafts.now) place (as_draft draft.now) }
+    ensures { result_map_both as_site (λ e. e) result ≡ site_of_draft lookahead (map as_draft drafts.now) place
+        (as_draft draft.now) }
 {
     let links = resolve_links(lookahead, drafts, place, draft.links.as_slice())?;
     if !draft.kind.is_sink() && links.is_empty() {
@@ -109,8 +111,10 @@ pub fn resolve_stations(
     drafts: &[Draft],
 ) -> Result<Vec<Station>, ModelFault>
     requires { length drafts.now < 2 ^ 31 }
-    ensures ok { IfOk result (λ v. sites_of lookahead (map as_draft drafts.now) 1 (map as_draft drafts.now) ≡ Ok (map as_site v.items)) }
-    ensures refused { IfErr result (λ e. e ≢ ModelFault.NoMemory → sites_of lookahead (map as_draft drafts.now) 1 (map as_draft drafts.now) ≡ Err e) }
+    ensures ok { IfOk result (λ v. sites_of lookahead (map as_draft drafts.now) 1 (map as_draft drafts.now)
+        ≡ Ok (map as_site v.items)) }
+    ensures refused { IfErr result (λ e. e ≢ ModelFault.NoMemory
+        → sites_of lookahead (map as_draft drafts.now) 1 (map as_draft drafts.now) ≡ Err e) }
 {
     let mut stations = Vec::new(alloc);
     'stations: for (i, draft) in drafts.iter().enumerate() {

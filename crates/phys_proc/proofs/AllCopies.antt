@@ -1,5 +1,6 @@
 -- A step of all copies of a station, copy after copy.
-use Rattle.std.proofs.Common.{◌≡◌, ℕ, zero, suc, ◌+◌, ◌*◌, ◌-◌, ◌<◌, ◌≤◌, List, [], ◌∷◌, ◌++◌, inl, inr, refl, sym, ap, ◌∙◌, subst, arith, append_assoc, append-nil, map, take, length, get_or}
+use Rattle.std.proofs.Common.{◌≡◌, ℕ, zero, suc, ◌+◌, ◌*◌, ◌-◌, ◌<◌, ◌≤◌, List, [], ◌∷◌, ◌++◌, inl, inr, refl, sym, ap}
+use Rattle.std.proofs.Common.{◌∙◌, subst, arith, append_assoc, append-nil, map, take, length, get_or}
 use Rattle.std.specs.List.{AllByRecursion}
 use Rattle.std.proofs.lemmas.List.{map-id}
 use Rattle.std.proofs.lemmas.Bool.{cases_Bool, false≢true}
@@ -21,7 +22,8 @@ use Rattle.run_laws.proofs.Queue.{all_in}
 use Rattle.run_laws.proofs.Parts.{all_part_of}
 use Rattle.run_laws.proofs.Steps.{so_far_none, so_far_more, stepped, are_over}
 use Rattle.run_laws.proofs.Gaining.{gained_alone, together_push}
-use Rattle.phys_proc.specs.Own.{StationCopy, Marked, IsCopy, IsLate, AreLate, Advanced, Stepping, takes_at, all_sizes, handled_alone}
+use Rattle.phys_proc.specs.Own.{StationCopy, Marked, IsCopy, IsLate, AreLate}
+use Rattle.phys_proc.specs.Own.{Advanced, Stepping, takes_at, all_sizes, handled_alone}
 use Rattle.phys_proc.proofs.Counting.{all_sizes-append, alone-append}
 use Rattle.phys_proc.proofs.Parted.{same_none}
 use Rattle.phys_proc.proofs.Onward.{sets_join, good_state, all_both, onward_start, answer_rest}
@@ -31,12 +33,14 @@ all_behind P [] zs f = f
 all_behind P (y ∷ ys) zs f = all_behind P ys zs f.1
 
 -- the copy that a walk over all has come to
-pub walked : (all ys : List StationCopy) (x : StationCopy) → map (λ y. y) ys ≡ take (length ys) all → length ys < length all → x ≡ get_or all (length ys) x → (zs : List StationCopy) × (all ≡ ys ++ x ∷ zs)
+pub walked : (all ys : List StationCopy) (x : StationCopy) → map (λ y. y) ys ≡ take (length ys) all
+    → length ys < length all → x ≡ get_or all (length ys) x → (zs : List StationCopy) × (all ≡ ys ++ x ∷ zs)
 walked all ys x far l e =
     let h = split_at all (length ys) x l e in
     (h.0, h.1 ∙ ap (λ k. k ++ x ∷ h.0) (sym far ∙ map-id ys))
   where
-    split_at : (all : List StationCopy) (n : ℕ) (x : StationCopy) → n < length all → x ≡ get_or all n x → (zs : List StationCopy) × (all ≡ take n all ++ x ∷ zs)
+    split_at : (all : List StationCopy) (n : ℕ) (x : StationCopy) → n < length all → x ≡ get_or all n x
+        → (zs : List StationCopy) × (all ≡ take n all ++ x ∷ zs)
     split_at [] n x l e = absurd (omega (arith, l))
     split_at (y ∷ all) zero x l e = (all, ap (λ z. z ∷ all) (sym e))
     split_at (y ∷ all) (suc n) x l e = let h = split_at all n x (omega (arith, l)) e in (h.0, ap (λ k. y ∷ k) h.1)
@@ -50,31 +54,48 @@ here_in [] zs x = inl refl
 here_in (y ∷ ys) zs x = inr (here_in ys zs x)
 
 -- a copy shares no clone with those before it
-apart_from : (ys zs : List StationCopy) (x a : StationCopy) (c : ℕ) → Disjoint has (ys ++ x ∷ zs) → In a ys → Carries has a c → Carries has x c → ⊥
+apart_from : (ys zs : List StationCopy) (x a : StationCopy) (c : ℕ) → Disjoint has (ys ++ x ∷ zs) → In a ys
+    → Carries has a c → Carries has x c → ⊥
 apart_from [] zs x a c h j u v = absurd j
-apart_from (y ∷ ys) zs x a c h (inl p) u v = all_in (λ b. (c : ℕ) → Carries has y c → ¬ (Carries has b c)) (ys ++ x ∷ zs) x h.0 (here_in ys zs x) c (subst (λ t. Carries has t c) p u) v
+apart_from (y ∷ ys) zs x a c h (inl p) u v = all_in (λ b. (c : ℕ) → Carries has y c → ¬ (Carries has b c))
+    (ys ++ x ∷ zs) x h.0 (here_in ys zs x) c (subst (λ t. Carries has t c) p u) v
 apart_from (y ∷ ys) zs x a c h (inr j) u v = apart_from ys zs x a c h.1 j u v
 
 module _ (net : Net) (valid : IsNet net) (s : ℕ) (ends : ℕ → ℕ) (bound : ℕ) where
   pub stepping_start : (steps : ℕ) → Stepping net s ends bound [] [] [] empty steps steps
-  stepping_start steps = record { far = so_far_none (simulation net) has ends s bound empty; count = 0; gained = refl; counted = omega arith; fits = tt; few = omega arith; shared = λ none. omega arith }
+  stepping_start steps = record {
+    far = so_far_none (simulation net) has ends s bound empty;
+    count = 0;
+    gained = refl;
+    counted = omega arith;
+    fits = tt;
+    few = omega arith;
+    shared = λ none. omega arith;
+  }
 
   -- one copy more
-  pub stepping_more : (ys zs : List StationCopy) (x : StationCopy) (done new : List StationCopy) (sent next : Marked) (over over1 : CloneSet) (steps0 steps steps1 : ℕ) → Disjoint has (ys ++ x ∷ zs) →
-      Stepping net s ends bound ys done sent over steps0 steps → Advanced net s ends bound x done new sent next over over1 steps steps1 → Stepping net s ends bound (ys ++ x ∷ []) new next over1 steps0 steps1
+  pub stepping_more : (ys zs : List StationCopy) (x : StationCopy) (done new : List StationCopy) (sent next : Marked)
+      (over over1 : CloneSet) (steps0 steps steps1 : ℕ) → Disjoint has (ys ++ x ∷ zs) →
+      Stepping net s ends bound ys done sent over steps0 steps
+      → Advanced net s ends bound x done new sent next over over1 steps steps1
+      → Stepping net s ends bound (ys ++ x ∷ []) new next over1 steps0 steps1
   stepping_more ys zs x done new sent next over over1 steps0 steps steps1 dis f a =
       let law = lawful-stations net valid in
-      let apart : (b : StationCopy) (c : ℕ) → In b ys → Carries has b c → Carries has x c → ⊥ = λ b c k m n. apart_from ys zs x b c dis k m n in
+      let apart : (b : StationCopy) (c : ℕ) → In b ys → Carries has b c → Carries has x c → ⊥ =
+      λ b c k m n. apart_from ys zs x b c dis k m n in
       let c0 = f.counted in
       let c1 = a.steps in
       record {
         far = subst (λ u. SoFar (simulation net) has ends s bound (ys ++ x ∷ []) u next empty over1) (sym a.done)
-            (so_far_more law sets_join ends s bound ys done a.results x sent next empty over over1 a.gained apart f.far a.comes);
+            (so_far_more law sets_join ends s bound ys done a.results x sent next empty over over1 a.gained apart
+            f.far a.comes);
         count = f.count + a.gained;
         gained = together_push law sets_join ends s 0 bound ys x f.count a.gained f.gained
-            (gained_alone law sets_join ends s 0 bound x sent a.gained (λ c k. f.far.idle c (λ b j m. apart b c j m k)) a.comes.gained);
+            (gained_alone law sets_join ends s 0 bound x sent a.gained
+            (λ c k. f.far.idle c (λ b j m. apart b c j m k)) a.comes.gained);
         counted = omega (arith, c0, c1);
-        fits = subst (AllByRecursion (IsCopy net s)) (sym a.done) (all_both (IsCopy net s) done a.results f.fits a.fits);
+        fits = subst (AllByRecursion (IsCopy net s)) (sym a.done)
+            (all_both (IsCopy net s) done a.results f.fits a.fits);
         few =
             let h = all_sizes-append ys (x ∷ []) in
             let d = add-mul (all_sizes ys) (size x.set) net.limit in
@@ -99,39 +120,60 @@ module _ (net : Net) (valid : IsNet net) (s : ℕ) (ends : ℕ → ℕ) (bound :
       less n l = omega arith
 
       none_before : over1 ≡ empty → over ≡ empty
-      none_before none = empty_from_none over (λ c. elim (cases_Bool (has over c)) [ inl y ↦ absurd (false≢true (sym (has-empty c) ∙ (ap (λ k. has k c) (sym none) ∙ a.comes.still_over c y))) | inr n ↦ n ])
+      none_before none = empty_from_none over
+          (λ c. elim (cases_Bool (has over c)) [
+            | inl y ↦
+                absurd (false≢true (sym (has-empty c) ∙ (ap (λ k. has k c) (sym none) ∙ a.comes.still_over c y)))
+            | inr n ↦ n
+          ])
 
   -- a copy with nothing due stays
-  pub stays : (x : StationCopy) (done : List StationCopy) (sent : Marked) (over : CloneSet) (steps : ℕ) → IsCopy net s x → IsLate bound x → Advanced net s ends bound x done (done ++ x ∷ []) sent sent over over steps steps
-  stays x done sent over steps f late = answer_rest net s ends bound x x x sent sent steps steps (onward_start net s ends bound x sent steps f)
-      (record { same = same_none ends x; settled = λ c i. all_part_of (takes_at ends) c (λ (m : Msg). bound ≤ m.key.time) x.pending late })
+  pub stays : (x : StationCopy) (done : List StationCopy) (sent : Marked) (over : CloneSet) (steps : ℕ)
+      → IsCopy net s x → IsLate bound x
+      → Advanced net s ends bound x done (done ++ x ∷ []) sent sent over over steps steps
+  stays x done sent over steps f late =
+      answer_rest net s ends bound x x x sent sent steps steps (onward_start net s ends bound x sent steps f)
+      (record {
+        same = same_none ends x;
+        settled = λ c i. all_part_of (takes_at ends) c
+            (λ (m : Msg). bound ≤ m.key.time) x.pending late;
+      })
       done done (done ++ x ∷ []) over over refl refl refl
 
-  all_stay : (ys zs : List StationCopy) (steps : ℕ) → AllByRecursion (IsCopy net s) zs → AreLate bound zs → Disjoint has (ys ++ zs) → Stepping net s ends bound ys ys [] empty steps steps → Stepping net s ends bound (ys ++ zs) (ys ++ zs) [] empty steps steps
-  all_stay ys [] steps f late dis h = subst (λ u. Stepping net s ends bound u u [] empty steps steps) (sym (append-nil ys)) h
+  all_stay : (ys zs : List StationCopy) (steps : ℕ) → AllByRecursion (IsCopy net s) zs → AreLate bound zs
+      → Disjoint has (ys ++ zs) → Stepping net s ends bound ys ys [] empty steps steps
+      → Stepping net s ends bound (ys ++ zs) (ys ++ zs) [] empty steps steps
+  all_stay ys [] steps f late dis h = subst (λ u. Stepping net s ends bound u u [] empty steps steps)
+      (sym (append-nil ys)) h
   all_stay ys (z ∷ zs) steps f late dis h =
       let e : (ys ++ z ∷ []) ++ zs ≡ ys ++ z ∷ zs = append_assoc ys (z ∷ []) zs in
       subst (λ u. Stepping net s ends bound u u [] empty steps steps) e
       (all_stay (ys ++ z ∷ []) zs steps f.1 late.1 (subst (Disjoint has) (sym e) dis)
-      (stepping_more ys zs z ys (ys ++ z ∷ []) [] [] empty empty steps steps steps dis h (stays z ys [] empty steps f.0 late.0)))
+      (stepping_more ys zs z ys (ys ++ z ∷ []) [] [] empty empty steps steps steps dis h
+      (stays z ys [] empty steps f.0 late.0)))
 
   -- where no copy has anything due, all stay
-  pub idle : (xs : List StationCopy) (steps : ℕ) → AllByRecursion (IsCopy net s) xs → AreLate bound xs → Disjoint has xs → Stepping net s ends bound xs xs [] empty steps steps
+  pub idle : (xs : List StationCopy) (steps : ℕ) → AllByRecursion (IsCopy net s) xs → AreLate bound xs
+      → Disjoint has xs → Stepping net s ends bound xs xs [] empty steps steps
   idle xs steps f late dis = all_stay [] xs steps f late dis (stepping_start steps)
 
-  module _ (xs : List StationCopy) (done : List StationCopy) (sent : Marked) (over : CloneSet) (steps0 steps : ℕ) (fits : AllByRecursion (IsCopy net s) xs) (far : Stepping net s ends bound xs done sent over steps0 steps) where
+  module _ (xs : List StationCopy) (done : List StationCopy) (sent : Marked) (over : CloneSet) (steps0 steps : ℕ)
+      (fits : AllByRecursion (IsCopy net s) xs) (far : Stepping net s ends bound xs done sent over steps0 steps) where
     fine : (a : StationCopy) → In a xs → IsGood net s a.state × SortedMarked msg_cmp a.pending
     fine a j = let fa = all_in (IsCopy net s) xs a fits j in (good_state net s a fa, fa.sorted)
 
     pub all_stepped : over ≡ empty → IsStepped (simulation net) has ends s bound xs done sent
-    all_stepped none = stepped (lawful-stations net valid) sets_join ends s bound xs done sent empty over fine (λ c. ap (λ k. has k c) none ∙ has-empty c) far.far
+    all_stepped none = stepped (lawful-stations net valid) sets_join ends s bound xs done sent empty over fine
+        (λ c. ap (λ k. has k c) none ∙ has-empty c) far.far
 
     pub all_over : AreOver (simulation net) has ends s bound xs over
-    all_over = are_over (lawful-stations net valid) sets_join ends s bound xs done sent empty over fine (λ c. has-empty c) far.far
+    all_over = are_over (lawful-stations net valid) sets_join ends s bound xs done sent empty over fine
+        (λ c. has-empty c) far.far
 
     -- as many messages were handled as prefixes were gained
     pub all_gained : (n : ℕ) → n + steps0 ≡ steps → GainTogether (simulation net) has ends s bound xs n
-    all_gained n h = let k = far.counted in let e : far.count ≡ n = omega (arith, h, k) in subst (GainTogether (simulation net) has ends s bound xs) e far.gained
+    all_gained n h = let k = far.counted in let e : far.count ≡ n = omega (arith, h, k) in
+        subst (GainTogether (simulation net) has ends s bound xs) e far.gained
 
     -- and no more than their clones have place for
     pub all_few : (n : ℕ) → n + steps0 ≡ steps → n ≤ all_sizes xs * net.limit

@@ -1,6 +1,7 @@
 -- How many messages copies handle: no more than their clones have room for in their logs, and no more than the
 -- clones would handle each by itself.
-use Rattle.std.proofs.Common.{◌≡◌, ℕ, ◌+◌, ◌*◌, ◌-◌, ◌<◌, ◌≤◌, ◌&&◌, ◌||◌, ◌⊎◌, not, Bool, true, false, List, [], ◌∷◌, ◌++◌, inl, inr, refl, sym, ap, ◌∙◌, subst, arith, length}
+use Rattle.std.proofs.Common.{◌≡◌, ℕ, ◌+◌, ◌*◌, ◌-◌, ◌<◌, ◌≤◌, ◌&&◌, ◌||◌, ◌⊎◌, not, Bool, true, false}
+use Rattle.std.proofs.Common.{List, [], ◌∷◌, ◌++◌, inl, inr, refl, sym, ap, ◌∙◌, subst, arith, length}
 use Rattle.std.specs.List.{AllByRecursion}
 use Rattle.std.proofs.Math.Nat.{add-mul, mul-add, mul-le-mul_left}
 use Rattle.std.proofs.lemmas.Nat.{mul-le}
@@ -17,10 +18,15 @@ use Rattle.phys_proc.specs.Own.{StationCopy, all_clones, handled_alone, all_size
 -- ---- sizes of sets
 
 -- sets that share no clone
-pub size_disjoint : (a b : CloneSet) → ((c : ℕ) → has a c ≡ true → has b c ≡ true → ⊥) → size (union a b) ≡ size a + size b
+pub size_disjoint : (a b : CloneSet) → ((c : ℕ) → has a c ≡ true → has b c ≡ true → ⊥)
+    → size (union a b) ≡ size a + size b
 size_disjoint a b apart =
-    let m : meet (union a b) a ≡ a = same_members (meet (union a b) a) a (λ c. has-meet (union a b) a c ∙ (ap (λ x. x && has a c) (has-union a b c) ∙ absorbed (has a c) (has b c))) in
-    let n : minus (union a b) a ≡ b = same_members (minus (union a b) a) b (λ c. has-minus (union a b) a c ∙ (ap (λ x. x && not (has a c)) (has-union a b c) ∙ left_over (has a c) (has b c) (apart c))) in
+    let m : meet (union a b) a ≡ a =
+    same_members (meet (union a b) a) a
+    (λ c. has-meet (union a b) a c ∙ (ap (λ x. x && has a c) (has-union a b c) ∙ absorbed (has a c) (has b c))) in
+    let n : minus (union a b) a ≡ b =
+    same_members (minus (union a b) a) b (λ c. has-minus (union a b) a c
+    ∙ (ap (λ x. x && not (has a c)) (has-union a b c) ∙ left_over (has a c) (has b c) (apart c))) in
     let h = size_parts (union a b) a in
     omega (arith, h, ap size m, ap size n)
   where
@@ -36,25 +42,30 @@ size_disjoint a b apart =
     left_over false false f = refl
 
 -- the clones of all copies are those of some copy
-pub in_some : (xs : List StationCopy) (c : ℕ) → has (all_clones xs) c ≡ true → (a : StationCopy) × In a xs × Carries has a c
+pub in_some : (xs : List StationCopy) (c : ℕ) → has (all_clones xs) c ≡ true → (a : StationCopy) × In a xs
+    × Carries has a c
 in_some [] c h = absurd (false≢true (sym (has-empty c) ∙ h))
-in_some (x ∷ xs) c h = elim (or_cases (has x.set c) (has (all_clones xs) c) (sym (has-union x.set (all_clones xs) c) ∙ h)) [
-  | inl y ↦ (x, inl refl, y)
-  | inr y ↦ let k = in_some xs c y in (k.0, inr k.1, k.2)
-]
+in_some (x ∷ xs) c h = elim (or_cases (has x.set c) (has (all_clones xs) c) (sym (has-union x.set (all_clones xs) c)
+    ∙ h)) [
+      | inl y ↦ (x, inl refl, y)
+      | inr y ↦ let k = in_some xs c y in (k.0, inr k.1, k.2)
+    ]
   where
     or_cases : (a b : Bool) → (a || b) ≡ true → (a ≡ true) ⊎ (b ≡ true)
     or_cases true b e = inl refl
     or_cases false b e = inr e
 
-pub some_in : (xs : List StationCopy) (a : StationCopy) (c : ℕ) → In a xs → Carries has a c → has (all_clones xs) c ≡ true
+pub some_in : (xs : List StationCopy) (a : StationCopy) (c : ℕ) → In a xs → Carries has a c
+    → has (all_clones xs) c ≡ true
 some_in [] a c i h = absurd i
-some_in (x ∷ xs) a c (inl e) h = has-union x.set (all_clones xs) c ∙ first_true (has x.set c) (has (all_clones xs) c) (subst (λ (u : StationCopy). has u.set c ≡ true) e h)
+some_in (x ∷ xs) a c (inl e) h = has-union x.set (all_clones xs) c ∙ first_true (has x.set c) (has (all_clones xs) c)
+    (subst (λ (u : StationCopy). has u.set c ≡ true) e h)
   where
     first_true : (p q : Bool) → p ≡ true → (p || q) ≡ true
     first_true true q h = refl
     first_true false q h = absurd (false≢true h)
-some_in (x ∷ xs) a c (inr i) h = has-union x.set (all_clones xs) c ∙ second_true (has x.set c) (has (all_clones xs) c) (some_in xs a c i h)
+some_in (x ∷ xs) a c (inr i) h = has-union x.set (all_clones xs) c ∙ second_true (has x.set c) (has (all_clones xs) c)
+    (some_in xs a c i h)
   where
     second_true : (p q : Bool) → q ≡ true → (p || q) ≡ true
     second_true true q h = refl
@@ -65,7 +76,8 @@ pub size_all : (xs : List StationCopy) → Disjoint has xs → all_sizes xs ≡ 
 size_all [] d = sym size-empty
 size_all (x ∷ xs) d =
     let h = size_all xs d.1 in
-    let s = size_disjoint x.set (all_clones xs) (λ c i j. let k = in_some xs c j in all_in (λ b. (c : ℕ) → Carries has x c → ¬ (Carries has b c)) xs k.0 d.0 k.1 c i k.2) in
+    let s = size_disjoint x.set (all_clones xs) (λ c i j. let k = in_some xs c j in
+    all_in (λ b. (c : ℕ) → Carries has x c → ¬ (Carries has b c)) xs k.0 d.0 k.1 c i k.2) in
     omega (arith, h, s)
 
 pub all_sizes-append : (xs ys : List StationCopy) → all_sizes (xs ++ ys) ≡ all_sizes xs + all_sizes ys
@@ -78,7 +90,8 @@ pub alone-append : (xs ys : List StationCopy) → handled_alone (xs ++ ys) ≡ h
 alone-append [] ys = omega arith
 alone-append (x ∷ xs) ys = let h = alone-append xs ys in omega (arith, h)
 
-pub alone_short : (limit : ℕ) (xs : List StationCopy) → AllByRecursion (λ a. length a.log ≤ limit) xs → handled_alone xs ≤ all_sizes xs * limit
+pub alone_short : (limit : ℕ) (xs : List StationCopy) → AllByRecursion (λ a. length a.log ≤ limit) xs
+    → handled_alone xs ≤ all_sizes xs * limit
 alone_short limit [] f = omega arith
 alone_short limit (x ∷ xs) f =
     let h = alone_short limit xs f.1 in
@@ -96,7 +109,8 @@ module _ (s l n t limit : ℕ) (some : 0 < s) (longer : n ≡ l + t) (short : n 
       let m = mul-le 1 t s (limit - l) some r in
       omega (arith, m)
 
-  pub few_apart : (s1 s2 g1 g2 : ℕ) → s1 + s2 ≡ s → g1 ≤ s1 * (limit - n) → g2 ≤ s2 * (limit - n) → (g1 + g2) + t ≤ s * (limit - l)
+  pub few_apart : (s1 s2 g1 g2 : ℕ) → s1 + s2 ≡ s → g1 ≤ s1 * (limit - n) → g2 ≤ s2 * (limit - n)
+      → (g1 + g2) + t ≤ s * (limit - l)
   few_apart s1 s2 g1 g2 e f g =
       let r : limit - l ≡ (limit - n) + t = omega (arith, longer, short) in
       let a = mul-add s (limit - n) t in
@@ -114,7 +128,8 @@ module _ (s l n t limit : ℕ) (some : 0 < s) (longer : n ≡ l + t) (short : n 
       let i = ap (λ x. s * x) longer in
       omega (arith, a, d, i)
 
-  pub shared_apart : (s1 s2 g1 g2 h1 h2 : ℕ) → s1 + s2 ≡ s → s1 * n + g1 ≤ h1 → s2 * n + g2 ≤ h2 → s * l + ((g1 + g2) + t) ≤ h1 + h2
+  pub shared_apart : (s1 s2 g1 g2 h1 h2 : ℕ) → s1 + s2 ≡ s → s1 * n + g1 ≤ h1 → s2 * n + g2 ≤ h2
+      → s * l + ((g1 + g2) + t) ≤ h1 + h2
   shared_apart s1 s2 g1 g2 h1 h2 e f g =
       let b = add-mul s1 s2 n in
       let c = ap (λ x. x * n) e in

@@ -18,19 +18,32 @@ use Rattle.sim_base.specs.Marked.{SortedMarked}
 use Rattle.run_laws.specs.Copies.{first_copy, first_pending}
 use Rattle.phys_proc.specs.Own.{Marked, IsCopy, AreMarks, pending_of}
 
-module _ (net : Net) (valid : IsNet net) (s : ℕ) (low : 1 ≤ s) (high : s ≤ length net.sites) (st : StateView) (first : Option Msg) (opened : setup net s ≡ record { state = st; first = first }) where
+module _ (net : Net) (valid : IsNet net) (s : ℕ) (low : 1 ≤ s) (high : s ≤ length net.sites) (st : StateView)
+    (first : Option Msg) (opened : setup net s ≡ record { state = st; first = first }) where
   same_pending : (f : Option Msg) → pending_of f (one 0) ≡ first_pending (simulation net) (one 0) f
   same_pending None = refl
   same_pending (Some m) = refl
 
-  pub is_first : (set : CloneSet) (pending : Marked) → set ≡ one 0 → pending ≡ pending_of first set → record { set = set; state = st; log = []; pending = pending } ≡ first_copy (simulation net) (one 0) s
+  pub is_first : (set : CloneSet) (pending : Marked) → set ≡ one 0 → pending ≡ pending_of first set
+      → record { set = set; state = st; log = []; pending = pending } ≡ first_copy (simulation net) (one 0) s
   is_first set pending e p =
       (λ i. record { set = e i; state = st; log = []; pending = (p ∙ ap (pending_of first) e ∙ same_pending first) i })
-      ∙ ap (λ o. record { set = one 0; state = o.state; log = []; pending = first_pending (simulation net) (one 0) o.first }) (sym opened)
+      ∙ ap (λ o. record {
+        set = one 0;
+        state = o.state;
+        log = [];
+        pending = first_pending (simulation net)
+            (one 0) o.first;
+      }) (sym opened)
 
-  for_station : (f : Option Msg) → f ≡ first → AllByRecursion (λ (x : Msg × CloneSet). x.0.to ≡ s) (pending_of f (one 0))
+  for_station : (f : Option Msg) → f ≡ first
+      → AllByRecursion (λ (x : Msg × CloneSet). x.0.to ≡ s) (pending_of f (one 0))
   for_station None e = tt
-  for_station (Some m) e = ((stations-to_stations net valid).first s m (omega (arith, low), high) (ap (λ o. o.first) opened ∙ sym e), tt)
+  for_station (Some m) e = (
+    (stations-to_stations net valid).first s m (omega (arith, low), high)
+        (ap (λ o. o.first) opened ∙ sym e),
+    tt,
+  )
 
   in_order : (f : Option Msg) → SortedMarked msg_cmp (pending_of f (one 0))
   in_order None = tt
@@ -47,7 +60,9 @@ module _ (net : Net) (valid : IsNet net) (s : ℕ) (low : 1 ≤ s) (high : s ≤
     tt,
   )
 
-  pub first_fits : (set : CloneSet) (pending : Marked) → set ≡ one 0 → pending ≡ pending_of first set → FitsState st → SuitsNet net st → st.sender.station ≡ s → st.handled ≡ 0 → IsCopy net s (record { set = set; state = st; log = []; pending = pending })
+  pub first_fits : (set : CloneSet) (pending : Marked) → set ≡ one 0 → pending ≡ pending_of first set → FitsState st
+      → SuitsNet net st → st.sender.station ≡ s → st.handled ≡ 0
+      → IsCopy net s (record { set = set; state = st; log = []; pending = pending })
   first_fits set pending e p fits suits own none =
       let q : pending ≡ pending_of first (one 0) = p ∙ ap (pending_of first) e in record {
         valid = valid;
@@ -60,5 +75,6 @@ module _ (net : Net) (valid : IsNet net) (s : ℕ) (low : 1 ≤ s) (high : s ≤
         sorted = subst (SortedMarked msg_cmp) (sym q) (in_order first);
         targets = subst (AllByRecursion (λ (x : Msg × CloneSet). x.0.to ≡ s)) (sym q) (for_station first refl);
         replays = ap (λ o. o.state) (sym opened);
-        marks = subst (λ k. AllByRecursion (λ (x : Msg × CloneSet). AreMarks k x.1) pending) (sym e) (subst (AllByRecursion (λ (x : Msg × CloneSet). AreMarks (one 0) x.1)) (sym q) (own_marks first));
+        marks = subst (λ k. AllByRecursion (λ (x : Msg × CloneSet). AreMarks k x.1) pending) (sym e)
+            (subst (AllByRecursion (λ (x : Msg × CloneSet). AreMarks (one 0) x.1)) (sym q) (own_marks first));
       }

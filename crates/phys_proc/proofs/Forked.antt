@@ -1,5 +1,7 @@
 -- A clone more in a copy, beside the clone that it was.
-use Rattle.std.proofs.Common.{◌≡◌, ◌≢◌, ℕ, ◌*◌, ◌≤◌, ◌==◌, ◌&&◌, ◌||◌, Bool, true, false, cond, List, [], ◌∷◌, inl, inr, Option, Some, None, refl, sym, ap, ap₂, ◌∙◌, subst, eq-eqb, eqb-true, nat_lt, arith, length, map}
+use Rattle.std.proofs.Common.{◌≡◌, ◌≢◌, ℕ, ◌*◌, ◌≤◌, ◌==◌, ◌&&◌, ◌||◌, Bool, true, false}
+use Rattle.std.proofs.Common.{cond, List, [], ◌∷◌, inl, inr, Option, Some, None, refl, sym}
+use Rattle.std.proofs.Common.{ap, ap₂, ◌∙◌, subst, eq-eqb, eqb-true, nat_lt, arith, length, map}
 use Rattle.std.specs.Prelude.{is_some}
 use Rattle.std.specs.List.{AllByRecursion, AllZip}
 use Rattle.std.proofs.Math.Nat.{mul-le-mul_right}
@@ -10,14 +12,16 @@ use Rattle.sim_base.specs.Pending.{spread_marks}
 use Rattle.sim_base.specs.declared.message.Msg.{Msg}
 use Rattle.clone_sets.specs.Sets.{has, one, with, union, meet, met, empty, size}
 use Rattle.clone_sets.specs.declared.set.CloneSet.{CloneSet}
-use Rattle.clone_sets.proofs.SetLaws.{has-union, has-meet, has-one, has-with, has-empty, same_members, empty_from_none, met_none, met_is}
+use Rattle.clone_sets.proofs.SetLaws.{has-union, has-meet, has-one, has-with, has-empty}
+use Rattle.clone_sets.proofs.SetLaws.{same_members, empty_from_none, met_none, met_is}
 use Rattle.net_model.specs.Net.{Net}
 use Rattle.stations.specs.Runs.{simulation}
 use Rattle.sim_base.specs.Marked.{SortedMarked}
 use Rattle.run_laws.specs.Copies.{IsForked, Carries, Disjoint, origin_of, part}
 use Rattle.std.proofs.lemmas.Bool.{false≢true}
-use Rattle.run_laws.proofs.Queue.{all_weaker}
-use Rattle.phys_proc.specs.Own.{StationCopy, Marked, AreMarks, IsCopy, IsLate, AreLate, forked, taken_at, all_clones, handled_alone}
+use Rattle.sim_base.proofs.Placing.{all_weaker}
+use Rattle.phys_proc.specs.Own.{StationCopy, Marked, AreMarks, IsCopy, IsLate}
+use Rattle.phys_proc.specs.Own.{AreLate, forked, taken_at, all_clones, handled_alone}
 use Rattle.phys_proc.specs.Procs.{KeepsShares}
 use Rattle.phys_proc.proofs.Counting.{size_disjoint}
 
@@ -41,10 +45,13 @@ module _ (old new : ℕ) where
           off false = refl
 
       by_met : (o : Option CloneSet) → met k (one old) ≡ o → is_some o ≡ has k old
-      by_met None e = sym (sym (with_true (has k old)) ∙ ap (λ b. has k old && b) (sym (has-one old old ∙ eq-eqb old old refl)) ∙ met_none k (one old) e old)
+      by_met None e = sym (sym (with_true (has k old))
+          ∙ ap (λ b. has k old && b) (sym (has-one old old ∙ eq-eqb old old refl)) ∙ met_none k (one old) e old)
       by_met (Some j) e = elim (cases_Bool (has k old)) [
         | inl y ↦ sym y
-        | inr n ↦ absurd ((met_is k (one old) j e).1 ((met_is k (one old) j e).0 ∙ empty_from_none (meet k (one old)) (λ d. has-meet k (one old) d ∙ ap (λ b. has k d && b) (has-one old d) ∙ none_at n d)))
+        | inr n ↦ absurd ((met_is k (one old) j e).1
+            ((met_is k (one old) j e).0 ∙ empty_from_none (meet k (one old))
+            (λ d. has-meet k (one old) d ∙ ap (λ b. has k d && b) (has-one old d) ∙ none_at n d)))
       ]
 
   -- a set with the new clone where it has the old one
@@ -83,13 +90,20 @@ module _ (old new : ℕ) where
   abbrev pub spread : Marked → Marked
   spread xs = spread_marks union met (one old) (one new) xs
 
-  taken_spread : (ends : ℕ → ℕ) (c : ℕ) (xs : Marked) → AllByRecursion (λ x. has x.1 new ≡ false) xs → part (λ m k c. has k c && nat_lt m.key.time (ends (origin_of old new c))) c (spread xs) ≡ taken_at ends (origin_of old new c) xs
+  taken_spread : (ends : ℕ → ℕ) (c : ℕ) (xs : Marked) → AllByRecursion (λ x. has x.1 new ≡ false) xs
+      → part (λ m k c. has k c && nat_lt m.key.time (ends (origin_of old new c))) c (spread xs) ≡ taken_at ends
+      (origin_of old new c) xs
   taken_spread ends c [] f = refl
   taken_spread ends c (x ∷ xs) f =
-      ap (λ b. cond (b && nat_lt x.0.key.time (ends (origin_of old new c))) (x.0 ∷ part (λ m k c. has k c && nat_lt m.key.time (ends (origin_of old new c))) c (spread xs)) (part (λ m k c. has k c && nat_lt m.key.time (ends (origin_of old new c))) c (spread xs))) (has-grown x.1 c f.0)
-      ∙ ap (λ l. cond (has x.1 (origin_of old new c) && nat_lt x.0.key.time (ends (origin_of old new c))) (x.0 ∷ l) l) (taken_spread ends c xs f.1)
+      ap (λ b. cond (b && nat_lt x.0.key.time (ends (origin_of old new c)))
+      (x.0 ∷ part (λ m k c. has k c && nat_lt m.key.time (ends (origin_of old new c))) c (spread xs))
+      (part (λ m k c. has k c && nat_lt m.key.time (ends (origin_of old new c))) c (spread xs)))
+      (has-grown x.1 c f.0)
+      ∙ ap (λ l. cond (has x.1 (origin_of old new c) && nat_lt x.0.key.time (ends (origin_of old new c))) (x.0 ∷ l) l)
+      (taken_spread ends c xs f.1)
 
-  above_spread : (m : Msg) (xs : Marked) → AllByRecursion (λ y. msg_cmp m y.0 ≡ Less) xs → AllByRecursion (λ y. msg_cmp m y.0 ≡ Less) (spread xs)
+  above_spread : (m : Msg) (xs : Marked) → AllByRecursion (λ y. msg_cmp m y.0 ≡ Less) xs
+      → AllByRecursion (λ y. msg_cmp m y.0 ≡ Less) (spread xs)
   above_spread m [] f = tt
   above_spread m (x ∷ xs) f = (f.0, above_spread m xs f.1)
 
@@ -101,7 +115,9 @@ module _ (old new : ℕ) where
   abbrev pub forked_copy : StationCopy → StationCopy
   forked_copy a = record { set = grown a.set; state = a.state; log = a.log; pending = spread a.pending }
 
-  pub is_forked : (net : Net) (ends : ℕ → ℕ) (a : StationCopy) → has a.set new ≡ false → AllByRecursion (λ x. has x.1 new ≡ false) a.pending → SortedMarked msg_cmp a.pending → IsForked (simulation net) has ends old new a (forked_copy a)
+  pub is_forked : (net : Net) (ends : ℕ → ℕ) (a : StationCopy) → has a.set new ≡ false
+      → AllByRecursion (λ x. has x.1 new ≡ false) a.pending → SortedMarked msg_cmp a.pending
+      → IsForked (simulation net) has ends old new a (forked_copy a)
   is_forked net ends a fresh marks sorted = record {
     log = refl;
     state = refl;
@@ -121,24 +137,41 @@ module _ (old new : ℕ) where
   spread_stays [] f = refl
   spread_stays (x ∷ xs) f = λ i. (x.0, grown_stays x.1 f.0 i) ∷ spread_stays xs f.1 i
 
-  no_mark : (set : CloneSet) (c : ℕ) (xs : Marked) → has set c ≡ false → AllByRecursion (λ x. AreMarks set x.1) xs → AllByRecursion (λ x. has x.1 c ≡ false) xs
-  no_mark set c xs n f = all_weaker (λ x. AreMarks set x.1) (λ x. has x.1 c ≡ false) xs (λ x m. elim (cases_Bool (has x.1 c)) [ inl y ↦ absurd (false≢true (sym n ∙ m.within c y)) | inr o ↦ o ]) f
+  no_mark : (set : CloneSet) (c : ℕ) (xs : Marked) → has set c ≡ false → AllByRecursion (λ x. AreMarks set x.1) xs
+      → AllByRecursion (λ x. has x.1 c ≡ false) xs
+  no_mark set c xs n f = all_weaker (λ x. AreMarks set x.1) (λ x. has x.1 c ≡ false) xs
+      (λ x m. elim (cases_Bool (has x.1 c)) [ inl y ↦ absurd (false≢true (sym n ∙ m.within c y)) | inr o ↦ o ]) f
 
   -- the copy as `fork` leaves it
   forked_is : (net : Net) (s : ℕ) (a : StationCopy) → IsCopy net s a → forked old new a ≡ forked_copy old new a
   forked_is net s a f = by_old (has a.set old) refl
     where
-      by_old : (b : Bool) → has a.set old ≡ b → cond b (record { set = with a.set new; state = a.state; log = a.log; pending = spread old new a.pending }) a ≡ forked_copy old new a
-      by_old true y = λ i. record { set = ap (λ b. cond b (union a.set (one new)) a.set) (sym (test_is old new a.set ∙ y)) i; state = a.state; log = a.log; pending = spread old new a.pending }
-      by_old false n = λ i. record { set = sym (grown_stays a.set n) i; state = a.state; log = a.log; pending = sym (spread_stays a.pending (no_mark a.set old a.pending n f.marks)) i }
+      by_old : (b : Bool) → has a.set old ≡ b
+          → cond b (record { set = with a.set new; state = a.state; log = a.log; pending = spread old new a.pending })
+          a ≡ forked_copy old new a
+      by_old true y = λ i. record {
+        set = ap (λ b. cond b (union a.set (one new)) a.set)
+            (sym (test_is old new a.set ∙ y)) i;
+        state = a.state;
+        log = a.log;
+        pending = spread old new a.pending;
+      }
+      by_old false n = λ i. record {
+        set = sym (grown_stays a.set n) i;
+        state = a.state;
+        log = a.log;
+        pending = sym (spread_stays a.pending (no_mark a.set old a.pending n f.marks)) i;
+      }
 
   module _ (net : Net) (s : ℕ) where
-    marks_grow : (set : CloneSet) (xs : Marked) → has set new ≡ false → AllByRecursion (λ x. AreMarks set x.1) xs → AllByRecursion (λ x. AreMarks (grown old new set) x.1) (spread old new xs)
+    marks_grow : (set : CloneSet) (xs : Marked) → has set new ≡ false → AllByRecursion (λ x. AreMarks set x.1) xs
+        → AllByRecursion (λ x. AreMarks (grown old new set) x.1) (spread old new xs)
     marks_grow set [] n f = tt
     marks_grow set (x ∷ xs) n f = (
       record {
         some = λ e. f.0.some (grown_none x.1 e);
-        within = λ c i. has-grown old new set c n ∙ f.0.within (origin_of old new c) (sym (has-grown old new x.1 c (fresh x.1 f.0)) ∙ i);
+        within = λ c i. has-grown old new set c n
+            ∙ f.0.within (origin_of old new c) (sym (has-grown old new x.1 c (fresh x.1 f.0)) ∙ i);
       },
       marks_grow set xs n f.1,
     )
@@ -147,7 +180,8 @@ module _ (old new : ℕ) where
         fresh k m = elim (cases_Bool (has k new)) [ inl y ↦ absurd (false≢true (sym n ∙ m.within new y)) | inr o ↦ o ]
 
         grown_none : (k : CloneSet) → grown old new k ≡ empty → k ≡ empty
-        grown_none k e = empty_from_none k (λ c. none_at c (is_some (met k (one old))) (ap (λ u. has u c) e ∙ has-empty c))
+        grown_none k e = empty_from_none k
+            (λ c. none_at c (is_some (met k (one old))) (ap (λ u. has u c) e ∙ has-empty c))
           where
             or_first : (x y : Bool) → (x || y) ≡ false → x ≡ false
             or_first true y h = h
@@ -157,7 +191,8 @@ module _ (old new : ℕ) where
             none_at c true h = or_first (has k c) (has (one new) c) (sym (has-union k (one new) c) ∙ h)
             none_at c false h = h
 
-    targets_stay : (xs : Marked) → AllByRecursion (λ x. x.0.to ≡ s) xs → AllByRecursion (λ x. x.0.to ≡ s) (spread old new xs)
+    targets_stay : (xs : Marked) → AllByRecursion (λ x. x.0.to ≡ s) xs
+        → AllByRecursion (λ x. x.0.to ≡ s) (spread old new xs)
     targets_stay [] f = tt
     targets_stay (x ∷ xs) f = (f.0, targets_stay xs f.1)
 
@@ -188,15 +223,22 @@ module _ (old new : ℕ) where
       marks = marks_grow a.set a.pending n f.marks;
     }
 
-    pub forked_fits : (xs : List StationCopy) → AllByRecursion (λ a. has a.set new ≡ false) xs → AllByRecursion (IsCopy net s) xs → AllByRecursion (IsCopy net s) (map (forked old new) xs)
+    pub forked_fits : (xs : List StationCopy) → AllByRecursion (λ a. has a.set new ≡ false) xs
+        → AllByRecursion (IsCopy net s) xs → AllByRecursion (IsCopy net s) (map (forked old new) xs)
     forked_fits [] n f = tt
-    forked_fits (x ∷ xs) n f = (subst (IsCopy net s) (sym (forked_is net s x f.0)) (grown_fits x n.0 f.0), forked_fits xs n.1 f.1)
+    forked_fits (x ∷ xs) n f = (
+      subst (IsCopy net s) (sym (forked_is net s x f.0)) (grown_fits x n.0 f.0),
+      forked_fits xs n.1 f.1,
+    )
 
     -- and each copy is what it was, with the new clone beside the old one
-    pub all_forked : (ends : ℕ → ℕ) (xs : List StationCopy) → AllByRecursion (λ a. has a.set new ≡ false) xs → AllByRecursion (IsCopy net s) xs → AllZip (IsForked (simulation net) has ends old new) xs (map (forked old new) xs)
+    pub all_forked : (ends : ℕ → ℕ) (xs : List StationCopy) → AllByRecursion (λ a. has a.set new ≡ false) xs
+        → AllByRecursion (IsCopy net s) xs
+        → AllZip (IsForked (simulation net) has ends old new) xs (map (forked old new) xs)
     all_forked ends [] n f = tt
     all_forked ends (x ∷ xs) n f = (
-      subst (IsForked (simulation net) has ends old new x) (sym (forked_is net s x f.0)) (is_forked old new net ends x n.0 (no_mark x.set new x.pending n.0 f.0.marks) f.0.sorted),
+      subst (IsForked (simulation net) has ends old new x) (sym (forked_is net s x f.0))
+          (is_forked old new net ends x n.0 (no_mark x.set new x.pending n.0 f.0.marks) f.0.sorted),
       all_forked ends xs n.1 f.1,
     )
 
@@ -205,63 +247,87 @@ module _ (old new : ℕ) where
   set_is : (a : StationCopy) → (forked old new a).set ≡ grown old new a.set
   set_is a = by_test (has a.set old) ∙ ap (λ b. cond b (union a.set (one new)) a.set) (sym (test_is old new a.set))
     where
-      by_test : (b : Bool) → (cond b (record { set = with a.set new; state = a.state; log = a.log; pending = spread old new a.pending }) a).set ≡ cond b (union a.set (one new)) a.set
+      by_test : (b : Bool) → (cond b
+          (record { set = with a.set new; state = a.state; log = a.log; pending = spread old new a.pending }) a).set
+          ≡ cond b (union a.set (one new)) a.set
       by_test true = refl
       by_test false = refl
 
   log_is : (a : StationCopy) → (forked old new a).log ≡ a.log
   log_is a = by_test (has a.set old)
     where
-      by_test : (b : Bool) → (cond b (record { set = with a.set new; state = a.state; log = a.log; pending = spread old new a.pending }) a).log ≡ a.log
+      by_test : (b : Bool) → (cond b
+          (record { set = with a.set new; state = a.state; log = a.log; pending = spread old new a.pending }) a).log
+          ≡ a.log
       by_test true = refl
       by_test false = refl
 
-  has_at : (a : StationCopy) (c : ℕ) → has a.set new ≡ false → has (forked old new a).set c ≡ has a.set (origin_of old new c)
+  has_at : (a : StationCopy) (c : ℕ) → has a.set new ≡ false
+      → has (forked old new a).set c ≡ has a.set (origin_of old new c)
   has_at a c n = ap (λ k. has k c) (set_is a) ∙ has-grown old new a.set c n
 
   none_new : (xs : List StationCopy) → has (all_clones xs) new ≡ false → AllByRecursion (λ a. has a.set new ≡ false) xs
   none_new [] n = tt
-  none_new (x ∷ xs) n = let h = or_none (has x.set new) (has (all_clones xs) new) (sym (has-union x.set (all_clones xs) new) ∙ n) in (h.0, none_new xs h.1)
+  none_new (x ∷ xs) n = let h = or_none (has x.set new) (has (all_clones xs) new)
+      (sym (has-union x.set (all_clones xs) new) ∙ n) in (h.0, none_new xs h.1)
     where
       or_none : (a b : Bool) → (a || b) ≡ false → (a ≡ false) × (b ≡ false)
       or_none true b h = absurd (false≢true (sym h))
       or_none false b h = (refl, h)
 
-  pub fresh_in : (living : CloneSet) (xs : List StationCopy) → all_clones xs ≡ living → has living new ≡ false → AllByRecursion (λ a. has a.set new ≡ false) xs
+  pub fresh_in : (living : CloneSet) (xs : List StationCopy) → all_clones xs ≡ living → has living new ≡ false
+      → AllByRecursion (λ a. has a.set new ≡ false) xs
   fresh_in living xs e n = none_new xs (ap (λ k. has k new) e ∙ n)
 
-  clones_at : (xs : List StationCopy) (c : ℕ) → AllByRecursion (λ a. has a.set new ≡ false) xs → has (all_clones (map (forked old new) xs)) c ≡ has (all_clones xs) (origin_of old new c)
+  clones_at : (xs : List StationCopy) (c : ℕ) → AllByRecursion (λ a. has a.set new ≡ false) xs
+      → has (all_clones (map (forked old new) xs)) c ≡ has (all_clones xs) (origin_of old new c)
   clones_at [] c n = has-empty c ∙ sym (has-empty (origin_of old new c))
   clones_at (x ∷ xs) c n =
       has-union (forked old new x).set (all_clones (map (forked old new) xs)) c
       ∙ ap₂ (λ a b. a || b) (has_at x c n.0) (clones_at xs c n.1)
       ∙ sym (has-union x.set (all_clones xs) (origin_of old new c))
 
-  with_at : (living : CloneSet) (c : ℕ) → has living old ≡ true → has (with living new) c ≡ has living (origin_of old new c)
+  with_at : (living : CloneSet) (c : ℕ) → has living old ≡ true
+      → has (with living new) c ≡ has living (origin_of old new c)
   with_at living c y = has-with living new c ∙ elim (cases_eq c new) [
-    | inl e ↦ ap (λ b. b || has living c) (eq-eqb new c (sym e)) ∙ sym (ap (λ b. has living (cond b old c)) (eq-eqb c new e) ∙ y)
-    | inr f ↦ ap (λ b. b || has living c) (ne_eqb new c (λ e. f (sym e))) ∙ sym (ap (λ b. has living (cond b old c)) (ne_eqb c new f))
+    | inl e ↦ ap (λ b. b || has living c) (eq-eqb new c (sym e))
+        ∙ sym (ap (λ b. has living (cond b old c)) (eq-eqb c new e) ∙ y)
+    | inr f ↦ ap (λ b. b || has living c) (ne_eqb new c (λ e. f (sym e)))
+        ∙ sym (ap (λ b. has living (cond b old c)) (ne_eqb c new f))
   ]
 
-  apart_one : (x : StationCopy) (xs : List StationCopy) → has x.set new ≡ false → AllByRecursion (λ a. has a.set new ≡ false) xs → AllByRecursion (λ b. (c : ℕ) → Carries has x c → ¬ (Carries has b c)) xs →
+  apart_one : (x : StationCopy) (xs : List StationCopy) → has x.set new ≡ false
+      → AllByRecursion (λ a. has a.set new ≡ false) xs
+      → AllByRecursion (λ b. (c : ℕ) → Carries has x c → ¬ (Carries has b c)) xs →
       AllByRecursion (λ b. (c : ℕ) → Carries has (forked old new x) c → ¬ (Carries has b c)) (map (forked old new) xs)
   apart_one x [] n ns f = tt
-  apart_one x (y ∷ ys) n ns f = (λ c i j. f.0 (origin_of old new c) (sym (has_at x c n) ∙ i) (sym (has_at y c ns.0) ∙ j), apart_one x ys n ns.1 f.1)
+  apart_one x (y ∷ ys) n ns f = (
+    λ c i j. f.0 (origin_of old new c) (sym (has_at x c n) ∙ i)
+        (sym (has_at y c ns.0) ∙ j),
+    apart_one x ys n ns.1 f.1,
+  )
 
-  disjoint_all : (xs : List StationCopy) → AllByRecursion (λ a. has a.set new ≡ false) xs → Disjoint has xs → Disjoint has (map (forked old new) xs)
+  disjoint_all : (xs : List StationCopy) → AllByRecursion (λ a. has a.set new ≡ false) xs → Disjoint has xs
+      → Disjoint has (map (forked old new) xs)
   disjoint_all [] n d = tt
   disjoint_all (x ∷ xs) n d = (apart_one x xs n.0 n.1 d.0, disjoint_all xs n.1 d.1)
 
-  some_in_each : (xs : List StationCopy) → AllByRecursion (λ a. a.set ≢ empty) xs → AllByRecursion (λ a. a.set ≢ empty) (map (forked old new) xs)
+  some_in_each : (xs : List StationCopy) → AllByRecursion (λ a. a.set ≢ empty) xs
+      → AllByRecursion (λ a. a.set ≢ empty) (map (forked old new) xs)
   some_in_each [] f = tt
-  some_in_each (x ∷ xs) f = (λ e. f.0 (by_test (is_some (met x.set (one old))) (sym (set_is x) ∙ e)), some_in_each xs f.1)
+  some_in_each (x ∷ xs) f = (
+    λ e. f.0 (by_test (is_some (met x.set (one old))) (sym (set_is x) ∙ e)),
+    some_in_each xs f.1,
+  )
     where
       or_first : (a b : Bool) → (a || b) ≡ false → a ≡ false
       or_first true b h = h
       or_first false b h = refl
 
       by_test : (b : Bool) → cond b (union x.set (one new)) x.set ≡ empty → x.set ≡ empty
-      by_test true e = empty_from_none x.set (λ c. or_first (has x.set c) (has (one new) c) (sym (has-union x.set (one new) c) ∙ (ap (λ u. has u c) e ∙ has-empty c)))
+      by_test true e = empty_from_none x.set
+          (λ c. or_first (has x.set c) (has (one new) c) (sym (has-union x.set (one new) c)
+          ∙ (ap (λ u. has u c) e ∙ has-empty c)))
       by_test false e = e
 
   larger : (x : StationCopy) → has x.set new ≡ false → size x.set ≤ size (forked old new x).set
@@ -269,11 +335,14 @@ module _ (old new : ℕ) where
     where
       by_test : (b : Bool) → size x.set ≤ size (cond b (union x.set (one new)) x.set)
       by_test true =
-          let h = size_disjoint x.set (one new) (λ c i j. false≢true (sym n ∙ subst (λ d. has x.set d ≡ true) (sym (eqb-true new c (sym (has-one new c) ∙ j))) i)) in
+          let h = size_disjoint x.set (one new)
+          (λ c i j. false≢true (sym n ∙ subst (λ d. has x.set d ≡ true)
+          (sym (eqb-true new c (sym (has-one new c) ∙ j))) i)) in
           omega (arith, h)
       by_test false = omega arith
 
-  more_alone : (xs : List StationCopy) → AllByRecursion (λ a. has a.set new ≡ false) xs → handled_alone xs ≤ handled_alone (map (forked old new) xs)
+  more_alone : (xs : List StationCopy) → AllByRecursion (λ a. has a.set new ≡ false) xs
+      → handled_alone xs ≤ handled_alone (map (forked old new) xs)
   more_alone [] n = omega arith
   more_alone (x ∷ xs) n =
       let h = more_alone xs n.1 in
@@ -281,21 +350,30 @@ module _ (old new : ℕ) where
       let e = ap (λ l. size (forked old new x).set * length l) (log_is x) in
       omega (arith, h, m, e)
 
-  pub shares_forked : (s handled : ℕ) (living : CloneSet) (xs : List StationCopy) → has living old ≡ true → has living new ≡ false → KeepsShares (record { station = s; living = living; handled = handled; copies = xs }) →
-      KeepsShares (record { station = s; living = with living new; handled = handled; copies = map (forked old new) xs })
+  pub shares_forked : (s handled : ℕ) (living : CloneSet) (xs : List StationCopy) → has living old ≡ true
+      → has living new ≡ false → KeepsShares (record { station = s; living = living; handled = handled; copies = xs }) →
+      KeepsShares (record {
+        station = s;
+        living = with living new;
+        handled = handled;
+        copies = map (forked old new) xs;
+      })
   shares_forked s handled living xs y n k =
       let fresh = fresh_in living xs k.shares.together n in
       record {
         shares = record {
           inhabited = some_in_each xs k.shares.inhabited;
           disjoint = disjoint_all xs fresh k.shares.disjoint;
-          together = same_members (all_clones (map (forked old new) xs)) (with living new) (λ c. clones_at xs c fresh ∙ (ap (λ k. has k (origin_of old new c)) k.shares.together ∙ sym (with_at living c y)));
+          together = same_members (all_clones (map (forked old new) xs)) (with living new)
+              (λ c. clones_at xs c fresh ∙ (ap (λ k. has k (origin_of old new c)) k.shares.together
+              ∙ sym (with_at living c y)));
         };
         once = let h = k.once in let m = more_alone xs fresh in omega (arith, h, m);
       }
 
   -- no time changes
-  late_spread : (t : ℕ) (xs : Marked) → AllByRecursion (λ x. t ≤ x.0.key.time) xs → AllByRecursion (λ x. t ≤ x.0.key.time) (spread old new xs)
+  late_spread : (t : ℕ) (xs : Marked) → AllByRecursion (λ x. t ≤ x.0.key.time) xs
+      → AllByRecursion (λ x. t ≤ x.0.key.time) (spread old new xs)
   late_spread t [] f = tt
   late_spread t (x ∷ xs) f = (f.0, late_spread t xs f.1)
 
@@ -303,6 +381,7 @@ module _ (old new : ℕ) where
   late_forked t [] f = tt
   late_forked t (x ∷ xs) f = (by_test (has x.set old), late_forked t xs f.1)
     where
-      by_test : (b : Bool) → IsLate t (cond b (record { set = with x.set new; state = x.state; log = x.log; pending = spread old new x.pending }) x)
+      by_test : (b : Bool) → IsLate t
+          (cond b (record { set = with x.set new; state = x.state; log = x.log; pending = spread old new x.pending }) x)
       by_test true = late_spread t x.pending f.0
       by_test false = f.0

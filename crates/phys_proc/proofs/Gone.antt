@@ -1,5 +1,6 @@
 -- Which clones have ended at a time.
-use Rattle.std.proofs.Common.{◌≡◌, ℕ, ◌<◌, ◌≤◌, ◌==◌, ◌&&◌, ◌||◌, not, min, Bool, true, false, cond, List, [], ◌∷◌, ◌++◌, inl, inr, refl, sym, ap, ◌∙◌, subst, arith, nat_lt, nat_le}
+use Rattle.std.proofs.Common.{◌≡◌, ℕ, ◌<◌, ◌≤◌, ◌==◌, ◌&&◌, ◌||◌, not, min, Bool, true, false, cond, List}
+use Rattle.std.proofs.Common.{[], ◌∷◌, ◌++◌, inl, inr, refl, sym, ap, ◌∙◌, subst, arith, nat_lt, nat_le}
 use Rattle.std.proofs.lemmas.Bool.{cases_lt, lt-ltb, le-ltb, le-leb, lt-leb}
 use Rattle.phys_proc.specs.Gone.{ends_in, is_gone, AreClones}
 
@@ -7,13 +8,16 @@ use Rattle.phys_proc.specs.Gone.{ends_in, is_gone, AreClones}
 one_end : (t a r : ℕ) (g : Bool) → g ≡ not (nat_lt t r) → ((nat_le a t && true) || g) ≡ not (nat_lt t (min a r))
 one_end t a r g e = elim (cases_lt t a) [
   | inl l ↦ elim (cases_lt t r) [
-    | inl k ↦ ap (λ b. (b && true) || g) (lt-leb a t l) ∙ e ∙ ap not (lt-ltb t r k ∙ sym (lt-ltb t (min a r) (omega arith)))
-    | inr k ↦ ap (λ b. (b && true) || g) (lt-leb a t l) ∙ e ∙ ap not (le-ltb t r k ∙ sym (le-ltb t (min a r) (omega arith)))
+    | inl k ↦ ap (λ b. (b && true) || g) (lt-leb a t l) ∙ e
+        ∙ ap not (lt-ltb t r k ∙ sym (lt-ltb t (min a r) (omega arith)))
+    | inr k ↦ ap (λ b. (b && true) || g) (lt-leb a t l) ∙ e
+        ∙ ap not (le-ltb t r k ∙ sym (le-ltb t (min a r) (omega arith)))
   ]
   | inr l ↦ ap (λ b. (b && true) || g) (le-leb a t l) ∙ sym (ap not (le-ltb t (min a r) (omega arith)))
 ]
 
-end_at : (same : Bool) (t a r : ℕ) (g : Bool) → g ≡ not (nat_lt t r) → ((nat_le a t && same) || g) ≡ not (nat_lt t (cond same (min a r) r))
+end_at : (same : Bool) (t a r : ℕ) (g : Bool) → g ≡ not (nat_lt t r)
+    → ((nat_le a t && same) || g) ≡ not (nat_lt t (cond same (min a r) r))
 end_at true t a r g e = one_end t a r g e
 end_at false t a r g e = no_end (nat_le a t) ∙ e
   where
@@ -22,9 +26,11 @@ end_at false t a r g e = no_end (nat_le a t) ∙ e
     no_end false = refl
 
 -- before the horizon, a clone has ended where its end is not later
-pub gone_is : (horizon t : ℕ) (es : List (ℕ × ℕ)) (c : ℕ) → t < horizon → is_gone t es c ≡ not (nat_lt t (ends_in horizon es c))
+pub gone_is : (horizon t : ℕ) (es : List (ℕ × ℕ)) (c : ℕ) → t < horizon
+    → is_gone t es c ≡ not (nat_lt t (ends_in horizon es c))
 gone_is horizon t [] c l = ap not (sym (lt-ltb t horizon l))
-gone_is horizon t (e ∷ es) c l = end_at (e.0 == c) t e.1 (ends_in horizon es c) (is_gone t es c) (gone_is horizon t es c l)
+gone_is horizon t (e ∷ es) c l = end_at (e.0 == c) t e.1 (ends_in horizon es c) (is_gone t es c)
+    (gone_is horizon t es c l)
 
 -- so who has not ended takes a message
 pub not_gone : (b g later : Bool) → g ≡ not later → (b && not g) ≡ (b && later)
@@ -39,24 +45,29 @@ gone_with false had rest = refl
 
 -- ---- an end more
 
-push_end : (horizon : ℕ) (es : List (ℕ × ℕ)) (e : ℕ × ℕ) (c : ℕ) → ends_in horizon (es ++ e ∷ []) c ≡ cond (e.0 == c) (min e.1 (ends_in horizon es c)) (ends_in horizon es c)
+push_end : (horizon : ℕ) (es : List (ℕ × ℕ)) (e : ℕ × ℕ) (c : ℕ)
+    → ends_in horizon (es ++ e ∷ []) c ≡ cond (e.0 == c) (min e.1 (ends_in horizon es c)) (ends_in horizon es c)
 push_end horizon [] e c = refl
-push_end horizon (x ∷ es) e c = ap (λ r. cond (x.0 == c) (min x.1 r) r) (push_end horizon es e c) ∙ by_both (x.0 == c) (e.0 == c) (ends_in horizon es c)
+push_end horizon (x ∷ es) e c = ap (λ r. cond (x.0 == c) (min x.1 r) r) (push_end horizon es e c)
+    ∙ by_both (x.0 == c) (e.0 == c) (ends_in horizon es c)
   where
     swap : (a b r : ℕ) → min a (min b r) ≡ min b (min a r)
     swap a b r = omega arith
 
-    by_both : (p q : Bool) (r : ℕ) → cond p (min x.1 (cond q (min e.1 r) r)) (cond q (min e.1 r) r) ≡ cond q (min e.1 (cond p (min x.1 r) r)) (cond p (min x.1 r) r)
+    by_both : (p q : Bool) (r : ℕ) → cond p (min x.1 (cond q (min e.1 r) r)) (cond q (min e.1 r) r)
+        ≡ cond q (min e.1 (cond p (min x.1 r) r)) (cond p (min x.1 r) r)
     by_both true true r = swap x.1 e.1 r
     by_both true false r = refl
     by_both false true r = refl
     by_both false false r = refl
 
 -- a clone with an end more ends then, if not before, and each other as it did
-pub ends_more : (horizon : ℕ) (es all : List (ℕ × ℕ)) (clone at c : ℕ) → all ≡ es ++ (clone, at) ∷ [] → ends_in horizon all c ≡ cond (clone == c) (min at (ends_in horizon es c)) (ends_in horizon es c)
+pub ends_more : (horizon : ℕ) (es all : List (ℕ × ℕ)) (clone at c : ℕ) → all ≡ es ++ (clone, at) ∷ []
+    → ends_in horizon all c ≡ cond (clone == c) (min at (ends_in horizon es c)) (ends_in horizon es c)
 ends_more horizon es all clone at c e = ap (λ l. ends_in horizon l c) e ∙ push_end horizon es (clone, at) c
 
-pub are_more : (es all : List (ℕ × ℕ)) (clone at : ℕ) → all ≡ es ++ (clone, at) ∷ [] → clone < 256 → AreClones es → AreClones all
+pub are_more : (es all : List (ℕ × ℕ)) (clone at : ℕ) → all ≡ es ++ (clone, at) ∷ [] → clone < 256 → AreClones es
+    → AreClones all
 are_more es all clone at e l f = subst AreClones (sym e) (both es f)
   where
     both : (es : List (ℕ × ℕ)) → AreClones es → AreClones (es ++ (clone, at) ∷ [])
@@ -68,6 +79,7 @@ pub ends_soon : (horizon : ℕ) (es : List (ℕ × ℕ)) (c : ℕ) → ends_in h
 ends_soon horizon [] c = omega arith
 ends_soon horizon (e ∷ rest) c = by_test (e.0 == c) (ends_soon horizon rest c)
   where
-    by_test : (b : Bool) → ends_in horizon rest c ≤ horizon → cond b (min e.1 (ends_in horizon rest c)) (ends_in horizon rest c) ≤ horizon
+    by_test : (b : Bool) → ends_in horizon rest c ≤ horizon
+        → cond b (min e.1 (ends_in horizon rest c)) (ends_in horizon rest c) ≤ horizon
     by_test true l = omega (arith, l)
     by_test false l = l

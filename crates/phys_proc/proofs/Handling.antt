@@ -1,5 +1,6 @@
 -- A copy that has handled its least message.
-use Rattle.std.proofs.Common.{◌≡◌, ℕ, ◌+◌, ◌<◌, List, [], ◌∷◌, ◌++◌, refl, sym, ap, ◌∙◌, subst, arith, length, length-append}
+use Rattle.std.proofs.Common.{◌≡◌, ℕ, ◌+◌, ◌<◌, List, [], ◌∷◌, ◌++◌}
+use Rattle.std.proofs.Common.{refl, sym, ap, ◌∙◌, subst, arith, length, length-append}
 use Rattle.std.specs.List.{AllByRecursion}
 use Rattle.sim_base.specs.Order.{msg_cmp}
 use Rattle.sim_base.specs.declared.message.Msg.{Msg}
@@ -34,10 +35,14 @@ abbrev pub tail_of : Marked → Marked
 tail_of [] = []
 tail_of (x ∷ xs) = xs
 
-module _ (net : Net) (s : ℕ) (a : StationCopy) (m0 : Msg) (k0 : CloneSet) (q0 : Marked) (st : StateView) (line : Line) (out : List Msg) (log : List (Entry Msg Line)) (pending before after : Marked)
+module _ (net : Net) (s : ℕ) (a : StationCopy) (m0 : Msg) (k0 : CloneSet) (q0 : Marked) (st : StateView) (line : Line)
+    (out : List Msg) (log : List (Entry Msg Line)) (pending before after : Marked)
     (there : a.pending ≡ (m0, k0) ∷ q0) (fits : IsCopy net s a) (room : length a.log < net.limit)
-    (gives : handle net a.state m0 ≡ record { state = st; sends = out; line = line }) (fits_new : FitsState st) (suits_new : SuitsNet net st) (own : st.sender.station ≡ a.state.sender.station) (more : st.handled ≡ a.state.handled + 1)
-    (log_is : log ≡ a.log ++ record { msg = m0; line = line } ∷ []) (kept : pending ≡ kept_on s a.set out q0) (aside : after ≡ sent_on s a.set out before) where
+    (gives : handle net a.state m0 ≡ record { state = st; sends = out; line = line }) (fits_new : FitsState st)
+    (suits_new : SuitsNet net st) (own : st.sender.station ≡ a.state.sender.station)
+    (more : st.handled ≡ a.state.handled + 1)
+    (log_is : log ≡ a.log ++ record { msg = m0; line = line } ∷ []) (kept : pending ≡ kept_on s a.set out q0)
+    (aside : after ≡ sent_on s a.set out before) where
   abbrev made : Handled StateView Msg Line → Msg → Marked → StationCopy
   made h m q = record {
     set = a.set;
@@ -59,13 +64,16 @@ module _ (net : Net) (s : ℕ) (a : StationCopy) (m0 : Msg) (k0 : CloneSet) (q0 
   rest_marks = (subst (AllByRecursion (λ x. AreMarks a.set x.1)) there fits.marks).1
 
   -- a log with one entry more is replayed by one message more
-  replay_more : (st : StateView) (es : List (Entry Msg Line)) (e : Entry Msg Line) → world.replay (λ (m : Msg). m.to) (λ (r : ℕ). handle net) s st (es ++ e ∷ []) ≡ (handle net (world.replay (λ (m : Msg). m.to) (λ (r : ℕ). handle net) s st es) e.msg).state
+  replay_more : (st : StateView) (es : List (Entry Msg Line)) (e : Entry Msg Line)
+      → world.replay (λ (m : Msg). m.to) (λ (r : ℕ). handle net) s st (es ++ e ∷ [])
+      ≡ (handle net (world.replay (λ (m : Msg). m.to) (λ (r : ℕ). handle net) s st es) e.msg).state
   replay_more st [] e = refl
   replay_more st (x ∷ es) e = replay_more (handle net st x.msg).state es e
 
   pub new_copy : IsCopy net s new
   new_copy =
-      let long : length log ≡ length a.log + 1 = ap length log_is ∙ length-append a.log (record { msg = m0; line = line } ∷ []) in
+      let long : length log ≡ length a.log + 1 =
+      ap length log_is ∙ length-append a.log (record { msg = m0; line = line } ∷ []) in
       let h = fits.handled in
       record {
         valid = fits.valid;
@@ -76,12 +84,18 @@ module _ (net : Net) (s : ℕ) (a : StationCopy) (m0 : Msg) (k0 : CloneSet) (q0 
         handled = omega (arith, more, h, long);
         short = omega (arith, long, room);
         sorted = subst (SortedMarked msg_cmp) (sym kept)
-            (sorted_insert_marked_all (λ m k c. has k c) union (λ m x y c. has-union x y c) (record { total = msg_total; same = msg_same }) (to_it (λ (m : Msg). m.to) s out) a.set q0 rest_sorted);
+            (sorted_insert_marked_all (λ m k c. has k c) union (λ m x y c. has-union x y c)
+            (record { total = msg_total; same = msg_same }) (to_it (λ (m : Msg). m.to) s out) a.set q0 rest_sorted);
         targets = subst (AllByRecursion (λ x. x.0.to ≡ s)) (sym kept)
-            (all_inserted_all (λ m. m.to ≡ s) a.set (to_it (λ (m : Msg). m.to) s out) q0 (all_from (λ m. m.to ≡ s) (to_it (λ (m : Msg). m.to) s out) (λ z i. (in_own (λ (m : Msg). m.to) s out z i).1)) rest_targets);
-        replays = sym (ap (λ (l : List (Entry Msg Line)). replay net s l) log_is ∙ (replay_more (setup net s).state a.log (record { msg = m0; line = line }) ∙ (ap (λ (u : StateView). (handle net u m0).state) (sym fits.replays) ∙ ap (λ h. h.state) gives)));
+            (all_inserted_all (λ m. m.to ≡ s) a.set (to_it (λ (m : Msg). m.to) s out) q0
+            (all_from (λ m. m.to ≡ s) (to_it (λ (m : Msg). m.to) s out)
+            (λ z i. (in_own (λ (m : Msg). m.to) s out z i).1)) rest_targets);
+        replays = sym (ap (λ (l : List (Entry Msg Line)). replay net s l) log_is
+            ∙ (replay_more (setup net s).state a.log (record { msg = m0; line = line })
+            ∙ (ap (λ (u : StateView). (handle net u m0).state) (sym fits.replays) ∙ ap (λ h. h.state) gives)));
         marks = subst (AllByRecursion (λ x. AreMarks a.set x.1)) (sym kept)
-            (marks_inserted_all (AreMarks a.set) (marks_join a.set) a.set (whole_marks a.set fits.inhabited.0 fits.inhabited.1) (to_it (λ (m : Msg). m.to) s out) q0 rest_marks);
+            (marks_inserted_all (AreMarks a.set) (marks_join a.set) a.set
+            (whole_marks a.set fits.inhabited.0 fits.inhabited.1) (to_it (λ (m : Msg). m.to) s out) q0 rest_marks);
       }
 
   pub is_handled : IsHandled net s a new before after
@@ -89,8 +103,13 @@ module _ (net : Net) (s : ℕ) (a : StationCopy) (m0 : Msg) (k0 : CloneSet) (q0 
       let both : (m0, k0) ∷ q0 ≡ (m, k) ∷ q = sym there ∙ p in
       let same : m0 ≡ m = ap (λ l. head_msg l m0) both in
       let tail : q0 ≡ q = ap tail_of both in
-      let one : new ≡ made (record { state = st; sends = out; line = line }) m0 q0 = λ i. record { set = a.set; state = st; log = log_is i; pending = kept i } in
-      let two : made (record { state = st; sends = out; line = line }) m0 q0 ≡ made (handle net a.state m0) m0 q0 = ap (λ h. made h m0 q0) (sym gives) in
-      let three : made (handle net a.state m0) m0 q0 ≡ made (handle net a.state m) m q = λ i. made (handle net a.state (same i)) (same i) (tail i) in
-      let sent : sent_on s a.set out before ≡ sent_on s a.set (handle net a.state m).sends before = ap (λ h. sent_on s a.set h.sends before) (sym gives) ∙ ap (λ z. sent_on s a.set (handle net a.state z).sends before) same in
+      let one : new ≡ made (record { state = st; sends = out; line = line }) m0 q0 =
+      λ i. record { set = a.set; state = st; log = log_is i; pending = kept i } in
+      let two : made (record { state = st; sends = out; line = line }) m0 q0 ≡ made (handle net a.state m0) m0 q0 =
+      ap (λ h. made h m0 q0) (sym gives) in
+      let three : made (handle net a.state m0) m0 q0 ≡ made (handle net a.state m) m q =
+      λ i. made (handle net a.state (same i)) (same i) (tail i) in
+      let sent : sent_on s a.set out before ≡ sent_on s a.set (handle net a.state m).sends before =
+      ap (λ h. sent_on s a.set h.sends before) (sym gives)
+      ∙ ap (λ z. sent_on s a.set (handle net a.state z).sends before) same in
       (one ∙ two ∙ three, aside ∙ sent, new_copy)

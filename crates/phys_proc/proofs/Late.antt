@@ -1,5 +1,6 @@
 -- A time that nothing is pending before.
-use Rattle.std.proofs.Common.{◌≡◌, ℕ, ◌≤◌, min, ◌==◌, Bool, true, false, cond, List, [], ◌∷◌, ◌++◌, Some, None, arith, map}
+use Rattle.std.proofs.Common.{◌≡◌, ℕ, ◌≤◌, min, ◌==◌, Bool, true, false, cond}
+use Rattle.std.proofs.Common.{List, [], ◌∷◌, ◌++◌, Some, None, arith, map}
 use Rattle.std.specs.List.{AllByRecursion}
 use Rattle.std.specs.declared.cmp.Ordering.TheVariants.{Less}
 use Rattle.sim_base.specs.Order.{msg_cmp}
@@ -9,7 +10,7 @@ use Rattle.sim_base.proofs.OrderEqual.{msg-timed}
 use Rattle.clone_sets.specs.Sets.{meet, union, empty}
 use Rattle.clone_sets.specs.declared.set.CloneSet.{CloneSet}
 use Rattle.sim_base.specs.Marked.{SortedMarked}
-use Rattle.run_laws.proofs.Queue.{all_weaker}
+use Rattle.sim_base.proofs.Placing.{all_weaker}
 use Rattle.phys_proc.specs.Own.{StationCopy, Marked, IsLate, AreLate, given}
 use Rattle.phys_proc.proofs.Sends.{all_inserted}
 use Rattle.phys_proc.proofs.Onward.{all_both}
@@ -18,10 +19,14 @@ use Rattle.phys_proc.proofs.Onward.{all_both}
 pub from_time : (a : StationCopy) (t : ℕ) → Some t ≡ first_time a.pending → SortedMarked msg_cmp a.pending → IsLate t a
 from_time a t e sorted = of_pending a.pending e sorted
   where
-    of_pending : (q : Marked) → Some t ≡ first_time q → SortedMarked msg_cmp q → AllByRecursion (λ (y : Msg × CloneSet). t ≤ y.0.key.time) q
+    of_pending : (q : Marked) → Some t ≡ first_time q → SortedMarked msg_cmp q
+        → AllByRecursion (λ (y : Msg × CloneSet). t ≤ y.0.key.time) q
     of_pending [] e s = tt
-    of_pending (x ∷ xs) e s = let h : t ≡ x.0.key.time = cc in
-        (omega (arith, h), all_weaker (λ y. msg_cmp x.0 y.0 ≡ Less) (λ y. t ≤ y.0.key.time) xs (λ y l. let m = msg-timed x.0 y.0 l in omega (arith, h, m)) s.0)
+    of_pending (x ∷ xs) e s = let h : t ≡ x.0.key.time = cc in (
+      omega (arith, h),
+      all_weaker (λ y. msg_cmp x.0 y.0 ≡ Less) (λ y. t ≤ y.0.key.time) xs
+          (λ y l. let m = msg-timed x.0 y.0 l in omega (arith, h, m)) s.0,
+    )
 
 pub from_none : (a : StationCopy) (t : ℕ) → None ≡ first_time a.pending → IsLate t a
 from_none a t e = of_pending a.pending e
@@ -32,7 +37,8 @@ from_none a t e = of_pending a.pending e
 
 -- also at a time before
 pub late_before : (t u : ℕ) (a : StationCopy) → t ≤ u → IsLate u a → IsLate t a
-late_before t u a l f = all_weaker (λ y. u ≤ y.0.key.time) (λ y. t ≤ y.0.key.time) a.pending (λ y h. omega (arith, l, h)) f
+late_before t u a l f = all_weaker (λ y. u ≤ y.0.key.time) (λ y. t ≤ y.0.key.time) a.pending
+    (λ y h. omega (arith, l, h)) f
 
 pub are_late_before : (t u : ℕ) (xs : List StationCopy) → t ≤ u → AreLate u xs → AreLate t xs
 are_late_before t u xs l f = all_weaker (IsLate u) (IsLate t) xs (λ a h. late_before t u a l h) f
@@ -46,17 +52,22 @@ late_zero (x ∷ xs) = (none_before x.pending, late_zero xs)
     none_before (y ∷ ys) = (omega arith, none_before ys)
 
 -- one copy more
-pub late_put : (t u w : ℕ) (xs : List StationCopy) (x : StationCopy) → w ≡ min t u → AreLate t xs → IsLate u x → AreLate w (xs ++ x ∷ [])
-late_put t u w xs x e f g = all_both (IsLate w) xs (x ∷ []) (are_late_before w t xs (omega (arith, e)) f) (late_before w u x (omega (arith, e)) g, tt)
+pub late_put : (t u w : ℕ) (xs : List StationCopy) (x : StationCopy) → w ≡ min t u → AreLate t xs → IsLate u x
+    → AreLate w (xs ++ x ∷ [])
+late_put t u w xs x e f g = all_both (IsLate w) xs (x ∷ []) (are_late_before w t xs (omega (arith, e)) f)
+    (late_before w u x (omega (arith, e)) g, tt)
 
 -- one message more
 late_given : (t : ℕ) (m : Msg) (k : CloneSet) (a : StationCopy) → t ≤ m.key.time → IsLate t a → IsLate t (given m k a)
 late_given t m k a l f = by_test (meet a.set k == empty)
   where
-    by_test : (b : Bool) → AllByRecursion (λ (y : Msg × CloneSet). t ≤ y.0.key.time) (cond b a.pending (insert_marked union msg_cmp m (meet a.set k) a.pending))
+    by_test : (b : Bool) → AllByRecursion (λ (y : Msg × CloneSet). t ≤ y.0.key.time)
+        (cond b a.pending (insert_marked union msg_cmp m (meet a.set k) a.pending))
     by_test true = f
     by_test false = all_inserted (λ z. t ≤ z.key.time) (meet a.set k) m a.pending l f
 
-pub all_late_given : (t u : ℕ) (m : Msg) (k : CloneSet) (xs : List StationCopy) → u ≡ min t m.key.time → AreLate t xs → AreLate u (map (given m k) xs)
+pub all_late_given : (t u : ℕ) (m : Msg) (k : CloneSet) (xs : List StationCopy) → u ≡ min t m.key.time → AreLate t xs
+    → AreLate u (map (given m k) xs)
 all_late_given t u m k [] e f = tt
-all_late_given t u m k (x ∷ xs) e f = (late_given u m k x (omega (arith, e)) (late_before u t x (omega (arith, e)) f.0), all_late_given t u m k xs e f.1)
+all_late_given t u m k (x ∷ xs) e f =
+    (late_given u m k x (omega (arith, e)) (late_before u t x (omega (arith, e)) f.0), all_late_given t u m k xs e f.1)

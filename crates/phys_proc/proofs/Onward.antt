@@ -1,5 +1,7 @@
 -- A copy on its way to the bound.
-use Rattle.std.proofs.Common.{◌≡◌, ◌≢◌, ℕ, ◌+◌, ◌*◌, ◌-◌, ◌<◌, ◌≤◌, ◌&&◌, ◌||◌, not, Bool, true, false, List, [], ◌∷◌, ◌++◌, ◌⊎◌, inl, inr, refl, sym, ap, ◌∙◌, subst, arith, append_assoc, append-nil, length, length-append}
+use Rattle.std.proofs.Common.{◌≡◌, ◌≢◌, ℕ, ◌+◌, ◌*◌, ◌-◌, ◌<◌, ◌≤◌, ◌&&◌, ◌||◌, not}
+use Rattle.std.proofs.Common.{Bool, true, false, List, [], ◌∷◌, ◌++◌, ◌⊎◌, inl, inr, refl}
+use Rattle.std.proofs.Common.{sym, ap, ◌∙◌, subst, arith, append_assoc, append-nil, length, length-append}
 use Rattle.std.specs.List.{AllByRecursion}
 use Rattle.std.proofs.lemmas.Bool.{cases_Bool, false≢true}
 use Rattle.sim_base.specs.declared.message.Msg.{Msg}
@@ -21,7 +23,8 @@ use Rattle.run_laws.proofs.Ends.{ends_done, ends_over, ends_handle, ends_same, e
 use Rattle.phys_proc.proofs.Counting.{few_more, few_apart, shared_more, shared_apart, alone-append}
 use Rattle.std.proofs.Math.Nat.{add-mul}
 use Rattle.std.proofs.lemmas.Nat.{mul-le}
-use Rattle.phys_proc.specs.Own.{StationCopy, Marked, handled_alone, may_handle, takes_at, IsCopy, IsSame, NextDue, NothingDue, IsHandled, Advanced, half}
+use Rattle.phys_proc.specs.Own.{StationCopy, Marked, handled_alone, may_handle, takes_at, IsCopy}
+use Rattle.phys_proc.specs.Own.{IsSame, NextDue, NothingDue, IsHandled, Advanced, half}
 use Rattle.phys_proc.proofs.Parted.{copy_same, narrowed_same, copy_half, narrowed_half}
 
 pub sets_join : JoinsMarks has union
@@ -34,14 +37,16 @@ and_parts false b e = absurd (false≢true e)
 -- a copy's state is good
 pub good_state : (net : Net) (s : ℕ) (a : StationCopy) → IsCopy net s a → IsGood net s a.state
 good_state net s a f =
-    let is : site_of net s ≡ f.suits.site = ap (site_of net) (sym f.station) ∙ site_is net a.state.sender.station f.suits.site f.suits.is_there in
+    let is : site_of net s ≡ f.suits.site = ap (site_of net) (sym f.station)
+    ∙ site_is net a.state.sender.station f.suits.site f.suits.is_there in
     record {
       station = f.station;
       kind = subst (λ (x : Site). IsOfKind x x.kind a.state.kind) (sym is) f.suits.kind;
       fits = good_kind a.state.handled a.state.kind f.fits.kind;
     }
 
-pub all_both : {X : Type 0} (P : X → Type 0) (xs ys : List X) → AllByRecursion P xs → AllByRecursion P ys → AllByRecursion P (xs ++ ys)
+pub all_both : {X : Type 0} (P : X → Type 0) (xs ys : List X) → AllByRecursion P xs → AllByRecursion P ys
+    → AllByRecursion P (xs ++ ys)
 all_both P [] ys f g = g
 all_both P (x ∷ xs) ys f g = (f.0, all_both P xs ys f.1 g)
 
@@ -54,8 +59,11 @@ or_true true b e = refl
 or_true false b e = e
 
 -- a copy that has handled a message has one entry more
-pub longer_log : (net : Net) (s : ℕ) (copy new : StationCopy) (before after : Marked) (m : Msg) (k : CloneSet) (q : Marked) → copy.pending ≡ (m, k) ∷ q → IsHandled net s copy new before after → length new.log ≡ length copy.log + 1
-longer_log net s copy new before after m k q p h = ap (λ (u : StationCopy). length u.log) (h m k q p).0 ∙ length-append copy.log _
+pub longer_log : (net : Net) (s : ℕ) (copy new : StationCopy) (before after : Marked) (m : Msg) (k : CloneSet)
+    (q : Marked) → copy.pending ≡ (m, k) ∷ q → IsHandled net s copy new before after
+    → length new.log ≡ length copy.log + 1
+longer_log net s copy new before after m k q p h = ap (λ (u : StationCopy). length u.log) (h m k q p).0
+    ∙ length-append copy.log _
 
 module _ (net : Net) (s : ℕ) (ends : ℕ → ℕ) (bound : ℕ) where
   abbrev pub Comes : StationCopy → List StationCopy → Marked → Marked → CloneSet → CloneSet → ℕ → Type 0
@@ -68,16 +76,28 @@ module _ (net : Net) (s : ℕ) (ends : ℕ → ℕ) (bound : ℕ) where
     pub taken : ℕ
     pub log : length copy.log ≡ length first.log + taken
     pub counted : steps ≡ steps0 + taken
-    pub next : (results : List StationCopy) (after : Marked) (over over_after : CloneSet) (n : ℕ) → Comes copy results sent after over over_after n → Comes first results start after over over_after (n + taken)
+    pub next : (results : List StationCopy) (after : Marked) (over over_after : CloneSet) (n : ℕ)
+        → Comes copy results sent after over over_after n → Comes first results start after over over_after (n + taken)
 
-  pub onward_start : (first : StationCopy) (start : Marked) (steps : ℕ) → IsCopy net s first → Onward first first start start steps steps
-  onward_start first start steps f = record { fits = f; set = refl; taken = 0; log = omega arith; counted = omega arith; next = λ results after over over_after n h. subst (Comes first results start after over over_after) (plus_none n) h }
+  pub onward_start : (first : StationCopy) (start : Marked) (steps : ℕ) → IsCopy net s first
+      → Onward first first start start steps steps
+  onward_start first start steps f =
+      record {
+        fits = f;
+        set = refl;
+        taken = 0;
+        log = omega arith;
+        counted = omega arith;
+        next = λ results after over over_after n h. subst (Comes first results start after over over_after)
+            (plus_none n) h;
+      }
     where
       plus_none : (n : ℕ) → n ≡ n + 0
       plus_none n = omega arith
 
   -- messages were passed over
-  abbrev pub onward_same : (first copy new : StationCopy) (start sent : Marked) (steps0 steps : ℕ) → Onward first copy start sent steps0 steps → IsSame ends copy new → Onward first new start sent steps0 steps
+  abbrev pub onward_same : (first copy new : StationCopy) (start sent : Marked) (steps0 steps : ℕ)
+      → Onward first copy start sent steps0 steps → IsSame ends copy new → Onward first new start sent steps0 steps
   onward_same first copy new start sent steps0 steps o h = record {
     fits = copy_same ends net s copy new o.fits h;
     set = h.set ∙ o.set;
@@ -85,31 +105,39 @@ module _ (net : Net) (s : ℕ) (ends : ℕ → ℕ) (bound : ℕ) where
     log = ap length h.log ∙ o.log;
     counted = o.counted;
     next = λ results after over over_after n e. o.next results after over over_after n
-        (ends_same (lawful-stations net o.fits.valid) sets_join ends s bound copy new results sent after over over_after n (narrowed_same ends net s copy new h) (λ c i. subst (λ k. has k c ≡ true) (sym h.set) i) e);
+        (ends_same (lawful-stations net o.fits.valid) sets_join ends s bound copy new results sent after over
+        over_after n (narrowed_same ends net s copy new h) (λ c i. subst (λ k. has k c ≡ true) (sym h.set) i) e);
   }
 
-  module _ (first copy new : StationCopy) (start sent : Marked) (steps0 steps : ℕ) (o : Onward first copy start sent steps0 steps) (m : Msg) (takers : CloneSet) (d : NextDue ends bound copy new m takers) where
+  module _ (first copy new : StationCopy) (start sent : Marked) (steps0 steps : ℕ)
+      (o : Onward first copy start sent steps0 steps) (m : Msg) (takers : CloneSet)
+      (d : NextDue ends bound copy new m takers) where
     abbrev pub onward_new : Onward first new start sent steps0 steps
     onward_new = onward_same first copy new start sent steps0 steps o d.same
 
     -- who takes the message
     takes_of : (c : ℕ) → has takers c ≡ true → (has new.set c ≡ true) × (takes_at ends m d.marks c ≡ true)
-    takes_of c i = let h = and_parts (has copy.set c) (takes_at ends m d.marks c) (sym (d.take c) ∙ i) in (subst (λ k. has k c ≡ true) (sym d.same.set) h.0, h.1)
+    takes_of c i = let h = and_parts (has copy.set c) (takes_at ends m d.marks c) (sym (d.take c) ∙ i) in
+        (subst (λ k. has k c ≡ true) (sym d.same.set) h.0, h.1)
 
     -- and who does not
     takes_not : (c : ℕ) → has new.set c ≡ true → has takers c ≡ false → takes_at ends m d.marks c ≡ false
-    takes_not c i none = ap (λ b. b && takes_at ends m d.marks c) (sym (ap (λ k. has k c) (sym d.same.set) ∙ i)) ∙ sym (d.take c) ∙ none
+    takes_not c i none = ap (λ b. b && takes_at ends m d.marks c) (sym (ap (λ k. has k c) (sym d.same.set) ∙ i))
+        ∙ sym (d.take c) ∙ none
 
     all_take : takers ≡ new.set → (c : ℕ) → has new.set c ≡ true → takes_at ends m d.marks c ≡ true
     all_take e c i = (takes_of c (ap (λ k. has k c) e ∙ i)).1
 
     -- nothing is left before the bound
-    pub came_over : takers ≡ new.set → net.limit ≤ length new.log → (over : CloneSet) → Comes first [] start sent over (union over new.set) (0 + o.taken)
+    pub came_over : takers ≡ new.set → net.limit ≤ length new.log → (over : CloneSet)
+        → Comes first [] start sent over (union over new.set) (0 + o.taken)
     came_over e full over = onward_new.next [] sent over (union over new.set) 0
-        (ends_over (lawful-stations net o.fits.valid) sets_join ends s bound new m d.marks d.rest sent over (let h = onward_new.fits.short in omega arith) d.pending (all_take e) d.early)
+        (ends_over (lawful-stations net o.fits.valid) sets_join ends s bound new m d.marks d.rest sent over
+        (let h = onward_new.fits.short in omega arith) d.pending (all_take e) d.early)
 
     -- all take it
-    pub came_on : (next : StationCopy) (after : Marked) (steps1 : ℕ) → takers ≡ new.set → length new.log < net.limit → IsHandled net s new next sent after → steps1 ≡ steps + 1 → Onward first next start after steps0 steps1
+    pub came_on : (next : StationCopy) (after : Marked) (steps1 : ℕ) → takers ≡ new.set → length new.log < net.limit
+        → IsHandled net s new next sent after → steps1 ≡ steps + 1 → Onward first next start after steps0 steps1
     came_on next after steps1 e room handled tick =
         let x = handled m d.marks d.rest d.pending in
         let n0 = onward_new in
@@ -118,28 +146,39 @@ module _ (net : Net) (s : ℕ) (ends : ℕ → ℕ) (bound : ℕ) where
           fits = x.2;
           set = ap (λ (u : StationCopy). u.set) x.0 ∙ n0.set;
           taken = o.taken + 1;
-          log = let a = longer_log net s new next sent after m d.marks d.rest d.pending handled in let b = n0.log in omega (arith, a, b);
+          log = let a = longer_log net s new next sent after m d.marks d.rest d.pending handled in let b = n0.log in
+              omega (arith, a, b);
           counted = omega (arith, c0, tick);
           next = λ results last over over_after n h.
               subst (Comes first results start last over over_after) (one_more n o.taken)
               (n0.next results last over over_after (n + 1)
-              (ends_handle (lawful-stations net o.fits.valid) sets_join ends s bound new m d.marks d.rest sent results last over over_after n n0.fits.inhabited (good_state net s new n0.fits) room d.pending n0.fits.sorted (all_take e) d.early
-              (subst (λ u. Comes u results (sent ++ laid_aside (simulation net) s new m) last over over_after n) x.0 (subst (λ u. Comes next results u last over over_after n) x.1 h))));
+              (ends_handle (lawful-stations net o.fits.valid) sets_join ends s bound new m d.marks d.rest sent results
+              last over over_after n n0.fits.inhabited (good_state net s new n0.fits) room d.pending
+              n0.fits.sorted (all_take e) d.early
+              (subst (λ u. Comes u results (sent ++ laid_aside (simulation net) s new m) last over over_after n) x.0
+              (subst (λ u. Comes next results u last over over_after n) x.1 h))));
         }
       where
         one_more : (n t : ℕ) → (n + 1) + t ≡ n + (t + 1)
         one_more n t = omega arith
 
     -- some take it and some do not
-    pub came_apart : (mid after : Marked) (e1 e2 : List StationCopy) (over over1 over2 : CloneSet) (x1 x2 : ℕ) → Comes (half new takers) e1 sent mid over over1 x1 → Comes (half new (minus new.set takers)) e2 mid after over1 over2 x2 →
+    pub came_apart : (mid after : Marked) (e1 e2 : List StationCopy) (over over1 over2 : CloneSet) (x1 x2 : ℕ)
+        → Comes (half new takers) e1 sent mid over over1 x1
+        → Comes (half new (minus new.set takers)) e2 mid after over1 over2 x2 →
         Comes first (e1 ++ e2) start after over over2 ((x1 + x2) + o.taken)
     came_apart mid after e1 e2 over over1 over2 x1 x2 f g = onward_new.next (e1 ++ e2) after over over2 (x1 + x2)
-        (ends_split (lawful-stations net o.fits.valid) sets_join ends s bound new (half new takers) (half new (minus new.set takers)) m d.marks d.rest sent mid after e1 e2 over over1 over2 x1 x2 onward_new.fits.short d.pending onward_new.fits.sorted d.early
+        (ends_split (lawful-stations net o.fits.valid) sets_join ends s bound new (half new takers)
+        (half new (minus new.set takers)) m d.marks d.rest sent mid after e1 e2 over over1 over2 x1 x2
+        onward_new.fits.short d.pending onward_new.fits.sorted d.early
         (narrowed_half ends net s new takers (λ c i. (takes_of c i).0))
         (narrowed_half ends net s new (minus new.set takers) (λ c i. (in_others c i).0))
         (λ c i. (takes_of c i).1)
         (λ c i. takes_not c (in_others c i).0 (in_others c i).1)
-        (λ c i. elim (cases_Bool (has takers c)) [ inl y ↦ inl y | inr n ↦ inr (has-minus new.set takers c ∙ (ap (λ b. b && not (has takers c)) i ∙ ap not n)) ])
+        (λ c i. elim (cases_Bool (has takers c)) [
+          | inl y ↦ inl y
+          | inr n ↦ inr (has-minus new.set takers c ∙ (ap (λ b. b && not (has takers c)) i ∙ ap not n))
+        ])
         f g)
       where
         not_true : (b : Bool) → not b ≡ true → b ≡ false
@@ -147,17 +186,20 @@ module _ (net : Net) (s : ℕ) (ends : ℕ → ℕ) (bound : ℕ) where
         not_true false e = refl
 
         in_others : (c : ℕ) → has (minus new.set takers) c ≡ true → (has new.set c ≡ true) × (has takers c ≡ false)
-        in_others c i = let h = and_parts (has new.set c) (not (has takers c)) (sym (has-minus new.set takers c) ∙ i) in (h.0, not_true (has takers c) h.1)
+        in_others c i = let h = and_parts (has new.set c) (not (has takers c)) (sym (has-minus new.set takers c)
+            ∙ i) in (h.0, not_true (has takers c) h.1)
 
     new_log : length new.log ≡ length first.log + o.taken
     new_log = onward_new.log
 
     clones_some : 0 < size first.set
-    clones_some = subst (λ k. 0 < size k) onward_new.set (size_some new.set (some_set new.set onward_new.fits.inhabited.0 onward_new.fits.inhabited.1))
+    clones_some = subst (λ k. 0 < size k) onward_new.set
+        (size_some new.set (some_set new.set onward_new.fits.inhabited.0 onward_new.fits.inhabited.1))
 
     -- the takers are some of its clones
     takers_meet : meet new.set takers ≡ takers
-    takers_meet = same_members (meet new.set takers) takers (λ c. has-meet new.set takers c ∙ both c (cases_Bool (has takers c)))
+    takers_meet = same_members (meet new.set takers) takers (λ c. has-meet new.set takers c
+        ∙ both c (cases_Bool (has takers c)))
       where
         both : (c : ℕ) → (has takers c ≡ true) ⊎ (has takers c ≡ false) → (has new.set c && has takers c) ≡ has takers c
         both c (inl y) = ap (λ b. b && has takers c) (takes_of c y).0
@@ -168,15 +210,20 @@ module _ (net : Net) (s : ℕ) (ends : ℕ → ℕ) (bound : ℕ) where
             and_none false = refl
 
     parts_size : size takers + size (minus new.set takers) ≡ size first.set
-    parts_size = let h = size_parts new.set takers in let m = ap size takers_meet in let e = ap size onward_new.set in omega (arith, h, m, e)
+    parts_size = let h = size_parts new.set takers in let m = ap size takers_meet in let e = ap size onward_new.set in
+        omega (arith, h, m, e)
 
     -- the first clones may handle what was handled, and what the copy's may handle still
     pub still_few : o.taken + may_handle net.limit new ≤ may_handle net.limit first
     still_few =
-        let h = few_apart (size first.set) (length first.log) (length new.log) o.taken net.limit clones_some new_log onward_new.fits.short (size first.set) 0 (may_handle net.limit new) 0 (omega arith) (let e = ap (λ k. size k * (net.limit - length new.log)) onward_new.set in omega (arith, e)) (omega arith) in
+        let h = few_apart (size first.set) (length first.log) (length new.log) o.taken net.limit clones_some new_log
+        onward_new.fits.short (size first.set) 0 (may_handle net.limit new) 0 (omega arith)
+        (let e = ap (λ k. size k * (net.limit - length new.log)) onward_new.set in omega (arith, e))
+        (omega arith) in
         omega (arith, h)
 
-    pub parts_few : may_handle net.limit (half new takers) + may_handle net.limit (half new (minus new.set takers)) ≡ may_handle net.limit new
+    pub parts_few : may_handle net.limit (half new takers) + may_handle net.limit (half new (minus new.set takers))
+        ≡ may_handle net.limit new
     parts_few =
         let h = parts_size in
         let d = add-mul (size takers) (size (minus new.set takers)) (net.limit - length new.log) in
@@ -194,42 +241,60 @@ module _ (net : Net) (s : ℕ) (ends : ℕ → ℕ) (bound : ℕ) where
         omega (arith, h, m)
 
     -- what that makes of the first copy
-    pub answer_over : (done0 done1 : List StationCopy) (over0 over1 over2 : CloneSet) → done1 ≡ done0 → over1 ≡ over0 → takers ≡ new.set → net.limit ≤ length new.log → over2 ≡ union over1 new.set →
+    pub answer_over : (done0 done1 : List StationCopy) (over0 over1 over2 : CloneSet) → done1 ≡ done0 → over1 ≡ over0
+        → takers ≡ new.set → net.limit ≤ length new.log → over2 ≡ union over1 new.set →
         Advanced net s ends bound first done0 done1 start sent over0 over2 steps0 steps
     answer_over done0 done1 over0 over1 over2 done over e full is = record {
       results = [];
       gained = 0 + o.taken;
       done = done ∙ sym (append-nil done0);
       steps = let c0 = o.counted in omega (arith, c0);
-      comes = subst (λ u. Comes first [] start sent over0 u (0 + o.taken)) (sym (is ∙ ap (λ u. union u new.set) over)) (came_over e full over0);
+      comes = subst (λ u. Comes first [] start sent over0 u (0 + o.taken)) (sym (is ∙ ap (λ u. union u new.set) over))
+          (came_over e full over0);
       fits = tt;
-      few = let h = few_more (size first.set) (length first.log) (length new.log) o.taken net.limit clones_some new_log onward_new.fits.short in omega (arith, h);
-      shared = λ none. absurd (no_union over1 (onward_new.fits.inhabited.0) onward_new.fits.inhabited.1 (sym is ∙ none));
+      few = let h = few_more (size first.set) (length first.log) (length new.log) o.taken net.limit clones_some
+          new_log onward_new.fits.short in omega (arith, h);
+      shared = λ none. absurd (no_union over1 (onward_new.fits.inhabited.0) onward_new.fits.inhabited.1
+          (sym is ∙ none));
     }
       where
         no_union : (a : CloneSet) (c : ℕ) → has new.set c ≡ true → union a new.set ≡ empty → ⊥
-        no_union a c i e = false≢true (sym (has-empty c) ∙ (ap (λ k. has k c) (sym e) ∙ (has-union a new.set c ∙ or_true (has a c) (has new.set c) i)))
+        no_union a c i e = false≢true (sym (has-empty c)
+            ∙ (ap (λ k. has k c) (sym e) ∙ (has-union a new.set c ∙ or_true (has a c) (has new.set c) i)))
 
-    pub answer_apart : (done0 done1 done2 done3 : List StationCopy) (mid after : Marked) (over0 over1 over2 over3 : CloneSet) (steps1 steps2 : ℕ) → done1 ≡ done0 → over1 ≡ over0 →
-        Advanced net s ends bound (half new takers) done1 done2 sent mid over1 over2 steps steps1 → Advanced net s ends bound (half new (minus new.set takers)) done2 done3 mid after over2 over3 steps1 steps2 →
+    pub answer_apart : (done0 done1 done2 done3 : List StationCopy) (mid after : Marked)
+        (over0 over1 over2 over3 : CloneSet) (steps1 steps2 : ℕ) → done1 ≡ done0 → over1 ≡ over0 →
+        Advanced net s ends bound (half new takers) done1 done2 sent mid over1 over2 steps steps1
+        → Advanced net s ends bound (half new (minus new.set takers)) done2 done3 mid after over2 over3 steps1
+        steps2 →
         Advanced net s ends bound first done0 done3 start after over0 over3 steps0 steps2
     answer_apart done0 done1 done2 done3 mid after over0 over1 over2 over3 steps1 steps2 done over a b = record {
       results = a.results ++ b.results;
       gained = (a.gained + b.gained) + o.taken;
-      done = b.done ∙ (ap (λ l. l ++ b.results) (a.done ∙ ap (λ l. l ++ a.results) done) ∙ append_assoc done0 a.results b.results);
+      done = b.done ∙ (ap (λ l. l ++ b.results) (a.done ∙ ap (λ l. l ++ a.results) done)
+          ∙ append_assoc done0 a.results b.results);
       steps = let c0 = o.counted in let c1 = a.steps in let c2 = b.steps in omega (arith, c0, c1, c2);
-      comes = subst (λ u. Comes first (a.results ++ b.results) start after u over3 ((a.gained + b.gained) + o.taken)) over (came_apart mid after a.results b.results over1 over2 over3 a.gained b.gained a.comes b.comes);
+      comes = subst (λ u. Comes first (a.results ++ b.results) start after u over3 ((a.gained + b.gained) + o.taken))
+          over (came_apart mid after a.results b.results over1 over2 over3 a.gained b.gained a.comes b.comes);
       fits = all_both (IsCopy net s) a.results b.results a.fits b.fits;
-      few = few_apart (size first.set) (length first.log) (length new.log) o.taken net.limit clones_some new_log onward_new.fits.short (size takers) (size (minus new.set takers)) a.gained b.gained parts_size a.few b.few;
+      few = few_apart (size first.set) (length first.log) (length new.log) o.taken net.limit clones_some new_log
+          onward_new.fits.short (size takers) (size (minus new.set takers)) a.gained b.gained parts_size a.few b.few;
       shared = λ none.
           let h = alone-append a.results b.results in
-          let k = shared_apart (size first.set) (length first.log) (length new.log) o.taken net.limit clones_some new_log onward_new.fits.short (size takers) (size (minus new.set takers)) a.gained b.gained (handled_alone a.results) (handled_alone b.results)
+          let k = shared_apart (size first.set) (length first.log) (length new.log) o.taken net.limit clones_some
+          new_log onward_new.fits.short (size takers) (size (minus new.set takers)) a.gained b.gained
+          (handled_alone a.results) (handled_alone b.results)
           parts_size (a.shared (first_none none)) (b.shared none) in
           omega (arith, h, k);
     }
       where
         first_none : over3 ≡ empty → over2 ≡ empty
-        first_none none = empty_from_none over2 (λ c. elim (cases_Bool (has over2 c)) [ inl y ↦ absurd (false≢true (sym (has-empty c) ∙ (ap (λ k. has k c) (sym none) ∙ b.comes.still_over c y))) | inr n ↦ n ])
+        first_none none = empty_from_none over2
+            (λ c. elim (cases_Bool (has over2 c)) [
+              | inl y ↦
+                  absurd (false≢true (sym (has-empty c) ∙ (ap (λ k. has k c) (sym none) ∙ b.comes.still_over c y)))
+              | inr n ↦ n
+            ])
 
     -- the halves are smaller
     others_some : takers ≢ new.set → minus new.set takers ≢ empty
@@ -238,7 +303,8 @@ module _ (net : Net) (s : ℕ) (ends : ℕ → ℕ) (bound : ℕ) where
         same_at : (c : ℕ) → (has new.set c ≡ true) ⊎ (has new.set c ≡ false) → has takers c ≡ has new.set c
         same_at c (inl y) = elim (cases_Bool (has takers c)) [
           | inl t ↦ t ∙ sym y
-          | inr f ↦ absurd (false≢true (sym (ap (λ k. has k c) none ∙ has-empty c) ∙ (has-minus new.set takers c ∙ (ap (λ b. b && not (has takers c)) y ∙ ap not f))))
+          | inr f ↦ absurd (false≢true (sym (ap (λ k. has k c) none ∙ has-empty c)
+              ∙ (has-minus new.set takers c ∙ (ap (λ b. b && not (has takers c)) y ∙ ap not f))))
         ]
         same_at c (inr n) = elim (cases_Bool (has takers c)) [
           | inl t ↦ absurd (false≢true (sym n ∙ (takes_of c t).0))
@@ -253,22 +319,29 @@ module _ (net : Net) (s : ℕ) (ends : ℕ → ℕ) (bound : ℕ) where
     first_half = copy_half ends net s new takers onward_new.fits (set_has_clone takers d.some)
 
     pub second_half : (takers ≢ new.set) → IsCopy net s (half new (minus new.set takers))
-    second_half ne = copy_half ends net s new (minus new.set takers) onward_new.fits (set_has_clone (minus new.set takers) (others_some ne))
+    second_half ne = copy_half ends net s new (minus new.set takers) onward_new.fits
+        (set_has_clone (minus new.set takers) (others_some ne))
 
     pub second_smaller : size (minus new.set takers) < size new.set
     second_smaller = minus_smaller new.set takers (λ e. d.some (sym takers_meet ∙ e))
 
   -- nothing is left before the bound
-  pub came_to_rest : (first copy new : StationCopy) (start sent : Marked) (steps0 steps : ℕ) (o : Onward first copy start sent steps0 steps) → NothingDue ends bound copy new → (over : CloneSet) → Comes first (new ∷ []) start sent over over (0 + o.taken) × IsCopy net s new
+  pub came_to_rest : (first copy new : StationCopy) (start sent : Marked) (steps0 steps : ℕ)
+      (o : Onward first copy start sent steps0 steps) → NothingDue ends bound copy new → (over : CloneSet)
+      → Comes first (new ∷ []) start sent over over (0 + o.taken) × IsCopy net s new
   came_to_rest first copy new start sent steps0 steps o d over =
       let n = onward_same first copy new start sent steps0 steps o d.same in (
         n.next (new ∷ []) sent over over 0
-            (ends_done (lawful-stations net o.fits.valid) sets_join ends s bound new sent over n.fits.inhabited n.fits.short (λ c i. d.settled c (subst (λ k. has k c ≡ true) d.same.set i))),
+            (ends_done (lawful-stations net o.fits.valid) sets_join ends s bound new sent over n.fits.inhabited
+            n.fits.short (λ c i. d.settled c (subst (λ k. has k c ≡ true) d.same.set i))),
         n.fits,
       )
 
-  pub answer_rest : (first copy new : StationCopy) (start sent : Marked) (steps0 steps : ℕ) (o : Onward first copy start sent steps0 steps) (d : NothingDue ends bound copy new) (done0 done1 done2 : List StationCopy) (over0 over1 : CloneSet) →
-      done1 ≡ done0 → over1 ≡ over0 → done2 ≡ done1 ++ new ∷ [] → Advanced net s ends bound first done0 done2 start sent over0 over1 steps0 steps
+  pub answer_rest : (first copy new : StationCopy) (start sent : Marked) (steps0 steps : ℕ)
+      (o : Onward first copy start sent steps0 steps) (d : NothingDue ends bound copy new)
+      (done0 done1 done2 : List StationCopy) (over0 over1 : CloneSet) →
+      done1 ≡ done0 → over1 ≡ over0 → done2 ≡ done1 ++ new ∷ []
+      → Advanced net s ends bound first done0 done2 start sent over0 over1 steps0 steps
   answer_rest first copy new start sent steps0 steps o d done0 done1 done2 over0 over1 done over is =
       let x = came_to_rest first copy new start sent steps0 steps o d over0 in record {
         results = new ∷ [];
@@ -277,9 +350,11 @@ module _ (net : Net) (s : ℕ) (ends : ℕ → ℕ) (bound : ℕ) where
         steps = let c0 = o.counted in omega (arith, c0);
         comes = subst (λ u. Comes first (new ∷ []) start sent over0 u (0 + o.taken)) (sym over) x.0;
         fits = (x.1, tt);
-        few = let h = few_more (size first.set) (length first.log) (length new.log) n.taken net.limit clones_some n.log n.fits.short in omega (arith, h);
+        few = let h = few_more (size first.set) (length first.log) (length new.log) n.taken net.limit clones_some
+            n.log n.fits.short in omega (arith, h);
         shared = λ none.
-            let k = shared_more (size first.set) (length first.log) (length new.log) n.taken net.limit clones_some n.log n.fits.short in
+            let k = shared_more (size first.set) (length first.log) (length new.log) n.taken net.limit clones_some
+            n.log n.fits.short in
             let e = ap (λ k. size k * length new.log) n.set in
             omega (arith, k, e);
       }
@@ -288,7 +363,8 @@ module _ (net : Net) (s : ℕ) (ends : ℕ → ℕ) (bound : ℕ) where
       n = onward_same first copy new start sent steps0 steps o d.same
 
       clones_some : 0 < size first.set
-      clones_some = subst (λ k. 0 < size k) n.set (size_some new.set (some_set new.set n.fits.inhabited.0 n.fits.inhabited.1))
+      clones_some = subst (λ k. 0 < size k) n.set
+          (size_some new.set (some_set new.set n.fits.inhabited.0 n.fits.inhabited.1))
 
 pub fewer_left : (limit a b c : ℕ) → b ≡ a + 1 → a ≡ c → a < limit → limit - b < limit - c
 fewer_left limit a b c e f l = omega (arith, e, f)

@@ -1,5 +1,6 @@
 -- A copy without messages that none of its clones takes, and a copy for some of the clones.
-use Rattle.std.proofs.Common.{◌≡◌, ℕ, ◌<◌, ◌≤◌, ◌&&◌, Bool, true, false, cond, List, [], ◌∷◌, ◌++◌, Option, Some, None, refl, sym, ap, ◌∙◌, subst, arith, nat_lt, not, ◌≢◌, append_assoc, slice_get}
+use Rattle.std.proofs.Common.{◌≡◌, ℕ, ◌<◌, ◌≤◌, ◌&&◌, Bool, true, false, cond, List, [], ◌∷◌, ◌++◌, Option}
+use Rattle.std.proofs.Common.{Some, None, refl, sym, ap, ◌∙◌, subst, arith, nat_lt, not, ◌≢◌, append_assoc, slice_get}
 use Rattle.std.specs.Prelude.{option_map}
 use Rattle.std.specs.List.{AllByRecursion, cons_option}
 use Rattle.std.specs.declared.cmp.Ordering.TheVariants.{Less}
@@ -14,12 +15,13 @@ use Rattle.stations.specs.Runs.{simulation}
 use Rattle.sim_base.specs.Marked.{SortedMarked}
 use Rattle.run_laws.specs.Copies.{Narrowed}
 use Rattle.sim_base.proofs.OrderEqual.{msg-timed}
-use Rattle.run_laws.proofs.Queue.{all_weaker}
+use Rattle.sim_base.proofs.Placing.{all_weaker}
 use Rattle.run_laws.proofs.Parts.{part_no, all_part_of}
 use Rattle.phys_proc.specs.Gone.{ends_in, is_gone}
 use Rattle.phys_proc.proofs.Gone.{gone_is, not_gone}
 use Rattle.std.proofs.lemmas.Bool.{false≢true}
-use Rattle.phys_proc.specs.Own.{StationCopy, Marked, AreMarks, takes_at, taken_at, IsCopy, IsSame, NextDue, NothingDue, half}
+use Rattle.phys_proc.specs.Own.{StationCopy, Marked, AreMarks, takes_at, taken_at}
+use Rattle.phys_proc.specs.Own.{IsCopy, IsSame, NextDue, NothingDue, half}
 
 -- what a pair leaves in a cut, and what of it a clone of the cut takes
 module _ (by : CloneSet) where
@@ -30,16 +32,19 @@ module _ (by : CloneSet) where
   kept_of o m rest = cons_option (option_map (λ k. (m, k)) o) rest
 
   module _ (ends : ℕ → ℕ) (c : ℕ) (in_by : has by c ≡ true) where
-    taken_one : (o : Option CloneSet) (x : Msg × CloneSet) (xs rest : Marked) → met x.1 by ≡ o → taken_at ends c rest ≡ taken_at ends c xs → taken_at ends c (kept_of o x.0 rest) ≡ taken_at ends c (x ∷ xs)
+    taken_one : (o : Option CloneSet) (x : Msg × CloneSet) (xs rest : Marked) → met x.1 by ≡ o
+        → taken_at ends c rest ≡ taken_at ends c xs → taken_at ends c (kept_of o x.0 rest) ≡ taken_at ends c (x ∷ xs)
     taken_one None x xs rest e h =
-        let no : has x.1 c ≡ false = and_true (has x.1 c) (ap (λ b. has x.1 c && b) (sym in_by) ∙ met_none x.1 by e c) in
+        let no : has x.1 c ≡ false = and_true (has x.1 c) (ap (λ b. has x.1 c && b) (sym in_by)
+        ∙ met_none x.1 by e c) in
         h ∙ sym (part_no (takes_at ends) c x xs (ap (λ b. b && nat_lt x.0.key.time (ends c)) no))
       where
         and_true : (b : Bool) → (b && true) ≡ false → b ≡ false
         and_true true f = f
         and_true false f = refl
     taken_one (Some k) x xs rest e h =
-        let same : has k c ≡ has x.1 c = met_some x.1 by k e c ∙ (ap (λ b. has x.1 c && b) in_by ∙ with_true (has x.1 c)) in
+        let same : has k c ≡ has x.1 c =
+        met_some x.1 by k e c ∙ (ap (λ b. has x.1 c && b) in_by ∙ with_true (has x.1 c)) in
         ap (λ b. cond (b && nat_lt x.0.key.time (ends c)) (x.0 ∷ taken_at ends c rest) (taken_at ends c rest)) same
         ∙ ap (λ l. cond (takes_at ends x.0 x.1 c) (x.0 ∷ l) l) h
       where
@@ -52,7 +57,8 @@ module _ (by : CloneSet) where
     taken_cut [] = refl
     taken_cut (x ∷ xs) = taken_one (met x.1 by) x xs (cut xs) refl (taken_cut xs)
 
-  all_kept : (P : Msg → Type 0) (o : Option CloneSet) (m : Msg) (rest : Marked) → P m → AllByRecursion (λ x. P x.0) rest → AllByRecursion (λ x. P x.0) (kept_of o m rest)
+  all_kept : (P : Msg → Type 0) (o : Option CloneSet) (m : Msg) (rest : Marked) → P m
+      → AllByRecursion (λ x. P x.0) rest → AllByRecursion (λ x. P x.0) (kept_of o m rest)
   all_kept P None m rest p f = f
   all_kept P (Some k) m rest p f = (p, f)
 
@@ -61,9 +67,17 @@ module _ (by : CloneSet) where
   all_cut P [] f = tt
   all_cut P (x ∷ xs) f = all_kept P (met x.1 by) x.0 (cut xs) f.0 (all_cut P xs f.1)
 
-  marks_kept : (o : Option CloneSet) (x : Msg × CloneSet) (rest : Marked) → met x.1 by ≡ o → AllByRecursion (λ y. AreMarks by y.1) rest → AllByRecursion (λ y. AreMarks by y.1) (kept_of o x.0 rest)
+  marks_kept : (o : Option CloneSet) (x : Msg × CloneSet) (rest : Marked) → met x.1 by ≡ o
+      → AllByRecursion (λ y. AreMarks by y.1) rest → AllByRecursion (λ y. AreMarks by y.1) (kept_of o x.0 rest)
   marks_kept None x rest e f = f
-  marks_kept (Some k) x rest e f = (record { some = (met_is x.1 by k e).1; within = λ c i. and_second (has x.1 c) (has by c) (sym (met_some x.1 by k e c) ∙ i) }, f)
+  marks_kept (Some k) x rest e f = (
+    record {
+      some = (met_is x.1 by k e).1;
+      within = λ c i. and_second (has x.1 c) (has by c)
+          (sym (met_some x.1 by k e c) ∙ i);
+    },
+    f,
+  )
     where
       and_second : (a b : Bool) → (a && b) ≡ true → b ≡ true
       and_second true b h = h
@@ -74,14 +88,16 @@ module _ (by : CloneSet) where
   marks_cut [] = tt
   marks_cut (x ∷ xs) = marks_kept (met x.1 by) x (cut xs) refl (marks_cut xs)
 
-  sorted_kept : (o : Option CloneSet) (m : Msg) (rest : Marked) → AllByRecursion (λ x. msg_cmp m x.0 ≡ Less) rest → SortedMarked msg_cmp rest → SortedMarked msg_cmp (kept_of o m rest)
+  sorted_kept : (o : Option CloneSet) (m : Msg) (rest : Marked) → AllByRecursion (λ x. msg_cmp m x.0 ≡ Less) rest
+      → SortedMarked msg_cmp rest → SortedMarked msg_cmp (kept_of o m rest)
   sorted_kept None m rest f s = s
   sorted_kept (Some k) m rest f s = (f, s)
 
   -- and their order stays
   pub sorted_cut : (xs : Marked) → SortedMarked msg_cmp xs → SortedMarked msg_cmp (cut xs)
   sorted_cut [] s = tt
-  sorted_cut (x ∷ xs) s = sorted_kept (met x.1 by) x.0 (cut xs) (all_cut (λ z. msg_cmp x.0 z ≡ Less) xs s.0) (sorted_cut xs s.1)
+  sorted_cut (x ∷ xs) s = sorted_kept (met x.1 by) x.0 (cut xs) (all_cut (λ z. msg_cmp x.0 z ≡ Less) xs s.0)
+      (sorted_cut xs s.1)
 
 -- a list in order stays so without its first ones
 pub sorted_rest : (xs ys : Marked) → SortedMarked msg_cmp (xs ++ ys) → SortedMarked msg_cmp ys
@@ -101,7 +117,8 @@ abbrev tail_of : Marked → Marked
 tail_of [] = []
 tail_of (x ∷ xs) = xs
 
-pub first_is : (q : Marked) (x y : Msg × CloneSet) (rest : Marked) → Some x ≡ slice_get q 0 → q ≡ y ∷ rest → q ≡ x ∷ rest
+pub first_is : (q : Marked) (x y : Msg × CloneSet) (rest : Marked) → Some x ≡ slice_get q 0 → q ≡ y ∷ rest
+    → q ≡ x ∷ rest
 first_is [] x y rest e f = absurd (cc)
 first_is (z ∷ zs) x y rest e f = let h : z ≡ x = cc in let t : zs ≡ rest = ap tail_of f in λ i. h i ∷ t i
 
@@ -111,25 +128,46 @@ none_of (y ∷ ys) e = absurd (cc)
 
 module _ (ends : ℕ → ℕ) where
   -- with the least message at the bound or later nothing is due
-  late_one : (c bound : ℕ) (m : Msg) (k : CloneSet) (q : Marked) → bound ≤ m.key.time → AllByRecursion (λ x. msg_cmp m x.0 ≡ Less) q → AllByRecursion (λ m. bound ≤ m.key.time) (taken_at ends c ((m, k) ∷ q))
-  late_one c bound m k q late f = all_part_of (takes_at ends) c (λ m. bound ≤ m.key.time) ((m, k) ∷ q)
-      (late, all_weaker (λ y. msg_cmp m y.0 ≡ Less) (λ y. bound ≤ y.0.key.time) q (λ y l. let t = msg-timed m y.0 l in omega arith) f)
+  late_one : (c bound : ℕ) (m : Msg) (k : CloneSet) (q : Marked) → bound ≤ m.key.time
+      → AllByRecursion (λ x. msg_cmp m x.0 ≡ Less) q
+      → AllByRecursion (λ m. bound ≤ m.key.time) (taken_at ends c ((m, k) ∷ q))
+  late_one c bound m k q late f = all_part_of (takes_at ends) c (λ m. bound ≤ m.key.time) ((m, k) ∷ q) (
+    late,
+    all_weaker (λ y. msg_cmp m y.0 ≡ Less) (λ y. bound ≤ y.0.key.time) q (λ y l. let t = msg-timed m y.0 l in
+        omega arith) f,
+  )
 
-  pub nothing_late : (bound : ℕ) (a b : StationCopy) (m : Msg) (k : CloneSet) → IsSame ends a b → SortedMarked msg_cmp a.pending → Some (m, k) ≡ slice_get b.pending 0 → bound ≤ m.key.time → NothingDue ends bound a b
+  pub nothing_late : (bound : ℕ) (a b : StationCopy) (m : Msg) (k : CloneSet) → IsSame ends a b
+      → SortedMarked msg_cmp a.pending → Some (m, k) ≡ slice_get b.pending 0 → bound ≤ m.key.time
+      → NothingDue ends bound a b
   nothing_late bound a b m k h sorted first late =
       let f = first_of b.pending (m, k) first in
-      let sb : SortedMarked msg_cmp ((m, k) ∷ f.0) = subst (SortedMarked msg_cmp) f.1 (sorted_rest h.passed b.pending (subst (SortedMarked msg_cmp) h.pending sorted)) in
-      record { same = h; settled = λ c i. subst (λ q. AllByRecursion (λ m. bound ≤ m.key.time) (taken_at ends c q)) (sym f.1) (late_one c bound m k f.0 late sb.0) }
+      let sb : SortedMarked msg_cmp ((m, k) ∷ f.0) =
+      subst (SortedMarked msg_cmp) f.1
+      (sorted_rest h.passed b.pending (subst (SortedMarked msg_cmp) h.pending sorted)) in
+      record {
+        same = h;
+        settled = λ c i. subst (λ q. AllByRecursion (λ m. bound ≤ m.key.time) (taken_at ends c q))
+            (sym f.1) (late_one c bound m k f.0 late sb.0);
+      }
 
-  pub nothing_left : (bound : ℕ) (a b : StationCopy) → IsSame ends a b → None ≡ slice_get b.pending 0 → NothingDue ends bound a b
-  nothing_left bound a b h none = record { same = h; settled = λ c i. subst (λ q. AllByRecursion (λ m. bound ≤ m.key.time) (taken_at ends c q)) (sym (none_of b.pending none)) tt }
+  pub nothing_left : (bound : ℕ) (a b : StationCopy) → IsSame ends a b → None ≡ slice_get b.pending 0
+      → NothingDue ends bound a b
+  nothing_left bound a b h none =
+      record {
+        same = h;
+        settled = λ c i. subst (λ q. AllByRecursion (λ m. bound ≤ m.key.time) (taken_at ends c q))
+            (sym (none_of b.pending none)) tt;
+      }
 
   -- nothing was passed over yet
   pub same_none : (a : StationCopy) → IsSame ends a a
   same_none a = record { set = refl; state = refl; log = refl; parts = λ c h. refl; passed = []; pending = refl }
 
   -- one message more
-  pub same_more : (a b d : StationCopy) (m : Msg) (k : CloneSet) → IsSame ends a b → b.pending ≡ (m, k) ∷ d.pending → d.set ≡ b.set → d.state ≡ b.state → d.log ≡ b.log → ((c : ℕ) → has a.set c ≡ true → takes_at ends m k c ≡ false) → IsSame ends a d
+  pub same_more : (a b d : StationCopy) (m : Msg) (k : CloneSet) → IsSame ends a b → b.pending ≡ (m, k) ∷ d.pending
+      → d.set ≡ b.set → d.state ≡ b.state → d.log ≡ b.log
+      → ((c : ℕ) → has a.set c ≡ true → takes_at ends m k c ≡ false) → IsSame ends a d
   same_more a b d m k h p set state log none = record {
     set = set ∙ h.set;
     state = state ∙ h.state;
@@ -151,9 +189,12 @@ module _ (ends : ℕ → ℕ) where
       handled = rw (h.state, h.log) f.handled;
       short = rw h.log f.short;
       sorted = sorted_rest h.passed b.pending (subst (SortedMarked msg_cmp) h.pending f.sorted);
-      targets = all_rest (λ x. x.0.to ≡ s) h.passed b.pending (subst (AllByRecursion (λ x. x.0.to ≡ s)) h.pending f.targets);
+      targets = all_rest (λ x. x.0.to ≡ s) h.passed b.pending
+          (subst (AllByRecursion (λ x. x.0.to ≡ s)) h.pending f.targets);
       replays = rw (h.state, h.log) f.replays;
-      marks = all_rest (λ x. AreMarks b.set x.1) h.passed b.pending (subst (AllByRecursion (λ x. AreMarks b.set x.1)) h.pending (subst (λ k. AllByRecursion (λ x. AreMarks k x.1) a.pending) (sym h.set) f.marks));
+      marks = all_rest (λ x. AreMarks b.set x.1) h.passed b.pending
+          (subst (AllByRecursion (λ x. AreMarks b.set x.1)) h.pending
+          (subst (λ k. AllByRecursion (λ x. AreMarks k x.1) a.pending) (sym h.set) f.marks));
     }
 
     -- and its clones see what they saw
@@ -166,7 +207,8 @@ module _ (ends : ℕ → ℕ) where
     }
 
     -- a copy for some of the clones is a copy
-    pub copy_half : (a : StationCopy) (some : CloneSet) → IsCopy net s a → (c : ℕ) × (has some c ≡ true) → IsCopy net s (half a some)
+    pub copy_half : (a : StationCopy) (some : CloneSet) → IsCopy net s a → (c : ℕ) × (has some c ≡ true)
+        → IsCopy net s (half a some)
     copy_half a some f any = record {
       valid = f.valid;
       inhabited = any;
@@ -182,7 +224,8 @@ module _ (ends : ℕ → ℕ) where
     }
 
     -- whose clones see what they saw
-    pub narrowed_half : (a : StationCopy) (some : CloneSet) → ((c : ℕ) → has some c ≡ true → has a.set c ≡ true) → Narrowed (simulation net) has ends a (half a some)
+    pub narrowed_half : (a : StationCopy) (some : CloneSet) → ((c : ℕ) → has some c ≡ true → has a.set c ≡ true)
+        → Narrowed (simulation net) has ends a (half a some)
     narrowed_half a some within = record {
       state = refl;
       log = refl;
@@ -191,8 +234,11 @@ module _ (ends : ℕ → ℕ) where
     }
 
 -- who takes the least message
-module _ (horizon : ℕ) (es : List (ℕ × ℕ)) (bound : ℕ) (early : bound ≤ horizon) (a b : StationCopy) (m : Msg) (k takers shared gone : CloneSet) (same : IsSame (ends_in horizon es) a b)
-    (meets : (c : ℕ) → has shared c ≡ (has b.set c && has k c)) (left : (c : ℕ) → has takers c ≡ (has shared c && not (has gone c))) (went : (c : ℕ) → has gone c ≡ is_gone m.key.time es c) (soon : m.key.time < bound) where
+module _ (horizon : ℕ) (es : List (ℕ × ℕ)) (bound : ℕ) (early : bound ≤ horizon) (a b : StationCopy) (m : Msg)
+    (k takers shared gone : CloneSet) (same : IsSame (ends_in horizon es) a b)
+    (meets : (c : ℕ) → has shared c ≡ (has b.set c && has k c)) (left : (c : ℕ)
+    → has takers c ≡ (has shared c && not (has gone c))) (went : (c : ℕ) → has gone c ≡ is_gone m.key.time es c)
+    (soon : m.key.time < bound) where
   and_assoc : (x y z : Bool) → ((x && y) && z) ≡ (x && (y && z))
   and_assoc true y z = refl
   and_assoc false y z = refl
@@ -201,13 +247,16 @@ module _ (horizon : ℕ) (es : List (ℕ × ℕ)) (bound : ℕ) (early : bound �
   takers_are c =
       left c ∙ ap (λ x. x && not (has gone c)) (meets c ∙ ap (λ s. has s c && has k c) same.set)
       ∙ and_assoc (has a.set c) (has k c) (not (has gone c))
-      ∙ ap (λ x. has a.set c && x) (not_gone (has k c) (has gone c) (nat_lt m.key.time (ends_in horizon es c)) (went c ∙ gone_is horizon m.key.time es c (omega arith)))
+      ∙ ap (λ x. has a.set c && x) (not_gone (has k c) (has gone c) (nat_lt m.key.time (ends_in horizon es c))
+      (went c ∙ gone_is horizon m.key.time es c (omega arith)))
 
-  pub next_is_due : takers ≢ empty → Some (m, k) ≡ slice_get b.pending 0 → NextDue (ends_in horizon es) bound a b m takers
+  pub next_is_due : takers ≢ empty → Some (m, k) ≡ slice_get b.pending 0
+      → NextDue (ends_in horizon es) bound a b m takers
   next_is_due some first =
       let f = first_of b.pending (m, k) first in
       record { same = same; marks = k; rest = f.0; pending = f.1; early = soon; take = takers_are; some = some }
 
   -- where there are none, it is passed over
-  pub none_takes : ((c : ℕ) → has takers c ≡ false) → (c : ℕ) → has a.set c ≡ true → takes_at (ends_in horizon es) m k c ≡ false
+  pub none_takes : ((c : ℕ) → has takers c ≡ false) → (c : ℕ) → has a.set c ≡ true
+      → takes_at (ends_in horizon es) m k c ≡ false
   none_takes none c i = ap (λ x. x && takes_at (ends_in horizon es) m k c) (sym i) ∙ sym (takers_are c) ∙ none c

@@ -1,5 +1,6 @@
 -- What a station sends, message by message.
-use Rattle.std.proofs.Common.{◌≡◌, ◌⊎◌, ℕ, not, ◌||◌, Bool, true, false, cond, List, [], ◌∷◌, ◌++◌, inl, inr, refl, sym, ap, ◌∙◌, append_assoc, eq-eqb, map}
+use Rattle.std.proofs.Common.{◌≡◌, ◌⊎◌, ℕ, not, ◌||◌, Bool, true, false, cond, List, []}
+use Rattle.std.proofs.Common.{◌∷◌, ◌++◌, inl, inr, refl, sym, ap, ◌∙◌, append_assoc, eq-eqb, map}
 use Rattle.std.specs.List.{AllByRecursion}
 use Rattle.std.specs.declared.cmp.Ordering.{Ordering}
 use Rattle.std.specs.declared.cmp.Ordering.TheVariants.{Less, Equal, Greater}
@@ -17,48 +18,69 @@ use Rattle.phys_proc.specs.Own.{Marked, AreMarks, kept_on, sent_on}
 
 module _ (s : ℕ) (set : CloneSet) where
   -- a message to itself becomes pending
-  pub kept_own : (m : Msg) (ms : List Msg) (q : Marked) → m.to ≡ s → kept_on s set (m ∷ ms) q ≡ kept_on s set ms (insert_marked union msg_cmp m set q)
-  kept_own m ms q e = ap (λ b. insert_marked_all union msg_cmp (cond b (m ∷ to_it (λ (m : Msg). m.to) s ms) (to_it (λ (m : Msg). m.to) s ms)) set q) (eq-eqb m.to s e)
+  pub kept_own : (m : Msg) (ms : List Msg) (q : Marked) → m.to ≡ s
+      → kept_on s set (m ∷ ms) q ≡ kept_on s set ms (insert_marked union msg_cmp m set q)
+  kept_own m ms q e = ap (λ b. insert_marked_all union msg_cmp
+      (cond b (m ∷ to_it (λ (m : Msg). m.to) s ms) (to_it (λ (m : Msg). m.to) s ms)) set q) (eq-eqb m.to s e)
 
-  pub sent_own : (m : Msg) (ms : List Msg) (sent : Marked) → m.to ≡ s → sent_on s set (m ∷ ms) sent ≡ sent_on s set ms sent
-  sent_own m ms sent e = ap (λ b. sent ++ map (λ x. (x, set)) (cond (not b) (m ∷ to_others (λ (m : Msg). m.to) s ms) (to_others (λ (m : Msg). m.to) s ms))) (eq-eqb m.to s e)
+  pub sent_own : (m : Msg) (ms : List Msg) (sent : Marked) → m.to ≡ s
+      → sent_on s set (m ∷ ms) sent ≡ sent_on s set ms sent
+  sent_own m ms sent e = ap (λ b. sent ++ map (λ x. (x, set))
+      (cond (not b) (m ∷ to_others (λ (m : Msg). m.to) s ms) (to_others (λ (m : Msg). m.to) s ms))) (eq-eqb m.to s e)
 
   -- and one to another is laid aside
-  pub kept_other : (m : Msg) (ms : List Msg) (q : Marked) → (m.to ≡ s → ⊥) → kept_on s set (m ∷ ms) q ≡ kept_on s set ms q
-  kept_other m ms q n = ap (λ b. insert_marked_all union msg_cmp (cond b (m ∷ to_it (λ (m : Msg). m.to) s ms) (to_it (λ (m : Msg). m.to) s ms)) set q) (ne_eqb m.to s n)
+  pub kept_other : (m : Msg) (ms : List Msg) (q : Marked) → (m.to ≡ s → ⊥)
+      → kept_on s set (m ∷ ms) q ≡ kept_on s set ms q
+  kept_other m ms q n = ap (λ b. insert_marked_all union msg_cmp
+      (cond b (m ∷ to_it (λ (m : Msg). m.to) s ms) (to_it (λ (m : Msg). m.to) s ms)) set q) (ne_eqb m.to s n)
 
-  pub sent_other : (m : Msg) (ms : List Msg) (sent : Marked) → (m.to ≡ s → ⊥) → sent_on s set (m ∷ ms) sent ≡ sent_on s set ms (sent ++ (m, set) ∷ [])
+  pub sent_other : (m : Msg) (ms : List Msg) (sent : Marked) → (m.to ≡ s → ⊥)
+      → sent_on s set (m ∷ ms) sent ≡ sent_on s set ms (sent ++ (m, set) ∷ [])
   sent_other m ms sent n =
-      ap (λ b. sent ++ map (λ x. (x, set)) (cond (not b) (m ∷ to_others (λ (m : Msg). m.to) s ms) (to_others (λ (m : Msg). m.to) s ms))) (ne_eqb m.to s n)
+      ap (λ b. sent ++ map (λ x. (x, set))
+      (cond (not b) (m ∷ to_others (λ (m : Msg). m.to) s ms) (to_others (λ (m : Msg). m.to) s ms)))
+      (ne_eqb m.to s n)
       ∙ sym (append_assoc sent ((m, set) ∷ []) (map (λ x. (x, set)) (to_others (λ (m : Msg). m.to) s ms)))
 
 module _ (P : Msg → Type 0) (set : CloneSet) where
-  all_placed : (r : Ordering) (m : Msg) (y : Msg × CloneSet) (ys rest : Marked) → P m → AllByRecursion (λ x. P x.0) (y ∷ ys) → AllByRecursion (λ x. P x.0) rest → AllByRecursion (λ x. P x.0) (place_marked union r m set y ys rest)
+  all_placed : (r : Ordering) (m : Msg) (y : Msg × CloneSet) (ys rest : Marked) → P m
+      → AllByRecursion (λ x. P x.0) (y ∷ ys) → AllByRecursion (λ x. P x.0) rest
+      → AllByRecursion (λ x. P x.0) (place_marked union r m set y ys rest)
   all_placed Less m y ys rest p f g = (p, f)
   all_placed Equal m y ys rest p f g = f
   all_placed Greater m y ys rest p f g = (f.0, g)
 
-  pub all_inserted : (m : Msg) (q : Marked) → P m → AllByRecursion (λ x. P x.0) q → AllByRecursion (λ x. P x.0) (insert_marked union msg_cmp m set q)
+  pub all_inserted : (m : Msg) (q : Marked) → P m → AllByRecursion (λ x. P x.0) q
+      → AllByRecursion (λ x. P x.0) (insert_marked union msg_cmp m set q)
   all_inserted m [] p f = (p, tt)
-  all_inserted m (y ∷ ys) p f = all_placed (msg_cmp m y.0) m y ys (insert_marked union msg_cmp m set ys) p f (all_inserted m ys p f.1)
+  all_inserted m (y ∷ ys) p f = all_placed (msg_cmp m y.0) m y ys (insert_marked union msg_cmp m set ys) p f
+      (all_inserted m ys p f.1)
 
   -- what holds of the messages that are there and of the new ones
-  pub all_inserted_all : (ms : List Msg) (q : Marked) → AllByRecursion P ms → AllByRecursion (λ x. P x.0) q → AllByRecursion (λ x. P x.0) (insert_marked_all union msg_cmp ms set q)
+  pub all_inserted_all : (ms : List Msg) (q : Marked) → AllByRecursion P ms → AllByRecursion (λ x. P x.0) q
+      → AllByRecursion (λ x. P x.0) (insert_marked_all union msg_cmp ms set q)
   all_inserted_all [] q p f = f
-  all_inserted_all (m ∷ ms) q p f = all_inserted_all ms (insert_marked union msg_cmp m set q) p.1 (all_inserted m q p.0 f)
+  all_inserted_all (m ∷ ms) q p f = all_inserted_all ms (insert_marked union msg_cmp m set q) p.1
+      (all_inserted m q p.0 f)
 
 -- what holds of the marks that are there and of the new ones, and of marks that are joined
-module _ (P : CloneSet → Type 0) (joined : (a b : CloneSet) → P a → P b → P (union a b)) (set : CloneSet) (new : P set) where
-  marks_placed : (r : Ordering) (m : Msg) (y : Msg × CloneSet) (ys rest : Marked) → AllByRecursion (λ x. P x.1) (y ∷ ys) → AllByRecursion (λ x. P x.1) rest → AllByRecursion (λ x. P x.1) (place_marked union r m set y ys rest)
+module _ (P : CloneSet → Type 0) (joined : (a b : CloneSet) → P a → P b → P (union a b)) (set : CloneSet)
+    (new : P set) where
+  marks_placed : (r : Ordering) (m : Msg) (y : Msg × CloneSet) (ys rest : Marked)
+      → AllByRecursion (λ x. P x.1) (y ∷ ys) → AllByRecursion (λ x. P x.1) rest
+      → AllByRecursion (λ x. P x.1) (place_marked union r m set y ys rest)
   marks_placed Less m y ys rest f g = (new, f)
   marks_placed Equal m y ys rest f g = (joined y.1 set f.0 new, f.1)
   marks_placed Greater m y ys rest f g = (f.0, g)
 
-  pub marks_inserted : (m : Msg) (q : Marked) → AllByRecursion (λ x. P x.1) q → AllByRecursion (λ x. P x.1) (insert_marked union msg_cmp m set q)
+  pub marks_inserted : (m : Msg) (q : Marked) → AllByRecursion (λ x. P x.1) q
+      → AllByRecursion (λ x. P x.1) (insert_marked union msg_cmp m set q)
   marks_inserted m [] f = (new, tt)
-  marks_inserted m (y ∷ ys) f = marks_placed (msg_cmp m y.0) m y ys (insert_marked union msg_cmp m set ys) f (marks_inserted m ys f.1)
+  marks_inserted m (y ∷ ys) f = marks_placed (msg_cmp m y.0) m y ys (insert_marked union msg_cmp m set ys) f
+      (marks_inserted m ys f.1)
 
-  pub marks_inserted_all : (ms : List Msg) (q : Marked) → AllByRecursion (λ x. P x.1) q → AllByRecursion (λ x. P x.1) (insert_marked_all union msg_cmp ms set q)
+  pub marks_inserted_all : (ms : List Msg) (q : Marked) → AllByRecursion (λ x. P x.1) q
+      → AllByRecursion (λ x. P x.1) (insert_marked_all union msg_cmp ms set q)
   marks_inserted_all [] q f = f
   marks_inserted_all (m ∷ ms) q f = marks_inserted_all ms (insert_marked union msg_cmp m set q) (marks_inserted m q f)
 
@@ -69,8 +91,12 @@ or_cases false b e = inr e
 -- marks of a copy that are joined are marks of it
 pub marks_join : (set a b : CloneSet) → AreMarks set a → AreMarks set b → AreMarks set (union a b)
 marks_join set a b f g = record {
-  some = λ e. f.some (empty_from_none a (λ c. or_none (has a c) (has b c) (sym (has-union a b c) ∙ (ap (λ k. has k c) e ∙ has-empty c))));
-  within = λ c i. elim (or_cases (has a c) (has b c) (sym (has-union a b c) ∙ i)) [ inl y ↦ f.within c y | inr y ↦ g.within c y ];
+  some = λ e. f.some (empty_from_none a
+      (λ c. or_none (has a c) (has b c) (sym (has-union a b c) ∙ (ap (λ k. has k c) e ∙ has-empty c))));
+  within = λ c i. elim (or_cases (has a c) (has b c) (sym (has-union a b c) ∙ i)) [
+    | inl y ↦ f.within c y
+    | inr y ↦ g.within c y
+  ];
 }
   where
     or_none : (x y : Bool) → (x || y) ≡ false → x ≡ false
@@ -79,4 +105,7 @@ marks_join set a b f g = record {
 
 -- all of its clones, where there are some
 pub whole_marks : (set : CloneSet) (c : ℕ) → has set c ≡ true → AreMarks set set
-whole_marks set c i = record { some = λ e. false≢true (sym (has-empty c) ∙ (ap (λ k. has k c) (sym e) ∙ i)); within = λ d j. j }
+whole_marks set c i = record {
+  some = λ e. false≢true (sym (has-empty c) ∙ (ap (λ k. has k c) (sym e) ∙ i));
+  within = λ d j. j;
+}

@@ -1,5 +1,6 @@
 -- Copies that share out the clones.
-use Rattle.std.proofs.Common.{◌≡◌, ◌≢◌, ℕ, zero, suc, ◌+◌, ◌*◌, ◌-◌, ◌^◌, ◌<◌, ◌≤◌, ◌||◌, not, Bool, true, false, List, [], ◌∷◌, ◌++◌, inl, inr, refl, sym, ap, ◌∙◌, subst, arith, length, map, slice_set, get_or}
+use Rattle.std.proofs.Common.{◌≡◌, ◌≢◌, ℕ, zero, suc, ◌+◌, ◌*◌, ◌-◌, ◌^◌, ◌<◌, ◌≤◌, ◌||◌, not, Bool, true, false, List}
+use Rattle.std.proofs.Common.{[], ◌∷◌, ◌++◌, inl, inr, refl, sym, ap, ◌∙◌, subst, arith, length, map, slice_set, get_or}
 use Rattle.std.specs.List.{AllByRecursion, range_with_len}
 use Rattle.std.proofs.lemmas.List.Filters.{length-filter_both}
 use Rattle.std.proofs.lemmas.List.FromFn.{length-range_with_len}
@@ -13,27 +14,36 @@ use Rattle.net_model.specs.Net.{Net}
 use Rattle.stations.specs.Runs.{simulation}
 use Rattle.run_laws.specs.Copies.{Carries, Disjoint, IsStepped}
 use Rattle.run_laws.proofs.Queue.{all_from}
-use Rattle.phys_proc.specs.Own.{StationCopy, Marked, IsCopy, all_clones, all_sizes, handled_alone, may_handle, but_pending}
+use Rattle.phys_proc.specs.Own.{StationCopy, Marked, IsCopy, all_clones}
+use Rattle.phys_proc.specs.Own.{all_sizes, handled_alone, may_handle, but_pending}
 use Rattle.phys_proc.specs.Procs.{AreShared, KeepsShares}
 use Rattle.phys_proc.proofs.Counting.{in_some, some_in, size_all, all_sizes-append, alone_short}
 
 -- ---- copies that differ in what is pending alone
 
-all_map : (P : StationCopy → Type 0) → ((a : StationCopy) → P a → P (but_pending a)) → (xs : List StationCopy) → AllByRecursion P xs → AllByRecursion P (map but_pending xs)
+all_map : (P : StationCopy → Type 0) → ((a : StationCopy) → P a → P (but_pending a)) → (xs : List StationCopy)
+    → AllByRecursion P xs → AllByRecursion P (map but_pending xs)
 all_map P f [] h = tt
 all_map P f (x ∷ xs) h = (f x h.0, all_map P f xs h.1)
 
-all_back : (P : StationCopy → Type 0) → ((a : StationCopy) → P (but_pending a) → P a) → (xs : List StationCopy) → AllByRecursion P (map but_pending xs) → AllByRecursion P xs
+all_back : (P : StationCopy → Type 0) → ((a : StationCopy) → P (but_pending a) → P a) → (xs : List StationCopy)
+    → AllByRecursion P (map but_pending xs) → AllByRecursion P xs
 all_back P f [] h = tt
 all_back P f (x ∷ xs) h = (f x h.0, all_back P f xs h.1)
 
 disjoint_map : (xs : List StationCopy) → Disjoint has xs → Disjoint has (map but_pending xs)
 disjoint_map [] d = tt
-disjoint_map (x ∷ xs) d = (all_map (λ b. (c : ℕ) → Carries has x c → ¬ (Carries has b c)) (λ a h. h) xs d.0, disjoint_map xs d.1)
+disjoint_map (x ∷ xs) d = (
+  all_map (λ b. (c : ℕ) → Carries has x c → ¬ (Carries has b c)) (λ a h. h) xs d.0,
+  disjoint_map xs d.1,
+)
 
 disjoint_back : (xs : List StationCopy) → Disjoint has (map but_pending xs) → Disjoint has xs
 disjoint_back [] d = tt
-disjoint_back (x ∷ xs) d = (all_back (λ b. (c : ℕ) → Carries has x c → ¬ (Carries has b c)) (λ a h. h) xs d.0, disjoint_back xs d.1)
+disjoint_back (x ∷ xs) d = (
+  all_back (λ b. (c : ℕ) → Carries has x c → ¬ (Carries has b c)) (λ a h. h) xs d.0,
+  disjoint_back xs d.1,
+)
 
 clones_map : (xs : List StationCopy) → all_clones (map but_pending xs) ≡ all_clones xs
 clones_map [] = refl
@@ -43,26 +53,33 @@ alone_map : (xs : List StationCopy) → handled_alone (map but_pending xs) ≡ h
 alone_map [] = refl
 alone_map (x ∷ xs) = ap (λ n. size x.set * length x.log + n) (alone_map xs)
 
-pub shares_same : (s handled : ℕ) (living : CloneSet) (xs ys : List StationCopy) → map but_pending ys ≡ map but_pending xs → KeepsShares (record { station = s; living = living; handled = handled; copies = xs }) →
+pub shares_same : (s handled : ℕ) (living : CloneSet) (xs ys : List StationCopy)
+    → map but_pending ys ≡ map but_pending xs
+    → KeepsShares (record { station = s; living = living; handled = handled; copies = xs }) →
     KeepsShares (record { station = s; living = living; handled = handled; copies = ys })
 shares_same s handled living xs ys e k = record {
   shares = record {
-    inhabited = all_back (λ a. a.set ≢ empty) (λ a h. h) ys (subst (AllByRecursion (λ a. a.set ≢ empty)) (sym e) (all_map (λ a. a.set ≢ empty) (λ a h. h) xs k.shares.inhabited));
+    inhabited = all_back (λ a. a.set ≢ empty) (λ a h. h) ys
+        (subst (AllByRecursion (λ a. a.set ≢ empty)) (sym e)
+        (all_map (λ a. a.set ≢ empty) (λ a h. h) xs k.shares.inhabited));
     disjoint = disjoint_back ys (subst (Disjoint has) (sym e) (disjoint_map xs k.shares.disjoint));
     together = sym (clones_map ys) ∙ (ap all_clones e ∙ (clones_map xs ∙ k.shares.together));
   };
-  once = let a = alone_map xs in let b = alone_map ys in let c = ap handled_alone e in let h = k.once in omega (arith, a, b, c, h);
+  once = let a = alone_map xs in let b = alone_map ys in let c = ap handled_alone e in let h = k.once in
+      omega (arith, a, b, c, h);
 }
 
 -- one copy is changed in what is pending alone
-pub same_set : (i : ℕ) (xs : List StationCopy) (y d : StationCopy) → i < length xs → but_pending y ≡ but_pending (get_or xs i d) → map but_pending (slice_set xs i y) ≡ map but_pending xs
+pub same_set : (i : ℕ) (xs : List StationCopy) (y d : StationCopy) → i < length xs
+    → but_pending y ≡ but_pending (get_or xs i d) → map but_pending (slice_set xs i y) ≡ map but_pending xs
 same_set i [] y d l e = absurd (omega arith)
 same_set zero (x ∷ xs) y d l e = ap (λ z. z ∷ map but_pending xs) e
 same_set (suc i) (x ∷ xs) y d l e = ap (λ t. but_pending x ∷ t) (same_set i xs y d (omega arith) e)
 
 -- ---- after a step
 
-module _ (net : Net) (s : ℕ) (ends : ℕ → ℕ) (bound : ℕ) (old new : List StationCopy) (sent : Marked) (stepped : IsStepped (simulation net) has ends s bound old new sent) where
+module _ (net : Net) (s : ℕ) (ends : ℕ → ℕ) (bound : ℕ) (old new : List StationCopy) (sent : Marked)
+    (stepped : IsStepped (simulation net) has ends s bound old new sent) where
   some_clone : (a : StationCopy) (c : ℕ) → Carries has a c → a.set ≢ empty
   some_clone a c i e = false≢true (sym (has-empty c) ∙ (ap (λ k. has k c) (sym e) ∙ i))
 
@@ -70,13 +87,16 @@ module _ (net : Net) (s : ℕ) (ends : ℕ → ℕ) (bound : ℕ) (old new : Lis
   same_clones c = elim (cases_Bool (has (all_clones new) c)) [
     | inl y ↦ let k = in_some new c y in let f = stepped.from k.0 k.1 in y ∙ sym (some_in old f.0 c f.1 (f.2 c k.2))
     | inr n ↦ elim (cases_Bool (has (all_clones old) c)) [
-      | inl y ↦ let k = in_some old c y in let g = stepped.carried k.0 c k.1 k.2 in absurd (false≢true (sym n ∙ some_in new g.0 c g.1 g.2))
+      | inl y ↦ let k = in_some old c y in let g = stepped.carried k.0 c k.1 k.2 in
+          absurd (false≢true (sym n ∙ some_in new g.0 c g.1 g.2))
       | inr o ↦ n ∙ sym o
     ]
   ]
 
   -- the new copies share out the clones that the old ones did
-  pub shares_after : (living : CloneSet) (handled more : ℕ) → all_clones old ≡ living → handled ≤ handled_alone old → handled_alone old + more ≤ handled_alone new → KeepsShares (record { station = s; living = living; handled = handled + more; copies = new })
+  pub shares_after : (living : CloneSet) (handled more : ℕ) → all_clones old ≡ living → handled ≤ handled_alone old
+      → handled_alone old + more ≤ handled_alone new
+      → KeepsShares (record { station = s; living = living; handled = handled + more; copies = new })
   shares_after living handled more e l m = record {
     shares = record {
       inhabited = all_from (λ a. a.set ≢ empty) new (λ b i. let c = stepped.inhabited b i in some_clone b c.0 c.1);
@@ -89,14 +109,18 @@ module _ (net : Net) (s : ℕ) (ends : ℕ → ℕ) (bound : ℕ) (old new : Lis
 -- ---- few messages
 
 -- the clones together are at most 256
-pub few_clones : (living : CloneSet) (copies : List StationCopy) → AreShared living copies → size living ≤ 256 → all_sizes copies ≤ 256
-few_clones living copies h l = let e = size_all copies h.disjoint in let t = ap size h.together in omega (arith, e, t, l)
+pub few_clones : (living : CloneSet) (copies : List StationCopy) → AreShared living copies → size living ≤ 256
+    → all_sizes copies ≤ 256
+few_clones living copies h l = let e = size_all copies h.disjoint in let t = ap size h.together in
+    omega (arith, e, t, l)
 
-pub sizes_are : (living : CloneSet) (copies : List StationCopy) → AreShared living copies → all_sizes copies ≡ size living
+pub sizes_are : (living : CloneSet) (copies : List StationCopy) → AreShared living copies
+    → all_sizes copies ≡ size living
 sizes_are living copies h = size_all copies h.disjoint ∙ ap size h.together
 
 -- a copy that a step comes to may handle what the counter has place for
-pub few_next : (limit h : ℕ) (ys zs : List StationCopy) (x : StationCopy) → all_sizes (ys ++ x ∷ zs) ≤ 256 → limit ≤ 65536 → h ≤ all_sizes ys * limit → h + may_handle limit x ≤ 2 ^ 32
+pub few_next : (limit h : ℕ) (ys zs : List StationCopy) (x : StationCopy) → all_sizes (ys ++ x ∷ zs) ≤ 256
+    → limit ≤ 65536 → h ≤ all_sizes ys * limit → h + may_handle limit x ≤ 2 ^ 32
 few_next limit h ys zs x l k f =
     let e = all_sizes-append ys (x ∷ zs) in
     let d = add-mul (all_sizes ys) (size x.set) limit in
@@ -107,13 +131,15 @@ few_next limit h ys zs x l k f =
     omega (arith, d, m, c, f)
 
 -- so much was handled at most
-pub few_handled : (net : Net) (s handled : ℕ) (copies : List StationCopy) → AllByRecursion (IsCopy net s) copies → all_sizes copies ≤ 256 → net.limit ≤ 65536 → handled ≤ handled_alone copies → handled ≤ 2 ^ 32
+pub few_handled : (net : Net) (s handled : ℕ) (copies : List StationCopy) → AllByRecursion (IsCopy net s) copies
+    → all_sizes copies ≤ 256 → net.limit ≤ 65536 → handled ≤ handled_alone copies → handled ≤ 2 ^ 32
 few_handled net s handled copies f l k h =
     let a = alone_short net.limit copies (all_short copies f) in
     let c = mul-le (all_sizes copies) net.limit 256 65536 l k in
     omega (arith, a, c, h)
   where
-    all_short : (xs : List StationCopy) → AllByRecursion (IsCopy net s) xs → AllByRecursion (λ a. length a.log ≤ net.limit) xs
+    all_short : (xs : List StationCopy) → AllByRecursion (IsCopy net s) xs
+        → AllByRecursion (λ a. length a.log ≤ net.limit) xs
     all_short [] f = tt
     all_short (x ∷ xs) f = (f.0.short, all_short xs f.1)
 
@@ -126,12 +152,15 @@ few_members k n e f =
     omega (arith, e, f, h, l)
 
 -- one copy shares out its clones
-pub shares_one : (s : ℕ) (living : CloneSet) (a : StationCopy) → a.set ≡ living → living ≢ empty → KeepsShares (record { station = s; living = living; handled = 0; copies = a ∷ [] })
+pub shares_one : (s : ℕ) (living : CloneSet) (a : StationCopy) → a.set ≡ living → living ≢ empty
+    → KeepsShares (record { station = s; living = living; handled = 0; copies = a ∷ [] })
 shares_one s living a e some = record {
   shares = record {
     inhabited = (λ n. some (sym e ∙ n), tt);
     disjoint = (tt, tt);
-    together = same_members (union a.set empty) living (λ c. has-union a.set empty c ∙ (ap (λ b. has a.set c || b) (has-empty c) ∙ (or_none (has a.set c) ∙ ap (λ k. has k c) e)));
+    together = same_members (union a.set empty) living
+        (λ c. has-union a.set empty c ∙ (ap (λ b. has a.set c || b) (has-empty c)
+        ∙ (or_none (has a.set c) ∙ ap (λ k. has k c) e)));
   };
   once = omega arith;
 }

@@ -1,5 +1,7 @@
 -- The least time that clones take of what is pending.
-use Rattle.std.proofs.Common.{◌≡◌, ◌≢◌, ◌⊎◌, ℕ, zero, suc, ◌+◌, ◌<◌, ◌≤◌, ◌&&◌, not, min, Bool, true, false, cond, List, [], ◌∷◌, ◌++◌, inl, inr, Option, Some, None, refl, sym, ap, ◌∙◌, subst, arith, nat_lt, eq-eqb, eqb-true, slice_get, take, length, get_or}
+use Rattle.std.proofs.Common.{◌≡◌, ◌≢◌, ◌⊎◌, ℕ, zero, suc, ◌+◌, ◌<◌, ◌≤◌, ◌&&◌, not, min, Bool}
+use Rattle.std.proofs.Common.{true, false, cond, List, [], ◌∷◌, ◌++◌, inl, inr, Option, Some, None, refl}
+use Rattle.std.proofs.Common.{sym, ap, ◌∙◌, subst, arith, nat_lt, eq-eqb, eqb-true, slice_get, take, length, get_or}
 use Rattle.std.specs.List.{AllByRecursion}
 use Rattle.std.specs.declared.cmp.Ordering.TheVariants.{Less}
 use Rattle.std.proofs.lemmas.Bool.{cases_Bool, lt-ltb, ltb-true, false≢true}
@@ -29,16 +31,19 @@ both_true false b e = absurd (false≢true e)
 
 -- ---- what a clone takes
 
-in_taken : (ends : ℕ → ℕ) (c : ℕ) (q : Marked) (z : Msg) → In z (taken_at ends c q) → (k : CloneSet) × In (z, k) q × (takes_at ends z k c ≡ true)
+in_taken : (ends : ℕ → ℕ) (c : ℕ) (q : Marked) (z : Msg) → In z (taken_at ends c q) → (k : CloneSet) × In (z, k) q
+    × (takes_at ends z k c ≡ true)
 in_taken ends c [] z i = absurd i
 in_taken ends c (x ∷ xs) z i = elim (in_cons_if (takes_at ends x.0 x.1 c) x.0 (taken_at ends c xs) z i) [
   | inl h ↦ (x.1, inl (λ j. (h.1 j, x.1)), subst (λ m. takes_at ends m x.1 c ≡ true) (sym h.1) h.0)
   | inr h ↦ let r = in_taken ends c xs z h in (r.0, inr r.1, r.2)
 ]
 
-taken_has : (ends : ℕ → ℕ) (c : ℕ) (q : Marked) (x : Msg × CloneSet) → In x q → takes_at ends x.0 x.1 c ≡ true → In x.0 (taken_at ends c q)
+taken_has : (ends : ℕ → ℕ) (c : ℕ) (q : Marked) (x : Msg × CloneSet) → In x q → takes_at ends x.0 x.1 c ≡ true
+    → In x.0 (taken_at ends c q)
 taken_has ends c [] x i t = absurd i
-taken_has ends c (y ∷ ys) x (inl e) t = cons_if_new (takes_at ends y.0 y.1 c) y.0 (taken_at ends c ys) x.0 (subst (λ (u : Msg × CloneSet). takes_at ends u.0 u.1 c ≡ true) e t) (ap (λ (u : Msg × CloneSet). u.0) e)
+taken_has ends c (y ∷ ys) x (inl e) t = cons_if_new (takes_at ends y.0 y.1 c) y.0 (taken_at ends c ys) x.0
+    (subst (λ (u : Msg × CloneSet). takes_at ends u.0 u.1 c ≡ true) e t) (ap (λ (u : Msg × CloneSet). u.0) e)
 taken_has ends c (y ∷ ys) x (inr i) t = later (takes_at ends y.0 y.1 c) (taken_has ends c ys x i t)
   where
     later : (b : Bool) → In x.0 (taken_at ends c ys) → In x.0 (cond b (y.0 ∷ taken_at ends c ys) (taken_at ends c ys))
@@ -61,18 +66,24 @@ NoneWith k q = (c : ℕ) → has k c ≡ true → (x : Msg × CloneSet) → In x
 not_met : (k : CloneSet) (x : Msg × CloneSet) → met x.1 k ≡ None → (c : ℕ) → has k c ≡ true → has x.1 c ≡ true → ⊥
 not_met k x e c i j = false≢true (sym (met_none x.1 k e c) ∙ (ap (λ b. b && has k c) j ∙ i))
 
-pub first_with : (k : CloneSet) (q : Marked) (p : Msg × CloneSet) → SortedMarked msg_cmp q → Some p ≡ slice_get (cut_by met k q) 0 → IsFirstWith k q p.0 p.1
+pub first_with : (k : CloneSet) (q : Marked) (p : Msg × CloneSet) → SortedMarked msg_cmp q
+    → Some p ≡ slice_get (cut_by met k q) 0 → IsFirstWith k q p.0 p.1
 first_with k [] p s e = absurd (cc)
 first_with k (x ∷ xs) p s e = by_met (met x.1 k) refl e (λ f. first_with k xs p s.1 f)
   where
-    by_met : (o : Option CloneSet) → met x.1 k ≡ o → Some p ≡ slice_get (kept_of k o x.0 (cut_by met k xs)) 0 → (Some p ≡ slice_get (cut_by met k xs) 0 → IsFirstWith k xs p.0 p.1) → IsFirstWith k (x ∷ xs) p.0 p.1
+    by_met : (o : Option CloneSet) → met x.1 k ≡ o → Some p ≡ slice_get (kept_of k o x.0 (cut_by met k xs)) 0
+        → (Some p ≡ slice_get (cut_by met k xs) 0 → IsFirstWith k xs p.0 p.1) → IsFirstWith k (x ∷ xs) p.0 p.1
     by_met None n f rest =
         let h = rest f in
         record {
           marks = h.marks;
           there = inr h.there;
           meets = h.meets;
-          least = λ c i y m t. elim m [ inl d ↦ absurd (not_met k x n c i (subst (λ (u : Msg × CloneSet). has u.1 c ≡ true) d t)) | inr l ↦ h.least c i y l t ];
+          least = λ c i y m t. elim m [
+            | inl d ↦
+                absurd (not_met k x n c i (subst (λ (u : Msg × CloneSet). has u.1 c ≡ true) d t))
+            | inr l ↦ h.least c i y l t
+          ];
         }
     by_met (Some j) n f rest =
         let same : (x.0, j) ≡ p = cc in
@@ -90,14 +101,21 @@ pub none_with : (k : CloneSet) (q : Marked) → None ≡ slice_get (cut_by met k
 none_with k [] e = λ c i x m t. m
 none_with k (x ∷ xs) e = by_met (met x.1 k) refl e (λ f. none_with k xs f)
   where
-    by_met : (o : Option CloneSet) → met x.1 k ≡ o → None ≡ slice_get (kept_of k o x.0 (cut_by met k xs)) 0 → (None ≡ slice_get (cut_by met k xs) 0 → NoneWith k xs) → NoneWith k (x ∷ xs)
-    by_met None n f rest = λ c i y m t. elim m [ inl d ↦ not_met k x n c i (subst (λ (u : Msg × CloneSet). has u.1 c ≡ true) d t) | inr l ↦ rest f c i y l t ]
+    by_met : (o : Option CloneSet) → met x.1 k ≡ o → None ≡ slice_get (kept_of k o x.0 (cut_by met k xs)) 0
+        → (None ≡ slice_get (cut_by met k xs) 0 → NoneWith k xs) → NoneWith k (x ∷ xs)
+    by_met None n f rest = λ c i y m t.
+        elim m [
+          | inl d ↦ not_met k x n c i (subst (λ (u : Msg × CloneSet). has u.1 c ≡ true) d t)
+          | inr l ↦ rest f c i y l t
+        ]
     by_met (Some j) n f rest = absurd (cc)
 
 -- ---- one clone
 
 -- it takes the first message that is marked with it, if that comes before its end
-pub least_one : (ends : ℕ → ℕ) (c end : ℕ) (q : Marked) (p : Msg × CloneSet) → end ≡ ends c → SortedMarked msg_cmp q → Some p ≡ slice_get (cut_by met (one c) q) 0 → p.0.key.time < end → IsLeastTime (λ m. In m (taken_at ends c q)) (Some p.0.key.time)
+pub least_one : (ends : ℕ → ℕ) (c end : ℕ) (q : Marked) (p : Msg × CloneSet) → end ≡ ends c → SortedMarked msg_cmp q
+    → Some p ≡ slice_get (cut_by met (one c) q) 0 → p.0.key.time < end
+    → IsLeastTime (λ m. In m (taken_at ends c q)) (Some p.0.key.time)
 least_one ends c end q p e s first soon =
     let f = first_with (one c) q p s first in
     let j = met_is f.marks (one c) p.1 f.meets in
@@ -105,11 +123,19 @@ least_one ends c end q p e s first soon =
     let both = both_true (has f.marks d.0) (has (one c) d.0) (sym (met_some f.marks (one c) p.1 f.meets d.0) ∙ d.1) in
     let same : c ≡ d.0 = eqb-true c d.0 (sym (has-one c d.0) ∙ both.1) in
     let marked : has f.marks c ≡ true = subst (λ n. has f.marks n ≡ true) (sym same) both.0 in (
-      (p.0, taken_has ends c q (p.0, f.marks) f.there (ap (λ b. b && nat_lt p.0.key.time (ends c)) marked ∙ lt-ltb p.0.key.time (ends c) (omega (arith, soon, e))), refl),
-      λ z i. let k = in_taken ends c q z i in f.least c (has-one c c ∙ eq-eqb c c refl) (z, k.0) k.1 (both_true (has k.0 c) (nat_lt z.key.time (ends c)) k.2).0,
+      (
+        p.0,
+        taken_has ends c q (p.0, f.marks) f.there (ap (λ b. b && nat_lt p.0.key.time (ends c)) marked
+            ∙ lt-ltb p.0.key.time (ends c) (omega (arith, soon, e))),
+        refl,
+      ),
+      λ z i. let k = in_taken ends c q z i in
+          f.least c (has-one c c ∙ eq-eqb c c refl) (z, k.0) k.1
+          (both_true (has k.0 c) (nat_lt z.key.time (ends c)) k.2).0,
     )
 
-pub least_ended : (ends : ℕ → ℕ) (c end : ℕ) (q : Marked) (p : Msg × CloneSet) → end ≡ ends c → SortedMarked msg_cmp q → Some p ≡ slice_get (cut_by met (one c) q) 0 → end ≤ p.0.key.time → (z : Msg) → ¬ (In z (taken_at ends c q))
+pub least_ended : (ends : ℕ → ℕ) (c end : ℕ) (q : Marked) (p : Msg × CloneSet) → end ≡ ends c → SortedMarked msg_cmp q
+    → Some p ≡ slice_get (cut_by met (one c) q) 0 → end ≤ p.0.key.time → (z : Msg) → ¬ (In z (taken_at ends c q))
 least_ended ends c end q p e s first late z i =
     let f = first_with (one c) q p s first in
     let k = in_taken ends c q z i in
@@ -118,10 +144,12 @@ least_ended ends c end q p e s first late z i =
     let b = ltb-true z.key.time (ends c) t.1 in
     absurd (omega (arith, l, b, late, e))
 
-pub least_unmarked : (ends : ℕ → ℕ) (c : ℕ) (q : Marked) → None ≡ slice_get (cut_by met (one c) q) 0 → (z : Msg) → ¬ (In z (taken_at ends c q))
+pub least_unmarked : (ends : ℕ → ℕ) (c : ℕ) (q : Marked) → None ≡ slice_get (cut_by met (one c) q) 0 → (z : Msg)
+    → ¬ (In z (taken_at ends c q))
 least_unmarked ends c q none z i =
     let k = in_taken ends c q z i in
-    none_with (one c) q none c (has-one c c ∙ eq-eqb c c refl) (z, k.0) k.1 (both_true (has k.0 c) (nat_lt z.key.time (ends c)) k.2).0
+    none_with (one c) q none c (has-one c c ∙ eq-eqb c c refl) (z, k.0) k.1
+    (both_true (has k.0 c) (nat_lt z.key.time (ends c)) k.2).0
 
 -- the same, where something else holds besides
 pub least_beside : (A : Type 0) (P : Msg → Type 0) (t : Option ℕ) → A → IsLeastTime P t → IsLeastTime (λ m. A × P m) t
@@ -142,16 +170,20 @@ pub record OthersNone (ends : ℕ → ℕ) (set alive : CloneSet) (q : Marked) :
 pub others_start : (ends : ℕ → ℕ) (set : CloneSet) (q : Marked) → OthersNone ends set set q
 others_start ends set q = record { within = λ c i. i; none = λ c i n m t. false≢true (sym n ∙ i) }
 
-module _ (horizon : ℕ) (es : List (ℕ × ℕ)) (set alive : CloneSet) (q : Marked) (h : OthersNone (ends_in horizon es) set alive q) (sorted : SortedMarked msg_cmp q) where
+module _ (horizon : ℕ) (es : List (ℕ × ℕ)) (set alive : CloneSet) (q : Marked)
+    (h : OthersNone (ends_in horizon es) set alive q) (sorted : SortedMarked msg_cmp q) where
   -- none of them has a message
   pub none_alive : None ≡ slice_get (cut_by met alive q) 0 → (m : Msg) → ¬ (AnyTakes (ends_in horizon es) set q m)
   none_alive none m t = elim (cases_Bool (has alive t.0)) [
-    | inl y ↦ let k = in_taken (ends_in horizon es) t.0 q m t.2 in none_with alive q none t.0 y (m, k.0) k.1 (both_true (has k.0 t.0) (nat_lt m.key.time (ends_in horizon es t.0)) k.2).0
+    | inl y ↦ let k = in_taken (ends_in horizon es) t.0 q m t.2 in
+        none_with alive q none t.0 y (m, k.0) k.1
+        (both_true (has k.0 t.0) (nat_lt m.key.time (ends_in horizon es t.0)) k.2).0
     | inr n ↦ h.none t.0 t.1 n m t.2
   ]
 
   module _ (p : Msg × CloneSet) (first : Some p ≡ slice_get (cut_by met alive q) 0) where
-    at_least : (c : ℕ) (z : Msg) → has alive c ≡ true → In z (taken_at (ends_in horizon es) c q) → (p.0.key.time ≤ z.key.time) × (z.key.time < ends_in horizon es c)
+    at_least : (c : ℕ) (z : Msg) → has alive c ≡ true → In z (taken_at (ends_in horizon es) c q)
+        → (p.0.key.time ≤ z.key.time) × (z.key.time < ends_in horizon es c)
     at_least c z y i =
         let f = first_with alive q p sorted first in
         let k = in_taken (ends_in horizon es) c q z i in
@@ -161,16 +193,19 @@ module _ (horizon : ℕ) (es : List (ℕ × ℕ)) (set alive : CloneSet) (q : Ma
     -- its time is not before the horizon: nothing is taken
     pub none_soon : horizon ≤ p.0.key.time → (m : Msg) → ¬ (AnyTakes (ends_in horizon es) set q m)
     none_soon late m t = elim (cases_Bool (has alive t.0)) [
-      | inl y ↦ (let k = at_least t.0 m y t.2 in let a = k.0 in let b = k.1 in let d = ends_soon horizon es t.0 in absurd (omega (arith, a, b, d, late)))
+      | inl y ↦ (let k = at_least t.0 m y t.2 in let a = k.0 in let b = k.1 in let d = ends_soon horizon es t.0 in
+          absurd (omega (arith, a, b, d, late)))
       | inr n ↦ h.none t.0 t.1 n m t.2
     ]
 
-    module _ (takers gone : CloneSet) (left : (c : ℕ) → has takers c ≡ (has p.1 c && not (has gone c))) (went : (c : ℕ) → has gone c ≡ is_gone p.0.key.time es c) (soon : p.0.key.time < horizon) where
+    module _ (takers gone : CloneSet) (left : (c : ℕ) → has takers c ≡ (has p.1 c && not (has gone c)))
+        (went : (c : ℕ) → has gone c ≡ is_gone p.0.key.time es c) (soon : p.0.key.time < horizon) where
       gone_at : (c : ℕ) → has gone c ≡ not (nat_lt p.0.key.time (ends_in horizon es c))
       gone_at c = went c ∙ gone_is horizon p.0.key.time es c soon
 
       shared_at : (c : ℕ) → has p.1 c ≡ true → has alive c ≡ true
-      shared_at c i = let f = first_with alive q p sorted first in (both_true (has f.marks c) (has alive c) (sym (met_some f.marks alive p.1 f.meets c) ∙ i)).1
+      shared_at c i = let f = first_with alive q p sorted first in
+          (both_true (has f.marks c) (has alive c) (sym (met_some f.marks alive p.1 f.meets c) ∙ i)).1
 
       not_not : (b : Bool) → not (not b) ≡ true → b ≡ true
       not_not true e = refl
@@ -182,20 +217,39 @@ module _ (horizon : ℕ) (es : List (ℕ × ℕ)) (set alive : CloneSet) (q : Ma
           let f = first_with alive q p sorted first in
           let c = set_has_clone takers some in
           let t = both_true (has p.1 c.0) (not (has gone c.0)) (sym (left c.0) ∙ c.1) in
-          let marked = (both_true (has f.marks c.0) (has alive c.0) (sym (met_some f.marks alive p.1 f.meets c.0) ∙ t.0)).0 in
-          let before : nat_lt p.0.key.time (ends_in horizon es c.0) ≡ true = not_not (nat_lt p.0.key.time (ends_in horizon es c.0)) (sym (ap not (gone_at c.0)) ∙ t.1) in (
-            (p.0, (c.0, h.within c.0 (shared_at c.0 t.0), taken_has (ends_in horizon es) c.0 q (p.0, f.marks) f.there (ap (λ b. b && nat_lt p.0.key.time (ends_in horizon es c.0)) marked ∙ before)), refl),
-            λ z u. elim (cases_Bool (has alive u.0)) [ inl y ↦ (at_least u.0 z y u.2).0 | inr n ↦ absurd (h.none u.0 u.1 n z u.2) ],
+          let marked = (both_true (has f.marks c.0) (has alive c.0) (sym (met_some f.marks alive p.1 f.meets c.0)
+          ∙ t.0)).0 in
+          let before : nat_lt p.0.key.time (ends_in horizon es c.0) ≡ true =
+          not_not (nat_lt p.0.key.time (ends_in horizon es c.0)) (sym (ap not (gone_at c.0)) ∙ t.1) in (
+            (
+              p.0,
+              (
+                c.0,
+                h.within c.0 (shared_at c.0 t.0),
+                taken_has (ends_in horizon es) c.0 q (p.0, f.marks) f.there
+                    (ap (λ b. b && nat_lt p.0.key.time (ends_in horizon es c.0)) marked ∙ before),
+              ),
+              refl,
+            ),
+            λ z u. elim (cases_Bool (has alive u.0)) [
+              | inl y ↦ (at_least u.0 z y u.2).0
+              | inr n ↦ absurd (h.none u.0 u.1 n z u.2)
+            ],
           )
 
       -- no one does: those that are marked have ended
-      pub others_more : takers ≡ empty → (rest : CloneSet) → ((c : ℕ) → has rest c ≡ (has alive c && not (has p.1 c))) → OthersNone (ends_in horizon es) set rest q
+      pub others_more : takers ≡ empty → (rest : CloneSet) → ((c : ℕ) → has rest c ≡ (has alive c && not (has p.1 c)))
+          → OthersNone (ends_in horizon es) set rest q
       others_more none rest is = record {
         within = λ c i. h.within c (both_true (has alive c) (not (has p.1 c)) (sym (is c) ∙ i)).0;
         none = λ c i n m t. elim (cases_Bool (has alive c)) [
           | inl y ↦ (let k = at_least c m y t in let a = k.0 in let b = k.1 in
-              let marked : has p.1 c ≡ true = not_false (has p.1 c) (ap (λ x. x && not (has p.1 c)) (sym y) ∙ (sym (is c) ∙ n)) in
-              let ended : nat_lt p.0.key.time (ends_in horizon es c) ≡ false = not_left (nat_lt p.0.key.time (ends_in horizon es c)) (sym (left c ∙ (ap (λ x. x && not (has gone c)) marked ∙ ap not (gone_at c))) ∙ (ap (λ k. has k c) none ∙ has-empty c)) in
+              let marked : has p.1 c ≡ true =
+              not_false (has p.1 c) (ap (λ x. x && not (has p.1 c)) (sym y) ∙ (sym (is c) ∙ n)) in
+              let ended : nat_lt p.0.key.time (ends_in horizon es c) ≡ false =
+              not_left (nat_lt p.0.key.time (ends_in horizon es c))
+              (sym (left c ∙ (ap (λ x. x && not (has gone c)) marked ∙ ap not (gone_at c)))
+              ∙ (ap (λ k. has k c) none ∙ has-empty c)) in
               let before = lt-ltb p.0.key.time (ends_in horizon es c) (omega (arith, a, b)) in
               false≢true (sym ended ∙ before))
           | inr o ↦ h.none c i o m t
@@ -217,17 +271,22 @@ module _ (horizon : ℕ) (es : List (ℕ × ℕ)) (set alive : CloneSet) (q : Ma
         let j = met_is f.marks alive p.1 f.meets in
         let d = set_has_clone p.1 j.1 in
         let both = both_true (has f.marks d.0) (has alive d.0) (sym (met_some f.marks alive p.1 f.meets d.0) ∙ d.1) in
-        minus_smaller alive p.1 (λ e. false≢true (sym (has-empty d.0) ∙ (sym (ap (λ k. has k d.0) e) ∙ (has-meet alive p.1 d.0 ∙ (ap (λ b. b && has p.1 d.0) both.1 ∙ d.1)))))
+        minus_smaller alive p.1 (λ e. false≢true
+        (sym (has-empty d.0) ∙ (sym (ap (λ k. has k d.0) e)
+        ∙ (has-meet alive p.1 d.0 ∙ (ap (λ b. b && has p.1 d.0) both.1 ∙ d.1)))))
 
 -- ---- the lesser of two
 
 min_cases : (t u : ℕ) → (min t u ≡ t) ⊎ (min t u ≡ u)
 min_cases t u = grind arith
 
-pub least_both : (P Q R : Msg → Type 0) (t u : Option ℕ) → ((m : Msg) → P m → R m) → ((m : Msg) → Q m → R m) → ((m : Msg) → R m → P m ⊎ Q m) → IsLeastTime P t → IsLeastTime Q u → IsLeastTime R (earlier t u)
+pub least_both : (P Q R : Msg → Type 0) (t u : Option ℕ) → ((m : Msg) → P m → R m) → ((m : Msg) → Q m → R m)
+    → ((m : Msg) → R m → P m ⊎ Q m) → IsLeastTime P t → IsLeastTime Q u → IsLeastTime R (earlier t u)
 least_both P Q R None None f g e a b = λ m r. elim (e m r) [ inl p ↦ a m p | inr q ↦ b m q ]
-least_both P Q R None (Some u) f g e a b = ((b.0.0, g b.0.0 b.0.1, b.0.2), λ m r. elim (e m r) [ inl p ↦ absurd (a m p) | inr q ↦ b.1 m q ])
-least_both P Q R (Some t) None f g e a b = ((a.0.0, f a.0.0 a.0.1, a.0.2), λ m r. elim (e m r) [ inl p ↦ a.1 m p | inr q ↦ absurd (b m q) ])
+least_both P Q R None (Some u) f g e a b =
+    ((b.0.0, g b.0.0 b.0.1, b.0.2), λ m r. elim (e m r) [ inl p ↦ absurd (a m p) | inr q ↦ b.1 m q ])
+least_both P Q R (Some t) None f g e a b =
+    ((a.0.0, f a.0.0 a.0.1, a.0.2), λ m r. elim (e m r) [ inl p ↦ a.1 m p | inr q ↦ absurd (b m q) ])
 least_both P Q R (Some t) (Some u) f g e a b = (
   elim (min_cases t u) [
     | inl h ↦ (a.0.0, f a.0.0 a.0.1, a.0.2 ∙ sym h)
@@ -249,36 +308,54 @@ module _ (ends : ℕ → ℕ) (xs all : List StationCopy) (x : StationCopy) (who
   is_there = subst (In x) (sym whole) (append_new xs (x ∷ []) x (inl refl))
 
   either : (a : StationCopy) → In a all → In a xs ⊎ (a ≡ x)
-  either a i = elim (in_append xs (x ∷ []) a (subst (In a) whole i)) [ inl j ↦ inl j | inr j ↦ elim j [ inl e ↦ inr e | inr n ↦ absurd n ] ]
+  either a i = elim (in_append xs (x ∷ []) a (subst (In a) whole i)) [
+    | inl j ↦ inl j
+    | inr j ↦ elim j [ inl e ↦ inr e | inr n ↦ absurd n ]
+  ]
 
   still_by : (c : ℕ) (m : Msg) → IsTakenBy ends xs c m → IsTakenBy ends all c m
-  still_by c m h = record { copy = h.copy; is_copy = was_there h.copy h.is_copy; is_in = h.is_in; is_taken = h.is_taken }
+  still_by c m h = record {
+    copy = h.copy;
+    is_copy = was_there h.copy h.is_copy;
+    is_in = h.is_in;
+    is_taken = h.is_taken;
+  }
 
   by_last : (c : ℕ) (m : Msg) → has x.set c ≡ true → In m (taken_at ends c x.pending) → IsTakenBy ends all c m
   by_last c m i t = record { copy = x; is_copy = is_there; is_in = i; is_taken = t }
 
-  by_one_of : (c : ℕ) (m : Msg) → IsTakenBy ends all c m → IsTakenBy ends xs c m ⊎ ((has x.set c ≡ true) × In m (taken_at ends c x.pending))
+  by_one_of : (c : ℕ) (m : Msg) → IsTakenBy ends all c m
+      → IsTakenBy ends xs c m ⊎ ((has x.set c ≡ true) × In m (taken_at ends c x.pending))
   by_one_of c m h = elim (either h.copy h.is_copy) [
     | inl i ↦ inl (record { copy = h.copy; is_copy = i; is_in = h.is_in; is_taken = h.is_taken })
-    | inr e ↦ inr (subst (λ (u : StationCopy). has u.set c ≡ true) e h.is_in, subst (λ (u : StationCopy). In m (taken_at ends c u.pending)) e h.is_taken)
+    | inr e ↦ inr (
+      subst (λ (u : StationCopy). has u.set c ≡ true) e h.is_in,
+      subst (λ (u : StationCopy). In m (taken_at ends c u.pending)) e h.is_taken,
+    )
   ]
 
-  pub least_more : (t u : Option ℕ) → IsLeast ends xs t → IsLeastTime (AnyTakes ends x.set x.pending) u → IsLeast ends all (earlier t u)
-  least_more t u a b = least_both (λ m. (c : ℕ) × IsTakenBy ends xs c m) (AnyTakes ends x.set x.pending) (λ m. (c : ℕ) × IsTakenBy ends all c m) t u
+  pub least_more : (t u : Option ℕ) → IsLeast ends xs t → IsLeastTime (AnyTakes ends x.set x.pending) u
+      → IsLeast ends all (earlier t u)
+  least_more t u a b = least_both (λ m. (c : ℕ) × IsTakenBy ends xs c m) (AnyTakes ends x.set x.pending)
+      (λ m. (c : ℕ) × IsTakenBy ends all c m) t u
       (λ m h. (h.0, still_by h.0 m h.1))
       (λ m h. (h.0, by_last h.0 m h.1 h.2))
       (λ m h. elim (by_one_of h.0 m h.1) [ inl p ↦ inl (h.0, p) | inr q ↦ inr (h.0, q.0, q.1) ])
       a b
 
-  pub least_of_more : (c : ℕ) (t u : Option ℕ) → IsLeastOf ends xs c t → IsLeastTime (λ m. (has x.set c ≡ true) × In m (taken_at ends c x.pending)) u → IsLeastOf ends all c (earlier t u)
-  least_of_more c t u a b = least_both (IsTakenBy ends xs c) (λ m. (has x.set c ≡ true) × In m (taken_at ends c x.pending)) (IsTakenBy ends all c) t u
+  pub least_of_more : (c : ℕ) (t u : Option ℕ) → IsLeastOf ends xs c t
+      → IsLeastTime (λ m. (has x.set c ≡ true) × In m (taken_at ends c x.pending)) u
+      → IsLeastOf ends all c (earlier t u)
+  least_of_more c t u a b = least_both (IsTakenBy ends xs c)
+      (λ m. (has x.set c ≡ true) × In m (taken_at ends c x.pending)) (IsTakenBy ends all c) t u
       (λ m h. still_by c m h)
       (λ m h. by_last c m h.0 h.1)
       (λ m h. by_one_of c m h)
       a b
 
 -- one copy more of the list
-pub take_one : (xs : List StationCopy) (i : ℕ) (x : StationCopy) → i < length xs → x ≡ get_or xs i x → take (i + 1) xs ≡ take i xs ++ x ∷ []
+pub take_one : (xs : List StationCopy) (i : ℕ) (x : StationCopy) → i < length xs → x ≡ get_or xs i x
+    → take (i + 1) xs ≡ take i xs ++ x ∷ []
 take_one xs i x l e = ap (λ n. take n xs) (plus_one i) ∙ by_suc xs i l e
   where
     plus_one : (i : ℕ) → i + 1 ≡ suc i
@@ -289,7 +366,8 @@ take_one xs i x l e = ap (λ n. take n xs) (plus_one i) ∙ by_suc xs i l e
     by_suc (y ∷ ys) zero l e = ap (λ z. z ∷ []) (sym e)
     by_suc (y ∷ ys) (suc i) l e = ap (λ t. y ∷ t) (by_suc ys i (omega arith) e)
 
-pub holds_in : (P : StationCopy → Type 0) (xs : List StationCopy) (i : ℕ) (x : StationCopy) → AllByRecursion P xs → i < length xs → x ≡ get_or xs i x → P x
+pub holds_in : (P : StationCopy → Type 0) (xs : List StationCopy) (i : ℕ) (x : StationCopy) → AllByRecursion P xs
+    → i < length xs → x ≡ get_or xs i x → P x
 holds_in P [] i x f l e = absurd (omega arith)
 holds_in P (y ∷ ys) zero x f l e = subst P (sym e) f.0
 holds_in P (y ∷ ys) (suc i) x f l e = holds_in P ys i x f.1 (omega arith) e

@@ -1,5 +1,6 @@
 //! One copy of a station.
-ghost use Rattle.std.specs.Prelude.{◌≡◌, ℕ, ◌<◌, ◌≤◌, List, ◌∷◌, length, IfOk, IfSome, IfNone, OnOk, ◌+◌, option_map, slice_get};
+ghost use Rattle.std.specs.Prelude.{◌≡◌, ℕ, ◌<◌, ◌≤◌, List, ◌∷◌, length};
+ghost use Rattle.std.specs.Prelude.{IfOk, IfSome, IfNone, OnOk, ◌+◌, option_map, slice_get};
 ghost use Rattle.clone_sets.specs.Sets.{has, minus};
 ghost use Rattle.clone_sets.specs.declared.set.CloneSet.{CloneSet as CloneSet'};
 ghost use Rattle.sim_base.specs.declared.message.Msg.{Msg as Msg'};

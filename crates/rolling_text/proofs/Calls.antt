@@ -8,7 +8,8 @@ none_counted None = refl
 none_counted (Some b) = refl
 
 -- one call more
-pub counted_more : (n : ℕ) (old mid new : Option ℕ) → AreCounted n old mid → Counted mid new → AreCounted (n + 1) old new
+pub counted_more : (n : ℕ) (old mid new : Option ℕ) → AreCounted n old mid → Counted mid new
+    → AreCounted (n + 1) old new
 counted_more n None mid new h k = let m : mid ≡ None = h in (rw m at k)
 counted_more n (Some b) mid new h k =
     let m : mid ≡ Some (counts_after n b) = h in
@@ -16,7 +17,8 @@ counted_more n (Some b) mid new h k =
     (rw m at k) ∙ ap (λ j. Some (counts_after j b)) (sym up)
 
 -- so many calls, of at most so many
-pub counted_to : (n most : ℕ) (old mid new : Option ℕ) → n + 1 ≤ most → AreCounted n old mid → Counted mid new → AreCountedTo most old new
+pub counted_to : (n most : ℕ) (old mid new : Option ℕ) → n + 1 ≤ most → AreCounted n old mid → Counted mid new
+    → AreCountedTo most old new
 counted_to n most old mid new l h k = record {
   calls = n + 1;
   some = omega arith;

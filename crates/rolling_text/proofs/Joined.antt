@@ -1,5 +1,7 @@
 -- Lines behind 32 bytes.
-use Rattle.std.proofs.Common.{◌≡◌, ℕ, zero, suc, ◌+◌, ◌-◌, ◌<◌, ◌≤◌, refl, sym, ◌∙◌, ap, arith, List, [], ◌∷◌, ◌++◌, Some, slice_get, codes, get_or, subst, append_assoc, length, take, drop, length-drop, length-append}
+use Rattle.std.proofs.Common.{◌≡◌, ℕ, zero, suc, ◌+◌, ◌-◌, ◌<◌, ◌≤◌, refl, sym}
+use Rattle.std.proofs.Common.{◌∙◌, ap, arith, List, [], ◌∷◌, ◌++◌, Some, slice_get, codes}
+use Rattle.std.proofs.Common.{get_or, subst, append_assoc, length, take, drop, length-drop, length-append}
 use Rattle.std.proofs.lemmas.Grind.{common_steps}
 use Rattle.std.proofs.lemmas.List.{drop-append-le, drop-take, take_rest}
 use Rattle.std.proofs.lemmas.Option.{unwrap_or-slice_get}
@@ -10,10 +12,12 @@ use Rattle.rolling_text.specs.Texts.{IsKept, ArePlanned, body, body_before, rest
 use Rattle.trace_report.specs.Outputs.{clone_text}
 
 -- a text that is cut where the kept lines end, and gets this clone's rest
-module _ (net : Net) (cs : List Clone) (room c : ℕ) (k : Keep) (kept : IsKept net cs room c k) (old cut new : List ℕ)
-    (margin : 32 ≤ length old) (lines : drop 32 old ≡ body_before net cs c) (is_cut : cut ≡ take (32 + k.bytes) old) where
+module _ (net : Net) (cs : List Clone) (reserved c : ℕ) (k : Keep) (kept : IsKept net cs reserved c k) (old cut new : List ℕ)
+    (margin : 32 ≤ length old) (lines : drop 32 old ≡ body_before net cs c)
+    (is_cut : cut ≡ take (32 + k.bytes) old) where
   pub can_cut : 32 + k.bytes ≤ length old
-  can_cut = let a = ap length lines in let b = length-drop 32 old in let w = kept.within in omega (arith, a, b, w, margin)
+  can_cut = let a = ap length lines in let b = length-drop 32 old in let w = kept.within in
+      omega (arith, a, b, w, margin)
 
   long_cut : length cut ≡ 32 + k.bytes
   long_cut =
@@ -25,12 +29,13 @@ module _ (net : Net) (cs : List Clone) (room c : ℕ) (k : Keep) (kept : IsKept 
   kept_lines : drop 32 cut ≡ take k.bytes (body_before net cs c)
   kept_lines = ap (drop 32) is_cut ∙ drop-take 32 k.bytes old ∙ ap (take k.bytes) lines
 
-  -- there is room for the rest
-  pub has_room : length cut + length (rest net (clone_at cs c) k.time) + 256 ≤ room
-  has_room =
+  -- the rest fits
+  pub rest_fits : length cut + length (rest net (clone_at cs c) k.time) + 256 ≤ reserved
+  rest_fits =
       let a = ap length kept.joins in
       let b = length-append (take k.bytes (body_before net cs c)) (rest net (clone_at cs c) k.time) in
-      let d : length (take k.bytes (body_before net cs c)) ≡ k.bytes = let w = kept.within in grind (arith, common_steps, w) in
+      let d : length (take k.bytes (body_before net cs c)) ≡ k.bytes = let w = kept.within in
+      grind (arith, common_steps, w) in
       let e = long_cut in
       let f = kept.fits in
       omega (arith, a, b, d, e, f)
@@ -55,13 +60,14 @@ at_place (x ∷ xs) zero d l = refl
 at_place (x ∷ xs) (suc i) d l = at_place xs i d (omega arith)
 
 -- what is kept for the clone at a place, where the network and the clones are the same ones
-pub kept_at : (net net' : Net) (cs cs' : List Clone) (room room' : ℕ) (ks : List Keep) (c : ℕ) (d : Keep) → ArePlanned net cs room ks →
-    net' ≡ net → cs' ≡ cs → room' ≡ room → c < length cs → IsKept net' cs' room' c (get_or ks c d)
-kept_at net net' cs cs' room room' ks c d planned n e r l =
+pub kept_at : (net net' : Net) (cs cs' : List Clone) (reserved reserved' : ℕ) (ks : List Keep) (c : ℕ) (d : Keep)
+    → ArePlanned net cs reserved ks →
+    net' ≡ net → cs' ≡ cs → reserved' ≡ reserved → c < length cs → IsKept net' cs' reserved' c (get_or ks c d)
+kept_at net net' cs cs' reserved reserved' ks c d planned n e r l =
     let m = planned.many in
     let k = get_or ks c d in
-    subst (λ x. IsKept x cs' room' c k) (sym n)
-    (subst (λ x. IsKept net x room' c k) (sym e)
+    subst (λ x. IsKept x cs' reserved' c k) (sym n)
+    (subst (λ x. IsKept net x reserved' c k) (sym e)
     (subst (λ x. IsKept net cs x c k) (sym r) (planned.each c k (at_place ks c d (omega (arith, m, l))))))
 
 -- the lines before the next clone are this one's
@@ -69,17 +75,21 @@ pub next_before : (net : Net) (cs : List Clone) (c : ℕ) → body_before net cs
 next_before net cs c = let e : c + 1 ≡ suc c = omega arith in ap (body_before net cs) e
 
 -- a name line and the lines are the text
-pub text_is : (net : Net) (k : Clone) (name piece lines : List ℕ) → piece ≡ codes "clone " ++ (name ++ (codes "\n" ++ lines)) →
+pub text_is : (net : Net) (k : Clone) (name piece lines : List ℕ)
+    → piece ≡ codes "clone " ++ (name ++ (codes "\n" ++ lines)) →
     name ≡ k.name → lines ≡ body net k → piece ≡ clone_text net k
 unfolding body
 text_is net k name piece lines e f h =
-    let all : codes "clone " ++ (k.name ++ (codes "\n" ++ body net k)) ≡ ((codes "clone " ++ k.name) ++ codes "\n") ++ body net k = simp append_assoc refl in
-    e ∙ ap (λ n. codes "clone " ++ (n ++ (codes "\n" ++ lines))) f ∙ ap (λ l. codes "clone " ++ (k.name ++ (codes "\n" ++ l))) h ∙ all
+    let all : codes "clone " ++ (k.name ++ (codes "\n" ++ body net k)) ≡ ((codes "clone " ++ k.name) ++ codes "\n")
+    ++ body net k = simp append_assoc refl in
+    e ∙ ap (λ n. codes "clone " ++ (n ++ (codes "\n" ++ lines))) f
+    ∙ ap (λ l. codes "clone " ++ (k.name ++ (codes "\n" ++ l))) h ∙ all
 
 -- a whole slice from a place on
 pub from_place : (xs ys : List ℕ) (i : ℕ) → xs ≡ ys → take (length xs - i) (drop i xs) ≡ drop i ys
 from_place xs ys i e = take_rest xs i ∙ ap (drop i) e
 
 -- the clone at a place, as lists of pieces have it
-pub clone_is : (net : Net) (cs : List Clone) (c : ℕ) → clone_text net (clone_at cs c) ≡ clone_text net (get_or cs c nobody)
+pub clone_is : (net : Net) (cs : List Clone) (c : ℕ)
+    → clone_text net (clone_at cs c) ≡ clone_text net (get_or cs c nobody)
 clone_is net cs c = ap (clone_text net) (unwrap_or-slice_get cs c nobody)

@@ -1,5 +1,6 @@
 -- How many bytes of the text before stay, by the lengths of what follows.
-use Rattle.std.proofs.Common.{◌≡◌, ℕ, suc, subst, ◌+◌, ◌-◌, ◌<◌, ◌≤◌, sym, ◌∙◌, ap, arith, List, ◌++◌, not, nat_lt, Bool, true, length, take, length-append}
+use Rattle.std.proofs.Common.{◌≡◌, ℕ, suc, subst, ◌+◌, ◌-◌, ◌<◌, ◌≤◌, sym, ◌∙◌, ap}
+use Rattle.std.proofs.Common.{arith, List, ◌++◌, not, nat_lt, Bool, true, length, take, length-append}
 use Rattle.std.specs.List.{flat_map}
 use Rattle.std.proofs.lemmas.Grind.{flat_map-append, common_steps}
 use Rattle.std.proofs.lemmas.Bool.{le-ltb}
@@ -32,7 +33,8 @@ unfolding rest body
 rest_from_0 net c =
     let late : Entry Msg Line → Bool = λ e. not (nat_lt e.msg.key.time 0) in
     ap (flat_map (entry_line net)) (filter_all late (trace_of net c)
-    (all_from (λ (e : Entry Msg Line). late e ≡ true) (trace_of net c) (λ e i. ap not (le-ltb e.msg.key.time 0 (omega arith)))))
+    (all_from (λ (e : Entry Msg Line). late e ≡ true) (trace_of net c)
+    (λ e i. ap not (le-ltb e.msg.key.time 0 (omega arith)))))
 
 -- ---- two clones that are in a network, of which the second is made of the first
 
@@ -60,14 +62,17 @@ module _ (net : Net) (valid : IsNet net) (c d : Clone)
   unfolding rest body
   lines_before =
       ap (flat_map (entry_line net)) (trace_split law stations fresh c shared c_there)
-      ∙ flat_map-append (entry_line net) (before (simulation net) shared (trace_of net c)) (from_on (simulation net) shared (trace_of net c))
-      ∙ ap (λ l. flat_map (entry_line net) l ++ flat_map (entry_line net) (from_on (simulation net) shared (trace_of net c)))
+      ∙ flat_map-append (entry_line net) (before (simulation net) shared (trace_of net c))
+      (from_on (simulation net) shared (trace_of net c))
+      ∙ ap (λ l. flat_map (entry_line net) l ++ flat_map (entry_line net)
+      (from_on (simulation net) shared (trace_of net c)))
       (agree_to_parting law same_plan c d (tells_plans net) c_ends d_ends)
 
   -- so many bytes of the first, and the second's rest, are the lines of the second
   lines_after : body net d ≡ take (length kept) (body net c) ++ rest net d shared
   unfolding rest body
-  lines_after = lines_agree law stations fresh same_plan c d (entry_line net) (tells_plans net) c_ends d_ends c_there d_there
+  lines_after = lines_agree law stations fresh same_plan c d (entry_line net) (tells_plans net) c_ends d_ends c_there
+      d_there
 
   -- where the first's rest is taken off its length, the bytes that both share are left
   pub kept_bytes : (bytes : ℕ) → bytes + length (rest net c shared) ≡ length (body net c) →
@@ -88,12 +93,15 @@ pub first_joined : (net : Net) (cs : List Clone) (c : ℕ) → c ≡ 0 → IsJoi
 first_joined net cs c e = subst (λ k. IsJoined net cs k (record { bytes = 0; time = 0 })) (sym e)
     (record { within = omega arith; joins = sym (rest_from_0 net (clone_at cs 0)) })
 
-pub first_len : (net : Net) (cs : List Clone) (c n : ℕ) → c ≡ 0 → n ≡ length (rest net (clone_at cs 0) 0) → n ≡ length (body net (clone_at cs c))
-first_len net cs c n e h = h ∙ ap length (rest_from_0 net (clone_at cs 0)) ∙ ap (λ k. length (body net (clone_at cs k))) (sym e)
+pub first_len : (net : Net) (cs : List Clone) (c n : ℕ) → c ≡ 0 → n ≡ length (rest net (clone_at cs 0) 0)
+    → n ≡ length (body net (clone_at cs c))
+first_len net cs c n e h = h ∙ ap length (rest_from_0 net (clone_at cs 0))
+    ∙ ap (λ k. length (body net (clone_at cs k))) (sym e)
 
 -- ---- every other keeps what it shares with the one before it
 
-module _ (net : Net) (valid : IsNet net) (cs : List Clone) (in_net : AreInNet net cs) (c : ℕ) (some : 1 ≤ c) (there : c < length cs) where
+module _ (net : Net) (valid : IsNet net) (cs : List Clone) (in_net : AreInNet net cs) (c : ℕ) (some : 1 ≤ c)
+    (there : c < length cs) where
   abbrev old : Clone
   old = clone_at cs (c - 1)
 
@@ -109,15 +117,22 @@ module _ (net : Net) (valid : IsNet net) (cs : List Clone) (in_net : AreInNet ne
   -- what is taken off the length of the lines before is within it
   pub next_fits : length (rest net old time) ≤ length (body_before net cs c)
   next_fits =
-      let a = rest_short net valid old (clone_at cs c) (in_net.ends (c - 1) there_old) (in_net.ends c there) (in_net.plans (c - 1) there_old) (in_net.plans c there) in
+      let a = rest_short net valid old (clone_at cs c) (in_net.ends (c - 1) there_old) (in_net.ends c there)
+      (in_net.plans (c - 1) there_old) (in_net.plans c there) in
       let b = ap length before_is in
       omega (arith, a, b)
 
-  pub next_joined : (bytes : ℕ) → bytes + length (rest net old time) ≡ length (body_before net cs c) → IsJoined net cs c (record { bytes = bytes; time = time })
+  pub next_joined : (bytes : ℕ) → bytes + length (rest net old time) ≡ length (body_before net cs c)
+      → IsJoined net cs c (record { bytes = bytes; time = time })
   next_joined bytes e =
-      let h = kept_bytes net valid old (clone_at cs c) (in_net.ends (c - 1) there_old) (in_net.ends c there) (in_net.plans (c - 1) there_old) (in_net.plans c there) bytes (e ∙ ap length before_is) in
+      let h = kept_bytes net valid old (clone_at cs c) (in_net.ends (c - 1) there_old) (in_net.ends c there)
+      (in_net.plans (c - 1) there_old) (in_net.plans c there) bytes (e ∙ ap length before_is) in
       let w = h.0 in let l = ap length before_is in
-      record { within = omega (arith, w, l); joins = h.1 ∙ ap (λ b. take bytes b ++ rest net (clone_at cs c) time) (sym before_is) }
+      record {
+        within = omega (arith, w, l);
+        joins = h.1 ∙ ap (λ b. take bytes b ++ rest net (clone_at cs c) time)
+            (sym before_is);
+      }
 
   pub next_len : (bytes n : ℕ) → bytes + length (rest net old time) ≡ length (body_before net cs c) →
       n ≡ bytes + length (rest net (clone_at cs c) time) → n ≡ length (body net (clone_at cs c))

@@ -1,5 +1,6 @@
 -- The logs of a world at the horizon: their keys fit words, they rise, and merged or measured they are a clone's rest.
-use Rattle.std.proofs.Common.{◌≡◌, ℕ, suc, ◌+◌, ◌<◌, ◌≤◌, Bool, true, false, if◌then◌else◌, List, [], ◌∷◌, ◌++◌, refl, sym, ap, ap₂, ◌∙◌, subst, arith, length, sum_by, length-append, append_assoc}
+use Rattle.std.proofs.Common.{◌≡◌, ℕ, suc, ◌+◌, ◌<◌, ◌≤◌, Bool, true, false, if◌then◌else◌, List, [], ◌∷◌}
+use Rattle.std.proofs.Common.{◌++◌, refl, sym, ap, ap₂, ◌∙◌, subst, arith, length, sum_by, length-append, append_assoc}
 use Rattle.std.specs.List.{filter, flat_map}
 use Rattle.std.proofs.lemmas.List.Concat.{flat_map-cons}
 use Rattle.sim_base.specs.Clones.{Clone, clone_at}
@@ -37,13 +38,15 @@ from_short t es = filter_short _ es
     filter_short keep [] = omega arith
     filter_short keep (e ∷ es) = by (keep e) (filter_short keep es)
       where
-        by : (b : Bool) → length (filter keep es) ≤ length es → length (if b then e ∷ filter keep es else filter keep es) ≤ suc (length es)
+        by : (b : Bool) → length (filter keep es) ≤ length es
+            → length (if b then e ∷ filter keep es else filter keep es) ≤ suc (length es)
         by true h = omega (arith, h)
         by false h = omega (arith, h)
 
 -- one line more is written
 module _ {E : Type 0} (line : E → List ℕ) (e : E) (left : List E) where
-  pub line_joins : (before after all : List ℕ) → before ++ flat_map line (e ∷ left) ≡ all → after ≡ before ++ line e → after ++ flat_map line left ≡ all
+  pub line_joins : (before after all : List ℕ) → before ++ flat_map line (e ∷ left) ≡ all → after ≡ before ++ line e
+      → after ++ flat_map line left ≡ all
   line_joins before after all h k =
       ap (λ l. l ++ flat_map line left) k ∙ append_assoc before (line e) (flat_map line left)
       ∙ ap (λ l. before ++ l) (sym (flat_map-cons line e left)) ∙ h
@@ -53,7 +56,8 @@ module _ {E : Type 0} (line : E → List ℕ) (e : E) (left : List E) where
 
 -- how long the lines of a station's log from a time on are
 abbrev pub log_length : WorldView → ℕ → ℕ → ℕ → ℕ
-log_length world c t s = sum_by (λ e. length (entry_line world.net e)) (from_on (simulation world.net) t (log_at world.net (clone_at world.clones c) s world.net.horizon))
+log_length world c t s = sum_by (λ e. length (entry_line world.net e))
+    (from_on (simulation world.net) t (log_at world.net (clone_at world.clones c) s world.net.horizon))
 
 -- ---- the logs of a clone in a world at the horizon
 
@@ -85,45 +89,60 @@ module _ (world : WorldView) (over : IsOver world) (c : ℕ) (there : c < length
       record { time = omega (arith, early, done, soon); sender = omega (arith, sender, few); number = small.1.number })
 
   -- a cursor may take it, from any time on
-  pub walk_fits : (s t : ℕ) (log walk : List (Entry Msg Line)) → log ≡ log_at net clone s world.front → walk ≡ from_time t log → FitWords walk
-  walk_fits s t log walk e f = subst FitWords (sym (f ∙ ap (from_time t) e)) (fit_from t (log_at net clone s world.front) (log_fits s))
+  pub walk_fits : (s t : ℕ) (log walk : List (Entry Msg Line)) → log ≡ log_at net clone s world.front
+      → walk ≡ from_time t log → FitWords walk
+  walk_fits s t log walk e f = subst FitWords (sym (f ∙ ap (from_time t) e))
+      (fit_from t (log_at net clone s world.front) (log_fits s))
 
   pub log_rises_by_time : (s : ℕ) (log : List (Entry Msg Line)) → log ≡ log_at net clone s world.front → RiseByTime log
   log_rises_by_time s log e = subst RiseByTime (sym e) (rise_by_time (log_at net clone s world.front)
-      (log_rises (lawful-stations net over.valid) (stations-to_stations net over.valid) (fresh-stations net over.valid) clone s world.front (over.in_net.plans c there)))
+      (log_rises (lawful-stations net over.valid) (stations-to_stations net over.valid)
+      (fresh-stations net over.valid) clone s world.front (over.in_net.plans c there)))
 
   -- what a walk has from a time on
-  walk_is : (s t : ℕ) (log walk : List (Entry Msg Line)) → log ≡ log_at net clone s world.front → walk ≡ from_time t log → walk ≡ from_on sim t (log_at net clone s net.horizon)
+  walk_is : (s t : ℕ) (log walk : List (Entry Msg Line)) → log ≡ log_at net clone s world.front
+      → walk ≡ from_time t log → walk ≡ from_on sim t (log_at net clone s net.horizon)
   walk_is s t log walk e f = f ∙ ap (from_time t) (e ∙ ap (log_at net clone s) over.done)
 
   -- one log more is merged
-  pub gathered : (i t : ℕ) (left log walk new : List (Entry Msg Line)) → left ≡ merge_of_rests sim sender_of number_of clone t i →
-      log ≡ log_at net clone (i + 1) world.front → walk ≡ from_time t log → new ≡ merge by_key left walk → new ≡ merge_of_rests sim sender_of number_of clone t (i + 1)
+  pub gathered : (i t : ℕ) (left log walk new : List (Entry Msg Line))
+      → left ≡ merge_of_rests sim sender_of number_of clone t i →
+      log ≡ log_at net clone (i + 1) world.front → walk ≡ from_time t log → new ≡ merge by_key left walk
+      → new ≡ merge_of_rests sim sender_of number_of clone t (i + 1)
   gathered i t left log walk new e f g h =
       let up : i + 1 ≡ suc i = omega arith in
-      h ∙ ap₂ (merge by_key) e (walk_is (i + 1) t log walk f g ∙ ap (λ s. from_on sim t (log_at net clone s net.horizon)) up)
+      h ∙ ap₂ (merge by_key) e (walk_is (i + 1) t log walk f g
+      ∙ ap (λ s. from_on sim t (log_at net clone s net.horizon)) up)
       ∙ ap (merge_of_rests sim sender_of number_of clone t) (sym up)
 
   -- all of them are the trace from the time on
-  pub all_gathered : (n t : ℕ) (left : List (Entry Msg Line)) → n ≡ length net.sites → left ≡ merge_of_rests sim sender_of number_of clone t n → left ≡ from_on sim t (trace_of net clone)
+  pub all_gathered : (n t : ℕ) (left : List (Entry Msg Line)) → n ≡ length net.sites
+      → left ≡ merge_of_rests sim sender_of number_of clone t n → left ≡ from_on sim t (trace_of net clone)
   all_gathered n t left many e =
       e ∙ ap (merge_of_rests sim sender_of number_of clone t) many
-      ∙ rest_is_merge (lawful-stations net over.valid) (stations-to_stations net over.valid) (fresh-stations net over.valid) clone t (over.in_net.plans c there)
+      ∙ rest_is_merge (lawful-stations net over.valid) (stations-to_stations net over.valid)
+      (fresh-stations net over.valid) clone t (over.in_net.plans c there)
 
   -- one log more is measured
-  pub measured : (i t sum len new : ℕ) (log : List (Entry Msg Line)) → sum ≡ station_sum (log_length world c t) i → log ≡ log_at net clone (i + 1) world.front →
-      len ≡ sum_by (λ e. length (entry_line net e)) (from_time t log) → new ≡ sum + len → new ≡ station_sum (log_length world c t) (i + 1)
+  pub measured : (i t sum len new : ℕ) (log : List (Entry Msg Line)) → sum ≡ station_sum (log_length world c t) i
+      → log ≡ log_at net clone (i + 1) world.front →
+      len ≡ sum_by (λ e. length (entry_line net e)) (from_time t log) → new ≡ sum + len
+      → new ≡ station_sum (log_length world c t) (i + 1)
   measured i t sum len new log e f g h =
       let up : i + 1 ≡ suc i = omega arith in
-      let here : len ≡ log_length world c t (suc i) = g ∙ ap (sum_by (λ (e : Entry Msg Line). length (entry_line net e))) (walk_is (i + 1) t log (from_time t log) f refl) ∙ ap (log_length world c t) up in
+      let here : len ≡ log_length world c t (suc i) =
+      g ∙ ap (sum_by (λ (e : Entry Msg Line). length (entry_line net e)))
+      (walk_is (i + 1) t log (from_time t log) f refl) ∙ ap (log_length world c t) up in
       h ∙ ap₂ (λ a b. a + b) e here ∙ ap (station_sum (log_length world c t)) (sym up)
 
   -- all of them are as long as the rest
-  pub all_measured : (n t sum : ℕ) → n ≡ length net.sites → sum ≡ station_sum (log_length world c t) n → sum ≡ length (rest net clone t)
+  pub all_measured : (n t sum : ℕ) → n ≡ length net.sites → sum ≡ station_sum (log_length world c t) n
+      → sum ≡ length (rest net clone t)
   unfolding rest
   all_measured n t sum many e =
       e ∙ ap (station_sum (log_length world c t)) many
-      ∙ sym (rest_length (lawful-stations net over.valid) (stations-to_stations net over.valid) (fresh-stations net over.valid) clone t (entry_line net) (over.in_net.plans c there))
+      ∙ sym (rest_length (lawful-stations net over.valid) (stations-to_stations net over.valid)
+      (fresh-stations net over.valid) clone t (entry_line net) (over.in_net.plans c there))
 
 -- the lines of what a cursor was given are the clone's rest
 pub lines_are : (world : WorldView) (view : TracesView) (model : Net) (c t : ℕ) (left : List (Entry Msg Line)) →
@@ -133,4 +152,5 @@ pub lines_are : (world : WorldView) (view : TracesView) (model : Net) (c t : ℕ
 unfolding rest
 lines_are world view model c t left seen is e =
     ap₂ (λ n es. flat_map (entry_line n) es) is e
-    ∙ ap (λ (v : TracesView). flat_map (entry_line v.net) (from_on (simulation v.net) t (trace_of v.net (clone_at v.clones c)))) seen
+    ∙ ap (λ (v : TracesView). flat_map (entry_line v.net)
+    (from_on (simulation v.net) t (trace_of v.net (clone_at v.clones c)))) seen

@@ -1,5 +1,6 @@
 -- Where two decision lists part, found one place after the other.
-use Rattle.std.proofs.Common.{◌≡◌, ◌⊎◌, ℕ, ◌+◌, ◌<◌, Bool, true, false, if◌then◌else◌, min, inl, inr, refl, sym, ap, ap₂, ◌∙◌, arith, List, [], ◌∷◌, get_or, length, drop}
+use Rattle.std.proofs.Common.{◌≡◌, ◌⊎◌, ℕ, ◌+◌, ◌<◌, Bool, true, false, if◌then◌else◌, min, inl, inr}
+use Rattle.std.proofs.Common.{refl, sym, ap, ap₂, ◌∙◌, arith, List, [], ◌∷◌, get_or, length, drop}
 use Rattle.std.specs.Bool.{Decides}
 use Rattle.std.proofs.lemmas.Bool.{cases_lt}
 use Rattle.std.proofs.lemmas.Bool.Decides.{same_from_decides}
@@ -25,15 +26,18 @@ module _ (same : Planned → Planned → Bool) where
       by false h = grind (arith, h)
 
   -- one place more of both lists
-  pub both_more : (least : ℕ) (ps qs : List Planned) (i : ℕ) (d e : Planned) → i < length ps → i < length qs → same (get_or ps i d) (get_or qs i e) ≡ true →
+  pub both_more : (least : ℕ) (ps qs : List Planned) (i : ℕ) (d e : Planned) → i < length ps → i < length qs
+      → same (get_or ps i d) (get_or qs i e) ≡ true →
       parting same least (drop i ps) (drop i qs) ≡ parting same least (drop (i + 1) ps) (drop (i + 1) qs)
   both_more least ps qs i d e k l h =
       ap₂ (parting same least) (drop_more ps i d k) (drop_more qs i e l)
       ∙ ap (λ b. if b then parting same least (drop (i + 1) ps) (drop (i + 1) qs)
       else min (min (get_or ps i d).at (get_or qs i e).at) (parting same least (drop (i + 1) ps) (drop (i + 1) qs))) h
 
-  pub other_more : (least : ℕ) (ps qs : List Planned) (i : ℕ) (d e : Planned) → i < length ps → i < length qs → same (get_or ps i d) (get_or qs i e) ≡ false →
-      parting same least (drop i ps) (drop i qs) ≡ parting same (min least (min (get_or ps i d).at (get_or qs i e).at)) (drop (i + 1) ps) (drop (i + 1) qs)
+  pub other_more : (least : ℕ) (ps qs : List Planned) (i : ℕ) (d e : Planned) → i < length ps → i < length qs
+      → same (get_or ps i d) (get_or qs i e) ≡ false →
+      parting same least (drop i ps) (drop i qs) ≡ parting same
+      (min least (min (get_or ps i d).at (get_or qs i e).at)) (drop (i + 1) ps) (drop (i + 1) qs)
   other_more least ps qs i d e k l h =
       ap₂ (parting same least) (drop_more ps i d k) (drop_more qs i e l)
       ∙ ap (λ b. if b then parting same least (drop (i + 1) ps) (drop (i + 1) qs)
@@ -43,43 +47,54 @@ module _ (same : Planned → Planned → Bool) where
   -- of one list alone
   pub one_more : (least : ℕ) (ps : List Planned) (i : ℕ) (d : Planned) → i < length ps →
       parting same least (drop i ps) [] ≡ parting same (min least (get_or ps i d).at) (drop (i + 1) ps) []
-  one_more least ps i d l = ap (λ xs. parting same least xs []) (drop_more ps i d l) ∙ least_first (get_or ps i d).at least (drop (i + 1) ps) []
+  one_more least ps i d l = ap (λ xs. parting same least xs []) (drop_more ps i d l)
+      ∙ least_first (get_or ps i d).at least (drop (i + 1) ps) []
 
   turned : (least : ℕ) (qs : List Planned) → parting same least [] qs ≡ parting same least qs []
   turned least [] = refl
   turned least (q ∷ qs) = ap (min q.at) (turned least qs)
 
   -- where one list has ended, the other one is left
-  pub tails : (least : ℕ) (ps qs : List Planned) → (ps ≡ []) ⊎ (qs ≡ []) → parting same least ps qs ≡ parting same (parting same least ps []) qs []
+  pub tails : (least : ℕ) (ps qs : List Planned) → (ps ≡ []) ⊎ (qs ≡ [])
+      → parting same least ps qs ≡ parting same (parting same least ps []) qs []
   tails least ps qs h = elim h [
-    | inl a ↦ ap (λ xs. parting same least xs qs) a ∙ turned least qs ∙ ap (λ xs. parting same (parting same least xs []) qs []) (sym a)
+    | inl a ↦ ap (λ xs. parting same least xs qs) a ∙ turned least qs
+        ∙ ap (λ xs. parting same (parting same least xs []) qs []) (sym a)
     | inr b ↦ ap (parting same least ps) b ∙ ap (λ xs. parting same (parting same least ps []) xs []) (sym b)
   ]
 
 -- ---- as the loops go on, each with its result so far
 
-module _ (least most : ℕ) (ps qs : List Planned) (i : ℕ) (d e : Planned) (in_ps : i < length ps) (in_qs : i < length qs) (r : Bool)
-    (decides : Decides r (get_or ps i d ≡ get_or qs i e)) (so_far : parting same_plan least (drop i ps) (drop i qs) ≡ parting same_plan most ps qs) where
+module _ (least most : ℕ) (ps qs : List Planned) (i : ℕ) (d e : Planned) (in_ps : i < length ps)
+    (in_qs : i < length qs) (r : Bool)
+    (decides : Decides r (get_or ps i d ≡ get_or qs i e))
+    (so_far : parting same_plan least (drop i ps) (drop i qs) ≡ parting same_plan most ps qs) where
   told_apart : r ≡ same_plan (get_or ps i d) (get_or qs i e)
-  told_apart = same_from_decides r (same_plan (get_or ps i d) (get_or qs i e)) decides (same_plan-Decides (get_or ps i d) (get_or qs i e))
+  told_apart = same_from_decides r (same_plan (get_or ps i d) (get_or qs i e)) decides
+      (same_plan-Decides (get_or ps i d) (get_or qs i e))
 
   pub equal_next : r ≡ true → parting same_plan least (drop (i + 1) ps) (drop (i + 1) qs) ≡ parting same_plan most ps qs
   equal_next h = sym (both_more same_plan least ps qs i d e in_ps in_qs (sym told_apart ∙ h)) ∙ so_far
 
-  pub other_next : (both new : ℕ) → r ≡ false → both ≡ min (get_or ps i d).at (get_or qs i e).at → new ≡ min least both →
+  pub other_next : (both new : ℕ) → r ≡ false → both ≡ min (get_or ps i d).at (get_or qs i e).at → new
+      ≡ min least both →
       parting same_plan new (drop (i + 1) ps) (drop (i + 1) qs) ≡ parting same_plan most ps qs
   other_next both new h b n =
       ap (λ t. parting same_plan t (drop (i + 1) ps) (drop (i + 1) qs)) (n ∙ ap (min least) b)
       ∙ sym (other_more same_plan least ps qs i d e in_ps in_qs (sym told_apart ∙ h)) ∙ so_far
 
-pub list_next : (least most new : ℕ) (ps : List Planned) (i : ℕ) (d : Planned) → i < length ps → new ≡ min least (get_or ps i d).at →
-    parting same_plan least (drop i ps) [] ≡ parting same_plan most ps [] → parting same_plan new (drop (i + 1) ps) [] ≡ parting same_plan most ps []
-list_next least most new ps i d l n h = ap (λ t. parting same_plan t (drop (i + 1) ps) []) n ∙ sym (one_more same_plan least ps i d l) ∙ h
+pub list_next : (least most new : ℕ) (ps : List Planned) (i : ℕ) (d : Planned) → i < length ps
+    → new ≡ min least (get_or ps i d).at →
+    parting same_plan least (drop i ps) [] ≡ parting same_plan most ps []
+    → parting same_plan new (drop (i + 1) ps) [] ≡ parting same_plan most ps []
+list_next least most new ps i d l n h = ap (λ t. parting same_plan t (drop (i + 1) ps) []) n
+    ∙ sym (one_more same_plan least ps i d l) ∙ h
 
 -- behind the places that both have, one of the lists has ended
 pub lists_end : (least most : ℕ) (ps qs : List Planned) (i : ℕ) (left last : ℕ) → i ≡ min (length ps) (length qs) →
     parting same_plan least (drop i ps) (drop i qs) ≡ parting same_plan most ps qs →
-    left ≡ parting same_plan least (drop i ps) [] → last ≡ parting same_plan left (drop i qs) [] → last ≡ parting same_plan most ps qs
+    left ≡ parting same_plan least (drop i ps) [] → last ≡ parting same_plan left (drop i qs) []
+    → last ≡ parting same_plan most ps qs
 lists_end least most ps qs i left last at h l k =
     k ∙ ap (λ t. parting same_plan t (drop i qs) []) l ∙ sym (tails same_plan least (drop i ps) (drop i qs) ended) ∙ h
   where

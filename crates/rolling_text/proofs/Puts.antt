@@ -1,5 +1,6 @@
 -- One text more is put.
-use Rattle.std.proofs.Common.{◌≡◌, ℕ, ◌+◌, ◌-◌, ◌<◌, sym, ◌∙◌, subst, List, ◌++◌, Option, codes, length, take, drop, get_or}
+use Rattle.std.proofs.Common.{◌≡◌, ℕ, ◌+◌, ◌-◌, ◌<◌, sym, ◌∙◌, subst}
+use Rattle.std.proofs.Common.{List, ◌++◌, Option, codes, length, take, drop, get_or}
 use Rattle.std.specs.List.{flat_map}
 use Rattle.sim_base.specs.Clones.{Clone, clone_at, nobody}
 use Rattle.sim_outer.specs.Bytes.{Appended, PartAppended}
@@ -17,10 +18,12 @@ module _ (net : Net) (cs : List Clone) (c : ℕ) (there : c < length cs) (name l
   put = take (length slice - start) (drop start slice)
 
   piece : put ≡ clone_text net (get_or cs c nobody)
-  piece = from_place slice page start whole ∙ text_is net (clone_at cs c) name (drop start page) lines headed is_name rolled ∙ clone_is net cs c
+  piece = from_place slice page start whole ∙ text_is net (clone_at cs c) name (drop start page) lines headed is_name
+      rolled ∙ clone_is net cs c
 
   -- where it is taken whole, the texts so far and this one are there
-  pub put_whole : (old mid new : Option (List ℕ)) → Appended old (flat_map (clone_text net) (take c cs)) mid → Appended mid put new →
+  pub put_whole : (old mid new : Option (List ℕ)) → Appended old (flat_map (clone_text net) (take c cs)) mid
+      → Appended mid put new →
       Appended old (flat_map (clone_text net) (take (c + 1) cs)) new
   put_whole old mid new h k =
       subst (λ t. Appended old t new) (sym (pieces_more (clone_text net) cs c nobody there))
@@ -28,9 +31,11 @@ module _ (net : Net) (cs : List Clone) (c : ℕ) (there : c < length cs) (name l
       (subst (λ t. Appended mid t new) piece k))
 
   -- where part of it is taken, part of all texts is there
-  pub put_part : (old mid new : Option (List ℕ)) → Appended old (flat_map (clone_text net) (take c cs)) mid → PartAppended mid put new →
+  pub put_part : (old mid new : Option (List ℕ)) → Appended old (flat_map (clone_text net) (take c cs)) mid
+      → PartAppended mid put new →
       PartAppended old (flat_map (clone_text net) cs) new
   put_part old mid new h k =
       subst (λ t. PartAppended old t new) (pieces_around (clone_text net) cs c nobody there)
-      (part_then (flat_map (clone_text net) (take c cs)) (clone_text net (get_or cs c nobody)) (flat_map (clone_text net) (drop (c + 1) cs)) old mid new h
+      (part_then (flat_map (clone_text net) (take c cs)) (clone_text net (get_or cs c nobody))
+      (flat_map (clone_text net) (drop (c + 1) cs)) old mid new h
       (subst (λ t. PartAppended mid t new) piece k))

@@ -29,7 +29,8 @@ told other (Done j) = other
 told other (Set c) = c
 
 change_equal : (a b : Change) → is_eq (change_cmp a b) ≡ true → a ≡ b
-change_equal a b e = ap (λ (m : Msg). told a m.payload) (msg_same (set_message 0 (of_change a)) (set_message 0 (of_change b)) ((Equal-is (change_cmp a b)).0 e))
+change_equal a b e = ap (λ (m : Msg). told a m.payload)
+    (msg_same (set_message 0 (of_change a)) (set_message 0 (of_change b)) ((Equal-is (change_cmp a b)).0 e))
 
 change_itself : (a : Change) → is_eq (change_cmp a a) ≡ true
 change_itself a = ap is_eq (tied_itself msg_total (set_message 0 (of_change a)))
@@ -45,7 +46,8 @@ same_plan-equal p q e =
 
 same_plan-itself : (p : Planned) → same_plan p p ≡ true
 same_plan-itself p = and_from (p.at == p.at && p.station == p.station) (is_eq (change_cmp p.change p.change))
-    (and_from (p.at == p.at) (p.station == p.station) (eq-eqb p.at p.at refl) (eq-eqb p.station p.station refl)) (change_itself p.change)
+    (and_from (p.at == p.at) (p.station == p.station) (eq-eqb p.at p.at refl) (eq-eqb p.station p.station refl))
+    (change_itself p.change)
 
 pub same_plan-Decides : (p q : Planned) → Decides (same_plan p q) (p ≡ q)
 same_plan-Decides p q = (same_plan-equal p q, λ e. subst (λ r. same_plan p r ≡ true) e (same_plan-itself p))

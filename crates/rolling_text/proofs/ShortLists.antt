@@ -1,5 +1,6 @@
 -- A call adds one decision to one list at most.
-use Rattle.std.proofs.Common.{◌≡◌, ℕ, zero, suc, ◌+◌, ◌^◌, ◌<◌, ◌≤◌, List, [], ◌∷◌, ◌++◌, arith, length, length-append, slice_set, Some, None}
+use Rattle.std.proofs.Common.{◌≡◌, ℕ, zero, suc, ◌+◌, ◌^◌, ◌<◌, ◌≤◌, List}
+use Rattle.std.proofs.Common.{[], ◌∷◌, ◌++◌, arith, length, length-append, slice_set, Some, None}
 use Rattle.sim_base.specs.Clones.{Clone, base, clone_at, added, ended, forked}
 use Rattle.sim_base.specs.declared.decision.Decision.{Decision}
 use Rattle.sim_base.specs.declared.decision.Decision.TheVariants.{Fork, Set, End}
@@ -11,48 +12,61 @@ use Rattle.world_core.specs.Taking.{clones_after_calls}
 use Rattle.rolling_text.specs.WorldTraces.{AreShort}
 
 -- where there is no clone, the list is empty
-set_within : (n : ℕ) (cs : List Clone) (c : ℕ) (x : Clone) → ((k : ℕ) → length (clone_at cs k).plans ≤ n) → length x.plans ≤ n → (k : ℕ) → length (clone_at (slice_set cs c x) k).plans ≤ n
+set_within : (n : ℕ) (cs : List Clone) (c : ℕ) (x : Clone) → ((k : ℕ) → length (clone_at cs k).plans ≤ n)
+    → length x.plans ≤ n → (k : ℕ) → length (clone_at (slice_set cs c x) k).plans ≤ n
 set_within n [] c x h l k = h k
 set_within n (y ∷ ys) zero x h l zero = l
 set_within n (y ∷ ys) zero x h l (suc k) = h (suc k)
 set_within n (y ∷ ys) (suc c) x h l zero = h zero
 set_within n (y ∷ ys) (suc c) x h l (suc k) = set_within n ys c x (λ j. h (suc j)) l k
 
-push_within : (n : ℕ) (cs : List Clone) (x : Clone) → ((k : ℕ) → length (clone_at cs k).plans ≤ n) → length x.plans ≤ n → (k : ℕ) → length (clone_at (cs ++ x ∷ []) k).plans ≤ n
+push_within : (n : ℕ) (cs : List Clone) (x : Clone) → ((k : ℕ) → length (clone_at cs k).plans ≤ n)
+    → length x.plans ≤ n → (k : ℕ) → length (clone_at (cs ++ x ∷ []) k).plans ≤ n
 push_within n [] x h l zero = l
 push_within n [] x h l (suc k) = omega arith
 push_within n (y ∷ ys) x h l zero = h zero
 push_within n (y ∷ ys) x h l (suc k) = push_within n ys x (λ j. h (suc j)) l k
 
-added_within : (n : ℕ) (cs : List Clone) (c : ℕ) (plan : Planned) → ((k : ℕ) → length (clone_at cs k).plans ≤ n) → (k : ℕ) → length (clone_at (added cs c plan) k).plans ≤ n + 1
-added_within n cs c plan h = set_within (n + 1) cs c (record (clone_at cs c) { plans = (clone_at cs c).plans ++ plan ∷ [] })
+added_within : (n : ℕ) (cs : List Clone) (c : ℕ) (plan : Planned) → ((k : ℕ) → length (clone_at cs k).plans ≤ n)
+    → (k : ℕ) → length (clone_at (added cs c plan) k).plans ≤ n + 1
+added_within n cs c plan h = set_within (n + 1) cs c
+    (record (clone_at cs c) { plans = (clone_at cs c).plans ++ plan ∷ [] })
     (λ j. let l = h j in omega (arith, l))
     (let l = h c in let e = length-append (clone_at cs c).plans (plan ∷ []) in omega (arith, l, e))
 
-forked_within : (n : ℕ) (cs : List Clone) (new : List ℕ) (old : ℕ) → ((k : ℕ) → length (clone_at cs k).plans ≤ n) → (k : ℕ) → length (clone_at (forked cs new old) k).plans ≤ n + 1
+forked_within : (n : ℕ) (cs : List Clone) (new : List ℕ) (old : ℕ) → ((k : ℕ) → length (clone_at cs k).plans ≤ n)
+    → (k : ℕ) → length (clone_at (forked cs new old) k).plans ≤ n + 1
 forked_within n cs new old h k =
     let l = push_within n cs (record { name = new; plans = (clone_at cs old).plans; end = None }) h (h old) k in
     omega (arith, l)
 
-ended_within : (n : ℕ) (cs : List Clone) (c at : ℕ) → ((k : ℕ) → length (clone_at cs k).plans ≤ n) → (k : ℕ) → length (clone_at (ended cs c at) k).plans ≤ n + 1
+ended_within : (n : ℕ) (cs : List Clone) (c at : ℕ) → ((k : ℕ) → length (clone_at cs k).plans ≤ n) → (k : ℕ)
+    → length (clone_at (ended cs c at) k).plans ≤ n + 1
 ended_within n cs c at h k =
     let l = set_within n cs c (record (clone_at cs c) { end = Some at }) h (h c) k in
     omega (arith, l)
 
-after_within : (net : Net) (n : ℕ) (cs : List Clone) (d : Decision) → ((k : ℕ) → length (clone_at cs k).plans ≤ n) → (k : ℕ) → length (clone_at (clones_after net cs d) k).plans ≤ n + 1
+after_within : (net : Net) (n : ℕ) (cs : List Clone) (d : Decision) → ((k : ℕ) → length (clone_at cs k).plans ≤ n)
+    → (k : ℕ) → length (clone_at (clones_after net cs d) k).plans ≤ n + 1
 after_within net n cs (Fork new old) h k = forked_within n cs new (clone_place old cs) h k
-after_within net n cs (Set who at station change) h k = added_within n cs (clone_place who cs) (plan_of_set net at station change) h k
+after_within net n cs (Set who at station change) h k =
+    added_within n cs (clone_place who cs) (plan_of_set net at station change) h k
 after_within net n cs (End who at) h k = ended_within n cs (clone_place who cs) at h k
 
-calls_within : (net : Net) (calls : List Call) (n : ℕ) (cs : List Clone) → ((k : ℕ) → length (clone_at cs k).plans ≤ n) → (k : ℕ) → length (clone_at (clones_after_calls net cs calls) k).plans ≤ n + length calls
+calls_within : (net : Net) (calls : List Call) (n : ℕ) (cs : List Clone)
+    → ((k : ℕ) → length (clone_at cs k).plans ≤ n) → (k : ℕ)
+    → length (clone_at (clones_after_calls net cs calls) k).plans ≤ n + length calls
 calls_within net [] n cs h k = let l = h k in omega (arith, l)
 calls_within net (call ∷ calls) n cs h k =
-    let l = calls_within net calls (n + 1) (clones_after net cs call.decision) (after_within net n cs call.decision h) k in
+    let l = calls_within net calls (n + 1) (clones_after net cs call.decision) (after_within net n cs call.decision h)
+    k in
     omega (arith, l)
 
 none_of_base : (k : ℕ) → length (clone_at (base ∷ []) k).plans ≤ 0
 none_of_base zero = omega arith
 none_of_base (suc k) = omega arith
 
-pub short_after_calls : (net : Net) (calls : List Call) → length calls ≤ 2 ^ 21 → AreShort (clones_after_calls net (base ∷ []) calls)
-short_after_calls net calls l k there = let h = calls_within net calls 0 (base ∷ []) none_of_base k in omega (arith, h, l)
+pub short_after_calls : (net : Net) (calls : List Call) → length calls ≤ 2 ^ 21
+    → AreShort (clones_after_calls net (base ∷ []) calls)
+short_after_calls net calls l k there = let h = calls_within net calls 0 (base ∷ []) none_of_base k in
+    omega (arith, h, l)

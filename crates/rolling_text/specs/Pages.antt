@@ -1,7 +1,7 @@
 -- A buffer that was taken once.
 use Rattle.std.specs.Prelude.{ℕ, List}
 
--- the bytes that were written, and for how many there is room
+-- the bytes that were written, and how many are reserved
 pub record PageView : Type 0 where
   pub text : List ℕ
-  pub room : ℕ
+  pub reserved : ℕ

@@ -32,22 +32,22 @@ pub record IsJoined (net : Net) (cs : List Clone) (c : ℕ) (k : Keep) : Type 0 
   pub within : k.bytes ≤ length (body_before net cs c)
   pub joins : body net (clone_at cs c) ≡ take k.bytes (body_before net cs c) ++ rest net (clone_at cs c) k.time
 
--- and there is room for them, with 32 bytes before and 256 behind
-pub record IsKept (net : Net) (cs : List Clone) (room c : ℕ) (k : Keep) : Type 0 where
+-- and enough is reserved for them, with 32 bytes before and 256 behind
+pub record IsKept (net : Net) (cs : List Clone) (reserved c : ℕ) (k : Keep) : Type 0 where
   pub within : k.bytes ≤ length (body_before net cs c)
   pub joins : body net (clone_at cs c) ≡ take k.bytes (body_before net cs c) ++ rest net (clone_at cs c) k.time
-  pub fits : 32 + length (body net (clone_at cs c)) + 256 ≤ room
+  pub fits : 32 + length (body net (clone_at cs c)) + 256 ≤ reserved
 
 -- what is kept for each of the first n clones
-pub record ArePlannedTo (net : Net) (cs : List Clone) (n room : ℕ) (ks : List Keep) : Type 0 where
+pub record ArePlannedTo (net : Net) (cs : List Clone) (n reserved : ℕ) (ks : List Keep) : Type 0 where
   pub many : length ks ≡ n
-  pub each : (c : ℕ) (k : Keep) → slice_get ks c ≡ Some k → IsKept net cs room c k
+  pub each : (c : ℕ) (k : Keep) → slice_get ks c ≡ Some k → IsKept net cs reserved c k
 
 -- and for all
 abbrev pub ArePlanned : Net → List Clone → ℕ → List Keep → Type 0
-ArePlanned net cs room ks = ArePlannedTo net cs (length cs) room ks
+ArePlanned net cs reserved ks = ArePlannedTo net cs (length cs) reserved ks
 
--- all that the texts of these clones need is there: what each keeps, and a buffer with room for the longest
+-- all that the texts of these clones need is there: what each keeps, and a buffer that fits the longest
 pub record IsReady (net : Net) (cs : List Clone) (texts : Texts) : Type 0 where
-  pub planned : ArePlanned net cs texts.page.room texts.keeps.items
+  pub planned : ArePlanned net cs texts.page.reserved texts.keeps.items
   pub margin : length texts.page.text ≡ 32

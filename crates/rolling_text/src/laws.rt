@@ -8,5 +8,6 @@ ghost use Rattle.rolling_text.specs.WorldTraces.{AreShort};
 
 /// A call adds one decision to one list at most, so after 2^21 calls at most the lists are short enough for texts.
 pub fn lists_stay_short()
-    ensures short { (net : Net) (calls : List Call) → length calls ≤ 2 ^ 21 → AreShort (clones_after_calls net (base ∷ []) calls) }
+    ensures short { (net : Net) (calls : List Call) → length calls ≤ 2 ^ 21
+        → AreShort (clones_after_calls net (base ∷ []) calls) }
 {}

@@ -21,19 +21,19 @@ impl Model for Page {
 
     ghost Value = { PageView };
 
-    ghost view = { λ p. record { text = take p.len p.bytes.items; room = length p.bytes.items } };
+    ghost view = { λ p. record { text = take p.len p.bytes.items; reserved = length p.bytes.items } };
 
     ghost invariant = { λ p. p.len ≤ length p.bytes.items };
 }
 
 impl Page {
     /// A text of so many bytes, the first of so many.
-    pub fn new(alloc: Global, text: usize, room: usize) -> Result<Page, NoMemory>
-        requires within { text ≤ room }
+    pub fn new(alloc: Global, text: usize, reserved: usize) -> Result<Page, NoMemory>
+        requires within { text ≤ reserved }
         ensures text { IfOk result (λ p. length p.text ≡ text) }
-        ensures room { IfOk result (λ p. p.room ≡ room) }
+        ensures reserved { IfOk result (λ p. p.reserved ≡ reserved) }
     {
-        let bytes = vec![in alloc; b' '; room]?;
+        let bytes = vec![in alloc; b' '; reserved]?;
         Ok(Page { bytes, len: text })
     }
 
@@ -48,7 +48,7 @@ impl Page {
     pub fn cut(&mut self, keep: usize)
         requires within { keep ≤ length self.old.text }
         ensures text { self.new.text ≡ take keep self.old.text }
-        ensures room { self.new.room ≡ self.old.room }
+        ensures reserved { self.new.reserved ≡ self.old.reserved }
     {
         self.len = keep;
     }
@@ -57,8 +57,9 @@ impl Page {
     #[tactic(auto, using(crate::proofs::Over::over))]
     pub fn put_at(&mut self, at: usize, piece: &[u8])
         requires within { at + length piece.now ≤ length self.old.text }
-        ensures text { self.new.text ≡ take at self.old.text ++ (piece.now ++ drop (at + length piece.now) self.old.text) }
-        ensures room { self.new.room ≡ self.old.room }
+        ensures text { self.new.text ≡ take at self.old.text
+            ++ (piece.now ++ drop (at + length piece.now) self.old.text) }
+        ensures reserved { self.new.reserved ≡ self.old.reserved }
     {
         overwrite(&mut self.bytes, at, piece);
     }
@@ -66,9 +67,11 @@ impl Page {
     /// Writes the lines of a clone from a time on behind the text.
     pub fn put_rest<T: Traces>(&mut self, traces: &mut T, c: u32, time: u64)
         requires there { c < length (T.clones traces.old) }
-        requires room { length self.old.text + length (rest (T.net traces.old) (clone_at (T.clones traces.old) c) time) + 256 ≤ self.old.room }
-        ensures text { self.new.text ≡ self.old.text ++ rest (T.net traces.old) (clone_at (T.clones traces.old) c) time }
-        ensures room { self.new.room ≡ self.old.room }
+        requires reserved { length self.old.text + length (rest (T.net traces.old) (clone_at (T.clones traces.old) c) time) + 256
+            ≤ self.old.reserved }
+        ensures text { self.new.text ≡ self.old.text ++ rest (T.net traces.old)
+            (clone_at (T.clones traces.old) c) time }
+        ensures reserved { self.new.reserved ≡ self.old.reserved }
         ensures net { T.net traces.new ≡ T.net traces.old }
         ensures clones { T.clones traces.new ≡ T.clones traces.old }
     {

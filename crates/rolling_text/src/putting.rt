@@ -20,7 +20,7 @@ fn put_head(page: &mut Page, name: &Name) -> usize
     ensures lines { drop 32 page.new.text ≡ drop 32 page.old.text }
     ensures size { length page.new.text ≡ length page.old.text }
     ensures start { result ≤ 32 }
-    ensures room { page.new.room ≡ page.old.room }
+    ensures reserved { page.new.reserved ≡ page.old.reserved }
 {
     let bytes = name.as_bytes();
     let at = 31 - bytes.len();
@@ -33,12 +33,12 @@ fn put_head(page: &mut Page, name: &Name) -> usize
 // Makes the lines of a clone of those of the clone before.
 fn roll<T: Traces>(traces: &mut T, c: u32, keep: &Keep, page: &mut Page)
     requires there { c < length (T.clones traces.old) }
-    requires kept { IsKept (T.net traces.old) (T.clones traces.old) page.old.room c keep.now }
+    requires kept { IsKept (T.net traces.old) (T.clones traces.old) page.old.reserved c keep.now }
     requires margin { 32 ≤ length page.old.text }
     requires lines { drop 32 page.old.text ≡ body_before (T.net traces.old) (T.clones traces.old) c }
     ensures lines { drop 32 page.new.text ≡ body (T.net traces.old) (clone_at (T.clones traces.old) c) }
     ensures margin { 32 ≤ length page.new.text }
-    ensures room { page.new.room ≡ page.old.room }
+    ensures reserved { page.new.reserved ≡ page.old.reserved }
     ensures net { T.net traces.new ≡ T.net traces.old }
     ensures clones { T.clones traces.new ≡ T.clones traces.old }
 {
@@ -54,10 +54,12 @@ fn put_all<T: Traces, O: Sink>(
     page: &mut Page,
     out: &mut O,
 ) -> Result<(), PutFailed>
-    requires planned { ArePlanned (T.net traces.old) (T.clones traces.old) page.old.room keeps.now }
+    requires planned { ArePlanned (T.net traces.old) (T.clones traces.old) page.old.reserved keeps.now }
     requires fresh { length page.old.text ≡ 32 }
-    ensures ok { OnOk result (Appended (O.bytes out.old) (clone_texts (T.net traces.old) (T.clones traces.old)) (O.bytes out.new)) }
-    ensures part { OnErr result (PartAppended (O.bytes out.old) (clone_texts (T.net traces.old) (T.clones traces.old)) (O.bytes out.new)) }
+    ensures ok { OnOk result (Appended (O.bytes out.old) (clone_texts (T.net traces.old) (T.clones traces.old))
+        (O.bytes out.new)) }
+    ensures part { OnErr result (PartAppended (O.bytes out.old) (clone_texts (T.net traces.old) (T.clones traces.old))
+        (O.bytes out.new)) }
     ensures cause { OnErr result (Rose (O.faults out.old) (O.faults out.new)) }
     ensures later { O.faults out.old ≤ O.faults out.new }
     ensures each { OnOk result (AreCounted (length (T.clones traces.old)) (O.calls out.old) (O.calls out.new)) }
@@ -83,8 +85,10 @@ pub fn put_texts<T: Traces, O: Sink>(
     out: &mut O,
 ) -> Result<(), PutFailed>
     requires ready { IsReady (T.net traces.old) (T.clones traces.old) texts }
-    ensures ok { OnOk result (Appended (O.bytes out.old) (clone_texts (T.net traces.old) (T.clones traces.old)) (O.bytes out.new)) }
-    ensures part { OnErr result (PartAppended (O.bytes out.old) (clone_texts (T.net traces.old) (T.clones traces.old)) (O.bytes out.new)) }
+    ensures ok { OnOk result (Appended (O.bytes out.old) (clone_texts (T.net traces.old) (T.clones traces.old))
+        (O.bytes out.new)) }
+    ensures part { OnErr result (PartAppended (O.bytes out.old) (clone_texts (T.net traces.old) (T.clones traces.old))
+        (O.bytes out.new)) }
     ensures cause { OnErr result (Rose (O.faults out.old) (O.faults out.new)) }
     ensures later { O.faults out.old ≤ O.faults out.new }
     ensures each { OnOk result (AreCounted (length (T.clones traces.old)) (O.calls out.old) (O.calls out.new)) }

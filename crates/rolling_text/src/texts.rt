@@ -49,10 +49,10 @@ fn keep_of<T: Traces>(traces: &T, c: u32, before: usize) -> (Keep, usize)
     (Keep { bytes, time }, len)
 }
 
-// What is kept for each clone, and the room that the longest text needs.
+// What is kept for each clone, and how many bytes the longest text needs.
 fn plan<T: Traces>(alloc: Global, traces: &T) -> Result<(Vec<Keep>, usize), NoMemory>
     ensures planned { IfOk result (λ p. ArePlanned (T.net traces.now) (T.clones traces.now) p.1 p.0.items) }
-    ensures roomy { IfOk result (λ p. MARGIN ≤ p.1) }
+    ensures ample { IfOk result (λ p. MARGIN ≤ p.1) }
 {
     let clones = traces.len();
     let mut keeps = Vec::with_capacity(alloc, clones as usize)?;
@@ -71,7 +71,7 @@ fn plan<T: Traces>(alloc: Global, traces: &T) -> Result<(Vec<Keep>, usize), NoMe
 pub fn prepare<T: Traces>(alloc: Global, traces: &T) -> Result<Texts, NoMemory>
     ensures ready { IfOk result (λ texts. IsReady (T.net traces.now) (T.clones traces.now) texts) }
 {
-    let (keeps, room) = plan(alloc, traces)?;
-    let page = Page::new(alloc, MARGIN, room)?;
+    let (keeps, reserved) = plan(alloc, traces)?;
+    let page = Page::new(alloc, MARGIN, reserved)?;
     Ok(Texts { keeps, page })
 }

@@ -43,8 +43,9 @@ pub trait Traces {
     /// 256 bytes must be free behind: pieces of lines reach past their ends.
     fn write_rest(&mut self, c: u32, time: u64, bytes: &mut [u8], at: usize) -> usize
         requires there { c < length (clones self.old) }
-        requires room { at + length (rest (net self.old) (clone_at (clones self.old) c) time) + 256 ≤ length bytes.old }
-        ensures text { take result bytes.new ≡ take at bytes.old ++ rest (net self.old) (clone_at (clones self.old) c) time }
+        requires reserved { at + length (rest (net self.old) (clone_at (clones self.old) c) time) + 256 ≤ length bytes.old }
+        ensures text { take result bytes.new ≡ take at bytes.old ++ rest (net self.old)
+            (clone_at (clones self.old) c) time }
         ensures size { length bytes.new ≡ length bytes.old }
         ensures place { result ≡ at + length (rest (net self.old) (clone_at (clones self.old) c) time) }
         ensures net { net self.new ≡ net self.old }

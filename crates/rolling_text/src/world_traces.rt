@@ -77,7 +77,8 @@ fn gather<'a>(cursor: &mut Cursor<'a>, world: &'a World, c: u32, time: u64)
     requires over { IsOver world.now }
     requires there { c < length world.now.clones }
     requires place { cursor.old.most ≡ length world.now.net.sites }
-    ensures left { cursor.new.left ≡ from_on (simulation world.now.net) time (trace_of world.now.net (clone_at world.now.clones c)) }
+    ensures left { cursor.new.left ≡ from_on (simulation world.now.net) time
+        (trace_of world.now.net (clone_at world.now.clones c)) }
     ensures place { cursor.new.most ≡ cursor.old.most }
 {
     cursor.clear();
@@ -96,7 +97,7 @@ fn put_lines(
     at: usize,
 ) -> usize
     requires names { AreNames model.now names.now }
-    requires room { at + length (flat_map (entry_line model.now) cursor.old.left) + 256 ≤ length bytes.old }
+    requires reserved { at + length (flat_map (entry_line model.now) cursor.old.left) + 256 ≤ length bytes.old }
     ensures text { take result bytes.new ≡ take at bytes.old ++ flat_map (entry_line model.now) cursor.old.left }
     ensures size { length bytes.new ≡ length bytes.old }
     ensures place { result ≡ at + length (flat_map (entry_line model.now) cursor.old.left) }

@@ -1,5 +1,6 @@
 -- Before anything was handled, the first copy of each station stands for the first clone.
-use Rattle.std.proofs.Common.{◌≡◌, ◌↔◌, ℕ, zero, suc, ◌<◌, ◌≤◌, min, List, [], ◌∷◌, ◌++◌, inl, inr, Option, Some, None, Bool, true, ◌==◌, ◌&&◌, nat_lt, refl, sym, ap, ◌∙◌, subst, arith}
+use Rattle.std.proofs.Common.{◌≡◌, ◌↔◌, ℕ, zero, suc, ◌<◌, ◌≤◌, min, List, [], ◌∷◌, ◌++◌, inl, inr}
+use Rattle.std.proofs.Common.{Option, Some, None, Bool, true, ◌==◌, ◌&&◌, nat_lt, refl, sym, ap, ◌∙◌, subst, arith}
 use Rattle.std.specs.List.{filter}
 use Rattle.std.proofs.lemmas.Bool.{cases_Bool, cases_eq}
 use Rattle.sim_base.specs.Clones.{Clone, base, clone_at}
@@ -13,7 +14,8 @@ use Rattle.sim_base.specs.Marked.{SortedMarked}
 use Rattle.run_laws.specs.Copies.{Copy, Carries, takes, taken, first_pending, first_copy, ends_of, Stands}
 use Rattle.run_laws.proofs.Bools.{and_cases}
 use Rattle.run_laws.proofs.Queue.{in_insert_all, insert_all_new, same_elements}
-use Rattle.run_laws.proofs.Lists.{in_filter, filter_keeps, sorted_filter, in_own, own_from, in_append, append_old, append_new}
+use Rattle.run_laws.proofs.Lists.{in_filter, filter_keeps, sorted_filter, in_own}
+use Rattle.run_laws.proofs.Lists.{own_from, in_append, append_old, append_new}
 use Rattle.run_laws.proofs.Worlds.{in_openings}
 use Rattle.run_laws.proofs.Parts.{part_yes, part_no, sorted_part}
 use Rattle.run_laws.proofs.Late.{due_sorted}
@@ -70,19 +72,24 @@ module _ {S M N K : Type 0} {sim : Simulation S M N} {Good : ℕ → S → Type 
     (to_stations : SendsToStations sim Good) (has : K → ℕ → Bool) (only : K)
     (first_alone : (c : ℕ) → (has only c ≡ true) ↔ (c ≡ 0)) (s : ℕ) (here : IsStation sim s) where
   -- what the first clone takes of it is what is due to it
-  due_first : taken sim has (ends_of sim (base ∷ [])) 0 (first_pending sim only (sim.setup s).first) ≡ due_at sim base s 0
+  due_first : taken sim has (ends_of sim (base ∷ [])) 0 (first_pending sim only (sim.setup s).first)
+      ≡ due_at sim base s 0
   due_first =
       let early : M → Bool = λ m. nat_lt (sim.time m) (end_of sim base) in
       let all : List M = openings sim sim.stations ++ [] in
       let begun : (run_of sim base 0).pending ≡ insert_all sim.order all [] = ap (λ w. w.pending) (run_at_0 sim base) in
-      same_elements law.order.order (taken sim has (ends_of sim (base ∷ [])) 0 (first_pending sim only (sim.setup s).first)) (due_at sim base s 0)
-      (sorted_part (takes sim has (ends_of sim (base ∷ []))) sim.order 0 (first_pending sim only (sim.setup s).first) (first_sorted sim has only (ends_of sim (base ∷ [])) 0 (sim.setup s).first))
+      same_elements law.order.order (taken sim has (ends_of sim (base ∷ [])) 0
+      (first_pending sim only (sim.setup s).first)) (due_at sim base s 0)
+      (sorted_part (takes sim has (ends_of sim (base ∷ []))) sim.order 0 (first_pending sim only (sim.setup s).first)
+      (first_sorted sim has only (ends_of sim (base ∷ [])) 0 (sim.setup s).first))
       (sorted_filter sim.order (λ m. sim.to m == s) (all_due sim base 0) (due_sorted law base 0))
       (λ z i. let h = in_first_pending sim has only (ends_of sim (base ∷ [])) 0 (sim.setup s).first z i in
-      let t : nat_lt (sim.time z) (end_of sim base) ≡ true = (and_cases (has only 0) (nat_lt (sim.time z) (end_of sim base)) h.1).1 in
+      let t : nat_lt (sim.time z) (end_of sim base) ≡ true =
+      (and_cases (has only 0) (nat_lt (sim.time z) (end_of sim base)) h.1).1 in
       own_from sim.to s (all_due sim base 0) z
       (filter_keeps early (run_of sim base 0).pending z
-      (subst (In z) (sym begun) (insert_all_new law.order.order all [] z (append_old (openings sim sim.stations) [] z (openings_have sim sim.stations s z here.0 here.1 h.0))))
+      (subst (In z) (sym begun) (insert_all_new law.order.order all [] z
+      (append_old (openings sim sim.stations) [] z (openings_have sim sim.stations s z here.0 here.1 h.0))))
       t)
       (to_stations.first s z here h.0))
       (λ z i. let h = in_own sim.to s (all_due sim base 0) z i in
@@ -91,7 +98,8 @@ module _ {S M N K : Type 0} {sim : Simulation S M N} {Good : ℕ → S → Type 
         | inl a ↦ elim (in_append (openings sim sim.stations) [] z a) [
           | inl b ↦ let o = in_openings sim sim.stations z b in
               let same : o.0 ≡ s = sym (to_stations.first o.0 z o.1 o.2) ∙ h.1 in
-              first_pending_has sim has only (ends_of sim (base ∷ [])) 0 (sim.setup s).first z (subst (λ r. (sim.setup r).first ≡ Some z) same o.2)
+              first_pending_has sim has only (ends_of sim (base ∷ [])) 0 (sim.setup s).first z
+              (subst (λ r. (sim.setup r).first ≡ Some z) same o.2)
               (ap (λ b. b && nat_lt (sim.time z) (end_of sim base)) ((first_alone 0).1 refl) ∙ k.1)
           | inr b ↦ absurd b
         ]
@@ -107,13 +115,28 @@ module _ {S M N K : Type 0} {sim : Simulation S M N} {Good : ℕ → S → Type 
         | inr n ↦ absurd n
       ] in
       record {
-        inhabited = λ x i. elim i [ inl e ↦ (0, subst (λ u. Carries has u 0) (sym e) ((first_alone 0).1 refl)) | inr n ↦ absurd n ];
+        inhabited = λ x i. elim i [
+          | inl e ↦ (0, subst (λ u. Carries has u 0) (sym e) ((first_alone 0).1 refl))
+          | inr n ↦ absurd n
+        ];
         carried = λ c l. (a, inl refl, (first_alone c).1 (omega arith));
         living = λ x c i h. let e = (is_0 x c i h).1 in omega (arith, e);
         disjoint = (tt, tt);
-        log = λ x c i h. let e = is_0 x c i h in subst (λ u. u.log ≡ log_at sim (clone_at (base ∷ []) c) s 0) (sym e.0) (subst (λ d. [] ≡ log_at sim (clone_at (base ∷ []) d) s 0) (sym e.1) (ap (λ w. filter (λ e. sim.to e.msg == s) w.at.trace) (sym (run_at_0 sim base))));
-        state = λ x c i h. let e = is_0 x c i h in subst (λ u. u.state ≡ state_at sim (clone_at (base ∷ []) c) s 0) (sym e.0) (subst (λ d. (sim.setup s).state ≡ state_at sim (clone_at (base ∷ []) d) s 0) (sym e.1) (ap (λ w. w.at.states s) (sym (run_at_0 sim base))));
-        due = λ x c i h. let e = is_0 x c i h in subst (λ u. taken sim has (ends_of sim (base ∷ [])) c u.pending ≡ due_at sim (clone_at (base ∷ []) c) s 0) (sym e.0) (subst (λ d. taken sim has (ends_of sim (base ∷ [])) d a.pending ≡ due_at sim (clone_at (base ∷ []) d) s 0) (sym e.1) due_first);
+        log = λ x c i h. let e = is_0 x c i h in
+            subst (λ u. u.log ≡ log_at sim (clone_at (base ∷ []) c) s 0) (sym e.0)
+            (subst (λ d. [] ≡ log_at sim (clone_at (base ∷ []) d) s 0) (sym e.1)
+            (ap (λ w. filter (λ e. sim.to e.msg == s) w.at.trace) (sym (run_at_0 sim base))));
+        state = λ x c i h. let e = is_0 x c i h in subst (λ u. u.state ≡ state_at sim (clone_at (base ∷ []) c) s 0)
+            (sym e.0) (subst (λ d. (sim.setup s).state ≡ state_at sim (clone_at (base ∷ []) d) s 0) (sym e.1)
+            (ap (λ w. w.at.states s) (sym (run_at_0 sim base))));
+        due = λ x c i h. let e = is_0 x c i h in
+            subst (λ u. taken sim has (ends_of sim (base ∷ [])) c u.pending ≡ due_at sim (clone_at (base ∷ []) c) s 0)
+            (sym e.0) (subst (λ d. taken sim has (ends_of sim (base ∷ [])) d a.pending ≡ due_at sim
+            (clone_at (base ∷ []) d) s 0) (sym e.1) due_first);
         shared = λ x y c d i l h k e. (is_0 x c i h).0 ∙ sym (is_0 y d l k).0;
-        sorted = λ x i. elim i [ inl e ↦ subst (λ u. SortedMarked sim.order u.pending) (sym e) (first_sorted sim has only (ends_of sim (base ∷ [])) 0 (sim.setup s).first) | inr n ↦ absurd n ];
+        sorted = λ x i. elim i [
+          | inl e ↦ subst (λ u. SortedMarked sim.order u.pending) (sym e)
+              (first_sorted sim has only (ends_of sim (base ∷ [])) 0 (sim.setup s).first)
+          | inr n ↦ absurd n
+        ];
       }

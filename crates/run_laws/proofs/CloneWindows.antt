@@ -1,5 +1,6 @@
 -- The window rule: from a front to the next one, each station of each clone may go by itself.
-use Rattle.std.proofs.Common.{ℕ, ◌+◌, ◌<◌, ◌≤◌, min, List, [], ◌∷◌, inl, inr, Option, Some, None, Bool, nat_lt, ◌==◌, refl, sym, ap, subst, arith}
+use Rattle.std.proofs.Common.{ℕ, ◌+◌, ◌<◌, ◌≤◌, min, List, [], ◌∷◌, inl, inr, Option}
+use Rattle.std.proofs.Common.{Some, None, Bool, nat_lt, ◌==◌, refl, sym, ap, subst, arith}
 use Rattle.std.proofs.lemmas.Bool.{lt-ltb, ltb-true}
 use Rattle.sim_base.specs.Clones.{Clone}
 use Rattle.run_laws.specs.Queue.{In}
@@ -34,7 +35,8 @@ module _ {S M N : Type 0} (sim : Simulation S M N) where
       let l = (within_both b (Some (sim.time m)) (least_time sim.time q) h).0 in
       let t = ap sim.time e in
       omega (arith, t, l)
-  within_least b (m ∷ q) z h (inr j) = within_least b q z (within_both b (Some (sim.time m)) (least_time sim.time q) h).1 j
+  within_least b (m ∷ q) z h (inr j) =
+      within_least b q z (within_both b (Some (sim.time m)) (least_time sim.time q) h).1 j
 
   -- a bound within the next front is so for each clone
   within_next : (b : ℕ) (cs : List Clone) (c : Clone) (front : ℕ) → b ≤ next_front sim cs front → In c cs →
@@ -42,7 +44,8 @@ module _ {S M N : Type 0} (sim : Simulation S M N) where
   within_next b [] c front h i = absurd i
   within_next b (x ∷ cs) c front h (inl e) = subst (λ d. b ≤ window_end sim (least_of sim d front)) (sym e)
       (within_both b (least_of sim x front) (least sim cs front) h).0
-  within_next b (x ∷ cs) c front h (inr j) = within_next b cs c front (within_both b (least_of sim x front) (least sim cs front) h).1 j
+  within_next b (x ∷ cs) c front h (inr j) =
+      within_next b cs c front (within_both b (least_of sim x front) (least sim cs front) h).1 j
 
 module _ {S M N : Type 0} {sim : Simulation S M N} {Good : ℕ → S → Type 0} (law : HandlesLawfully sim Good) where
   -- at a front the windows of a clone may open, up to its end
@@ -54,9 +57,11 @@ module _ {S M N : Type 0} {sim : Simulation S M N} {Good : ℕ → S → Type 0}
       record {
         sorted = λ s. sorted_filter sim.order (λ m. sim.to m == s) (all_due sim c front) (due_sorted law c front);
         own = λ s z i. let h = in_own sim.to s (all_due sim c front) z i in (h.1, (in_filter early q z h.0).0);
-        out = λ z i t. own_from sim.to (sim.to z) (all_due sim c front) z (filter_keeps early q z i (lt-ltb (sim.time z) (end_of sim c) t)) refl;
+        out = λ z i t. own_from sim.to (sim.to z) (all_due sim c front) z
+            (filter_keeps early q z i (lt-ltb (sim.time z) (end_of sim c) t)) refl;
         near = λ z i t.
-            let h = within_least sim bound (all_due sim c front) z b (filter_keeps early q z i (lt-ltb (sim.time z) (end_of sim c) t)) in
+            let h = within_least sim bound (all_due sim c front) z b
+            (filter_keeps early q z i (lt-ltb (sim.time z) (end_of sim c) t)) in
             omega arith;
       }
 
@@ -68,8 +73,10 @@ module _ {S M N : Type 0} {sim : Simulation S M N} {Good : ℕ → S → Type 0}
       let early : M → Bool = λ m. nat_lt (sim.time m) (end_of sim c) in
       let q : List M = (run_of sim c bound).pending in
       let later : min front (end_of sim c) ≤ min bound (end_of sim c) = omega arith in
-      let h : Windows sim (min bound (end_of sim c)) (end_of sim c) (λ s. due_at sim c s front) (run_of sim c front) (run_of sim c bound) =
-      windows_give law (min bound (end_of sim c)) (end_of sim c) (omega arith) (λ s. due_at sim c s front) (run_of sim c front) (run_of sim c bound)
+      let h : Windows sim (min bound (end_of sim c)) (end_of sim c) (λ s. due_at sim c s front) (run_of sim c front)
+      (run_of sim c bound) =
+      windows_give law (min bound (end_of sim c)) (end_of sim c) (omega arith) (λ s. due_at sim c s front)
+      (run_of sim c front) (run_of sim c bound)
       (run_fine law c.plans (min front (end_of sim c)))
       (windows_open c front bound (within_next sim bound cs c front b i))
       (run_goes_on law c.plans (min front (end_of sim c)) (min bound (end_of sim c)) later)
@@ -89,8 +96,10 @@ module _ {S M N : Type 0} {sim : Simulation S M N} {Good : ℕ → S → Type 0}
                 ],
               )),
           (λ g. elim g.1 [
-            | inl e ↦ let a = h.left s z e in own_from sim.to s (all_due sim c bound) z (filter_keeps early q z a.1 (lt-ltb (sim.time z) end g.0)) a.0
-            | inr e ↦ own_from sim.to s (all_due sim c bound) z (filter_keeps early q z (h.sent e.1.0 z e.1.1) (lt-ltb (sim.time z) end g.0)) e.0
+            | inl e ↦ let a = h.left s z e in
+                own_from sim.to s (all_due sim c bound) z (filter_keeps early q z a.1 (lt-ltb (sim.time z) end g.0)) a.0
+            | inr e ↦ own_from sim.to s (all_due sim c bound) z
+                (filter_keeps early q z (h.sent e.1.0 z e.1.1) (lt-ltb (sim.time z) end g.0)) e.0
           ]),
         );
       }

@@ -1,6 +1,7 @@
 -- One shared handling is a turn of each clone that takes the message, and clones of which one takes a message
 -- and the other does not come to different logs.
-use Rattle.std.proofs.Common.{◌≡◌, ℕ, ◌<◌, ◌≤◌, List, [], ◌∷◌, ◌++◌, ◌⊎◌, inl, inr, Bool, true, false, not, ◌==◌, ◌&&◌, ◌||◌, nat_lt, refl, sym, ap, ◌∙◌, subst, arith, append_assoc, append-nil, map}
+use Rattle.std.proofs.Common.{◌≡◌, ℕ, ◌<◌, ◌≤◌, List, [], ◌∷◌, ◌++◌, ◌⊎◌, inl, inr, Bool, true, false, not, ◌==◌, ◌&&◌}
+use Rattle.std.proofs.Common.{◌||◌, nat_lt, refl, sym, ap, ◌∙◌, subst, arith, append_assoc, append-nil, map}
 use Rattle.std.specs.List.{AllByRecursion, filter}
 use Rattle.std.specs.declared.cmp.Ordering.TheVariants.{Less}
 use Rattle.std.proofs.lemmas.Bool.{cases_lt}
@@ -12,7 +13,8 @@ use Rattle.run_laws.specs.World.{to_it}
 use Rattle.run_laws.specs.Window.{Part, to_others, earlier_than, part_step}
 use Rattle.run_laws.specs.Handlers.{IsTimed}
 use Rattle.sim_base.specs.Marked.{JoinsMarks, SortedMarked}
-use Rattle.run_laws.specs.Copies.{Copy, Carries, insert_marked_all, handle_until, handled_by, laid_aside, takes, taken, view}
+use Rattle.run_laws.specs.Copies.{Copy, Carries, insert_marked_all, handle_until, handled_by}
+use Rattle.run_laws.specs.Copies.{laid_aside, takes, taken, view}
 use Rattle.run_laws.proofs.Queue.{all_in, all_from}
 use Rattle.run_laws.proofs.Lists.{filter_swap, filter-congr, filter_none}
 use Rattle.run_laws.proofs.Machine.{reach_first, done_no_next, done_stays}
@@ -42,14 +44,17 @@ module _ {S M N : Type 0} (sim : Simulation S M N) (s bound : ℕ) where
       (h.0 ++ x ∷ [], ap (λ u. u.at.log) n.is ∙ (ap (λ l. l ++ x ∷ []) h.1 ∙ append_assoc c.at.log h.0 (x ∷ [])))
 
   -- where there is a message to handle, what the log gains begins with it
-  pub log_begins : (end : ℕ) (c d : Config (Part S M N) M) (m : M) (q : List M) → c.pending ≡ m ∷ q → sim.time m < bound →
+  pub log_begins : (end : ℕ) (c d : Config (Part S M N) M) (m : M) (q : List M) → c.pending ≡ m ∷ q
+      → sim.time m < bound →
       TurnsUntil end c d → Done sim.time bound d →
       (l : List (Entry M N)) × (d.at.log ≡ c.at.log ++ new_entry c.at.state m ∷ l)
   log_begins end c d m q p early r f =
       let e : Config (Part S M N) M = after sim.order (part_step sim.to (handle_until sim end) s) c.at m q in
-      let n : Next sim.order sim.time (part_step sim.to (handle_until sim end) s) bound c e = record { m = m; q = q; pending = p; early = early; is = refl } in
+      let n : Next sim.order sim.time (part_step sim.to (handle_until sim end) s) bound c e =
+      record { m = m; q = q; pending = p; early = early; is = refl } in
       elim (reach_first r n) [
-        | inl a ↦ absurd (done_no_next d e f (subst (λ x. Next sim.order sim.time (part_step sim.to (handle_until sim end) s) bound x e) (sym a) n))
+        | inl a ↦ absurd (done_no_next d e f
+            (subst (λ x. Next sim.order sim.time (part_step sim.to (handle_until sim end) s) bound x e) (sym a) n))
         | inr t ↦ let h = log_grows end t in (h.0, h.1 ∙ append_assoc c.at.log (new_entry c.at.state m ∷ []) h.0)
       ]
 
@@ -63,7 +68,11 @@ module _ {S M N : Type 0} (sim : Simulation S M N) (s bound : ℕ) where
   settled_or_next_by o d [] e k = inl (subst (AllByRecursion (λ m. bound ≤ sim.time m)) (sym e) tt)
   settled_or_next_by o d (y ∷ ys) e k = elim (cases_lt (sim.time y) bound) [
     | inl l ↦ inr (y, ys, e, l)
-    | inr l ↦ inl (subst (AllByRecursion (λ m. bound ≤ sim.time m)) (sym e) (l, all_from (λ m. bound ≤ sim.time m) ys (λ z i. let h = o.timed y z (all_in (λ z. sim.order y z ≡ Less) ys z k.0 i) in omega arith)))
+    | inr l ↦ inl (subst (AllByRecursion (λ m. bound ≤ sim.time m)) (sym e) (
+      l,
+      all_from (λ m. bound ≤ sim.time m) ys
+          (λ z i. let h = o.timed y z (all_in (λ z. sim.order y z ≡ Less) ys z k.0 i) in omega arith),
+    ))
   ]
 
   -- one of the two holds of a station with its messages in order
@@ -83,12 +92,14 @@ module _ {S M N : Type 0} (sim : Simulation S M N) (s bound : ℕ) where
       elim w [
         | inl done ↦
             let b : d2 ≡ d = done_stays done t in
-            let k : x ∷ a.0 ≡ [] = append_cancel c.at.log (x ∷ a.0) [] (sym a.1 ∙ (same ∙ (ap (λ u. u.at.log) b ∙ (sym e ∙ sym (append-nil c.at.log))))) in
+            let k : x ∷ a.0 ≡ [] = append_cancel c.at.log (x ∷ a.0) []
+            (sym a.1 ∙ (same ∙ (ap (λ u. u.at.log) b ∙ (sym e ∙ sym (append-nil c.at.log))))) in
             absurd (cc)
         | inr n ↦
             let b = log_begins end2 d d2 n.0 n.1 n.2 n.3 t g in
             let y : Entry M N = new_entry d.at.state n.0 in
-            let k : x ∷ a.0 ≡ y ∷ b.0 = append_cancel c.at.log (x ∷ a.0) (y ∷ b.0) (sym a.1 ∙ (same ∙ (b.1 ∙ ap (λ l. l ++ y ∷ b.0) (sym e)))) in
+            let k : x ∷ a.0 ≡ y ∷ b.0 = append_cancel c.at.log (x ∷ a.0) (y ∷ b.0)
+            (sym a.1 ∙ (same ∙ (b.1 ∙ ap (λ l. l ++ y ∷ b.0) (sym e)))) in
             let h : x ≡ y = cc in
             other n.0 (subst (In n.0) (sym n.2) (inl refl)) (sym (ap (λ u. u.msg) h))
       ]
@@ -107,7 +118,8 @@ module _ {S M N : Type 0} (sim : Simulation S M N) (s bound : ℕ) where
       elim w [
         | inl done ↦
             let b : d2 ≡ d = done_stays done t in
-            let k : e ∷ v ≡ [] = append_cancel d.at.log (e ∷ v) [] (sym has2 ∙ (ap (λ u. u.at.log) b ∙ sym (append-nil d.at.log))) in
+            let k : e ∷ v ≡ [] = append_cancel d.at.log (e ∷ v) []
+            (sym has2 ∙ (ap (λ u. u.at.log) b ∙ sym (append-nil d.at.log))) in
             absurd (cc)
         | inr n ↦
             let b = log_begins end2 d d2 n.0 n.1 n.2 n.3 t g in
@@ -145,7 +157,8 @@ module _ {S M N K : Type 0} (sim : Simulation S M N) (has : K → ℕ → Bool) 
 
   -- of others it takes none
   pub taken_without : (k : K) (c : ℕ) (xs : List M) → has k c ≡ false → filter (λ x. takes sim has ends x k c) xs ≡ []
-  taken_without k c xs e = filter_none (λ x. takes sim has ends x k c) xs (all_from (λ x. takes sim has ends x k c ≡ false) xs (λ x i. ap (λ b. b && nat_lt (sim.time x) (ends c)) e))
+  taken_without k c xs e = filter_none (λ x. takes sim has ends x k c) xs
+      (all_from (λ x. takes sim has ends x k c ≡ false) xs (λ x i. ap (λ b. b && nat_lt (sim.time x) (ends c)) e))
 
   -- what is sent in a handling for other clones, clone c doesn't see
   pub others_sent : (s c : ℕ) (a : Copy S M N K) (m : M) (sent : List (M × K)) → has a.set c ≡ false →
@@ -159,7 +172,8 @@ module _ {S M N K : Type 0} (sim : Simulation S M N) (has : K → ℕ → Bool) 
 module _ {S M N K : Type 0} (sim : Simulation S M N) (has : K → ℕ → Bool) (ends : ℕ → ℕ) (s : ℕ) where
   -- what is sent to others for a set that has it, a clone sees laid aside, before its end
   taken_aside : (c : ℕ) (k : K) (sends : List M) (sent : List (M × K)) → has k c ≡ true →
-      taken sim has ends c (sent ++ map (λ x. (x, k)) (to_others sim.to s sends)) ≡ taken sim has ends c sent ++ to_others sim.to s (earlier_than sim.time (ends c) sends)
+      taken sim has ends c (sent ++ map (λ x. (x, k)) (to_others sim.to s sends)) ≡ taken sim has ends c sent
+      ++ to_others sim.to s (earlier_than sim.time (ends c) sends)
   taken_aside c k sends sent e =
       part-append (takes sim has ends) c sent (map (λ x. (x, k)) (to_others sim.to s sends))
       ∙ ap (λ l. taken sim has ends c sent ++ l)
@@ -169,23 +183,27 @@ module _ {S M N K : Type 0} (sim : Simulation S M N) (has : K → ℕ → Bool) 
 
 -- two stations with equal parts are equal
 station_parts : {S M N : Type 0} (st : S) (log : List (Entry M N)) (a b p q : List M) → a ≡ b → p ≡ q →
-    ◌≡◌ {A = Config (Part S M N) M} (record { at = record { state = st; log = log; aside = a }; pending = p }) (record { at = record { state = st; log = log; aside = b }; pending = q })
+    ◌≡◌ {A = Config (Part S M N) M} (record { at = record { state = st; log = log; aside = a }; pending = p })
+    (record { at = record { state = st; log = log; aside = b }; pending = q })
 station_parts st log a b p q e f = cc
 
 module _ {S M N K : Type 0} (sim : Simulation S M N) {has : K → ℕ → Bool} {join : K → K → K} (j : JoinsMarks has join)
     (ends : ℕ → ℕ) (o : IsTimed sim.order sim.time) (s : ℕ) where
   -- what is sent to itself for a set that has it, a clone has pending, before its end
   taken_queue : (c : ℕ) (k : K) (sends : List M) (q : List (M × K)) → SortedMarked sim.order q → has k c ≡ true →
-      taken sim has ends c (insert_marked_all join sim.order (to_it sim.to s sends) k q) ≡ insert_all sim.order (to_it sim.to s (earlier_than sim.time (ends c) sends)) (taken sim has ends c q)
+      taken sim has ends c (insert_marked_all join sim.order (to_it sim.to s sends) k q) ≡ insert_all sim.order
+      (to_it sim.to s (earlier_than sim.time (ends c) sends)) (taken sim has ends c q)
   taken_queue c k sends q sorted e =
       part-insert_all (takes sim has ends) join (takes_join sim j ends) o.order c (to_it sim.to s sends) k q sorted
       ∙ ap (λ l. insert_all sim.order l (taken sim has ends c q))
-      (taken_within sim has ends k c (to_it sim.to s sends) e ∙ filter_swap (λ m. nat_lt (sim.time m) (ends c)) (λ m. sim.to m == s) sends)
+      (taken_within sim has ends k c (to_it sim.to s sends) e ∙ filter_swap (λ m. nat_lt (sim.time m) (ends c))
+      (λ m. sim.to m == s) sends)
 
   -- one shared handling is a turn of each clone of the copy that takes the message
   pub handled_view : (bound c : ℕ) (a : Copy S M N K) (m : M) (k : K) (q sent : List (M × K)) → a.pending ≡ (m, k) ∷ q →
       SortedMarked sim.order a.pending → Carries has a c → takes sim has ends m k c ≡ true → sim.time m < bound →
-      Next sim.order sim.time (part_step sim.to (handle_until sim (ends c)) s) bound (view sim has ends c a sent) (view sim has ends c (handled_by sim join s a m q) (sent ++ laid_aside sim s a m))
+      Next sim.order sim.time (part_step sim.to (handle_until sim (ends c)) s) bound (view sim has ends c a sent)
+      (view sim has ends c (handled_by sim join s a m q) (sent ++ laid_aside sim s a m))
   handled_view bound c a m k q sent p sorted in_set takes_it early =
       let sq : SortedMarked sim.order ((m, k) ∷ q) = subst (SortedMarked sim.order) p sorted in
       record {
@@ -193,7 +211,8 @@ module _ {S M N K : Type 0} (sim : Simulation S M N) {has : K → ℕ → Bool} 
         q = taken sim has ends c q;
         pending = ap (taken sim has ends c) p ∙ part_yes (takes sim has ends) c (m, k) q takes_it;
         early = early;
-        is = station_parts (sim.handle s a.state m).state (a.log ++ record { msg = m; line = (sim.handle s a.state m).line } ∷ []) _ _ _ _
+        is = station_parts (sim.handle s a.state m).state
+            (a.log ++ record { msg = m; line = (sim.handle s a.state m).line } ∷ []) _ _ _ _
             (taken_aside sim has ends s c a.set (sim.handle s a.state m).sends sent in_set)
             (taken_queue c a.set (sim.handle s a.state m).sends q sq.1 in_set);
       }

@@ -1,5 +1,6 @@
 -- The numbers of different logs and of different prefixes, as counts.
-use Rattle.std.proofs.Common.{◌≡◌, ℕ, suc, ◌*◌, ◌≤◌, List, [], ◌∷◌, ◌++◌, inl, inr, Bool, true, cond, refl, sym, ap, ◌∙◌, subst, arith, length, length-append, map, take}
+use Rattle.std.proofs.Common.{◌≡◌, ℕ, suc, ◌*◌, ◌≤◌, List, [], ◌∷◌, ◌++◌, inl, inr, Bool}
+use Rattle.std.proofs.Common.{true, cond, refl, sym, ap, ◌∙◌, subst, arith, length, length-append, map, take}
 use Rattle.std.specs.Bool.{Decides}
 use Rattle.std.specs.List.{flat_map}
 use Rattle.std.specs.Set.{is_member, unique_keys, distinct_count}
@@ -46,7 +47,8 @@ module _ {X : Type 0} (same : X → X → Bool) (decides : (x y : X) → Decides
           apart = (λ i. false≢true (sym f ∙ member_if_in x xs (h.exact x i)), h.apart);
           exact = λ z i. elim i [ inl d ↦ inl d | inr k ↦ inr (h.exact z k) ];
           all = λ z i. elim i [ inl d ↦ inl d | inr k ↦ inr (h.all z k) ];
-          number = ap suc h.number ∙ ap length (sym (ap (λ b. cond b (unique_keys same xs) (x ∷ unique_keys same xs)) f));
+          number = ap suc h.number ∙ ap length
+              (sym (ap (λ b. cond b (unique_keys same xs) (x ∷ unique_keys same xs)) f));
         }
       ]
 
@@ -92,7 +94,8 @@ in_flat_map f (x ∷ xs) y i = elim (in_append (f x) (flat_map f xs) y i) [
 ]
 
 -- and what is in one of them is in all
-flat_map_has : {X Y : Type 0} (f : X → List Y) (xs : List X) (x : X) (y : Y) → In x xs → In y (f x) → In y (flat_map f xs)
+flat_map_has : {X Y : Type 0} (f : X → List Y) (xs : List X) (x : X) (y : Y) → In x xs → In y (f x)
+    → In y (flat_map f xs)
 flat_map_has f [] x y i l = absurd i
 flat_map_has f (z ∷ xs) x y (inl e) l = append_old (f z) (flat_map f xs) y (subst (λ u. In y (f u)) e l)
 flat_map_has f (z ∷ xs) x y (inr i) l = append_new (f z) (flat_map f xs) y (flat_map_has f xs x y i l)
@@ -111,7 +114,8 @@ module _ {E : Type 0} where
   -- each nonempty beginning is listed
   prefixes_have : (first : E) (more rest : List E) → In (first ∷ more) (prefixes (first ∷ (more ++ rest)))
   prefixes_have first [] rest = inl refl
-  prefixes_have first (m ∷ more) rest = inr (map_has (λ p. first ∷ p) (prefixes (m ∷ (more ++ rest))) (m ∷ more) (prefixes_have m more rest))
+  prefixes_have first (m ∷ more) rest = inr (map_has (λ p. first ∷ p) (prefixes (m ∷ (more ++ rest))) (m ∷ more)
+      (prefixes_have m more rest))
 
   -- the prefixes of several logs
   pub prefix_of_logs : (logs : List (List E)) (p : List E) → In p (flat_map prefixes logs) →
@@ -125,16 +129,20 @@ module _ {E : Type 0} where
   pub logs_have_prefix : (logs : List (List E)) (p : List E) → IsGained (λ l. In l logs) [] p →
       In p (flat_map prefixes logs)
   logs_have_prefix logs p g =
-      let here : In (g.first ∷ g.more) (prefixes (g.first ∷ (g.more ++ g.rest))) = prefixes_have g.first g.more g.rest in
+      let here : In (g.first ∷ g.more) (prefixes (g.first ∷ (g.more ++ g.rest))) =
+      prefixes_have g.first g.more g.rest in
       let is : g.log ≡ g.first ∷ (g.more ++ g.rest) = g.prefix ∙ ap (λ u. u ++ g.rest) g.longer in
-      flat_map_has prefixes logs g.log p g.is_log (subst (λ l. In p (prefixes l)) (sym is) (subst (λ u. In u (prefixes (g.first ∷ (g.more ++ g.rest)))) (sym g.longer) here))
+      flat_map_has prefixes logs g.log p g.is_log
+      (subst (λ l. In p (prefixes l)) (sym is)
+      (subst (λ u. In u (prefixes (g.first ∷ (g.more ++ g.rest)))) (sym g.longer) here))
 
   -- the number of different nonempty prefixes of several logs
   pub prefixes_count : (same : E → E → Bool) (decides : (x y : E) → Decides (same x y) (x ≡ y)) (logs : List (List E)) →
       IsCount (IsGained (λ l. In l logs) []) (distinct_count (same_list same) (flat_map prefixes logs))
   prefixes_count same decides logs = count_same (λ p. In p (flat_map prefixes logs)) (IsGained (λ l. In l logs) [])
       (distinct_count (same_list same) (flat_map prefixes logs))
-      (prefix_of_logs logs) (logs_have_prefix logs) (distinct_is_count (same_list same) (same_list-Decides same decides) (flat_map prefixes logs))
+      (prefix_of_logs logs) (logs_have_prefix logs)
+      (distinct_is_count (same_list same) (same_list-Decides same decides) (flat_map prefixes logs))
 
   -- a list has as many nonempty prefixes as elements
   length-prefixes : (l : List E) → length (prefixes l) ≡ length l

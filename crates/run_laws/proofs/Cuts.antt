@@ -1,5 +1,6 @@
 -- What the clones of a half take of pending messages that were cut to it.
-use Rattle.std.proofs.Common.{◌≡◌, ℕ, List, [], ◌∷◌, Option, Some, None, Bool, true, false, ◌&&◌, cond, refl, sym, ap, ◌∙◌}
+use Rattle.std.proofs.Common.{◌≡◌, ℕ, List, [], ◌∷◌, Option, Some, None, Bool}
+use Rattle.std.proofs.Common.{true, false, ◌&&◌, cond, refl, sym, ap, ◌∙◌}
 use Rattle.std.specs.Prelude.{option_map}
 use Rattle.std.specs.List.{AllByRecursion, cons_option}
 use Rattle.sim_base.specs.Pending.{cut_by}
@@ -21,7 +22,8 @@ module _ {M K : Type 0} {has : K → ℕ → Bool} {meet : K → K → Option K}
 
     cut_one : (r : Option K) (m : M) (k : K) (q : List (M × K)) → meet k by ≡ r →
         part takes_if c (cons_option (option_map (λ u. (m, u)) r) q) ≡ part takes_if c ((m, k) ∷ q)
-    cut_one None m k q e = sym (part_no takes_if c (m, k) q (ap (λ b. b && p m c) (sym (and-second (has k c) (has by c) here) ∙ meets.none k by e c)))
+    cut_one None m k q e = sym (part_no takes_if c (m, k) q
+        (ap (λ b. b && p m c) (sym (and-second (has k c) (has by c) here) ∙ meets.none k by e c)))
     cut_one (Some u) m k q e = ap (λ b. cond (b && p m c) (m ∷ part takes_if c q) (part takes_if c q))
         (meets.some k by u e c ∙ and-second (has k c) (has by c) here)
 

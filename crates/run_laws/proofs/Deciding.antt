@@ -1,5 +1,6 @@
 -- Copies stand for the clones after a decision, an end and a fork, where they stood for them before.
-use Rattle.std.proofs.Common.{◌≡◌, ℕ, ◌+◌, ◌≤◌, ◌<◌, List, [], ◌∷◌, ◌++◌, inl, inr, Bool, true, false, cond, ◌==◌, ◌&&◌, nat_lt, min, None, refl, sym, ap, ◌∙◌, subst, arith, length, length-set, eq-eqb}
+use Rattle.std.proofs.Common.{◌≡◌, ℕ, ◌+◌, ◌≤◌, ◌<◌, List, [], ◌∷◌, ◌++◌, inl, inr, Bool, true, false, cond, ◌==◌, ◌&&◌}
+use Rattle.std.proofs.Common.{nat_lt, min, None, refl, sym, ap, ◌∙◌, subst, arith, length, length-set, eq-eqb}
 use Rattle.std.specs.List.{AllByRecursion, AllZip}
 use Rattle.std.proofs.lemmas.Bool.{cases_Bool, cases_eq, ne_eqb, lt-ltb, ltb-true, false≢true}
 use Rattle.std.proofs.lemmas.List.{length_push}
@@ -13,7 +14,8 @@ use Rattle.run_laws.specs.Runs.{run, end_of, run_of, log_at, state_at, due_at}
 use Rattle.run_laws.specs.Handlers.{HandlesLawfully}
 use Rattle.run_laws.specs.Laws.{with_plan, with_end, AddsDue, DropsDue}
 use Rattle.sim_base.specs.Marked.{SortedMarked}
-use Rattle.run_laws.specs.Copies.{Copy, Carries, Disjoint, takes, taken, takes_as, origin_of, IsGiven, IsForked, ends_of, Stands}
+use Rattle.run_laws.specs.Copies.{Copy, Carries, Disjoint, takes, taken, takes_as}
+use Rattle.run_laws.specs.Copies.{origin_of, IsGiven, IsForked, ends_of, Stands}
 use Rattle.run_laws.proofs.Forks.{end_of-fork}
 use Rattle.run_laws.proofs.Queue.{all_in}
 use Rattle.run_laws.proofs.Parts.{part-congr, part-filter}
@@ -50,7 +52,8 @@ module _ {S M N K : Type 0} (sim : Simulation S M N) (has : K → ℕ → Bool) 
     pub set : b.set ≡ a.set
     pub log : b.log ≡ a.log
     pub state : b.state ≡ a.state
-    pub due : (c : ℕ) → Carries has a c → taken sim has (ends_of sim cs) c b.pending ≡ due_at sim (clone_at cs c) s front
+    pub due : (c : ℕ) → Carries has a c
+        → taken sim has (ends_of sim cs) c b.pending ≡ due_at sim (clone_at cs c) s front
     pub sorted : SortedMarked sim.order b.pending
 
   -- copies that match those that stood for the clones stand for the changed clones
@@ -61,10 +64,13 @@ module _ {S M N K : Type 0} (sim : Simulation S M N) (has : K → ℕ → Bool) 
       ((a : Copy S M N K) → In a copies → (b : Copy S M N K) × In b done × (b.set ≡ a.set)) → Disjoint has done →
       Stands sim has cs front s copies → Stands sim has next front s done
   stands_matched cs next front s copies done many logs states was each apart st =
-      let own : (b : Copy S M N K) (c : ℕ) (i : In b done) → Carries has b c → Carries has (was b i).0 c = λ b c i h. subst (λ u. has u c ≡ true) (was b i).2.set h in
+      let own : (b : Copy S M N K) (c : ℕ) (i : In b done) → Carries has b c → Carries has (was b i).0 c =
+      λ b c i h. subst (λ u. has u c ≡ true) (was b i).2.set h in
       record {
-        inhabited = λ b i. let x = was b i in let e = st.inhabited x.0 x.1 in (e.0, subst (λ u. has u e.0 ≡ true) (sym x.2.set) e.1);
-        carried = λ c l. let x = st.carried c (omega (arith, many, l)) in let y = each x.0 x.1 in (y.0, y.1, subst (λ u. has u c ≡ true) (sym y.2) x.2);
+        inhabited = λ b i. let x = was b i in let e = st.inhabited x.0 x.1 in
+            (e.0, subst (λ u. has u e.0 ≡ true) (sym x.2.set) e.1);
+        carried = λ c l. let x = st.carried c (omega (arith, many, l)) in let y = each x.0 x.1 in
+            (y.0, y.1, subst (λ u. has u c ≡ true) (sym y.2) x.2);
         living = λ b c i h. let x = was b i in let l = st.living x.0 c x.1 (own b c i h) in omega (arith, many, l);
         disjoint = apart;
         log = λ b c i h. let x = was b i in x.2.log ∙ (st.log x.0 c x.1 (own b c i h) ∙ sym (logs c));
@@ -72,8 +78,10 @@ module _ {S M N K : Type 0} (sim : Simulation S M N) (has : K → ℕ → Bool) 
         due = λ b c i h. (was b i).2.due c (own b c i h);
         shared = λ a b c d i l h k e.
             let x = was a i in let y = was b l in
-            let g : x.0 ≡ y.0 = st.shared x.0 y.0 c d x.1 y.1 (own a c i h) (own b d l k) (sym (logs c) ∙ (e ∙ logs d)) in
-            one_of has done a b c apart i l h (subst (λ u. has u c ≡ true) (x.2.set ∙ (ap (λ u. u.set) g ∙ sym y.2.set)) h);
+            let g : x.0 ≡ y.0 = st.shared x.0 y.0 c d x.1 y.1 (own a c i h) (own b d l k)
+            (sym (logs c) ∙ (e ∙ logs d)) in
+            one_of has done a b c apart i l h
+            (subst (λ u. has u c ≡ true) (x.2.set ∙ (ap (λ u. u.set) g ∙ sym y.2.set)) h);
         sorted = λ b i. (was b i).2.sorted;
       }
 
@@ -96,23 +104,27 @@ module _ {S M N K : Type 0} {sim : Simulation S M N} {Good : ℕ → S → Type 
 
     -- each log stays
     logs_added : (c : ℕ) → log_at sim (clone_at (added cs who p) c) s front ≡ log_at sim (clone_at cs c) s front
-    logs_added = set_cases (λ c k. log_at sim k s front ≡ log_at sim (clone_at cs c) s front) cs who (with_plan (clone_at cs who) p) is_there (ap (λ w. log_of sim.to s w.trace) adds.world)
+    logs_added = set_cases (λ c k. log_at sim k s front ≡ log_at sim (clone_at cs c) s front) cs who
+        (with_plan (clone_at cs who) p) is_there (ap (λ w. log_of sim.to s w.trace) adds.world)
         (λ c n. refl)
 
     -- each state stays
     states_added : (c : ℕ) → state_at sim (clone_at (added cs who p) c) s front ≡ state_at sim (clone_at cs c) s front
-    states_added = set_cases (λ c k. state_at sim k s front ≡ state_at sim (clone_at cs c) s front) cs who (with_plan (clone_at cs who) p) is_there (ap (λ w. w.states s) adds.world)
+    states_added = set_cases (λ c k. state_at sim k s front ≡ state_at sim (clone_at cs c) s front) cs who
+        (with_plan (clone_at cs who) p) is_there (ap (λ w. w.states s) adds.world)
         (λ c n. refl)
 
     -- each end stays
     ends_added : (c : ℕ) → ends_of sim (added cs who p) c ≡ ends_of sim cs c
-    ends_added = set_cases (λ c k. end_of sim k ≡ end_of sim (clone_at cs c)) cs who (with_plan (clone_at cs who) p) is_there refl (λ c n. refl)
+    ends_added = set_cases (λ c k. end_of sim k ≡ end_of sim (clone_at cs c)) cs who
+        (with_plan (clone_at cs who) p) is_there refl (λ c n. refl)
 
     -- a late decision for another station leaves the copies of a station as they are
     pub stands_other_decision : (copies : List (Copy S M N K)) → (sim.to message ≡ s → ⊥) →
         Stands sim has cs front s copies → Stands sim has (added cs who p) front s copies
     stands_other_decision copies not st =
-        stands_matched sim has cs (added cs who p) front s copies copies (length-set cs who (with_plan (clone_at cs who) p)) logs_added states_added
+        stands_matched sim has cs (added cs who p) front s copies copies
+        (length-set cs who (with_plan (clone_at cs who) p)) logs_added states_added
         (λ b i. (
           b,
           i,
@@ -122,8 +134,12 @@ module _ {S M N K : Type 0} {sim : Simulation S M N} {Good : ℕ → S → Type 
             state = refl;
             due = λ c g. taken_ends sim has (ends_of sim (added cs who p)) (ends_of sim cs) c b.pending (ends_added c)
                 ∙ st.due b c i g
-                ∙ sym (set_cases (λ c k. due_at sim k s front ≡ due_at sim (clone_at cs c) s front) cs who (with_plan (clone_at cs who) p) is_there
-                (adds.due_here s ∙ ap (λ t. cond t (insert sim.order message (due_at sim (clone_at cs who) s front)) (due_at sim (clone_at cs who) s front)) (never (nat_lt (sim.time message) (end_of sim (clone_at cs who))) (sim.to message == s) (ne_eqb (sim.to message) s not)))
+                ∙ sym (set_cases (λ c k. due_at sim k s front ≡ due_at sim (clone_at cs c) s front) cs who
+                (with_plan (clone_at cs who) p) is_there
+                (adds.due_here s ∙ ap (λ t. cond t (insert sim.order message (due_at sim (clone_at cs who) s front))
+                (due_at sim (clone_at cs who) s front))
+                (never (nat_lt (sim.time message) (end_of sim (clone_at cs who))) (sim.to message == s)
+                (ne_eqb (sim.to message) s not)))
                 (λ c n. refl) c);
             sorted = st.sorted b i;
           },
@@ -141,7 +157,8 @@ module _ {S M N K : Type 0} {sim : Simulation S M N} {Good : ℕ → S → Type 
         Stands sim has (added cs who p) front s done
     stands_decision copies done k to_s for_it for_no_other zip st =
         let apart = disjoint_given sim has (ends_of sim cs) message k copies done zip st.disjoint in
-        stands_matched sim has cs (added cs who p) front s copies done (length-set cs who (with_plan (clone_at cs who) p)) logs_added states_added
+        stands_matched sim has cs (added cs who p) front s copies done
+        (length-set cs who (with_plan (clone_at cs who) p)) logs_added states_added
         (λ b i. let x = zip_from (IsGiven sim has (ends_of sim cs) message k) copies done b zip i in (
           x.0,
           x.1,
@@ -151,28 +168,41 @@ module _ {S M N K : Type 0} {sim : Simulation S M N} {Good : ℕ → S → Type 
             state = x.2.state;
             due = λ c g. taken_ends sim has (ends_of sim (added cs who p)) (ends_of sim cs) c b.pending (ends_added c)
                 ∙ x.2.parts c g
-                ∙ ap (λ l. cond (takes sim has (ends_of sim cs) message k c) (insert sim.order message l) l) (st.due x.0 c x.1 g)
+                ∙ ap (λ l. cond (takes sim has (ends_of sim cs) message k c) (insert sim.order message l) l)
+                (st.due x.0 c x.1 g)
                 ∙ sym (given c);
             sorted = x.2.sorted;
           },
         ))
-        (λ a i. let y = zip_each (IsGiven sim has (ends_of sim cs) message k) copies done a zip i in (y.0, y.1, y.2.set)) apart st
+        (λ a i. let y = zip_each (IsGiven sim has (ends_of sim cs) message k) copies done a zip i in
+        (y.0, y.1, y.2.set)) apart st
       where
         given : (c : ℕ) →
-            due_at sim (clone_at (added cs who p) c) s front ≡ cond (takes sim has (ends_of sim cs) message k c) (insert sim.order message (due_at sim (clone_at cs c) s front)) (due_at sim (clone_at cs c) s front)
-        given = set_cases (λ c x. due_at sim x s front ≡ cond (takes sim has (ends_of sim cs) message k c) (insert sim.order message (due_at sim (clone_at cs c) s front)) (due_at sim (clone_at cs c) s front)) cs who (with_plan (clone_at cs who) p) is_there
-            (adds.due_here s ∙ ap (λ t. cond t (insert sim.order message (due_at sim (clone_at cs who) s front)) (due_at sim (clone_at cs who) s front))
-            (ap (λ b. nat_lt (sim.time message) (end_of sim (clone_at cs who)) && b) (eq-eqb (sim.to message) s to_s) ∙ and_swap (has k who) (nat_lt (sim.time message) (end_of sim (clone_at cs who))) for_it))
-            (λ c n. ap (λ b. cond (b && nat_lt (sim.time message) (ends_of sim cs c)) (insert sim.order message (due_at sim (clone_at cs c) s front)) (due_at sim (clone_at cs c) s front)) (sym (for_no_other c n)))
+            due_at sim (clone_at (added cs who p) c) s front ≡ cond (takes sim has (ends_of sim cs) message k c)
+            (insert sim.order message (due_at sim (clone_at cs c) s front)) (due_at sim (clone_at cs c) s front)
+        given = set_cases (λ c x. due_at sim x s front ≡ cond (takes sim has (ends_of sim cs) message k c)
+            (insert sim.order message (due_at sim (clone_at cs c) s front)) (due_at sim (clone_at cs c) s front)) cs
+            who (with_plan (clone_at cs who) p) is_there
+            (adds.due_here s ∙ ap (λ t. cond t (insert sim.order message (due_at sim (clone_at cs who) s front))
+            (due_at sim (clone_at cs who) s front))
+            (ap (λ b. nat_lt (sim.time message) (end_of sim (clone_at cs who)) && b) (eq-eqb (sim.to message) s to_s)
+            ∙ and_swap (has k who) (nat_lt (sim.time message) (end_of sim (clone_at cs who))) for_it))
+            (λ c n. ap (λ b. cond (b && nat_lt (sim.time message) (ends_of sim cs c))
+            (insert sim.order message (due_at sim (clone_at cs c) s front)) (due_at sim (clone_at cs c) s front))
+            (sym (for_no_other c n)))
 
   -- an end at or after the front leaves the copies as they are
   pub stands_end : (copies : List (Copy S M N K)) (at : ℕ) → front ≤ at → at ≤ end_of sim (clone_at cs who) →
       Stands sim has cs front s copies → Stands sim has (ended cs who at) front s copies
   stands_end copies at late within st =
-      let drops : DropsDue sim (clone_at cs who) at front = late_end_drops_due law (clone_at cs who) at front late within in
-      stands_matched sim has cs (ended cs who at) front s copies copies (length-set cs who (with_end (clone_at cs who) at))
-      (set_cases (λ c k. log_at sim k s front ≡ log_at sim (clone_at cs c) s front) cs who (with_end (clone_at cs who) at) is_there (ap (λ w. log_of sim.to s w.trace) drops.world) (λ c n. refl))
-      (set_cases (λ c k. state_at sim k s front ≡ state_at sim (clone_at cs c) s front) cs who (with_end (clone_at cs who) at) is_there (ap (λ w. w.states s) drops.world) (λ c n. refl))
+      let drops : DropsDue sim (clone_at cs who) at front =
+      late_end_drops_due law (clone_at cs who) at front late within in
+      stands_matched sim has cs (ended cs who at) front s copies copies
+      (length-set cs who (with_end (clone_at cs who) at))
+      (set_cases (λ c k. log_at sim k s front ≡ log_at sim (clone_at cs c) s front) cs who
+      (with_end (clone_at cs who) at) is_there (ap (λ w. log_of sim.to s w.trace) drops.world) (λ c n. refl))
+      (set_cases (λ c k. state_at sim k s front ≡ state_at sim (clone_at cs c) s front) cs who
+      (with_end (clone_at cs who) at) is_there (ap (λ w. w.states s) drops.world) (λ c n. refl))
       (λ b i. (
         b,
         i,
@@ -182,9 +212,13 @@ module _ {S M N K : Type 0} {sim : Simulation S M N} {Good : ℕ → S → Type 
           state = refl;
           due = λ c g. taken_ends sim has (ends_of sim (ended cs who at))
               (λ t. end_of sim (clone_at (ended cs who at) c)) c b.pending refl
-              ∙ set_cases (λ c k. Carries has b c → taken sim has (λ t. end_of sim k) c b.pending ≡ due_at sim k s front) cs who (with_end (clone_at cs who) at) is_there
-              (λ g. taken_earlier sim has (ends_of sim cs) (λ t. at) who b.pending within ∙ ap (earlier_than sim.time at) (st.due b who i g) ∙ sym (drops.due_here s))
-              (λ c n g. taken_ends sim has (λ t. end_of sim (clone_at cs c)) (ends_of sim cs) c b.pending refl ∙ st.due b c i g)
+              ∙ set_cases (λ c k. Carries has b c
+              → taken sim has (λ t. end_of sim k) c b.pending ≡ due_at sim k s front) cs who
+              (with_end (clone_at cs who) at) is_there
+              (λ g. taken_earlier sim has (ends_of sim cs) (λ t. at) who b.pending within
+              ∙ ap (earlier_than sim.time at) (st.due b who i g) ∙ sym (drops.due_here s))
+              (λ c n g. taken_ends sim has (λ t. end_of sim (clone_at cs c)) (ends_of sim cs) c b.pending refl
+              ∙ st.due b c i g)
               c g;
           sorted = st.sorted b i;
         },
@@ -200,7 +234,10 @@ module _ {S M N K : Type 0} (sim : Simulation S M N) (has : K → ℕ → Bool) 
   disjoint_forked ends new [] (v ∷ ys) h d = absurd h
   disjoint_forked ends new (u ∷ xs) [] h d = absurd h
   disjoint_forked ends new (u ∷ xs)
-      (v ∷ ys) h d = (apart ys (λ b i. zip_from (IsForked sim has ends old new) xs ys b h.1 i), disjoint_forked ends new xs ys h.1 d.1)
+      (v ∷ ys) h d = (
+        apart ys (λ b i. zip_from (IsForked sim has ends old new) xs ys b h.1 i),
+        disjoint_forked ends new xs ys h.1 d.1,
+      )
     where
       apart : (zs : List (Copy S M N K)) →
           ((b : Copy S M N K) → In b zs → (x : Copy S M N K) × In x xs × IsForked sim has ends old new x b) →
@@ -208,20 +245,24 @@ module _ {S M N K : Type 0} (sim : Simulation S M N) (has : K → ℕ → Bool) 
       apart [] f = tt
       apart (b ∷ zs) f = (
         (λ c i l. let x = f b (inl refl) in
-            all_in (λ b. (c : ℕ) → Carries has u c → Carries has b c → ⊥) xs x.0 d.0 x.1 (origin_of old new c) (sym (h.0.set c) ∙ i) (sym (x.2.set c) ∙ l)),
+            all_in (λ b. (c : ℕ) → Carries has u c → Carries has b c → ⊥) xs x.0 d.0 x.1 (origin_of old new c)
+            (sym (h.0.set c) ∙ i) (sym (x.2.set c) ∙ l)),
         apart zs (λ b i. f b (inr i)),
       )
 
   -- what holds of the new clone, which was the old one, and of the others, holds of each
   fork_cases : (P : Clone → Clone → Type 0) →
-      P (record { name = name; plans = (clone_at cs old).plans; end = None }) (clone_at cs old) → ((k : Clone) → P k k) →
+      P (record { name = name; plans = (clone_at cs old).plans; end = None }) (clone_at cs old)
+      → ((k : Clone) → P k k) →
       (c : ℕ) → P (clone_at (forked cs name old) c) (clone_at cs (origin_of old (length cs) c))
   fork_cases P a b c =
       let k : Clone = record { name = name; plans = (clone_at cs old).plans; end = None } in
       elim (cases_eq c (length cs)) [
-        | inl e ↦ subst (λ t. P (clone_at (forked cs name old) c) (clone_at cs t)) (sym (ap (λ b. cond b old c) (eq-eqb c (length cs) e)))
+        | inl e ↦ subst (λ t. P (clone_at (forked cs name old) c) (clone_at cs t))
+            (sym (ap (λ b. cond b old c) (eq-eqb c (length cs) e)))
             (subst (λ t. P t (clone_at cs old)) (sym (ap (clone_at (cs ++ k ∷ [])) e ∙ clone_push_same cs k)) a)
-        | inr n ↦ subst (λ t. P (clone_at (forked cs name old) c) (clone_at cs t)) (sym (ap (λ b. cond b old c) (ne_eqb c (length cs) n)))
+        | inr n ↦ subst (λ t. P (clone_at (forked cs name old) c) (clone_at cs t))
+            (sym (ap (λ b. cond b old c) (ne_eqb c (length cs) n)))
             (subst (λ t. P t (clone_at cs c)) (sym (clone_push_other cs k c n)) (b (clone_at cs c)))
       ]
 
@@ -234,14 +275,27 @@ module _ {S M N K : Type 0} (sim : Simulation S M N) (has : K → ℕ → Bool) 
       let k : Clone = record { name = name; plans = (clone_at cs old).plans; end = None } in
       let many : length (forked cs name old) ≡ length cs + 1 = length_push cs k in
       let same_end : end_of sim k ≡ end_of sim (clone_at cs old) = end_of-fork sim (clone_at cs old) name no_end in
-      let same_run : run_of sim k front ≡ run_of sim (clone_at cs old) front = ap (λ e. run sim (clone_at cs old).plans (min front e)) same_end in
+      let same_run : run_of sim k front ≡ run_of sim (clone_at cs old) front =
+      ap (λ e. run sim (clone_at cs old).plans (min front e)) same_end in
       let apart = disjoint_forked (ends_of sim cs) new copies done zip st.disjoint in
-      let was : (b : Copy S M N K) → In b done → (a : Copy S M N K) × In a copies × IsForked sim has (ends_of sim cs) old new a b = λ b i. zip_from (IsForked sim has (ends_of sim cs) old new) copies done b zip i in
-      let ends_are : (c : ℕ) → ends_of sim (forked cs name old) c ≡ ends_of sim cs (origin_of old new c) = fork_cases (λ x y. end_of sim x ≡ end_of sim y) same_end (λ x. refl) in
-      let logs : (c : ℕ) → log_at sim (clone_at (forked cs name old) c) s front ≡ log_at sim (clone_at cs (origin_of old new c)) s front = fork_cases (λ x y. log_at sim x s front ≡ log_at sim y s front) (ap (λ w. log_of sim.to s w.at.trace) same_run) (λ x. refl) in
-      let states : (c : ℕ) → state_at sim (clone_at (forked cs name old) c) s front ≡ state_at sim (clone_at cs (origin_of old new c)) s front = fork_cases (λ x y. state_at sim x s front ≡ state_at sim y s front) (ap (λ w. w.at.states s) same_run) (λ x. refl) in
-      let dues : (c : ℕ) → due_at sim (clone_at (forked cs name old) c) s front ≡ due_at sim (clone_at cs (origin_of old new c)) s front = fork_cases (λ x y. due_at sim x s front ≡ due_at sim y s front)
-      (ap (λ w. to_it sim.to s (earlier_than sim.time (end_of sim k) w.pending)) same_run ∙ ap (λ e. to_it sim.to s (earlier_than sim.time e (run_of sim (clone_at cs old) front).pending)) same_end) (λ x. refl) in
+      let was : (b : Copy S M N K) → In b done → (a : Copy S M N K) × In a copies
+      × IsForked sim has (ends_of sim cs) old new a b =
+      λ b i. zip_from (IsForked sim has (ends_of sim cs) old new) copies done b zip i in
+      let ends_are : (c : ℕ) → ends_of sim (forked cs name old) c ≡ ends_of sim cs (origin_of old new c) =
+      fork_cases (λ x y. end_of sim x ≡ end_of sim y) same_end (λ x. refl) in
+      let logs : (c : ℕ) → log_at sim (clone_at (forked cs name old) c) s front ≡ log_at sim
+      (clone_at cs (origin_of old new c)) s front =
+      fork_cases (λ x y. log_at sim x s front ≡ log_at sim y s front)
+      (ap (λ w. log_of sim.to s w.at.trace) same_run) (λ x. refl) in
+      let states : (c : ℕ) → state_at sim (clone_at (forked cs name old) c) s front ≡ state_at sim
+      (clone_at cs (origin_of old new c)) s front =
+      fork_cases (λ x y. state_at sim x s front ≡ state_at sim y s front) (ap (λ w. w.at.states s) same_run)
+      (λ x. refl) in
+      let dues : (c : ℕ) → due_at sim (clone_at (forked cs name old) c) s front ≡ due_at sim
+      (clone_at cs (origin_of old new c)) s front = fork_cases (λ x y. due_at sim x s front ≡ due_at sim y s front)
+      (ap (λ w. to_it sim.to s (earlier_than sim.time (end_of sim k) w.pending)) same_run
+      ∙ ap (λ e. to_it sim.to s (earlier_than sim.time e (run_of sim (clone_at cs old) front).pending)) same_end)
+      (λ x. refl) in
       record {
         inhabited = λ b i.
             let a = was b i in
@@ -252,19 +306,23 @@ module _ {S M N K : Type 0} (sim : Simulation S M N) (has : K → ℕ → Bool) 
             let x = st.carried (origin_of old new c) (within c (omega (arith, many, l))) in
             let y = zip_each (IsForked sim has (ends_of sim cs) old new) copies done x.0 zip x.1 in
             (y.0, y.1, y.2.set c ∙ x.2);
-        living = λ b c i h. let a = was b i in let l = back c (st.living a.0 (origin_of old new c) a.1 (sym (a.2.set c) ∙ h)) in omega (arith, many, l);
+        living = λ b c i h. let a = was b i in let l =
+            back c (st.living a.0 (origin_of old new c) a.1 (sym (a.2.set c) ∙ h)) in omega (arith, many, l);
         disjoint = apart;
         log = λ b c i h. let a = was b i in a.2.log
             ∙ (st.log a.0 (origin_of old new c) a.1 (sym (a.2.set c) ∙ h) ∙ sym (logs c));
         state = λ b c i h. let a = was b i in a.2.state
             ∙ (st.state a.0 (origin_of old new c) a.1 (sym (a.2.set c) ∙ h) ∙ sym (states c));
         due = λ b c i h. let a = was b i in
-            part-congr (takes sim has (ends_of sim (forked cs name old))) (takes_as sim has (ends_of sim cs) old new) c c b.pending (λ m k. ap (λ t. has k c && nat_lt (sim.time m) t) (ends_are c))
+            part-congr (takes sim has (ends_of sim (forked cs name old))) (takes_as sim has (ends_of sim cs) old new)
+            c c b.pending (λ m k. ap (λ t. has k c && nat_lt (sim.time m) t) (ends_are c))
             ∙ a.2.parts c ∙ st.due a.0 (origin_of old new c) a.1 (sym (a.2.set c) ∙ h) ∙ sym (dues c);
         shared = λ a b c d i l h k e.
             let x = was a i in let y = was b l in
-            let g : x.0 ≡ y.0 = st.shared x.0 y.0 (origin_of old new c) (origin_of old new d) x.1 y.1 (sym (x.2.set c) ∙ h) (sym (y.2.set d) ∙ k) (sym (logs c) ∙ (e ∙ logs d)) in
-            one_of has done a b c apart i l h (y.2.set c ∙ (ap (λ u. has u.set (origin_of old new c)) (sym g) ∙ (sym (x.2.set c) ∙ h)));
+            let g : x.0 ≡ y.0 = st.shared x.0 y.0 (origin_of old new c) (origin_of old new d) x.1 y.1
+            (sym (x.2.set c) ∙ h) (sym (y.2.set d) ∙ k) (sym (logs c) ∙ (e ∙ logs d)) in
+            one_of has done a b c apart i l h
+            (y.2.set c ∙ (ap (λ u. has u.set (origin_of old new c)) (sym g) ∙ (sym (x.2.set c) ∙ h)));
         sorted = λ b i. (was b i).2.sorted;
       }
     where
@@ -283,7 +341,8 @@ module _ {S M N K : Type 0} (sim : Simulation S M N) (has : K → ℕ → Bool) 
       back : (c : ℕ) → origin_of old (length cs) c < length cs → c < length cs + 1
       back c k = elim (cases_eq c (length cs)) [
         | inl e ↦ omega (arith, e)
-        | inr n ↦ let h : c < length cs = subst (λ b. cond b old c < length cs) (ne_eqb c (length cs) n) k in omega arith
+        | inr n ↦ let h : c < length cs = subst (λ b. cond b old c < length cs) (ne_eqb c (length cs) n) k in
+            omega arith
       ]
 
 module _ {S M N K : Type 0} {sim : Simulation S M N} {Good : ℕ → S → Type 0} (law : HandlesLawfully sim Good)
@@ -295,8 +354,10 @@ module _ {S M N K : Type 0} {sim : Simulation S M N} {Good : ℕ → S → Type 
       AllZip (IsGiven sim has (ends_of sim cs) m k) copies done → Stands sim has cs front s copies →
       Stands sim has (added cs who p) front s done
   stands_after_decision k copies done there is late to_s for_it for_no_other zip st =
-      subst (λ m. front ≤ sim.time m → sim.to m ≡ s → AllZip (IsGiven sim has (ends_of sim cs) m k) copies done → Stands sim has (added cs who p) front s done) (sym is)
-      (λ late to_s zip. stands_decision law has cs front s who there p late copies done k to_s for_it for_no_other zip st)
+      subst (λ m. front ≤ sim.time m → sim.to m ≡ s → AllZip (IsGiven sim has (ends_of sim cs) m k) copies done
+      → Stands sim has (added cs who p) front s done) (sym is)
+      (λ late to_s zip. stands_decision law has cs front s who there p late copies done k to_s for_it for_no_other zip
+      st)
       late to_s zip
 
   -- and of one for another station

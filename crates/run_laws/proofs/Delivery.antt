@@ -7,7 +7,8 @@ use Rattle.run_laws.specs.Queue.{insert, In}
 use Rattle.run_laws.specs.Simulation.{Simulation}
 use Rattle.run_laws.specs.Handlers.{IsOrder}
 use Rattle.sim_base.specs.Marked.{SortedMarked}
-use Rattle.run_laws.specs.Copies.{part, Copy, Carries, Disjoint, takes, taken, IsGiven, SoFarGiven, ends_of, IsDelivered}
+use Rattle.run_laws.specs.Copies.{part, Copy, Carries, Disjoint, takes}
+use Rattle.run_laws.specs.Copies.{taken, IsGiven, SoFarGiven, ends_of, IsDelivered}
 use Rattle.run_laws.proofs.Queue.{all_in, in_insert, insert_old, insert_new}
 use Rattle.run_laws.proofs.Lists.{in_cons_if, cons_if_new, in_append, append_old, append_new}
 use Rattle.run_laws.proofs.Parts.{part-append}
@@ -16,10 +17,11 @@ module _ {M K : Type 0} (takes : M → K → ℕ → Bool) where
   -- what a clone takes of a list with one message more
   in_part_push : (c : ℕ) (xs : List (M × K)) (x : M × K) (z : M) → In z (part takes c (xs ++ x ∷ [])) →
       In z (part takes c xs) ⊎ ((takes x.0 x.1 c ≡ true) × (z ≡ x.0))
-  in_part_push c xs x z i = elim (in_append (part takes c xs) (part takes c (x ∷ [])) z (subst (In z) (part-append takes c xs (x ∷ [])) i)) [
-    | inl a ↦ inl a
-    | inr a ↦ elim (in_cons_if (takes x.0 x.1 c) x.0 [] z a) [ inl b ↦ inr b | inr b ↦ absurd b ]
-  ]
+  in_part_push c xs x z i = elim (in_append (part takes c xs) (part takes c (x ∷ [])) z
+      (subst (In z) (part-append takes c xs (x ∷ [])) i)) [
+        | inl a ↦ inl a
+        | inr a ↦ elim (in_cons_if (takes x.0 x.1 c) x.0 [] z a) [ inl b ↦ inr b | inr b ↦ absurd b ]
+      ]
 
   -- it takes what it took
   part_push_old : (c : ℕ) (xs : List (M × K)) (x : M × K) (z : M) → In z (part takes c xs) →
@@ -68,8 +70,12 @@ module _ {S M N K : Type 0} (has : K → ℕ → Bool) where
       Carries has a c → Carries has b c → a ≡ b
   one_of [] a b c d i l h k = absurd i
   one_of (x ∷ xs) a b c d (inl e) (inl f) h k = e ∙ sym f
-  one_of (x ∷ xs) a b c d (inl e) (inr l) h k = absurd (all_in (λ b. (c : ℕ) → Carries has x c → Carries has b c → ⊥) xs b d.0 l c (subst (λ t. Carries has t c) e h) k)
-  one_of (x ∷ xs) a b c d (inr i) (inl f) h k = absurd (all_in (λ b. (c : ℕ) → Carries has x c → Carries has b c → ⊥) xs a d.0 i c (subst (λ t. Carries has t c) f k) h)
+  one_of (x ∷ xs) a b c d (inl e) (inr l) h k =
+      absurd (all_in (λ b. (c : ℕ) → Carries has x c → Carries has b c → ⊥) xs b d.0 l c
+      (subst (λ t. Carries has t c) e h) k)
+  one_of (x ∷ xs) a b c d (inr i) (inl f) h k =
+      absurd (all_in (λ b. (c : ℕ) → Carries has x c → Carries has b c → ⊥) xs a d.0 i c
+      (subst (λ t. Carries has t c) f k) h)
   one_of (x ∷ xs) a b c d (inr i) (inr l) h k = one_of xs a b c d.1 i l h k
 
 module _ {S M N K : Type 0} (sim : Simulation S M N) (has : K → ℕ → Bool) (ends : ℕ → ℕ) where
@@ -80,7 +86,10 @@ module _ {S M N K : Type 0} (sim : Simulation S M N) (has : K → ℕ → Bool) 
   disjoint_given m k [] (v ∷ ys) h d = absurd h
   disjoint_given m k (u ∷ xs) [] h d = absurd h
   disjoint_given m k (u ∷ xs)
-      (v ∷ ys) h d = (apart ys (λ b i. zip_from (IsGiven sim has ends m k) xs ys b h.1 i), disjoint_given m k xs ys h.1 d.1)
+      (v ∷ ys) h d = (
+        apart ys (λ b i. zip_from (IsGiven sim has ends m k) xs ys b h.1 i),
+        disjoint_given m k xs ys h.1 d.1,
+      )
     where
       apart : (zs : List (Copy S M N K)) →
           ((b : Copy S M N K) → In b zs → (x : Copy S M N K) × In x xs × IsGiven sim has ends m k x b) →
@@ -88,7 +97,8 @@ module _ {S M N K : Type 0} (sim : Simulation S M N) (has : K → ℕ → Bool) 
       apart [] f = tt
       apart (b ∷ zs) f = (
         (λ c i l. let x = f b (inl refl) in
-            all_in (λ b. (c : ℕ) → Carries has u c → Carries has b c → ⊥) xs x.0 d.0 x.1 c (subst (λ t. has t c ≡ true) h.0.set i) (subst (λ t. has t c ≡ true) x.2.set l)),
+            all_in (λ b. (c : ℕ) → Carries has u c → Carries has b c → ⊥) xs x.0 d.0 x.1 c
+            (subst (λ t. has t c ≡ true) h.0.set i) (subst (λ t. has t c ≡ true) x.2.set l)),
         apart zs (λ b i. f b (inr i)),
       )
 
@@ -101,7 +111,8 @@ module _ {S M N K : Type 0} (sim : Simulation S M N) (has : K → ℕ → Bool) 
         let y = zip_from (IsGiven sim has ends m k) done next b zip i in
         let x = h.from y.0 y.1 in
         let q : ℕ → List M = λ c. taken sim has ends c y.0.pending in
-        let given : Bool → ℕ → List M = λ t c. cond t (insert sim.order m (taken sim has ends c y.0.pending)) (taken sim has ends c y.0.pending) in (
+        let given : Bool → ℕ → List M = λ t c. cond t (insert sim.order m (taken sim has ends c y.0.pending))
+        (taken sim has ends c y.0.pending) in (
           x.0,
           x.1,
           y.2.set ∙ x.2,
@@ -109,7 +120,8 @@ module _ {S M N K : Type 0} (sim : Simulation S M N) (has : K → ℕ → Bool) 
           y.2.state ∙ x.4,
           λ c z g l.
               let p = y.2.parts c (subst (λ t. has t c ≡ true) (sym x.2) g) in
-              let was : In z (taken sim has ends c y.0.pending) → In z (taken sim has ends c x.0.pending) ⊎ In z (taken sim has ends c (msgs ++ (m, k) ∷ [])) = λ u. elim (x.5 c z g u) [
+              let was : In z (taken sim has ends c y.0.pending) → In z (taken sim has ends c x.0.pending)
+              ⊎ In z (taken sim has ends c (msgs ++ (m, k) ∷ [])) = λ u. elim (x.5 c z g u) [
                 | inl v ↦ inl v
                 | inr v ↦ inr (part_push_old (takes sim has ends) c msgs (m, k) z v)
               ] in
@@ -122,7 +134,8 @@ module _ {S M N K : Type 0} (sim : Simulation S M N) (has : K → ℕ → Bool) 
               ],
           λ c z g l.
               let p = y.2.parts c (subst (λ t. has t c ≡ true) (sym x.2) g) in
-              let was : In z (taken sim has ends c y.0.pending) → In z (taken sim has ends c b.pending) = λ u. subst (In z) (sym p) (elim (cases_Bool (takes sim has ends m k c)) [
+              let was : In z (taken sim has ends c y.0.pending) → In z (taken sim has ends c b.pending) =
+              λ u. subst (In z) (sym p) (elim (cases_Bool (takes sim has ends m k c)) [
                 | inl e ↦ subst (λ b. In z (given b c)) (sym e) (insert_old o m (q c) z u)
                 | inr e ↦ subst (λ b. In z (given b c)) (sym e) u
               ]) in
@@ -130,11 +143,14 @@ module _ {S M N K : Type 0} (sim : Simulation S M N) (has : K → ℕ → Bool) 
                 | inl u ↦ was (x.6 c z g (inl u))
                 | inr u ↦ elim (in_part_push (takes sim has ends) c msgs (m, k) z u) [
                   | inl v ↦ was (x.6 c z g (inr v))
-                  | inr v ↦ subst (In z) (sym p) (subst (λ b. In z (given b c)) (sym v.0) (subst (λ t. In t (insert sim.order m (q c))) (sym v.1) (insert_new o m (q c))))
+                  | inr v ↦ subst (In z) (sym p)
+                      (subst (λ b. In z (given b c)) (sym v.0)
+                      (subst (λ t. In t (insert sim.order m (q c))) (sym v.1) (insert_new o m (q c))))
                 ]
               ],
         );
-    each = λ a i. let b = h.each a i in let d = zip_each (IsGiven sim has ends m k) done next b.0 zip b.1 in (d.0, d.1, d.2.set ∙ b.2);
+    each = λ a i. let b = h.each a i in let d = zip_each (IsGiven sim has ends m k) done next b.0 zip b.1 in
+        (d.0, d.1, d.2.set ∙ b.2);
     disjoint = disjoint_given m k done next zip h.disjoint;
     sorted = λ a i. (zip_from (IsGiven sim has ends m k) done next a zip i).2.sorted;
   }
@@ -142,8 +158,10 @@ module _ {S M N K : Type 0} (sim : Simulation S M N) (has : K → ℕ → Bool) 
 -- where the messages are, for each clone, those that the stations sent to s, all is delivered
 pub delivered : {S M N K : Type 0} (sim : Simulation S M N) (has : K → ℕ → Bool) (cs : List Clone) (s : ℕ)
     (sent : ℕ → List (M × K)) (msgs : List (M × K)) (new done : List (Copy S M N K)) →
-    ((c : ℕ) (z : M) → In z (taken sim has (ends_of sim cs) c msgs) → (r : ℕ) × In z (taken sim has (ends_of sim cs) c (sent r)) × (sim.to z ≡ s)) →
-    ((c r : ℕ) (z : M) → In z (taken sim has (ends_of sim cs) c (sent r)) → sim.to z ≡ s → In z (taken sim has (ends_of sim cs) c msgs)) →
+    ((c : ℕ) (z : M) → In z (taken sim has (ends_of sim cs) c msgs)
+    → (r : ℕ) × In z (taken sim has (ends_of sim cs) c (sent r)) × (sim.to z ≡ s)) →
+    ((c r : ℕ) (z : M) → In z (taken sim has (ends_of sim cs) c (sent r)) → sim.to z ≡ s
+    → In z (taken sim has (ends_of sim cs) c msgs)) →
     SoFarGiven sim has (ends_of sim cs) msgs new done → IsDelivered sim has cs s sent new done
 delivered sim has cs s sent msgs new done f g h = record {
   from = λ b i. let x = h.from b i in (

@@ -1,5 +1,6 @@
 -- The least due time: of a clone by its stations, after a decision, an end and a fork; of all clones by the copies.
-use Rattle.std.proofs.Common.{◌≡◌, ◌⊎◌, ℕ, zero, suc, ◌<◌, ◌≤◌, List, [], ◌∷◌, ◌++◌, Option, Some, None, Bool, true, false, cond, inl, inr, refl, sym, ap, ◌∙◌, arith, subst, length, nat_lt}
+use Rattle.std.proofs.Common.{◌≡◌, ◌⊎◌, ℕ, zero, suc, ◌<◌, ◌≤◌, List, [], ◌∷◌, ◌++◌, Option, Some, None}
+use Rattle.std.proofs.Common.{Bool, true, false, cond, inl, inr, refl, sym, ap, ◌∙◌, arith, subst, length, nat_lt}
 use Rattle.std.proofs.lemmas.Bool.{cases_eq}
 use Rattle.sim_base.specs.Clones.{Clone, clone_at, forked}
 use Rattle.sim_base.specs.declared.decision.Planned.{Planned}
@@ -35,7 +36,10 @@ module _ {S M N : Type 0} (sim : Simulation S M N) where
 
   is_due : (c : Clone) (front n : ℕ) (m : M) → DueTo c front n m → In m (all_due sim c front)
   is_due c front zero m h = absurd h
-  is_due c front (suc n) m h = elim h [ inl k ↦ is_due c front n m k | inr i ↦ (in_own sim.to (suc n) (all_due sim c front) m i).0 ]
+  is_due c front (suc n) m h = elim h [
+    | inl k ↦ is_due c front n m k
+    | inr i ↦ (in_own sim.to (suc n) (all_due sim c front) m i).0
+  ]
 
   due_there : (c : Clone) (front n s : ℕ) (m : M) → 0 < s → s ≤ n → In m (due_at sim c s front) → DueTo c front n m
   due_there c front zero s m l h i = absurd (omega (arith, l, h))
@@ -53,7 +57,8 @@ module _ {S M N : Type 0} {sim : Simulation S M N} {Good : ℕ → S → Type 0}
   -- with a decision at the front or later
   pub least_of-with_plan : (c : Clone) (p : Planned) (front t : ℕ) → sim.time (sim.decided (length c.plans) p) ≡ t →
       front ≤ t →
-      least_of sim (with_plan c p) front ≡ cond (nat_lt t (end_of sim c)) (earlier (Some t) (least_of sim c front)) (least_of sim c front)
+      least_of sim (with_plan c p) front ≡ cond (nat_lt t (end_of sim c)) (earlier (Some t) (least_of sim c front))
+      (least_of sim c front)
   least_of-with_plan c p front t e l =
       let m : M = sim.decided (length c.plans) p in
       let later : front ≤ sim.time m = subst (λ u. front ≤ u) (sym e) l in
@@ -62,7 +67,8 @@ module _ {S M N : Type 0} {sim : Simulation S M N} {Good : ℕ → S → Type 0}
       ∙ ap (λ u. cond (nat_lt u (end_of sim c)) (earlier (Some u) (least_of sim c front)) (least_of sim c front)) e
     where
       by : (m : M) (q : List M) (b : Bool) →
-          least_time sim.time (cond b (insert sim.order m q) q) ≡ cond b (earlier (Some (sim.time m)) (least_time sim.time q)) (least_time sim.time q)
+          least_time sim.time (cond b (insert sim.order m q) q)
+          ≡ cond b (earlier (Some (sim.time m)) (least_time sim.time q)) (least_time sim.time q)
       by m q true = least-insert law.order m q
       by m q false = refl
 
@@ -79,7 +85,9 @@ module _ {S M N : Type 0} {sim : Simulation S M N} {Good : ℕ → S → Type 0}
       least_of sim c front ≡ least_to sim c front sim.stations
   least_of-stations c front there = least-unique sim.time (λ m. In m (all_due sim c front))
       (DueTo sim c front sim.stations) (least_of sim c front) (least_to sim c front sim.stations)
-      (λ m i. let h = due_is_for_stations law stations c front m there i in due_there sim c front sim.stations (sim.to m) m h.0 h.1 (own_from sim.to (sim.to m) (all_due sim c front) m i refl))
+      (λ m i. let h = due_is_for_stations law stations c front m there i in
+      due_there sim c front sim.stations (sim.to m) m h.0 h.1
+      (own_from sim.to (sim.to m) (all_due sim c front) m i refl))
       (is_due sim c front sim.stations)
       (least_time-is sim.time (all_due sim c front)) (least_to-is sim c front sim.stations)
 
@@ -93,7 +101,8 @@ module _ {S M N : Type 0} (sim : Simulation S M N) (front : ℕ) where
   pub least-is : (cs : List Clone) → IsLeastTime sim.time (DueIn cs) (least sim cs front)
   least-is [] = λ m h. h.1
   least-is (c ∷ cs) = least-of_same (least sim (c ∷ cs) front)
-      (least-either sim.time (λ m. In m (all_due sim c front)) (DueIn cs) (least_of sim c front) (least sim cs front) (least_time-is sim.time (all_due sim c front)) (least-is cs))
+      (least-either sim.time (λ m. In m (all_due sim c front)) (DueIn cs) (least_of sim c front) (least sim cs front)
+      (least_time-is sim.time (all_due sim c front)) (least-is cs))
     where
       to : (m : M) → In m (all_due sim c front) ⊎ DueIn cs m → DueIn (c ∷ cs) m
       to m (inl i) = (c, inl refl, i)
@@ -116,7 +125,11 @@ module _ {S M N : Type 0} (sim : Simulation S M N) (front : ℕ) where
       (λ m h. elim (in_append cs (k ∷ []) h.0 h.1) [
         | inl i ↦ (h.0, i, h.2)
         | inr i ↦ elim i [
-          | inl e ↦ (clone_at cs old, clone_in cs old there, subst (In m) (ap (λ u. all_due sim u front) e ∙ all_due-fork sim (clone_at cs old) name no_end front) h.2)
+          | inl e ↦ (
+            clone_at cs old,
+            clone_in cs old there,
+            subst (In m) (ap (λ u. all_due sim u front) e ∙ all_due-fork sim (clone_at cs old) name no_end front) h.2,
+          )
           | inr n ↦ absurd n
         ]
       ])
@@ -137,15 +150,20 @@ module _ {S M N K : Type 0} {sim : Simulation S M N} {Good : ℕ → S → Type 
   due_if_taken m x =
       let st = stand x.station x.is_station in
       let l = st.living x.copy x.clone x.is_copy x.is_in in
-      let d : In m (due_at sim (clone_at cs x.clone) x.station front) = subst (In m) (st.due x.copy x.clone x.is_copy x.is_in) x.is_taken in
-      (clone_at cs x.clone, clone_in cs x.clone l, (in_own sim.to x.station (all_due sim (clone_at cs x.clone) front) m d).0)
+      let d : In m (due_at sim (clone_at cs x.clone) x.station front) =
+      subst (In m) (st.due x.copy x.clone x.is_copy x.is_in) x.is_taken in (
+        clone_at cs x.clone,
+        clone_in cs x.clone l,
+        (in_own sim.to x.station (all_due sim (clone_at cs x.clone) front) m d).0,
+      )
 
   taken_if_due : (m : M) → DueIn sim front cs m → IsTaken K sim has cs copies m
   taken_if_due m h =
       let p = place_in cs h.0 h.1 in
       let c : ℕ = p.0 in
       let i : In m (all_due sim (clone_at cs c) front) = subst (λ k. In m (all_due sim k front)) (sym p.2) h.2 in
-      let here : IsStation sim (sim.to m) = due_is_for_stations law to_stations (clone_at cs c) front m (there c p.1) i in
+      let here : IsStation sim (sim.to m) = due_is_for_stations law to_stations (clone_at cs c) front m
+      (there c p.1) i in
       let st = stand (sim.to m) here in
       let a = st.carried c p.1 in
       record {
@@ -155,7 +173,8 @@ module _ {S M N K : Type 0} {sim : Simulation S M N} {Good : ℕ → S → Type 
         is_copy = a.1;
         clone = c;
         is_in = a.2;
-        is_taken = subst (In m) (sym (st.due a.0 c a.1 a.2)) (own_from sim.to (sim.to m) (all_due sim (clone_at cs c) front) m i refl);
+        is_taken = subst (In m) (sym (st.due a.0 c a.1 a.2))
+            (own_from sim.to (sim.to m) (all_due sim (clone_at cs c) front) m i refl);
       }
 
   pub least-copies : (t : Option ℕ) → IsLeastTime sim.time (IsTaken K sim has cs copies) t → least sim cs front ≡ t

@@ -1,5 +1,6 @@
 -- What comes of a copy up to a bound: nothing where it is settled, a handling for all its clones, or two halves.
-use Rattle.std.proofs.Common.{◌≡◌, ℕ, ◌+◌, ◌≤◌, ◌<◌, List, [], ◌∷◌, ◌++◌, ◌⊎◌, inl, inr, Bool, true, false, refl, sym, ap, ◌∙◌, subst, arith, nat_lt, length, take}
+use Rattle.std.proofs.Common.{◌≡◌, ℕ, ◌+◌, ◌≤◌, ◌<◌, List, [], ◌∷◌, ◌++◌, ◌⊎◌, inl, inr}
+use Rattle.std.proofs.Common.{Bool, true, false, refl, sym, ap, ◌∙◌, subst, arith, nat_lt, length, take}
 use Rattle.std.specs.List.{AllByRecursion}
 use Rattle.std.specs.declared.cmp.Ordering.TheVariants.{Less}
 use Rattle.std.proofs.lemmas.Bool.{cases_Bool, false≢true}
@@ -12,7 +13,8 @@ use Rattle.run_laws.specs.Window.{Part, earlier_than, part_step}
 use Rattle.run_laws.specs.Handlers.{IsLawful, HandlesLawfully}
 use Rattle.run_laws.specs.Prefixes.{IsCount, IsGained}
 use Rattle.sim_base.specs.Marked.{JoinsMarks, SortedMarked}
-use Rattle.run_laws.specs.Copies.{Copy, Carries, Disjoint, handle_until, handled_by, laid_aside, takes, taken, view, Narrowed, Turns, Settled, IsCutLog, Ends}
+use Rattle.run_laws.specs.Copies.{Copy, Carries, Disjoint, handle_until, handled_by, laid_aside, takes}
+use Rattle.run_laws.specs.Copies.{taken, view, Narrowed, Turns, Settled, IsCutLog, Ends}
 use Rattle.run_laws.proofs.Bools.{or_cases, or_first, or_second}
 use Rattle.run_laws.proofs.Queue.{all_in, all_from, not_below_itself}
 use Rattle.run_laws.proofs.Lists.{in_filter, in_own, in_append, append_old, append_new}
@@ -49,7 +51,8 @@ module _ {S M N : Type 0} {sim : Simulation S M N} {Good : ℕ → S → Type 0}
     later = λ p m g. all_from (λ x. sim.time m < sim.time x)
         (to_it sim.to s (earlier_than sim.time end (sim.handle s p.state m).sends)) (λ z i.
         all_in (λ x. sim.time m < sim.time x) (sim.handle s p.state m).sends z (law.later s p.state m g)
-        (in_filter (λ m. nat_lt (sim.time m) end) (sim.handle s p.state m).sends z (in_own sim.to s (earlier_than sim.time end (sim.handle s p.state m).sends) z i).0).0);
+        (in_filter (λ m. nat_lt (sim.time m) end) (sim.handle s p.state m).sends z
+        (in_own sim.to s (earlier_than sim.time end (sim.handle s p.state m).sends) z i).0).0);
   }
 
 module _ {S M N K : Type 0} {sim : Simulation S M N} {Good : ℕ → S → Type 0} (law : HandlesLawfully sim Good)
@@ -75,8 +78,15 @@ module _ {S M N K : Type 0} {sim : Simulation S M N} {Good : ℕ → S → Type 
       SortedMarked sim.order r.pending → (d : Config (Part S M N) M) × Goes c (seen c r sent) d × IsSettled d
   comes_to_end r sent c g sorted =
       let h = run_reach law.order (until_lawful law (ends c) s) bound bound (seen c r sent) (omega arith)
-      (record { good = g; sorted = sorted_part (takes sim has ends) sim.order c r.pending sorted; from_t = all_from_zero sim.time (taken sim has ends c r.pending) }) in
-      (run_to sim.order (part_step sim.to (handle_until sim (ends c)) s) sim.time (seen c r sent) bound, h.0, h.1.from_t)
+      (record {
+        good = g;
+        sorted = sorted_part (takes sim has ends) sim.order c r.pending sorted;
+        from_t = all_from_zero sim.time (taken sim has ends c r.pending);
+      }) in (
+        run_to sim.order (part_step sim.to (handle_until sim (ends c)) s) sim.time (seen c r sent) bound,
+        h.0,
+        h.1.from_t,
+      )
 
   -- with all that is pending at the bound or later every clone is settled
   pub settled_if_late : (r : Copy S M N K) (sent : List (M × K)) (c : ℕ) →
@@ -91,7 +101,11 @@ module _ {S M N K : Type 0} {sim : Simulation S M N} {Good : ℕ → S → Type 
     inhabited = λ b i. elim i [ inl e ↦ (any.0, subst (λ x. Carries has x any.0) (sym e) any.1) | inr n ↦ absurd n ];
     gained = cut_done sim has ends s bound r sent short f;
     within = λ b c i h. elim i [ inl e ↦ subst (λ x. Carries has x c) e h | inr n ↦ absurd n ];
-    ran = λ b c i h. elim i [ inl e ↦ subst (λ x. Goes c (seen c r sent) (seen c x sent) × IsSettled (seen c x sent)) (sym e) (stay, f c (subst (λ x. Carries has x c) e h)) | inr n ↦ absurd n ];
+    ran = λ b c i h. elim i [
+      | inl e ↦ subst (λ x. Goes c (seen c r sent) (seen c x sent) × IsSettled (seen c x sent))
+          (sym e) (stay, f c (subst (λ x. Carries has x c) e h))
+      | inr n ↦ absurd n
+    ];
     short = λ b i. elim i [ inl e ↦ subst (λ x. length x.log ≤ sim.limit) (sym e) short | inr n ↦ absurd n ];
     some = λ c h. inl (r, inl refl, h);
     too_long = λ c h. inl h;
@@ -114,7 +128,11 @@ module _ {S M N K : Type 0} {sim : Simulation S M N} {Good : ℕ → S → Type 
     some = λ c h. inr (j.joined over r.set c ∙ or_second (has over c) (has r.set c) h);
     too_long = λ c h. elim (or_cases (has over c) (has r.set c) (sym (j.joined over r.set c) ∙ h)) [
       | inl e ↦ inl e
-      | inr e ↦ inr (e, goes_over sim has ends s bound r sent c m (taken sim has ends c q) full (ap (taken sim has ends c) p ∙ part_yes (takes sim has ends) c (m, k) q (all c e)) early)
+      | inr e ↦ inr (
+        e,
+        goes_over sim has ends s bound r sent c m (taken sim has ends c q) full
+            (ap (taken sim has ends c) p ∙ part_yes (takes sim has ends) c (m, k) q (all c e)) early,
+      )
     ];
     still_over = λ c h. j.joined over r.set c ∙ or_first (has over c) (has r.set c) h;
     parted = λ a b c d i. absurd i;
@@ -127,20 +145,34 @@ module _ {S M N K : Type 0} {sim : Simulation S M N} {Good : ℕ → S → Type 
       (after : List (M × K)) (over over_after : K) (n : ℕ) → (c : ℕ) × Carries has r c →
       Good s r.state → length r.log < sim.limit → r.pending ≡ (m, k) ∷ q → SortedMarked sim.order r.pending →
       ((c : ℕ) → Carries has r c → takes sim has ends m k c ≡ true) → sim.time m < bound →
-      Ends sim has ends s bound (handled_by sim join s r m q) results (sent ++ laid_aside sim s r m) after over over_after n →
+      Ends sim has ends s bound (handled_by sim join s r m q) results (sent ++ laid_aside sim s r m) after over
+      over_after n →
       Ends sim has ends s bound r results sent after over over_after (n + 1)
   ends_handle r m k q sent results after over over_after n any good room p sorted all early h =
       let new : Copy S M N K = handled_by sim join s r m q in
       let out : List (M × K) = sent ++ laid_aside sim s r m in
-      let next : (c : ℕ) → Carries has r c → Next sim.order sim.time (part_step sim.to (handle_until sim (ends c)) s) bound (seen c r sent) (seen c new out) = λ c i. handled_view sim j ends law.order s bound c r m k q sent p sorted i (all c i) early in
+      let next : (c : ℕ) → Carries has r c
+      → Next sim.order sim.time (part_step sim.to (handle_until sim (ends c)) s) bound (seen c r sent)
+      (seen c new out) = λ c i. handled_view sim j ends law.order s bound c r m k q sent p sorted i
+      (all c i) early in
       let first = comes_to_end r sent any.0 good sorted in
       record {
         inhabited = h.inhabited;
-        gained = cut_handle sim j ends law.order s bound r m k q sent n
-            (take sim.limit first.0.at.log, record { clone = any.0; is_in = any.1; last = first.0; ran = first.1; settled = first.2; is = refl })
+        gained = cut_handle sim j ends law.order s bound r m k q sent n (
+          take sim.limit first.0.at.log,
+          record {
+            clone = any.0;
+            is_in = any.1;
+            last = first.0;
+            ran = first.1;
+            settled = first.2;
+            is = refl;
+          },
+        )
             room p sorted all early h.gained;
         within = h.within;
-        ran = λ b c i g. let x = h.ran b c i g in let y = h.within b c i g in (reach_trans (go stay (next c y)) x.0, x.1);
+        ran = λ b c i g. let x = h.ran b c i g in let y = h.within b c i g in
+            (reach_trans (go stay (next c y)) x.0, x.1);
         short = h.short;
         some = h.some;
         too_long = λ c g. elim (h.too_long c g) [
@@ -167,7 +199,10 @@ module _ {S M N K : Type 0} {sim : Simulation S M N} {Good : ℕ → S → Type 
   -- with other messages laid aside that it doesn't see, a clone sees the same
   pub moved_view : (c : ℕ) (b : Copy S M N K) (x y : List (M × K)) → taken sim has ends c x ≡ taken sim has ends c y →
       seen c b x ≡ seen c b y
-  moved_view c b x y e = ap (λ l. record { at = record { state = b.state; log = b.log; aside = l }; pending = taken sim has ends c b.pending }) e
+  moved_view c b x y e = ap (λ l. record {
+    at = record { state = b.state; log = b.log; aside = l };
+    pending = taken sim has ends c b.pending;
+  }) e
 
   -- the cut logs of some clones are cut logs of the copy
   pub cut_of_some : (r some : Copy S M N K) (sent mid : List (M × K)) → Narrowed sim has ends r some →
@@ -177,7 +212,8 @@ module _ {S M N K : Type 0} {sim : Simulation S M N} {Good : ℕ → S → Type 
     clone = g.clone;
     is_in = n.within g.clone g.is_in;
     last = g.last;
-    ran = subst (λ u. Goes g.clone u g.last) (moved_view g.clone some mid sent (same g.clone g.is_in) ∙ narrowed_view r some sent g.clone n g.is_in) g.ran;
+    ran = subst (λ u. Goes g.clone u g.last) (moved_view g.clone some mid sent (same g.clone g.is_in)
+        ∙ narrowed_view r some sent g.clone n g.is_in) g.ran;
     settled = g.settled;
     is = g.is;
   }
@@ -190,14 +226,16 @@ module _ {S M N K : Type 0} {sim : Simulation S M N} {Good : ℕ → S → Type 
     clone = g.clone;
     is_in = is_in;
     last = g.last;
-    ran = subst (λ u. Goes g.clone u g.last) (sym (moved_view g.clone some mid sent (same g.clone is_in) ∙ narrowed_view r some sent g.clone n is_in)) g.ran;
+    ran = subst (λ u. Goes g.clone u g.last)
+        (sym (moved_view g.clone some mid sent (same g.clone is_in) ∙ narrowed_view r some sent g.clone n is_in)) g.ran;
     settled = g.settled;
     is = g.is;
   }
 
   -- of a message that none of its clones takes, a copy may be rid
   pub skipped : (r : Copy S M N K) (m : M) (k : K) (q : List (M × K)) → r.pending ≡ (m, k) ∷ q →
-      ((c : ℕ) → Carries has r c → takes sim has ends m k c ≡ false) → Narrowed sim has ends r (record r { pending = q })
+      ((c : ℕ) → Carries has r c → takes sim has ends m k c ≡ false)
+      → Narrowed sim has ends r (record r { pending = q })
   skipped r m k q p none = record {
     state = refl;
     log = refl;
@@ -211,7 +249,8 @@ module _ {S M N K : Type 0} {sim : Simulation S M N} {Good : ℕ → S → Type 
       Ends sim has ends s bound some results before after over over_after n →
       Ends sim has ends s bound r results before after over over_after n
   ends_same r some results before after over over_after n nar all h =
-      let v : (c : ℕ) → Carries has some c → seen c some before ≡ seen c r before = λ c i. narrowed_view r some before c nar i in
+      let v : (c : ℕ) → Carries has some c → seen c some before ≡ seen c r before =
+      λ c i. narrowed_view r some before c nar i in
       record {
         inhabited = h.inhabited;
         gained = gained_same (Cut some before) (Cut r before) r.log n
@@ -219,10 +258,14 @@ module _ {S M N K : Type 0} {sim : Simulation S M N} {Good : ℕ → S → Type 
             (λ l g. cut_in_some r some before before nar (λ c i. refl) l g (all g.clone g.is_in))
             (subst (λ t. IsCount (IsGained (Cut some before) t) n) nar.log h.gained);
         within = λ b c i g. nar.within c (h.within b c i g);
-        ran = λ b c i g. let x = h.ran b c i g in (subst (λ u. Goes c u (seen c b after)) (v c (h.within b c i g)) x.0, x.1);
+        ran = λ b c i g. let x = h.ran b c i g in
+            (subst (λ u. Goes c u (seen c b after)) (v c (h.within b c i g)) x.0, x.1);
         short = h.short;
         some = λ c g. h.some c (all c g);
-        too_long = λ c g. elim (h.too_long c g) [ inl e ↦ inl e | inr e ↦ inr (nar.within c e.0, λ d t. e.1 d (subst (λ u. Goes c u d) (sym (v c e.0)) t)) ];
+        too_long = λ c g. elim (h.too_long c g) [
+          | inl e ↦ inl e
+          | inr e ↦ inr (nar.within c e.0, λ d t. e.1 d (subst (λ u. Goes c u d) (sym (v c e.0)) t))
+        ];
         still_over = h.still_over;
         parted = h.parted;
         disjoint = h.disjoint;
@@ -241,45 +284,74 @@ module _ {S M N K : Type 0} {sim : Simulation S M N} {Good : ℕ → S → Type 
       Ends sim has ends s bound r2 e2 mid after over1 over2 x2 →
       Ends sim has ends s bound r (e1 ++ e2) before after over over2 (x1 + x2)
   unfolding cut_of_some
-  ends_split r r1 r2 m k q before mid after e1 e2 over over1 over2 x1 x2 room p sorted early n1 n2 in_k out_k cover f g =
+  ends_split r r1 r2 m k q before mid after e1 e2 over over1 over2 x1 x2 room p sorted early n1 n2 in_k out_k cover f
+      g =
       let o = law.order in
-      let apart : (c : ℕ) → Carries has r1 c → Carries has r2 c → ⊥ = λ c i l. false≢true (sym (out_k c l) ∙ in_k c i) in
-      let out1 : (c : ℕ) → Carries has r2 c → taken sim has ends c mid ≡ taken sim has ends c before = λ c l. f.others c (not_has has r1.set c (λ i. apart c i l)) in
-      let out2 : (c : ℕ) → Carries has r1 c → taken sim has ends c after ≡ taken sim has ends c mid = λ c i. g.others c (not_has has r2.set c (λ l. apart c i l)) in
-      let see1 : (c : ℕ) → Carries has r1 c → seen c r1 before ≡ seen c r before = λ c i. narrowed_view r r1 before c n1 i in
-      let see2 : (c : ℕ) → Carries has r2 c → seen c r2 mid ≡ seen c r before = λ c i. moved_view c r2 mid before (out1 c i) ∙ narrowed_view r r2 before c n2 i in
-      let ran1 : (b : Copy S M N K) (c : ℕ) → In b e1 → Carries has b c → Goes c (seen c r before) (seen c b after) × IsSettled (seen c b after) = λ b c i h.
+      let apart : (c : ℕ) → Carries has r1 c → Carries has r2 c → ⊥ =
+      λ c i l. false≢true (sym (out_k c l) ∙ in_k c i) in
+      let out1 : (c : ℕ) → Carries has r2 c → taken sim has ends c mid ≡ taken sim has ends c before =
+      λ c l. f.others c (not_has has r1.set c (λ i. apart c i l)) in
+      let out2 : (c : ℕ) → Carries has r1 c → taken sim has ends c after ≡ taken sim has ends c mid =
+      λ c i. g.others c (not_has has r2.set c (λ l. apart c i l)) in
+      let see1 : (c : ℕ) → Carries has r1 c → seen c r1 before ≡ seen c r before =
+      λ c i. narrowed_view r r1 before c n1 i in
+      let see2 : (c : ℕ) → Carries has r2 c → seen c r2 mid ≡ seen c r before =
+      λ c i. moved_view c r2 mid before (out1 c i) ∙ narrowed_view r r2 before c n2 i in
+      let ran1 : (b : Copy S M N K) (c : ℕ) → In b e1 → Carries has b c → Goes c (seen c r before) (seen c b after)
+      × IsSettled (seen c b after) = λ b c i h.
       let w = f.within b c i h in let x = f.ran b c i h in
-      let v : seen c b mid ≡ seen c b after = moved_view c b mid after (sym (out2 c w)) in
-      (subst (λ u. Goes c u (seen c b after)) (see1 c w) (subst (λ u. Goes c (seen c r1 before) u) v x.0), subst IsSettled v x.1) in
-      let ran2 : (b : Copy S M N K) (c : ℕ) → In b e2 → Carries has b c → Goes c (seen c r before) (seen c b after) × IsSettled (seen c b after) = λ b c i h.
+      let v : seen c b mid ≡ seen c b after = moved_view c b mid after (sym (out2 c w)) in (
+        subst (λ u. Goes c u (seen c b after)) (see1 c w) (subst (λ u. Goes c (seen c r1 before) u) v x.0),
+        subst IsSettled v x.1,
+      ) in
+      let ran2 : (b : Copy S M N K) (c : ℕ) → In b e2 → Carries has b c → Goes c (seen c r before) (seen c b after)
+      × IsSettled (seen c b after) = λ b c i h.
       let w = g.within b c i h in let x = g.ran b c i h in
       (subst (λ u. Goes c u (seen c b after)) (see2 c w) x.0, x.1) in
       let sm : SortedMarked sim.order ((m, k) ∷ q) = subst (SortedMarked sim.order) p sorted in
-      let has_m : (c : ℕ) → Carries has r1 c → taken sim has ends c r.pending ≡ m ∷ taken sim has ends c q = λ c i. ap (taken sim has ends c) p ∙ part_yes (takes sim has ends) c (m, k) q (in_k c i) in
-      let has_no_m : (d : ℕ) → Carries has r2 d → (z : M) → In z (taken sim has ends d r.pending) → z ≡ m → ⊥ = λ d i z u v.
-      not_below_itself o.order m (subst (λ t. sim.order m t ≡ Less) v (all_in (λ t. sim.order m t ≡ Less) (taken sim has ends d q) z (above_part (takes sim has ends) sim.order d m q sm.0)
+      let has_m : (c : ℕ) → Carries has r1 c → taken sim has ends c r.pending ≡ m ∷ taken sim has ends c q =
+      λ c i. ap (taken sim has ends c) p ∙ part_yes (takes sim has ends) c (m, k) q (in_k c i) in
+      let has_no_m : (d : ℕ) → Carries has r2 d → (z : M) → In z (taken sim has ends d r.pending) → z ≡ m → ⊥ =
+      λ d i z u v.
+      not_below_itself o.order m (subst (λ t. sim.order m t ≡ Less) v
+      (all_in (λ t. sim.order m t ≡ Less) (taken sim has ends d q) z
+      (above_part (takes sim has ends) sim.order d m q sm.0)
       (subst (In z) (ap (taken sim has ends d) p ∙ part_no (takes sim has ends) d (m, k) q (out_k d i)) u))) in
-      let cross : (a b : Copy S M N K) (c d : ℕ) → In a e1 → In b e2 → Carries has a c → Carries has b d → a.log ≡ b.log → ⊥ = λ a b c d i l h t e.
+      let cross : (a b : Copy S M N K) (c d : ℕ) → In a e1 → In b e2 → Carries has a c → Carries has b d
+      → a.log ≡ b.log → ⊥ = λ a b c d i l h t e.
       let x = ran1 a c i h in let y = ran2 b d l t in
-      logs_part sim s bound (ends c) (ends d) (seen c r before) (seen d r before) (seen c a after) (seen d b after) m (taken sim has ends c q) refl
+      logs_part sim s bound (ends c) (ends d) (seen c r before) (seen d r before) (seen c a after) (seen d b after) m
+      (taken sim has ends c q) refl
       (has_m c (f.within a c i h)) early (has_no_m d (g.within b d l t))
       (settled_or_next sim s bound o (seen d r before) (sorted_part (takes sim has ends) sim.order d r.pending sorted))
       x.0 x.1 y.0 y.1 e in
       record {
         inhabited = λ b i. elim (in_append e1 e2 b i) [ inl l ↦ f.inhabited b l | inr l ↦ g.inhabited b l ];
         gained = cut_split sim has ends s bound o r before (Cut r1 before) (Cut r2 mid) x1 x2 m room early
-            (λ l h. (cut_of_some r r1 before before n1 (λ c i. refl) l h, taken sim has ends h.clone q, has_m h.clone h.is_in))
+            (λ l h. (
+              cut_of_some r r1 before before n1 (λ c i. refl) l h,
+              taken sim has ends h.clone q,
+              has_m h.clone h.is_in,
+            ))
             (λ l h. (cut_of_some r r2 before mid n2 out1 l h, has_no_m h.clone h.is_in))
-            (λ l h. elim (cover h.clone h.is_in) [ inl i ↦ inl (cut_in_some r r1 before before n1 (λ c i. refl) l h i) | inr i ↦ inr (cut_in_some r r2 before mid n2 out1 l h i) ])
+            (λ l h. elim (cover h.clone h.is_in) [
+              | inl i ↦ inl (cut_in_some r r1 before before n1 (λ c i. refl) l h i)
+              | inr i ↦ inr (cut_in_some r r2 before mid n2 out1 l h i)
+            ])
             sorted
             (subst (λ t. IsCount (IsGained (Cut r1 before) t) x1) n1.log f.gained)
             (subst (λ t. IsCount (IsGained (Cut r2 mid) t) x2) n2.log g.gained);
-        within = λ b c i h. elim (in_append e1 e2 b i) [ inl l ↦ n1.within c (f.within b c l h) | inr l ↦ n2.within c (g.within b c l h) ];
+        within = λ b c i h. elim (in_append e1 e2 b i) [
+          | inl l ↦ n1.within c (f.within b c l h)
+          | inr l ↦ n2.within c (g.within b c l h)
+        ];
         ran = λ b c i h. elim (in_append e1 e2 b i) [ inl l ↦ ran1 b c l h | inr l ↦ ran2 b c l h ];
         short = λ b i. elim (in_append e1 e2 b i) [ inl l ↦ f.short b l | inr l ↦ g.short b l ];
         some = λ c h. elim (cover c h) [
-          | inl i ↦ elim (f.some c i) [ inl x ↦ inl (x.0, append_old e1 e2 x.0 x.1, x.2) | inr x ↦ inr (g.still_over c x) ]
+          | inl i ↦ elim (f.some c i) [
+            | inl x ↦ inl (x.0, append_old e1 e2 x.0 x.1, x.2)
+            | inr x ↦ inr (g.still_over c x)
+          ]
           | inr i ↦ elim (g.some c i) [ inl x ↦ inl (x.0, append_new e1 e2 x.0 x.1, x.2) | inr x ↦ inr x ]
         ];
         too_long = λ c h. elim (g.too_long c h) [
@@ -291,10 +363,17 @@ module _ {S M N K : Type 0} {sim : Simulation S M N} {Good : ℕ → S → Type 
         ];
         still_over = λ c h. g.still_over c (f.still_over c h);
         parted = λ a b c d i l h t e. elim (in_append e1 e2 a i) [
-          | inl u ↦ elim (in_append e1 e2 b l) [ inl v ↦ f.parted a b c d u v h t e | inr v ↦ absurd (cross a b c d u v h t e) ]
-          | inr u ↦ elim (in_append e1 e2 b l) [ inl v ↦ absurd (cross b a d c v u t h (sym e)) | inr v ↦ g.parted a b c d u v h t e ]
+          | inl u ↦ elim (in_append e1 e2 b l) [
+            | inl v ↦ f.parted a b c d u v h t e
+            | inr v ↦ absurd (cross a b c d u v h t e)
+          ]
+          | inr u ↦ elim (in_append e1 e2 b l) [
+            | inl v ↦ absurd (cross b a d c v u t h (sym e))
+            | inr v ↦ g.parted a b c d u v h t e
+          ]
         ];
-        disjoint = disjoint_append has e1 e2 f.disjoint g.disjoint (λ a b c i l h t. apart c (f.within a c i h) (g.within b c l t));
+        disjoint = disjoint_append has e1 e2 f.disjoint g.disjoint
+            (λ a b c i l h t. apart c (f.within a c i h) (g.within b c l t));
         others = λ c h.
             let no1 = not_has has r1.set c (λ i. false≢true (sym h ∙ n1.within c i)) in
             let no2 = not_has has r2.set c (λ i. false≢true (sym h ∙ n2.within c i)) in

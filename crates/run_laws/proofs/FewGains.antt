@@ -1,6 +1,7 @@
 -- Counts are few: what copies gain is at most the limit for each of their clones, whether they stand for them or not,
 -- and so is what a report counts.
-use Rattle.std.proofs.Common.{◌≡◌, ℕ, ◌+◌, ◌*◌, ◌≤◌, List, [], ◌∷◌, inl, inr, refl, sym, ap, ◌∙◌, subst, arith, length, map, take, Bool}
+use Rattle.std.proofs.Common.{◌≡◌, ℕ, ◌+◌, ◌*◌, ◌≤◌, List, [], ◌∷◌, inl, inr}
+use Rattle.std.proofs.Common.{refl, sym, ap, ◌∙◌, subst, arith, length, map, take, Bool}
 use Rattle.std.specs.Prelude.{sum_by}
 use Rattle.std.specs.List.{flat_map}
 use Rattle.std.specs.Set.{distinct_count}
@@ -37,13 +38,18 @@ module _ {S M N K : Type 0} {sim : Simulation S M N} {Good : ℕ → S → Type 
       (sorted : SortedMarked sim.order r.pending) where
     -- the log that a clone of the copy comes to
     abbrev last_log : ℕ → List (Entry M N)
-    last_log c = (run_to sim.order (part_step sim.to (handle_until sim (ends c)) s) sim.time (view sim has ends c r sent) bound).at.log
+    last_log c = (run_to sim.order (part_step sim.to (handle_until sim (ends c)) s) sim.time
+        (view sim has ends c r sent) bound).at.log
 
     -- there is one for each clone
     cut_is : (l : List (Entry M N)) (g : IsCutLog sim has ends s bound r sent l) → l ≡ take sim.limit (last_log g.clone)
     cut_is l g = g.is ∙ ap (λ d. take sim.limit d.at.log)
         (run_is law.order (until_lawful law (ends g.clone) s) bound (view sim has ends g.clone r sent) g.last
-        (record { good = good; sorted = sorted_part (takes sim has ends) sim.order g.clone r.pending sorted; from_t = all_from_zero sim.time (taken sim has ends g.clone r.pending) })
+        (record {
+          good = good;
+          sorted = sorted_part (takes sim has ends) sim.order g.clone r.pending sorted;
+          from_t = all_from_zero sim.time (taken sim has ends g.clone r.pending);
+        })
         g.ran g.settled)
 
     -- one copy
@@ -52,12 +58,15 @@ module _ {S M N K : Type 0} {sim : Simulation S M N} {Good : ℕ → S → Type 
     few_gains n size clones h =
         let logs : List (List (Entry M N)) = map last_log clones.members in
         let cuts : List (List (Entry M N)) = map (take sim.limit) logs in
-        let l : length h.members ≤ length (flat_map prefixes cuts) = no_longer h.members (flat_map prefixes cuts) h.apart (λ p i.
+        let l : length h.members ≤ length (flat_map prefixes cuts) =
+        no_longer h.members (flat_map prefixes cuts) h.apart (λ p i.
         let g = h.exact p i in
         let b = begins_somehow r.log p g.first g.more g.longer in
         logs_have_prefix cuts p (record {
           log = g.log;
-          is_log = subst (λ u. In u cuts) (sym (cut_is g.log g.is_log)) (map_has (take sim.limit) logs (last_log g.is_log.clone) (map_has last_log clones.members g.is_log.clone (clones.all g.is_log.clone g.is_log.is_in)));
+          is_log = subst (λ u. In u cuts) (sym (cut_is g.log g.is_log))
+              (map_has (take sim.limit) logs (last_log g.is_log.clone)
+              (map_has last_log clones.members g.is_log.clone (clones.all g.is_log.clone g.is_log.is_in)));
           first = b.0;
           more = b.1;
           rest = g.rest;
@@ -65,13 +74,15 @@ module _ {S M N K : Type 0} {sim : Simulation S M N} {Good : ℕ → S → Type 
           prefix = g.prefix;
         })) in
         let f : length (flat_map prefixes cuts) ≤ length logs * sim.limit = few_prefixes sim.limit logs in
-        let e : length logs * sim.limit ≡ size * sim.limit = ap (λ k. k * sim.limit) (length-map clones.members last_log ∙ clones.number) in
+        let e : length logs * sim.limit ≡ size * sim.limit =
+        ap (λ k. k * sim.limit) (length-map clones.members last_log ∙ clones.number) in
         let k = h.number in
         omega (arith, l, f, e, k)
 
   -- several together
   pub few_gains_together : (size : K → ℕ) (old : List (Copy S M N K)) (n : ℕ) →
-      ((a : Copy S M N K) → In a old → Good s a.state × SortedMarked sim.order a.pending × IsCount (λ c. Carries has a c) (size a.set)) →
+      ((a : Copy S M N K) → In a old → Good s a.state × SortedMarked sim.order a.pending
+      × IsCount (λ c. Carries has a c) (size a.set)) →
       GainTogether sim has ends s bound old n → n ≤ sum_by (λ a. size a.set) old * sim.limit
   few_gains_together size [] n f e = omega (arith, e)
   few_gains_together size (a ∷ old) n f h =
@@ -79,7 +90,9 @@ module _ {S M N K : Type 0} {sim : Simulation S M N} {Good : ℕ → S → Type 
       let one = few_gains a [] x.0 x.1 h.0 (size a.set) x.2 h.2 in
       let rest = few_gains_together size old h.1 (λ b i. f b (inr i)) h.3 in
       let e = h.4 in
-      let c : sum_by (λ (b : Copy S M N K). size b.set) (a ∷ old) * sim.limit ≡ (size a.set + sum_by (λ (b : Copy S M N K). size b.set) old) * sim.limit = ap (λ k. k * sim.limit) (sum_by-cons (λ (b : Copy S M N K). size b.set) a old) in
+      let c : sum_by (λ (b : Copy S M N K). size b.set) (a ∷ old) * sim.limit
+      ≡ (size a.set + sum_by (λ (b : Copy S M N K). size b.set) old) * sim.limit =
+      ap (λ k. k * sim.limit) (sum_by-cons (λ (b : Copy S M N K). size b.set) a old) in
       let d = add-mul (size a.set) (sum_by (λ (b : Copy S M N K). size b.set) old) sim.limit in
       omega (arith, one, rest, e, c, d)
 
@@ -109,10 +122,13 @@ module _ {S M N : Type 0} (sim : Simulation S M N) where
       let k = in_map (λ c. log_at sim c s front) cs l i in
       let c = place_in cs k.0 k.1 in
       subst (λ t. length t ≤ sim.limit) (ap (λ k. log_at sim k s front) c.2 ∙ sym k.2) (short c.0 c.1) in
-      let few : length (flat_map prefixes logs) ≤ length logs * sim.limit = subst (λ t. length (flat_map prefixes t) ≤ length logs * sim.limit) (none_cut sim.limit logs each) (few_prefixes sim.limit logs) in
+      let few : length (flat_map prefixes logs) ≤ length logs * sim.limit =
+      subst (λ t. length (flat_map prefixes t) ≤ length logs * sim.limit) (none_cut sim.limit logs each)
+      (few_prefixes sim.limit logs) in
       let sum : sum_by length logs ≤ length logs * sim.limit = short_sum sim.limit logs each in
       let different : distinct_count (same_list same) logs ≤ length logs = distinct_count-le (same_list same) logs in
-      let once : distinct_count (same_list same) (flat_map prefixes logs) ≤ length (flat_map prefixes logs) = distinct_count-le (same_list same) (flat_map prefixes logs) in
+      let once : distinct_count (same_list same) (flat_map prefixes logs) ≤ length (flat_map prefixes logs) =
+      distinct_count-le (same_list same) (flat_map prefixes logs) in
       record {
         copies_few = omega (arith, different, many);
         handled_few = omega (arith, once, few, limits);

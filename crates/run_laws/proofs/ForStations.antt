@@ -17,27 +17,35 @@ use Rattle.run_laws.proofs.Worlds.{in_openings, in_planned, world_lawful, begins
 module _ {S M N : Type 0} {sim : Simulation S M N} {Good : ℕ → S → Type 0} (law : HandlesLawfully sim Good)
     (stations : SendsToStations sim Good) where
   -- what a world begins with is for stations
-  pub begins_for_stations : (plans : List Planned) → AreForStations sim plans → (z : M) → In z (begin sim plans).pending →
+  pub begins_for_stations : (plans : List Planned) → AreForStations sim plans → (z : M)
+      → In z (begin sim plans).pending →
       IsStation sim (sim.to z)
-  begins_for_stations plans there z i = elim (in_insert_all law.order.order (openings sim sim.stations ++ planned sim 0 plans) [] z i) [
-    | inl j ↦ elim (in_append (openings sim sim.stations) (planned sim 0 plans) z j) [
-      | inl k ↦ let h = in_openings sim sim.stations z k in subst (IsStation sim) (sym (stations.first h.0 z h.1 h.2)) h.1
-      | inr k ↦ let h = in_planned sim 0 plans z k in subst (IsStation sim) (sym (ap sim.to h.4 ∙ stations.decided h.0 h.1)) (all_in (λ p. IsStation sim p.station) plans h.1 there h.3)
-    ]
-    | inr j ↦ absurd j
-  ]
+  begins_for_stations plans there z i =
+      elim (in_insert_all law.order.order (openings sim sim.stations ++ planned sim 0 plans) [] z i) [
+        | inl j ↦ elim (in_append (openings sim sim.stations) (planned sim 0 plans) z j) [
+          | inl k ↦ let h = in_openings sim sim.stations z k in
+              subst (IsStation sim) (sym (stations.first h.0 z h.1 h.2)) h.1
+          | inr k ↦ let h = in_planned sim 0 plans z k in
+              subst (IsStation sim) (sym (ap sim.to h.4 ∙ stations.decided h.0 h.1))
+              (all_in (λ p. IsStation sim p.station) plans h.1 there h.3)
+        ]
+        | inr j ↦ absurd j
+      ]
 
   -- what is pending in a run is for stations, and so is what it has handled
   run_for_stations : (plans : List Planned) (front : ℕ) → AreForStations sim plans →
-      ((z : M) → In z (run sim plans front).pending → IsStation sim (sim.to z)) × AllByRecursion (λ e. IsStation sim (sim.to e.msg)) (run sim plans front).at.trace
+      ((z : M) → In z (run sim plans front).pending → IsStation sim (sim.to z))
+      × AllByRecursion (λ e. IsStation sim (sim.to e.msg)) (run sim plans front).at.trace
   run_for_stations plans front there =
-      fine_keeps law.order (world_lawful law) 0 (λ w. ((z : M) → In z w.pending → IsStation sim (sim.to z)) × AllByRecursion (λ e. IsStation sim (sim.to e.msg)) w.at.trace) (begins_for_stations plans there, tt)
+      fine_keeps law.order (world_lawful law) 0 (λ w. ((z : M) → In z w.pending → IsStation sim (sim.to z))
+      × AllByRecursion (λ e. IsStation sim (sim.to e.msg)) w.at.trace) (begins_for_stations plans there, tt)
       (λ x m q f early h. (
         (λ z i. elim (in_insert_all law.order.order (sim.handle (sim.to m) (x.states (sim.to m)) m).sends q z i) [
           | inl j ↦ stations.sends (sim.to m) (x.states (sim.to m)) m z (h.0 m (inl refl)) (f.good (sim.to m)) j
           | inr j ↦ h.0 z (inr j)
         ]),
-        all_push (λ e. IsStation sim (sim.to e.msg)) x.trace (entry_of sim (sim.to m) (x.states (sim.to m)) m) h.1 (h.0 m (inl refl)),
+        all_push (λ e. IsStation sim (sim.to e.msg)) x.trace (entry_of sim (sim.to m) (x.states (sim.to m)) m) h.1
+            (h.0 m (inl refl)),
       ))
       (begins_fine law plans) (run_reached law plans front).0
 
@@ -52,4 +60,5 @@ module _ {S M N : Type 0} {sim : Simulation S M N} {Good : ℕ → S → Type 0}
   -- and so is what is due
   pub due_is_for_stations : (c : Clone) (front : ℕ) (m : M) → AreForStations sim c.plans → In m (all_due sim c front) →
       IsStation sim (sim.to m)
-  due_is_for_stations c front m there i = pending_for_stations c.plans (min front (end_of sim c)) there m (in_filter (λ m. nat_lt (sim.time m) (end_of sim c)) (run_of sim c front).pending m i).0
+  due_is_for_stations c front m there i = pending_for_stations c.plans (min front (end_of sim c)) there m
+      (in_filter (λ m. nat_lt (sim.time m) (end_of sim c)) (run_of sim c front).pending m i).0

@@ -1,6 +1,8 @@
 -- Handled once: the number of different prefixes of the clones' logs grows by what the copies gain, and there are as
 -- many copies as different logs.
-use Rattle.std.proofs.Common.{◌≡◌, ◌↔◌, ℕ, ◌+◌, ◌-◌, ◌*◌, ◌≤◌, ◌<◌, min, List, [], ◌∷◌, ◌++◌, ◌⊎◌, inl, inr, Bool, true, nat_lt, ◌==◌, refl, sym, ap, ◌∙◌, subst, arith, length, length-append, map, take, drop, append_assoc, append-nil}
+use Rattle.std.proofs.Common.{◌≡◌, ◌↔◌, ℕ, ◌+◌, ◌-◌, ◌*◌, ◌≤◌, ◌<◌, min, List, []}
+use Rattle.std.proofs.Common.{◌∷◌, ◌++◌, ◌⊎◌, inl, inr, Bool, true, nat_lt, ◌==◌, refl, sym}
+use Rattle.std.proofs.Common.{ap, ◌∙◌, subst, arith, length, length-append, map, take, drop, append_assoc, append-nil}
 use Rattle.std.specs.Bool.{Decides}
 use Rattle.std.specs.List.{AllByRecursion, flat_map}
 use Rattle.std.specs.Set.{distinct_count}
@@ -22,7 +24,8 @@ use Rattle.run_laws.specs.Handlers.{HandlesLawfully}
 use Rattle.run_laws.specs.Laws.{before}
 use Rattle.run_laws.specs.Prefixes.{Apart, IsCount, IsGained}
 use Rattle.sim_base.specs.Marked.{JoinsMarks, SortedMarked}
-use Rattle.run_laws.specs.Copies.{Copy, Carries, Disjoint, takes, taken, view, Narrowed, Turns, Settled, IsCutLog, Gains, GainedBy, GainTogether, alone_from, AreOver, ends_of, Stands}
+use Rattle.run_laws.specs.Copies.{Copy, Carries, Disjoint, takes, taken, view, Narrowed, Turns, Settled}
+use Rattle.run_laws.specs.Copies.{IsCutLog, Gains, GainedBy, GainTogether, alone_from, AreOver, ends_of, Stands}
 use Rattle.run_laws.proofs.Queue.{all_in, all_from}
 use Rattle.run_laws.proofs.Lists.{in_filter, in_own, append_old, filter_all}
 use Rattle.run_laws.proofs.Machine.{reach_keeps}
@@ -38,7 +41,8 @@ use Rattle.run_laws.proofs.Steps.{ends_alone}
 use Rattle.run_laws.proofs.Stands.{clone_in}
 use Rattle.run_laws.proofs.Places.{place_in}
 use Rattle.run_laws.proofs.Limits.{cut_goes_on}
-use Rattle.run_laws.proofs.Counts.{distinct_is_count, same_list-Decides, in_map, map_has, prefixes_count, few_prefixes, none_cut}
+use Rattle.run_laws.proofs.Counts.{distinct_is_count, same_list-Decides, in_map, map_has}
+use Rattle.run_laws.proofs.Counts.{prefixes_count, few_prefixes, none_cut}
 
 -- where two lists together are empty, the first is
 nothing_first : {X : Type 0} (xs ys : List X) → xs ++ ys ≡ [] → xs ≡ []
@@ -72,14 +76,18 @@ module _ {S M N : Type 0} {sim : Simulation S M N} {Good : ℕ → S → Type 0}
       (l : List (Entry M N)) × (d.at.trace ≡ c.at.trace ++ l)
   trace_grows c d r = reach_keeps (λ d. (l : List (Entry M N)) × (d.at.trace ≡ c.at.trace ++ l))
       ([], sym (append-nil c.at.trace))
-      (λ x m q early h. let e : Entry M N = entry_of sim (sim.to m) (x.states (sim.to m)) m in (h.0 ++ e ∷ [], ap (λ l. l ++ e ∷ []) h.1 ∙ append_assoc c.at.trace h.0 (e ∷ [])))
+      (λ x m q early h. let e : Entry M N = entry_of sim (sim.to m) (x.states (sim.to m)) m in
+      (h.0 ++ e ∷ [], ap (λ l. l ++ e ∷ []) h.1 ∙ append_assoc c.at.trace h.0 (e ∷ [])))
       r
 
   -- all that a station handled before a front comes before it
   pub log_below : (c : Clone) (s front : ℕ) →
       AllByRecursion (λ e. nat_lt (sim.time e.msg) front ≡ true) (log_at sim c s front)
   log_below c s front = all_from (λ e. nat_lt (sim.time e.msg) front ≡ true) (log_at sim c s front) (λ e i.
-      let t : sim.time e.msg < min front (end_of sim c) = all_in (λ e. sim.time e.msg < min front (end_of sim c)) (run_of sim c front).at.trace e (trace_below law c.plans (min front (end_of sim c))) (in_filter (λ e. sim.to e.msg == s) (run_of sim c front).at.trace e i).0 in
+      let t : sim.time e.msg < min front (end_of sim c) =
+      all_in (λ e. sim.time e.msg < min front (end_of sim c)) (run_of sim c front).at.trace e
+      (trace_below law c.plans (min front (end_of sim c)))
+      (in_filter (λ e. sim.to e.msg == s) (run_of sim c front).at.trace e i).0 in
       lt-ltb (sim.time e.msg) front (omega arith))
 
   -- a log at a front goes on to a later one
@@ -87,8 +95,12 @@ module _ {S M N : Type 0} {sim : Simulation S M N} {Good : ℕ → S → Type 0}
       (l : List (Entry M N)) × (log_at sim c s bound ≡ log_at sim c s front ++ l)
   log_goes_on c s front bound l =
       let later : min front (end_of sim c) ≤ min bound (end_of sim c) = omega arith in
-      let h = trace_grows (run_of sim c front) (run_of sim c bound) (run_goes_on law c.plans (min front (end_of sim c)) (min bound (end_of sim c)) later) in
-      (log_of sim.to s h.0, ap (log_of sim.to s) h.1 ∙ filter-append (λ e. sim.to e.msg == s) (run_of sim c front).at.trace h.0)
+      let h = trace_grows (run_of sim c front) (run_of sim c bound)
+      (run_goes_on law c.plans (min front (end_of sim c)) (min bound (end_of sim c)) later) in (
+        log_of sim.to s h.0,
+        ap (log_of sim.to s) h.1 ∙ filter-append (λ e. sim.to e.msg == s)
+            (run_of sim c front).at.trace h.0,
+      )
 
   -- and is no longer there than it is later
   pub shorter_before : (c : Clone) (s front bound n : ℕ) → front ≤ bound → length (log_at sim c s bound) ≤ n →
@@ -105,7 +117,9 @@ module _ {S M N : Type 0} {sim : Simulation S M N} {Good : ℕ → S → Type 0}
       let h = in_own sim.to s (all_due sim c front) z i in
       let k = in_filter (λ m. nat_lt (sim.time m) (end_of sim c)) (run_of sim c front).pending z h.0 in
       let e : sim.time z < end_of sim c = ltb-true (sim.time z) (end_of sim c) k.1 in
-      let l : min front (end_of sim c) ≤ sim.time z = all_in (λ m. min front (end_of sim c) ≤ sim.time m) (run_of sim c front).pending z (run_reached law c.plans (min front (end_of sim c))).1.from_t k.0 in
+      let l : min front (end_of sim c) ≤ sim.time z =
+      all_in (λ m. min front (end_of sim c) ≤ sim.time m) (run_of sim c front).pending z
+      (run_reached law c.plans (min front (end_of sim c))).1.from_t k.0 in
       omega arith)
 
 module _ {S M N K : Type 0} {sim : Simulation S M N} {Good : ℕ → S → Type 0} (law : HandlesLawfully sim Good)
@@ -125,17 +139,29 @@ module _ {S M N K : Type 0} {sim : Simulation S M N} {Good : ℕ → S → Type 
       let c : ℕ = cut.clone in
       let h = at cut.clone cut.is_in in
       let kept : before sim front cut.last.at.log ≡ a.log =
-      fine_keeps law.order (until_lawful law (ends cut.clone) s) front (λ d. before sim front d.at.log ≡ a.log) h.log_before
+      fine_keeps law.order (until_lawful law (ends cut.clone) s) front (λ d. before sim front d.at.log ≡ a.log)
+      h.log_before
       (λ x m q f early h. before-late law front x.log (new_entry sim s bound x.state m) f.from_t.0 ∙ h)
-      (record { good = h.good; sorted = sorted_part (takes sim has ends) sim.order cut.clone a.pending h.sorted; from_t = h.from_front })
+      (record {
+        good = h.good;
+        sorted = sorted_part (takes sim has ends) sim.order cut.clone a.pending h.sorted;
+        from_t = h.from_front;
+      })
       cut.ran in
       let own : List (Entry M N) = before sim front (g.first ∷ g.more) in
       let rest : List (Entry M N) = g.rest ++ drop sim.limit cut.last.at.log in
-      let whole : cut.last.at.log ≡ p ++ rest = sym (take-append-drop sim.limit cut.last.at.log) ∙ ap (λ l. l ++ drop sim.limit cut.last.at.log) (sym cut.is ∙ g.prefix) ∙ append_assoc p g.rest (drop sim.limit cut.last.at.log) in
-      let is : before sim front p ≡ a.log ++ own = ap (before sim front) g.longer ∙ filter-append (λ e. nat_lt (sim.time e.msg) front) a.log (g.first ∷ g.more) ∙ ap (λ l. l ++ own) h.log_before in
+      let whole : cut.last.at.log ≡ p ++ rest = sym (take-append-drop sim.limit cut.last.at.log)
+      ∙ ap (λ l. l ++ drop sim.limit cut.last.at.log) (sym cut.is ∙ g.prefix)
+      ∙ append_assoc p g.rest (drop sim.limit cut.last.at.log) in
+      let is : before sim front p ≡ a.log ++ own = ap (before sim front) g.longer
+      ∙ filter-append (λ e. nat_lt (sim.time e.msg) front) a.log (g.first ∷ g.more)
+      ∙ ap (λ l. l ++ own) h.log_before in
       let both : a.log ++ (own ++ before sim front rest) ≡ a.log ++ [] =
-      sym (append_assoc a.log own (before sim front rest)) ∙ ap (λ l. l ++ before sim front rest) (sym is) ∙ sym (filter-append (λ e. nat_lt (sim.time e.msg) front) p rest) ∙ sym (ap (before sim front) whole) ∙ kept ∙ sym (append-nil a.log) in
-      let none : own ≡ [] = nothing_first own (before sim front rest) (append_cancel a.log (own ++ before sim front rest) [] both) in
+      sym (append_assoc a.log own (before sim front rest)) ∙ ap (λ l. l ++ before sim front rest) (sym is)
+      ∙ sym (filter-append (λ e. nat_lt (sim.time e.msg) front) p rest) ∙ sym (ap (before sim front) whole) ∙ kept
+      ∙ sym (append-nil a.log) in
+      let none : own ≡ [] = nothing_first own (before sim front rest)
+      (append_cancel a.log (own ++ before sim front rest) [] both) in
       is ∙ ap (λ l. a.log ++ l) none ∙ append-nil a.log
 
   -- no copies gain nothing
@@ -149,7 +175,8 @@ module _ {S M N K : Type 0} {sim : Simulation S M N} {Good : ℕ → S → Type 
       IsCount (Gains sim has ends s bound a) m → IsCount (GainedBy sim has ends s bound old) n →
       IsCount (GainedBy sim has ends s bound (a ∷ old)) (m + n)
   counted_more a old m n at differ x y =
-      count_same (λ p. Gains sim has ends s bound a p ⊎ GainedBy sim has ends s bound old p) (GainedBy sim has ends s bound (a ∷ old)) (m + n)
+      count_same (λ p. Gains sim has ends s bound a p ⊎ GainedBy sim has ends s bound old p)
+      (GainedBy sim has ends s bound (a ∷ old)) (m + n)
       (λ p h. elim h [ inl g ↦ (a, inl refl, g) | inr g ↦ (g.0, inr g.1, g.2) ])
       (λ p g. elim g.1 [ inl e ↦ inl (subst (λ u. Gains sim has ends s bound u p) e g.2) | inr i ↦ inr (g.0, i, g.2) ])
       (count_both (Gains sim has ends s bound a) (GainedBy sim has ends s bound old) m n (λ p g h.
@@ -158,17 +185,20 @@ module _ {S M N K : Type 0} {sim : Simulation S M N} {Good : ℕ → S → Type 
       differ h.0 g.is_log.clone h.2.is_log.clone h.1 g.is_log.is_in h.2.is_log.is_in (sym e ∙ f)) x y)
 
   -- copies that gain together, and one more
-  pub together_push : (old : List (Copy S M N K)) (r : Copy S M N K) (n m : ℕ) → GainTogether sim has ends s bound old n →
+  pub together_push : (old : List (Copy S M N K)) (r : Copy S M N K) (n m : ℕ)
+      → GainTogether sim has ends s bound old n →
       IsCount (Gains sim has ends s bound r) m → GainTogether sim has ends s bound (old ++ r ∷ []) (n + m)
   together_push [] r n m e x = (m, 0, x, refl, omega (arith, e))
-  together_push (a ∷ old) r n m h x = let e = h.4 in (h.0, h.1 + m, h.2, together_push old r h.1 m h.3 x, omega (arith, e))
+  together_push (a ∷ old) r n m h x = let e = h.4 in
+      (h.0, h.1 + m, h.2, together_push old r h.1 m h.3 x, omega (arith, e))
 
   -- what a copy gained is the same whatever others have laid aside
   pub gained_alone : (r : Copy S M N K) (out : List (M × K)) (n : ℕ) →
       ((c : ℕ) → Carries has r c → taken sim has ends c out ≡ []) →
       IsCount (IsGained (IsCutLog sim has ends s bound r out) r.log) n → IsCount (Gains sim has ends s bound r) n
   gained_alone r out n none h =
-      let same : Narrowed sim has ends r r = record { state = refl; log = refl; within = λ c i. i; parts = λ c i. refl } in
+      let same : Narrowed sim has ends r r =
+      record { state = refl; log = refl; within = λ c i. i; parts = λ c i. refl } in
       gained_same (IsCutLog sim has ends s bound r out) (IsCutLog sim has ends s bound r []) r.log n
       (λ l g. cut_of_some law j ends s bound r r [] out same none l g)
       (λ l g. cut_of_some law j ends s bound r r out [] same (λ c i. sym (none c i)) l g) h
@@ -189,7 +219,8 @@ module _ {S M N K : Type 0} {sim : Simulation S M N} {Good : ℕ → S → Type 
     sorted = st.sorted a i;
     log_before = ap (before sim front) (st.log a c i h) ∙ log_at_front law (clone_at cs c) s front front (omega arith)
         ∙ sym (st.log a c i h);
-    from_front = subst (AllByRecursion (λ m. front ≤ sim.time m)) (sym (st.due a c i h)) (due_from_front law (clone_at cs c) s front);
+    from_front = subst (AllByRecursion (λ m. front ≤ sim.time m)) (sym (st.due a c i h))
+        (due_from_front law (clone_at cs c) s front);
   }
 
   -- copies with one log are one copy
@@ -218,8 +249,10 @@ module _ {S M N K : Type 0} {sim : Simulation S M N} {Good : ℕ → S → Type 
         let k : Clone = clone_at cs c in
         let e : ℕ = ends_of sim cs c in
         let w = windows_give_run law cs k front bound (clone_in cs c (st.living a c i h)) later within in
-        ap (λ u. u.at.log) (ap (λ l. local sim s l a.state (taken sim has (ends_of sim cs) c a.pending) bound e) (st.log a c i h)
-        ∙ (ap (λ l. local sim s (log_at sim k s front) l (taken sim has (ends_of sim cs) c a.pending) bound e) (st.state a c i h)
+        ap (λ u. u.at.log) (ap (λ l. local sim s l a.state (taken sim has (ends_of sim cs) c a.pending) bound e)
+        (st.log a c i h)
+        ∙ (ap (λ l. local sim s (log_at sim k s front) l (taken sim has (ends_of sim cs) c a.pending) bound e)
+        (st.state a c i h)
         ∙ ap (λ l. local sim s (log_at sim k s front) (state_at sim k s front) l bound e) (st.due a c i h)))
         ∙ sym (w.log s)
 
@@ -227,15 +260,20 @@ module _ {S M N K : Type 0} {sim : Simulation S M N} {Good : ℕ → S → Type 
     pub last_log : (a : Copy S M N K) (c : ℕ) (d : Config (Part S M N) M) → In a old → Carries has a c →
         Turns sim has (ends_of sim cs) s bound c (view sim has (ends_of sim cs) c a []) d →
         Settled sim has (ends_of sim cs) s bound d → d.at.log ≡ log_at sim (clone_at cs c) s bound
-    last_log a c d i h ran done = (ends_alone law j (ends_of sim cs) s bound a c d (good_state a c i h) (st.sorted a i) ran done).log
+    last_log a c d i h ran done = (ends_alone law j (ends_of sim cs) s bound a c d (good_state a c i h)
+        (st.sorted a i) ran done).log
         ∙ alone_log a c i h
 
     -- those over the limit are the clones whose logs at the bound are beyond it
     pub over_is_beyond : (over : K) → AreOver sim has (ends_of sim cs) s bound old over → (c : ℕ) →
         (has over c ≡ true) ↔ ((c < length cs) × IsBeyond sim s bound (clone_at cs c))
     over_is_beyond over h c = (
-      (λ o. let x = h.from c o in (st.living x.0 c x.1 x.2, subst (λ l. sim.limit < length l) (alone_log x.0 c x.1 x.2) x.3)),
-      (λ b. let x = st.carried c b.0 in h.all x.0 c x.1 x.2 (subst (λ l. sim.limit < length l) (sym (alone_log x.0 c x.1 x.2)) b.1)),
+      (λ o. let x = h.from c o in (
+        st.living x.0 c x.1 x.2,
+        subst (λ l. sim.limit < length l) (alone_log x.0 c x.1 x.2) x.3,
+      )),
+      (λ b. let x = st.carried c b.0 in
+          h.all x.0 c x.1 x.2 (subst (λ l. sim.limit < length l) (sym (alone_log x.0 c x.1 x.2)) b.1)),
     )
 
     -- the logs at the bound, each cut to the limit
@@ -263,8 +301,11 @@ module _ {S M N K : Type 0} {sim : Simulation S M N} {Good : ℕ → S → Type 
     handled_grows_to_limit same total decides short together =
         count_unique Late (handled_to_limit sim same cs s bound) (handled sim same cs s front + total)
         (prefixes_count same decides cut_logs)
-        (count_same (λ p. Early p ⊎ New p) Late (handled sim same cs s front + total) (λ p h. elim h [ inl g ↦ late_if_early p g | inr g ↦ late_if_new p g ]) late_is
-        (count_both Early New (handled sim same cs s front) total apart (prefixes_count same decides (logs_at sim cs s front)) (counted_together old total (λ a i. i) st.disjoint together)))
+        (count_same (λ p. Early p ⊎ New p) Late (handled sim same cs s front + total)
+        (λ p h. elim h [ inl g ↦ late_if_early p g | inr g ↦ late_if_new p g ]) late_is
+        (count_both Early New (handled sim same cs s front) total apart
+        (prefixes_count same decides (logs_at sim cs s front))
+        (counted_together old total (λ a i. i) st.disjoint together)))
       where
         log_there : (f c : ℕ) → c < length cs → In (log_at sim (clone_at cs c) s f) (logs_at sim cs s f)
         log_there f c l = map_has (λ k. log_at sim k s f) cs (clone_at cs c) (clone_in cs c l)
@@ -276,16 +317,22 @@ module _ {S M N K : Type 0} {sim : Simulation S M N} {Good : ℕ → S → Type 
         -- a cut log is the log at the front and what is left of the rest
         cut_on : (c : ℕ) → c < length cs → (h : List (Entry M N)) →
             log_at sim (clone_at cs c) s bound ≡ log_at sim (clone_at cs c) s front ++ h →
-            take sim.limit (log_at sim (clone_at cs c) s bound) ≡ log_at sim (clone_at cs c) s front ++ take (sim.limit - length (log_at sim (clone_at cs c) s front)) h
-        cut_on c l h e = ap (take sim.limit) e ∙ cut_goes_on sim.limit (log_at sim (clone_at cs c) s front) h (short c l)
+            take sim.limit (log_at sim (clone_at cs c) s bound) ≡ log_at sim (clone_at cs c) s front
+            ++ take (sim.limit - length (log_at sim (clone_at cs c) s front)) h
+        cut_on c l h e = ap (take sim.limit) e ∙ cut_goes_on sim.limit (log_at sim (clone_at cs c) s front) h
+            (short c l)
 
         apart : (p : List (Entry M N)) → Early p → New p → ⊥
         apart p g h =
             let k = in_map (λ k. log_at sim k s front) cs g.log g.is_log in
             let is : log_at sim k.0 s front ≡ p ++ g.rest = sym k.2 ∙ g.prefix in
-            let early : before sim front p ≡ p = filter_all (λ e. nat_lt (sim.time e.msg) front) p (all_from (λ e. nat_lt (sim.time e.msg) front ≡ true) p (λ x i.
-            all_in (λ e. nat_lt (sim.time e.msg) front ≡ true) (log_at sim k.0 s front) x (log_below law k.0 s front) (subst (In x) (sym is) (append_old p g.rest x i)))) in
-            let e : before sim front p ≡ h.0.log = gained_before law j (ends_of sim cs) s front bound h.0 p (λ c i. at_front h.0 c h.1 i) h.2 in
+            let early : before sim front p ≡ p =
+            filter_all (λ e. nat_lt (sim.time e.msg) front) p
+            (all_from (λ e. nat_lt (sim.time e.msg) front ≡ true) p (λ x i.
+            all_in (λ e. nat_lt (sim.time e.msg) front ≡ true) (log_at sim k.0 s front) x (log_below law k.0 s front)
+            (subst (In x) (sym is) (append_old p g.rest x i)))) in
+            let e : before sim front p ≡ h.0.log =
+            gained_before law j (ends_of sim cs) s front bound h.0 p (λ c i. at_front h.0 c h.1 i) h.2 in
             too_long h.0.log h.2.first h.2.more (sym h.2.longer ∙ sym early ∙ e)
 
         late_if_early : (p : List (Entry M N)) → Early p → Late p
@@ -327,21 +374,40 @@ module _ {S M N K : Type 0} {sim : Simulation S M N} {Good : ℕ → S → Type 
             let k = in_map (λ k. log_at sim k s bound) cs w.0 w.1 in
             let c = place_in cs k.0 k.1 in
             let a = st.carried c.0 c.1 in
-            let is : g.log ≡ take sim.limit (log_at sim (clone_at cs c.0) s bound) = w.2 ∙ ap (take sim.limit) (k.2 ∙ ap (λ k. log_at sim k s bound) (sym c.2)) in
+            let is : g.log ≡ take sim.limit (log_at sim (clone_at cs c.0) s bound) =
+            w.2 ∙ ap (take sim.limit) (k.2 ∙ ap (λ k. log_at sim k s bound) (sym c.2)) in
             let h = log_goes_on law (clone_at cs c.0) s front bound later in
             let more : List (Entry M N) = take (sim.limit - length (log_at sim (clone_at cs c.0) s front)) h.0 in
-            let e : log_at sim (clone_at cs c.0) s front ++ more ≡ p ++ g.rest = sym (cut_on c.0 c.1 h.0 h.1) ∙ sym is ∙ g.prefix in
+            let e : log_at sim (clone_at cs c.0) s front ++ more ≡ p ++ g.rest = sym (cut_on c.0 c.1 h.0 h.1) ∙ sym is
+            ∙ g.prefix in
             elim (one_goes_on (log_at sim (clone_at cs c.0) s front) more p g.rest e) [
-              | inl r ↦ inl (record { log = log_at sim (clone_at cs c.0) s front; is_log = log_there front c.0 c.1; first = g.first; more = g.more; rest = r.0; longer = g.longer; prefix = r.1 })
+              | inl r ↦ inl (record {
+                log = log_at sim (clone_at cs c.0) s front;
+                is_log = log_there front c.0 c.1;
+                first = g.first;
+                more = g.more;
+                rest = r.0;
+                longer = g.longer;
+                prefix = r.1;
+              })
               | inr r ↦
-                  let d = comes_to_end law j (ends_of sim cs) s bound a.0 [] c.0 (good_state a.0 c.0 a.1 a.2) (st.sorted a.0 a.1) in
+                  let d = comes_to_end law j (ends_of sim cs) s bound a.0 [] c.0 (good_state a.0 c.0 a.1 a.2)
+                  (st.sorted a.0 a.1) in
                   let there = last_log a.0 c.0 d.0 a.1 a.2 d.1 d.2 in
                   inr (
                     a.0,
                     a.1,
                     record {
                       log = g.log;
-                      is_log = record { clone = c.0; is_in = a.2; last = d.0; ran = d.1; settled = d.2; is = is ∙ ap (take sim.limit) (sym there) };
+                      is_log = record {
+                        clone = c.0;
+                        is_in = a.2;
+                        last = d.0;
+                        ran = d.1;
+                        settled = d.2;
+                        is = is
+                            ∙ ap (take sim.limit) (sym there);
+                      };
                       first = r.0;
                       more = r.1;
                       rest = g.rest;
@@ -358,11 +424,13 @@ module _ {S M N K : Type 0} {sim : Simulation S M N} {Good : ℕ → S → Type 
         GainTogether sim has (ends_of sim cs) s bound old total →
         handled sim same cs s bound ≡ handled sim same cs s front + total
     handled_grows same total decides short together =
-        ap (λ l. distinct_count (same_list same) (flat_map prefixes l)) (sym (none_cut sim.limit (logs_at sim cs s bound) (λ l i.
+        ap (λ l. distinct_count (same_list same) (flat_map prefixes l))
+        (sym (none_cut sim.limit (logs_at sim cs s bound) (λ l i.
         let k = in_map (λ k. log_at sim k s bound) cs l i in
         let c = place_in cs k.0 k.1 in
         subst (λ t. length t ≤ sim.limit) (ap (λ k. log_at sim k s bound) c.2 ∙ sym k.2) (short c.0 c.1))))
-        ∙ handled_grows_to_limit same total decides (λ c l. shorter_before law (clone_at cs c) s front bound sim.limit later (short c l)) together
+        ∙ handled_grows_to_limit same total decides
+        (λ c l. shorter_before law (clone_at cs c) s front bound sim.limit later (short c l)) together
 
     -- and at most so much is handled once: as much as logs cut to the limit have
     pub handled_is_few : (same : Entry M N → Entry M N → Bool) (total : ℕ) →
@@ -372,9 +440,12 @@ module _ {S M N K : Type 0} {sim : Simulation S M N} {Good : ℕ → S → Type 
         handled sim same cs s front + total ≤ length cs * sim.limit
     handled_is_few same total decides short together =
         let e = handled_grows_to_limit same total decides short together in
-        let d : distinct_count (same_list same) (flat_map prefixes cut_logs) ≤ length (flat_map prefixes cut_logs) = distinct_count-le (same_list same) (flat_map prefixes cut_logs) in
-        let f : length (flat_map prefixes cut_logs) ≤ length (logs_at sim cs s bound) * sim.limit = few_prefixes sim.limit (logs_at sim cs s bound) in
-        let n : length (logs_at sim cs s bound) * sim.limit ≡ length cs * sim.limit = ap (λ k. k * sim.limit) (length-map cs (λ c. log_at sim c s bound)) in
+        let d : distinct_count (same_list same) (flat_map prefixes cut_logs) ≤ length (flat_map prefixes cut_logs) =
+        distinct_count-le (same_list same) (flat_map prefixes cut_logs) in
+        let f : length (flat_map prefixes cut_logs) ≤ length (logs_at sim cs s bound) * sim.limit =
+        few_prefixes sim.limit (logs_at sim cs s bound) in
+        let n : length (logs_at sim cs s bound) * sim.limit ≡ length cs * sim.limit =
+        ap (λ k. k * sim.limit) (length-map cs (λ c. log_at sim c s bound)) in
         omega (arith, e, d, f, n)
 
 module _ {S M N K : Type 0} {sim : Simulation S M N} {Good : ℕ → S → Type 0} (law : HandlesLawfully sim Good)
@@ -389,8 +460,10 @@ module _ {S M N K : Type 0} {sim : Simulation S M N} {Good : ℕ → S → Type 
         let h = in_map (λ a. a.log) xs x.log i in
         let here = st.inhabited x (within x (inl refl)) in
         let there = st.inhabited h.0 (within h.0 (inr h.1)) in
-        let e : x ≡ h.0 = one_copy law j cs s front front old st x h.0 here.0 there.0 (within x (inl refl)) (within h.0 (inr h.1)) here.1 there.1 h.2 in
-        all_in (λ b. (c : ℕ) → Carries has x c → ¬ (Carries has b c)) xs h.0 d.0 h.1 here.0 here.1 (subst (λ u. Carries has u here.0) e here.1)),
+        let e : x ≡ h.0 = one_copy law j cs s front front old st x h.0 here.0 there.0 (within x (inl refl))
+        (within h.0 (inr h.1)) here.1 there.1 h.2 in
+        all_in (λ b. (c : ℕ) → Carries has x c → ¬ (Carries has b c)) xs h.0 d.0 h.1 here.0 here.1
+        (subst (λ u. Carries has u here.0) e here.1)),
     logs_apart xs (λ a i. within a (inr i)) d.1,
   )
 
@@ -406,11 +479,14 @@ module _ {S M N K : Type 0} {sim : Simulation S M N} {Good : ℕ → S → Type 
         exact = λ l i.
             let h = in_map (λ a. a.log) old l i in
             let c = st.inhabited h.0 h.1 in
-            subst (λ u. In u (logs_at sim cs s front)) (sym (h.2 ∙ st.log h.0 c.0 h.1 c.1)) (map_has (λ k. log_at sim k s front) cs (clone_at cs c.0) (clone_in cs c.0 (st.living h.0 c.0 h.1 c.1)));
+            subst (λ u. In u (logs_at sim cs s front)) (sym (h.2 ∙ st.log h.0 c.0 h.1 c.1))
+            (map_has (λ k. log_at sim k s front) cs (clone_at cs c.0)
+            (clone_in cs c.0 (st.living h.0 c.0 h.1 c.1)));
         all = λ l i.
             let h = in_map (λ k. log_at sim k s front) cs l i in
             let c = place_in cs h.0 h.1 in
             let a = st.carried c.0 c.1 in
-            subst (λ u. In u (map (λ a. a.log) old)) (st.log a.0 c.0 a.1 a.2 ∙ ap (λ k. log_at sim k s front) c.2 ∙ sym h.2) (map_has (λ a. a.log) old a.0 a.1);
+            subst (λ u. In u (map (λ a. a.log) old)) (st.log a.0 c.0 a.1 a.2 ∙ ap (λ k. log_at sim k s front) c.2
+            ∙ sym h.2) (map_has (λ a. a.log) old a.0 a.1);
         number = rw length-map refl;
       })

@@ -1,5 +1,6 @@
 -- The small simulation of the examples meets what the laws ask.
-use Rattle.std.proofs.Common.{◌≡◌, ℕ, ◌+◌, ◌-◌, ◌<◌, ◌≤◌, [], ◌∷◌, ◌⊎◌, nat_lt, inl, inr, Bool, true, false, cond, ◌==◌, Some, None, refl, sym, ap, ◌∙◌, arith}
+use Rattle.std.proofs.Common.{◌≡◌, ℕ, ◌+◌, ◌-◌, ◌<◌, ◌≤◌, [], ◌∷◌, ◌⊎◌, nat_lt, inl, inr}
+use Rattle.std.proofs.Common.{Bool, true, false, cond, ◌==◌, Some, None, refl, sym, ap, ◌∙◌, arith}
 use Rattle.std.specs.declared.cmp.Ordering.{Ordering}
 use Rattle.std.specs.declared.cmp.Ordering.TheVariants.{Less, Equal, Greater}
 use Rattle.std.specs.List.{AllByRecursion}
@@ -21,7 +22,8 @@ ball_same : (x y : Ball) → ball_cmp x y ≡ Equal → x ≡ y
 ball_same x y e =
     let h = both_equal (nat_cmp x.time y.time) (ordering_then (nat_cmp x.number y.number) (nat_cmp x.to y.to)) e in
     let k = both_equal (nat_cmp x.number y.number) (nat_cmp x.to y.to) h.1 in
-    ball_parts x.time x.number x.to y.time y.number y.to (nat_same x.time y.time h.0) (nat_same x.number y.number k.0) (nat_same x.to y.to k.1)
+    ball_parts x.time x.number x.to y.time y.number y.to (nat_same x.time y.time h.0) (nat_same x.number y.number k.0)
+    (nat_same x.to y.to k.1)
 
 -- what comes first by a number and then by others has not the greater number
 not_later : (x y : ℕ) (s : Ordering) → ordering_then (nat_cmp x y) s ≡ Less → x ≤ y
@@ -36,7 +38,8 @@ not_later x y s e = by (nat_cmp x y) (ranks x y) e
 ball_order : IsTimed ball_cmp (λ b. b.time)
 ball_order = record {
   order = record {
-    total = then_total (on_total (λ (b : Ball). b.time) nat_cmp_total) (then_total (on_total (λ (b : Ball). b.number) nat_cmp_total) (on_total (λ (b : Ball). b.to) nat_cmp_total));
+    total = then_total (on_total (λ (b : Ball). b.time) nat_cmp_total)
+        (then_total (on_total (λ (b : Ball). b.number) nat_cmp_total) (on_total (λ (b : Ball). b.to) nat_cmp_total));
     same = ball_same;
   };
   timed = λ x y e. not_later x.time y.time (ordering_then (nat_cmp x.number y.number) (nat_cmp x.to y.to)) e;
@@ -69,7 +72,8 @@ game_is_lawful = record {
   order = ball_order;
   opens = λ s. tt;
   keeps = λ s st m g. tt;
-  later = λ s st m g. all_later m.time (ball (m.time + 3) 0 (3 - s)) (ball (m.time + 1) (m.number + 10) s) (m.number == 0) (nat_lt m.number 10) (omega arith) (omega arith);
+  later = λ s st m g. all_later m.time (ball (m.time + 3) 0 (3 - s)) (ball (m.time + 1) (m.number + 10) s)
+      (m.number == 0) (nat_lt m.number 10) (omega arith) (omega arith);
   far = λ s st m z g i n. elim (thrown s m z i) [
     | inl e ↦ let t = ap (λ b. b.time) e in omega (arith, t)
     | inr e ↦ absurd (n (ap (λ b. b.to) e))

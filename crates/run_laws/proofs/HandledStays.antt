@@ -1,5 +1,6 @@
 -- What was handled once at a front: nothing at the start, and the same after a decision, an end and a fork.
-use Rattle.std.proofs.Common.{◌≡◌, ℕ, zero, suc, ◌<◌, ◌≤◌, List, [], ◌∷◌, ◌++◌, inl, inr, Bool, None, refl, sym, ap, ◌∙◌, subst, arith, map, length, slice_set}
+use Rattle.std.proofs.Common.{◌≡◌, ℕ, zero, suc, ◌<◌, ◌≤◌, List, [], ◌∷◌, ◌++◌, inl, inr}
+use Rattle.std.proofs.Common.{Bool, None, refl, sym, ap, ◌∙◌, subst, arith, map, length, slice_set}
 use Rattle.std.specs.Bool.{Decides}
 use Rattle.std.specs.List.{flat_map}
 use Rattle.std.specs.Set.{distinct_count}
@@ -73,7 +74,8 @@ module _ {S M N : Type 0} (sim : Simulation S M N) (same : Entry M N → Entry M
       distinct_count (same_list same) (flat_map prefixes xs) ≡ distinct_count (same_list same) (flat_map prefixes ys)
   same_prefixes xs ys f g = count_unique (IsGained (λ l. In l ys) [])
       (distinct_count (same_list same) (flat_map prefixes xs)) (distinct_count (same_list same) (flat_map prefixes ys))
-      (gained_same (λ l. In l xs) (λ l. In l ys) [] (distinct_count (same_list same) (flat_map prefixes xs)) f g (prefixes_count same decides xs))
+      (gained_same (λ l. In l xs) (λ l. In l ys) [] (distinct_count (same_list same) (flat_map prefixes xs)) f g
+      (prefixes_count same decides xs))
       (prefixes_count same decides ys)
 
   -- a fork has the log of its old clone
@@ -88,8 +90,10 @@ module _ {S M N : Type 0} (sim : Simulation S M N) (same : Entry M N → Entry M
       (λ l i. let h = in_map f (cs ++ k ∷ []) l i in elim (in_append cs (k ∷ []) h.0 h.1) [
         | inl j ↦ subst (λ u. In u here) (sym h.2) (map_has f cs h.0 j)
         | inr j ↦ elim j [
-          | inl e ↦ subst (λ u. In u here) (sym (h.2 ∙ ap f e ∙ log)) (map_has f cs (clone_at cs old) (clone_in cs old there))
+          | inl e ↦ subst (λ u. In u here) (sym (h.2 ∙ ap f e ∙ log))
+              (map_has f cs (clone_at cs old) (clone_in cs old there))
           | inr z ↦ absurd z
         ]
       ])
-      (λ l i. let h = in_map f cs l i in subst (λ u. In u (logs_at sim (forked cs name old) s front)) (sym h.2) (map_has f (cs ++ k ∷ []) h.0 (append_old cs (k ∷ []) h.0 h.1)))
+      (λ l i. let h = in_map f cs l i in subst (λ u. In u (logs_at sim (forked cs name old) s front)) (sym h.2)
+      (map_has f (cs ++ k ∷ []) h.0 (append_old cs (k ∷ []) h.0 h.1)))

@@ -1,5 +1,6 @@
 -- Decisions and ends at or after a front: what they change of a clone there.
-use Rattle.std.proofs.Common.{◌≡◌, ℕ, suc, ◌+◌, ◌<◌, ◌≤◌, min, List, [], ◌∷◌, ◌++◌, ◌==◌, ◌&&◌, Bool, true, false, cond, nat_lt, refl, sym, ap, ◌∙◌, arith, append_assoc, length}
+use Rattle.std.proofs.Common.{◌≡◌, ℕ, suc, ◌+◌, ◌<◌, ◌≤◌, min, List, [], ◌∷◌, ◌++◌, ◌==◌, ◌&&◌}
+use Rattle.std.proofs.Common.{Bool, true, false, cond, nat_lt, refl, sym, ap, ◌∙◌, arith, append_assoc, length}
 use Rattle.std.specs.List.{filter}
 use Rattle.std.proofs.lemmas.Bool.{lt-ltb, ltb-true}
 use Rattle.std.specs.declared.cmp.Ordering.{Ordering}
@@ -24,7 +25,8 @@ module _ {S M N : Type 0} (sim : Simulation S M N) where
       planned sim k (plans ++ p ∷ []) ≡ planned sim k plans ++ sim.decided (k + length plans) p ∷ []
   planned-push k [] p = ap (λ n. sim.decided n p ∷ []) (let e : k ≡ k + 0 = omega arith in e)
   planned-push k (x ∷ plans) p = ap (λ l. sim.decided k x ∷ l)
-      (planned-push (suc k) plans p ∙ ap (λ n. planned sim (suc k) plans ++ sim.decided n p ∷ []) (let e : suc k + length plans ≡ k + suc (length plans) = omega arith in e))
+      (planned-push (suc k) plans p ∙ ap (λ n. planned sim (suc k) plans ++ sim.decided n p ∷ [])
+      (let e : suc k + length plans ≡ k + suc (length plans) = omega arith in e))
 
   -- a world with one decision more begins with one message more
   begin-push : (plans : List Planned) (p : Planned) →
@@ -32,15 +34,19 @@ module _ {S M N : Type 0} (sim : Simulation S M N) where
   begin-push plans p =
       let m = sim.decided (length plans) p in
       let first = openings sim sim.stations in
-      let last : planned sim 0 (plans ++ p ∷ []) ≡ planned sim 0 plans ++ m ∷ [] = planned-push 0 plans p ∙ ap (λ n. planned sim 0 plans ++ sim.decided n p ∷ []) (let e : 0 + length plans ≡ length plans = omega arith in e) in
-      let all : insert_all sim.order (first ++ planned sim 0 (plans ++ p ∷ [])) [] ≡ insert sim.order m (insert_all sim.order (first ++ planned sim 0 plans) []) =
+      let last : planned sim 0 (plans ++ p ∷ []) ≡ planned sim 0 plans ++ m ∷ [] = planned-push 0 plans p
+      ∙ ap (λ n. planned sim 0 plans ++ sim.decided n p ∷ [])
+      (let e : 0 + length plans ≡ length plans = omega arith in e) in
+      let all : insert_all sim.order (first ++ planned sim 0 (plans ++ p ∷ [])) [] ≡ insert sim.order m
+      (insert_all sim.order (first ++ planned sim 0 plans) []) =
       ap (λ l. insert_all sim.order (first ++ l) []) last
       ∙ ap (λ l. insert_all sim.order l []) (sym (append_assoc first (planned sim 0 plans) (m ∷ [])))
       ∙ insert_all-push sim.order (first ++ planned sim 0 plans) m [] in
       ap (λ q. record { at = (begin sim plans).at; pending = q }) all
 
 -- a message that passes two tests, one after the other
-both_tests : {M : Type 0} (cmp : M → M → Ordering) (b a : Bool) (m : M) (d l r : List M) → l ≡ cond a (insert cmp m r) r →
+both_tests : {M : Type 0} (cmp : M → M → Ordering) (b a : Bool) (m : M) (d l r : List M)
+    → l ≡ cond a (insert cmp m r) r →
     cond b l r ≡ cond (b && a) (insert cmp m r) r
 both_tests cmp true a m d l r e = e
 both_tests cmp false a m d l r e = refl
@@ -57,7 +63,8 @@ module _ {S M N : Type 0} {sim : Simulation S M N} {Good : ℕ → S → Type 0}
       run sim (plans ++ p ∷ []) front ≡ and_pending sim.order (sim.decided (length plans) p) (run sim plans front)
   run_late_plan plans p front l =
       ap (λ w. run_to sim.order (world_step sim.to sim.handle) sim.time w front) (begin-push sim plans p)
-      ∙ run_late law.order (world_lawful law) front (begin sim plans) (sim.decided (length plans) p) l (begins_fine law plans)
+      ∙ run_late law.order (world_lawful law) front (begin sim plans) (sim.decided (length plans) p) l
+      (begins_fine law plans)
 
   -- what is due is in order
   pub due_sorted : (c : Clone) (front : ℕ) → Sorted sim.order (all_due sim c front)
@@ -65,23 +72,29 @@ module _ {S M N : Type 0} {sim : Simulation S M N} {Good : ℕ → S → Type 0}
       (run_of sim c front).pending (run_fine law c.plans (min front (end_of sim c))).sorted
 
   -- a decision at or after a front adds its message to what is due there
-  pub late_decision_adds_due : (c : Clone) (p : Planned) (front : ℕ) → front ≤ sim.time (sim.decided (length c.plans) p) →
+  pub late_decision_adds_due : (c : Clone) (p : Planned) (front : ℕ)
+      → front ≤ sim.time (sim.decided (length c.plans) p) →
       AddsDue sim c p (sim.decided (length c.plans) p) front
   late_decision_adds_due c p front l =
       let m = sim.decided (length c.plans) p in
       let end : ℕ = end_of sim c in
       let late : min front (end_of sim c) ≤ sim.time m = omega arith in
-      let is : run_of sim (with_plan c p) front ≡ and_pending sim.order m (run_of sim c front) = run_late_plan c.plans p (min front end) late in
-      let d : all_due sim (with_plan c p) front ≡ cond (nat_lt (sim.time m) end) (insert sim.order m (all_due sim c front)) (all_due sim c front) =
+      let is : run_of sim (with_plan c p) front ≡ and_pending sim.order m (run_of sim c front) =
+      run_late_plan c.plans p (min front end) late in
+      let d : all_due sim (with_plan c p) front ≡ cond (nat_lt (sim.time m) end)
+      (insert sim.order m (all_due sim c front)) (all_due sim c front) =
       ap (λ w. filter (λ m. nat_lt (sim.time m) end) w.pending) is
-      ∙ filter-insert law.order.order (λ m. nat_lt (sim.time m) end) m (run_of sim c front).pending (run_fine law c.plans (min front end)).sorted in
+      ∙ filter-insert law.order.order (λ m. nat_lt (sim.time m) end) m (run_of sim c front).pending
+      (run_fine law c.plans (min front end)).sorted in
       record {
         world = ap (λ w. w.at) is;
         due = d;
         due_here = λ s.
             ap (to_it sim.to s) d
-            ∙ filter-cond (λ m. sim.to m == s) (nat_lt (sim.time m) end) (insert sim.order m (all_due sim c front)) (all_due sim c front)
-            ∙ both_tests sim.order (nat_lt (sim.time m) end) (sim.to m == s) m (all_due sim c front) (to_it sim.to s (insert sim.order m (all_due sim c front))) (due_at sim c s front)
+            ∙ filter-cond (λ m. sim.to m == s) (nat_lt (sim.time m) end) (insert sim.order m (all_due sim c front))
+            (all_due sim c front)
+            ∙ both_tests sim.order (nat_lt (sim.time m) end) (sim.to m == s) m (all_due sim c front)
+            (to_it sim.to s (insert sim.order m (all_due sim c front))) (due_at sim c s front)
             (filter-insert law.order.order (λ m. sim.to m == s) m (all_due sim c front) (due_sorted c front));
       }
 
@@ -91,10 +104,12 @@ module _ {S M N : Type 0} {sim : Simulation S M N} {Good : ℕ → S → Type 0}
   earlier_end q at end l s = same_elements law.order.order (earlier_than sim.time at q)
       (earlier_than sim.time at (earlier_than sim.time end q))
       (sorted_filter sim.order (λ m. nat_lt (sim.time m) at) q s)
-      (sorted_filter sim.order (λ m. nat_lt (sim.time m) at) (earlier_than sim.time end q) (sorted_filter sim.order (λ m. nat_lt (sim.time m) end) q s))
+      (sorted_filter sim.order (λ m. nat_lt (sim.time m) at) (earlier_than sim.time end q)
+      (sorted_filter sim.order (λ m. nat_lt (sim.time m) end) q s))
       (λ z i. let h = in_filter (λ m. nat_lt (sim.time m) at) q z i in
       let t : sim.time z < at = ltb-true (sim.time z) at h.1 in
-      filter_keeps (λ m. nat_lt (sim.time m) at) (earlier_than sim.time end q) z (filter_keeps (λ m. nat_lt (sim.time m) end) q z h.0 (lt-ltb (sim.time z) end (omega arith))) h.1)
+      filter_keeps (λ m. nat_lt (sim.time m) at) (earlier_than sim.time end q) z
+      (filter_keeps (λ m. nat_lt (sim.time m) end) q z h.0 (lt-ltb (sim.time z) end (omega arith))) h.1)
       (λ z i. let h = in_filter (λ m. nat_lt (sim.time m) at) (earlier_than sim.time end q) z i in
       filter_keeps (λ m. nat_lt (sim.time m) at) q z (in_filter (λ m. nat_lt (sim.time m) end) q z h.0).0 h.1)
 
@@ -105,7 +120,8 @@ module _ {S M N : Type 0} {sim : Simulation S M N} {Good : ℕ → S → Type 0}
       let is : run_of sim (with_end c at) front ≡ run_of sim c front = ap (run sim c.plans) same in
       let d : all_due sim (with_end c at) front ≡ earlier_than sim.time at (all_due sim c front) =
       ap (λ w. earlier_than sim.time at w.pending) is
-      ∙ earlier_end (run_of sim c front).pending at (end_of sim c) e (run_fine law c.plans (min front (end_of sim c))).sorted in
+      ∙ earlier_end (run_of sim c front).pending at (end_of sim c) e
+      (run_fine law c.plans (min front (end_of sim c))).sorted in
       record {
         world = ap (λ w. w.at) is;
         due = d;

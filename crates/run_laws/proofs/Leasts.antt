@@ -1,5 +1,6 @@
 -- The least time of messages: by what holds of them, and of lists in order.
-use Rattle.std.proofs.Common.{◌≡◌, ◌⊎◌, ℕ, ◌<◌, ◌≤◌, min, List, [], ◌∷◌, Option, Some, None, true, false, cond, nat_lt, inl, inr, refl, sym, ap, ◌∙◌, arith}
+use Rattle.std.proofs.Common.{◌≡◌, ◌⊎◌, ℕ, ◌<◌, ◌≤◌, min, List, [], ◌∷◌, Option, Some, None}
+use Rattle.std.proofs.Common.{true, false, cond, nat_lt, inl, inr, refl, sym, ap, ◌∙◌, arith}
 use Rattle.std.specs.declared.cmp.Ordering.{Ordering}
 use Rattle.std.specs.declared.cmp.Ordering.TheVariants.{Less, Equal, Greater}
 use Rattle.std.proofs.lemmas.Bool.{cases_lt, lt-ltb, le-ltb}
@@ -8,7 +9,7 @@ use Rattle.run_laws.specs.Window.{earlier_than}
 use Rattle.run_laws.specs.Fronts.{earlier, least_time}
 use Rattle.run_laws.specs.Handlers.{IsTimed}
 use Rattle.run_laws.specs.FrontLaws.{time_before, IsLeastTime}
-use Rattle.run_laws.proofs.Queue.{all_weaker}
+use Rattle.sim_base.proofs.Placing.{all_weaker}
 use Rattle.run_laws.proofs.Lists.{filter_none}
 
 -- ---- IsLeastTime
@@ -18,14 +19,20 @@ module _ {M : Type 0} (time : M → ℕ) where
   pub least-either : (P Q : M → Type 0) (t u : Option ℕ) → IsLeastTime time P t → IsLeastTime time Q u →
       IsLeastTime time (λ m. P m ⊎ Q m) (earlier t u)
   least-either P Q None None a b = λ m h. elim h [ inl p ↦ a m p | inr q ↦ b m q ]
-  least-either P Q None (Some u) a b = ((b.0.0, inr b.0.1, b.0.2), λ m h. elim h [ inl p ↦ absurd (a m p) | inr q ↦ b.1 m q ])
-  least-either P Q (Some t) None a b = ((a.0.0, inl a.0.1, a.0.2), λ m h. elim h [ inl p ↦ a.1 m p | inr q ↦ absurd (b m q) ])
+  least-either P Q None (Some u) a b =
+      ((b.0.0, inr b.0.1, b.0.2), λ m h. elim h [ inl p ↦ absurd (a m p) | inr q ↦ b.1 m q ])
+  least-either P Q (Some t) None a b =
+      ((a.0.0, inl a.0.1, a.0.2), λ m h. elim h [ inl p ↦ a.1 m p | inr q ↦ absurd (b m q) ])
   least-either P Q (Some t) (Some u) a b = (
     elim (cases_lt u t) [
       | inl l ↦ let e = b.0.2 in (b.0.0, inr b.0.1, omega (arith, e, l))
       | inr l ↦ let e = a.0.2 in (a.0.0, inl a.0.1, omega (arith, e, l))
     ],
-    λ m h. elim h [ inl p ↦ let k : t ≤ time m = a.1 m p in omega (arith, k) | inr q ↦ let k : u ≤ time m = b.1 m q in omega (arith, k) ],
+    λ m h. elim h [
+      | inl p ↦ let k : t ≤ time m = a.1 m p in omega (arith, k)
+      | inr q ↦ let k : u ≤ time m = b.1 m q in
+          omega (arith, k)
+    ],
   )
 
   -- there is one least time, also where two properties hold of the same messages
@@ -65,11 +72,14 @@ module _ {M : Type 0} {cmp : M → M → Ordering} {time : M → ℕ} (o : IsTim
       least_time time rest ≡ earlier (Some (time x)) (least_time time ys) →
       least_time time (place r x y ys rest) ≡ earlier (Some (time x)) (least_time time (y ∷ ys))
   least_place Less x y ys rest e h = refl
-  least_place Equal x y ys rest e h = sym (ap (λ u. earlier (Some (time u)) (least_time time (y ∷ ys))) (o.order.same x y e) ∙ twice (time y) (least_time time ys))
+  least_place Equal x y ys rest e h =
+      sym (ap (λ u. earlier (Some (time u)) (least_time time (y ∷ ys))) (o.order.same x y e)
+      ∙ twice (time y) (least_time time ys))
   least_place Greater x y ys rest e h = ap (earlier (Some (time y))) h ∙ swapped (time y) (time x) (least_time time ys)
 
   -- with a message more the least time is the lesser of the two
-  pub least-insert : (x : M) (q : List M) → least_time time (insert cmp x q) ≡ earlier (Some (time x)) (least_time time q)
+  pub least-insert : (x : M) (q : List M)
+      → least_time time (insert cmp x q) ≡ earlier (Some (time x)) (least_time time q)
   least-insert x [] = refl
   least-insert x (y ∷ ys) = least_place (cmp x y) x y ys (insert cmp x ys) refl (least-insert x ys)
 
@@ -85,7 +95,8 @@ module _ {M : Type 0} {cmp : M → M → Ordering} {time : M → ℕ} (o : IsTim
   pub least-earlier_than : (at : ℕ) (q : List M) → Sorted cmp q →
       least_time time (earlier_than time at q) ≡ time_before at (least_time time q)
   least-earlier_than at [] s = refl
-  least-earlier_than at (m ∷ q) s = ap (λ b. least_time time (cond b (m ∷ earlier_than time at q) (earlier_than time at q))) refl
+  least-earlier_than at (m ∷ q) s =
+      ap (λ b. least_time time (cond b (m ∷ earlier_than time at q) (earlier_than time at q))) refl
       ∙ elim (cases_lt (time m) at) [
         | inl l ↦
             let yes : nat_lt (time m) at ≡ true = lt-ltb (time m) at l in
@@ -95,7 +106,9 @@ module _ {M : Type 0} {cmp : M → M → Ordering} {time : M → ℕ} (o : IsTim
         | inr l ↦
             let no : nat_lt (time m) at ≡ false = le-ltb (time m) at l in
             ap (λ b. least_time time (cond b (m ∷ earlier_than time at q) (earlier_than time at q))) no
-            ∙ ap (least_time time) (filter_none (λ m. nat_lt (time m) at) q (all_weaker (λ y. cmp m y ≡ Less) (λ y. nat_lt (time y) at ≡ false) q (λ y e. let h : time m ≤ time y = o.timed m y e in le-ltb (time y) at (omega (arith, h, l))) s.0))
+            ∙ ap (least_time time) (filter_none (λ m. nat_lt (time m) at) q
+            (all_weaker (λ y. cmp m y ≡ Less) (λ y. nat_lt (time y) at ≡ false) q
+            (λ y e. let h : time m ≤ time y = o.timed m y e in le-ltb (time y) at (omega (arith, h, l))) s.0))
             ∙ sym (ap (time_before at) (least-first m q s) ∙ ap (λ b. cond b (Some (time m)) None) no)
       ]
     where
@@ -105,10 +118,12 @@ module _ {M : Type 0} {cmp : M → M → Ordering} {time : M → ℕ} (o : IsTim
       first_of at m (y ∷ ys) l s = elim (cases_lt (time y) at) [
         | inl k ↦
             let h : time m ≤ time y = o.timed m y s.0.0 in
-            ap (λ b. least_time time (m ∷ cond b (y ∷ earlier_than time at ys) (earlier_than time at ys))) (lt-ltb (time y) at k)
+            ap (λ b. least_time time (m ∷ cond b (y ∷ earlier_than time at ys) (earlier_than time at ys)))
+            (lt-ltb (time y) at k)
             ∙ ap (earlier (Some (time m))) (first_of at y ys k s.1)
             ∙ ap Some (let e : min (time m) (time y) ≡ time m = omega (arith, h) in e)
         | inr k ↦
-            ap (λ b. least_time time (m ∷ cond b (y ∷ earlier_than time at ys) (earlier_than time at ys))) (le-ltb (time y) at k)
+            ap (λ b. least_time time (m ∷ cond b (y ∷ earlier_than time at ys) (earlier_than time at ys)))
+            (le-ltb (time y) at k)
             ∙ first_of at m ys l (s.0.1, s.1.1)
       ]

@@ -1,5 +1,6 @@
 -- The prefixes that the logs of a copy's clones gain up to a bound, each log cut to the limit.
-use Rattle.std.proofs.Common.{◌≡◌, ℕ, zero, suc, ◌+◌, ◌-◌, ◌≤◌, ◌<◌, List, [], ◌∷◌, ◌++◌, ◌⊎◌, inl, inr, Bool, true, refl, sym, ap, ◌∙◌, subst, arith, append-nil, length, length-append, take}
+use Rattle.std.proofs.Common.{◌≡◌, ℕ, zero, suc, ◌+◌, ◌-◌, ◌≤◌, ◌<◌, List, [], ◌∷◌, ◌++◌, ◌⊎◌, inl, inr, Bool, true}
+use Rattle.std.proofs.Common.{refl, sym, ap, ◌∙◌, subst, arith, append-nil, length, length-append, take}
 use Rattle.std.proofs.lemmas.List.{take_all}
 use Rattle.sim_base.specs.declared.entry.Entry.{Entry}
 use Rattle.run_laws.specs.Queue.{In}
@@ -9,11 +10,13 @@ use Rattle.run_laws.specs.Window.{part_step}
 use Rattle.run_laws.specs.Handlers.{IsTimed}
 use Rattle.run_laws.specs.Prefixes.{IsCount, IsGained}
 use Rattle.sim_base.specs.Marked.{JoinsMarks, SortedMarked}
-use Rattle.run_laws.specs.Copies.{Copy, Carries, handle_until, handled_by, laid_aside, takes, taken, view, Settled, IsCutLog, GoesOver}
+use Rattle.run_laws.specs.Copies.{Copy, Carries, handle_until, handled_by, laid_aside, takes}
+use Rattle.run_laws.specs.Copies.{taken, view, Settled, IsCutLog, GoesOver}
 use Rattle.run_laws.proofs.Machine.{reach_first, reach_trans, done_stays, done_no_next}
 use Rattle.run_laws.proofs.Parts.{sorted_part}
 use Rattle.run_laws.proofs.Prefixes.{gained_none, gained_more, gained_both, gained_same}
-use Rattle.run_laws.proofs.CopyViews.{append_cancel, new_entry, log_grows, log_begins, firsts_part, settled_or_next, handled_view}
+use Rattle.run_laws.proofs.CopyViews.{append_cancel, new_entry, log_grows, log_begins}
+use Rattle.run_laws.proofs.CopyViews.{firsts_part, settled_or_next, handled_view}
 
 -- a list that goes on, cut where its first part is not longer than the limit
 pub cut_goes_on : {E : Type 0} (limit : ℕ) (xs g : List E) → length xs ≤ limit →
@@ -21,7 +24,8 @@ pub cut_goes_on : {E : Type 0} (limit : ℕ) (xs g : List E) → length xs ≤ l
 cut_goes_on limit [] g l = ap (λ n. take n g) (let e : limit ≡ limit - 0 = omega arith in e)
 cut_goes_on zero (x ∷ xs) g l = absurd (omega arith)
 cut_goes_on (suc limit) (x ∷ xs) g l = ap (λ u. x ∷ u)
-    (cut_goes_on limit xs g (omega arith) ∙ ap (λ n. xs ++ take n g) (let e : limit - length xs ≡ suc limit - suc (length xs) = omega arith in e))
+    (cut_goes_on limit xs g (omega arith)
+    ∙ ap (λ n. xs ++ take n g) (let e : limit - length xs ≡ suc limit - suc (length xs) = omega arith in e))
 
 -- cut where its first part ends, a list is that part
 cut_at : {E : Type 0} (limit : ℕ) (xs g : List E) → length xs ≡ limit → take limit (xs ++ g) ≡ xs
@@ -56,7 +60,8 @@ module _ {S M N K : Type 0} (sim : Simulation S M N) (has : K → ℕ → Bool) 
   pub cut_full : (r : Copy S M N K) (sent : List (M × K)) → length r.log ≡ sim.limit →
       IsCount (IsGained (IsCutLog sim has ends s bound r sent) r.log) 0
   cut_full r sent e = gained_none (IsCutLog sim has ends s bound r sent) r.log (λ k h.
-      let g = log_grows sim s bound (ends h.clone) h.ran in h.is ∙ (ap (take sim.limit) g.1 ∙ cut_at sim.limit r.log g.0 e))
+      let g = log_grows sim s bound (ends h.clone) h.ran in
+      h.is ∙ (ap (take sim.limit) g.1 ∙ cut_at sim.limit r.log g.0 e))
 
   -- a clone of such a copy that takes a message before the bound goes over the limit
   pub goes_over : (r : Copy S M N K) (sent : List (M × K)) (c : ℕ) (m : M) (q : List M) → length r.log ≡ sim.limit →
@@ -75,15 +80,19 @@ module _ {S M N K : Type 0} (sim : Simulation S M N) (has : K → ℕ → Bool) 
       t ≡ r.log ++ x ∷ u → (v : List (Entry M N)) × (g.last.at.log ≡ r.log ++ x ∷ v)
   first_gained r sent t g x u l e =
       let h = log_grows sim s bound (ends g.clone) g.ran in
-      let k : x ∷ u ≡ take (sim.limit - length r.log) h.0 = append_cancel r.log (x ∷ u) (take (sim.limit - length r.log) h.0) (sym e ∙ (g.is ∙ (ap (take sim.limit) h.1 ∙ cut_goes_on sim.limit r.log h.0 l))) in
+      let k : x ∷ u ≡ take (sim.limit - length r.log) h.0 =
+      append_cancel r.log (x ∷ u) (take (sim.limit - length r.log) h.0)
+      (sym e ∙ (g.is ∙ (ap (take sim.limit) h.1 ∙ cut_goes_on sim.limit r.log h.0 l))) in
       let f = first_of_cut (sim.limit - length r.log) h.0 x u (sym k) in
       (f.0, h.1 ∙ ap (λ w. r.log ++ w) f.1)
 
   -- the clones that take m and those that do not gain different prefixes
   pub cut_split : (o : IsTimed sim.order sim.time) (r : Copy S M N K) (sent : List (M × K))
       (One Two : List (Entry M N) → Type 0) (i j : ℕ) (m : M) → length r.log ≤ sim.limit → sim.time m < bound →
-      ((l : List (Entry M N)) → One l → (g : IsCutLog sim has ends s bound r sent l) × (q : List M) × (taken sim has ends g.clone r.pending ≡ m ∷ q)) →
-      ((l : List (Entry M N)) → Two l → (g : IsCutLog sim has ends s bound r sent l) × ((z : M) → In z (taken sim has ends g.clone r.pending) → z ≡ m → ⊥)) →
+      ((l : List (Entry M N)) → One l → (g : IsCutLog sim has ends s bound r sent l) × (q : List M)
+      × (taken sim has ends g.clone r.pending ≡ m ∷ q)) →
+      ((l : List (Entry M N)) → Two l → (g : IsCutLog sim has ends s bound r sent l)
+      × ((z : M) → In z (taken sim has ends g.clone r.pending) → z ≡ m → ⊥)) →
       ((l : List (Entry M N)) → IsCutLog sim has ends s bound r sent l → One l ⊎ Two l) →
       SortedMarked sim.order r.pending →
       IsCount (IsGained One r.log) i → IsCount (IsGained Two r.log) j →
@@ -96,8 +105,10 @@ module _ {S M N K : Type 0} (sim : Simulation S M N) (has : K → ℕ → Bool) 
       let h2 = g (r.log ++ x ∷ v) p2 in
       let k1 = first_gained r sent (r.log ++ x ∷ u) h1.0 x u l refl in
       let k2 = first_gained r sent (r.log ++ x ∷ v) h2.0 x v l refl in
-      firsts_part sim s bound (ends h1.0.clone) (ends h2.0.clone) (view sim has ends h1.0.clone r sent) (view sim has ends h2.0.clone r sent) h1.0.last h2.0.last m h1.1 x k1.0 k2.0 refl h1.2 early h2.1
-      (settled_or_next sim s bound o (view sim has ends h2.0.clone r sent) (sorted_part (takes sim has ends) sim.order h2.0.clone r.pending sorted))
+      firsts_part sim s bound (ends h1.0.clone) (ends h2.0.clone) (view sim has ends h1.0.clone r sent)
+      (view sim has ends h2.0.clone r sent) h1.0.last h2.0.last m h1.1 x k1.0 k2.0 refl h1.2 early h2.1
+      (settled_or_next sim s bound o (view sim has ends h2.0.clone r sent)
+      (sorted_part (takes sim has ends) sim.order h2.0.clone r.pending sorted))
       h1.0.ran h1.0.settled h2.0.ran h2.0.settled k1.1 k2.1) a b)
 
 module _ {S M N K : Type 0} (sim : Simulation S M N) {has : K → ℕ → Bool} {join : K → K → K} (j : JoinsMarks has join)
@@ -107,19 +118,43 @@ module _ {S M N K : Type 0} (sim : Simulation S M N) {has : K → ℕ → Bool} 
       (some : (l : List (Entry M N)) × IsCutLog sim has ends s bound r sent l) → length r.log < sim.limit →
       r.pending ≡ (m, k) ∷ q → SortedMarked sim.order r.pending →
       ((c : ℕ) → Carries has r c → takes sim has ends m k c ≡ true) → sim.time m < bound →
-      IsCount (IsGained (IsCutLog sim has ends s bound (handled_by sim join s r m q) (sent ++ laid_aside sim s r m)) (handled_by sim join s r m q).log) n →
+      IsCount (IsGained (IsCutLog sim has ends s bound (handled_by sim join s r m q) (sent ++ laid_aside sim s r m))
+      (handled_by sim join s r m q).log) n →
       IsCount (IsGained (IsCutLog sim has ends s bound r sent) r.log) (n + 1)
   cut_handle r m k q sent n some l p sorted all early h =
       let x : Entry M N = new_entry sim s bound r.state m in
       let new : Copy S M N K = handled_by sim join s r m q in
       let out : List (M × K) = sent ++ laid_aside sim s r m in
-      let next : (c : ℕ) → Carries has r c → Next sim.order sim.time (part_step sim.to (handle_until sim (ends c)) s) bound (view sim has ends c r sent) (view sim has ends c new out) = λ c i. handled_view sim j ends o s bound c r m k q sent p sorted i (all c i) early in
-      let there : (t : List (Entry M N)) → IsCutLog sim has ends s bound r sent t → IsCutLog sim has ends s bound new out t = λ t g.
+      let next : (c : ℕ) → Carries has r c
+      → Next sim.order sim.time (part_step sim.to (handle_until sim (ends c)) s) bound
+      (view sim has ends c r sent) (view sim has ends c new out) =
+      λ c i. handled_view sim j ends o s bound c r m k q sent p sorted i (all c i) early in
+      let there : (t : List (Entry M N)) → IsCutLog sim has ends s bound r sent t
+      → IsCutLog sim has ends s bound new out t = λ t g.
       elim (reach_first g.ran (next g.clone g.is_in)) [
-        | inl e ↦ absurd (done_no_next (view sim has ends g.clone r sent) (view sim has ends g.clone new out) (subst (Settled sim has ends s bound) e g.settled) (next g.clone g.is_in))
-        | inr ran ↦ record { clone = g.clone; is_in = g.is_in; last = g.last; ran = ran; settled = g.settled; is = g.is }
+        | inl e ↦ absurd (done_no_next (view sim has ends g.clone r sent) (view sim has ends g.clone new out)
+            (subst (Settled sim has ends s bound) e g.settled) (next g.clone g.is_in))
+        | inr ran ↦ record {
+          clone = g.clone;
+          is_in = g.is_in;
+          last = g.last;
+          ran = ran;
+          settled = g.settled;
+          is = g.is;
+        }
       ] in
-      let back : (t : List (Entry M N)) → IsCutLog sim has ends s bound new out t → IsCutLog sim has ends s bound r sent t = λ t g. record { clone = g.clone; is_in = g.is_in; last = g.last; ran = reach_trans (go stay (next g.clone g.is_in)) g.ran; settled = g.settled; is = g.is } in
+      let back : (t : List (Entry M N)) → IsCutLog sim has ends s bound new out t
+      → IsCutLog sim has ends s bound r sent t =
+      λ t g. record {
+        clone = g.clone;
+        is_in = g.is_in;
+        last = g.last;
+        ran = reach_trans (go stay (next g.clone g.is_in)) g.ran;
+        settled = g.settled;
+        is = g.is;
+      } in
       gained_more (IsCutLog sim has ends s bound r sent) r.log x n some
-      (λ t g. let u = there t g in cut_more sim.limit r.log x u.last.at.log t l u.is (log_grows sim s bound (ends u.clone) u.ran))
-      (gained_same (IsCutLog sim has ends s bound new out) (IsCutLog sim has ends s bound r sent) new.log n back there h)
+      (λ t g. let u = there t g in cut_more sim.limit r.log x u.last.at.log t l u.is
+      (log_grows sim s bound (ends u.clone) u.ran))
+      (gained_same (IsCutLog sim has ends s bound new out) (IsCutLog sim has ends s bound r sent) new.log n back there
+      h)

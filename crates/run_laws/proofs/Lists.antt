@@ -1,5 +1,6 @@
 -- What is in a part of a list, and in two lists together.
-use Rattle.std.proofs.Common.{◌≡◌, ℕ, List, [], ◌∷◌, ◌++◌, ◌⊎◌, inl, inr, Bool, true, false, cond, not, refl, sym, ap, ◌∙◌, subst, ◌==◌, eq-eqb, eqb-true}
+use Rattle.std.proofs.Common.{◌≡◌, ℕ, List, [], ◌∷◌, ◌++◌, ◌⊎◌, inl, inr, Bool, true}
+use Rattle.std.proofs.Common.{false, cond, not, refl, sym, ap, ◌∙◌, subst, ◌==◌, eq-eqb, eqb-true}
 use Rattle.std.specs.declared.cmp.Ordering.{Ordering}
 use Rattle.std.specs.declared.cmp.Ordering.TheVariants.{Less}
 use Rattle.std.specs.List.{AllByRecursion, filter}
@@ -73,7 +74,8 @@ filter_if p true x xs = refl
 filter_if p false x xs = refl
 
 -- two conditions may change places
-if_if : {X : Type 0} (a b : Bool) (x : X) (ys : List X) → cond b (cond a (x ∷ ys) ys) ys ≡ cond a (cond b (x ∷ ys) ys) ys
+if_if : {X : Type 0} (a b : Bool) (x : X) (ys : List X)
+    → cond b (cond a (x ∷ ys) ys) ys ≡ cond a (cond b (x ∷ ys) ys) ys
 if_if true true x ys = refl
 if_if true false x ys = refl
 if_if false true x ys = refl
@@ -100,7 +102,8 @@ module _ {X : Type 0} {cmp : X → X → Ordering} (o : IsOrder cmp) (p : X → 
         | inr a ↦ insert_old o x (filter p q) z (filter_keeps p q z a h.1)
       ])
       (λ z i. elim (in_insert o x (filter p q) z i) [
-        | inl a ↦ filter_keeps p (insert cmp x q) z (subst (λ w. In w (insert cmp x q)) (sym a) (insert_new o x q)) (ap p a ∙ e)
+        | inl a ↦ filter_keeps p (insert cmp x q) z (subst (λ w. In w (insert cmp x q)) (sym a) (insert_new o x q))
+            (ap p a ∙ e)
         | inr a ↦ let h = in_filter p q z a in filter_keeps p (insert cmp x q) z (insert_old o x q z h.0) h.1
       ])
   filter_insert_by false e = same_elements o (filter p (insert cmp x q)) (filter p q)
@@ -172,7 +175,8 @@ module _ {M : Type 0} (to : M → ℕ) where
 
   -- and those to others
   pub in_others : (s : ℕ) (xs : List M) (z : M) → In z (to_others to s xs) → In z xs × (to z ≡ s → ⊥)
-  in_others s xs z i = let h = in_filter (λ m. not (to m == s)) xs z i in (h.0, λ e. false≢true (sym (ap not (eq-eqb (to z) s e)) ∙ h.1))
+  in_others s xs z i = let h = in_filter (λ m. not (to m == s)) xs z i in
+      (h.0, λ e. false≢true (sym (ap not (eq-eqb (to z) s e)) ∙ h.1))
 
   -- what is among them and to another is one of them
   pub others_from : (s : ℕ) (xs : List M) (z : M) → In z xs → (to z ≡ s → ⊥) → In z (to_others to s xs)

@@ -24,7 +24,8 @@ module _ {X M : Type 0} {cmp : M → M → Ordering} {time : M → ℕ} {handle 
       (d ≡ c) ⊎ Reach cmp time handle bound e d
   reach_first stay k = inl refl
   reach_first {c} {d} {e} (go {d = before} r n) k = elim (reach_first r k) [
-    | inl p ↦ inr (subst (λ x. Reach cmp time handle bound e x) (next_unique k (subst (λ x. Next cmp time handle bound x d) p n)) stay)
+    | inl p ↦ inr (subst (λ x. Reach cmp time handle bound e x)
+        (next_unique k (subst (λ x. Next cmp time handle bound x d) p n)) stay)
     | inr s ↦ inr (go s n)
   ]
 
@@ -42,13 +43,15 @@ module _ {X M : Type 0} {cmp : M → M → Ordering} {time : M → ℕ} {handle 
 
   -- with nothing left before the bound there is no next message
   pub done_no_next : (c e : Config X M) → Done time bound c → Next cmp time handle bound c e → ⊥
-  done_no_next c e d n = let h = subst (AllByRecursion (λ m. bound ≤ time m)) n.pending d in let a : bound ≤ time n.m = h.0 in let b = n.early in omega arith
+  done_no_next c e d n = let h = subst (AllByRecursion (λ m. bound ≤ time m)) n.pending d in
+      let a : bound ≤ time n.m = h.0 in let b = n.early in omega arith
 
   -- with nothing left before the bound there is no turn
   pub done_stays : {c d : Config X M} → Done time bound c → Reach cmp time handle bound c d → d ≡ c
   done_stays f stay = refl
   done_stays {c}
-      {d} f (go {d = before} r n) = absurd (done_no_next c d f (subst (λ x. Next cmp time handle bound x d) (done_stays f r) n))
+      {d} f (go {d = before} r n) = absurd
+      (done_no_next c d f (subst (λ x. Next cmp time handle bound x d) (done_stays f r) n))
 
   -- two that are reached and have nothing left are one
   pub ends_same : {c d e : Config X M} → Reach cmp time handle bound c d → Done time bound d →
@@ -57,7 +60,8 @@ module _ {X M : Type 0} {cmp : M → M → Ordering} {time : M → ℕ} {handle 
 
   -- what holds at the start and is kept by each turn holds at the end
   pub reach_keeps : {c d : Config X M} (P : Config X M → Type 0) → P c →
-      ((x : X) (m : M) (q : List M) → time m < bound → P (record { at = x; pending = m ∷ q }) → P (after cmp handle x m q)) →
+      ((x : X) (m : M) (q : List M) → time m < bound → P (record { at = x; pending = m ∷ q })
+      → P (after cmp handle x m q)) →
       Reach cmp time handle bound c d → P d
   reach_keeps P a f stay = a
   reach_keeps {c} {d} P a f (go {d = e} r n) = subst P (sym n.is)

@@ -6,7 +6,8 @@ use Rattle.std.specs.declared.cmp.Ordering.TheVariants.{Less, Equal, Greater}
 use Rattle.std.specs.Cmp.{IsTotalOrder, tied_itself}
 use Rattle.std.specs.List.{AllByRecursion}
 use Rattle.run_laws.specs.Queue.{In, Sorted}
-use Rattle.run_laws.proofs.Queue.{all_in, all_from, all_weaker}
+use Rattle.sim_base.proofs.Placing.{all_weaker}
+use Rattle.run_laws.proofs.Queue.{all_in, all_from}
 use Rattle.run_laws.specs.Merges.{pick, merge_at, merge}
 
 -- ---- In
@@ -80,7 +81,8 @@ module _ {X : Type 0} {cmp : X → X → Ordering} (total : IsTotalOrder cmp) wh
   rest_has : (x y : X) (p q : List X) → x ≡ y → AllByRecursion (λ z. cmp x z ≡ Less) p →
       ((z : X) → In z (x ∷ p) → In z (y ∷ q)) → (z : X) → In z p → In z q
   rest_has x y p q e l f z i = elim (f z (inr i)) [
-    | inl k ↦ absurd (not_first_itself x (subst (λ w. cmp x w ≡ Less) (k ∙ sym e) (all_in (λ z. cmp x z ≡ Less) p z l i)))
+    | inl k ↦ absurd (not_first_itself x
+        (subst (λ w. cmp x w ≡ Less) (k ∙ sym e) (all_in (λ z. cmp x z ≡ Less) p z l i)))
     | inr j ↦ j
   ]
 
@@ -95,7 +97,8 @@ module _ {X : Type 0} {cmp : X → X → Ordering} (total : IsTotalOrder cmp) wh
         | inl e ↦ e
         | inr i ↦ elim (g y (inl refl)) [
           | inl e ↦ sym e
-          | inr j ↦ absurd (not_each_first x y (all_in (λ z. cmp x z ≡ Less) p y s.0 j) (all_in (λ z. cmp y z ≡ Less) q x t.0 i))
+          | inr j ↦ absurd (not_each_first x y (all_in (λ z. cmp x z ≡ Less) p y s.0 j)
+              (all_in (λ z. cmp y z ≡ Less) q x t.0 i))
         ]
       ] in
       let r : p ≡ q = same_rising p q s.1 t.1 (rest_has x y p q e s.0 f) (rest_has y x q p (sym e) t.0 g) in
@@ -117,11 +120,21 @@ module _ {X : Type 0} {cmp : X → X → Ordering} (total : IsTotalOrder cmp) wh
       NoTies (x ∷ xs) (y ∷ ys) →
       Sorted cmp (merge cmp xs (y ∷ ys)) → Sorted cmp (merge cmp (x ∷ xs) ys) →
       Sorted cmp (pick r x y (merge cmp xs (y ∷ ys)) (merge cmp (x ∷ xs) ys))
-  sorted_pick Less x y xs ys e s t apart a b = (before_merge x xs (y ∷ ys) s.0 (e, all_weaker (λ z. cmp y z ≡ Less) (λ z. cmp x z ≡ Less) ys (λ z l. total.trans x y z e l) t.0), a)
+  sorted_pick Less x y xs ys e s t apart a b = (
+    before_merge x xs (y ∷ ys) s.0
+        (e, all_weaker (λ z. cmp y z ≡ Less) (λ z. cmp x z ≡ Less) ys (λ z l. total.trans x y z e l) t.0),
+    a,
+  )
   sorted_pick Equal x y xs ys e s t apart a b = absurd (apart x y (inl refl) (inl refl) e)
   sorted_pick Greater x y xs ys e s t apart a b =
-      let l : cmp y x ≡ Less = greater_turned x y e in
-      (before_merge y (x ∷ xs) ys (l, all_weaker (λ z. cmp x z ≡ Less) (λ z. cmp y z ≡ Less) xs (λ z k. total.trans y x z l k) s.0) t.0, b)
+      let l : cmp y x ≡ Less = greater_turned x y e in (
+        before_merge y (x ∷ xs) ys (
+          l,
+          all_weaker (λ z. cmp x z ≡ Less) (λ z. cmp y z ≡ Less) xs
+              (λ z k. total.trans y x z l k) s.0,
+        ) t.0,
+        b,
+      )
 
   sorted_merge_at : (x : X) (xs : List X) →
       ((ys : List X) → Sorted cmp ys → NoTies xs ys → Sorted cmp (merge cmp xs ys)) → (ys : List X) →

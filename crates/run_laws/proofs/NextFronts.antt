@@ -1,5 +1,6 @@
 -- A front rises, and the fronts of a run end at the horizon.
-use Rattle.std.proofs.Common.{◌≡◌, ℕ, zero, suc, ◌+◌, ◌<◌, ◌≤◌, min, List, [], ◌∷◌, inl, inr, Option, Some, None, nat_lt, refl, sym, ◌∙◌, arith, subst}
+use Rattle.std.proofs.Common.{◌≡◌, ℕ, zero, suc, ◌+◌, ◌<◌, ◌≤◌, min, List, [], ◌∷◌}
+use Rattle.std.proofs.Common.{inl, inr, Option, Some, None, nat_lt, refl, sym, ◌∙◌, arith, subst}
 use Rattle.std.specs.List.{AllByRecursion}
 use Rattle.std.specs.Cmp.{nat_cmp_is}
 use Rattle.std.specs.Ordering.{nat_cmp}
@@ -12,7 +13,8 @@ use Rattle.run_laws.specs.Runs.{end_of, run_of, all_due}
 use Rattle.run_laws.specs.Fronts.{earlier, least_time, least_of, least, window_end, next_front, AreFronts}
 use Rattle.run_laws.specs.Handlers.{HandlesLawfully}
 use Rattle.run_laws.specs.FrontLaws.{RiseToHorizon}
-use Rattle.run_laws.proofs.Queue.{all_in, all_from, all_weaker}
+use Rattle.sim_base.proofs.Placing.{all_weaker}
+use Rattle.run_laws.proofs.Queue.{all_in, all_from}
 use Rattle.run_laws.proofs.Lists.{in_filter}
 use Rattle.run_laws.proofs.Worlds.{run_reached}
 
@@ -37,7 +39,8 @@ module _ {S M N : Type 0} (sim : Simulation S M N) where
   window_end-far front [] a = omega arith
   window_end-far front (m ∷ q) a =
       let near : front ≤ sim.time m = a.0 in
-      window_end-earlier (min sim.horizon (front + sim.lookahead)) (Some (sim.time m)) (least_time sim.time q) (omega (arith, near)) (window_end-far front q a.1)
+      window_end-earlier (min sim.horizon (front + sim.lookahead)) (Some (sim.time m)) (least_time sim.time q)
+      (omega (arith, near)) (window_end-far front q a.1)
 
 -- ---- next_front
 
@@ -46,14 +49,17 @@ module _ {S M N : Type 0} {sim : Simulation S M N} {Good : ℕ → S → Type 0}
   pub all_due_from_front : (c : Clone) (front : ℕ) → AllByRecursion (λ m. front ≤ sim.time m) (all_due sim c front)
   all_due_from_front c front = all_from (λ m. front ≤ sim.time m) (all_due sim c front) (λ m i.
       let h = in_filter (λ m. nat_lt (sim.time m) (end_of sim c)) (run_of sim c front).pending m i in
-      let a : min front (end_of sim c) ≤ sim.time m = all_in (λ m. min front (end_of sim c) ≤ sim.time m) (run_of sim c front).pending m (run_reached law c.plans (min front (end_of sim c))).1.from_t h.0 in
+      let a : min front (end_of sim c) ≤ sim.time m =
+      all_in (λ m. min front (end_of sim c) ≤ sim.time m) (run_of sim c front).pending m
+      (run_reached law c.plans (min front (end_of sim c))).1.from_t h.0 in
       let b : sim.time m < end_of sim c = ltb-true (sim.time m) (end_of sim c) h.1 in
       omega (arith, a, b))
 
   -- each window may go on by the lookahead
   pub next_front-far : (cs : List Clone) (front : ℕ) → min sim.horizon (front + sim.lookahead) ≤ next_front sim cs front
   next_front-far [] front = omega arith
-  next_front-far (c ∷ cs) front = window_end-earlier sim (min sim.horizon (front + sim.lookahead)) (least_of sim c front)
+  next_front-far (c ∷ cs) front = window_end-earlier sim (min sim.horizon (front + sim.lookahead))
+      (least_of sim c front)
       (least sim cs front)
       (window_end-far sim front (all_due sim c front) (all_due_from_front c front))
       (next_front-far cs front)
@@ -75,7 +81,14 @@ module _ {S M N : Type 0} {sim : Simulation S M N} {Good : ℕ → S → Type 0}
       let is = h.1 in
       let first : front < f = subst (λ u. front < u) (sym is) (next_front-rises cs front l below) in
       record {
-        rise = ((less first, all_weaker (λ g. nat_cmp f g ≡ Less) (λ g. nat_cmp front g ≡ Less) fs (λ g e. nat_cmp_total.trans front f g (less first) e) r.rise.0), r.rise);
+        rise = (
+          (
+            less first,
+            all_weaker (λ g. nat_cmp f g ≡ Less) (λ g. nat_cmp front g ≡ Less) fs
+                (λ g e. nat_cmp_total.trans front f g (less first) e) r.rise.0,
+          ),
+          r.rise,
+        );
         within = (omega (arith, below), r.within);
         horizon = inr r.horizon;
       }

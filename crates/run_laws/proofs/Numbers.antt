@@ -1,5 +1,6 @@
 -- The numbers of a run's messages, by induction over its turns.
-use Rattle.std.proofs.Common.{◌≡◌, ℕ, suc, ◌+◌, ◌*◌, ◌<◌, ◌≤◌, min, List, [], ◌∷◌, ◌++◌, ◌⊎◌, inl, inr, refl, sym, ap, ◌∙◌, subst, arith, map, length, length-append}
+use Rattle.std.proofs.Common.{◌≡◌, ℕ, suc, ◌+◌, ◌*◌, ◌<◌, ◌≤◌, min, List, [], ◌∷◌, ◌++◌}
+use Rattle.std.proofs.Common.{◌⊎◌, inl, inr, refl, sym, ap, ◌∙◌, subst, arith, map, length, length-append}
 use Rattle.std.specs.declared.cmp.Ordering.{Ordering}
 use Rattle.std.specs.declared.cmp.Ordering.TheVariants.{Less}
 use Rattle.std.specs.Cmp.{IsTotalOrder, tied_itself}
@@ -15,14 +16,16 @@ use Rattle.run_laws.specs.Simulation.{Simulation}
 use Rattle.run_laws.specs.World.{World, log_of, put, world_step, openings, planned, begin}
 use Rattle.run_laws.specs.Runs.{end_of, run_of, log_at}
 use Rattle.run_laws.specs.Sharing.{IsBeyond}
-use Rattle.run_laws.specs.Handlers.{AllGood, IsStation, AreForStations, key_order, HandlesLawfully, SendsToStations, HandlesFreshly}
+use Rattle.run_laws.specs.Handlers.{AllGood, IsStation, AreForStations, key_order}
+use Rattle.run_laws.specs.Handlers.{HandlesLawfully, SendsToStations, HandlesFreshly}
 use Rattle.run_laws.specs.Laws.{IsMessageOf}
 use Rattle.run_laws.specs.Numbers.{UsesFewNumbers}
 use Rattle.run_laws.proofs.Queue.{all_in, in_insert_all}
 use Rattle.run_laws.proofs.Lists.{in_append}
 use Rattle.run_laws.proofs.Counts.{map_has}
 use Rattle.run_laws.proofs.Running.{fine_keeps}
-use Rattle.run_laws.proofs.Worlds.{put_cases, put_same, log_here, log_there, in_openings, entry_of, world_lawful, begins_fine, run_reached}
+use Rattle.run_laws.proofs.Worlds.{put_cases, put_same, log_here, log_there, in_openings}
+use Rattle.run_laws.proofs.Worlds.{entry_of, world_lawful, begins_fine, run_reached}
 use Rattle.run_laws.proofs.Rising.{key_total, begins_fresh, trace_rises, numbers_are_once}
 
 -- what is in a list with one element more at the end
@@ -50,7 +53,8 @@ module _ {X Y : Type 0} (f : X → Y) (cmp : Y → Y → Ordering) (total : IsTo
   same_image (z ∷ zs) x y s (inr i) (inr j) e = same_image zs x y s.1 i j e
 
 module _ {S M N : Type 0} {sim : Simulation S M N} {Good : ℕ → S → Type 0} {sender number : M → ℕ} {next : S → ℕ}
-    (law : HandlesLawfully sim Good) (stations : SendsToStations sim Good) (fresh : HandlesFreshly sim Good sender number next) where
+    (law : HandlesLawfully sim Good) (stations : SendsToStations sim Good)
+    (fresh : HandlesFreshly sim Good sender number next) where
   -- the world after station r handled m
   abbrev later_world : World S M N → M → List M → Config (World S M N) M
   later_world x m q = after sim.order (world_step sim.to sim.handle) x m q
@@ -58,7 +62,8 @@ module _ {S M N : Type 0} {sim : Simulation S M N} {Good : ℕ → S → Type 0}
   -- a world whose messages have numbers that are used up
   record Told (plans : List Planned) (w : Config (World S M N) M) : Type 0 where
     pub used : (z : M) → IsMessageOf w z →
-        ((sender z ≡ 0) × (number z < length plans)) ⊎ (IsStation sim (sender z) × (number z < next (w.at.states (sender z))))
+        ((sender z ≡ 0) × (number z < length plans))
+        ⊎ (IsStation sim (sender z) × (number z < next (w.at.states (sender z))))
     pub to_station : (z : M) → In z w.pending → IsStation sim (sim.to z)
 
   -- a message after a turn is one from before it, or was sent in it
@@ -71,10 +76,11 @@ module _ {S M N : Type 0} {sim : Simulation S M N} {Good : ℕ → S → Type 0}
         | inl j ↦ inr (inl j)
         | inr j ↦ inr (inr (inl j))
       ]
-  of_later x m q z (inr i) = elim (in_insert_all law.order.order (sim.handle (sim.to m) (x.states (sim.to m)) m).sends q z i) [
-    | inl j ↦ inl j
-    | inr j ↦ inr (inr (inr j))
-  ]
+  of_later x m q z (inr i) = elim (in_insert_all law.order.order (sim.handle (sim.to m) (x.states (sim.to m)) m).sends
+      q z i) [
+        | inl j ↦ inl j
+        | inr j ↦ inr (inr (inr j))
+      ]
 
   -- a turn keeps a world so
   told_step : (plans : List Planned) (x : World S M N) (m : M) (q : List M) → AllGood Good x →
@@ -123,14 +129,19 @@ module _ {S M N : Type 0} {sim : Simulation S M N} {Good : ℕ → S → Type 0}
   begins_told plans there =
       let h = begins_fresh law stations fresh plans there in
       let first : List M = openings sim sim.stations in
-      let pending : (z : M) → IsMessageOf (begin sim plans) z → In z (begin sim plans).pending = λ z i. elim i [ inl j ↦ absurd j | inr j ↦ j ] in
+      let pending : (z : M) → IsMessageOf (begin sim plans) z → In z (begin sim plans).pending =
+      λ z i. elim i [ inl j ↦ absurd j | inr j ↦ j ] in
       record {
         used = λ z i. elim (in_insert_all law.order.order (first ++ planned sim 0 plans) [] z (pending z i)) [
           | inl j ↦ elim (in_append first (planned sim 0 plans) z j) [
             | inl k ↦
                 let o = in_openings sim sim.stations z k in
                 let f = fresh.opened o.0 z o.1 o.2 in
-                inr (subst (IsStation sim) (sym f.0) o.1, subst (λ r. number z < next (sim.setup r).state) (sym f.0) f.1)
+                inr (
+                  subst (IsStation sim) (sym f.0) o.1,
+                  subst (λ r. number z < next (sim.setup r).state)
+                      (sym f.0) f.1,
+                )
             | inr k ↦ let p = planned_low 0 plans z k in let n = p.1 in inl (p.0, omega (arith, n))
           ]
           | inr j ↦ absurd j
@@ -149,8 +160,10 @@ module _ {S M N : Type 0} {sim : Simulation S M N} {Good : ℕ → S → Type 0}
         sender e.msg ≡ sender f.msg → number e.msg ≡ number f.msg → e ≡ f
     entries_apart e f i j s n =
         let trace : List (Entry M N) = (run_of sim c front).at.trace in
-        let handled : (g : Entry M N) → In g trace → In g.msg (map (λ e. e.msg) trace) = λ g k. map_has (λ e. e.msg) trace g k in
-        let same : e.msg ≡ f.msg = numbers_are_once law stations fresh c front e.msg f.msg there (inl (handled e i)) (inl (handled f j)) s n in
+        let handled : (g : Entry M N) → In g trace → In g.msg (map (λ e. e.msg) trace) =
+        λ g k. map_has (λ e. e.msg) trace g k in
+        let same : e.msg ≡ f.msg = numbers_are_once law stations fresh c front e.msg f.msg there (inl (handled e i))
+        (inl (handled f j)) s n in
         same_image (λ e. e.msg) (key_order sim.time sender number) (key_total sim.time sender number) trace e f
         (trace_rises law stations fresh c front there) i j same
 
@@ -163,17 +176,21 @@ module _ {S M N : Type 0} {sim : Simulation S M N} {Good : ℕ → S → Type 0}
     more : (k n u v : ℕ) → u ≤ most * (k + 1) → v ≤ u + most → n ≡ k + 1 → v ≤ most * (n + 1)
     more k n u v a b e = subst (λ n. v ≤ most * (n + 1)) (sym e) (grind (arith, a, b))
 
-    low_step : (plans : List Planned) (x : World S M N) (m : M) (q : List M) → AllGood Good x → IsStation sim (sim.to m) →
+    low_step : (plans : List Planned) (x : World S M N) (m : M) (q : List M) → AllGood Good x
+        → IsStation sim (sim.to m) →
         Low x → Low (later_world x m q).at
     low_step plans x m q good there low s is_station =
         let r : ℕ = sim.to m in
         let st : S = x.states r in
         let e : Entry M N = entry_of sim r st m in
-        put_cases (λ t u. IsStation sim t → next u ≤ most * (length (log_of sim.to t (x.trace ++ e ∷ [])) + 1)) x.states r (sim.handle r st m).state
-        (λ here. more (length (log_of sim.to r x.trace)) (length (log_of sim.to r (x.trace ++ e ∷ []))) (next st) (next (sim.handle r st m).state)
+        put_cases (λ t u. IsStation sim t → next u ≤ most * (length (log_of sim.to t (x.trace ++ e ∷ [])) + 1))
+        x.states r (sim.handle r st m).state
+        (λ here. more (length (log_of sim.to r x.trace)) (length (log_of sim.to r (x.trace ++ e ∷ []))) (next st)
+        (next (sim.handle r st m).state)
         (low r here) (few.grows r st m here (good r))
         (ap length (log_here sim.to r x.trace e refl) ∙ length-append (log_of sim.to r x.trace) (e ∷ [])))
-        (λ t n here. subst (λ l. next (x.states t) ≤ most * (length l + 1)) (sym (log_there sim.to t x.trace e (λ d. n (sym d)))) (low t here))
+        (λ t n here. subst (λ l. next (x.states t) ≤ most * (length l + 1))
+        (sym (log_there sim.to t x.trace e (λ d. n (sym d)))) (low t here))
         s is_station
 
     module _ (c : Clone) (front : ℕ) (there : AreForStations sim c.plans) where
@@ -181,7 +198,10 @@ module _ {S M N : Type 0} {sim : Simulation S M N} {Good : ℕ → S → Type 0}
       next_low : Low (run_of sim c front).at
       next_low = (fine_keeps law.order (world_lawful law) 0 (λ w. Told c.plans w × Low w.at)
           (begins_told c.plans there, λ s is_station. let o = few.opens s is_station in grind (arith, o))
-          (λ x m q f early h. (told_step c.plans x m q f.good h.0, low_step c.plans x m q f.good (h.0.to_station m (inl refl)) h.1))
+          (λ x m q f early h. (
+            told_step c.plans x m q f.good h.0,
+            low_step c.plans x m q f.good (h.0.to_station m (inl refl)) h.1,
+          ))
           (begins_fine law c.plans) (run_reached law c.plans (min front (end_of sim c))).0).1
 
       -- how high the number of a message is
@@ -195,7 +215,8 @@ module _ {S M N : Type 0} {sim : Simulation S M N} {Good : ℕ → S → Type 0}
 
       -- below a bound, where no log is beyond the limit
       pub numbers_fit : (bound : ℕ) (m : M) → ((s : ℕ) → IsStation sim s → IsBeyond sim s front c → ⊥) →
-          length c.plans ≤ bound → most * (sim.limit + 1) ≤ bound → IsMessageOf (run_of sim c front) m → number m < bound
+          length c.plans ≤ bound → most * (sim.limit + 1) ≤ bound → IsMessageOf (run_of sim c front) m
+          → number m < bound
       numbers_fit bound m within short enough i = elim (numbers_low m i) [
         | inl a ↦ let k = a.1 in omega (arith, k, short)
         | inr a ↦ elim (cases_lt sim.limit (length (log_at sim c (sender m) front))) [

@@ -1,5 +1,6 @@
 -- What clone c takes of marked messages, after an insertion and of lists together.
-use Rattle.std.proofs.Common.{◌≡◌, ℕ, List, [], ◌∷◌, ◌++◌, Bool, true, false, cond, refl, sym, ap, ◌∙◌, subst, ◌&&◌, ◌||◌, map, inl, inr}
+use Rattle.std.proofs.Common.{◌≡◌, ℕ, List, [], ◌∷◌, ◌++◌, Bool, true, false, cond}
+use Rattle.std.proofs.Common.{refl, sym, ap, ◌∙◌, subst, ◌&&◌, ◌||◌, map, inl, inr}
 use Rattle.std.specs.declared.cmp.Ordering.{Ordering}
 use Rattle.std.specs.declared.cmp.Ordering.TheVariants.{Less, Equal, Greater}
 use Rattle.std.specs.List.{AllByRecursion, filter}
@@ -9,7 +10,7 @@ use Rattle.run_laws.specs.Queue.{place, insert, insert_all, Sorted}
 use Rattle.run_laws.specs.Handlers.{IsOrder}
 use Rattle.sim_base.specs.Marked.{Above, SortedMarked}
 use Rattle.run_laws.specs.Copies.{part, insert_marked_all}
-use Rattle.run_laws.proofs.Queue.{all_weaker, less_if_greater}
+use Rattle.sim_base.proofs.Placing.{all_weaker, sorted_insert}
 
 module _ {M K : Type 0} (takes : M → K → ℕ → Bool) where
   -- a clone takes the first message, or not
@@ -32,7 +33,8 @@ module _ {M K : Type 0} (takes : M → K → ℕ → Bool) where
   ]
 
   -- what a clone takes is in order
-  pub sorted_part : (cmp : M → M → Ordering) (c : ℕ) (q : List (M × K)) → SortedMarked cmp q → Sorted cmp (part takes c q)
+  pub sorted_part : (cmp : M → M → Ordering) (c : ℕ) (q : List (M × K)) → SortedMarked cmp q
+      → Sorted cmp (part takes c q)
   sorted_part cmp c [] s = tt
   sorted_part cmp c (x ∷ q) s = elim (cases_Bool (takes x.0 x.1 c)) [
     | inl e ↦ subst (Sorted cmp) (sym (part_yes c x q e)) (above_part cmp c x.0 q s.0, sorted_part cmp c q s.1)
@@ -61,7 +63,8 @@ module _ {M K : Type 0} (takes : M → K → ℕ → Bool) where
   pub part-append : (c : ℕ) (xs ys : List (M × K)) → part takes c (xs ++ ys) ≡ part takes c xs ++ part takes c ys
   part-append c [] ys = refl
   part-append c (x ∷ xs) ys = elim (cases_Bool (takes x.0 x.1 c)) [
-    | inl e ↦ part_yes c x (xs ++ ys) e ∙ (ap (λ l. x.0 ∷ l) (part-append c xs ys) ∙ ap (λ l. l ++ part takes c ys) (sym (part_yes c x xs e)))
+    | inl e ↦ part_yes c x (xs ++ ys) e
+        ∙ (ap (λ l. x.0 ∷ l) (part-append c xs ys) ∙ ap (λ l. l ++ part takes c ys) (sym (part_yes c x xs e)))
     | inr e ↦ part_no c x (xs ++ ys) e ∙ (part-append c xs ys ∙ ap (λ l. l ++ part takes c ys) (sym (part_no c x xs e)))
   ]
 
@@ -109,7 +112,8 @@ module _ {M K : Type 0} (takes : M → K → ℕ → Bool) (join : K → K → K
   case_equal : (k y_has : Bool) (x y : M) (q : List M) → x ≡ y → cmp x y ≡ Equal →
       AllByRecursion (λ z. cmp y z ≡ Less) q → cond (y_has || k) (y ∷ q) q ≡ gets k x (cond y_has (y ∷ q) q)
   case_equal true true x y q d e f = sym (ap (λ r. place r x y q (insert cmp x q)) e)
-  case_equal true false x y q d e f = sym (insert_first cmp x q (subst (λ u. AllByRecursion (λ z. cmp u z ≡ Less) q) (sym d) f) ∙ ap (λ u. u ∷ q) d)
+  case_equal true false x y q d e f =
+      sym (insert_first cmp x q (subst (λ u. AllByRecursion (λ z. cmp u z ≡ Less) q) (sym d) f) ∙ ap (λ u. u ∷ q) d)
   case_equal false true x y q d e f = refl
   case_equal false false x y q d e f = refl
 
@@ -126,10 +130,16 @@ module _ {M K : Type 0} (takes : M → K → ℕ → Bool) (join : K → K → K
       SortedMarked cmp (y ∷ ys) → part takes c rest ≡ gets (takes x k c) x (part takes c ys) →
       part takes c (place_marked join r x k y ys rest) ≡ gets (takes x k c) x (part takes c (y ∷ ys))
   part_place Less c x k y ys rest e s h = ap (λ l. cond (takes x k c) l (part takes c (y ∷ ys)))
-      (sym (insert_first cmp x (part takes c (y ∷ ys)) (above_part takes cmp c x (y ∷ ys) (e, all_weaker (λ z. cmp y.0 z.0 ≡ Less) (λ z. cmp x z.0 ≡ Less) ys (λ z l. o.total.trans x y.0 z.0 e l) s.0))))
+      (sym (insert_first cmp x (part takes c (y ∷ ys))
+      (above_part takes cmp c x (y ∷ ys) (
+        e,
+        all_weaker (λ z. cmp y.0 z.0 ≡ Less) (λ z. cmp x z.0 ≡ Less) ys (λ z l. o.total.trans x y.0 z.0 e l)
+            s.0,
+      ))))
   part_place Equal c x k y ys rest e s h =
       ap (λ b. cond b (y.0 ∷ part takes c ys) (part takes c ys)) (joins y.0 y.1 k c)
-      ∙ case_equal (takes y.0 k c) (takes y.0 y.1 c) x y.0 (part takes c ys) (o.same x y.0 e) e (above_part takes cmp c y.0 ys s.0)
+      ∙ case_equal (takes y.0 k c) (takes y.0 y.1 c) x y.0 (part takes c ys) (o.same x y.0 e) e
+      (above_part takes cmp c y.0 ys s.0)
       ∙ ap (λ u. gets (takes u k c) x (part takes c (y ∷ ys))) (sym (o.same x y.0 e))
   part_place Greater c x k y ys rest e s h = case_greater (takes x k c) (takes y.0 y.1 c) x y.0 (part takes c ys)
       (part takes c rest) e h
@@ -138,34 +148,13 @@ module _ {M K : Type 0} (takes : M → K → ℕ → Bool) (join : K → K → K
   pub part-insert : (c : ℕ) (x : M) (k : K) (q : List (M × K)) → SortedMarked cmp q →
       part takes c (insert_marked join cmp x k q) ≡ cond (takes x k c) (insert cmp x (part takes c q)) (part takes c q)
   part-insert c x k [] s = refl
-  part-insert c x k (y ∷ ys) s = part_place (cmp x y.0) c x k y ys (insert_marked join cmp x k ys) refl s (part-insert c x k ys s.1)
-
-  -- what comes before all comes before the list with the message, wherever it goes
-  above_place : (r : Ordering) (m x : M) (k : K) (y : M × K) (ys rest : List (M × K)) → cmp m x ≡ Less →
-      Above cmp m (y ∷ ys) → Above cmp m rest → Above cmp m (place_marked join r x k y ys rest)
-  above_place Less m x k y ys rest e f g = (e, f)
-  above_place Equal m x k y ys rest e f g = f
-  above_place Greater m x k y ys rest e f g = (f.0, g)
-
-  -- and so after an insertion
-  above_insert : (m x : M) (k : K) (q : List (M × K)) → cmp m x ≡ Less → Above cmp m q →
-      Above cmp m (insert_marked join cmp x k q)
-  above_insert m x k [] e f = (e, tt)
-  above_insert m x k (y ∷ ys) e f = above_place (cmp x y.0) m x k y ys (insert_marked join cmp x k ys) e f (above_insert m x k ys e f.1)
-
-  -- the order is kept, wherever the message goes
-  sorted_place : (r : Ordering) (x : M) (k : K) (y : M × K) (ys : List (M × K)) → cmp x y.0 ≡ r →
-      SortedMarked cmp (y ∷ ys) → SortedMarked cmp (insert_marked join cmp x k ys) →
-      SortedMarked cmp (place_marked join r x k y ys (insert_marked join cmp x k ys))
-  sorted_place Less x k y ys e s t = ((e, all_weaker (λ z. cmp y.0 z.0 ≡ Less) (λ z. cmp x z.0 ≡ Less) ys (λ z l. o.total.trans x y.0 z.0 e l) s.0), s)
-  sorted_place Equal x k y ys e s t = s
-  sorted_place Greater x k y ys e s t = (above_insert y.0 x k ys (less_if_greater o x y.0 e) s.0, t)
+  part-insert c x k (y ∷ ys) s = part_place (cmp x y.0) c x k y ys (insert_marked join cmp x k ys) refl s
+      (part-insert c x k ys s.1)
 
   -- an insertion keeps the order
   pub sorted_insert_marked : (x : M) (k : K) (q : List (M × K)) → SortedMarked cmp q →
       SortedMarked cmp (insert_marked join cmp x k q)
-  sorted_insert_marked x k [] s = (tt, tt)
-  sorted_insert_marked x k (y ∷ ys) s = sorted_place (cmp x y.0) x k y ys refl s (sorted_insert_marked x k ys s.1)
+  sorted_insert_marked x k q s = sorted_insert o.total join x k q s
 
   -- several insertions keep the order
   pub sorted_insert_marked_all : (xs : List M) (k : K) (q : List (M × K)) → SortedMarked cmp q →

@@ -1,5 +1,6 @@
 -- The clones at their places, after a change of one and after a new one.
-use Rattle.std.proofs.Common.{◌≡◌, ℕ, zero, suc, ◌<◌, List, [], ◌∷◌, ◌++◌, inl, inr, refl, sym, ap, subst, arith, length, slice_set}
+use Rattle.std.proofs.Common.{◌≡◌, ℕ, zero, suc, ◌<◌, List, [], ◌∷◌, ◌++◌}
+use Rattle.std.proofs.Common.{inl, inr, refl, sym, ap, subst, arith, length, slice_set}
 use Rattle.std.proofs.lemmas.Bool.{cases_eq}
 use Rattle.sim_base.specs.Clones.{Clone, clone_at}
 use Rattle.run_laws.specs.Queue.{In}
@@ -23,7 +24,8 @@ clone_set_other (x ∷ xs) (suc who) (suc c) k n = clone_set_other xs who c k (�
 pub set_cases : (P : ℕ → Clone → Type 0) (cs : List Clone) (who : ℕ) (k : Clone) → who < length cs → P who k →
     ((c : ℕ) → (c ≡ who → ⊥) → P c (clone_at cs c)) → (c : ℕ) → P c (clone_at (slice_set cs who k) c)
 set_cases P cs who k l a b c = elim (cases_eq c who) [
-  | inl e ↦ subst (λ t. P t (clone_at (slice_set cs who k) t)) (sym e) (subst (P who) (sym (clone_set_same cs who k l)) a)
+  | inl e ↦ subst (λ t. P t (clone_at (slice_set cs who k) t)) (sym e)
+      (subst (P who) (sym (clone_set_same cs who k l)) a)
   | inr n ↦ subst (P c) (sym (clone_set_other cs who c k n)) (b c n)
 ]
 

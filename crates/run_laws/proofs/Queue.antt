@@ -5,6 +5,7 @@ use Rattle.std.specs.declared.cmp.Ordering.{Ordering}
 use Rattle.std.specs.declared.cmp.Ordering.TheVariants.{Less, Equal, Greater}
 use Rattle.std.specs.Cmp.{tied_itself}
 use Rattle.std.specs.List.{AllByRecursion}
+use Rattle.sim_base.proofs.Placing.{all_weaker}
 use Rattle.run_laws.specs.Queue.{place, insert, insert_all, In, Sorted}
 use Rattle.run_laws.specs.Handlers.{IsOrder}
 
@@ -18,12 +19,6 @@ all_in P (y ∷ ys) x h (inr i) = all_in P ys x h.1 i
 pub all_from : {X : Type 0} (P : X → Type 0) (xs : List X) → ((x : X) → In x xs → P x) → AllByRecursion P xs
 all_from P [] f = tt
 all_from P (y ∷ ys) f = (f y (inl refl), all_from P ys (λ x i. f x (inr i)))
-
--- what is said of all may be weakened
-pub all_weaker : {X : Type 0} (P Q : X → Type 0) (xs : List X) → ((x : X) → P x → Q x) → AllByRecursion P xs →
-    AllByRecursion Q xs
-all_weaker P Q [] f h = tt
-all_weaker P Q (x ∷ xs) f h = (f x h.0, all_weaker P Q xs f h.1)
 
 -- what is in a list after an element was put in its place
 in_place : {X : Type 0} (r : Ordering) (x y : X) (ys rest : List X) (z : X) → (In z rest → (z ≡ x) ⊎ In z ys) →
@@ -87,7 +82,8 @@ module _ {X : Type 0} {cmp : X → X → Ordering} (o : IsOrder cmp) where
   -- the order is kept, wherever the element goes
   sorted_place : (r : Ordering) (x y : X) (ys : List X) → cmp x y ≡ r → Sorted cmp (y ∷ ys) →
       Sorted cmp (insert cmp x ys) → Sorted cmp (place r x y ys (insert cmp x ys))
-  sorted_place Less x y ys e s t = ((e, all_weaker (λ z. cmp y z ≡ Less) (λ z. cmp x z ≡ Less) ys (λ z l. o.total.trans x y z e l) s.0), s)
+  sorted_place Less x y ys e s t =
+      ((e, all_weaker (λ z. cmp y z ≡ Less) (λ z. cmp x z ≡ Less) ys (λ z l. o.total.trans x y z e l) s.0), s)
   sorted_place Equal x y ys e s t = s
   sorted_place Greater x y ys e s t = (above_insert x y ys (less_if_greater x y e) s.0, t)
 
@@ -112,7 +108,8 @@ module _ {X : Type 0} {cmp : X → X → Ordering} (o : IsOrder cmp) where
   -- and the new ones are there
   pub insert_all_new : (xs q : List X) (z : X) → In z xs → In z (insert_all cmp xs q)
   insert_all_new [] q z i = absurd i
-  insert_all_new (x ∷ xs) q z (inl e) = insert_all_old xs (insert cmp x q) z (subst (λ w. In w (insert cmp x q)) (sym e) (insert_new x q))
+  insert_all_new (x ∷ xs) q z (inl e) = insert_all_old xs (insert cmp x q) z
+      (subst (λ w. In w (insert cmp x q)) (sym e) (insert_new x q))
   insert_all_new (x ∷ xs) q z (inr j) = insert_all_new xs (insert cmp x q) z j
 
   -- several insertions keep the order
@@ -132,7 +129,8 @@ module _ {X : Type 0} {cmp : X → X → Ordering} (o : IsOrder cmp) where
   rest_in : (x y : X) (p q : List X) → x ≡ y → AllByRecursion (λ z. cmp x z ≡ Less) p →
       ((z : X) → In z (x ∷ p) → In z (y ∷ q)) → (z : X) → In z p → In z q
   rest_in x y p q e l f z i = elim (f z (inr i)) [
-    | inl k ↦ absurd (not_below_itself x (subst (λ w. cmp x w ≡ Less) (k ∙ sym e) (all_in (λ z. cmp x z ≡ Less) p z l i)))
+    | inl k ↦ absurd (not_below_itself x
+        (subst (λ w. cmp x w ≡ Less) (k ∙ sym e) (all_in (λ z. cmp x z ≡ Less) p z l i)))
     | inr j ↦ j
   ]
 
@@ -147,7 +145,8 @@ module _ {X : Type 0} {cmp : X → X → Ordering} (o : IsOrder cmp) where
         | inl e ↦ e
         | inr i ↦ elim (g y (inl refl)) [
           | inl e ↦ sym e
-          | inr j ↦ absurd (not_both_first x y (all_in (λ z. cmp x z ≡ Less) p y s.0 j) (all_in (λ z. cmp y z ≡ Less) q x t.0 i))
+          | inr j ↦ absurd (not_both_first x y (all_in (λ z. cmp x z ≡ Less) p y s.0 j)
+              (all_in (λ z. cmp y z ≡ Less) q x t.0 i))
         ]
       ] in
       let r : p ≡ q = same_elements p q s.1 t.1 (rest_in x y p q e s.0 f) (rest_in y x q p (sym e) t.0 g) in
@@ -166,7 +165,8 @@ module _ {X : Type 0} {cmp : X → X → Ordering} (o : IsOrder cmp) where
         | inl e ↦ e
         | inr j ↦ elim i [
           | inl d ↦ sym d
-          | inr k ↦ absurd (not_both_first m y (all_in (λ z. cmp m z ≡ Less) q y s.0 j) (all_in (λ z. cmp y z ≡ Less) ys m t.0 k))
+          | inr k ↦ absurd (not_both_first m y (all_in (λ z. cmp m z ≡ Less) q y s.0 j)
+              (all_in (λ z. cmp y z ≡ Less) ys m t.0 k))
         ]
       ] in
       (ys, ap (λ x. x ∷ ys) e)

@@ -19,11 +19,13 @@ module _ {S M N : Type 0} (sim : Simulation S M N) where
   -- and a turn keeps it so
   replayed_step : (opening : ℕ → S) (x : World S M N) (m : M) →
       ((s : ℕ) → x.states s ≡ replay sim.to sim.handle s (opening s) (log_of sim.to s x.trace)) → (s : ℕ) →
-      (world_step sim.to sim.handle x m).0.states s ≡ replay sim.to sim.handle s (opening s) (log_of sim.to s (world_step sim.to sim.handle x m).0.trace)
+      (world_step sim.to sim.handle x m).0.states s ≡ replay sim.to sim.handle s (opening s)
+      (log_of sim.to s (world_step sim.to sim.handle x m).0.trace)
   replayed_step opening x m h =
       let r = sim.to m in
       let e : Entry M N = entry_of sim r (x.states r) m in
-      put_cases (λ s st. st ≡ replay sim.to sim.handle s (opening s) (log_of sim.to s (x.trace ++ e ∷ []))) x.states r (sim.handle r (x.states r) m).state
+      put_cases (λ s st. st ≡ replay sim.to sim.handle s (opening s) (log_of sim.to s (x.trace ++ e ∷ []))) x.states r
+      (sim.handle r (x.states r) m).state
       (sym (ap (replay sim.to sim.handle r (opening r)) (log_here sim.to r x.trace e refl)
       ∙ replay-push r (opening r) (log_of sim.to r x.trace) e
       ∙ ap (λ st. (sim.handle r st m).state) (sym (h r))))
@@ -34,7 +36,8 @@ module _ {S M N : Type 0} {sim : Simulation S M N} {Good : ℕ → S → Type 0}
   pub state_is_replay : (c : Clone) (s front : ℕ) →
       state_at sim c s front ≡ replay sim.to sim.handle s (sim.setup s).state (log_at sim c s front)
   state_is_replay c s front =
-      reach_keeps (λ w. (s : ℕ) → w.at.states s ≡ replay sim.to sim.handle s (sim.setup s).state (log_of sim.to s w.at.trace))
+      reach_keeps (λ w. (s : ℕ) → w.at.states s ≡ replay sim.to sim.handle s (sim.setup s).state
+      (log_of sim.to s w.at.trace))
       (λ s. refl)
       (λ x m q early h. replayed_step sim (λ s. (sim.setup s).state) x m h)
       (run_reached law c.plans (min front (end_of sim c))).0

@@ -1,5 +1,7 @@
--- The trace of a run rises strictly by time, sender and number, since no two messages of a run have one sender and number.
-use Rattle.std.proofs.Common.{◌≡◌, ℕ, suc, ◌<◌, min, List, [], ◌∷◌, ◌++◌, ◌⊎◌, inl, inr, Some, refl, sym, ap, ◌∙◌, subst, arith, map}
+-- The trace of a run rises strictly by time, sender and number, since no two messages of a run have one sender and
+-- number.
+use Rattle.std.proofs.Common.{◌≡◌, ℕ, suc, ◌<◌, min, List, [], ◌∷◌, ◌++◌, ◌⊎◌}
+use Rattle.std.proofs.Common.{inl, inr, Some, refl, sym, ap, ◌∙◌, subst, arith, map}
 use Rattle.std.specs.declared.cmp.Ordering.{Ordering}
 use Rattle.std.specs.declared.cmp.Ordering.TheVariants.{Less, Equal, Greater}
 use Rattle.std.specs.List.{AllByRecursion}
@@ -17,12 +19,14 @@ use Rattle.run_laws.specs.Machine.{Config, after}
 use Rattle.run_laws.specs.Simulation.{Simulation}
 use Rattle.run_laws.specs.World.{World, put, world_step, openings, planned, begin}
 use Rattle.run_laws.specs.Runs.{end_of, run_of}
-use Rattle.run_laws.specs.Handlers.{AllGood, IsStation, AreForStations, key_order, HandlesLawfully, SendsToStations, HandlesFreshly}
+use Rattle.run_laws.specs.Handlers.{AllGood, IsStation, AreForStations, key_order}
+use Rattle.run_laws.specs.Handlers.{HandlesLawfully, SendsToStations, HandlesFreshly}
 use Rattle.run_laws.specs.Laws.{IsMessageOf}
 use Rattle.run_laws.proofs.Queue.{all_in, all_from, in_insert_all, not_below_itself}
 use Rattle.run_laws.proofs.Lists.{in_append, sorted_append}
 use Rattle.run_laws.proofs.Running.{fine_keeps}
-use Rattle.run_laws.proofs.Worlds.{put_cases, put_same, in_openings, in_planned, entry_of, world_lawful, begins_fine, run_reached}
+use Rattle.run_laws.proofs.Worlds.{put_cases, put_same, in_openings, in_planned}
+use Rattle.run_laws.proofs.Worlds.{entry_of, world_lawful, begins_fine, run_reached}
 
 -- what is less by the first of two orders is less
 below_first : (x y : ℕ) (s : Ordering) → x < y → ordering_then (nat_cmp x y) s ≡ Less
@@ -42,7 +46,8 @@ module _ {M : Type 0} (time sender number : M → ℕ) where
   -- keys that tie have one sender and number
   key_same : (x y : M) → key_order time sender number x y ≡ Equal → (sender x ≡ sender y) × (number x ≡ number y)
   key_same x y e =
-      let h = both_equal (nat_cmp (time x) (time y)) (ordering_then (nat_cmp (sender x) (sender y)) (nat_cmp (number x) (number y))) e in
+      let h = both_equal (nat_cmp (time x) (time y))
+      (ordering_then (nat_cmp (sender x) (sender y)) (nat_cmp (number x) (number y))) e in
       let k = both_equal (nat_cmp (sender x) (sender y)) (nat_cmp (number x) (number y)) h.1 in
       (nat_same (sender x) (sender y) k.0, nat_same (number x) (number y) k.1)
 
@@ -70,17 +75,21 @@ module _ {S M N : Type 0} {sim : Simulation S M N} {Good : ℕ → S → Type 0}
       let e : Entry M N = entry_of sim r st m in
       let here : IsStation sim r = h.to_station m (inl refl) in
       let above_0 : 0 < r = here.0 in
-      let cases : (z : M) → In z (insert_all sim.order sent q) → In z sent ⊎ In z q = in_insert_all law.order.order sent q in
+      let cases : (z : M) → In z (insert_all sim.order sent q)
+      → In z sent ⊎ In z q = in_insert_all law.order.order sent q in
       -- each message was sent now, or was there
-      let seen : (z : M) → IsMessageOf (after sim.order (world_step sim.to sim.handle) x m q) z → In z sent ⊎ IsMessageOf (record { at = x; pending = m ∷ q }) z = λ z i. elim i [
-        | inl j ↦ elim (in_append (map (λ e. e.msg) x.trace) (m ∷ []) z (subst (In z) (map_push (λ e. e.msg) x.trace e) j)) [
-          | inl k ↦ inr (inl k)
-          | inr k ↦ elim k [ inl d ↦ inr (inr (inl d)) | inr n ↦ absurd n ]
-        ]
+      let seen : (z : M) → IsMessageOf (after sim.order (world_step sim.to sim.handle) x m q) z
+      → In z sent ⊎ IsMessageOf (record { at = x; pending = m ∷ q }) z = λ z i. elim i [
+        | inl j ↦ elim (in_append (map (λ e. e.msg) x.trace) (m ∷ []) z
+            (subst (In z) (map_push (λ e. e.msg) x.trace e) j)) [
+              | inl k ↦ inr (inl k)
+              | inr k ↦ elim k [ inl d ↦ inr (inr (inl d)) | inr n ↦ absurd n ]
+            ]
         | inr j ↦ elim (cases z j) [ inl k ↦ inl k | inr k ↦ inr (inr (inr k)) ]
       ] in
       -- what is sent has a number that no message had
-      let new : (z y : M) → In z sent → IsMessageOf (record { at = x; pending = m ∷ q }) y → sender z ≡ sender y → number z ≡ number y → ⊥ = λ z y i j e n.
+      let new : (z y : M) → In z sent → IsMessageOf (record { at = x; pending = m ∷ q }) y → sender z ≡ sender y
+      → number z ≡ number y → ⊥ = λ z y i j e n.
       let sz = fresh.mine r st m z here g i in
       let lz = fresh.low r st m z here g i in
       elim (h.used y j) [
@@ -88,33 +97,48 @@ module _ {S M N : Type 0} {sim : Simulation S M N} {Good : ℕ → S → Type 0}
         | inr a ↦ let b = subst (λ r. number y < next (x.states r)) (sym e ∙ sz) a in omega arith
       ] in
       -- all that is pending then comes after what was handled
-      let above : (z : M) → In z (insert_all sim.order sent q) → key_order sim.time sender number m z ≡ Less = λ z i. elim (cases z i) [
-        | inl j ↦ below_first (sim.time m) (sim.time z) _ (all_in (λ x. sim.time m < sim.time x) sent z (law.later r st m g) j)
+      let above : (z : M) → In z (insert_all sim.order sent q) → key_order sim.time sender number m z ≡ Less =
+      λ z i. elim (cases z i) [
+        | inl j ↦ below_first (sim.time m) (sim.time z) _
+            (all_in (λ x. sim.time m < sim.time x) sent z (law.later r st m g) j)
         | inr j ↦ let l = all_in (λ y. sim.order m y ≡ Less) q z s.0 j in elim (fresh.keyed m z l) [
           | inl e ↦ e
-          | inr e ↦ let k = key_same sim.time sender number m z e in let d = h.apart m z (inr (inl refl)) (inr (inr j)) k.0 k.1 in absurd (not_below_itself law.order.order m (subst (λ y. sim.order m y ≡ Less) (sym d) l))
+          | inr e ↦ let k = key_same sim.time sender number m z e in let d =
+              h.apart m z (inr (inl refl)) (inr (inr j)) k.0 k.1 in
+              absurd (not_below_itself law.order.order m (subst (λ y. sim.order m y ≡ Less) (sym d) l))
         ]
       ] in
       record {
         used = λ z i. elim (seen z i) [
-          | inl j ↦ inr (subst (λ t. number z < next (put x.states r (sim.handle r st m).state t)) (sym (fresh.mine r st m z here g j))
-              (subst (λ u. number z < next u) (sym (put_same x.states r (sim.handle r st m).state r refl)) (fresh.high r st m z here g j)))
+          | inl j ↦ inr (subst (λ t. number z < next (put x.states r (sim.handle r st m).state t))
+              (sym (fresh.mine r st m z here g j))
+              (subst (λ u. number z < next u) (sym (put_same x.states r (sim.handle r st m).state r refl))
+              (fresh.high r st m z here g j)))
           | inr j ↦ elim (h.used z j) [
             | inl a ↦ inl a
-            | inr a ↦ inr (put_cases (λ t u. number z < next (x.states t) → number z < next u) x.states r (sim.handle r st m).state (λ l. let up = fresh.rises r st m here g in omega arith) (λ t n l. l) (sender z) a)
+            | inr a ↦ inr (put_cases (λ t u. number z < next (x.states t) → number z < next u) x.states r
+                (sim.handle r st m).state (λ l. let up = fresh.rises r st m here g in omega arith) (λ t n l. l)
+                (sender z) a)
           ]
         ];
         apart = λ z y i j e n. elim (seen z i) [
           | inl a ↦ elim (seen y j) [ inl b ↦ fresh.apart r st m z y here g a b n | inr b ↦ absurd (new z y a b e n) ]
           | inr a ↦ elim (seen y j) [ inl b ↦ absurd (new y z b a (sym e) (sym n)) | inr b ↦ h.apart z y a b e n ]
         ];
-        to_station = λ z i. elim (cases z i) [ inl j ↦ stations.sends r st m z here g j | inr j ↦ h.to_station z (inr j) ];
-        rising = subst (Sorted (key_order sim.time sender number)) (sym (map_push (λ e. e.msg) x.trace e)) (sorted_append (key_order sim.time sender number) (map (λ e. e.msg) x.trace) m h.rising (h.before m (inl refl)));
+        to_station = λ z i. elim (cases z i) [
+          | inl j ↦ stations.sends r st m z here g j
+          | inr j ↦ h.to_station z (inr j)
+        ];
+        rising = subst (Sorted (key_order sim.time sender number)) (sym (map_push (λ e. e.msg) x.trace e))
+            (sorted_append (key_order sim.time sender number) (map (λ e. e.msg) x.trace) m h.rising
+            (h.before m (inl refl)));
         before = λ z i. subst (AllByRecursion (λ y. key_order sim.time sender number y z ≡ Less))
             (sym (map_push (λ e. e.msg) x.trace e))
             (all_push (λ y. key_order sim.time sender number y z ≡ Less) (map (λ e. e.msg) x.trace) m
             (all_from (λ y. key_order sim.time sender number y z ≡ Less) (map (λ e. e.msg) x.trace)
-            (λ y j. (key_total sim.time sender number).trans y m z (all_in (λ y. key_order sim.time sender number y m ≡ Less) (map (λ e. e.msg) x.trace) y (h.before m (inl refl)) j) (above z i)))
+            (λ y j. (key_total sim.time sender number).trans y m z
+            (all_in (λ y. key_order sim.time sender number y m ≡ Less) (map (λ e. e.msg) x.trace) y
+            (h.before m (inl refl)) j) (above z i)))
             (above z i));
       }
 
@@ -146,16 +170,21 @@ module _ {S M N : Type 0} {sim : Simulation S M N} {Good : ℕ → S → Type 0}
   begins_fresh plans there =
       let first : List M = openings sim sim.stations in
       let late : List M = planned sim 0 plans in
-      let cases : (z : M) → In z (begin sim plans).pending → In z first ⊎ In z late = λ z i. elim (in_insert_all law.order.order (first ++ late) [] z i) [
+      let cases : (z : M) → In z (begin sim plans).pending → In z first ⊎ In z late =
+      λ z i. elim (in_insert_all law.order.order (first ++ late) [] z i) [
         | inl j ↦ in_append first late z j
         | inr j ↦ absurd j
       ] in
-      let seen : (z : M) → IsMessageOf (begin sim plans) z → In z first ⊎ In z late = λ z i. elim i [ inl n ↦ absurd n | inr j ↦ cases z j ] in
-      let analyst : (z : M) → In z late → sender z ≡ 0 = λ z i. let h = in_planned sim 0 plans z i in ap sender h.4 ∙ (fresh.decided h.0 h.1).0 in
-      let own : (z : M) → In z first → 0 < sender z = λ z i. let h = in_openings sim sim.stations z i in let l = h.1.0 in let e = (fresh.opened h.0 z h.1 h.2).0 in omega (arith, e, l) in
+      let seen : (z : M) → IsMessageOf (begin sim plans) z → In z first ⊎ In z late =
+      λ z i. elim i [ inl n ↦ absurd n | inr j ↦ cases z j ] in
+      let analyst : (z : M) → In z late → sender z ≡ 0 = λ z i. let h = in_planned sim 0 plans z i in
+      ap sender h.4 ∙ (fresh.decided h.0 h.1).0 in
+      let own : (z : M) → In z first → 0 < sender z = λ z i. let h = in_openings sim sim.stations z i in let l =
+      h.1.0 in let e = (fresh.opened h.0 z h.1 h.2).0 in omega (arith, e, l) in
       record {
         used = λ z i. elim (seen z i) [
-          | inl j ↦ let h = in_openings sim sim.stations z j in let f = fresh.opened h.0 z h.1 h.2 in inr (subst (λ r. number z < next (sim.setup r).state) (sym f.0) f.1)
+          | inl j ↦ let h = in_openings sim sim.stations z j in let f =
+              fresh.opened h.0 z h.1 h.2 in inr (subst (λ r. number z < next (sim.setup r).state) (sym f.0) f.1)
           | inr j ↦ inl (analyst z j)
         ];
         apart = λ z y i j e n. elim (seen z i) [
@@ -171,8 +200,11 @@ module _ {S M N : Type 0} {sim : Simulation S M N} {Good : ℕ → S → Type 0}
           ]
         ];
         to_station = λ z i. elim (cases z i) [
-          | inl j ↦ let h = in_openings sim sim.stations z j in subst (IsStation sim) (sym (stations.first h.0 z h.1 h.2)) h.1
-          | inr j ↦ let h = in_planned sim 0 plans z j in subst (IsStation sim) (sym (ap sim.to h.4 ∙ stations.decided h.0 h.1)) (all_in (λ p. IsStation sim p.station) plans h.1 there h.3)
+          | inl j ↦ let h = in_openings sim sim.stations z j in
+              subst (IsStation sim) (sym (stations.first h.0 z h.1 h.2)) h.1
+          | inr j ↦ let h = in_planned sim 0 plans z j in
+              subst (IsStation sim) (sym (ap sim.to h.4 ∙ stations.decided h.0 h.1))
+              (all_in (λ p. IsStation sim p.station) plans h.1 there h.3)
         ];
         rising = tt;
         before = λ z i. tt;
@@ -181,7 +213,9 @@ module _ {S M N : Type 0} {sim : Simulation S M N} {Good : ℕ → S → Type 0}
   -- a run is so at each front
   run_fresh : (c : Clone) (front : ℕ) → AreForStations sim c.plans → Fresh (run_of sim c front)
   run_fresh c front there =
-      fine_keeps law.order (world_lawful law) 0 Fresh (begins_fresh c.plans there) (λ x m q f early h. fresh_step x m q f.good f.sorted h) (begins_fine law c.plans) (run_reached law c.plans (min front (end_of sim c))).0
+      fine_keeps law.order (world_lawful law) 0 Fresh (begins_fresh c.plans there)
+      (λ x m q f early h. fresh_step x m q f.good f.sorted h) (begins_fine law c.plans)
+      (run_reached law c.plans (min front (end_of sim c))).0
 
   -- the trace of a clone rises strictly by time, sender and number
   pub trace_rises : (c : Clone) (front : ℕ) → AreForStations sim c.plans →

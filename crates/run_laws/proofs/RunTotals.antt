@@ -28,7 +28,8 @@ module _ {S M N K : Type 0} {sim : Simulation S M N} {Good : ℕ → S → Type 
       let later : front ≤ f = omega (arith, is, rises) in
       let within : f ≤ next_front sim cs front = omega (arith, is) in
       let early : f ≤ sim.horizon = omega (arith, is, far) in
-      let one = handled_grows law j cs s front f g.0 g.3 later within same g.1 decides (λ c l. shorter_before law (clone_at cs c) s f sim.horizon sim.limit early (short c l)) g.4 in
+      let one = handled_grows law j cs s front f g.0 g.3 later within same g.1 decides
+      (λ c l. shorter_before law (clone_at cs c) s f sim.horizon sim.limit early (short c l)) g.4 in
       let rest = windows-add_up f g.2 fs h.2 g.5 in
       let e = g.6 in
       omega (arith, one, rest, e)

@@ -1,5 +1,6 @@
 -- The run to a bound: it reaches where nothing before the bound is left, and this determines it.
-use Rattle.std.proofs.Common.{◌≡◌, ℕ, zero, suc, ◌≤◌, ◌<◌, List, [], ◌∷◌, inl, inr, cond, refl, sym, ap, ◌∙◌, subst, arith, ◌==◌, eq-eqb}
+use Rattle.std.proofs.Common.{◌≡◌, ℕ, zero, suc, ◌≤◌, ◌<◌, List, [], ◌∷◌, inl}
+use Rattle.std.proofs.Common.{inr, cond, refl, sym, ap, ◌∙◌, subst, arith, ◌==◌, eq-eqb}
 use Rattle.std.specs.declared.cmp.Ordering.{Ordering}
 use Rattle.std.specs.declared.cmp.Ordering.TheVariants.{Less, Equal, Greater}
 use Rattle.std.specs.List.{AllByRecursion}
@@ -8,7 +9,9 @@ use Rattle.run_laws.specs.Queue.{place, insert, insert_all, In, Sorted}
 use Rattle.run_laws.specs.Machine.{Config, count_at, after, turns, run_to, Next, Reach, stay, go, Done}
 use Rattle.run_laws.specs.Handlers.{IsTimed, IsLawful}
 use Rattle.run_laws.specs.Laws.{and_pending, IsReady}
-use Rattle.run_laws.proofs.Queue.{all_in, all_from, all_weaker, all_insert_all, in_insert, sorted_insert, sorted_insert_all, insert_swap}
+use Rattle.sim_base.proofs.Placing.{all_weaker}
+use Rattle.run_laws.proofs.Queue.{all_in, all_from, all_insert_all}
+use Rattle.run_laws.proofs.Queue.{in_insert, sorted_insert, sorted_insert_all, insert_swap}
 use Rattle.run_laws.proofs.Machine.{reach_trans, ends_same}
 
 -- a machine in a good state, whose pending messages are in order and not before a time
@@ -58,7 +61,8 @@ module _ {M : Type 0} (time : M → ℕ) where
 
   module _ (cmp : M → M → Ordering) where
     -- nor after an insertion
-    count_insert : (t : ℕ) (x : M) (q : List M) → (time x ≡ t → ⊥) → count_at time t (insert cmp x q) ≡ count_at time t q
+    count_insert : (t : ℕ) (x : M) (q : List M) → (time x ≡ t → ⊥)
+        → count_at time t (insert cmp x q) ≡ count_at time t q
     count_insert t x [] n = count_no t x [] n
     count_insert t x (y ∷ ys) n = count_place t (cmp x y) x y ys (insert cmp x ys) n (count_insert t x ys n)
 
@@ -76,7 +80,8 @@ module _ {M : Type 0} {cmp : M → M → Ordering} {time : M → ℕ} (o : IsTim
   head_least m q z s (inr j) = o.timed m z (all_in (λ y. cmp m y ≡ Less) q z s.0 j)
 
   -- a later message goes behind an earlier one
-  later_place : (r : Ordering) (x m : M) (q rest : List M) → cmp x m ≡ r → time m < time x → place r x m q rest ≡ m ∷ rest
+  later_place : (r : Ordering) (x m : M) (q rest : List M) → cmp x m ≡ r → time m < time x
+      → place r x m q rest ≡ m ∷ rest
   later_place Less x m q rest e l = let h = o.timed x m e in absurd (omega arith)
   later_place Equal x m q rest e l = let h = ap time (o.order.same x m e) in absurd (omega (arith, h))
   later_place Greater x m q rest e l = refl
@@ -90,14 +95,16 @@ module _ {X M : Type 0} {cmp : M → M → Ordering} {time : M → ℕ} {handle 
     good = law.keeps x m g;
     sorted = sorted_insert_all o.order (handle x m).1 q s.1;
     from_t = all_insert_all o.order (λ m. t ≤ time m) (handle x m).1 q
-        (all_weaker (λ s. time m < time s) (λ m. t ≤ time m) (handle x m).1 (λ z h. let a : t ≤ time m = f.0 in omega arith) (law.later x m g)) f.1;
+        (all_weaker (λ s. time m < time s) (λ m. t ≤ time m) (handle x m).1 (λ z h. let a : t ≤ time m = f.0 in
+        omega arith) (law.later x m g)) f.1;
   }
 
   -- a turn before a bound does
   fine_next : (bound t : ℕ) (c d : Config X M) → Fine cmp time Good t c → Next cmp time handle bound c d →
       Fine cmp time Good t d
   fine_next bound t c d f n = subst (Fine cmp time Good t) (sym n.is)
-      (fine_after t c.at n.m n.q f.good (subst (Sorted cmp) n.pending f.sorted) (subst (AllByRecursion (λ m. t ≤ time m)) n.pending f.from_t))
+      (fine_after t c.at n.m n.q f.good (subst (Sorted cmp) n.pending f.sorted)
+      (subst (AllByRecursion (λ m. t ≤ time m)) n.pending f.from_t))
 
   -- turns keep a machine fine
   pub fine_reach : {bound : ℕ} {c d : Config X M} (t : ℕ) → Fine cmp time Good t c → Reach cmp time handle bound c d →
@@ -107,7 +114,8 @@ module _ {X M : Type 0} {cmp : M → M → Ordering} {time : M → ℕ} {handle 
 
   -- what holds at the start and is kept by each turn of a fine machine holds at the end
   pub fine_keeps : {bound : ℕ} {c d : Config X M} (t : ℕ) (P : Config X M → Type 0) → P c →
-      ((x : X) (m : M) (q : List M) → Fine cmp time Good t (record { at = x; pending = m ∷ q }) → time m < bound → P (record { at = x; pending = m ∷ q }) → P (after cmp handle x m q)) →
+      ((x : X) (m : M) (q : List M) → Fine cmp time Good t (record { at = x; pending = m ∷ q }) → time m < bound
+      → P (record { at = x; pending = m ∷ q }) → P (after cmp handle x m q)) →
       Fine cmp time Good t c → Reach cmp time handle bound c d → P d
   fine_keeps t P a f g stay = a
   fine_keeps {bound} {c} {d} t P a f g (go {d = e} r n) =
@@ -117,10 +125,14 @@ module _ {X M : Type 0} {cmp : M → M → Ordering} {time : M → ℕ} {handle 
       (subst (λ q. P (record { at = e.at; pending = q })) n.pending (fine_keeps t P a f g r)))
 
   -- as many turns as there are messages of a time handle just those
-  turns_reach : (bound t n : ℕ) (x : X) (q : List M) → t < bound → Fine cmp time Good t (record { at = x; pending = q }) →
+  turns_reach : (bound t n : ℕ) (x : X) (q : List M) → t < bound
+      → Fine cmp time Good t (record { at = x; pending = q }) →
       count_at time t q ≡ n →
-      Reach cmp time handle bound (record { at = x; pending = q }) (turns cmp handle n (record { at = x; pending = q })) × Fine cmp time Good (suc t) (turns cmp handle n (record { at = x; pending = q }))
-  turns_reach bound t zero x q b f e = (stay, record { good = f.good; sorted = f.sorted; from_t = none_at time t q e f.from_t })
+      Reach cmp time handle bound (record { at = x; pending = q })
+      (turns cmp handle n (record { at = x; pending = q }))
+      × Fine cmp time Good (suc t) (turns cmp handle n (record { at = x; pending = q }))
+  turns_reach bound t zero x q b f e =
+      (stay, record { good = f.good; sorted = f.sorted; from_t = none_at time t q e f.from_t })
   turns_reach bound t (suc n) x [] b f e = absurd (omega (arith, e))
   turns_reach bound t (suc n) x (m ∷ q) b f e =
       let w = some_at time t n (m ∷ q) e in
@@ -129,7 +141,10 @@ module _ {X M : Type 0} {cmp : M → M → Ordering} {time : M → ℕ} {handle 
       let p : time m ≡ t = omega (arith, w.2) in
       let d = after cmp handle x m q in
       let k : count_at time t q ≡ n = let h = sym (count_yes time t m q p) ∙ e in omega (arith, h) in
-      let c : count_at time t d.pending ≡ n = count_insert_all time cmp t (handle x m).1 q (all_weaker (λ s. time m < time s) (λ s. t < time s) (handle x m).1 (λ z h. omega arith) (law.later x m f.good)) ∙ k in
+      let c : count_at time t d.pending ≡ n =
+      count_insert_all time cmp t (handle x m).1 q
+      (all_weaker (λ s. time m < time s) (λ s. t < time s) (handle x m).1 (λ z h. omega arith)
+      (law.later x m f.good)) ∙ k in
       let r = turns_reach bound t n d.at d.pending b (fine_after t x m q f.good f.sorted f.from_t) c in
       (reach_trans (go stay (record { m = m; q = q; pending = refl; early = omega arith; is = refl })) r.0, r.1)
 
@@ -169,10 +184,12 @@ module _ {X M : Type 0} {cmp : M → M → Ordering} {time : M → ℕ} {handle 
       go (add_reach x l f r) (record {
         m = n.m;
         q = insert cmp x n.q;
-        pending = ap (insert cmp x) n.pending ∙ later_place o (cmp x n.m) x n.m n.q (insert cmp x n.q) refl (omega arith);
+        pending = ap (insert cmp x) n.pending ∙ later_place o (cmp x n.m) x n.m n.q (insert cmp x n.q) refl
+            (omega arith);
         early = n.early;
         is = ap (and_pending cmp x) n.is
-            ∙ ap (λ q. record { at = (handle e.at n.m).0; pending = q }) (sym (insert_swap o.order x (handle e.at n.m).1 n.q s.1));
+            ∙ ap (λ q. record { at = (handle e.at n.m).0; pending = q })
+            (sym (insert_swap o.order x (handle e.at n.m).1 n.q s.1));
       })
 
   -- a message at or after the bound changes nothing but that it is pending
@@ -182,7 +199,11 @@ module _ {X M : Type 0} {cmp : M → M → Ordering} {time : M → ℕ} {handle 
       let d = run_to cmp handle time c bound in
       let h = run_reach bound bound c (omega arith) f in
       sym (run_is bound (and_pending cmp x c) (and_pending cmp x d)
-      (record { good = f.good; sorted = sorted_insert o.order x c.pending f.sorted; from_t = all_from_zero time (insert cmp x c.pending) })
+      (record {
+        good = f.good;
+        sorted = sorted_insert o.order x c.pending f.sorted;
+        from_t = all_from_zero time (insert cmp x c.pending);
+      })
       (add_reach x l f h.0)
       (all_from (λ m. bound ≤ time m) (insert cmp x d.pending) (λ z i. elim (in_insert o.order x d.pending z i) [
         | inl e ↦ subst (λ m. bound ≤ time m) (sym e) l

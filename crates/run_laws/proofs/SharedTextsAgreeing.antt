@@ -1,5 +1,6 @@
 -- Clones whose decisions agree below a time have one trace before it.
-use Rattle.std.proofs.Common.{◌≡◌, ℕ, suc, ◌≤◌, min, List, [], ◌∷◌, ◌++◌, inl, inr, Bool, cond, nat_lt, refl, sym, ap, ◌∙◌, arith}
+use Rattle.std.proofs.Common.{◌≡◌, ℕ, suc, ◌≤◌, min, List, [], ◌∷◌, ◌++◌, inl}
+use Rattle.std.proofs.Common.{inr, Bool, cond, nat_lt, refl, sym, ap, ◌∙◌, arith}
 use Rattle.std.proofs.lemmas.List.Elements.{filter-append}
 use Rattle.std.proofs.lemmas.Bool.{cases_Bool, cases_lt, lt-ltb, le-ltb}
 use Rattle.std.specs.declared.cmp.Ordering.{Ordering}
@@ -61,7 +62,8 @@ module _ {S M N : Type 0} {sim : Simulation S M N} {Good : ℕ → S → Type 0}
       -- where the openings and the decisions below the time lead to
       let world : List M → World S M N = λ l. led law.order (world_lawful law) x (insert_all sim.order l []) t in
       let below : List Planned → List M = λ plans. earlier_than sim.time t (planned sim 0 plans) in
-      let cut : (plans : List Planned) → (run sim plans t).at ≡ world (earlier_than sim.time t first ++ below plans) = λ plans.
+      let cut : (plans : List Planned) → (run sim plans t).at ≡ world (earlier_than sim.time t first ++ below plans) =
+      λ plans.
       late_left_out law.order (world_lawful law) t x law.opens (first ++ planned sim 0 plans) [] tt
       ∙ ap world (filter-append (λ m. nat_lt (sim.time m) t) first (planned sim 0 plans)) in
       cut ps ∙ ap (λ l. world (earlier_than sim.time t first ++ l)) e ∙ sym (cut qs)

@@ -1,5 +1,6 @@
 -- How long the lines of a trace are together, out of the logs; and what of them two clones share.
-use Rattle.std.proofs.Common.{◌≡◌, ℕ, zero, suc, ◌+◌, ◌<◌, ◌≤◌, List, [], ◌∷◌, ◌++◌, ◌==◌, inl, inr, Bool, true, false, not, cond, nat_lt, refl, sym, ap, ◌∙◌, subst, arith, length, take, eq-eqb}
+use Rattle.std.proofs.Common.{◌≡◌, ℕ, zero, suc, ◌+◌, ◌<◌, ◌≤◌, List, [], ◌∷◌, ◌++◌, ◌==◌, inl, inr, Bool}
+use Rattle.std.proofs.Common.{true, false, not, cond, nat_lt, refl, sym, ap, ◌∙◌, subst, arith, length, take, eq-eqb}
 use Rattle.std.specs.Prelude.{sum_by}
 use Rattle.std.specs.List.{filter, flat_map, AllByRecursion}
 use Rattle.std.specs.declared.cmp.Ordering.{Ordering}
@@ -20,7 +21,8 @@ use Rattle.run_laws.specs.World.{log_of}
 use Rattle.run_laws.specs.Runs.{end_of, trace_of, log_at}
 use Rattle.run_laws.specs.Handlers.{IsStation, AreForStations, HandlesLawfully, SendsToStations, HandlesFreshly}
 use Rattle.run_laws.specs.Laws.{before}
-use Rattle.run_laws.proofs.Queue.{all_in, all_from, all_weaker}
+use Rattle.sim_base.proofs.Placing.{all_weaker}
+use Rattle.run_laws.proofs.Queue.{all_in, all_from}
 use Rattle.run_laws.proofs.Lists.{in_filter, filter_keeps, filter_swap, filter_all, filter_none, sorted_filter}
 use Rattle.run_laws.specs.Merges.{entry_order}
 use Rattle.run_laws.proofs.Merges.{same_rising}
@@ -99,7 +101,8 @@ is_early time t x = nat_lt (time x) t
 abbrev is_late : {X : Type 0} → (X → ℕ) → ℕ → X → Bool
 is_late time t x = not (nat_lt (time x) t)
 
-module _ {X : Type 0} (time : X → ℕ) (cmp : X → X → Ordering) (timed : (x y : X) → cmp x y ≡ Less → time x ≤ time y) (t : ℕ) where
+module _ {X : Type 0} (time : X → ℕ) (cmp : X → X → Ordering) (timed : (x y : X) → cmp x y ≡ Less → time x ≤ time y)
+    (t : ℕ) where
   abbrev early : X → Bool
   early = is_early time t
 
@@ -123,12 +126,14 @@ module _ {X : Type 0} (time : X → ℕ) (cmp : X → X → Ordering) (timed : (
         let all = all_late x xs s l in
         let none : filter early (x ∷ xs) ≡ [] = filter_none early (x ∷ xs) all in
         let whole : filter late (x ∷ xs) ≡ x ∷ xs =
-        filter_all late (x ∷ xs) (all_weaker (λ y. early y ≡ false) (λ y. late y ≡ true) (x ∷ xs) (λ y e. ap not e) all) in
+        filter_all late (x ∷ xs) (all_weaker (λ y. early y ≡ false) (λ y. late y ≡ true) (x ∷ xs)
+        (λ y e. ap not e) all) in
         sym (ap (λ l. l ++ filter late (x ∷ xs)) none ∙ whole)
   ]
 
 module _ {S M N : Type 0} {sim : Simulation S M N} {Good : ℕ → S → Type 0} {sender number : M → ℕ} {next : S → ℕ}
-    (law : HandlesLawfully sim Good) (stations : SendsToStations sim Good) (fresh : HandlesFreshly sim Good sender number next) where
+    (law : HandlesLawfully sim Good) (stations : SendsToStations sim Good)
+    (fresh : HandlesFreshly sim Good sender number next) where
   abbrev by_key : Entry M N → Entry M N → Ordering
   by_key = entry_order sim.time sender number
 
@@ -137,7 +142,8 @@ module _ {S M N : Type 0} {sim : Simulation S M N} {Good : ℕ → S → Type 0}
 
   -- the order by key goes by time
   keys_timed : (e f : Entry M N) → by_key e f ≡ Less → time_of e ≤ time_of f
-  keys_timed e f h = first_timed (time_of e) (time_of f) (nat_cmp (time_of e) (time_of f)) _ (ranks (time_of e) (time_of f)) h
+  keys_timed e f h = first_timed (time_of e) (time_of f) (nat_cmp (time_of e) (time_of f)) _
+      (ranks (time_of e) (time_of f)) h
 
   -- a trace is what comes before a time, and then the rest
   pub trace_split : (c : Clone) (t : ℕ) → AreForStations sim c.plans →
@@ -147,18 +153,24 @@ module _ {S M N : Type 0} {sim : Simulation S M N} {Good : ℕ → S → Type 0}
 
   -- the lines that two clones share
   pub lines_agree : (same : Planned → Planned → Bool) (c d : Clone) (line : Entry M N → List ℕ) → TellsPlans sim same →
-      end_of sim c ≤ sim.horizon → end_of sim d ≤ sim.horizon → AreForStations sim c.plans → AreForStations sim d.plans →
+      end_of sim c ≤ sim.horizon → end_of sim d ≤ sim.horizon → AreForStations sim c.plans
+      → AreForStations sim d.plans →
       flat_map line (trace_of sim d) ≡
-      take (length (flat_map line (before sim (shared_to sim same c d) (trace_of sim d)))) (flat_map line (trace_of sim c))
+      take (length (flat_map line (before sim (shared_to sim same c d) (trace_of sim d))))
+      (flat_map line (trace_of sim c))
       ++ flat_map line (from_on sim (shared_to sim same c d) (trace_of sim d))
   lines_agree same c d line tells hc hd tc td =
       let t : ℕ = shared_to sim same c d in
       let kept : List ℕ = flat_map line (before sim t (trace_of sim d)) in
       let rest : Clone → List ℕ = λ k. flat_map line (from_on sim t (trace_of sim k)) in
-      let agree : before sim t (trace_of sim c) ≡ before sim t (trace_of sim d) = agree_to_parting law same c d tells hc hd in
-      let split : (k : Clone) → AreForStations sim k.plans → flat_map line (trace_of sim k) ≡ flat_map line (before sim t (trace_of sim k)) ++ rest k = λ k tk.
-      ap (flat_map line) (trace_split k t tk) ∙ flat_map-append line (before sim t (trace_of sim k)) (from_on sim t (trace_of sim k)) in
-      let whole : flat_map line (trace_of sim c) ≡ kept ++ rest c = split c tc ∙ ap (λ l. flat_map line l ++ rest c) agree in
+      let agree : before sim t (trace_of sim c) ≡ before sim t (trace_of sim d) =
+      agree_to_parting law same c d tells hc hd in
+      let split : (k : Clone) → AreForStations sim k.plans
+      → flat_map line (trace_of sim k) ≡ flat_map line (before sim t (trace_of sim k)) ++ rest k = λ k tk.
+      ap (flat_map line) (trace_split k t tk) ∙ flat_map-append line (before sim t (trace_of sim k))
+      (from_on sim t (trace_of sim k)) in
+      let whole : flat_map line (trace_of sim c) ≡ kept ++ rest c =
+      split c tc ∙ ap (λ l. flat_map line l ++ rest c) agree in
       let first : take (length kept) (flat_map line (trace_of sim c)) ≡ kept =
       ap (take (length kept)) whole
       ∙ take-append-le (length kept) kept (rest c) (omega arith)

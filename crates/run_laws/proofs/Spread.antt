@@ -1,5 +1,6 @@
 -- What the clones take of pending messages where a new clone was put beside an old one.
-use Rattle.std.proofs.Common.{◌≡◌, ℕ, List, [], ◌∷◌, Option, Some, None, Bool, true, false, ◌&&◌, ◌||◌, cond, nat_lt, inl, inr, refl, sym, ap, ◌∙◌, eq-eqb}
+use Rattle.std.proofs.Common.{◌≡◌, ℕ, List, [], ◌∷◌, Option, Some, None, Bool, true, false}
+use Rattle.std.proofs.Common.{◌&&◌, ◌||◌, cond, nat_lt, inl, inr, refl, sym, ap, ◌∙◌, eq-eqb}
 use Rattle.std.specs.Prelude.{is_some, if◌then◌else◌}
 use Rattle.std.specs.List.{AllByRecursion}
 use Rattle.std.proofs.lemmas.Bool.{cases_eq, eqb-true, ne_eqb}
@@ -30,20 +31,26 @@ module _ {K : Type 0} {has : K → ℕ → Bool} {join : K → K → K} {meet : 
   spread_mark : (r : Option K) (k : K) (c : ℕ) → meet k by ≡ r → has k new ≡ false →
       has (if is_some r then join k more else k) c ≡ has k (origin_of old new c)
   spread_mark None k c e f = elim (cases_eq c new) [
-    | inl p ↦ ap (has k) p ∙ f ∙ sym (sym (and-second (has k old) (has by old) (is_by old ∙ eq-eqb old old refl)) ∙ meets.none k by e old) ∙ sym (ap (λ b. has k (cond b old c)) (eq-eqb c new p))
+    | inl p ↦ ap (has k) p ∙ f ∙ sym (sym (and-second (has k old) (has by old) (is_by old ∙ eq-eqb old old refl))
+        ∙ meets.none k by e old) ∙ sym (ap (λ b. has k (cond b old c)) (eq-eqb c new p))
     | inr n ↦ sym (ap (λ b. has k (cond b old c)) (ne_eqb c new n))
   ]
   spread_mark (Some u) k c e f = joins.joined k more c ∙ elim (cases_eq c new) [
-    | inl p ↦ or_second (has k c) (has more c) (is_more c ∙ eq-eqb new c (sym p)) ∙ sym (has_old k u e) ∙ sym (ap (λ b. has k (cond b old c)) (eq-eqb c new p))
-    | inr n ↦ or-second (has k c) (has more c) (is_more c ∙ ne_eqb new c (λ p. n (sym p))) ∙ sym (ap (λ b. has k (cond b old c)) (ne_eqb c new n))
+    | inl p ↦ or_second (has k c) (has more c) (is_more c ∙ eq-eqb new c (sym p)) ∙ sym (has_old k u e)
+        ∙ sym (ap (λ b. has k (cond b old c)) (eq-eqb c new p))
+    | inr n ↦ or-second (has k c) (has more c) (is_more c ∙ ne_eqb new c (λ p. n (sym p)))
+        ∙ sym (ap (λ b. has k (cond b old c)) (ne_eqb c new n))
   ]
 
   module _ {S M N : Type 0} (sim : Simulation S M N) (ends : ℕ → ℕ) where
     -- each clone takes what the clone that it was took
     pub part-spread_marks : (c : ℕ) (q : List (M × K)) → AllByRecursion (λ x. has x.1 new ≡ false) q →
-        part (takes_as sim has ends old new) c (spread_marks join meet by more q) ≡ taken sim has ends (origin_of old new c) q
+        part (takes_as sim has ends old new) c (spread_marks join meet by more q) ≡ taken sim has ends
+        (origin_of old new c) q
     part-spread_marks c [] f = refl
     part-spread_marks c (x ∷ q) f =
         let d = origin_of old new c in
-        ap (λ l. cond (has (if is_some (meet x.1 by) then join x.1 more else x.1) c && nat_lt (sim.time x.0) (ends d)) (x.0 ∷ l) l) (part-spread_marks c q f.1)
-        ∙ ap (λ b. cond (b && nat_lt (sim.time x.0) (ends d)) (x.0 ∷ taken sim has ends d q) (taken sim has ends d q)) (spread_mark (meet x.1 by) x.1 c refl f.0)
+        ap (λ l. cond (has (if is_some (meet x.1 by) then join x.1 more else x.1) c && nat_lt (sim.time x.0) (ends d))
+        (x.0 ∷ l) l) (part-spread_marks c q f.1)
+        ∙ ap (λ b. cond (b && nat_lt (sim.time x.0) (ends d)) (x.0 ∷ taken sim has ends d q) (taken sim has ends d q))
+        (spread_mark (meet x.1 by) x.1 c refl f.0)

@@ -1,6 +1,7 @@
 -- Where the copies of the stations stand for the clones at a front, and each station was stepped to a bound within
 -- the next front and got what was sent to it, they stand for the clones at the bound.
-use Rattle.std.proofs.Common.{◌≡◌, ℕ, zero, suc, ◌≤◌, ◌<◌, min, List, [], ◌∷◌, ◌⊎◌, inl, inr, Bool, true, ◌==◌, nat_lt, refl, sym, ap, ◌∙◌, subst, arith, length}
+use Rattle.std.proofs.Common.{◌≡◌, ℕ, zero, suc, ◌≤◌, ◌<◌, min, List, [], ◌∷◌, ◌⊎◌, inl}
+use Rattle.std.proofs.Common.{inr, Bool, true, ◌==◌, nat_lt, refl, sym, ap, ◌∙◌, subst, arith, length}
 use Rattle.std.specs.List.{AllByRecursion}
 use Rattle.std.proofs.lemmas.Bool.{cases_lt, lt-ltb, ltb-true}
 use Rattle.sim_base.specs.Clones.{Clone, clone_at}
@@ -12,7 +13,8 @@ use Rattle.run_laws.specs.Runs.{end_of, log_at, state_at, all_due, due_at}
 use Rattle.run_laws.specs.Fronts.{next_front}
 use Rattle.run_laws.specs.Handlers.{IsStation, AreForStations, HandlesLawfully, SendsToStations}
 use Rattle.run_laws.specs.Laws.{before, window, WindowsGive}
-use Rattle.run_laws.specs.Copies.{Copy, Carries, takes, taken, alone_from, IsStepped, ends_of, Stands, AllStepped, HasReceived, IsDelivered}
+use Rattle.run_laws.specs.Copies.{Copy, Carries, takes, taken, alone_from, IsStepped}
+use Rattle.run_laws.specs.Copies.{ends_of, Stands, AllStepped, HasReceived, IsDelivered}
 use Rattle.run_laws.proofs.Queue.{same_elements}
 use Rattle.run_laws.proofs.Lists.{in_filter, filter_keeps, sorted_filter, in_own}
 use Rattle.run_laws.proofs.Running.{all_from_zero, run_is}
@@ -67,7 +69,9 @@ module _ {S M N K : Type 0} {sim : Simulation S M N} {Good : ℕ → S → Type 
     (stood : (r : ℕ) → IsStation sim r → Stands sim has cs front r (olds r))
     (step : IsStepped sim has (ends_of sim cs) s bound (olds s) new (sent s))
     (senders : (r c : ℕ) (z : M) → In z (taken sim has (ends_of sim cs) c (sent r)) → IsStation sim r)
-    (out : (r : ℕ) → IsStation sim r → (x : Copy S M N K) (c : ℕ) → In x (olds r) → Carries has x c → taken sim has (ends_of sim cs) c (sent r) ≡ earlier_than sim.time (ends_of sim cs c) (alone_from sim has (ends_of sim cs) r bound x c).at.aside)
+    (out : (r : ℕ) → IsStation sim r → (x : Copy S M N K) (c : ℕ) → In x (olds r) → Carries has x c
+    → taken sim has (ends_of sim cs) c (sent r) ≡ earlier_than sim.time (ends_of sim cs c)
+    (alone_from sim has (ends_of sim cs) r bound x c).at.aside)
     (got : IsDelivered sim has cs s sent new done) where
   -- what the windows of a clone give
   gives : (c : ℕ) → c < length cs → WindowsGive sim (clone_at cs c) front bound
@@ -98,7 +102,8 @@ module _ {S M N K : Type 0} {sim : Simulation S M N} {Good : ℕ → S → Type 
       let k : Clone = clone_at cs c in
       let e : ℕ = ends_of sim cs c in
       ap (λ l. local sim r l x.state (taken sim has (ends_of sim cs) c x.pending) bound e) ((stood r is).log x c i h)
-      ∙ (ap (λ l. local sim r (log_at sim k r front) l (taken sim has (ends_of sim cs) c x.pending) bound e) ((stood r is).state x c i h)
+      ∙ (ap (λ l. local sim r (log_at sim k r front) l (taken sim has (ends_of sim cs) c x.pending) bound e)
+      ((stood r is).state x c i h)
       ∙ ap (λ l. local sim r (log_at sim k r front) (state_at sim k r front) l bound e) ((stood r is).due x c i h))
 
   -- the clones that a copy carries are there
@@ -109,27 +114,35 @@ module _ {S M N K : Type 0} {sim : Simulation S M N} {Good : ℕ → S → Type 
   log_there : (b : Copy S M N K) (c : ℕ) → In b done → Carries has b c → b.log ≡ log_at sim (clone_at cs c) s bound
   log_there b c i h =
       let g = origin b c i h in
-      g.received.log ∙ (step.log g.old g.mid c g.in_old g.in_new g.has_old g.has_mid ∙ (ap (λ u. u.at.log) (is_window s here g.old c g.in_old g.has_old) ∙ sym ((gives c (alive b c i h)).log s)))
+      g.received.log ∙ (step.log g.old g.mid c g.in_old g.in_new g.has_old g.has_mid
+      ∙ (ap (λ u. u.at.log) (is_window s here g.old c g.in_old g.has_old) ∙ sym ((gives c (alive b c i h)).log s)))
 
   -- and their state
-  state_there : (b : Copy S M N K) (c : ℕ) → In b done → Carries has b c → b.state ≡ state_at sim (clone_at cs c) s bound
+  state_there : (b : Copy S M N K) (c : ℕ) → In b done → Carries has b c
+      → b.state ≡ state_at sim (clone_at cs c) s bound
   state_there b c i h =
       let g = origin b c i h in
-      g.received.state ∙ (step.state g.old g.mid c g.in_old g.in_new g.has_old g.has_mid ∙ (ap (λ u. u.at.state) (is_window s here g.old c g.in_old g.has_old) ∙ sym ((gives c (alive b c i h)).state s)))
+      g.received.state ∙ (step.state g.old g.mid c g.in_old g.in_new g.has_old g.has_mid
+      ∙ (ap (λ u. u.at.state) (is_window s here g.old c g.in_old g.has_old)
+      ∙ sym ((gives c (alive b c i h)).state s)))
 
   -- what station r laid aside for clone c
   laid : (r c : ℕ) → IsStation sim r → c < length cs →
-      taken sim has (ends_of sim cs) c (sent r) ≡ earlier_than sim.time (ends_of sim cs c) (window sim (clone_at cs c) r front bound).at.aside
+      taken sim has (ends_of sim cs) c (sent r) ≡ earlier_than sim.time (ends_of sim cs c)
+      (window sim (clone_at cs c) r front bound).at.aside
   laid r c is l =
       let x = (stood r is).carried c l in
-      out r is x.0 c x.1 x.2 ∙ ap (λ u. earlier_than sim.time (ends_of sim cs c) u.at.aside) (is_window r is x.0 c x.1 x.2)
+      out r is x.0 c x.1 x.2 ∙ ap (λ u. earlier_than sim.time (ends_of sim cs c) u.at.aside)
+      (is_window r is x.0 c x.1 x.2)
 
   -- what is no station lays nothing aside
   idle_there : (r c : ℕ) → (IsStation sim r → ⊥) → c < length cs →
       (window sim (clone_at cs c) r front bound).at.aside ≡ []
-  idle_there r c not l = idle_window law (clone_at cs c) r front bound (nothing_in (due_at sim (clone_at cs c) r front) (λ z i.
+  idle_there r c not l = idle_window law (clone_at cs c) r front bound
+      (nothing_in (due_at sim (clone_at cs c) r front) (λ z i.
       let h = in_own sim.to r (all_due sim (clone_at cs c) front) z i in
-      not (subst (IsStation sim) h.1 (due_is_for_stations law to_stations (clone_at cs c) front z (for_stations c l) h.0))))
+      not (subst (IsStation sim) h.1
+      (due_is_for_stations law to_stations (clone_at cs c) front z (for_stations c l) h.0))))
 
   -- and what is due to them
   due_there : (b : Copy S M N K) (c : ℕ) → In b done → Carries has b c →
@@ -141,20 +154,29 @@ module _ {S M N K : Type 0} {sim : Simulation S M N} {Good : ℕ → S → Type 
       let g = origin b c i h in
       let l : c < length cs = alive b c i h in
       let v = gives c l in
-      let p : taken sim has (ends_of sim cs) c g.mid.pending ≡ earlier_than sim.time end (window sim k s front bound).pending =
-      step.pending g.old g.mid c g.in_old g.in_new g.has_old g.has_mid ∙ ap (λ u. earlier_than sim.time end u.pending) (is_window s here g.old c g.in_old g.has_old) in
+      let p : taken sim has (ends_of sim cs) c g.mid.pending ≡ earlier_than sim.time end
+      (window sim k s front bound).pending =
+      step.pending g.old g.mid c g.in_old g.in_new g.has_old g.has_mid ∙ ap (λ u. earlier_than sim.time end u.pending)
+      (is_window s here g.old c g.in_old g.has_old) in
       same_elements law.order.order (taken sim has (ends_of sim cs) c b.pending) (due_at sim k s bound)
       (sorted_part (takes sim has (ends_of sim cs)) sim.order c b.pending (got.sorted b i))
       (v.sorted s)
       (λ z t. elim (g.received.from c z g.has_mid t) [
-        | inl u ↦ let w = in_filter early (window sim k s front bound).pending z (subst (In z) p u) in (v.due s z).1 (ltb-true (sim.time z) end w.1, inl w.0)
-        | inr u ↦ let w = in_filter early (window sim k u.0 front bound).at.aside z (subst (In z) (laid u.0 c (senders u.0 c z u.1) l) u.1) in (v.due s z).1 (ltb-true (sim.time z) end w.1, inr (u.2, (u.0, w.0)))
+        | inl u ↦ let w = in_filter early (window sim k s front bound).pending z (subst (In z) p u) in
+            (v.due s z).1 (ltb-true (sim.time z) end w.1, inl w.0)
+        | inr u ↦ let w = in_filter early (window sim k u.0 front bound).at.aside z
+            (subst (In z) (laid u.0 c (senders u.0 c z u.1) l) u.1) in
+            (v.due s z).1 (ltb-true (sim.time z) end w.1, inr (u.2, (u.0, w.0)))
       ])
       (λ z t. let w = (v.due s z).0 t in
       elim w.1 [
-        | inl u ↦ g.received.kept c z g.has_mid (subst (In z) (sym p) (filter_keeps early (window sim k s front bound).pending z u (lt-ltb (sim.time z) end w.0)))
+        | inl u ↦ g.received.kept c z g.has_mid
+            (subst (In z) (sym p) (filter_keeps early (window sim k s front bound).pending z u
+            (lt-ltb (sim.time z) end w.0)))
         | inr u ↦ elim (station_or_not sim u.1.0) [
-          | inl is ↦ g.received.got c u.1.0 z g.has_mid (subst (In z) (sym (laid u.1.0 c is l)) (filter_keeps early (window sim k u.1.0 front bound).at.aside z u.1.1 (lt-ltb (sim.time z) end w.0))) u.0
+          | inl is ↦ g.received.got c u.1.0 z g.has_mid
+              (subst (In z) (sym (laid u.1.0 c is l))
+              (filter_keeps early (window sim k u.1.0 front bound).at.aside z u.1.1 (lt-ltb (sim.time z) end w.0))) u.0
           | inr not ↦ absurd (subst (In z) (idle_there u.1.0 c not l) u.1.1)
         ]
       ])
@@ -162,7 +184,8 @@ module _ {S M N K : Type 0} {sim : Simulation S M N} {Good : ℕ → S → Type 
   -- the copies of station s stand for the clones at the bound
   pub stands_window : Stands sim has cs bound s done
   stands_window = record {
-    inhabited = λ b i. let d = got.from b i in let e = step.inhabited d.0 d.1 in (e.0, subst (λ k. has k e.0 ≡ true) (sym d.2.set) e.1);
+    inhabited = λ b i. let d = got.from b i in let e = step.inhabited d.0 d.1 in
+        (e.0, subst (λ k. has k e.0 ≡ true) (sym d.2.set) e.1);
     carried = λ c l.
         let x = (stood s here).carried c l in
         let y = step.carried x.0 c x.1 x.2 in
@@ -176,9 +199,12 @@ module _ {S M N K : Type 0} {sim : Simulation S M N} {Good : ℕ → S → Type 
     shared = λ a b c d i t h k e.
         let x = origin a c i h in
         let y = origin b d t k in
-        let f : log_at sim (clone_at cs c) s front ≡ log_at sim (clone_at cs d) s front = sym (log_at_front law (clone_at cs c) s front bound later) ∙ (ap (before sim front) e ∙ log_at_front law (clone_at cs d) s front bound later) in
+        let f : log_at sim (clone_at cs c) s front ≡ log_at sim (clone_at cs d) s front =
+        sym (log_at_front law (clone_at cs c) s front bound later)
+        ∙ (ap (before sim front) e ∙ log_at_front law (clone_at cs d) s front bound later) in
         let same : x.old ≡ y.old = (stood s here).shared x.old y.old c d x.in_old y.in_old x.has_old y.has_old f in
-        let g : x.mid ≡ y.mid = step.parted x.old x.mid y.mid c d x.in_old x.in_new y.in_new x.has_old (subst (λ u. Carries has u d) (sym same) y.has_old) x.has_mid y.has_mid
+        let g : x.mid ≡ y.mid = step.parted x.old x.mid y.mid c d x.in_old x.in_new y.in_new x.has_old
+        (subst (λ u. Carries has u d) (sym same) y.has_old) x.has_mid y.has_mid
         (sym x.received.log ∙ (log_there a c i h ∙ (e ∙ (sym (log_there b d t k) ∙ y.received.log)))) in
         let sets : a.set ≡ b.set = x.received.set ∙ (ap (λ u. u.set) g ∙ sym y.received.set) in
         got.one a b i t c h (subst (λ u. has u c ≡ true) sets h);
@@ -193,8 +219,10 @@ pub stands_after_window : {S M N K : Type 0} {sim : Simulation S M N} {Good : �
     ((c : ℕ) → c < length cs → AreForStations sim (clone_at cs c).plans) → front ≤ bound →
     bound ≤ next_front sim cs front → AllStepped sim has cs front bound olds news sent → IsStation sim s →
     IsDelivered sim has cs s sent (news s) done → Stands sim has cs bound s done
-stands_after_window {S} {M} {N} {K} {sim} {Good} law to_stations has cs front bound olds news sent s done for_stations later within all here got =
-    stands_window law to_stations has cs front bound for_stations later within s here olds sent (news s) done all.stood (all.stepped s here)
+stands_after_window {S} {M} {N} {K} {sim} {Good} law to_stations has cs front bound olds news sent s done for_stations
+    later within all here got =
+    stands_window law to_stations has cs front bound for_stations later within s here olds sent
+    (news s) done all.stood (all.stepped s here)
     (λ r c z i. elim (station_or_not sim r) [
       | inl is ↦ is
       | inr not ↦ absurd (subst (λ l. In z (taken sim has (ends_of sim cs) c l)) (all.no_other r not) i)

@@ -1,5 +1,6 @@
 -- A step of all copies of a station: copy after copy, each with what comes of it at the bound.
-use Rattle.std.proofs.Common.{◌≡◌, ℕ, ◌≤◌, ◌<◌, List, [], ◌∷◌, ◌++◌, inl, inr, Bool, true, false, nat_lt, refl, sym, ap, ◌∙◌, subst, arith, length}
+use Rattle.std.proofs.Common.{◌≡◌, ℕ, ◌≤◌, ◌<◌, List, [], ◌∷◌, ◌++◌, inl, inr, Bool}
+use Rattle.std.proofs.Common.{true, false, nat_lt, refl, sym, ap, ◌∙◌, subst, arith, length}
 use Rattle.std.proofs.lemmas.Bool.{false≢true}
 use Rattle.run_laws.specs.Queue.{In}
 use Rattle.run_laws.specs.Machine.{Config}
@@ -7,7 +8,8 @@ use Rattle.run_laws.specs.Simulation.{Simulation}
 use Rattle.run_laws.specs.Window.{Part, earlier_than}
 use Rattle.run_laws.specs.Handlers.{HandlesLawfully}
 use Rattle.sim_base.specs.Marked.{JoinsMarks, SortedMarked}
-use Rattle.run_laws.specs.Copies.{Copy, Carries, takes, taken, view, Turns, Settled, Ends, alone_from, IsStepped, AreOver, SoFar}
+use Rattle.run_laws.specs.Copies.{Copy, Carries, takes, taken, view, Turns}
+use Rattle.run_laws.specs.Copies.{Settled, Ends, alone_from, IsStepped, AreOver, SoFar}
 use Rattle.run_laws.proofs.Bools.{and_cases}
 use Rattle.run_laws.proofs.Lists.{in_append, append_old, append_new, filter_all}
 use Rattle.run_laws.proofs.Parts.{sorted_part, all_part}
@@ -19,7 +21,8 @@ module _ {S M N K : Type 0} (sim : Simulation S M N) (has : K → ℕ → Bool) 
   pub taken_early : (c : ℕ) (q : List (M × K)) →
       earlier_than sim.time (ends c) (taken sim has ends c q) ≡ taken sim has ends c q
   taken_early c q = filter_all (λ m. nat_lt (sim.time m) (ends c)) (taken sim has ends c q)
-      (all_part (takes sim has ends) c (λ m. nat_lt (sim.time m) (ends c) ≡ true) q (λ x k e. (and_cases (has k c) (nat_lt (sim.time x) (ends c)) e).1))
+      (all_part (takes sim has ends) c (λ m. nat_lt (sim.time m) (ends c) ≡ true) q
+      (λ x k e. (and_cases (has k c) (nat_lt (sim.time x) (ends c)) e).1))
 
   module _ (s bound : ℕ) where
     -- at first no copy was stepped
@@ -54,13 +57,18 @@ module _ {S M N K : Type 0} {sim : Simulation S M N} {Good : ℕ → S → Type 
   pub so_far_more : (old new results : List (Copy S M N K)) (r : Copy S M N K) (out next : List (M × K))
       (over0 over over_after : K) (n : ℕ) →
       ((a : Copy S M N K) (c : ℕ) → In a old → Carries has a c → Carries has r c → ⊥) →
-      SoFar sim has ends s bound old new out over0 over → Ends sim has ends s bound r results out next over over_after n →
+      SoFar sim has ends s bound old new out over0 over
+      → Ends sim has ends s bound r results out next over over_after n →
       SoFar sim has ends s bound (old ++ r ∷ []) (new ++ results) next over0 over_after
   so_far_more old new results r out next over0 over over_after n apart h e =
-      let in_old : (b : Copy S M N K) (c : ℕ) → In b new → Carries has b c → Carries has r c → ⊥ = λ b c i l k. let x = h.from b i in apart x.0 c x.1 (x.2 c l) k in
-      let same_out : (c : ℕ) → (Carries has r c → ⊥) → taken sim has ends c next ≡ taken sim has ends c out = λ c f. e.others c (not_has has r.set c f) in
-      let was_out : (c : ℕ) → Carries has r c → taken sim has ends c out ≡ [] = λ c k. h.idle c (λ a i l. apart a c i l k) in
-      let begins : (c : ℕ) → Carries has r c → seen c r out ≡ seen c r [] = λ c k. moved_view law j ends s bound c r out [] (was_out c k) in
+      let in_old : (b : Copy S M N K) (c : ℕ) → In b new → Carries has b c → Carries has r c → ⊥ =
+      λ b c i l k. let x = h.from b i in apart x.0 c x.1 (x.2 c l) k in
+      let same_out : (c : ℕ) → (Carries has r c → ⊥) → taken sim has ends c next ≡ taken sim has ends c out =
+      λ c f. e.others c (not_has has r.set c f) in
+      let was_out : (c : ℕ) → Carries has r c → taken sim has ends c out ≡ [] =
+      λ c k. h.idle c (λ a i l. apart a c i l k) in
+      let begins : (c : ℕ) → Carries has r c → seen c r out ≡ seen c r [] =
+      λ c k. moved_view law j ends s bound c r out [] (was_out c k) in
       record {
         inhabited = λ b i. elim (in_append new results b i) [ inl l ↦ h.inhabited b l | inr l ↦ e.inhabited b l ];
         from = λ b i. elim (in_append new results b i) [
@@ -68,46 +76,73 @@ module _ {S M N K : Type 0} {sim : Simulation S M N} {Good : ℕ → S → Type 
           | inr l ↦ (r, append_new old (r ∷ []) r (inl refl), λ c k. e.within b c l k)
         ];
         carried = λ a c i k. elim (in_append old (r ∷ []) a i) [
-          | inl l ↦ elim (h.carried a c l k) [ inl x ↦ inl (x.0, append_old new results x.0 x.1, x.2) | inr x ↦ inr (e.still_over c x) ]
+          | inl l ↦ elim (h.carried a c l k) [
+            | inl x ↦ inl (x.0, append_old new results x.0 x.1, x.2)
+            | inr x ↦ inr (e.still_over c x)
+          ]
           | inr l ↦ elim l [
-            | inl p ↦ elim (e.some c (subst (λ u. Carries has u c) p k)) [ inl x ↦ inl (x.0, append_new new results x.0 x.1, x.2) | inr x ↦ inr x ]
+            | inl p ↦ elim (e.some c (subst (λ u. Carries has u c) p k)) [
+              | inl x ↦ inl
+                  (x.0, append_new new results x.0 x.1, x.2)
+              | inr x ↦ inr x
+            ]
             | inr q ↦ absurd q
           ]
         ];
         ran = λ a b c i l k t. elim (in_append old (r ∷ []) a i) [
           | inl u ↦ elim (in_append new results b l) [
-            | inl v ↦ let x = h.ran a b c u v k t in let y = moved_view law j ends s bound c b out next (sym (same_out c (apart a c u k))) in
+            | inl v ↦ let x = h.ran a b c u v k t in let y =
+                moved_view law j ends s bound c b out next (sym (same_out c (apart a c u k))) in
                 (subst (λ z. Goes c (seen c a []) z) y x.0, subst IsSettled y x.1)
             | inr v ↦ absurd (apart a c u k (e.within b c v t))
           ]
           | inr u ↦ elim u [
             | inl p ↦ elim (in_append new results b l) [
               | inl v ↦ absurd (in_old b c v t (subst (λ u. Carries has u c) p k))
-              | inr v ↦ let x = e.ran b c v t in
-                  (subst (λ z. Goes c z (seen c b next)) (begins c (e.within b c v t) ∙ ap (λ z. seen c z []) (sym p)) x.0, x.1)
+              | inr v ↦ let x = e.ran b c v t in (
+                subst (λ z. Goes c z (seen c b next)) (begins c (e.within b c v t) ∙ ap (λ z. seen c z []) (sym p))
+                    x.0,
+                x.1,
+              )
             ]
             | inr q ↦ absurd q
           ]
         ];
         short = λ b i. elim (in_append new results b i) [ inl l ↦ h.short b l | inr l ↦ e.short b l ];
         too_long = λ c g. elim (e.too_long c g) [
-          | inl x ↦ elim (h.too_long c x) [ inl y ↦ inl y | inr y ↦ inr (y.0, append_old old (r ∷ []) y.0 y.1, y.2, y.3) ]
-          | inr x ↦ inr (r, append_new old (r ∷ []) r (inl refl), x.0, λ d t. x.1 d (subst (λ z. Goes c z d) (sym (begins c x.0)) t))
+          | inl x ↦ elim (h.too_long c x) [
+            | inl y ↦ inl y
+            | inr y ↦ inr (y.0, append_old old (r ∷ []) y.0 y.1, y.2, y.3)
+          ]
+          | inr x ↦ inr (
+            r,
+            append_new old (r ∷ []) r (inl refl),
+            x.0,
+            λ d t. x.1 d (subst (λ z. Goes c z d) (sym (begins c x.0)) t),
+          )
         ];
         parted = λ a b1 b2 c d i j1 j2 k1 k2 l1 l2 same. elim (in_append old (r ∷ []) a i) [
           | inl u ↦ elim (in_append new results b1 j1) [
-            | inl v1 ↦ elim (in_append new results b2 j2) [ inl v2 ↦ h.parted a b1 b2 c d u v1 v2 k1 k2 l1 l2 same | inr v2 ↦ absurd (apart a d u k2 (e.within b2 d v2 l2)) ]
+            | inl v1 ↦ elim (in_append new results b2 j2) [
+              | inl v2 ↦ h.parted a b1 b2 c d u v1 v2 k1 k2 l1 l2 same
+              | inr v2 ↦ absurd (apart a d u k2 (e.within b2 d v2 l2))
+            ]
             | inr v1 ↦ absurd (apart a c u k1 (e.within b1 c v1 l1))
           ]
           | inr u ↦ elim u [
             | inl p ↦ elim (in_append new results b1 j1) [
               | inl v1 ↦ absurd (in_old b1 c v1 l1 (subst (λ u. Carries has u c) p k1))
-              | inr v1 ↦ elim (in_append new results b2 j2) [ inl v2 ↦ absurd (in_old b2 d v2 l2 (subst (λ u. Carries has u d) p k2)) | inr v2 ↦ e.parted b1 b2 c d v1 v2 l1 l2 same ]
+              | inr v1 ↦ elim (in_append new results b2 j2) [
+                | inl v2 ↦
+                    absurd (in_old b2 d v2 l2 (subst (λ u. Carries has u d) p k2))
+                | inr v2 ↦ e.parted b1 b2 c d v1 v2 l1 l2 same
+              ]
             ]
             | inr q ↦ absurd q
           ]
         ];
-        disjoint = disjoint_append has new results h.disjoint e.disjoint (λ a b c i l k t. in_old a c i k (e.within b c l t));
+        disjoint = disjoint_append has new results h.disjoint e.disjoint
+            (λ a b c i l k t. in_old a c i k (e.within b c l t));
         idle = λ c f. same_out c (f r (append_new old (r ∷ []) r (inl refl)))
             ∙ h.idle c (λ a i. f a (append_old old (r ∷ []) a i));
       }
@@ -116,7 +151,9 @@ module _ {S M N K : Type 0} {sim : Simulation S M N} {Good : ℕ → S → Type 
   pub ends_alone : (a : Copy S M N K) (c : ℕ) (d : Config (Part S M N) M) → Good s a.state →
       SortedMarked sim.order a.pending → Goes c (seen c a []) d → IsSettled d →
       IsCutOf sim (ends c) (alone_from sim has ends s bound a c) d
-  ends_alone a c d good sorted ran done = cut_of_local law (ends c) s bound a.log a.state (taken sim has ends c a.pending) d good (sorted_part (takes sim has ends) sim.order c a.pending sorted)
+  ends_alone a c d good sorted ran done =
+      cut_of_local law (ends c) s bound a.log a.state (taken sim has ends c a.pending) d good
+      (sorted_part (takes sim has ends) sim.order c a.pending sorted)
       (taken_early sim has ends c a.pending) ran done
 
   -- where no clone is over the limit, each has what its window by itself gives
@@ -125,11 +162,13 @@ module _ {S M N K : Type 0} {sim : Simulation S M N} {Good : ℕ → S → Type 
       ((c : ℕ) → has over c ≡ false) → SoFar sim has ends s bound old new out over0 over →
       IsStepped sim has ends s bound old new out
   stepped old new out over0 over fine none h =
-      let carried : (a : Copy S M N K) (c : ℕ) → In a old → Carries has a c → (b : Copy S M N K) × In b new × Carries has b c = λ a c i k. elim (h.carried a c i k) [
+      let carried : (a : Copy S M N K) (c : ℕ) → In a old → Carries has a c → (b : Copy S M N K) × In b new
+      × Carries has b c = λ a c i k. elim (h.carried a c i k) [
         | inl x ↦ x
         | inr x ↦ absurd (false≢true (sym (none c) ∙ x))
       ] in
-      let is : (a b : Copy S M N K) (c : ℕ) → In a old → In b new → Carries has a c → Carries has b c → IsCutOf sim (ends c) (alone_from sim has ends s bound a c) (seen c b out) = λ a b c i l k t.
+      let is : (a b : Copy S M N K) (c : ℕ) → In a old → In b new → Carries has a c → Carries has b c
+      → IsCutOf sim (ends c) (alone_from sim has ends s bound a c) (seen c b out) = λ a b c i l k t.
       let x = h.ran a b c i l k t in let y = fine a i in ends_alone a c (seen c b out) y.0 y.1 x.0 x.1 in
       record {
         inhabited = h.inhabited;

@@ -1,5 +1,6 @@
 -- A sum over the clones out of the copies: how many clones there are, and their logs' lengths together.
-use Rattle.std.proofs.Common.{◌≡◌, ◌⊎◌, ℕ, zero, suc, ◌+◌, ◌*◌, ◌<◌, List, [], ◌∷◌, ◌++◌, inl, inr, Bool, refl, sym, ap, ◌∙◌, subst, arith, length, map}
+use Rattle.std.proofs.Common.{◌≡◌, ◌⊎◌, ℕ, zero, suc, ◌+◌, ◌*◌, ◌<◌, List, [], ◌∷◌, ◌++◌}
+use Rattle.std.proofs.Common.{inl, inr, Bool, refl, sym, ap, ◌∙◌, subst, arith, length, map}
 use Rattle.std.specs.Prelude.{sum_by}
 use Rattle.std.proofs.Math.Nat.{suc-mul}
 use Rattle.std.proofs.lemmas.List.Sums.{sum_by-cons}
@@ -54,7 +55,10 @@ module _ {X : Type 0} (g : X → ℕ) where
         rest = y ∷ h.rest;
         sum = omega (arith, s);
         apart = (λ k. a.0 (h.back y k).0, h.apart);
-        there = λ z j. elim j [ inl d ↦ inr (inl d) | inr k ↦ elim (h.there z k) [ inl d ↦ inl d | inr l ↦ inr (inr l) ] ];
+        there = λ z j. elim j [
+          | inl d ↦ inr (inl d)
+          | inr k ↦ elim (h.there z k) [ inl d ↦ inl d | inr l ↦ inr (inr l) ]
+        ];
         back = λ z k. elim k [
           | inl d ↦ (inl d, λ f. a.0 (subst (λ t. In t ys) (sym f ∙ d) i))
           | inr l ↦ let m = h.back z l in (inr m.0, m.1)
@@ -94,7 +98,8 @@ map_suc_has (x ∷ xs) y (inr i) = inr (map_suc_has xs y i)
 in_places : (n z : ℕ) → In z (places n) → z < n
 in_places zero z i = absurd i
 in_places (suc n) z (inl e) = omega (arith, e)
-in_places (suc n) z (inr i) = let h = in_map_suc (places n) z i in let l = in_places n h.0 h.1 in let e = h.2 in omega (arith, l, e)
+in_places (suc n) z (inr i) = let h = in_map_suc (places n) z i in let l = in_places n h.0 h.1 in let e = h.2 in
+    omega (arith, l, e)
 
 places_have : (n z : ℕ) → z < n → In z (places n)
 places_have zero z l = absurd (omega arith)
@@ -103,11 +108,19 @@ places_have (suc n) (suc z) l = inr (map_suc_has (places n) z (places_have n z (
 
 apart_map_suc : (xs : List ℕ) → Apart xs → Apart (map suc xs)
 apart_map_suc [] a = tt
-apart_map_suc (x ∷ xs) a = (λ i. let h = in_map_suc xs (suc x) i in let e = h.2 in a.0 (subst (λ t. In t xs) (omega (arith, e)) h.1), apart_map_suc xs a.1)
+apart_map_suc (x ∷ xs) a = (
+  λ i. let h = in_map_suc xs (suc x) i in let e = h.2 in
+      a.0 (subst (λ t. In t xs) (omega (arith, e)) h.1),
+  apart_map_suc xs a.1,
+)
 
 apart_places : (n : ℕ) → Apart (places n)
 apart_places zero = tt
-apart_places (suc n) = (λ i. let h = in_map_suc (places n) 0 i in let e = h.2 in absurd (omega (arith, e)), apart_map_suc (places n) (apart_places n))
+apart_places (suc n) = (
+  λ i. let h = in_map_suc (places n) 0 i in let e = h.2 in
+      absurd (omega (arith, e)),
+  apart_map_suc (places n) (apart_places n),
+)
 
 total-map_suc : (g : ℕ → ℕ) (xs : List ℕ) → total g (map suc xs) ≡ total (λ i. g (suc i)) xs
 total-map_suc g [] = refl
@@ -126,7 +139,8 @@ total-map g f (x ∷ xs) = let h = total-map g f xs in omega (arith, h)
 -- a sum of equal numbers
 total_equal : (g : ℕ → ℕ) (n : ℕ) (xs : List ℕ) → ((z : ℕ) → In z xs → g z ≡ n) → total g xs ≡ length xs * n
 total_equal g n [] f = omega arith
-total_equal g n (x ∷ xs) f = let h = total_equal g n xs (λ z i. f z (inr i)) in let e = f x (inl refl) in let m = suc-mul (length xs) n in omega (arith, h, e, m)
+total_equal g n (x ∷ xs) f = let h = total_equal g n xs (λ z i. f z (inr i)) in let e = f x (inl refl) in let m =
+    suc-mul (length xs) n in omega (arith, h, e, m)
 
 -- ---- sums over copies
 
@@ -153,15 +167,19 @@ module _ {S M N K : Type 0} (has : K → ℕ → Bool) (size : K → ℕ) where
       In z (all_members xs f)
   unfolding all_members
   has_member [] f a z i h = absurd i
-  has_member (x ∷ xs) f a z (inl e) h = append_old (f x (inl refl)).members (all_members xs (λ a i. f a (inr i))) z ((f x (inl refl)).all z (subst (λ u. Carries has u z) e h))
-  has_member (x ∷ xs) f a z (inr i) h = append_new (f x (inl refl)).members (all_members xs (λ a i. f a (inr i))) z (has_member xs (λ a i. f a (inr i)) a z i h)
+  has_member (x ∷ xs) f a z (inl e) h = append_old (f x (inl refl)).members (all_members xs (λ a i. f a (inr i))) z
+      ((f x (inl refl)).all z (subst (λ u. Carries has u z) e h))
+  has_member (x ∷ xs) f a z (inr i) h = append_new (f x (inl refl)).members (all_members xs (λ a i. f a (inr i))) z
+      (has_member xs (λ a i. f a (inr i)) a z i h)
 
   apart_members : (xs : List (Copy S M N K)) (f : Sized xs) → Disjoint has xs → Apart (all_members xs f)
   unfolding all_members
   apart_members [] f d = tt
   apart_members (x ∷ xs) f d = apart_append (f x (inl refl)).members (all_members xs (λ a i. f a (inr i)))
       (f x (inl refl)).apart (apart_members xs (λ a i. f a (inr i)) d.1)
-      (λ z i j. let h = member_of xs (λ a i. f a (inr i)) z j in all_in (λ b. (c : ℕ) → Carries has x c → ¬ (Carries has b c)) xs h.0 d.0 h.1 z ((f x (inl refl)).exact z i) h.2)
+      (λ z i j. let h = member_of xs (λ a i. f a (inr i)) z j in
+      all_in (λ b. (c : ℕ) → Carries has x c → ¬ (Carries has b c)) xs h.0 d.0 h.1 z
+      ((f x (inl refl)).exact z i) h.2)
 
   total_members : (g : ℕ → ℕ) (weight : Copy S M N K → ℕ) (xs : List (Copy S M N K)) (f : Sized xs) →
       ((a : Copy S M N K) (c : ℕ) → In a xs → Carries has a c → g c ≡ weight a) →
@@ -171,11 +189,14 @@ module _ {S M N K : Type 0} (has : K → ℕ → Bool) (size : K → ℕ) where
   total_members g weight (x ∷ xs) f h =
       let c = f x (inl refl) in
       let rest = total_members g weight xs (λ a i. f a (inr i)) (λ a c i. h a c (inr i)) in
-      let own : total g c.members ≡ size x.set * weight x = total_equal g (weight x) c.members (λ z i. h x z (inl refl) (c.exact z i)) ∙ ap (λ n. n * weight x) c.number in
+      let own : total g c.members ≡ size x.set * weight x =
+      total_equal g (weight x) c.members (λ z i. h x z (inl refl) (c.exact z i))
+      ∙ ap (λ n. n * weight x) c.number in
       let both = total-append g c.members (all_members xs (λ a i. f a (inr i))) in
       omega (arith, rest, own, both)
 
-  module _ (sim : Simulation S M N) (cs : List Clone) (front s : ℕ) (copies : List (Copy S M N K)) (sized : Sized copies)
+  module _ (sim : Simulation S M N) (cs : List Clone) (front s : ℕ) (copies : List (Copy S M N K))
+      (sized : Sized copies)
       (st : Stands sim has cs front s copies) where
     -- what is the same for all clones of a copy sums up to as much as each copy's, so many times
     sum-copies : (g : Clone → ℕ) (weight : Copy S M N K → ℕ) →
@@ -183,7 +204,8 @@ module _ {S M N K : Type 0} (has : K → ℕ → Bool) (size : K → ℕ) where
         total g cs ≡ total (λ a. size a.set * weight a) copies
     sum-copies g weight f =
         by_places g cs
-        ∙ same_total (λ i. g (clone_at cs i)) (places (length cs)) (all_members copies sized) (apart_places (length cs)) (apart_members copies sized st.disjoint)
+        ∙ same_total (λ i. g (clone_at cs i)) (places (length cs)) (all_members copies sized)
+        (apart_places (length cs)) (apart_members copies sized st.disjoint)
         (λ z i. let c = st.carried z (in_places (length cs) z i) in has_member copies sized c.0 z c.1 c.2)
         (λ z i. let m = member_of copies sized z i in places_have (length cs) z (st.living m.0 z m.1 m.2))
         ∙ total_members (λ i. g (clone_at cs i)) weight copies sized f
@@ -193,7 +215,8 @@ module _ {S M N K : Type 0} (has : K → ℕ → Bool) (size : K → ℕ) where
     alone-copies =
         total_is_sum length (logs_at sim cs s front)
         ∙ total-map length (λ c. log_at sim c s front) cs
-        ∙ sum-copies (λ c. length (log_at sim c s front)) (λ a. length a.log) (λ a c i h. ap length (sym (st.log a c i h)))
+        ∙ sum-copies (λ c. length (log_at sim c s front)) (λ a. length a.log)
+        (λ a c i h. ap length (sym (st.log a c i h)))
         ∙ sym (total_is_sum (λ (a : Copy S M N K). size a.set * length a.log) copies)
 
     -- the clones

@@ -1,5 +1,6 @@
 -- The trace of a clone is the merge of its stations' logs.
-use Rattle.std.proofs.Common.{◌≡◌, ℕ, zero, suc, ◌<◌, ◌≤◌, min, List, [], ◌∷◌, inl, inr, ◌==◌, refl, ap, subst, arith, map, eq-eqb, eqb-true}
+use Rattle.std.proofs.Common.{◌≡◌, ℕ, zero, suc, ◌<◌, ◌≤◌, min, List, [], ◌∷◌}
+use Rattle.std.proofs.Common.{inl, inr, ◌==◌, refl, ap, subst, arith, map, eq-eqb, eqb-true}
 use Rattle.std.specs.declared.cmp.Ordering.{Ordering}
 use Rattle.std.specs.declared.cmp.Ordering.TheVariants.{Less, Equal}
 use Rattle.std.specs.Cmp.{IsTotalOrder}
@@ -11,7 +12,8 @@ use Rattle.sim_base.specs.declared.entry.Entry.{Entry}
 use Rattle.run_laws.specs.Queue.{In, Sorted}
 use Rattle.run_laws.specs.Simulation.{Simulation}
 use Rattle.run_laws.specs.Runs.{end_of, run_of, log_at}
-use Rattle.run_laws.specs.Handlers.{IsStation, AreForStations, key_order, HandlesLawfully, SendsToStations, HandlesFreshly}
+use Rattle.run_laws.specs.Handlers.{IsStation, AreForStations, key_order}
+use Rattle.run_laws.specs.Handlers.{HandlesLawfully, SendsToStations, HandlesFreshly}
 use Rattle.run_laws.proofs.Queue.{all_in}
 use Rattle.run_laws.proofs.Lists.{in_filter, filter_keeps, sorted_filter}
 use Rattle.run_laws.proofs.ForStations.{trace_for_stations}
@@ -45,7 +47,8 @@ module _ {S M N : Type 0} {sim : Simulation S M N} {Good : ℕ → S → Type 0}
     trace = (run_of sim c front).at.trace
 
     pub trace_sorted : Sorted by_key trace
-    trace_sorted = sorted_entries (key_order sim.time sender number) trace (trace_rises law stations fresh c front there)
+    trace_sorted = sorted_entries (key_order sim.time sender number) trace
+        (trace_rises law stations fresh c front there)
 
     -- each entry of the trace is of a station
     pub of_station : (e : Entry M N) → In e trace → IsStation sim (sim.to e.msg)
@@ -65,7 +68,8 @@ module _ {S M N : Type 0} {sim : Simulation S M N} {Good : ℕ → S → Type 0}
     in_trace s e i = (in_filter (λ f. sim.to f.msg == s) trace e i).0
 
     -- a list that rises by key, with the entries of the logs, is the trace
-    pub trace_of_logs : (es : List (Entry M N)) → Sorted by_key es → ((e : Entry M N) → In e es → InLogs sim c front e) →
+    pub trace_of_logs : (es : List (Entry M N)) → Sorted by_key es
+        → ((e : Entry M N) → In e es → InLogs sim c front e) →
         ((e : Entry M N) → InLogs sim c front e → In e es) → es ≡ trace
     trace_of_logs es sorted from all = same_rising entries_total es trace sorted trace_sorted
         (λ e i. let h = from e i in in_trace h.0 e h.2)
@@ -75,10 +79,11 @@ module _ {S M N : Type 0} {sim : Simulation S M N} {Good : ℕ → S → Type 0}
     in_merged : (n : ℕ) (e : Entry M N) → In e (merge_of_logs sim sender number c front n) →
         (s : ℕ) × (0 < s) × (s ≤ n) × In e (log_at sim c s front)
     in_merged zero e i = absurd i
-    in_merged (suc n) e i = elim (in_merge by_key (merge_of_logs sim sender number c front n) (log_at sim c (suc n) front) e i) [
-      | inl j ↦ let h = in_merged n e j in let l = h.1 in let k = h.2 in (h.0, h.1, omega arith, h.3)
-      | inr j ↦ (suc n, omega arith, omega arith, j)
-    ]
+    in_merged (suc n) e i = elim (in_merge by_key (merge_of_logs sim sender number c front n)
+        (log_at sim c (suc n) front) e i) [
+          | inl j ↦ let h = in_merged n e j in let l = h.1 in let k = h.2 in (h.0, h.1, omega arith, h.3)
+          | inr j ↦ (suc n, omega arith, omega arith, j)
+        ]
 
     merged_has : (n : ℕ) (e : Entry M N) (s : ℕ) → 0 < s → s ≤ n → In e (log_at sim c s front) →
         In e (merge_of_logs sim sender number c front n)
@@ -94,9 +99,11 @@ module _ {S M N : Type 0} {sim : Simulation S M N} {Good : ℕ → S → Type 0}
         In y (log_at sim c (suc n) front) → by_key x y ≡ Equal → ⊥
     no_ties n x y i j tie =
         let h = in_merged n x i in
-        let same : x ≡ y = ties_are_one entries_total trace x y trace_sorted (in_trace h.0 x h.3) (in_trace (suc n) y j) tie in
+        let same : x ≡ y = ties_are_one entries_total trace x y trace_sorted (in_trace h.0 x h.3)
+        (in_trace (suc n) y j) tie in
         let a : sim.to x.msg ≡ h.0 = eqb-true (sim.to x.msg) h.0 (in_filter (λ f. sim.to f.msg == h.0) trace x h.3).1 in
-        let b : sim.to y.msg ≡ suc n = eqb-true (sim.to y.msg) (suc n) (in_filter (λ f. sim.to f.msg == suc n) trace y j).1 in
+        let b : sim.to y.msg ≡ suc n =
+        eqb-true (sim.to y.msg) (suc n) (in_filter (λ f. sim.to f.msg == suc n) trace y j).1 in
         let l : h.0 ≤ n = h.2 in
         let same_to : sim.to x.msg ≡ sim.to y.msg = ap (λ e. sim.to e.msg) same in
         omega (arith, l, a, b, same_to)

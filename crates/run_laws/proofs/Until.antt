@@ -1,5 +1,6 @@
 -- A station whose sends at an end or later are dropped, against the station itself: up to the end they do the same.
-use Rattle.std.proofs.Common.{◌≡◌, ℕ, ◌<◌, ◌≤◌, min, List, [], ◌∷◌, ◌++◌, ◌==◌, not, Bool, cond, nat_lt, inl, inr, refl, sym, ap, ◌∙◌, subst, arith}
+use Rattle.std.proofs.Common.{◌≡◌, ℕ, ◌<◌, ◌≤◌, min, List, [], ◌∷◌, ◌++◌, ◌==◌, not}
+use Rattle.std.proofs.Common.{Bool, cond, nat_lt, inl, inr, refl, sym, ap, ◌∙◌, subst, arith}
 use Rattle.std.specs.declared.cmp.Ordering.{Ordering}
 use Rattle.std.specs.declared.cmp.Ordering.TheVariants.{Less}
 use Rattle.std.proofs.lemmas.Bool.{cases_Bool, cases_lt, lt-ltb, ltb-true, false≢true}
@@ -24,12 +25,14 @@ head_before : {M : Type 0} {cmp : M → M → Ordering} {time : M → ℕ} (o : 
 head_before o end [] m q s e = let h : ⊥ = cc in absurd h
 head_before {M} {cmp} {time} o end (y ∷ ys) m q s e = elim (cases_Bool (nat_lt (time y) end)) [
   | inl t ↦
-      let k : y ∷ earlier_than time end ys ≡ m ∷ q = sym (ap (λ b. cond b (y ∷ earlier_than time end ys) (earlier_than time end ys)) t) ∙ e in
+      let k : y ∷ earlier_than time end ys ≡ m ∷ q =
+      sym (ap (λ b. cond b (y ∷ earlier_than time end ys) (earlier_than time end ys)) t) ∙ e in
       let a : y ≡ m = cc in
       let b : earlier_than time end ys ≡ q = cc in
       (ys, ap (λ x. x ∷ ys) a, b)
   | inr f ↦
-      let k : earlier_than time end ys ≡ m ∷ q = sym (ap (λ b. cond b (y ∷ earlier_than time end ys) (earlier_than time end ys)) f) ∙ e in
+      let k : earlier_than time end ys ≡ m ∷ q =
+      sym (ap (λ b. cond b (y ∷ earlier_than time end ys) (earlier_than time end ys)) f) ∙ e in
       let i = in_filter (λ m. nat_lt (time m) end) ys m (subst (In m) (sym k) (inl refl)) in
       let l : time m < end = ltb-true (time m) end i.1 in
       let h : time y ≤ time m = o.timed y m (all_in (λ z. cmp y z ≡ Less) ys m s.0 i.0) in
@@ -49,7 +52,8 @@ module _ {S M N : Type 0} {sim : Simulation S M N} {Good : ℕ → S → Type 0}
   -- a turn of the one is a turn of the other
   cut_step : (c d e : Config (Part S M N) M) → Sorted sim.order c.pending → IsCutOf sim end c d →
       Next sim.order sim.time (part_step sim.to (handle_until sim end) s) bound d e →
-      (f : Config (Part S M N) M) × Next sim.order sim.time (part_step sim.to sim.handle s) (min bound end) c f × IsCutOf sim end f e
+      (f : Config (Part S M N) M) × Next sim.order sim.time (part_step sim.to sim.handle s) (min bound end) c f
+      × IsCutOf sim end f e
   cut_step c d e sorted h n =
       let o = law.order.order in
       let early : M → Bool = λ m. nat_lt (sim.time m) end in
@@ -58,7 +62,9 @@ module _ {S M N : Type 0} {sim : Simulation S M N} {Good : ℕ → S → Type 0}
       let r : List M = hd.0 in
       let sr : Sorted sim.order (m ∷ r) = subst (Sorted sim.order) hd.1 sorted in
       let before_bound : sim.time m < bound = n.early in
-      let before_end : sim.time m < end = ltb-true (sim.time m) end (in_filter early c.pending m (subst (In m) (h.pending) (subst (In m) (sym n.pending) (inl refl)))).1 in
+      let before_end : sim.time m < end =
+      ltb-true (sim.time m) end (in_filter early c.pending m
+      (subst (In m) (h.pending) (subst (In m) (sym n.pending) (inl refl)))).1 in
       let g : Handled S M N = sim.handle s d.at.state m in
       let there : Handled S M N = sim.handle s c.at.state m in
       let ge : g ≡ there = ap (λ st. sim.handle s st m) h.state in
@@ -71,8 +77,10 @@ module _ {S M N : Type 0} {sim : Simulation S M N} {Good : ℕ → S → Type 0}
               ∙ ap (λ u. c.at.log ++ record { msg = m; line = u.line } ∷ []) ge;
           aside = ap (λ u. u.at.aside) n.is
               ∙ ap (λ l. l ++ to_others sim.to s (earlier_than sim.time end g.sends)) h.aside
-              ∙ ap (λ u. earlier_than sim.time end c.at.aside ++ to_others sim.to s (earlier_than sim.time end u.sends)) ge
-              ∙ ap (λ l. earlier_than sim.time end c.at.aside ++ l) (filter_swap (λ m. not (sim.to m == s)) early there.sends)
+              ∙ ap (λ u. earlier_than sim.time end c.at.aside ++ to_others sim.to s
+              (earlier_than sim.time end u.sends)) ge
+              ∙ ap (λ l. earlier_than sim.time end c.at.aside ++ l)
+              (filter_swap (λ m. not (sim.to m == s)) early there.sends)
               ∙ sym (filter-append early c.at.aside (to_others sim.to s there.sends));
           pending = ap (λ u. u.pending) n.is
               ∙ ap (λ u. insert_all sim.order (to_it sim.to s (earlier_than sim.time end u.sends)) n.q) ge
@@ -86,7 +94,8 @@ module _ {S M N : Type 0} {sim : Simulation S M N} {Good : ℕ → S → Type 0}
   cut_reach : {d e : Config (Part S M N) M} (c : Config (Part S M N) M) →
       Fine sim.order sim.time (λ p. Good s p.state) 0 c → IsCutOf sim end c d →
       Reach sim.order sim.time (part_step sim.to (handle_until sim end) s) bound d e →
-      (f : Config (Part S M N) M) × Reach sim.order sim.time (part_step sim.to sim.handle s) (min bound end) c f × IsCutOf sim end f e
+      (f : Config (Part S M N) M) × Reach sim.order sim.time (part_step sim.to sim.handle s) (min bound end) c f
+      × IsCutOf sim end f e
   cut_reach c fine h stay = (c, stay, h)
   cut_reach {d} {e} c fine h (go {d = d0} r n) =
       let a = cut_reach c fine h r in
@@ -100,12 +109,17 @@ module _ {S M N : Type 0} {sim : Simulation S M N} {Good : ℕ → S → Type 0}
       Done sim.time bound e → IsCutOf sim end (local sim s log st q bound end) e
   cut_of_local log st q e good sorted early r done =
       let c : Config (Part S M N) M = alone_at log st q in
-      let fine : Fine sim.order sim.time (λ p. Good s p.state) 0 c = record { good = good; sorted = sorted; from_t = all_from_zero sim.time q } in
+      let fine : Fine sim.order sim.time (λ p. Good s p.state) 0 c =
+      record { good = good; sorted = sorted; from_t = all_from_zero sim.time q } in
       let a = cut_reach c fine (record { state = refl; log = refl; aside = refl; pending = sym early }) r in
       let f : Config (Part S M N) M = a.0 in
       let cut : IsCutOf sim end f e = a.2 in
-      let left : Done sim.time (min bound end) f = all_from (λ m. min bound end ≤ sim.time m) f.pending (λ z i. elim (cases_lt (sim.time z) end) [
-        | inl l ↦ let b : bound ≤ sim.time z = all_in (λ m. bound ≤ sim.time m) e.pending z done (subst (In z) (sym cut.pending) (filter_keeps (λ m. nat_lt (sim.time m) end) f.pending z i (lt-ltb (sim.time z) end l))) in omega arith
+      let left : Done sim.time (min bound end) f =
+      all_from (λ m. min bound end ≤ sim.time m) f.pending (λ z i. elim (cases_lt (sim.time z) end) [
+        | inl l ↦ let b : bound ≤ sim.time z =
+            all_in (λ m. bound ≤ sim.time m) e.pending z done
+            (subst (In z) (sym cut.pending)
+            (filter_keeps (λ m. nat_lt (sim.time m) end) f.pending z i (lt-ltb (sim.time z) end l))) in omega arith
         | inr l ↦ omega arith
       ]) in
       subst (λ u. IsCutOf sim end u e) (run_is law.order (part_lawful law s) (min bound end) c f fine a.1 left) cut

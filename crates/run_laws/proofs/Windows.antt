@@ -2,7 +2,8 @@
 --
 -- The world takes its turns, and with each the window of the receiver takes one, while the other windows stay
 -- as they are: the least message of the world is the least of its receiver.
-use Rattle.std.proofs.Common.{◌≡◌, ℕ, ◌+◌, ◌≤◌, ◌<◌, List, [], ◌∷◌, ◌++◌, ◌⊎◌, inl, inr, refl, sym, ap, ◌∙◌, subst, arith}
+use Rattle.std.proofs.Common.{◌≡◌, ℕ, ◌+◌, ◌≤◌, ◌<◌, List, [], ◌∷◌, ◌++◌}
+use Rattle.std.proofs.Common.{◌⊎◌, inl, inr, refl, sym, ap, ◌∙◌, subst, arith}
 use Rattle.std.proofs.lemmas.Bool.{cases_eq}
 use Rattle.sim_base.specs.declared.entry.Entry.{Entry}
 use Rattle.run_laws.specs.Queue.{insert_all, In, Sorted}
@@ -11,10 +12,12 @@ use Rattle.run_laws.specs.Simulation.{Simulation, Handled}
 use Rattle.run_laws.specs.World.{World, to_it, log_of, put, world_step}
 use Rattle.run_laws.specs.Window.{Part, to_others, part_step, alone_at}
 use Rattle.run_laws.specs.Handlers.{AllGood, HandlesLawfully}
-use Rattle.run_laws.proofs.Queue.{all_in, all_from, in_insert_all, insert_all_old, insert_all_new, sorted_insert_all, same_head, not_head}
+use Rattle.run_laws.proofs.Queue.{all_in, all_from, in_insert_all, insert_all_old}
+use Rattle.run_laws.proofs.Queue.{insert_all_new, sorted_insert_all, same_head, not_head}
 use Rattle.run_laws.proofs.Lists.{in_own, own_from, in_others, others_from, in_append, append_old, append_new}
 use Rattle.run_laws.proofs.Running.{Fine, all_from_zero, fine_keeps, run_is}
-use Rattle.run_laws.proofs.Worlds.{put_same, put_other, put_cases, log_here, log_there, entry_of, world_lawful, part_lawful}
+use Rattle.run_laws.proofs.Worlds.{put_same, put_other, put_cases, log_here}
+use Rattle.run_laws.proofs.Worlds.{log_there, entry_of, world_lawful, part_lawful}
 
 module _ {S M N : Type 0} (sim : Simulation S M N) (bound end : ℕ) (due : ℕ → List M) where
   -- a station's window when it begins, with these messages due
@@ -30,7 +33,8 @@ module _ {S M N : Type 0} (sim : Simulation S M N) (bound end : ℕ) (due : ℕ 
     pub own : (s : ℕ) (m : M) → In m (k s).pending → (sim.to m ≡ s) × In m w.pending
     pub aside : (s : ℕ) (m : M) → In m (k s).at.aside → (bound ≤ sim.time m) × In m w.pending
     -- what the world has before the end, a window has left or has laid aside
-    pub out : (m : M) → In m w.pending → sim.time m < end → In m (k (sim.to m)).pending ⊎ ((r : ℕ) × In m (k r).at.aside)
+    pub out : (m : M) → In m w.pending → sim.time m < end → In m (k (sim.to m)).pending
+        ⊎ ((r : ℕ) × In m (k r).at.aside)
     pub near : (m : M) → In m w.pending → sim.time m < end → bound ≤ sim.time m + sim.lookahead
     pub ran : (s : ℕ) → Reach sim.order sim.time (part_step sim.to sim.handle s) bound (opened w0 s) (k s)
 
@@ -60,14 +64,20 @@ module _ {S M N : Type 0} {sim : Simulation S M N} {Good : ℕ → S → Type 0}
   split_step : (w0 : Config (World S M N) M) (x : World S M N) (m : M) (q : List M) (k : ℕ → Config (Part S M N) M) →
       AllGood Good x → Sorted sim.order (m ∷ q) → sim.time m < bound →
       Split sim bound end due w0 (record { at = x; pending = m ∷ q }) k →
-      (k2 : ℕ → Config (Part S M N) M) × Split sim bound end due w0 (after sim.order (world_step sim.to sim.handle) x m q) k2
+      (k2 : ℕ → Config (Part S M N) M)
+      × Split sim bound end due w0 (after sim.order (world_step sim.to sim.handle) x m q) k2
   split_step w0 x m q k good s early h =
       let r : ℕ = sim.to m in
       let o = law.order.order in
       let there : Handled S M N = sim.handle r (x.states r) m in
       let e : Entry M N = entry_of sim r (x.states r) m in
       let sent : List M = there.sends in
-      let mine : In m (k r).pending = elim (h.out m (inl refl) (omega arith)) [ inl i ↦ i | inr a ↦ let b = (h.aside a.0 m a.1).0 in absurd (omega arith) ] in
+      let mine : In m (k r).pending =
+      elim (h.out m (inl refl) (omega arith)) [
+        | inl i ↦ i
+        | inr a ↦ let b = (h.aside a.0 m a.1).0 in
+            absurd (omega arith)
+      ] in
       let head = same_head o m q (k r).pending s (h.sorted r) mine (λ z i. (h.own r z i).1) in
       let p : List M = head.0 in
       let is : (k r).pending ≡ m ∷ p = head.1 in
@@ -93,33 +103,43 @@ module _ {S M N : Type 0} {sim : Simulation S M N} {Good : ℕ → S → Type 0}
               ∙ ap (λ l. l ++ e ∷ []) (h.log r)
               ∙ ap (λ u. (k r).at.log ++ record { msg = m; line = u.line } ∷ []) (sym ge))
               (λ s n. log_there sim.to s x.trace e (λ p. n (sym p)) ∙ h.log s);
-          sorted = put_cases (λ s c. Sorted sim.order c.pending) k r v (sorted_insert_all o (to_it sim.to r g.sends) p sp.1) (λ s n. h.sorted s);
+          sorted = put_cases (λ s c. Sorted sim.order c.pending) k r v
+              (sorted_insert_all o (to_it sim.to r g.sends) p sp.1) (λ s n. h.sorted s);
           own = put_cases (λ s c. (z : M) → In z c.pending → (sim.to z ≡ s) × In z new) k r v
               (λ z i. elim (in_insert_all o (to_it sim.to r g.sends) p z i) [
                 | inl j ↦ let b = in_own sim.to r g.sends z j in (b.1, add z (from_sent z b.0))
                 | inr j ↦ let b = h.own r z (subst (In z) (sym is) (inr j)) in
                     (b.0, elim b.1 [ inl e ↦ absurd (not_head o m p z sp j e) | inr l ↦ old z l ])
               ])
-              (λ s n z i. let b = h.own s z i in (b.0, elim b.1 [ inl e ↦ absurd (n (sym b.0 ∙ ap sim.to e)) | inr l ↦ old z l ]));
+              (λ s n z i. let b = h.own s z i in
+              (b.0, elim b.1 [ inl e ↦ absurd (n (sym b.0 ∙ ap sim.to e)) | inr l ↦ old z l ]));
           aside = put_cases (λ s c. (z : M) → In z c.at.aside → (bound ≤ sim.time z) × In z new) k r v
               (λ z i. elim (in_append (k r).at.aside (to_others sim.to r g.sends) z i) [
                 | inl j ↦ stays z (h.aside r z j)
                 | inr j ↦ let b = in_others sim.to r g.sends z j in
-                    let f : sim.time m + sim.lookahead ≤ sim.time z = law.far r (x.states r) m z gm (from_sent z b.0) b.1 in
+                    let f : sim.time m + sim.lookahead ≤ sim.time z =
+                    law.far r (x.states r) m z gm (from_sent z b.0) b.1 in
                     (omega arith, add z (from_sent z b.0))
               ])
               (λ s n z i. stays z (h.aside s z i));
           out = λ z i t. elim (in_insert_all o sent q z i) [
             | inl j ↦ elim (cases_eq (sim.to z) r) [
-              | inl e ↦ inl (subst (λ c. In z c.pending) (sym (put_same k r v (sim.to z) e)) (insert_all_new o (to_it sim.to r g.sends) p z (own_from sim.to r g.sends z (to_sent z j) e)))
-              | inr n ↦ inr (r, subst (λ c. In z c.at.aside) (sym at_here) (append_new (k r).at.aside (to_others sim.to r g.sends) z (others_from sim.to r g.sends z (to_sent z j) n)))
+              | inl e ↦ inl (subst (λ c. In z c.pending) (sym (put_same k r v (sim.to z) e))
+                  (insert_all_new o (to_it sim.to r g.sends) p z (own_from sim.to r g.sends z (to_sent z j) e)))
+              | inr n ↦ inr (
+                r,
+                subst (λ c. In z c.at.aside) (sym at_here)
+                    (append_new (k r).at.aside (to_others sim.to r g.sends) z
+                    (others_from sim.to r g.sends z (to_sent z j) n)),
+              )
             ]
             | inr j ↦ elim (h.out z (inr j) t) [
               | inl a ↦ elim (cases_eq (sim.to z) r) [
-                | inl e ↦ inl (subst (λ c. In z c.pending) (sym (put_same k r v (sim.to z) e)) (elim (subst (In z) is (subst (λ u. In z (k u).pending) e a)) [
-                  | inl d ↦ absurd (not_head o m q z s j d)
-                  | inr l ↦ insert_all_old o (to_it sim.to r g.sends) p z l
-                ]))
+                | inl e ↦ inl (subst (λ c. In z c.pending) (sym (put_same k r v (sim.to z) e))
+                    (elim (subst (In z) is (subst (λ u. In z (k u).pending) e a)) [
+                      | inl d ↦ absurd (not_head o m q z s j d)
+                      | inr l ↦ insert_all_old o (to_it sim.to r g.sends) p z l
+                    ]))
                 | inr n ↦ inl (subst (λ c. In z c.pending) (sym (put_other k r v (sim.to z) n)) a)
               ]
               | inr a ↦ inr (
@@ -130,10 +150,12 @@ module _ {S M N : Type 0} {sim : Simulation S M N} {Good : ℕ → S → Type 0}
             ]
           ];
           near = λ z i t. elim (in_insert_all o sent q z i) [
-            | inl j ↦ let a : sim.time m < sim.time z = all_in (λ x. sim.time m < sim.time x) sent z (law.later r (x.states r) m gm) j in omega arith
+            | inl j ↦ let a : sim.time m < sim.time z =
+                all_in (λ x. sim.time m < sim.time x) sent z (law.later r (x.states r) m gm) j in omega arith
             | inr j ↦ h.near z (inr j) t
           ];
-          ran = put_cases (λ s c. Reach sim.order sim.time (part_step sim.to sim.handle s) bound (opened sim bound end due w0 s) c) k r v
+          ran = put_cases (λ s c. Reach sim.order sim.time (part_step sim.to sim.handle s) bound
+              (opened sim bound end due w0 s) c) k r v
               (go (h.ran r) (record { m = m; q = p; pending = is; early = early; is = refl }))
               (λ s n. h.ran s);
         },
@@ -164,7 +186,8 @@ module _ {S M N : Type 0} {sim : Simulation S M N} {Good : ℕ → S → Type 0}
   }
 
   -- where the turns of a world lead, the windows of its stations are
-  split_reach : (w d : Config (World S M N) M) → Fine sim.order sim.time (AllGood Good) 0 w → Opens sim bound end due w →
+  split_reach : (w d : Config (World S M N) M) → Fine sim.order sim.time (AllGood Good) 0 w
+      → Opens sim bound end due w →
       Reach sim.order sim.time (world_step sim.to sim.handle) bound w d →
       (k : ℕ → Config (Part S M N) M) × Split sim bound end due w d k
   split_reach w d f h r =
@@ -196,4 +219,5 @@ module _ {S M N : Type 0} {sim : Simulation S M N} {Good : ℕ → S → Type 0}
       windows_of w d a.0 a.1 (λ s. run_is law.order (part_lawful law s) bound (opened sim bound end due w s) (a.0 s)
       (record { good = f.good s; sorted = h.sorted s; from_t = all_from_zero sim.time (due s) })
       (a.1.ran s)
-      (all_from (λ m. bound ≤ sim.time m) (a.0 s).pending (λ z i. all_in (λ m. bound ≤ sim.time m) d.pending z done (a.1.own s z i).1)))
+      (all_from (λ m. bound ≤ sim.time m) (a.0 s).pending
+      (λ z i. all_in (λ m. bound ≤ sim.time m) d.pending z done (a.1.own s z i).1)))

@@ -1,5 +1,6 @@
 -- The world of a clone, turn by turn: its states and logs, and how it begins.
-use Rattle.std.proofs.Common.{◌≡◌, ℕ, zero, suc, ◌<◌, ◌≤◌, List, [], ◌∷◌, ◌++◌, ◌⊎◌, inl, inr, cond, refl, sym, ap, ◌∙◌, subst, arith, ◌==◌, eq-eqb, append-nil, Option, Some, None}
+use Rattle.std.proofs.Common.{◌≡◌, ℕ, zero, suc, ◌<◌, ◌≤◌, List, [], ◌∷◌, ◌++◌, ◌⊎◌, inl, inr}
+use Rattle.std.proofs.Common.{cond, refl, sym, ap, ◌∙◌, subst, arith, ◌==◌, eq-eqb, append-nil, Option, Some, None}
 use Rattle.std.proofs.lemmas.List.Elements.{filter-append}
 use Rattle.std.proofs.lemmas.Bool.{cases_eq, ne_eqb}
 use Rattle.sim_base.specs.declared.decision.Planned.{Planned}
@@ -62,7 +63,8 @@ module _ {S M N : Type 0} (sim : Simulation S M N) where
       (s : ℕ) × ((0 < s) × (s ≤ n)) × ((sim.setup s).first ≡ Some z)
   in_openings zero z i = absurd i
   in_openings (suc n) z i = elim (first_in (openings sim n) (sim.setup (suc n)).first z i) [
-    | inl j ↦ let h = in_openings n z j in let above : 0 < h.0 = h.1.0 in let most : h.0 ≤ n = h.1.1 in (h.0, (omega arith, omega arith), h.2)
+    | inl j ↦ let h = in_openings n z j in let above : 0 < h.0 = h.1.0 in let most : h.0 ≤ n = h.1.1 in
+        (h.0, (omega arith, omega arith), h.2)
     | inr e ↦ (suc n, (omega arith, omega arith), e)
   ]
 
@@ -71,13 +73,16 @@ module _ {S M N : Type 0} (sim : Simulation S M N) where
       (i : ℕ) × (p : Planned) × (k ≤ i) × In p plans × (z ≡ sim.decided i p)
   in_planned k [] z i = absurd i
   in_planned k (p ∷ ps) z (inl e) = (k, p, omega arith, inl refl, e)
-  in_planned k (p ∷ ps) z (inr j) = let h = in_planned (suc k) ps z j in let l = h.2 in (h.0, h.1, omega arith, inr h.3, h.4)
+  in_planned k (p ∷ ps) z (inr j) = let h = in_planned (suc k) ps z j in let l = h.2 in
+      (h.0, h.1, omega arith, inr h.3, h.4)
 
 module _ {S M N : Type 0} {sim : Simulation S M N} {Good : ℕ → S → Type 0} (law : HandlesLawfully sim Good) where
   -- the world keeps its stations good
   pub world_lawful : IsLawful sim.time (world_step sim.to sim.handle) (AllGood Good)
   world_lawful = record {
-    keeps = λ w m g. put_cases (λ s st. Good s st) w.states (sim.to m) (sim.handle (sim.to m) (w.states (sim.to m)) m).state (law.keeps (sim.to m) (w.states (sim.to m)) m (g (sim.to m))) (λ s n. g s);
+    keeps = λ w m g. put_cases (λ s st. Good s st) w.states (sim.to m)
+        (sim.handle (sim.to m) (w.states (sim.to m)) m).state
+        (law.keeps (sim.to m) (w.states (sim.to m)) m (g (sim.to m))) (λ s n. g s);
     later = λ w m g. law.later (sim.to m) (w.states (sim.to m)) m (g (sim.to m));
   }
 
@@ -85,7 +90,9 @@ module _ {S M N : Type 0} {sim : Simulation S M N} {Good : ℕ → S → Type 0}
   pub part_lawful : (s : ℕ) → IsLawful sim.time (part_step sim.to sim.handle s) (λ p. Good s p.state)
   part_lawful s = record {
     keeps = λ p m g. law.keeps s p.state m g;
-    later = λ p m g. all_from (λ x. sim.time m < sim.time x) (to_it sim.to s (sim.handle s p.state m).sends) (λ z i. all_in (λ x. sim.time m < sim.time x) (sim.handle s p.state m).sends z (law.later s p.state m g) (in_own sim.to s (sim.handle s p.state m).sends z i).0);
+    later = λ p m g. all_from (λ x. sim.time m < sim.time x) (to_it sim.to s (sim.handle s p.state m).sends)
+        (λ z i. all_in (λ x. sim.time m < sim.time x) (sim.handle s p.state m).sends z (law.later s p.state m g)
+        (in_own sim.to s (sim.handle s p.state m).sends z i).0);
   }
 
   -- a world begins in order
@@ -98,13 +105,15 @@ module _ {S M N : Type 0} {sim : Simulation S M N} {Good : ℕ → S → Type 0}
 
   -- a run to a front is reached by turns before the front, and has none left
   pub run_reached : (plans : List Planned) (front : ℕ) →
-      Reach sim.order sim.time (world_step sim.to sim.handle) front (begin sim plans) (run sim plans front) × Fine sim.order sim.time (AllGood Good) front (run sim plans front)
+      Reach sim.order sim.time (world_step sim.to sim.handle) front (begin sim plans) (run sim plans front)
+      × Fine sim.order sim.time (AllGood Good) front (run sim plans front)
   run_reached plans front = run_reach law.order world_lawful front front (begin sim plans) (omega arith)
       (begins_fine plans)
 
   -- a fine world may begin at an earlier time
   pub run_fine : (plans : List Planned) (front : ℕ) → Fine sim.order sim.time (AllGood Good) 0 (run sim plans front)
-  run_fine plans front = let h = (run_reached plans front).1 in record { good = h.good; sorted = h.sorted; from_t = all_from_zero sim.time (run sim plans front).pending }
+  run_fine plans front = let h = (run_reached plans front).1 in
+      record { good = h.good; sorted = h.sorted; from_t = all_from_zero sim.time (run sim plans front).pending }
 
   -- from a front, the run to a later one goes on
   pub run_goes_on : (plans : List Planned) (front bound : ℕ) → front ≤ bound →

@@ -3,7 +3,8 @@
 -- A clone takes the messages whose marks have it and that come before its end. What it takes of a copy makes it
 -- a station by itself, one whose sends at its end or later are dropped. So what is sent at a clone's end or later may
 -- be marked with it or not: nothing that is said here tells the two apart.
-use Rattle.std.specs.Prelude.{◌≡◌, ◌⊎◌, ℕ, ◌+◌, ◌<◌, ◌≤◌, List, [], ◌∷◌, ◌++◌, if◌then◌else◌, Bool, true, false, ◌==◌, ◌&&◌, map, length, take, nat_lt, Option, Some, None, ⊤}
+use Rattle.std.specs.Prelude.{◌≡◌, ◌⊎◌, ℕ, ◌+◌, ◌<◌, ◌≤◌, List, [], ◌∷◌, ◌++◌, if◌then◌else◌, Bool}
+use Rattle.std.specs.Prelude.{true, false, ◌==◌, ◌&&◌, map, length, take, nat_lt, Option, Some, None, ⊤}
 use Rattle.std.specs.List.{AllByRecursion}
 use Rattle.std.specs.declared.cmp.Ordering.{Ordering}
 use Rattle.sim_base.specs.Clones.{Clone, clone_at}
@@ -46,7 +47,8 @@ module _ {S M N K : Type 0} (has : K → ℕ → Bool) where
   -- no clone is in two of the copies
   abbrev pub Disjoint : List (Copy S M N K) → Type 0
   Disjoint [] = ⊤
-  Disjoint (a ∷ as_copies) = AllByRecursion (λ b. (c : ℕ) → Carries a c → ¬ (Carries b c)) as_copies × Disjoint as_copies
+  Disjoint (a ∷ as_copies) = AllByRecursion (λ b. (c : ℕ) → Carries a c → ¬ (Carries b c)) as_copies
+      × Disjoint as_copies
 
 module _ {S M N K : Type 0} (sim : Simulation S M N) (join : K → K → K) (s : ℕ) where
   -- the copy has handled m for all its clones
@@ -66,7 +68,8 @@ module _ {S M N K : Type 0} (sim : Simulation S M N) (s : ℕ) where
 module _ {S M N : Type 0} (sim : Simulation S M N) where
   -- what is sent at the end or later is dropped
   abbrev pub handle_until : ℕ → ℕ → S → M → Handled S M N
-  handle_until end s st m = let h = sim.handle s st m in record { state = h.state; sends = earlier_than sim.time end h.sends; line = h.line }
+  handle_until end s st m = let h = sim.handle s st m in
+      record { state = h.state; sends = earlier_than sim.time end h.sends; line = h.line }
 
 -- the clone that clone c was: `new` was `old`, and each other clone itself
 abbrev pub origin_of : ℕ → ℕ → ℕ → ℕ
@@ -88,7 +91,10 @@ module _ {S M N K : Type 0} (sim : Simulation S M N) (has : K → ℕ → Bool) 
 
   -- a copy, and what its station has laid aside, as clone c sees them
   abbrev pub view : ℕ → Copy S M N K → List (M × K) → Config (Part S M N) M
-  view c a sent = record { at = record { state = a.state; log = a.log; aside = taken c sent }; pending = taken c a.pending }
+  view c a sent = record {
+    at = record { state = a.state; log = a.log; aside = taken c sent };
+    pending = taken c a.pending;
+  }
 
   -- some of the clones of r, and r for them
   pub record Narrowed (r some : Copy S M N K) : Type 0 where
@@ -135,7 +141,8 @@ module _ {S M N K : Type 0} (sim : Simulation S M N) (has : K → ℕ → Bool) 
 
     -- the copies that come of r at the bound: with each, its clones have taken their turns; clones whose logs
     -- get too long are put with those over the limit; n prefixes were gained, of logs cut to the limit
-    pub record Ends (r : Copy S M N K) (results : List (Copy S M N K)) (before after : List (M × K)) (over over_after : K)
+    pub record Ends (r : Copy S M N K) (results : List (Copy S M N K)) (before after : List (M × K))
+        (over over_after : K)
         (n : ℕ) : Type 0 where
       pub inhabited : (b : Copy S M N K) → In b results → (c : ℕ) × Carries has b c
       pub gained : IsCount (IsGained (IsCutLog r before) r.log) n
@@ -212,8 +219,10 @@ module _ {S M N K : Type 0} (sim : Simulation S M N) (has : K → ℕ → Bool) 
   pub record SoFarGiven (msgs : List (M × K)) (new done : List (Copy S M N K)) : Type 0 where
     pub from : (b : Copy S M N K) → In b done →
         (a : Copy S M N K) × In a new × (b.set ≡ a.set) × (b.log ≡ a.log) × (b.state ≡ a.state)
-        × ((c : ℕ) (z : M) → Carries has a c → In z (taken c b.pending) → In z (taken c a.pending) ⊎ In z (taken c msgs))
-        × ((c : ℕ) (z : M) → Carries has a c → In z (taken c a.pending) ⊎ In z (taken c msgs) → In z (taken c b.pending))
+        × ((c : ℕ) (z : M) → Carries has a c → In z (taken c b.pending)
+        → In z (taken c a.pending) ⊎ In z (taken c msgs))
+        × ((c : ℕ) (z : M) → Carries has a c → In z (taken c a.pending) ⊎ In z (taken c msgs)
+        → In z (taken c b.pending))
     pub each : (a : Copy S M N K) → In a new → (b : Copy S M N K) × In b done × (b.set ≡ a.set)
     pub disjoint : Disjoint has done
     pub sorted : (a : Copy S M N K) → In a done → SortedMarked sim.order a.pending
@@ -235,7 +244,12 @@ module _ {S M N K : Type 0} (sim : Simulation S M N) (only : K) where
 
   -- the copy of a station before anything was handled
   abbrev pub first_copy : ℕ → Copy S M N K
-  first_copy s = record { set = only; state = (sim.setup s).state; log = []; pending = first_pending (sim.setup s).first }
+  first_copy s = record {
+    set = only;
+    state = (sim.setup s).state;
+    log = [];
+    pending = first_pending (sim.setup s).first;
+  }
 
 module _ {S M N : Type 0} (sim : Simulation S M N) where
   -- when the clone at a place ends
@@ -271,7 +285,8 @@ module _ {S M N K : Type 0} (sim : Simulation S M N) (has : K → ℕ → Bool) 
     pub log : b.log ≡ a.log
     pub state : b.state ≡ a.state
     pub from : (c : ℕ) (z : M) → Carries has a c → In z (taken sim has (ends_of sim cs) c b.pending) →
-        In z (taken sim has (ends_of sim cs) c a.pending) ⊎ ((r : ℕ) × In z (taken sim has (ends_of sim cs) c (sent r)) × (sim.to z ≡ s))
+        In z (taken sim has (ends_of sim cs) c a.pending)
+        ⊎ ((r : ℕ) × In z (taken sim has (ends_of sim cs) c (sent r)) × (sim.to z ≡ s))
     pub kept : (c : ℕ) (z : M) → Carries has a c → In z (taken sim has (ends_of sim cs) c a.pending) →
         In z (taken sim has (ends_of sim cs) c b.pending)
     pub got : (c r : ℕ) (z : M) → Carries has a c → In z (taken sim has (ends_of sim cs) c (sent r)) → sim.to z ≡ s →

@@ -14,7 +14,8 @@ use Rattle.run_laws.specs.Copies.{Copy, IsGiven, IsForked, first_copy, ends_of, 
 module _ {S M N : Type 0} (K : Type 0) (sim : Simulation S M N) where
   -- before anything was handled, one copy of a station stands for the first clone
   abbrev pub StandsAtStart : Type 0
-  StandsAtStart = (has : K → ℕ → Bool) (only : K) (s : ℕ) → ((c : ℕ) → (has only c ≡ true) ↔ (c ≡ 0)) → IsStation sim s →
+  StandsAtStart = (has : K → ℕ → Bool) (only : K) (s : ℕ) → ((c : ℕ) → (has only c ≡ true) ↔ (c ≡ 0))
+      → IsStation sim s →
       Stands sim has (base ∷ []) 0 s (first_copy sim only s ∷ [])
 
   -- where the copies of all stations stand for the clones at a front, each station was stepped to a bound that is

@@ -43,7 +43,8 @@ module _ {S M N : Type 0} (sim : Simulation S M N) where
 
   -- at the start nothing was handled
   abbrev pub NothingIsHandledAtFirst : Type 0
-  NothingIsHandledAtFirst = (same : Entry M N → Entry M N → Bool) (cs : List Clone) (s : ℕ) → handled sim same cs s 0 ≡ 0
+  NothingIsHandledAtFirst = (same : Entry M N → Entry M N → Bool) (cs : List Clone) (s : ℕ)
+      → handled sim same cs s 0 ≡ 0
 
   -- a decision at the front or later leaves what was handled
   abbrev pub HandledStaysAtDecision : Type 0
@@ -95,7 +96,8 @@ module _ {S M N : Type 0} (K : Type 0) (sim : Simulation S M N) where
 
   -- those that a step puts over the limit are the clones whose logs at the bound are beyond it
   abbrev pub OverIsBeyond : Type 0
-  OverIsBeyond = (has : K → ℕ → Bool) (join : K → K → K) (cs : List Clone) (front bound s : ℕ) (old : List (Copy S M N K))
+  OverIsBeyond = (has : K → ℕ → Bool) (join : K → K → K) (cs : List Clone) (front bound s : ℕ)
+      (old : List (Copy S M N K))
       (over : K) →
       JoinsMarks has join → IsWindow sim cs front bound → Stands sim has cs front s old →
       AreOver sim has (ends_of sim cs) s bound old over → (c : ℕ) →
@@ -103,14 +105,16 @@ module _ {S M N : Type 0} (K : Type 0) (sim : Simulation S M N) where
 
   -- what a copy gains is at most the limit for each of its clones, whomever it stands for
   abbrev pub CopyGainsFew : (ℕ → S → Type 0) → Type 0
-  CopyGainsFew Good = (has : K → ℕ → Bool) (ends : ℕ → ℕ) (s bound n size : ℕ) (r : Copy S M N K) (sent : List (M × K)) →
+  CopyGainsFew Good = (has : K → ℕ → Bool) (ends : ℕ → ℕ) (s bound n size : ℕ) (r : Copy S M N K)
+      (sent : List (M × K)) →
       Good s r.state → SortedMarked sim.order r.pending → IsCount (λ c. Carries has r c) size →
       IsCount (IsGained (IsCutLog sim has ends s bound r sent) r.log) n → n ≤ size * sim.limit
 
   -- and so it is for several copies
   abbrev pub CopiesGainFew : (ℕ → S → Type 0) → Type 0
   CopiesGainFew Good = (has : K → ℕ → Bool) (ends : ℕ → ℕ) (s bound n : ℕ) (size : K → ℕ) (old : List (Copy S M N K)) →
-      ((a : Copy S M N K) → In a old → Good s a.state × SortedMarked sim.order a.pending × IsCount (λ c. Carries has a c) (size a.set)) →
+      ((a : Copy S M N K) → In a old → Good s a.state × SortedMarked sim.order a.pending
+      × IsCount (λ c. Carries has a c) (size a.set)) →
       GainTogether sim has ends s bound old n → n ≤ sum_by (λ a. size a.set) old * sim.limit
 
   module _ (has : K → ℕ → Bool) (cs : List Clone) (s : ℕ) where
@@ -119,7 +123,8 @@ module _ {S M N : Type 0} (K : Type 0) (sim : Simulation S M N) where
     abbrev pub WindowsGain : ℕ → List ℕ → ℕ → Type 0
     WindowsGain front [] n = n ≡ 0
     WindowsGain front (f ∷ fs) n = (copies : List (Copy S M N K)) × (m : ℕ) × (k : ℕ) ×
-        Stands sim has cs front s copies × GainTogether sim has (ends_of sim cs) s f copies m × WindowsGain f fs k × (n ≡ m + k)
+        Stands sim has cs front s copies × GainTogether sim has (ends_of sim cs) s f copies m × WindowsGain f fs k
+        × (n ≡ m + k)
 
   -- where no log gets too long, all windows from a front to the horizon gain what is handled once besides
   abbrev pub WindowsAddUp : Type 0
@@ -140,11 +145,13 @@ module _ {S M N : Type 0} (K : Type 0) (sim : Simulation S M N) where
   -- each clone by itself would handle the messages of its copy's log
   abbrev pub AloneIsOfCopies : Type 0
   AloneIsOfCopies = (has : K → ℕ → Bool) (cs : List Clone) (front s : ℕ) (copies : List (Copy S M N K)) (size : K → ℕ) →
-      CountsClones has size copies → Stands sim has cs front s copies → alone sim cs s front ≡ sum_by (λ a. size a.set * length a.log) copies
+      CountsClones has size copies → Stands sim has cs front s copies
+      → alone sim cs s front ≡ sum_by (λ a. size a.set * length a.log) copies
 
   -- each clone is in one copy
   abbrev pub ClonesAreOfCopies : Type 0
-  ClonesAreOfCopies = (has : K → ℕ → Bool) (cs : List Clone) (front s : ℕ) (copies : List (Copy S M N K)) (size : K → ℕ) →
+  ClonesAreOfCopies = (has : K → ℕ → Bool) (cs : List Clone) (front s : ℕ) (copies : List (Copy S M N K)) (size : K
+      → ℕ) →
       CountsClones has size copies → Stands sim has cs front s copies → length cs ≡ sum_by (λ a. size a.set) copies
 
   -- the clones of one copy are those whose logs are its log

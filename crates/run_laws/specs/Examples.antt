@@ -95,7 +95,8 @@ abbrev pub merged_trace : Clone → List (Entry Ball ℕ)
 merged_trace c = merge_of_logs game (λ b. 0) (λ b. b.number) c 12 2
 
 abbrev pub same_catch : Entry Ball ℕ → Entry Ball ℕ → Bool
-same_catch e f = ((e.msg.time == f.msg.time && e.msg.number == f.msg.number) && e.msg.to == f.msg.to) && e.line == f.line
+same_catch e f = ((e.msg.time == f.msg.time && e.msg.number == f.msg.number) && e.msg.to == f.msg.to) && e.line ==
+    f.line
 
 -- one station's window by itself, from how it stands in a clone at a front
 abbrev pub window_of : Clone → ℕ → ℕ → ℕ → Config (Part ℕ Ball ℕ) Ball

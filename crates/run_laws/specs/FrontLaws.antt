@@ -1,5 +1,6 @@
 -- What is proved of due times and of fronts, in words that contracts cite.
-use Rattle.std.specs.Prelude.{◌≡◌, ℕ, zero, suc, ◌+◌, ◌<◌, ◌≤◌, List, ◌∷◌, Bool, Option, Some, None, if◌then◌else◌, length, min, nat_lt}
+use Rattle.std.specs.Prelude.{◌≡◌, ℕ, zero, suc, ◌+◌, ◌<◌, ◌≤◌, List, ◌∷◌}
+use Rattle.std.specs.Prelude.{Bool, Option, Some, None, if◌then◌else◌, length, min, nat_lt}
 use Rattle.std.specs.List.{AllByRecursion}
 use Rattle.std.specs.Ordering.{nat_cmp}
 use Rattle.sim_base.specs.Clones.{Clone, clone_at, forked}
@@ -50,7 +51,8 @@ module _ {S M N : Type 0} (sim : Simulation S M N) where
 
   -- and there is one list of them
   abbrev pub FrontsAreOne : Type 0
-  FrontsAreOne = (cs : List Clone) (front : ℕ) (fs gs : List ℕ) → AreFronts sim cs front fs → AreFronts sim cs front gs →
+  FrontsAreOne = (cs : List Clone) (front : ℕ) (fs gs : List ℕ) → AreFronts sim cs front fs
+      → AreFronts sim cs front gs →
       fs ≡ gs
 
   -- the least time that is due in a clone at the stations 1 to n
@@ -67,7 +69,8 @@ module _ {S M N : Type 0} (sim : Simulation S M N) where
   abbrev pub LeastAtDecision : Type 0
   LeastAtDecision = (c : Clone) (p : Planned) (front : ℕ) (t : ℕ) → sim.time (sim.decided (length c.plans) p) ≡ t →
       front ≤ t →
-      least_of sim (with_plan c p) front ≡ (if nat_lt t (end_of sim c) then earlier (Some t) (least_of sim c front) else least_of sim c front)
+      least_of sim (with_plan c p) front
+      ≡ (if nat_lt t (end_of sim c) then earlier (Some t) (least_of sim c front) else least_of sim c front)
 
   -- with an end at the front or later the least time stays, where it comes before the end
   abbrev pub LeastAtEnd : Type 0
@@ -81,7 +84,8 @@ module _ {S M N : Type 0} (sim : Simulation S M N) where
 
   -- so the next front is as it was
   abbrev pub FrontStaysAtFork : Type 0
-  FrontStaysAtFork = (cs : List Clone) (old front : ℕ) (name : List ℕ) → old < length cs → (clone_at cs old).end ≡ None →
+  FrontStaysAtFork = (cs : List Clone) (old front : ℕ) (name : List ℕ) → old < length cs
+      → (clone_at cs old).end ≡ None →
       next_front sim (forked cs name old) front ≡ next_front sim cs front
 
 module _ {S M N : Type 0} (K : Type 0) (sim : Simulation S M N) where
@@ -97,7 +101,8 @@ module _ {S M N : Type 0} (K : Type 0) (sim : Simulation S M N) where
 
   -- where the copies of all stations stand for the clones, the least time that they take is the least that is due
   abbrev pub LeastIsOfCopies : Type 0
-  LeastIsOfCopies = (has : K → ℕ → Bool) (cs : List Clone) (front : ℕ) (copies : ℕ → List (Copy S M N K)) (t : Option ℕ) →
+  LeastIsOfCopies = (has : K → ℕ → Bool) (cs : List Clone) (front : ℕ) (copies : ℕ → List (Copy S M N K))
+      (t : Option ℕ) →
       ((c : ℕ) → c < length cs → AreForStations sim (clone_at cs c).plans) →
       ((s : ℕ) → IsStation sim s → Stands sim has cs front s (copies s)) →
       IsLeastTime sim.time (IsTaken has cs copies) t → least sim cs front ≡ t

@@ -1,5 +1,6 @@
 -- What is proved of machines and of runs, in words that contracts cite.
-use Rattle.std.specs.Prelude.{◌≡◌, ◌⊎◌, ◌↔◌, ℕ, ◌<◌, ◌≤◌, List, [], ◌∷◌, ◌++◌, ◌==◌, ◌&&◌, if◌then◌else◌, Some, map, length, nat_lt}
+use Rattle.std.specs.Prelude.{◌≡◌, ◌⊎◌, ◌↔◌, ℕ, ◌<◌, ◌≤◌, List, [], ◌∷◌}
+use Rattle.std.specs.Prelude.{◌++◌, ◌==◌, ◌&&◌, if◌then◌else◌, Some, map, length, nat_lt}
 use Rattle.std.specs.List.{filter}
 use Rattle.std.specs.declared.cmp.Ordering.{Ordering}
 use Rattle.sim_base.specs.Clones.{Clone}
@@ -99,9 +100,12 @@ module _ {S M N : Type 0} (sim : Simulation S M N) where
   -- what a new decision, as the message m, changes at a front: m is due, where it comes before the clone's end
   pub record AddsDue (c : Clone) (p : Planned) (m : M) (front : ℕ) : Type 0 where
     pub world : (run_of sim (with_plan c p) front).at ≡ (run_of sim c front).at
-    pub due : all_due sim (with_plan c p) front ≡ (if nat_lt (sim.time m) (end_of sim c) then insert sim.order m (all_due sim c front) else all_due sim c front)
+    pub due : all_due sim (with_plan c p) front
+        ≡ (if nat_lt (sim.time m) (end_of sim c) then insert sim.order m (all_due sim c front) else all_due sim c front)
     pub due_here : (s : ℕ) →
-        due_at sim (with_plan c p) s front ≡ (if nat_lt (sim.time m) (end_of sim c) && sim.to m == s then insert sim.order m (due_at sim c s front) else due_at sim c s front)
+        due_at sim (with_plan c p) s front
+        ≡ (if nat_lt (sim.time m) (end_of sim c) && sim.to m == s then insert sim.order m
+        (due_at sim c s front) else due_at sim c s front)
 
   -- a decision at or after a front adds its message to what is due, and changes nothing else
   abbrev pub LateDecisionAddsDue : Type 0
@@ -131,7 +135,8 @@ module _ {S M N : Type 0} (sim : Simulation S M N) where
     pub state : (s : ℕ) → state_at sim c s bound ≡ (window c s front bound).at.state
     pub sorted : (s : ℕ) → Sorted sim.order (due_at sim c s bound)
     pub due : (s : ℕ) (m : M) → In m (due_at sim c s bound) ↔
-        ((sim.time m < end_of sim c) × (In m (window c s front bound).pending ⊎ ((sim.to m ≡ s) × ((r : ℕ) × In m (window c r front bound).at.aside))))
+        ((sim.time m < end_of sim c) × (In m (window c s front bound).pending
+        ⊎ ((sim.to m ≡ s) × ((r : ℕ) × In m (window c r front bound).at.aside))))
 
   -- so it is for each of several clones, where the bound is not past their next front
   abbrev pub WindowsGiveRuns : Type 0

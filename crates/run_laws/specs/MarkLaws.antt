@@ -13,7 +13,8 @@ AreOf has k c = (d : ℕ) → has k d ≡ (c == d)
 module _ {S M N : Type 0} (K : Type 0) (sim : Simulation S M N) where
   -- a clone of a half takes of the messages that were cut to it what it took of the whole
   abbrev pub HalfTakesTheSame : Type 0
-  HalfTakesTheSame = (has : K → ℕ → Bool) (meet : K → K → Option K) (ends : ℕ → ℕ) (half : K) (c : ℕ) (q : List (M × K)) →
+  HalfTakesTheSame = (has : K → ℕ → Bool) (meet : K → K → Option K) (ends : ℕ → ℕ) (half : K) (c : ℕ)
+      (q : List (M × K)) →
       MeetsMarks has meet → has half c ≡ true → taken sim has ends c (cut_by meet half q) ≡ taken sim has ends c q
 
   -- and a half keeps no marks of other clones
@@ -27,4 +28,5 @@ module _ {S M N : Type 0} (K : Type 0) (sim : Simulation S M N) where
       (of_old of_new : K) (c : ℕ) (q : List (M × K)) →
       JoinsMarks has join → MeetsMarks has meet → ((a b k : K) → meet a b ≡ Some k → (c : ℕ) × (has k c ≡ true)) →
       AreOf has of_old old → AreOf has of_new new → AllByRecursion (λ x. has x.1 new ≡ false) q →
-      part (takes_as sim has ends old new) c (spread_marks join meet of_old of_new q) ≡ taken sim has ends (origin_of old new c) q
+      part (takes_as sim has ends old new) c (spread_marks join meet of_old of_new q) ≡ taken sim has ends
+      (origin_of old new c) q

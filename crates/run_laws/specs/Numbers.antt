@@ -25,7 +25,8 @@ module _ {S M N : Type 0} (sim : Simulation S M N) where
     -- a message is a decision, numbered below the length of the list, or a station's, numbered below `most` times
     -- the messages that the station handled and one
     abbrev pub NumbersAreLow : ℕ → Type 0
-    NumbersAreLow most = (c : Clone) (front : ℕ) (m : M) → AreForStations sim c.plans → IsMessageOf (run_of sim c front) m →
+    NumbersAreLow most = (c : Clone) (front : ℕ) (m : M) → AreForStations sim c.plans
+        → IsMessageOf (run_of sim c front) m →
         ((sender m ≡ 0) × (number m < length c.plans)) ⊎
         (IsStation sim (sender m) × (number m < most * (length (log_at sim c (sender m) front) + 1)))
 

@@ -1,5 +1,6 @@
 -- What the traces of two clones have in common, and how long their lines are together.
-use Rattle.std.specs.Prelude.{◌≡◌, ℕ, zero, suc, ◌+◌, ◌≤◌, List, [], ◌∷◌, ◌++◌, Bool, true, not, if◌then◌else◌, min, nat_lt, length, take, sum_by}
+use Rattle.std.specs.Prelude.{◌≡◌, ℕ, zero, suc, ◌+◌, ◌≤◌, List, [], ◌∷◌, ◌++◌}
+use Rattle.std.specs.Prelude.{Bool, true, not, if◌then◌else◌, min, nat_lt, length, take, sum_by}
 use Rattle.std.specs.List.{filter, flat_map}
 use Rattle.sim_base.specs.Clones.{Clone}
 use Rattle.sim_base.specs.declared.decision.Planned.{Planned}
@@ -59,7 +60,8 @@ module _ {S M N : Type 0} (sim : Simulation S M N) where
   -- where two clones part, the lines of the one so far are the first lines of the other, whatever a line is
   abbrev pub LinesAgree : Type 0
   LinesAgree = (same : Planned → Planned → Bool) (c d : Clone) (line : Entry M N → List ℕ) → TellsPlans same →
-      end_of sim c ≤ sim.horizon → end_of sim d ≤ sim.horizon → AreForStations sim c.plans → AreForStations sim d.plans →
+      end_of sim c ≤ sim.horizon → end_of sim d ≤ sim.horizon → AreForStations sim c.plans
+      → AreForStations sim d.plans →
       flat_map line (trace_of sim d) ≡
       take (length (flat_map line (before sim (shared_to same c d) (trace_of sim d)))) (flat_map line (trace_of sim c))
       ++ flat_map line (from_on (shared_to same c d) (trace_of sim d))

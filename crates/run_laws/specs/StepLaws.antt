@@ -6,7 +6,9 @@ use Rattle.sim_base.specs.Clones.{Clone}
 use Rattle.run_laws.specs.Queue.{In}
 use Rattle.run_laws.specs.Simulation.{Simulation}
 use Rattle.sim_base.specs.Marked.{JoinsMarks, SortedMarked}
-use Rattle.run_laws.specs.Copies.{Copy, Carries, handled_by, laid_aside, takes, Narrowed, Settled, view, Ends, IsStepped, AreOver, SoFar, Disjoint, taken, GainTogether, IsGiven, SoFarGiven, ends_of, IsDelivered}
+use Rattle.run_laws.specs.Copies.{Copy, Carries, handled_by, laid_aside, takes, Narrowed, Settled}
+use Rattle.run_laws.specs.Copies.{view, Ends, IsStepped, AreOver, SoFar, Disjoint, taken}
+use Rattle.run_laws.specs.Copies.{GainTogether, IsGiven, SoFarGiven, ends_of, IsDelivered}
 
 -- what a step works with: which clones marks have and what marks are joined, when each clone ends, the station, and
 -- the bound up to which it goes
@@ -60,7 +62,8 @@ module _ {S M N : Type 0} (K : Type 0) (sim : Simulation S M N) (Good : ℕ → 
       (results : List (Copy S M N K)) (over over_after : K) (n : ℕ) →
       (c : ℕ) × Carries w.has r c → Good w.station r.state → length r.log < sim.limit →
       r.pending ≡ x ∷ q → SortedMarked sim.order r.pending → AllTake w r x → sim.time x.0 < w.bound →
-      Gives w (handled_by sim w.join w.station r x.0 q) results (sent ++ laid_aside sim w.station r x.0) after over over_after n →
+      Gives w (handled_by sim w.join w.station r x.0 q) results (sent ++ laid_aside sim w.station r x.0) after over
+      over_after n →
       Gives w r results sent after over over_after (n + 1)
 
   -- a message that no clone of a copy takes may be passed over
@@ -121,7 +124,8 @@ module _ {S M N : Type 0} (K : Type 0) (sim : Simulation S M N) where
 
   -- one message more may be given
   abbrev pub MessageIsGiven : Type 0
-  MessageIsGiven = (has : K → ℕ → Bool) (ends : ℕ → ℕ) (msgs : List (M × K)) (new done next : List (Copy S M N K)) (m : M)
+  MessageIsGiven = (has : K → ℕ → Bool) (ends : ℕ → ℕ) (msgs : List (M × K)) (new done next : List (Copy S M N K))
+      (m : M)
       (k : K) →
       SoFarGiven sim has ends msgs new done → AllZip (IsGiven sim has ends m k) done next →
       SoFarGiven sim has ends (msgs ++ (m, k) ∷ []) new next
@@ -130,6 +134,8 @@ module _ {S M N : Type 0} (K : Type 0) (sim : Simulation S M N) where
   abbrev pub GivenIsDelivered : Type 0
   GivenIsDelivered = (has : K → ℕ → Bool) (cs : List Clone) (s : ℕ) (sent : ℕ → List (M × K)) (msgs : List (M × K))
       (new done : List (Copy S M N K)) →
-      ((c : ℕ) (z : M) → In z (taken sim has (ends_of sim cs) c msgs) → (r : ℕ) × In z (taken sim has (ends_of sim cs) c (sent r)) × (sim.to z ≡ s)) →
-      ((c r : ℕ) (z : M) → In z (taken sim has (ends_of sim cs) c (sent r)) → sim.to z ≡ s → In z (taken sim has (ends_of sim cs) c msgs)) →
+      ((c : ℕ) (z : M) → In z (taken sim has (ends_of sim cs) c msgs)
+      → (r : ℕ) × In z (taken sim has (ends_of sim cs) c (sent r)) × (sim.to z ≡ s)) →
+      ((c r : ℕ) (z : M) → In z (taken sim has (ends_of sim cs) c (sent r)) → sim.to z ≡ s
+      → In z (taken sim has (ends_of sim cs) c msgs)) →
       SoFarGiven sim has (ends_of sim cs) msgs new done → IsDelivered sim has cs s sent new done

@@ -26,8 +26,14 @@ module _ {S M N : Type 0} (to : M → ℕ) (handle : ℕ → S → M → Handled
   -- station s handles a message: what it sends to itself becomes pending, and the rest is laid aside
   abbrev pub part_step : ℕ → Part S M N → M → Part S M N × List M
   part_step s p m =
-      let h = handle s p.state m in
-      (record { state = h.state; log = p.log ++ record { msg = m; line = h.line } ∷ []; aside = p.aside ++ to_others to s h.sends }, to_it to s h.sends)
+      let h = handle s p.state m in (
+        record {
+          state = h.state;
+          log = p.log ++ record { msg = m; line = h.line } ∷ [];
+          aside = p.aside ++ to_others to s h.sends;
+        },
+        to_it to s h.sends,
+      )
 
 module _ {S M N : Type 0} where
   -- a station before its window
@@ -38,5 +44,6 @@ module _ {S M N : Type 0} (sim : Simulation S M N) where
   -- one station's window, from its log, state and pending messages: it handles, least first,
   -- the messages below the bound and below the end of its clone
   abbrev pub local : ℕ → List (Entry M N) → S → List M → ℕ → ℕ → Config (Part S M N) M
-  local s log state pending bound end = run_to sim.order (part_step sim.to sim.handle s) sim.time (alone_at log state pending)
+  local s log state pending bound end =
+      run_to sim.order (part_step sim.to sim.handle s) sim.time (alone_at log state pending)
       (min bound end)

@@ -29,8 +29,10 @@ module _ {S M N : Type 0} (to : M → ℕ) (handle : ℕ → S → M → Handled
   -- a message is handled by its receiver: its state changes, the trace grows, and its sends go out
   abbrev pub world_step : World S M N → M → World S M N × List M
   world_step w m =
-      let h = handle (to m) (w.states (to m)) m in
-      (record { states = put w.states (to m) h.state; trace = w.trace ++ record { msg = m; line = h.line } ∷ [] }, h.sends)
+      let h = handle (to m) (w.states (to m)) m in (
+        record { states = put w.states (to m) h.state; trace = w.trace ++ record { msg = m; line = h.line } ∷ [] },
+        h.sends,
+      )
 
   -- the state of station s after a log, from the state st on
   abbrev pub replay : ℕ → S → List (Entry M N) → S

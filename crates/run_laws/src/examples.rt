@@ -8,7 +8,9 @@ ghost use Rattle.run_laws.specs.Fronts.{least_of, least, AreFronts};
 ghost use Rattle.run_laws.specs.FrontLaws.{least_to};
 ghost use Rattle.run_laws.specs.Sharing.{copies, handled, handled_to_limit, alone, IsBeyond};
 ghost use Rattle.run_laws.specs.Handlers.{HandlesLawfully, SendsToStations};
-ghost use Rattle.run_laws.specs.Examples.{game, AnyState, base_trace, busy, busy_trace, brief, brief_trace, last_minute, last_minute_trace, all_three, with_twin, merged_trace, same_catch, window_of, caught, ball};
+ghost use Rattle.run_laws.specs.Examples.{game, AnyState, base_trace, busy, busy_trace, brief, brief_trace};
+ghost use Rattle.run_laws.specs.Examples.{last_minute, last_minute_trace, all_three, with_twin, merged_trace};
+ghost use Rattle.run_laws.specs.Examples.{same_catch, window_of, caught, ball};
 
 /// A run handles messages by time, and those of one time in their order; a clone's end stops it.
 pub fn traces()
@@ -48,7 +50,8 @@ pub fn merging()
 
 /// One station's window from 5 to 8: its log grows, and what it sent to the other is laid aside.
 pub fn windows()
-    ensures log { (window_of busy 1 5 8).at.log ≡ caught 2 0 1 1 ∷ caught 5 2 1 2 ∷ caught 6 1 1 3 ∷ caught 6 12 1 4 ∷ caught 7 11 1 5 ∷ [] }
+    ensures log { (window_of busy 1 5 8).at.log ≡ caught 2 0 1 1 ∷ caught 5 2 1 2 ∷ caught 6 1 1 3 ∷ caught 6 12 1
+        4 ∷ caught 7 11 1 5 ∷ [] }
     ensures nothing_aside { (window_of busy 1 5 8).at.aside ≡ [] }
     ensures aside { (window_of busy 2 5 8).at.aside ≡ ball 8 0 1 ∷ [] }
     ensures ended { (window_of brief 1 7 12).at.log ≡ caught 2 0 1 1 ∷ caught 7 1 1 2 ∷ [] }

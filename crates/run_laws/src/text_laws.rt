@@ -4,7 +4,8 @@
 //! its length is known before a line is written.
 ghost use Rattle.std.specs.Prelude.{ℕ, List};
 ghost use Rattle.run_laws.specs.Simulation.{Simulation};
-ghost use Rattle.run_laws.specs.SharedTexts.{TracesAgree, TracesAgreeToParting, TraceIsSplit, LinesAgree, LengthIsOfLogs, RestIsOfLogs};
+ghost use Rattle.run_laws.specs.SharedTexts.{TracesAgree, TracesAgreeToParting, TraceIsSplit};
+ghost use Rattle.run_laws.specs.SharedTexts.{LinesAgree, LengthIsOfLogs, RestIsOfLogs};
 
 use crate::laws::{Numbered, Stations};
 

@@ -1,5 +1,7 @@
 -- Pending messages in blocks: what an insertion into one block is to all, and a block cut in two.
-use Rattle.std.proofs.Common.{◌≡◌, ℕ, zero, suc, ◌+◌, ◌-◌, ◌<◌, ◌≤◌, refl, sym, ap, ◌∙◌, subst, List, [], ◌∷◌, ◌++◌, Bool, true, false, Ordering, Less, Equal, Greater, length, take, drop, get_or, set, map, arith, append_assoc, option_map, Option, Some, None, min}
+use Rattle.std.proofs.Common.{◌≡◌, ℕ, zero, suc, ◌+◌, ◌-◌, ◌<◌, ◌≤◌, refl, sym, ap, ◌∙◌, subst}
+use Rattle.std.proofs.Common.{List, [], ◌∷◌, ◌++◌, Bool, true, false, Ordering, Less, Equal, Greater, length, take}
+use Rattle.std.proofs.Common.{drop, get_or, set, map, arith, append_assoc, option_map, Option, Some, None, min}
 use Rattle.std.specs.Ordering.{is_lt}
 use Rattle.std.specs.Cmp.{IsTotalOrder}
 use Rattle.std.specs.List.{AllByRecursion, filter_map}
@@ -9,7 +11,8 @@ use Rattle.sim_base.proofs.Cutting.{cut-append}
 use Rattle.sim_base.specs.Marked.{SortedMarked}
 use Rattle.sim_base.specs.Blocks.{of_blocks, block_at, halved, AreFilled, AreSized, AreBlocks, StartsAfter, IsBlockOf}
 use Rattle.std.specs.Prelude.{slice_get}
-use Rattle.sim_base.proofs.Placing.{all_left, all_both, insert_behind, insert_before, all_before, sorted_right, sorted_insert, length_insert}
+use Rattle.sim_base.proofs.Placing.{all_left, all_both, insert_behind, insert_before}
+use Rattle.sim_base.proofs.Placing.{all_before, sorted_right, sorted_insert, length_insert}
 
 is_less : (o : Ordering) → true ≡ is_lt o → o ≡ Less
 is_less Less e = refl
@@ -20,12 +23,14 @@ module _ {X : Type 0} where
   -- blocks of two lists are those of the one, and then those of the other
   pub of_blocks-append : (bs cs : List (List X)) → of_blocks (bs ++ cs) ≡ of_blocks bs ++ of_blocks cs
   of_blocks-append [] cs = refl
-  of_blocks-append (b ∷ bs) cs = ap (λ t. b ++ t) (of_blocks-append bs cs) ∙ sym (append_assoc b (of_blocks bs) (of_blocks cs))
+  of_blocks-append (b ∷ bs) cs = ap (λ t. b ++ t) (of_blocks-append bs cs)
+      ∙ sym (append_assoc b (of_blocks bs) (of_blocks cs))
 
   -- a block that is cut in two keeps its messages
   pub same_halved : (at : ℕ) (bs : List (List X)) → of_blocks (halved at bs) ≡ of_blocks bs
   same_halved at [] = refl
-  same_halved zero (b ∷ bs) = sym (append_assoc (take 32 b) (drop 32 b) (of_blocks bs)) ∙ ap (λ t. t ++ of_blocks bs) (take-append-drop 32 b)
+  same_halved zero (b ∷ bs) = sym (append_assoc (take 32 b) (drop 32 b) (of_blocks bs))
+      ∙ ap (λ t. t ++ of_blocks bs) (take-append-drop 32 b)
   same_halved (suc at) (b ∷ bs) = ap (λ t. b ++ t) (same_halved at bs)
 
   pub length_halved : (at : ℕ) (bs : List (List X)) → at < length bs → length (halved at bs) ≡ suc (length bs)
@@ -34,17 +39,20 @@ module _ {X : Type 0} where
   length_halved (suc at) (b ∷ bs) l = ap suc (length_halved at bs (omega arith))
 
   -- its first half, its second half, and the block behind it
-  pub first_half : (at : ℕ) (bs : List (List X)) → at < length bs → get_or (halved at bs) at [] ≡ take 32 (get_or bs at [])
+  pub first_half : (at : ℕ) (bs : List (List X)) → at < length bs
+      → get_or (halved at bs) at [] ≡ take 32 (get_or bs at [])
   first_half at [] l = absurd (omega arith)
   first_half zero (b ∷ bs) l = refl
   first_half (suc at) (b ∷ bs) l = first_half at bs (omega arith)
 
-  pub second_half : (at : ℕ) (bs : List (List X)) → at < length bs → get_or (halved at bs) (suc at) [] ≡ drop 32 (get_or bs at [])
+  pub second_half : (at : ℕ) (bs : List (List X)) → at < length bs
+      → get_or (halved at bs) (suc at) [] ≡ drop 32 (get_or bs at [])
   second_half at [] l = absurd (omega arith)
   second_half zero (b ∷ bs) l = refl
   second_half (suc at) (b ∷ bs) l = second_half at bs (omega arith)
 
-  pub behind_halves : (at : ℕ) (bs : List (List X)) → at < length bs → get_or (halved at bs) (suc (suc at)) [] ≡ get_or bs (suc at) []
+  pub behind_halves : (at : ℕ) (bs : List (List X)) → at < length bs
+      → get_or (halved at bs) (suc (suc at)) [] ≡ get_or bs (suc at) []
   behind_halves at [] l = absurd (omega arith)
   behind_halves zero (b ∷ bs) l = refl
   behind_halves (suc at) (b ∷ bs) l = behind_halves at bs (omega arith)
@@ -52,18 +60,26 @@ module _ {X : Type 0} where
   half_lengths : (b : List X) → length b ≡ 64 → (length (take 32 b) ≡ 32) × (length (drop 32 b) ≡ 32)
   half_lengths b full = (omega (arith, length-take 32 b), omega (arith, length-drop 32 b))
 
-  filled_halved : (at : ℕ) (bs : List (List X)) → AreFilled bs → length (get_or bs at []) ≡ 64 → AreFilled (halved at bs)
+  filled_halved : (at : ℕ) (bs : List (List X)) → AreFilled bs → length (get_or bs at []) ≡ 64
+      → AreFilled (halved at bs)
   filled_halved at [] h full = h
-  filled_halved zero (b ∷ bs) h full = let l = half_lengths b full in ((omega arith, omega arith), ((omega arith, omega arith), h.1))
+  filled_halved zero (b ∷ bs) h full = let l = half_lengths b full in
+      ((omega arith, omega arith), ((omega arith, omega arith), h.1))
   filled_halved (suc at) (b ∷ bs) h full = (h.0, filled_halved at bs h.1 full)
 
   -- halves are of a right size
-  pub sized_halved : (at : ℕ) (first : List X) (later : List (List X)) (first' : List X) (later' : List (List X)) → AreSized first later → length (block_at first later at) ≡ 64 → (first' ∷ later') ≡ halved at (first ∷ later) → AreSized first' later'
+  pub sized_halved : (at : ℕ) (first : List X) (later : List (List X)) (first' : List X) (later' : List (List X))
+      → AreSized first later → length (block_at first later at) ≡ 64 → (first' ∷ later') ≡ halved at (first ∷ later)
+      → AreSized first' later'
   sized_halved zero first later first' later' h full e =
       let l = half_lengths first full in
       let here : first' ≡ take 32 first = cc in
       let there : later' ≡ drop 32 first ∷ later = cc in
-      rw (here, there) record { first_filled = λ _. omega arith; first_small = omega arith; later_filled = ((omega arith, omega arith), h.later_filled) }
+      rw (here, there) record {
+        first_filled = λ _. omega arith;
+        first_small = omega arith;
+        later_filled = ((omega arith, omega arith), h.later_filled);
+      }
   sized_halved (suc at) first later first' later' h full e =
       let here : first' ≡ first = cc in
       let there : later' ≡ halved at later = cc in
@@ -79,19 +95,25 @@ module _ {X : Type 0} where
 
 module _ {M K : Type 0} {cmp : M → M → Ordering} (o : IsTotalOrder cmp) (join : K → K → K) (m : M) (k : K) where
   -- all messages before a block that starts with m or before it come before m
-  blocks_before : (xs : List (M × K)) (bs : List (List (M × K))) (n : ℕ) → SortedMarked cmp (xs ++ of_blocks bs) → AreFilled bs → n < length bs → StartsAfter cmp m (get_or bs n []) false → AllByRecursion (λ x. cmp m x.0 ≡ Greater) xs
+  blocks_before : (xs : List (M × K)) (bs : List (List (M × K))) (n : ℕ) → SortedMarked cmp (xs ++ of_blocks bs)
+      → AreFilled bs → n < length bs → StartsAfter cmp m (get_or bs n []) false
+      → AllByRecursion (λ x. cmp m x.0 ≡ Greater) xs
   blocks_before xs [] n s h l starts = absurd (omega arith)
   blocks_before xs ([] ∷ bs) zero s h l starts = absurd (let some = h.0.0 in omega arith)
   blocks_before xs ((y ∷ ys) ∷ bs) zero s h l starts = all_before o m xs y (ys ++ of_blocks bs) s (sym starts)
   blocks_before xs (b ∷ bs) (suc n) s h l starts =
-      all_left _ xs b (blocks_before (xs ++ b) bs n (subst (SortedMarked cmp) (sym (append_assoc xs b (of_blocks bs))) s) h.1 (omega arith) starts)
+      all_left _ xs b (blocks_before (xs ++ b) bs n
+      (subst (SortedMarked cmp) (sym (append_assoc xs b (of_blocks bs))) s) h.1 (omega arith) starts)
 
   -- inserting into the block to which a message goes is inserting into all
-  pub put_at : (at : ℕ) (first : List (M × K)) (later : List (List (M × K))) → SortedMarked cmp (first ++ of_blocks later) → AreFilled later → IsBlockOf cmp m later at →
-      insert_marked join cmp m k (first ++ of_blocks later) ≡ of_blocks (set (first ∷ later) at (insert_marked join cmp m k (block_at first later at)))
+  pub put_at : (at : ℕ) (first : List (M × K)) (later : List (List (M × K)))
+      → SortedMarked cmp (first ++ of_blocks later) → AreFilled later → IsBlockOf cmp m later at →
+      insert_marked join cmp m k (first ++ of_blocks later) ≡ of_blocks
+      (set (first ∷ later) at (insert_marked join cmp m k (block_at first later at)))
   put_at zero first [] s h place = rw (append-nil first, append-nil (insert_marked join cmp m k first)) refl
   put_at zero first ([] ∷ bs) s h place = absurd (let some = h.0.0 in omega arith)
-  put_at zero first ((y ∷ ys) ∷ bs) s h place = insert_before cmp join m k first y (ys ++ of_blocks bs) (is_less _ (place.behind (omega arith)))
+  put_at zero first ((y ∷ ys) ∷ bs) s h place = insert_before cmp join m k first y (ys ++ of_blocks bs)
+      (is_less _ (place.behind (omega arith)))
   put_at (suc n) first [] s h place = absurd (let l = place.within in omega arith)
   put_at (suc n) first (b ∷ bs) s h place =
       let l = place.within in
@@ -105,7 +127,8 @@ module _ {M K : Type 0} {cmp : M → M → Ordering} (o : IsTotalOrder cmp) (joi
 
 module _ {X : Type 0} where
   -- the first message of all is that of the first block
-  pub first_of_blocks : (first : List X) (later : List (List X)) → AreSized first later → slice_get (first ++ of_blocks later) 0 ≡ slice_get first 0
+  pub first_of_blocks : (first : List X) (later : List (List X)) → AreSized first later
+      → slice_get (first ++ of_blocks later) 0 ≡ slice_get first 0
   first_of_blocks (x ∷ xs) later h = refl
   first_of_blocks [] [] h = refl
   first_of_blocks [] (b ∷ bs) h = absurd (let l : 0 < 0 = h.first_filled (omega arith) in omega arith)
@@ -118,14 +141,18 @@ module _ {M K : Type 0} (meet : K → K → Option K) (by : K) where
   -- what meets of blocks is what meets of each
   pub cut_of_blocks : (bs : List (List (M × K))) → of_blocks (map (cut_by meet by) bs) ≡ cut_by meet by (of_blocks bs)
   cut_of_blocks [] = refl
-  cut_of_blocks (b ∷ bs) = ap (λ t. cut_by meet by b ++ t) (cut_of_blocks bs) ∙ sym (cut-append meet by b (of_blocks bs))
+  cut_of_blocks (b ∷ bs) = ap (λ t. cut_by meet by b ++ t) (cut_of_blocks bs)
+      ∙ sym (cut-append meet by b (of_blocks bs))
 
 module _ {M K : Type 0} (join : K → K → K) (meet : K → K → Option K) (by more : K) where
   -- and so with marks that are spread
-  pub spread_of_blocks : (bs : List (List (M × K))) → of_blocks (map (spread_marks join meet by more) bs) ≡ spread_marks join meet by more (of_blocks bs)
+  pub spread_of_blocks : (bs : List (List (M × K)))
+      → of_blocks (map (spread_marks join meet by more) bs) ≡ spread_marks join meet by more (of_blocks bs)
   spread_of_blocks [] = refl
-  spread_of_blocks (b ∷ bs) = ap (λ t. spread_marks join meet by more b ++ t) (spread_of_blocks bs) ∙ sym (map-append _ b (of_blocks bs))
+  spread_of_blocks (b ∷ bs) = ap (λ t. spread_marks join meet by more b ++ t) (spread_of_blocks bs)
+      ∙ sym (map-append _ b (of_blocks bs))
 
   pub spread_filled : (bs : List (List (M × K))) → AreFilled bs → AreFilled (map (spread_marks join meet by more) bs)
   spread_filled [] h = tt
-  spread_filled (b ∷ bs) h = let l : length (spread_marks join meet by more b) ≡ length b = length-map b _ in ((omega (arith, h.0.0), omega (arith, h.0.1)), spread_filled bs h.1)
+  spread_filled (b ∷ bs) h = let l : length (spread_marks join meet by more b) ≡ length b = length-map b _ in
+      ((omega (arith, h.0.0), omega (arith, h.0.1)), spread_filled bs h.1)

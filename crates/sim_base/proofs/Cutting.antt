@@ -1,5 +1,6 @@
 -- Messages whose marks meet some marks: of lists together, in order still; and marks that are spread.
-use Rattle.std.proofs.Common.{◌≡◌, ℕ, suc, ◌<◌, ◌≤◌, refl, sym, ap, ◌∙◌, List, [], ◌∷◌, ◌++◌, Option, Some, None, Ordering, Less, length, map, option_map, is_some, if◌then◌else◌, arith}
+use Rattle.std.proofs.Common.{◌≡◌, ℕ, suc, ◌<◌, ◌≤◌, refl, sym, ap, ◌∙◌, List, [], ◌∷◌, ◌++◌, Option, Some, None}
+use Rattle.std.proofs.Common.{Ordering, Less, length, map, option_map, is_some, if◌then◌else◌, arith}
 use Rattle.std.specs.Prelude.{slice_get}
 use Rattle.std.specs.List.{AllByRecursion, cons_option}
 use Rattle.std.proofs.lemmas.List.Elements.{filter_map-append}
@@ -8,18 +9,21 @@ use Rattle.sim_base.specs.Marked.{Above, SortedMarked}
 
 module _ {M K : Type 0} (meet : K → K → Option K) (by : K) where
   -- a message whose marks share v with `by` is kept with v
-  pub cut_kept : (x : M × K) (v : K) (rest : List (M × K)) → meet x.1 by ≡ Some v → cut_by meet by (x ∷ rest) ≡ (x.0, v) ∷ cut_by meet by rest
+  pub cut_kept : (x : M × K) (v : K) (rest : List (M × K)) → meet x.1 by ≡ Some v
+      → cut_by meet by (x ∷ rest) ≡ (x.0, v) ∷ cut_by meet by rest
   cut_kept x v rest e = rw e refl
 
   -- a message whose marks share nothing is left out
-  pub cut_dropped : (x : M × K) (rest : List (M × K)) → meet x.1 by ≡ None → cut_by meet by (x ∷ rest) ≡ cut_by meet by rest
+  pub cut_dropped : (x : M × K) (rest : List (M × K)) → meet x.1 by ≡ None
+      → cut_by meet by (x ∷ rest) ≡ cut_by meet by rest
   cut_dropped x rest e = rw e refl
 
   -- what meets of two lists
   pub cut-append : (xs ys : List (M × K)) → cut_by meet by (xs ++ ys) ≡ cut_by meet by xs ++ cut_by meet by ys
   cut-append xs ys = filter_map-append (met_by meet by) xs ys
 
-  length_one : (r : Option K) (x : M × K) (rest : List (M × K)) (n : ℕ) → length rest ≤ n → length (cons_option (option_map (λ k. (x.0, k)) r) rest) ≤ suc n
+  length_one : (r : Option K) (x : M × K) (rest : List (M × K)) (n : ℕ) → length rest ≤ n
+      → length (cons_option (option_map (λ k. (x.0, k)) r) rest) ≤ suc n
   length_one None x rest n l = omega arith
   length_one (Some k) x rest n l = omega arith
 
@@ -29,7 +33,8 @@ module _ {M K : Type 0} (meet : K → K → Option K) (by : K) where
   length_cut (x ∷ xs) = length_one (meet x.1 by) x (cut_by meet by xs) (length xs) (length_cut xs)
 
   module _ (cmp : M → M → Ordering) where
-    above_one : (r : Option K) (m : M) (x : M × K) (rest : List (M × K)) → cmp m x.0 ≡ Less → Above cmp m rest → Above cmp m (cons_option (option_map (λ k. (x.0, k)) r) rest)
+    above_one : (r : Option K) (m : M) (x : M × K) (rest : List (M × K)) → cmp m x.0 ≡ Less → Above cmp m rest
+        → Above cmp m (cons_option (option_map (λ k. (x.0, k)) r) rest)
     above_one None m x rest l h = h
     above_one (Some k) m x rest l h = (l, h)
 
@@ -37,7 +42,8 @@ module _ {M K : Type 0} (meet : K → K → Option K) (by : K) where
     above_cut m [] h = tt
     above_cut m (x ∷ xs) h = above_one (meet x.1 by) m x (cut_by meet by xs) h.0 (above_cut m xs h.1)
 
-    sorted_one : (r : Option K) (x : M × K) (rest : List (M × K)) → Above cmp x.0 rest → SortedMarked cmp rest → SortedMarked cmp (cons_option (option_map (λ k. (x.0, k)) r) rest)
+    sorted_one : (r : Option K) (x : M × K) (rest : List (M × K)) → Above cmp x.0 rest → SortedMarked cmp rest
+        → SortedMarked cmp (cons_option (option_map (λ k. (x.0, k)) r) rest)
     sorted_one None x rest a s = s
     sorted_one (Some k) x rest a s = (a, s)
 

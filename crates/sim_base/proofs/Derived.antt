@@ -65,10 +65,12 @@ payload_at (Done a) (Set b) = refl
 payload_at (Set a) Tick = refl
 payload_at (Set a) (Job b) = refl
 payload_at (Set a) (Done b) = refl
-payload_at (Set a) (Set b) = ap (λ o. ordering_then o (ordering_then (nat_cmp a.a b.a) (nat_cmp a.b b.b))) (param_at a.param b.param)
+payload_at (Set a) (Set b) = ap (λ o. ordering_then o (ordering_then (nat_cmp a.a b.a) (nat_cmp a.b b.b)))
+    (param_at a.param b.param)
 
 pub derived_at : (a b : Msg) → of_msg.cmp-value.it a b ≡ msg_cmp a b
-derived_at a b = ap (λ o. ordering_then (key_cmp a.key b.key) (ordering_then (nat_cmp a.to b.to) o)) (payload_at a.payload b.payload)
+derived_at a b = ap (λ o. ordering_then (key_cmp a.key b.key) (ordering_then (nat_cmp a.to b.to) o))
+    (payload_at a.payload b.payload)
 
 pub derived : of_msg.cmp-value.it ≡ msg_cmp
 derived = λ i a b. derived_at a b i

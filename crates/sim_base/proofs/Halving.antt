@@ -1,5 +1,6 @@
 -- A full block that is cut in two: the blocks after it, and where a message goes then.
-use Rattle.std.proofs.Common.{◌≡◌, ℕ, zero, suc, ◌+◌, ◌-◌, ◌<◌, ◌≤◌, refl, sym, ap, ◌∙◌, subst, List, [], ◌∷◌, ◌++◌, Bool, true, false, Ordering, length, take, drop, get_or, set, arith, min}
+use Rattle.std.proofs.Common.{◌≡◌, ℕ, zero, suc, ◌+◌, ◌-◌, ◌<◌, ◌≤◌, refl, sym, ap, ◌∙◌, subst, List}
+use Rattle.std.proofs.Common.{[], ◌∷◌, ◌++◌, Bool, true, false, Ordering, length, take, drop, get_or, set, arith, min}
 use Rattle.std.specs.List.{insert}
 use Rattle.std.proofs.lemmas.List.{length-take, length-drop, get_or_read}
 use Rattle.sim_base.specs.Blocks.{of_blocks, block_at, halved, AreFilled, AreSized, StartsAfter, IsBlockOf}
@@ -7,17 +8,22 @@ use Rattle.sim_base.proofs.Blocks.{length_halved, first_half, second_half, behin
 
 module _ {X : Type 0} where
   -- the first block is cut
-  pub halve_first : (at : ℕ) (first first' half : List X) (later later' new : List (List X)) → at ≡ 0 → first' ≡ take 32 first → half ≡ drop 32 first → later' ≡ later → new ≡ insert later' at half → (first' ∷ new) ≡ halved at (first ∷ later)
+  pub halve_first : (at : ℕ) (first first' half : List X) (later later' new : List (List X)) → at ≡ 0
+      → first' ≡ take 32 first → half ≡ drop 32 first → later' ≡ later → new ≡ insert later' at half
+      → (first' ∷ new) ≡ halved at (first ∷ later)
   halve_first at first first' half later later' new e f h l n = rw (n, l, e, f, h) refl
 
-  set_and_insert : (n : ℕ) (later : List (List X)) → n < length later → insert (set later n (take 32 (get_or later n []))) (suc n) (drop 32 (get_or later n [])) ≡ halved n later
+  set_and_insert : (n : ℕ) (later : List (List X)) → n < length later
+      → insert (set later n (take 32 (get_or later n []))) (suc n) (drop 32 (get_or later n [])) ≡ halved n later
   set_and_insert n [] l = absurd (omega arith)
   set_and_insert zero (b ∷ bs) l = refl
   set_and_insert (suc n) (b ∷ bs) l = ap (λ t. b ∷ t) (set_and_insert n bs (omega arith))
 
   -- a later block is cut
-  pub halve_later : (at : ℕ) (first first' kept half old : List X) (later later' new : List (List X)) → 0 < at → at ≤ length later → old ≡ get_or later (at - 1) old →
-      first' ≡ first → kept ≡ take 32 old → half ≡ drop 32 old → later' ≡ set later (at - 1) kept → new ≡ insert later' at half → (first' ∷ new) ≡ halved at (first ∷ later)
+  pub halve_later : (at : ℕ) (first first' kept half old : List X) (later later' new : List (List X))
+      → 0 < at → at ≤ length later → old ≡ get_or later (at - 1) old →
+      first' ≡ first → kept ≡ take 32 old → half ≡ drop 32 old → later' ≡ set later (at - 1) kept
+      → new ≡ insert later' at half → (first' ∷ new) ≡ halved at (first ∷ later)
   halve_later zero first first' kept half old later later' new some within is f k h l e = absurd (omega arith)
   halve_later (suc n) first first' kept half old later later' new some within is f k h l e =
       let back : suc n - 1 ≡ n = omega arith in
@@ -25,7 +31,8 @@ module _ {X : Type 0} where
       let here : old ≡ get_or later n [] = rw back at read in
       rw (e, l, f, k, h, back, here) (ap (λ t. first ∷ t) (set_and_insert n later (omega arith)))
 
-  module _ (at : ℕ) (first first' : List X) (later later' : List (List X)) (cut : (first' ∷ later') ≡ halved at (first ∷ later)) (within : at ≤ length later) where
+  module _ (at : ℕ) (first first' : List X) (later later' : List (List X))
+      (cut : (first' ∷ later') ≡ halved at (first ∷ later)) (within : at ≤ length later) where
     pub length_later : length later' ≡ suc (length later)
     length_later = let all = length_halved at (first ∷ later) (omega arith) in let same = ap length cut in omega arith
 
@@ -33,16 +40,19 @@ module _ {X : Type 0} where
     first_half_at = ap (λ (bs : List (List X)). get_or bs at []) cut ∙ first_half at (first ∷ later) (omega arith)
 
     pub second_half_at : get_or later' at [] ≡ drop 32 (block_at first later at)
-    second_half_at = ap (λ (bs : List (List X)). get_or bs (suc at) []) cut ∙ second_half at (first ∷ later) (omega arith)
+    second_half_at = ap (λ (bs : List (List X)). get_or bs (suc at) []) cut
+        ∙ second_half at (first ∷ later) (omega arith)
 
     pub behind_at : get_or later' (suc at) [] ≡ get_or later at []
-    behind_at = ap (λ (bs : List (List X)). get_or bs (suc (suc at)) []) cut ∙ behind_halves at (first ∷ later) (omega arith)
+    behind_at = ap (λ (bs : List (List X)). get_or bs (suc (suc at)) []) cut
+        ∙ behind_halves at (first ∷ later) (omega arith)
 
     -- there is room in both halves
     pub first_room : length (block_at first later at) ≡ 64 → length (block_at first' later' at) < 64
     first_room full = rw first_half_at (omega (arith, length-take 32 (block_at first later at)))
 
-    pub second_room : (to : ℕ) → to ≡ suc at → length (block_at first later at) ≡ 64 → length (block_at first' later' to) < 64
+    pub second_room : (to : ℕ) → to ≡ suc at → length (block_at first later at) ≡ 64
+        → length (block_at first' later' to) < 64
     second_room to e full = rw (e, second_half_at) (omega (arith, length-drop 32 (block_at first later at)))
 
 module _ {X : Type 0} where
@@ -52,17 +62,20 @@ module _ {X : Type 0} where
   filled_small (suc n) (b ∷ bs) h = filled_small n bs h.1
 
   -- no block has more than 64 messages
-  pub small_at : (at : ℕ) (first : List X) (later : List (List X)) → AreSized first later → length (block_at first later at) ≤ 64
+  pub small_at : (at : ℕ) (first : List X) (later : List (List X)) → AreSized first later
+      → length (block_at first later at) ≤ 64
   small_at zero first later h = h.first_small
   small_at (suc n) first later h = filled_small n later h.later_filled
 
   -- so one with 64 and more has 64
-  pub full_at : (at : ℕ) (first : List X) (later : List (List X)) (n : ℕ) → AreSized first later → n ≡ length (block_at first later at) → 64 ≤ n → length (block_at first later at) ≡ 64
+  pub full_at : (at : ℕ) (first : List X) (later : List (List X)) (n : ℕ) → AreSized first later
+      → n ≡ length (block_at first later at) → 64 ≤ n → length (block_at first later at) ≡ 64
   full_at at first later n h is full = let small = small_at at first later h in omega arith
 
 module _ {M K : Type 0} (cmp : M → M → Ordering) (m : M) where
   -- what is read at a place
-  pub starts_there : (bs : List (List (M × K))) (n : ℕ) (b : List (M × K)) (r : Bool) → n < length bs → b ≡ get_or bs n b → StartsAfter cmp m b r → StartsAfter cmp m (get_or bs n []) r
+  pub starts_there : (bs : List (List (M × K))) (n : ℕ) (b : List (M × K)) (r : Bool) → n < length bs
+      → b ≡ get_or bs n b → StartsAfter cmp m b r → StartsAfter cmp m (get_or bs n []) r
   starts_there bs n b r l is starts = subst (λ t. StartsAfter cmp m t r) (get_or_read bs n b l is []) starts
 
   -- the first half starts as the block does
@@ -70,7 +83,8 @@ module _ {M K : Type 0} (cmp : M → M → Ordering) (m : M) where
   starts_half [] r h = h
   starts_half (y ∷ ys) r h = h
 
-  module _ (at : ℕ) (first first' : List (M × K)) (later later' : List (List (M × K))) (cut : (first' ∷ later') ≡ halved at (first ∷ later)) (place : IsBlockOf cmp m later at) where
+  module _ (at : ℕ) (first first' : List (M × K)) (later later' : List (List (M × K)))
+      (cut : (first' ∷ later') ≡ halved at (first ∷ later)) (place : IsBlockOf cmp m later at) where
     -- the message goes to the first half
     pub place_first : StartsAfter cmp m (get_or later' at []) true → IsBlockOf cmp m later' at
     place_first after =
@@ -80,19 +94,25 @@ module _ {M K : Type 0} (cmp : M → M → Ordering) (m : M) where
         before : (j : ℕ) → j + 1 ≡ at → StartsAfter cmp m (get_or later' j []) false
         before j e =
             let is : suc j ≡ at = omega arith in
-            let here : get_or (first' ∷ later') at [] ≡ take 32 (block_at first later at) = first_half_at at first first' later later' cut place.within in
-            let there : get_or later' j [] ≡ take 32 (get_or later j []) = subst (λ n. get_or (first' ∷ later') n [] ≡ take 32 (get_or (first ∷ later) n [])) (sym is) here in
-            subst (λ b. StartsAfter cmp m b false) (sym there) (starts_half (get_or later j []) false (place.before j e))
+            let here : get_or (first' ∷ later') at [] ≡ take 32 (block_at first later at) =
+            first_half_at at first first' later later' cut place.within in
+            let there : get_or later' j [] ≡ take 32 (get_or later j []) =
+            subst (λ n. get_or (first' ∷ later') n [] ≡ take 32 (get_or (first ∷ later) n [])) (sym is) here in
+            subst (λ b. StartsAfter cmp m b false) (sym there)
+            (starts_half (get_or later j []) false (place.before j e))
 
     -- or to the second
-    pub place_second : (to : ℕ) → to ≡ suc at → StartsAfter cmp m (get_or later' at []) false → IsBlockOf cmp m later' to
+    pub place_second : (to : ℕ) → to ≡ suc at → StartsAfter cmp m (get_or later' at []) false
+        → IsBlockOf cmp m later' to
     place_second to e starts =
         let long = length_later at first first' later later' cut place.within in
         record {
           within = let w = place.within in omega arith;
-          before = λ j f. subst (λ n. StartsAfter cmp m (get_or later' n []) false) (let h : at ≡ j = omega arith in h) starts;
+          before = λ j f. subst (λ n. StartsAfter cmp m (get_or later' n []) false) (let h : at ≡ j = omega arith in
+              h) starts;
           behind = λ l.
               let here = behind_at at first first' later later' cut place.within in
-              let there : get_or later' to [] ≡ get_or later at [] = subst (λ n. get_or later' n [] ≡ get_or later at []) (sym e) here in
+              let there : get_or later' to [] ≡ get_or later at [] =
+              subst (λ n. get_or later' n [] ≡ get_or later at []) (sym e) here in
               subst (λ b. StartsAfter cmp m b true) (sym there) (place.behind (omega arith));
         }

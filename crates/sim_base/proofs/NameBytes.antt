@@ -1,5 +1,6 @@
 -- The bytes of a name: zeros stand behind them, and they are text.
-use Rattle.std.proofs.Common.{◌≡◌, ℕ, ◌≤◌, ◌&&◌, refl, ◌∙◌, List, [], ◌∷◌, ◌++◌, length, drop, replicate, true, nat_le, zero, suc, ◌<◌, arith, length-append}
+use Rattle.std.proofs.Common.{◌≡◌, ℕ, ◌≤◌, ◌&&◌, refl, ◌∙◌, List, [], ◌∷◌, ◌++◌}
+use Rattle.std.proofs.Common.{length, drop, replicate, true, nat_le, zero, suc, ◌<◌, arith, length-append}
 use Rattle.std.specs.List.{list_all}
 use Rattle.std.proofs.lemmas.List.{drop-replicate, length-replicate}
 use Rattle.std.proofs.Math.Seq.{drop-append_seam, take-append_seam}
@@ -16,7 +17,8 @@ short_name (b ∷ bs) h =
     let (front, short) = and_parts (is_lower b && list_all is_name_byte bs) (nat_le (length bs) 15) h in
     grind (arith, nat_tests)
 
-pub padded_name : (text : List ℕ) → is_name text ≡ true → IsPadded (text ++ drop (length text) (replicate 16 0)) (length text)
+pub padded_name : (text : List ℕ) → is_name text ≡ true
+    → IsPadded (text ++ drop (length text) (replicate 16 0)) (length text)
 padded_name text h =
     let short = short_name text h in
     record {

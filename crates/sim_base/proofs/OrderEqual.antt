@@ -1,5 +1,6 @@
 -- Messages that are not ordered are equal, and ordered ones are ordered by time.
-use Rattle.std.proofs.Common.{◌≡◌, ℕ, zero, suc, ◌≤◌, ◌<◌, ◌⊎◌, inl, inr, refl, sym, ap, ◌∙◌, subst, Ordering, Less, Equal, Greater, nat_cmp, arith}
+use Rattle.std.proofs.Common.{◌≡◌, ℕ, zero, suc, ◌≤◌, ◌<◌, ◌⊎◌, inl, inr, refl}
+use Rattle.std.proofs.Common.{sym, ap, ◌∙◌, subst, Ordering, Less, Equal, Greater, nat_cmp, arith}
 use Rattle.std.specs.Ordering.{MatchOrdering, ordering_then}
 use Rattle.std.specs.Cmp.{ranks}
 use Rattle.sim_base.specs.declared.message.Key.{Key}
@@ -30,7 +31,8 @@ nat_same x y e = subst (λ r. MatchOrdering r (x < y) (x ≡ y) (y < x)) e (rank
 nat_below : (x y : ℕ) → nat_cmp x y ≡ Less → x < y
 nat_below x y e = subst (λ r. MatchOrdering r (x < y) (x ≡ y) (y < x)) e (ranks x y)
 
-three_same : (a b c x y z : ℕ) → ordering_then (nat_cmp a x) (ordering_then (nat_cmp b y) (nat_cmp c z)) ≡ Equal → (a ≡ x) × (b ≡ y) × (c ≡ z)
+three_same : (a b c x y z : ℕ) → ordering_then (nat_cmp a x) (ordering_then (nat_cmp b y) (nat_cmp c z)) ≡ Equal
+    → (a ≡ x) × (b ≡ y) × (c ≡ z)
 three_same a b c x y z e =
     let first = both_equal (nat_cmp a x) (ordering_then (nat_cmp b y) (nat_cmp c z)) e in
     let second = both_equal (nat_cmp b y) (nat_cmp c z) first.1 in
@@ -89,7 +91,8 @@ payload_same (Set a) (Done b) e = absurd (cc)
 -- messages that are not ordered are one message
 pub msg_same : (a b : Msg) → msg_cmp a b ≡ Equal → a ≡ b
 msg_same a b e =
-    let first = both_equal (key_cmp a.key b.key) (ordering_then (nat_cmp a.to b.to) (payload_cmp a.payload b.payload)) e in
+    let first = both_equal (key_cmp a.key b.key) (ordering_then (nat_cmp a.to b.to) (payload_cmp a.payload b.payload))
+    e in
     let second = both_equal (nat_cmp a.to b.to) (payload_cmp a.payload b.payload) first.1 in
     let key = key_same a.key b.key first.0 in
     let to = nat_same a.to b.to second.0 in
@@ -98,14 +101,16 @@ msg_same a b e =
 
 -- a message that comes before another has a lesser key or the same one
 pub msg-keyed : (a b : Msg) → msg_cmp a b ≡ Less → (key_cmp a.key b.key ≡ Less) ⊎ (key_cmp a.key b.key ≡ Equal)
-msg-keyed a b e = then_less (key_cmp a.key b.key) (ordering_then (nat_cmp a.to b.to) (payload_cmp a.payload b.payload)) e
+msg-keyed a b e = then_less (key_cmp a.key b.key)
+    (ordering_then (nat_cmp a.to b.to) (payload_cmp a.payload b.payload)) e
 
 -- and no later time
 pub msg-timed : (a b : Msg) → msg_cmp a b ≡ Less → a.key.time ≤ b.key.time
 msg-timed a b e = elim (msg-keyed a b e) [
-  | inl less ↦ elim (then_less (nat_cmp a.key.time b.key.time) (ordering_then (nat_cmp a.key.sender b.key.sender) (nat_cmp a.key.number b.key.number)) less) [
-    | inl below ↦ (let h = nat_below a.key.time b.key.time below in omega arith)
-    | inr same ↦ (let h = nat_same a.key.time b.key.time same in omega arith)
-  ]
+  | inl less ↦ elim (then_less (nat_cmp a.key.time b.key.time)
+      (ordering_then (nat_cmp a.key.sender b.key.sender) (nat_cmp a.key.number b.key.number)) less) [
+        | inl below ↦ (let h = nat_below a.key.time b.key.time below in omega arith)
+        | inr same ↦ (let h = nat_same a.key.time b.key.time same in omega arith)
+      ]
   | inr equal ↦ (let h = ap (λ (k : Key). k.time) (key_same a.key b.key equal) in omega arith)
 ]

@@ -10,7 +10,8 @@ use Rattle.sim_base.specs.declared.message.Payload.TheVariants.{Tick, Job, Done,
 use Rattle.sim_base.specs.Order.{key_cmp, payload_cmp, payload_index, param_index, msg_cmp}
 
 pub key_total : IsTotalOrder key_cmp
-key_total = then_total (on_total (λ (k : Key). k.time) nat_cmp_total) (then_total (on_total (λ (k : Key). k.sender) nat_cmp_total) (on_total (λ (k : Key). k.number) nat_cmp_total))
+key_total = then_total (on_total (λ (k : Key). k.time) nat_cmp_total)
+    (then_total (on_total (λ (k : Key). k.sender) nat_cmp_total) (on_total (λ (k : Key). k.number) nat_cmp_total))
 
 abbrev first_of : Payload → ℕ
 first_of Tick = 0
@@ -33,12 +34,14 @@ third_of (Set c) = c.b
 abbrev by_numbers : Payload → Payload → Ordering
 by_numbers p q =
     ordering_then (nat_cmp (payload_index p) (payload_index q))
-    (ordering_then (nat_cmp (first_of p) (first_of q)) (ordering_then (nat_cmp (second_of p) (second_of q)) (nat_cmp (third_of p) (third_of q))))
+    (ordering_then (nat_cmp (first_of p) (first_of q))
+    (ordering_then (nat_cmp (second_of p) (second_of q)) (nat_cmp (third_of p) (third_of q))))
 
 by_numbers_total : IsTotalOrder by_numbers
 by_numbers_total =
     then_total (on_total payload_index nat_cmp_total)
-    (then_total (on_total first_of nat_cmp_total) (then_total (on_total second_of nat_cmp_total) (on_total third_of nat_cmp_total)))
+    (then_total (on_total first_of nat_cmp_total)
+    (then_total (on_total second_of nat_cmp_total) (on_total third_of nat_cmp_total)))
 
 same_order : (p q : Payload) → by_numbers p q ≡ payload_cmp p q
 same_order Tick Tick = refl
@@ -66,4 +69,5 @@ payload_total = record {
 }
 
 pub msg_total : IsTotalOrder msg_cmp
-msg_total = then_total (on_total (λ (m : Msg). m.key) key_total) (then_total (on_total (λ (m : Msg). m.to) nat_cmp_total) (on_total (λ (m : Msg). m.payload) payload_total))
+msg_total = then_total (on_total (λ (m : Msg). m.key) key_total)
+    (then_total (on_total (λ (m : Msg). m.to) nat_cmp_total) (on_total (λ (m : Msg). m.payload) payload_total))

@@ -1,5 +1,7 @@
 -- Where a marked message goes in a list in order, and that the order is kept.
-use Rattle.std.proofs.Common.{◌≡◌, ℕ, zero, suc, ◌+◌, ◌-◌, ◌<◌, ◌≤◌, refl, sym, ap, ◌∙◌, subst, List, [], ◌∷◌, ◌++◌, Bool, true, false, Ordering, Less, Equal, Greater, length, take, drop, get_or, set, arith, Option, Some, None}
+use Rattle.std.proofs.Common.{◌≡◌, ℕ, zero, suc, ◌+◌, ◌-◌, ◌<◌, ◌≤◌, refl, sym, ap}
+use Rattle.std.proofs.Common.{◌∙◌, subst, List, [], ◌∷◌, ◌++◌, Bool, true, false, Ordering, Less}
+use Rattle.std.proofs.Common.{Equal, Greater, length, take, drop, get_or, set, arith, Option, Some, None}
 use Rattle.std.specs.Prelude.{slice_get}
 use Rattle.std.proofs.lemmas.List.{get_or_read}
 use Rattle.std.specs.Ordering.{is_lt, is_eq, is_gt, ordering_reverse}
@@ -10,7 +12,8 @@ use Rattle.sim_base.specs.Marked.{Above, SortedMarked}
 use Rattle.sim_base.specs.Blocks.{IsPlaceOf, is_there}
 
 -- what is said of all may be weakened
-pub all_weaker : {X : Type 0} (P Q : X → Type 0) (xs : List X) → ((x : X) → P x → Q x) → AllByRecursion P xs → AllByRecursion Q xs
+pub all_weaker : {X : Type 0} (P Q : X → Type 0) (xs : List X) → ((x : X) → P x → Q x) → AllByRecursion P xs
+    → AllByRecursion Q xs
 all_weaker P Q [] f h = tt
 all_weaker P Q (x ∷ xs) f h = (f x h.0, all_weaker P Q xs f h.1)
 
@@ -24,12 +27,14 @@ all_right P [] ys h = h
 all_right P (x ∷ xs) ys h = all_right P xs ys h.1
 
 -- and what is said of each of both
-pub all_both : {X : Type 0} (P : X → Type 0) (xs ys : List X) → AllByRecursion P xs → AllByRecursion P ys → AllByRecursion P (xs ++ ys)
+pub all_both : {X : Type 0} (P : X → Type 0) (xs ys : List X) → AllByRecursion P xs → AllByRecursion P ys
+    → AllByRecursion P (xs ++ ys)
 all_both P [] ys g h = h
 all_both P (x ∷ xs) ys g h = (g.0, all_both P xs ys g.1 h)
 
 -- and of the one at a place
-pub all_at : {X : Type 0} (P : X → Type 0) (xs : List X) (i : ℕ) (d : X) → AllByRecursion P xs → i < length xs → P (get_or xs i d)
+pub all_at : {X : Type 0} (P : X → Type 0) (xs : List X) (i : ℕ) (d : X) → AllByRecursion P xs → i < length xs
+    → P (get_or xs i d)
 all_at P [] i d h l = absurd (omega arith)
 all_at P (x ∷ xs) zero d h l = h.0
 all_at P (x ∷ xs) (suc i) d h l = all_at P xs i d h.1 (omega arith)
@@ -66,37 +71,49 @@ module _ {M : Type 0} {cmp : M → M → Ordering} (o : IsTotalOrder cmp) where
 
 module _ {M K : Type 0} {cmp : M → M → Ordering} (o : IsTotalOrder cmp) where
   -- all of the messages come before m, as one behind them does
-  pub all_before : (m : M) (xs : List (M × K)) (y : M × K) (ys : List (M × K)) → SortedMarked cmp (xs ++ y ∷ ys) → is_lt (cmp m y.0) ≡ false → AllByRecursion (λ x. cmp m x.0 ≡ Greater) xs
+  pub all_before : (m : M) (xs : List (M × K)) (y : M × K) (ys : List (M × K)) → SortedMarked cmp (xs ++ y ∷ ys)
+      → is_lt (cmp m y.0) ≡ false → AllByRecursion (λ x. cmp m x.0 ≡ Greater) xs
   all_before m [] y ys s late = tt
-  all_before m (x ∷ xs) y ys s late = (after_later o m x.0 y.0 (all_right _ xs (y ∷ ys) s.0).0 late, all_before m xs y ys s.1 late)
+  all_before m (x ∷ xs) y ys s late =
+      (after_later o m x.0 y.0 (all_right _ xs (y ∷ ys) s.0).0 late, all_before m xs y ys s.1 late)
 
 module _ {M K : Type 0} (cmp : M → M → Ordering) (join : K → K → K) (m : M) (k : K) where
   -- a message goes behind all that come before it
-  pub insert_behind : (xs ys : List (M × K)) → AllByRecursion (λ x. cmp m x.0 ≡ Greater) xs → insert_marked join cmp m k (xs ++ ys) ≡ xs ++ insert_marked join cmp m k ys
+  pub insert_behind : (xs ys : List (M × K)) → AllByRecursion (λ x. cmp m x.0 ≡ Greater) xs
+      → insert_marked join cmp m k (xs ++ ys) ≡ xs ++ insert_marked join cmp m k ys
   insert_behind [] ys h = refl
   insert_behind (x ∷ xs) ys h = rw h.0 (ap (λ t. x ∷ t) (insert_behind xs ys h.1))
 
-  before_place : (r : Ordering) (x : M × K) (xs zs : List (M × K)) → insert_marked join cmp m k (xs ++ zs) ≡ insert_marked join cmp m k xs ++ zs → place_marked join r m k x (xs ++ zs) (insert_marked join cmp m k (xs ++ zs)) ≡ place_marked join r m k x xs (insert_marked join cmp m k xs) ++ zs
+  before_place : (r : Ordering) (x : M × K) (xs zs : List (M × K))
+      → insert_marked join cmp m k (xs ++ zs) ≡ insert_marked join cmp m k xs ++ zs
+      → place_marked join r m k x (xs ++ zs) (insert_marked join cmp m k (xs ++ zs)) ≡ place_marked join r m k x xs
+      (insert_marked join cmp m k xs) ++ zs
   before_place Less x xs zs e = refl
   before_place Equal x xs zs e = refl
   before_place Greater x xs zs e = ap (λ t. x ∷ t) e
 
   -- and before all that start after it
-  pub insert_before : (xs : List (M × K)) (y : M × K) (ys : List (M × K)) → cmp m y.0 ≡ Less → insert_marked join cmp m k (xs ++ y ∷ ys) ≡ insert_marked join cmp m k xs ++ y ∷ ys
+  pub insert_before : (xs : List (M × K)) (y : M × K) (ys : List (M × K)) → cmp m y.0 ≡ Less
+      → insert_marked join cmp m k (xs ++ y ∷ ys) ≡ insert_marked join cmp m k xs ++ y ∷ ys
   insert_before [] y ys l = rw l refl
   insert_before (x ∷ xs) y ys l = before_place (cmp m x.0) x xs (y ∷ ys) (insert_before xs y ys l)
 
 module _ {M K : Type 0} {cmp : M → M → Ordering} (o : IsTotalOrder cmp) (join : K → K → K) (m : M) (k : K) where
-  above_place : (r : Ordering) (z : M) (y : M × K) (ys rest : List (M × K)) → cmp z m ≡ Less → Above cmp z (y ∷ ys) → Above cmp z rest → Above cmp z (place_marked join r m k y ys rest)
+  above_place : (r : Ordering) (z : M) (y : M × K) (ys rest : List (M × K)) → cmp z m ≡ Less → Above cmp z (y ∷ ys)
+      → Above cmp z rest → Above cmp z (place_marked join r m k y ys rest)
   above_place Less z y ys rest e f g = (e, f)
   above_place Equal z y ys rest e f g = f
   above_place Greater z y ys rest e f g = (f.0, g)
 
-  above_insert : (z : M) (xs : List (M × K)) → cmp z m ≡ Less → Above cmp z xs → Above cmp z (insert_marked join cmp m k xs)
+  above_insert : (z : M) (xs : List (M × K)) → cmp z m ≡ Less → Above cmp z xs
+      → Above cmp z (insert_marked join cmp m k xs)
   above_insert z [] e f = (e, tt)
-  above_insert z (y ∷ ys) e f = above_place (cmp m y.0) z y ys (insert_marked join cmp m k ys) e f (above_insert z ys e f.1)
+  above_insert z (y ∷ ys) e f = above_place (cmp m y.0) z y ys (insert_marked join cmp m k ys) e f
+      (above_insert z ys e f.1)
 
-  sorted_place : (r : Ordering) (y : M × K) (ys : List (M × K)) → cmp m y.0 ≡ r → SortedMarked cmp (y ∷ ys) → SortedMarked cmp (insert_marked join cmp m k ys) → SortedMarked cmp (place_marked join r m k y ys (insert_marked join cmp m k ys))
+  sorted_place : (r : Ordering) (y : M × K) (ys : List (M × K)) → cmp m y.0 ≡ r → SortedMarked cmp (y ∷ ys)
+      → SortedMarked cmp (insert_marked join cmp m k ys)
+      → SortedMarked cmp (place_marked join r m k y ys (insert_marked join cmp m k ys))
   sorted_place Less y ys e s t = ((e, all_weaker _ _ ys (λ z l. o.trans m y.0 z.0 e l) s.0), s)
   sorted_place Equal y ys e s t = s
   sorted_place Greater y ys e s t = (above_insert y.0 ys (o.antisymm y.0 m ∙ ap ordering_reverse e) s.0, t)
@@ -107,19 +124,24 @@ module _ {M K : Type 0} {cmp : M → M → Ordering} (o : IsTotalOrder cmp) (joi
   sorted_insert (y ∷ ys) s = sorted_place (cmp m y.0) y ys refl s (sorted_insert ys s.1)
 
 module _ {M K : Type 0} (cmp : M → M → Ordering) (join : K → K → K) (m : M) (k : K) where
-  length_place : (r : Ordering) (y : M × K) (ys rest : List (M × K)) → length rest ≤ suc (length ys) → 0 < length rest → (0 < length (place_marked join r m k y ys rest)) × (length (place_marked join r m k y ys rest) ≤ suc (suc (length ys)))
+  length_place : (r : Ordering) (y : M × K) (ys rest : List (M × K)) → length rest ≤ suc (length ys) → 0 < length rest
+      → (0 < length (place_marked join r m k y ys rest))
+      × (length (place_marked join r m k y ys rest) ≤ suc (suc (length ys)))
   length_place Less y ys rest l n = (omega arith, omega arith)
   length_place Equal y ys rest l n = (omega arith, omega arith)
   length_place Greater y ys rest l n = (omega arith, omega arith)
 
   -- an insertion adds at most one message
-  pub length_insert : (xs : List (M × K)) → (0 < length (insert_marked join cmp m k xs)) × (length (insert_marked join cmp m k xs) ≤ suc (length xs))
+  pub length_insert : (xs : List (M × K)) → (0 < length (insert_marked join cmp m k xs))
+      × (length (insert_marked join cmp m k xs) ≤ suc (length xs))
   length_insert [] = (omega arith, omega arith)
-  length_insert (y ∷ ys) = let h = length_insert ys in length_place (cmp m y.0) y ys (insert_marked join cmp m k ys) h.1 h.0
+  length_insert (y ∷ ys) = let h = length_insert ys in
+      length_place (cmp m y.0) y ys (insert_marked join cmp m k ys) h.1 h.0
 
 module _ {M K : Type 0} {cmp : M → M → Ordering} (o : IsTotalOrder cmp) (join : K → K → K) (m : M) (k : K) where
   -- the first comes before m, as the one at i does
-  first_before : (x : M × K) (xs : List (M × K)) (i : ℕ) (d : M × K) → SortedMarked cmp (x ∷ xs) → i < suc (length xs) → is_gt (cmp m (get_or (x ∷ xs) i d).0) ≡ true → cmp m x.0 ≡ Greater
+  first_before : (x : M × K) (xs : List (M × K)) (i : ℕ) (d : M × K) → SortedMarked cmp (x ∷ xs) → i < suc (length xs)
+      → is_gt (cmp m (get_or (x ∷ xs) i d).0) ≡ true → cmp m x.0 ≡ Greater
   first_before x xs zero d s l g = is_greater _ g
   first_before x xs (suc i) d s l g =
       let greater : cmp m (get_or xs i d).0 ≡ Greater = is_greater _ g in
@@ -127,16 +149,21 @@ module _ {M K : Type 0} {cmp : M → M → Ordering} (o : IsTotalOrder cmp) (joi
       after_later o m x.0 (get_or xs i d).0 (all_at _ xs i d s.0 (omega arith)) late
 
   -- a message that is not there yet goes to its place
-  pub insert_new : (xs : List (M × K)) (i : ℕ) (d : M × K) → SortedMarked cmp xs → i ≤ length xs → ((j : ℕ) → j + 1 ≡ i → is_gt (cmp m (get_or xs j d).0) ≡ true) → (i < length xs → cmp m (get_or xs i d).0 ≡ Less) → insert_marked join cmp m k xs ≡ insert xs i (m, k)
+  pub insert_new : (xs : List (M × K)) (i : ℕ) (d : M × K) → SortedMarked cmp xs → i ≤ length xs
+      → ((j : ℕ) → j + 1 ≡ i → is_gt (cmp m (get_or xs j d).0) ≡ true)
+      → (i < length xs → cmp m (get_or xs i d).0 ≡ Less) → insert_marked join cmp m k xs ≡ insert xs i (m, k)
   insert_new [] zero d s l before behind = refl
   insert_new [] (suc i) d s l before behind = absurd (omega arith)
   insert_new (x ∷ xs) zero d s l before behind = let less : cmp m x.0 ≡ Less = behind (omega arith) in rw less refl
   insert_new (x ∷ xs) (suc i) d s l before behind =
       let greater : cmp m x.0 ≡ Greater = first_before x xs i d s (omega arith) (before i (omega arith)) in
-      rw greater (ap (λ t. x ∷ t) (insert_new xs i d s.1 (omega arith) (λ j e. before (suc j) (omega arith)) (λ l'. behind (omega arith))))
+      rw greater (ap (λ t. x ∷ t) (insert_new xs i d s.1 (omega arith) (λ j e. before (suc j) (omega arith))
+      (λ l'. behind (omega arith))))
 
   -- a message that is there already gets the marks of both
-  pub insert_there : (xs : List (M × K)) (i : ℕ) (d : M × K) → SortedMarked cmp xs → i < length xs → ((j : ℕ) → j + 1 ≡ i → is_gt (cmp m (get_or xs j d).0) ≡ true) → cmp m (get_or xs i d).0 ≡ Equal → insert_marked join cmp m k xs ≡ set xs i ((get_or xs i d).0, join (get_or xs i d).1 k)
+  pub insert_there : (xs : List (M × K)) (i : ℕ) (d : M × K) → SortedMarked cmp xs → i < length xs
+      → ((j : ℕ) → j + 1 ≡ i → is_gt (cmp m (get_or xs j d).0) ≡ true) → cmp m (get_or xs i d).0 ≡ Equal
+      → insert_marked join cmp m k xs ≡ set xs i ((get_or xs i d).0, join (get_or xs i d).1 k)
   insert_there [] i d s l before same = absurd (omega arith)
   insert_there (x ∷ xs) zero d s l before same = rw same refl
   insert_there (x ∷ xs) (suc i) d s l before same =
@@ -170,8 +197,10 @@ is_equal Greater e = absurd (cc)
 
 module _ {M K : Type 0} (cmp : M → M → Ordering) (m : M) where
   -- whether m comes after what was read at a place
-  pub gt_at : (xs : List (M × K)) (i j : ℕ) (x d : M × K) (r : Bool) → j ≡ i → i < length xs → x ≡ get_or xs i x → is_gt (cmp m x.0) ≡ r → is_gt (cmp m (get_or xs j d).0) ≡ r
-  gt_at xs i j x d r same l read e = subst (λ n. is_gt (cmp m (get_or xs n d).0) ≡ r) (sym same) (subst (λ y. is_gt (cmp m y.0) ≡ r) (get_or_read xs i x l read d) e)
+  pub gt_at : (xs : List (M × K)) (i j : ℕ) (x d : M × K) (r : Bool) → j ≡ i → i < length xs → x ≡ get_or xs i x
+      → is_gt (cmp m x.0) ≡ r → is_gt (cmp m (get_or xs j d).0) ≡ r
+  gt_at xs i j x d r same l read e = subst (λ n. is_gt (cmp m (get_or xs n d).0) ≡ r) (sym same)
+      (subst (λ y. is_gt (cmp m y.0) ≡ r) (get_or_read xs i x l read d) e)
 
   -- a message that is there is within the list
   pub there_within : (xs : List (M × K)) (i : ℕ) → is_there cmp m (slice_get xs i) ≡ true → i < length xs
@@ -181,14 +210,19 @@ module _ {M K : Type 0} (cmp : M → M → Ordering) (m : M) where
 
 module _ {M K : Type 0} {cmp : M → M → Ordering} (o : IsTotalOrder cmp) (join : K → K → K) (m : M) (k : K) where
   -- what an insertion does at the place of a message, where the message isn't there
-  pub new_at : (xs : List (M × K)) (i : ℕ) → SortedMarked cmp xs → IsPlaceOf cmp m xs i → is_there cmp m (slice_get xs i) ≡ false → insert_marked join cmp m k xs ≡ insert xs i (m, k)
+  pub new_at : (xs : List (M × K)) (i : ℕ) → SortedMarked cmp xs → IsPlaceOf cmp m xs i
+      → is_there cmp m (slice_get xs i) ≡ false → insert_marked join cmp m k xs ≡ insert xs i (m, k)
   new_at xs i s place there =
       insert_new o join m k xs i (m, k) s place.within (place.before (m, k))
-      (λ l. let no : is_eq (cmp m (get_or xs i (m, k)).0) ≡ false = rw (get_at xs i (m, k) l) at there in is_less_if _ (place.behind (m, k) l) no)
+      (λ l. let no : is_eq (cmp m (get_or xs i (m, k)).0) ≡ false = rw (get_at xs i (m, k) l) at there in
+      is_less_if _ (place.behind (m, k) l) no)
 
   -- and where it is
-  pub joined_at : (xs : List (M × K)) (i : ℕ) (x : M × K) → SortedMarked cmp xs → IsPlaceOf cmp m xs i → is_there cmp m (slice_get xs i) ≡ true → x ≡ get_or xs i x → insert_marked join cmp m k xs ≡ set xs i (x.0, join x.1 k)
+  pub joined_at : (xs : List (M × K)) (i : ℕ) (x : M × K) → SortedMarked cmp xs → IsPlaceOf cmp m xs i
+      → is_there cmp m (slice_get xs i) ≡ true → x ≡ get_or xs i x
+      → insert_marked join cmp m k xs ≡ set xs i (x.0, join x.1 k)
   joined_at xs i x s place there is =
       let l = there_within cmp m xs i there in
       let yes : is_eq (cmp m (get_or xs i x).0) ≡ true = rw (get_at xs i x l) at there in
-      insert_there o join m k xs i x s l (place.before x) (is_equal _ yes) ∙ ap (λ y. set xs i (y.0, join y.1 k)) (sym is)
+      insert_there o join m k xs i x s l (place.before x) (is_equal _ yes) ∙ ap (λ y. set xs i (y.0, join y.1 k))
+      (sym is)

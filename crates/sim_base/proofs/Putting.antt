@@ -1,5 +1,6 @@
 -- A message that is put into the block to which it goes: all blocks after it.
-use Rattle.std.proofs.Common.{◌≡◌, ℕ, zero, suc, ◌+◌, ◌-◌, ◌<◌, ◌≤◌, refl, sym, ap, ◌∙◌, subst, List, [], ◌∷◌, ◌++◌, Ordering, length, get_or, set, arith, Result, Ok, Err, OnOk, OnErr}
+use Rattle.std.proofs.Common.{◌≡◌, ℕ, zero, suc, ◌+◌, ◌-◌, ◌<◌, ◌≤◌, refl, sym, ap, ◌∙◌, subst, List}
+use Rattle.std.proofs.Common.{[], ◌∷◌, ◌++◌, Ordering, length, get_or, set, arith, Result, Ok, Err, OnOk, OnErr}
 use Rattle.std.specs.Cmp.{IsTotalOrder}
 use Rattle.std.proofs.lemmas.List.{length-set, set-get_or}
 use Rattle.sim_base.specs.Pending.{insert_marked}
@@ -9,13 +10,16 @@ use Rattle.sim_base.proofs.Placing.{sorted_left, sorted_right, sorted_insert, le
 use Rattle.sim_base.proofs.Blocks.{put_at}
 
 module _ {X : Type 0} where
-  filled_set : (n : ℕ) (bs : List (List X)) (b : List X) → AreFilled bs → 0 < length b → length b ≤ 64 → AreFilled (set bs n b)
+  filled_set : (n : ℕ) (bs : List (List X)) (b : List X) → AreFilled bs → 0 < length b → length b ≤ 64
+      → AreFilled (set bs n b)
   filled_set n [] b h some few = h
   filled_set zero (c ∷ bs) b h some few = ((some, few), h.1)
   filled_set (suc n) (c ∷ bs) b h some few = (h.0, filled_set n bs b h.1 some few)
 
   -- another block in place of one
-  pub sized_set : (at : ℕ) (first : List X) (later : List (List X)) (b first' : List X) (later' : List (List X)) → AreSized first later → 0 < length b → length b ≤ 64 → (first' ∷ later') ≡ set (first ∷ later) at b → AreSized first' later'
+  pub sized_set : (at : ℕ) (first : List X) (later : List (List X)) (b first' : List X) (later' : List (List X))
+      → AreSized first later → 0 < length b → length b ≤ 64 → (first' ∷ later') ≡ set (first ∷ later) at b
+      → AreSized first' later'
   sized_set zero first later b first' later' h some few e =
       let here : first' ≡ b = cc in
       let there : later' ≡ later = cc in
@@ -30,11 +34,13 @@ module _ {X : Type 0} where
       }
 
   -- the place of a later block
-  pub set_later : (at : ℕ) (first : List X) (later : List (List X)) (b : List X) → 0 < at → (first ∷ set later (at - 1) b) ≡ set (first ∷ later) at b
+  pub set_later : (at : ℕ) (first : List X) (later : List (List X)) (b : List X)
+      → 0 < at → (first ∷ set later (at - 1) b) ≡ set (first ∷ later) at b
   set_later zero first later b l = absurd (omega arith)
   set_later (suc n) first later b l = let e : suc n - 1 ≡ n = omega arith in rw e refl
 
-  pub later_at : (at : ℕ) (first : List X) (later : List (List X)) → 0 < at → get_or later (at - 1) [] ≡ block_at first later at
+  pub later_at : (at : ℕ) (first : List X) (later : List (List X))
+      → 0 < at → get_or later (at - 1) [] ≡ block_at first later at
   later_at zero first later l = absurd (omega arith)
   later_at (suc n) first later l = let e : suc n - 1 ≡ n = omega arith in rw e refl
 
@@ -45,35 +51,52 @@ module _ {M K : Type 0} (cmp : M → M → Ordering) where
   sorted_of (suc n) (b ∷ bs) s = sorted_of n bs (sorted_right cmp b (of_blocks bs) s)
 
   -- each block is in order
-  pub sorted_at : (at : ℕ) (first : List (M × K)) (later : List (List (M × K))) → AreBlocks cmp first later → SortedMarked cmp (block_at first later at)
+  pub sorted_at : (at : ℕ) (first : List (M × K)) (later : List (List (M × K))) → AreBlocks cmp first later
+      → SortedMarked cmp (block_at first later at)
   sorted_at at first later h = sorted_of at (first ∷ later) h.sorted
 
 module _ {M K : Type 0} {cmp : M → M → Ordering} (o : IsTotalOrder cmp) (join : K → K → K) (m : M) (k : K) where
-  put_all : (at : ℕ) (first : List (M × K)) (later : List (List (M × K))) → AreBlocks cmp first later → IsBlockOf cmp m later at → (first' : List (M × K)) (later' : List (List (M × K))) →
-      (first' ∷ later') ≡ set (first ∷ later) at (insert_marked join cmp m k (block_at first later at)) → of_blocks (first' ∷ later') ≡ insert_marked join cmp m k (of_blocks (first ∷ later))
-  put_all at first later blocks place first' later' e = ap of_blocks e ∙ sym (put_at o join m k at first later blocks.sorted blocks.sized.later_filled place)
+  put_all : (at : ℕ) (first : List (M × K)) (later : List (List (M × K))) → AreBlocks cmp first later
+      → IsBlockOf cmp m later at → (first' : List (M × K)) (later' : List (List (M × K))) →
+      (first' ∷ later') ≡ set (first ∷ later) at (insert_marked join cmp m k (block_at first later at))
+      → of_blocks (first' ∷ later') ≡ insert_marked join cmp m k (of_blocks (first ∷ later))
+  put_all at first later blocks place first' later' e =
+      ap of_blocks e ∙ sym (put_at o join m k at first later blocks.sorted blocks.sized.later_filled place)
 
 module _ {M K A E : Type 0} (cmp : M → M → Ordering) (join : K → K → K) (m : M) (k : K) where
   -- what a message that is put into a block is to all of them
-  pub record IsPut (r : Result A E) (first : List (M × K)) (later : List (List (M × K))) (first' : List (M × K)) (later' : List (List (M × K))) : Type 0 where
+  pub record IsPut (r : Result A E) (first : List (M × K)) (later : List (List (M × K))) (first' : List (M × K))
+      (later' : List (List (M × K))) : Type 0 where
     pub blocks : AreBlocks cmp first' later'
     pub ok : OnOk r (of_blocks (first' ∷ later') ≡ insert_marked join cmp m k (of_blocks (first ∷ later)))
     pub err : OnErr r (of_blocks (first' ∷ later') ≡ of_blocks (first ∷ later))
 
 module _ {M K A E : Type 0} {cmp : M → M → Ordering} (o : IsTotalOrder cmp) (join : K → K → K) (m : M) (k : K) where
-  pub is_put : (at : ℕ) (first : List (M × K)) (later : List (List (M × K))) → AreBlocks cmp first later → IsBlockOf cmp m later at → length (block_at first later at) < 64 →
-      (r : Result A E) (b first' : List (M × K)) (later' : List (List (M × K))) → (first' ∷ later') ≡ set (first ∷ later) at b → OnOk r (b ≡ insert_marked join cmp m k (block_at first later at)) → OnErr r (b ≡ block_at first later at) → IsPut cmp join m k r first later first' later'
+  pub is_put : (at : ℕ) (first : List (M × K)) (later : List (List (M × K))) → AreBlocks cmp first later
+      → IsBlockOf cmp m later at → length (block_at first later at) < 64 →
+      (r : Result A E) (b first' : List (M × K)) (later' : List (List (M × K)))
+      → (first' ∷ later') ≡ set (first ∷ later) at b
+      → OnOk r (b ≡ insert_marked join cmp m k (block_at first later at)) → OnErr r (b ≡ block_at first later at)
+      → IsPut cmp join m k r first later first' later'
   is_put at first later blocks place room (Ok a) b first' later' e ok err =
-      let f : (first' ∷ later') ≡ set (first ∷ later) at (insert_marked join cmp m k (block_at first later at)) = e ∙ ap (set (first ∷ later) at) ok in
+      let f : (first' ∷ later') ≡ set (first ∷ later) at (insert_marked join cmp m k (block_at first later at)) =
+      e ∙ ap (set (first ∷ later) at) ok in
       let all = put_all o join m k at first later blocks place first' later' f in
       let long = length_insert cmp join m k (block_at first later at) in
       record {
-        blocks = record { sorted = subst (SortedMarked cmp) (sym all) (sorted_insert o join m k (of_blocks (first ∷ later)) blocks.sorted); sized = sized_set at first later (insert_marked join cmp m k (block_at first later at)) first' later' blocks.sized long.0 (omega arith) f };
+        blocks = record {
+          sorted = subst (SortedMarked cmp) (sym all)
+              (sorted_insert o join m k (of_blocks (first ∷ later)) blocks.sorted);
+          sized =
+              sized_set at first later (insert_marked join cmp m k (block_at first later at)) first' later' blocks.sized
+              long.0 (omega arith) f;
+        };
         ok = all;
         err = tt;
       }
   is_put at first later blocks place room (Err a) b first' later' e ok err =
-      let f : (first' ∷ later') ≡ first ∷ later = e ∙ ap (set (first ∷ later) at) err ∙ set-get_or (first ∷ later) at [] in
+      let f : (first' ∷ later') ≡ first ∷ later = e ∙ ap (set (first ∷ later) at) err
+      ∙ set-get_or (first ∷ later) at [] in
       let here : first' ≡ first = cc in
       let there : later' ≡ later = cc in
       record { blocks = rw (here, there) blocks; ok = tt; err = ap of_blocks f }

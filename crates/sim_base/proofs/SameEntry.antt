@@ -37,11 +37,14 @@ line_equal (Passed p) (Sink g y) e = absurd (false≢true e)
 line_equal (Sink g y) (Source s) e = absurd (false≢true e)
 line_equal (Sink g y) (Server b w d l) e = absurd (false≢true e)
 line_equal (Sink g y) (Passed p) e = absurd (false≢true e)
-line_equal (Sink g y) (Sink g2 y2) e = let h = and_parts (g == g2) (y == y2) e in let p = eqb-true g g2 h.0 in let q = eqb-true y y2 h.1 in λ i. Sink (p i) (q i)
+line_equal (Sink g y) (Sink g2 y2) e = let h = and_parts (g == g2) (y == y2) e in let p = eqb-true g g2 h.0 in let q =
+    eqb-true y y2 h.1 in λ i. Sink (p i) (q i)
 
 line_itself : (a : Line) → same_line a a ≡ true
 line_itself (Source s) = eq-eqb s s refl
-line_itself (Server b w d l) = and_from (b == b && w == w) (d == d && l == l) (and_from (b == b) (w == w) (eq-eqb b b refl) (eq-eqb w w refl)) (and_from (d == d) (l == l) (eq-eqb d d refl) (eq-eqb l l refl))
+line_itself (Server b w d l) =
+    and_from (b == b && w == w) (d == d && l == l) (and_from (b == b) (w == w) (eq-eqb b b refl) (eq-eqb w w refl))
+    (and_from (d == d) (l == l) (eq-eqb d d refl) (eq-eqb l l refl))
 line_itself (Passed p) = eq-eqb p p refl
 line_itself (Sink g y) = and_from (g == g) (y == y) (eq-eqb g g refl) (eq-eqb y y refl)
 
@@ -52,5 +55,7 @@ same_entry-Decides x y = (
       let m = msg_same x.msg y.msg ((Equal-is (msg_cmp x.msg y.msg)).0 h.0) in
       let l = line_equal x.line y.line h.1 in
       λ i. record { msg = m i; line = l i }),
-  (λ e. subst (λ z. same_entry x z ≡ true) e (and_from (is_eq (msg_cmp x.msg x.msg)) (same_line x.line x.line) (ap is_eq (tied_itself msg_total x.msg)) (line_itself x.line))),
+  (λ e. subst (λ z. same_entry x z ≡ true) e
+      (and_from (is_eq (msg_cmp x.msg x.msg)) (same_line x.line x.line) (ap is_eq (tied_itself msg_total x.msg))
+      (line_itself x.line))),
 )

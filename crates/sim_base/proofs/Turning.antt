@@ -1,5 +1,6 @@
 -- Lists that are turned round once: each element leaves at the front, and what becomes of it comes in at the back.
-use Rattle.std.proofs.Common.{◌≡◌, ℕ, ◌+◌, ◌<◌, ◌≤◌, refl, sym, ap, ◌∙◌, subst, List, [], ◌∷◌, ◌++◌, Option, Some, None, true, false, ◌==◌, if◌then◌else◌, length, take, drop, get_or, map, arith, append_assoc}
+use Rattle.std.proofs.Common.{◌≡◌, ℕ, ◌+◌, ◌<◌, ◌≤◌, refl, sym, ap, ◌∙◌, subst, List, [], ◌∷◌, ◌++◌, Option, Some, None}
+use Rattle.std.proofs.Common.{true, false, ◌==◌, if◌then◌else◌, length, take, drop, get_or, map, arith, append_assoc}
 use Rattle.std.specs.Prelude.{is_some}
 use Rattle.std.proofs.lemmas.Bool.{eqb-true, eqb-false}
 use Rattle.std.proofs.lemmas.List.{append-nil, drop_more, take_more, nil_from_length}
@@ -11,17 +12,20 @@ use Rattle.sim_base.proofs.Cutting.{cut_kept, cut_dropped, cut-append, length_cu
 
 module _ {X : Type 0} where
   -- what leaves at the front is the next of the old list
-  pub turn : (old items rest done : List X) (i : ℕ) (x : X) → i < length old → items ≡ drop i old ++ done → items ≡ x ∷ rest → (x ≡ get_or old i x) × (rest ≡ drop (i + 1) old ++ done)
+  pub turn : (old items rest done : List X) (i : ℕ) (x : X) → i < length old → items ≡ drop i old ++ done
+      → items ≡ x ∷ rest → (x ≡ get_or old i x) × (rest ≡ drop (i + 1) old ++ done)
   turn old items rest done i x l is leaves =
       let more : drop i old ≡ get_or old i x ∷ drop (i + 1) old = drop_more old i x l in
       let e : x ∷ rest ≡ get_or old i x ∷ (drop (i + 1) old ++ done) = sym leaves ∙ is ∙ ap (λ t. t ++ done) more in
       (cc, cc)
 
   -- the elements so far, with one more
-  pub take_turn : (old : List X) (i : ℕ) (x : X) → i < length old → x ≡ get_or old i x → take (i + 1) old ≡ take i old ++ x ∷ []
+  pub take_turn : (old : List X) (i : ℕ) (x : X) → i < length old → x ≡ get_or old i x
+      → take (i + 1) old ≡ take i old ++ x ∷ []
   take_turn old i x l is = take_more old i x l ∙ ap (λ y. take i old ++ y ∷ []) (sym is)
 
-module _ {M K : Type 0} (meet : K → K → Option K) (by : K) (old items rest : List (M × K)) (i : ℕ) (x : M × K) (l : i < length old) (is : items ≡ drop i old ++ cut_by meet by (take i old)) (leaves : items ≡ x ∷ rest) where
+module _ {M K : Type 0} (meet : K → K → Option K) (by : K) (old items rest : List (M × K)) (i : ℕ) (x : M × K)
+    (l : i < length old) (is : items ≡ drop i old ++ cut_by meet by (take i old)) (leaves : items ≡ x ∷ rest) where
   next : (x ≡ get_or old i x) × (rest ≡ drop (i + 1) old ++ cut_by meet by (take i old))
   next = turn old items rest (cut_by meet by (take i old)) i x l is leaves
 
@@ -29,15 +33,20 @@ module _ {M K : Type 0} (meet : K → K → Option K) (by : K) (old items rest :
   more = ap (cut_by meet by) (take_turn old i x l next.0) ∙ cut-append meet by (take i old) (x ∷ [])
 
   -- a message that stays
-  pub keep_kept : (v : K) → meet x.1 by ≡ Some v → rest ++ (x.0, v) ∷ [] ≡ drop (i + 1) old ++ cut_by meet by (take (i + 1) old)
+  pub keep_kept : (v : K) → meet x.1 by ≡ Some v
+      → rest ++ (x.0, v) ∷ [] ≡ drop (i + 1) old ++ cut_by meet by (take (i + 1) old)
   keep_kept v e =
-      let all : cut_by meet by (take (i + 1) old) ≡ cut_by meet by (take i old) ++ (x.0, v) ∷ [] = more ∙ ap (λ t. cut_by meet by (take i old) ++ t) (cut_kept meet by x v [] e) in
-      ap (λ t. t ++ (x.0, v) ∷ []) next.1 ∙ append_assoc (drop (i + 1) old) (cut_by meet by (take i old)) ((x.0, v) ∷ []) ∙ ap (λ t. drop (i + 1) old ++ t) (sym all)
+      let all : cut_by meet by (take (i + 1) old) ≡ cut_by meet by (take i old) ++ (x.0, v) ∷ [] =
+      more ∙ ap (λ t. cut_by meet by (take i old) ++ t) (cut_kept meet by x v [] e) in
+      ap (λ t. t ++ (x.0, v) ∷ []) next.1 ∙ append_assoc (drop (i + 1) old) (cut_by meet by (take i old))
+      ((x.0, v) ∷ []) ∙ ap (λ t. drop (i + 1) old ++ t) (sym all)
 
   -- and one that goes
   pub keep_dropped : meet x.1 by ≡ None → rest ≡ drop (i + 1) old ++ cut_by meet by (take (i + 1) old)
   keep_dropped e =
-      let all : cut_by meet by (take (i + 1) old) ≡ cut_by meet by (take i old) = more ∙ ap (λ t. cut_by meet by (take i old) ++ t) (cut_dropped meet by x [] e) ∙ append-nil (cut_by meet by (take i old)) in
+      let all : cut_by meet by (take (i + 1) old) ≡ cut_by meet by (take i old) =
+      more ∙ ap (λ t. cut_by meet by (take i old) ++ t) (cut_dropped meet by x [] e)
+      ∙ append-nil (cut_by meet by (take i old)) in
       next.1 ∙ ap (λ t. drop (i + 1) old ++ t) (sym all)
 
 module _ {M K : Type 0} (meet : K → K → Option K) (by : K) (old : List (List (M × K))) where
@@ -48,13 +57,16 @@ module _ {M K : Type 0} (meet : K → K → Option K) (by : K) (old : List (List
     pub kept : of_blocks done ≡ cut_by meet by (of_blocks (take n old))
     pub filled : AreFilled done
 
-  module _ (items rest : List (List (M × K))) (i : ℕ) (b : List (M × K)) (l : i < length old) (turned : Turned items i) (leaves : items ≡ b ∷ rest) where
+  module _ (items rest : List (List (M × K))) (i : ℕ) (b : List (M × K)) (l : i < length old)
+      (turned : Turned items i) (leaves : items ≡ b ∷ rest) where
     next_block : (b ≡ get_or old i b) × (rest ≡ drop (i + 1) old ++ turned.done)
     next_block = turn old items rest turned.done i b l turned.items leaves
 
     more_blocks : cut_by meet by (of_blocks (take (i + 1) old)) ≡ of_blocks turned.done ++ cut_by meet by b
     more_blocks =
-        ap (λ bs. cut_by meet by (of_blocks bs)) (take_turn old i b l next_block.0) ∙ ap (cut_by meet by) (of_blocks-append (take i old) (b ∷ []) ∙ ap (λ t. of_blocks (take i old) ++ t) (append-nil b))
+        ap (λ bs. cut_by meet by (of_blocks bs)) (take_turn old i b l next_block.0)
+        ∙ ap (cut_by meet by) (of_blocks-append (take i old) (b ∷ []) ∙ ap (λ t. of_blocks (take i old) ++ t)
+        (append-nil b))
         ∙ cut-append meet by (of_blocks (take i old)) b ∙ ap (λ t. t ++ cut_by meet by b) (sym turned.kept)
 
     -- a block of which some messages stay
@@ -65,8 +77,10 @@ module _ {M K : Type 0} (meet : K → K → Option K) (by : K) (old : List (List
         let short = length_cut meet by b in
         record {
           done = turned.done ++ cut_by meet by b ∷ [];
-          items = ap (λ t. t ++ cut_by meet by b ∷ []) next_block.1 ∙ append_assoc (drop (i + 1) old) turned.done (cut_by meet by b ∷ []);
-          kept = of_blocks-append turned.done (cut_by meet by b ∷ []) ∙ ap (λ t. of_blocks turned.done ++ t) (append-nil (cut_by meet by b)) ∙ sym more_blocks;
+          items = ap (λ t. t ++ cut_by meet by b ∷ []) next_block.1 ∙ append_assoc (drop (i + 1) old) turned.done
+              (cut_by meet by b ∷ []);
+          kept = of_blocks-append turned.done (cut_by meet by b ∷ []) ∙ ap (λ t. of_blocks turned.done ++ t)
+              (append-nil (cut_by meet by b)) ∙ sym more_blocks;
           filled = all_both _ turned.done (cut_by meet by b ∷ []) turned.filled ((some, omega arith), tt);
         }
 
@@ -75,21 +89,27 @@ module _ {M K : Type 0} (meet : K → K → Option K) (by : K) (old : List (List
     block_dropped none = record {
       done = turned.done;
       items = next_block.1;
-      kept = sym (more_blocks ∙ ap (λ t. of_blocks turned.done ++ t) (nil_from_length (cut_by meet by b) none) ∙ append-nil (of_blocks turned.done));
+      kept = sym (more_blocks ∙ ap (λ t. of_blocks turned.done ++ t) (nil_from_length (cut_by meet by b) none)
+          ∙ append-nil (of_blocks turned.done));
       filled = turned.filled;
     }
 
 module _ {M K : Type 0} (meet : K → K → Option K) (by : K) where
   -- what is cut so far, and one block more
-  pub cut_more : (so_far now : List (M × K)) (b cut : List (M × K)) (rest rest' : List (List (M × K))) (all : List (M × K)) → now ≡ so_far ++ cut → cut ≡ cut_by meet by b → rest ≡ b ∷ rest' →
+  pub cut_more : (so_far now : List (M × K)) (b cut : List (M × K)) (rest rest' : List (List (M × K)))
+      (all : List (M × K)) → now ≡ so_far ++ cut → cut ≡ cut_by meet by b → rest ≡ b ∷ rest' →
       so_far ++ cut_by meet by (of_blocks rest) ≡ all → now ++ cut_by meet by (of_blocks rest') ≡ all
   cut_more so_far now b cut rest rest' all is of_b next e =
-      ap (λ t. t ++ cut_by meet by (of_blocks rest')) (is ∙ ap (λ t. so_far ++ t) of_b) ∙ append_assoc so_far (cut_by meet by b) (cut_by meet by (of_blocks rest'))
-      ∙ ap (λ t. so_far ++ t) (sym (cut-append meet by b (of_blocks rest'))) ∙ ap (λ bs. so_far ++ cut_by meet by (of_blocks bs)) (sym next) ∙ e
+      ap (λ t. t ++ cut_by meet by (of_blocks rest')) (is ∙ ap (λ t. so_far ++ t) of_b)
+      ∙ append_assoc so_far (cut_by meet by b) (cut_by meet by (of_blocks rest'))
+      ∙ ap (λ t. so_far ++ t) (sym (cut-append meet by b (of_blocks rest')))
+      ∙ ap (λ bs. so_far ++ cut_by meet by (of_blocks bs)) (sym next) ∙ e
 
   -- at the end all is cut
-  pub cut_end : (so_far : List (M × K)) (rest : List (List (M × K))) (all : List (M × K)) → length rest ≡ 0 → so_far ++ cut_by meet by (of_blocks rest) ≡ all → so_far ≡ all
-  cut_end so_far rest all none e = sym (append-nil so_far) ∙ ap (λ bs. so_far ++ cut_by meet by (of_blocks bs)) (sym (nil_from_length rest none)) ∙ e
+  pub cut_end : (so_far : List (M × K)) (rest : List (List (M × K))) (all : List (M × K)) → length rest ≡ 0
+      → so_far ++ cut_by meet by (of_blocks rest) ≡ all → so_far ≡ all
+  cut_end so_far rest all none e = sym (append-nil so_far) ∙ ap (λ bs. so_far ++ cut_by meet by (of_blocks bs))
+      (sym (nil_from_length rest none)) ∙ e
 
 -- whether a list is empty
 pub empty_if : {X : Type 0} (xs : List X) → true ≡ (length xs == 0) → xs ≡ []
@@ -100,8 +120,10 @@ filled_if xs e = let some = eqb-false (length xs) 0 (sym e) in omega arith
 
 module _ {M K : Type 0} (join : K → K → K) (meet : K → K → Option K) (by more : K) where
   -- marks that are spread, where they meet and where they don't
-  pub spread_met : (x : M × K) (k : K) (r : Option K) → r ≡ meet x.1 by → is_some r ≡ true → k ≡ join x.1 more → ◌≡◌ {A = M × K} (x.0, k) (x.0, if is_some (meet x.1 by) then join x.1 more else x.1)
+  pub spread_met : (x : M × K) (k : K) (r : Option K) → r ≡ meet x.1 by → is_some r ≡ true → k ≡ join x.1 more
+      → ◌≡◌ {A = M × K} (x.0, k) (x.0, if is_some (meet x.1 by) then join x.1 more else x.1)
   spread_met x k r e s is = let yes : is_some (meet x.1 by) ≡ true = ap is_some (sym e) ∙ s in rw (yes, is) refl
 
-  pub spread_apart : (x : M × K) (r : Option K) → r ≡ meet x.1 by → is_some r ≡ false → ◌≡◌ {A = M × K} x (x.0, if is_some (meet x.1 by) then join x.1 more else x.1)
+  pub spread_apart : (x : M × K) (r : Option K) → r ≡ meet x.1 by → is_some r ≡ false
+      → ◌≡◌ {A = M × K} x (x.0, if is_some (meet x.1 by) then join x.1 more else x.1)
   spread_apart x r e s = let no : is_some (meet x.1 by) ≡ false = ap is_some (sym e) ∙ s in rw no refl

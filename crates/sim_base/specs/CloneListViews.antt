@@ -1,5 +1,6 @@
 -- How the decision lists of the clones are kept in memory.
-use Rattle.std.specs.Prelude.{◌≡◌, ℕ, ◌+◌, ◌^◌, ◌<◌, ◌≤◌, List, [], ◌∷◌, ◌++◌, length, map, false, AllPairs, Option, Some, None, slice_get, slice_set, unwrap_or, codes}
+use Rattle.std.specs.Prelude.{◌≡◌, ℕ, ◌+◌, ◌^◌, ◌<◌, ◌≤◌, List, [], ◌∷◌, ◌++◌, length}
+use Rattle.std.specs.Prelude.{map, false, AllPairs, Option, Some, None, slice_get, slice_set, unwrap_or, codes}
 use Rattle.std.specs.List.{AllByRecursion}
 use Rattle.std.specs.Str.{bytes_eq}
 use Rattle.sim_base.specs.declared.decision.Planned.{Planned}
@@ -17,7 +18,8 @@ abbrev pub clone_of : CloneListView → Clone
 clone_of k = record { name = k.name; plans = k.plans.items; end = k.end }
 
 -- so many decisions are reserved in each list, and a spare list for each fork up to so many clones
-pub record AreReserved (lists : List CloneListView) (reserved_clones : ℕ) (spare : ReservedView (ReservedView Planned)) (reserved_plans : ℕ) : Type 0 where
+pub record AreReserved (lists : List CloneListView) (reserved_clones : ℕ)
+    (spare : ReservedView (ReservedView Planned)) (reserved_plans : ℕ) : Type 0 where
   pub plans : AllByRecursion (λ k. reserved_plans ≤ k.plans.reserved) lists
   pub spare_plans : AllByRecursion (λ s. (s.items ≡ []) × (reserved_plans ≤ s.reserved)) spare.items
   pub clones : reserved_clones ≤ length lists + length spare.items
@@ -46,7 +48,8 @@ base_list reserved = record { name = codes "base"; plans = record { items = []; 
 
 -- a fork of the old clone with so many decisions reserved
 abbrev pub list_fork : List CloneListView → List ℕ → ℕ → ℕ → CloneListView
-list_fork lists new old reserved = record { name = new; plans = record { items = (list_at lists old).plans.items; reserved = reserved }; end = None }
+list_fork lists new old reserved =
+    record { name = new; plans = record { items = (list_at lists old).plans.items; reserved = reserved }; end = None }
 
 -- a list with one decision more
 abbrev pub list_with_plan : CloneListView → Planned → CloneListView

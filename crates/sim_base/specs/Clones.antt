@@ -1,5 +1,6 @@
 -- The decision lists of the clones. A clone is one branch of the simulation.
-use Rattle.std.specs.Prelude.{ℕ, List, [], ◌∷◌, ◌++◌, Option, Some, None, slice_get, slice_set, unwrap_or, position, codes}
+use Rattle.std.specs.Prelude.{ℕ, List, [], ◌∷◌, ◌++◌, Option, Some}
+use Rattle.std.specs.Prelude.{None, slice_get, slice_set, unwrap_or, position, codes}
 use Rattle.std.specs.Str.{bytes_eq}
 use Rattle.sim_base.specs.declared.decision.Planned.{Planned}
 

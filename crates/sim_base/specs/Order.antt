@@ -12,10 +12,12 @@ use Rattle.sim_base.specs.declared.message.Payload.{Payload}
 use Rattle.sim_base.specs.declared.message.Payload.TheVariants.{Tick, Job, Done, Set}
 
 abbrev pub key_cmp : Key → Key → Ordering
-key_cmp a b = ordering_then (nat_cmp a.time b.time) (ordering_then (nat_cmp a.sender b.sender) (nat_cmp a.number b.number))
+key_cmp a b = ordering_then (nat_cmp a.time b.time)
+    (ordering_then (nat_cmp a.sender b.sender) (nat_cmp a.number b.number))
 
 abbrev pub job_cmp : JobOf → JobOf → Ordering
-job_cmp a b = ordering_then (nat_cmp a.source b.source) (ordering_then (nat_cmp a.count b.count) (nat_cmp a.born b.born))
+job_cmp a b = ordering_then (nat_cmp a.source b.source)
+    (ordering_then (nat_cmp a.count b.count) (nat_cmp a.born b.born))
 
 abbrev pub param_index : Param → ℕ
 param_index Every = 0
@@ -26,7 +28,8 @@ param_index Room = 4
 param_index Weight = 5
 
 abbrev pub change_cmp : Change → Change → Ordering
-change_cmp a b = ordering_then (nat_cmp (param_index a.param) (param_index b.param)) (ordering_then (nat_cmp a.a b.a) (nat_cmp a.b b.b))
+change_cmp a b = ordering_then (nat_cmp (param_index a.param) (param_index b.param))
+    (ordering_then (nat_cmp a.a b.a) (nat_cmp a.b b.b))
 
 abbrev pub payload_index : Payload → ℕ
 payload_index Tick = 0

@@ -11,7 +11,8 @@ use Rattle.sim_base.specs.declared.entry.Line.TheVariants.{Source, Server, Passe
 -- the same counts
 abbrev pub same_line : Line → Line → Bool
 same_line (Source sent) (Source sent') = sent == sent'
-same_line (Server busy wait done lost) (Server busy' wait' done' lost') = (busy == busy' && wait == wait') && (done == done' && lost == lost')
+same_line (Server busy wait done lost) (Server busy' wait' done' lost') =
+    (busy == busy' && wait == wait') && (done == done' && lost == lost')
 same_line (Passed passed) (Passed passed') = passed == passed'
 same_line (Sink got stay) (Sink got' stay') = got == got' && stay == stay'
 same_line _ _ = false

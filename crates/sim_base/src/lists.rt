@@ -1,8 +1,10 @@
 //! The decision lists of the clones.
-ghost use Rattle.std.specs.Prelude.{◌≡◌, ◌++◌, ◌∷◌, [], ◌<◌, ◌≤◌, length, map, OnOk, OnErr, IfOk, IsOk, vec_len, vec_capacity, codes, position};
+ghost use Rattle.std.specs.Prelude.{◌≡◌, ◌++◌, ◌∷◌, [], ◌<◌, ◌≤◌, length, map};
+ghost use Rattle.std.specs.Prelude.{OnOk, OnErr, IfOk, IsOk, vec_len, vec_capacity, codes, position};
 ghost use Rattle.std.specs.List.{AllByRecursion};
 ghost use Rattle.std.specs.Str.{bytes_eq};
-ghost use Rattle.sim_base.specs.CloneListViews.{clone_of, list_at, base_list, list_fork, lists_with_plan, lists_with_end};
+ghost use Rattle.sim_base.specs.CloneListViews.{clone_of, list_at, base_list};
+ghost use Rattle.sim_base.specs.CloneListViews.{list_fork, lists_with_plan, lists_with_end};
 
 use crate::decision::Planned;
 use crate::memory::NoMemory;
@@ -60,7 +62,8 @@ impl Model for Lists {
 }
 
 impl Lists {
-    ghost use Rattle.std.specs.Prelude.{◌≡◌, ◌∷◌, [], ◌+◌, ◌^◌, ◌<◌, ◌≤◌, length, OnOk, OnErr, IfOk, IsOk, None, Some, IfSome};
+    ghost use Rattle.std.specs.Prelude.{◌≡◌, ◌∷◌, [], ◌+◌, ◌^◌, ◌<◌, ◌≤◌, length};
+    ghost use Rattle.std.specs.Prelude.{OnOk, OnErr, IfOk, IsOk, None, Some, IfSome};
     ghost use Rattle.sim_base.specs.Clones.{forked, added, ended, clone_at, place_of, base};
 
     /// The base clone alone, with no memory reserved.

@@ -1,5 +1,6 @@
 //! Names.
-ghost use Rattle.std.specs.Prelude.{◌≡◌, ℕ, ◌<◌, ◌≤◌, List, length, take, IsTrue, MatchOption, Bool, true, false, position};
+ghost use Rattle.std.specs.Prelude.{◌≡◌, ℕ, ◌<◌, ◌≤◌, List, length, take};
+ghost use Rattle.std.specs.Prelude.{IsTrue, MatchOption, Bool, true, false, position};
 ghost use Rattle.std.specs.List.{list_all};
 ghost use Rattle.std.specs.Str.{bytes_eq};
 ghost use Rattle.sim_base.specs.Names.{is_name, is_lower, is_name_byte};
@@ -63,7 +64,8 @@ fn all_may_follow(rest: &[u8]) -> bool
 impl Name {
     /// The name that the bytes are.
     pub fn read(text: &[u8]) -> Option<Name>
-        ensures value { MatchOption result (is_name text.now ≡ false) (λ n. (n ≡ text.now) × (is_name text.now ≡ true)) }
+        ensures value { MatchOption result (is_name text.now ≡ false)
+            (λ n. (n ≡ text.now) × (is_name text.now ≡ true)) }
     {
         if !are_name(text) {
             return None;

@@ -4,7 +4,8 @@
 //! never looked for; in a long list an insert halves over the blocks and then within one, and moves at most 64 messages:
 //!
 //!     first [3 5 8 ..]   later [21 22 25 ..] [40 41 ..] ..
-ghost use Rattle.std.specs.Prelude.{◌≡◌, ◌<◌, ◌≤◌, ◌==◌, Option, List, [], ◌∷◌, ◌++◌, length, OnOk, OnErr, IfOk, IfNone, IfSome, Some, None, slice_get};
+ghost use Rattle.std.specs.Prelude.{◌≡◌, ◌<◌, ◌≤◌, ◌==◌, Option, List, [], ◌∷◌, ◌++◌};
+ghost use Rattle.std.specs.Prelude.{length, OnOk, OnErr, IfOk, IfNone, IfSome, Some, None, slice_get};
 ghost use Rattle.sim_base.specs.Pending.{insert_marked, spread_marks, cut_by, first_time, NothingBefore};
 ghost use Rattle.sim_base.specs.Order.{msg_cmp};
 ghost use Rattle.sim_base.specs.Marked.{SortedMarked};

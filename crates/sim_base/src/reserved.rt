@@ -1,5 +1,6 @@
 //! Lists with reserved memory: a push within what is reserved takes no more memory.
-ghost use Rattle.std.specs.Prelude.{◌≡◌, ◌++◌, ◌∷◌, [], ◌<◌, ◌≤◌, ◌+◌, length, IsTrue, OnOk, OnErr, IfOk, IsOk, IfSome, IfNone, ◌↔◌};
+ghost use Rattle.std.specs.Prelude.{◌≡◌, ◌++◌, ◌∷◌, [], ◌<◌, ◌≤◌, ◌+◌, length};
+ghost use Rattle.std.specs.Prelude.{IsTrue, OnOk, OnErr, IfOk, IsOk, IfSome, IfNone, ◌↔◌};
 
 use crate::memory::NoMemory;
 use std::alloc::Global;

@@ -1,5 +1,6 @@
 -- Sums of weights.
-use Rattle.std.proofs.Common.{◌≡◌, ℕ, suc, ◌+◌, ◌-◌, ◌<◌, ◌≤◌, Bool, true, false, if◌then◌else◌, nat_lt, ltb-true, List, [], ◌∷◌, length, refl, arith}
+use Rattle.std.proofs.Common.{◌≡◌, ℕ, suc, ◌+◌, ◌-◌, ◌<◌, ◌≤◌, Bool, true, false}
+use Rattle.std.proofs.Common.{if◌then◌else◌, nat_lt, ltb-true, List, [], ◌∷◌, length, refl, arith}
 use Rattle.std.specs.Prelude.{sum, take}
 use Rattle.std.proofs.lemmas.Bool.{ltb-false}
 use Rattle.std.proofs.lemmas.List.Sums.{sum_by-cons}
@@ -28,7 +29,8 @@ pub index_of-first : (ws : List ℕ) (x : ℕ) → x < sum ws → IsFirstAbove w
 index_of-first [] x below = absurd (omega arith)
 index_of-first (w ∷ ws) x below = by (nat_lt x w) refl (index_of-first ws (x - w))
   where
-    by : (b : Bool) → nat_lt x w ≡ b → (x - w < sum ws → IsFirstAbove ws (x - w) (index_of ws (x - w))) → IsFirstAbove (w ∷ ws) x (if b then 0 else 1 + index_of ws (x - w))
+    by : (b : Bool) → nat_lt x w ≡ b → (x - w < sum ws → IsFirstAbove ws (x - w) (index_of ws (x - w)))
+        → IsFirstAbove (w ∷ ws) x (if b then 0 else 1 + index_of ws (x - w))
     by true here rest = here_first w ws x (ltb-true x w here)
     by false later rest =
         let reached = ltb-false x w later in

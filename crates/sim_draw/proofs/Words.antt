@@ -9,12 +9,15 @@ unfolding state_after
 state_after_next w m p zero s = refl
 state_after_next w m p (suc n) s = state_after_next w m p n (next_state w m p s)
 
-pub generator_next : (d : DrawsView) → next 64 multiplier_64 (generator d) ≡ generator (record d { count = d.count + 1 })
+pub generator_next : (d : DrawsView)
+    → next 64 multiplier_64 (generator d) ≡ generator (record d { count = d.count + 1 })
 unfolding generator
 generator_next d =
     let g = started 64 multiplier_64 d.seed (increment_of 64 d.stream) in
-    rw add-one (ap (λ (s : ℕ). let r : Lcg = record { state = s; increment = g.increment } in r) (state_after_next 64 multiplier_64 g.increment d.count g.state))
+    rw add-one (ap (λ (s : ℕ). let r : Lcg = record { state = s; increment = g.increment } in r)
+    (state_after_next 64 multiplier_64 g.increment d.count g.state))
 
-pub generator_new : (seed stream : ℕ) → started 64 multiplier_64 seed (increment_of 64 stream) ≡ generator (record { seed = seed; stream = stream; count = 0 })
+pub generator_new : (seed stream : ℕ) → started 64 multiplier_64 seed (increment_of 64 stream) ≡ generator
+    (record { seed = seed; stream = stream; count = 0 })
 unfolding generator state_after
 generator_new seed stream = refl

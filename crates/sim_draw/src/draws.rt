@@ -1,7 +1,8 @@
 //! Seeded draws.
 ghost use Rattle.std.specs.Prelude.{◌≡◌, ℕ, ◌+◌, ◌-◌, ◌%◌, ◌^◌, ◌<◌, ◌≤◌, List, length, sum};
 ghost use Rattle.std.specs.List.{AllByRecursion};
-ghost use Rattle.sim_draw.specs.Drawing.{DrawsView, drawn_one, range_of, next_of, pick_of, index_of, drawn_by, IsFirstAbove};
+ghost use Rattle.sim_draw.specs.Drawing.{DrawsView, drawn_one, range_of, next_of};
+ghost use Rattle.sim_draw.specs.Drawing.{pick_of, index_of, drawn_by, IsFirstAbove};
 
 use rand_core::utils::NextWord;
 use rand_pcg::Lcg64Xsh32;

@@ -9,4 +9,5 @@ use Rattle.std.specs.declared.option.Option.{Option}
 pub Appends-more : (a b c : Option (List ℕ)) (piece : List ℕ) (done n : ℕ) → Appends a b (take done piece)
     → Appends b c (take n (take (length piece - done) (drop done piece))) → Appends a c (take (done + n) piece)
 Appends-more a b c piece done n prefix more =
-    subst (Appends a c) (sym (take-add done n piece)) (Appends-trans a b c _ _ prefix (subst (λ l. Appends b c (take n l)) (take_rest piece done) more))
+    subst (Appends a c) (sym (take-add done n piece))
+    (Appends-trans a b c _ _ prefix (subst (λ l. Appends b c (take n l)) (take_rest piece done) more))

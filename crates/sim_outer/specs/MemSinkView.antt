@@ -1,5 +1,6 @@
 -- Bytes held in memory.
-use Rattle.std.specs.Prelude.{ℕ, ◌-◌, ◌&&◌, ◌++◌, ◌==◌, Bool, List, find, length, min, nat_le, take, Option, is_none, unwrap_or, if◌then◌else◌}
+use Rattle.std.specs.Prelude.{ℕ, ◌-◌, ◌&&◌, ◌++◌, ◌==◌, Bool, List, find}
+use Rattle.std.specs.Prelude.{length, min, nat_le, take, Option, is_none, unwrap_or, if◌then◌else◌}
 use Rattle.std.specs.Option.{option_map}
 use Rattle.sim_outer.specs.Causes.{next_count}
 

@@ -1,5 +1,6 @@
 //! Sinks in memory.
-ghost use Rattle.std.specs.Prelude.{◌≡◌, ◌≤◌, ◌↔◌, ◌&&◌, [], true, min, nat_le, length, is_none, unwrap_or, Some, OnOk, OnErr, IfOk, IsOk};
+ghost use Rattle.std.specs.Prelude.{◌≡◌, ◌≤◌, ◌↔◌, ◌&&◌, [], true, min, nat_le};
+ghost use Rattle.std.specs.Prelude.{length, is_none, unwrap_or, Some, OnOk, OnErr, IfOk, IsOk};
 ghost use Rattle.sim_outer.specs.Bytes.{Appended, PartAppended};
 ghost use Rattle.sim_outer.specs.Causes.{Counted, Rose};
 ghost use Rattle.sim_outer.specs.MemSinkView.{stop_of, next_is_whole, after_put};

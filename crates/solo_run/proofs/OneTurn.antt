@@ -1,5 +1,7 @@
 -- What one turn of a one-thread run does.
-use Rattle.std.proofs.Common.{◌≡◌, inl, inr, ℕ, zero, suc, ◌+◌, ◌*◌, ◌-◌, ◌<◌, ◌≤◌, ◌^◌, cond, Bool, true, false, refl, ap, sym, subst, ◌∙◌, List, [], ◌∷◌, ◌++◌, length, length-append, append-nil, Some, None, slice_get, slice_set, unwrap_or, nat_le, arith}
+use Rattle.std.proofs.Common.{◌≡◌, inl, inr, ℕ, zero, suc, ◌+◌, ◌*◌, ◌-◌, ◌<◌, ◌≤◌, ◌^◌, cond, Bool, true, false, refl}
+use Rattle.std.proofs.Common.{ap, sym, subst, ◌∙◌, List, [], ◌∷◌, ◌++◌, length, length-append, append-nil, Some, None}
+use Rattle.std.proofs.Common.{slice_get, slice_set, unwrap_or, nat_le, arith}
 use Rattle.std.proofs.Math.Nat.{suc-mul}
 use Rattle.std.proofs.Math.Path.{fun_ext}
 use Rattle.std.specs.List.{AllByRecursion, sum_by}
@@ -25,7 +27,8 @@ use Rattle.stations.specs.Sends.{AreSends}
 use Rattle.stations.proofs.Lawful.{handles-well}
 use Rattle.stations.proofs.GoodLaws.{lawful-stations}
 use Rattle.solo_run.specs.Limit.{receiver, first_beyond}
-use Rattle.solo_run.specs.SoloView.{SoloView, IsSolo, IsStateAfter, IsForStation, config_of, messages_of, state_of, with_due}
+use Rattle.solo_run.specs.SoloView.{SoloView, IsSolo, IsStateAfter, IsForStation}
+use Rattle.solo_run.specs.SoloView.{config_of, messages_of, state_of, with_due}
 use Rattle.solo_run.specs.Turns.{HandlesAt, Turned, step_of}
 
 get_set_here : {X : Type 0} (xs : List X) (i : ℕ) (y : X) → i < length xs → slice_get (slice_set xs i y) i ≡ Some y
@@ -33,7 +36,8 @@ get_set_here [] i y below = absurd (omega arith)
 get_set_here (x ∷ xs) zero y below = refl
 get_set_here (x ∷ xs) (suc i) y below = get_set_here xs i y (omega arith)
 
-get_set_other : {X : Type 0} (xs : List X) (i j : ℕ) (y : X) → (j ≡ i → ⊥) → slice_get (slice_set xs i y) j ≡ slice_get xs j
+get_set_other : {X : Type 0} (xs : List X) (i j : ℕ) (y : X) → (j ≡ i → ⊥)
+    → slice_get (slice_set xs i y) j ≡ slice_get xs j
 get_set_other [] i j y other = refl
 get_set_other (x ∷ xs) zero zero y other = absurd (other refl)
 get_set_other (x ∷ xs) zero (suc j) y other = refl
@@ -41,15 +45,18 @@ get_set_other (x ∷ xs) (suc i) zero y other = refl
 get_set_other (x ∷ xs) (suc i) (suc j) y other = get_set_other xs i j y (λ e. other (ap suc e))
 
 -- a sum with one element changed
-sum_set : {X : Type 0} (f : X → ℕ) (xs : List X) (i : ℕ) (x y : X) → slice_get xs i ≡ Some x → sum_by f (slice_set xs i y) + f x ≡ sum_by f xs + f y
+sum_set : {X : Type 0} (f : X → ℕ) (xs : List X) (i : ℕ) (x y : X) → slice_get xs i ≡ Some x
+    → sum_by f (slice_set xs i y) + f x ≡ sum_by f xs + f y
 sum_set f [] i x y is = absurd (cc)
 sum_set f (z ∷ xs) zero x y is =
     let same : z ≡ x = cc in
     omega (arith, sum_by-cons f y xs, sum_by-cons f z xs, ap f same)
-sum_set f (z ∷ xs) (suc i) x y is = omega (arith, sum_by-cons f z (slice_set xs i y), sum_by-cons f z xs, sum_set f xs i x y is)
+sum_set f (z ∷ xs) (suc i) x y is =
+    omega (arith, sum_by-cons f z (slice_set xs i y), sum_by-cons f z xs, sum_set f xs i x y is)
 
 -- a sum of numbers that are at most n
-pub sum_most : {X : Type 0} (f : X → ℕ) (n : ℕ) (xs : List X) → ((i : ℕ) (x : X) → slice_get xs i ≡ Some x → f x ≤ n) → sum_by f xs ≤ length xs * n
+pub sum_most : {X : Type 0} (f : X → ℕ) (n : ℕ) (xs : List X) → ((i : ℕ) (x : X) → slice_get xs i ≡ Some x → f x ≤ n)
+    → sum_by f xs ≤ length xs * n
 sum_most f n [] most = omega arith
 sum_most f n (x ∷ xs) most =
     let first = most 0 x refl in
@@ -58,11 +65,15 @@ sum_most f n (x ∷ xs) most =
     omega (arith, sum_by-cons f x xs, first, rest, whole)
 
 -- the states of the numbers, where one changes
-state_put : (net : Net) (states : List StateView) (i : ℕ) (st : StateView) → i < length states → (s : ℕ) → state_of net (slice_set states i st) s ≡ put (state_of net states) (suc i) st s
-state_put net states i st there zero = sym (put_other (state_of net states) (suc i) st zero (λ e. absurd (omega (arith, e))))
+state_put : (net : Net) (states : List StateView) (i : ℕ) (st : StateView) → i < length states → (s : ℕ)
+    → state_of net (slice_set states i st) s ≡ put (state_of net states) (suc i) st s
+state_put net states i st there zero =
+    sym (put_other (state_of net states) (suc i) st zero (λ e. absurd (omega (arith, e))))
 state_put net states i st there (suc j) = elim (cases_eq j i) [
-  | inl e ↦ ap (λ o. unwrap_or o (setup net (suc j)).state) (ap (λ k. slice_get (slice_set states i st) k) e ∙ get_set_here states i st there) ∙ sym (put_same (state_of net states) (suc i) st (suc j) (ap suc e))
-  | inr n ↦ ap (λ o. unwrap_or o (setup net (suc j)).state) (get_set_other states i j st n) ∙ sym (put_other (state_of net states) (suc i) st (suc j) (λ e. n (omega (arith, e))))
+  | inl e ↦ ap (λ o. unwrap_or o (setup net (suc j)).state) (ap (λ k. slice_get (slice_set states i st) k) e
+      ∙ get_set_here states i st there) ∙ sym (put_same (state_of net states) (suc i) st (suc j) (ap suc e))
+  | inr n ↦ ap (λ o. unwrap_or o (setup net (suc j)).state) (get_set_other states i j st n)
+      ∙ sym (put_other (state_of net states) (suc i) st (suc j) (λ e. n (omega (arith, e))))
 ]
 
 if_true : {A : Type 0} (b : Bool) (x y : A) → b ≡ true → cond b x y ≡ x
@@ -75,22 +86,30 @@ if_false false x y is = refl
 
 module _ (limit : ℕ) where
   -- an entry whose log is full before it
-  pub beyond_here : (seen : List (Entry Msg Line)) (e : Entry Msg Line) (es : List (Entry Msg Line)) → limit ≤ length (log_of receiver e.msg.to seen) → first_beyond limit seen (e ∷ es) ≡ Some e.msg.to
-  beyond_here seen e es full = if_true (nat_le limit (length (log_of receiver e.msg.to seen))) (Some e.msg.to) (first_beyond limit (seen ++ e ∷ []) es) (le-leb limit (length (log_of receiver e.msg.to seen)) full)
+  pub beyond_here : (seen : List (Entry Msg Line)) (e : Entry Msg Line) (es : List (Entry Msg Line))
+      → limit ≤ length (log_of receiver e.msg.to seen) → first_beyond limit seen (e ∷ es) ≡ Some e.msg.to
+  beyond_here seen e es full = if_true (nat_le limit (length (log_of receiver e.msg.to seen))) (Some e.msg.to)
+      (first_beyond limit (seen ++ e ∷ []) es) (le-leb limit (length (log_of receiver e.msg.to seen)) full)
 
-  beyond_later : (seen : List (Entry Msg Line)) (e : Entry Msg Line) (es : List (Entry Msg Line)) → length (log_of receiver e.msg.to seen) < limit → first_beyond limit seen (e ∷ es) ≡ first_beyond limit (seen ++ e ∷ []) es
-  beyond_later seen e es below = if_false (nat_le limit (length (log_of receiver e.msg.to seen))) (Some e.msg.to) (first_beyond limit (seen ++ e ∷ []) es) (lt-leb limit (length (log_of receiver e.msg.to seen)) below)
+  beyond_later : (seen : List (Entry Msg Line)) (e : Entry Msg Line) (es : List (Entry Msg Line))
+      → length (log_of receiver e.msg.to seen) < limit
+      → first_beyond limit seen (e ∷ es) ≡ first_beyond limit (seen ++ e ∷ []) es
+  beyond_later seen e es below = if_false (nat_le limit (length (log_of receiver e.msg.to seen))) (Some e.msg.to)
+      (first_beyond limit (seen ++ e ∷ []) es) (lt-leb limit (length (log_of receiver e.msg.to seen)) below)
 
   -- where nothing went beyond the limit, it is for what follows to go beyond
-  pub beyond_append : (seen es more : List (Entry Msg Line)) → first_beyond limit seen es ≡ None → first_beyond limit seen (es ++ more) ≡ first_beyond limit (seen ++ es) more
+  pub beyond_append : (seen es more : List (Entry Msg Line)) → first_beyond limit seen es ≡ None
+      → first_beyond limit seen (es ++ more) ≡ first_beyond limit (seen ++ es) more
   beyond_append seen [] more none = ap (λ t. first_beyond limit t more) (sym (append-nil seen))
   beyond_append seen (e ∷ es) more none = elim (cases_lt (length (log_of receiver e.msg.to seen)) limit) [
     | inr full ↦ absurd (let h = sym (beyond_here seen e es full) ∙ none in cc)
-    | inl below ↦ beyond_later seen e (es ++ more) below ∙ beyond_append (seen ++ e ∷ []) es more (sym (beyond_later seen e es below) ∙ none)
+    | inl below ↦ beyond_later seen e (es ++ more) below ∙ beyond_append (seen ++ e ∷ []) es more
+        (sym (beyond_later seen e es below) ∙ none)
         ∙ ap (λ t. first_beyond limit t more) (append_assoc seen (e ∷ []) es)
   ]
 
-  pub beyond_none : (seen : List (Entry Msg Line)) (e : Entry Msg Line) → first_beyond limit [] seen ≡ None → length (log_of receiver e.msg.to seen) < limit → first_beyond limit [] (seen ++ e ∷ []) ≡ None
+  pub beyond_none : (seen : List (Entry Msg Line)) (e : Entry Msg Line) → first_beyond limit [] seen ≡ None
+      → length (log_of receiver e.msg.to seen) < limit → first_beyond limit [] (seen ++ e ∷ []) ≡ None
   beyond_none seen e none below = beyond_append [] seen (e ∷ []) none ∙ beyond_later seen e [] below
 
 -- what a station sends is for stations
@@ -98,7 +117,8 @@ sends_for : (net : Net) (now s k : ℕ) (ms : List Msg) → AreSends net now s k
 sends_for net now s k [] are = tt
 sends_for net now s k (m ∷ ms) are = ((are.0.first, are.0.last), sends_for net now s (suc k) ms are.1)
 
-module _ (net : Net) (valid : IsNet net) (v : SoloView) (m : Msg) (new : List StateView) (next : List (Msg × Unit {0})) (sends : List Msg) (line : Line)
+module _ (net : Net) (valid : IsNet net) (v : SoloView) (m : Msg) (new : List StateView)
+    (next : List (Msg × Unit {0})) (sends : List Msg) (line : Line)
     (early : m.key.time < 2 ^ 31)
     (solo : IsSolo net (with_due m v))
     (h : HandlesAt net (m.to - 1) m v.states new sends line) where
@@ -115,28 +135,49 @@ module _ (net : Net) (valid : IsNet net) (v : SoloView) (m : Msg) (new : List St
   within = slice_get_within v.states (m.to - 1) h.before h.is_there
 
   full_log : h.before.handled ≡ length (log_of receiver m.to v.trace)
-  full_log = old.log ∙ ap (λ k. length (log_of receiver k v.trace)) (let low : 1 ≤ m.to = solo.targets.0.0 in omega arith)
+  full_log = old.log ∙ ap (λ k. length (log_of receiver k v.trace)) (let low : 1 ≤ m.to = solo.targets.0.0 in
+      omega arith)
 
   config_is : messages_of next ≡ insert_all msg_cmp sends (messages_of v.pending)
-      → config_of net (record { states = new; pending = next; trace = v.trace ++ e ∷ [] }) ≡ after msg_cmp (step_of net) (config_of net (with_due m v)).at m (messages_of v.pending)
+      → config_of net (record { states = new; pending = next; trace = v.trace ++ e ∷ [] }) ≡ after msg_cmp
+      (step_of net) (config_of net (with_due m v)).at m (messages_of v.pending)
   config_is is =
-      let at : state_of net v.states m.to ≡ h.before = subst (λ k. state_of net v.states k ≡ h.before) number (ap (λ o. unwrap_or o (setup net (suc (m.to - 1))).state) h.is_there) in
+      let at : state_of net v.states m.to ≡ h.before =
+      subst (λ k. state_of net v.states k ≡ h.before) number
+      (ap (λ o. unwrap_or o (setup net (suc (m.to - 1))).state) h.is_there) in
       let gives = ap (λ st. handle net st m) at ∙ h.gives in
-      let one : state_of net new ≡ put (state_of net v.states) m.to h.after = subst (λ k. state_of net new ≡ put (state_of net v.states) k h.after) number (ap (state_of net) h.changed ∙ fun_ext (state_put net v.states (m.to - 1) h.after within)) in
+      let one : state_of net new ≡ put (state_of net v.states) m.to h.after =
+      subst (λ k. state_of net new ≡ put (state_of net v.states) k h.after) number
+      (ap (state_of net) h.changed ∙ fun_ext (state_put net v.states (m.to - 1) h.after within)) in
       let F : Handled StateView Msg Line → Config (World StateView Msg Line) Msg =
-      λ d. record { at = record { states = put (state_of net v.states) m.to d.state; trace = v.trace ++ record { msg = m; line = d.line } ∷ [] }; pending = insert_all msg_cmp d.sends (messages_of v.pending) } in
+      λ d. record {
+        at = record {
+          states = put (state_of net v.states) m.to d.state;
+          trace = v.trace ++ record { msg = m; line = d.line } ∷ [];
+        };
+        pending = insert_all msg_cmp d.sends
+            (messages_of v.pending);
+      } in
       ap (λ f. record { at = record { states = f; trace = v.trace ++ e ∷ [] }; pending = messages_of next }) one
-      ∙ ap (λ p. record { at = record { states = put (state_of net v.states) m.to h.after; trace = v.trace ++ e ∷ [] }; pending = p }) is
+      ∙ ap (λ p. record {
+        at = record {
+          states = put (state_of net v.states) m.to h.after;
+          trace = v.trace ++ e ∷ [];
+        };
+        pending = p;
+      }) is
       ∙ sym (ap F gives)
 
   states_after : (i : ℕ) (st : StateView) → slice_get new i ≡ Some st → IsStateAfter net (v.trace ++ e ∷ []) i st
   states_after i st is = elim (cases_eq i (m.to - 1)) [
     | inl here ↦
-        let at : slice_get new (m.to - 1) ≡ Some h.after = ap (λ t. slice_get t (m.to - 1)) h.changed ∙ get_set_here v.states (m.to - 1) h.after within in
+        let at : slice_get new (m.to - 1) ≡ Some h.after = ap (λ t. slice_get t (m.to - 1)) h.changed
+        ∙ get_set_here v.states (m.to - 1) h.after within in
         let same : st ≡ h.after = let k = sym is ∙ (ap (slice_get new) here ∙ at) in cc in
         let well = handles-well net h.before m valid old.fits old.suits early in
         let state = ap (λ d. d.state) h.gives in
-        let station : h.after.sender.station ≡ h.before.sender.station = ap (λ d. d.sender.station) (sym state) ∙ well.station in
+        let station : h.after.sender.station ≡ h.before.sender.station = ap (λ d. d.sender.station) (sym state)
+        ∙ well.station in
         let handled : h.after.handled ≡ h.before.handled + 1 = ap (λ d. d.handled) (sym state) ∙ well.handled in
         let place : m.to ≡ i + 1 = let low : 1 ≤ m.to = solo.targets.0.0 in omega (arith, here) in
         let log = ap (λ t. length t) (log_here receiver (i + 1) v.trace e place) in
@@ -152,22 +193,29 @@ module _ (net : Net) (valid : IsNet net) (v : SoloView) (m : Msg) (new : List St
           log = omega (arith, handled, log, more, count);
         }
     | inr other ↦
-        let at : slice_get v.states i ≡ Some st = sym (ap (λ t. slice_get t i) h.changed ∙ get_set_other v.states (m.to - 1) i h.after other) ∙ is in
+        let at : slice_get v.states i ≡ Some st =
+        sym (ap (λ t. slice_get t i) h.changed ∙ get_set_other v.states (m.to - 1) i h.after other) ∙ is in
         let was = solo.states i st at in
         record {
           fits = was.fits;
           suits = was.suits;
           station = was.station;
           within = was.within;
-          log = was.log ∙ ap (λ t. length t) (sym (log_there receiver (i + 1) v.trace e (λ k. other (let low : 1 ≤ m.to = solo.targets.0.0 in omega (arith, k)))));
+          log = was.log ∙ ap (λ t. length t)
+              (sym (log_there receiver (i + 1) v.trace e
+              (λ k. other (let low : 1 ≤ m.to = solo.targets.0.0 in omega (arith, k)))));
         }
   ]
 
-  pub solo_is : messages_of next ≡ insert_all msg_cmp sends (messages_of v.pending) → IsSolo net (record { states = new; pending = next; trace = v.trace ++ e ∷ [] })
+  pub solo_is : messages_of next ≡ insert_all msg_cmp sends (messages_of v.pending)
+      → IsSolo net (record { states = new; pending = next; trace = v.trace ++ e ∷ [] })
   solo_is is =
       let order = (lawful-stations net valid).order.order in
       let well = handles-well net h.before m valid old.fits old.suits early in
-      let are : AllByRecursion (IsForStation net) sends = subst (AllByRecursion (IsForStation net)) (ap (λ d. d.sends) h.gives) (sends_for net m.key.time h.before.sender.station h.before.sender.next (handle net h.before m).sends well.sends) in
+      let are : AllByRecursion (IsForStation net) sends =
+      subst (AllByRecursion (IsForStation net)) (ap (λ d. d.sends) h.gives)
+      (sends_for net m.key.time h.before.sender.station h.before.sender.next
+      (handle net h.before m).sends well.sends) in
       let state = ap (λ d. d.state) h.gives in
       let handled : h.after.handled ≡ h.before.handled + 1 = ap (λ d. d.handled) (sym state) ∙ well.handled in
       let sum = sum_set (λ st. st.handled) v.states (m.to - 1) h.before h.after h.is_there in
@@ -179,10 +227,12 @@ module _ (net : Net) (valid : IsNet net) (v : SoloView) (m : Msg) (new : List St
         count = ap (λ t. length t) h.changed ∙ (length-set v.states (m.to - 1) h.after ∙ solo.count);
         states = states_after;
         sorted = subst (Sorted msg_cmp) (sym is) (sorted_insert_all order sends (messages_of v.pending) solo.sorted.1);
-        targets = subst (AllByRecursion (IsForStation net)) (sym is) (all_insert_all order (IsForStation net) sends (messages_of v.pending) are solo.targets.1);
+        targets = subst (AllByRecursion (IsForStation net)) (sym is)
+            (all_insert_all order (IsForStation net) sends (messages_of v.pending) are solo.targets.1);
         total = omega (arith, handled, sum, new_sum, longer, total);
         below = beyond_none net.limit v.trace e solo.below (let below = h.below in omega (arith, full_log, below));
       }
 
-  pub turned : messages_of next ≡ insert_all msg_cmp sends (messages_of v.pending) → Turned net v m (record { states = new; pending = next; trace = v.trace ++ e ∷ [] })
+  pub turned : messages_of next ≡ insert_all msg_cmp sends (messages_of v.pending)
+      → Turned net v m (record { states = new; pending = next; trace = v.trace ++ e ∷ [] })
   turned is = config_is is

@@ -6,12 +6,15 @@ use Rattle.sim_base.specs.declared.message.Msg.{Msg}
 use Rattle.run_laws.specs.Queue.{place, insert}
 use Rattle.solo_run.specs.SoloView.{messages_of}
 
-at_place : (o : Ordering) (join : Unit {0} → Unit {0} → Unit {0}) (m : Msg) (y : Msg × Unit {0}) (ys rest : List (Msg × Unit {0})) (after : List Msg) → messages_of rest ≡ after
+at_place : (o : Ordering) (join : Unit {0} → Unit {0} → Unit {0}) (m : Msg) (y : Msg × Unit {0})
+    (ys rest : List (Msg × Unit {0})) (after : List Msg) → messages_of rest ≡ after
     → messages_of (place_marked join o m tt y ys rest) ≡ place o m y.0 (messages_of ys) after
 at_place Less join m y ys rest after is = refl
 at_place Equal join m y ys rest after is = refl
 at_place Greater join m y ys rest after is = ap (λ t. y.0 ∷ t) is
 
-pub messages_insert : (join : Unit {0} → Unit {0} → Unit {0}) (m : Msg) (ys : List (Msg × Unit {0})) → messages_of (insert_marked join msg_cmp m tt ys) ≡ insert msg_cmp m (messages_of ys)
+pub messages_insert : (join : Unit {0} → Unit {0} → Unit {0}) (m : Msg) (ys : List (Msg × Unit {0}))
+    → messages_of (insert_marked join msg_cmp m tt ys) ≡ insert msg_cmp m (messages_of ys)
 messages_insert join m [] = refl
-messages_insert join m (y ∷ ys) = at_place (msg_cmp m y.0) join m y ys (insert_marked join msg_cmp m tt ys) (insert msg_cmp m (messages_of ys)) (messages_insert join m ys)
+messages_insert join m (y ∷ ys) = at_place (msg_cmp m y.0) join m y ys (insert_marked join msg_cmp m tt ys)
+    (insert msg_cmp m (messages_of ys)) (messages_insert join m ys)

@@ -1,5 +1,6 @@
 -- A run begins as its definition says.
-use Rattle.std.proofs.Common.{◌≡◌, ◌⊎◌, inl, inr, ℕ, zero, suc, ◌+◌, refl, ap, sym, subst, ◌∙◌, List, [], ◌∷◌, ◌++◌, length, length-append, Option, Some, None, slice_get, unwrap_or, arith}
+use Rattle.std.proofs.Common.{◌≡◌, ◌⊎◌, inl, inr, ℕ, zero, suc, ◌+◌, refl, ap, sym, subst, ◌∙◌, List, [], ◌∷◌, ◌++◌}
+use Rattle.std.proofs.Common.{length, length-append, Option, Some, None, slice_get, unwrap_or, arith}
 use Rattle.std.proofs.Math.Path.{fun_ext}
 use Rattle.std.specs.List.{AllByRecursion}
 use Rattle.std.proofs.lemmas.Option.{slice_get_cases}
@@ -23,7 +24,8 @@ use Rattle.solo_run.specs.Beginning.{AreOpenings, and_put, start_of}
 use Rattle.solo_run.specs.SoloView.{IsSolo, IsForStation, config_of, messages_of, state_of}
 use Rattle.solo_run.proofs.OneTurn.{sum_most}
 
-get_push : {X : Type 0} (xs : List X) (y : X) (i : ℕ) (x : X) → slice_get (xs ++ y ∷ []) i ≡ Some x → (slice_get xs i ≡ Some x) ⊎ ((i ≡ length xs) × (x ≡ y))
+get_push : {X : Type 0} (xs : List X) (y : X) (i : ℕ) (x : X) → slice_get (xs ++ y ∷ []) i ≡ Some x
+    → (slice_get xs i ≡ Some x) ⊎ ((i ≡ length xs) × (x ≡ y))
 get_push [] y zero x is = inr (refl, cc)
 get_push [] y (suc i) x is = absurd (cc)
 get_push (z ∷ xs) y zero x is = inl is
@@ -33,7 +35,8 @@ get_push (z ∷ xs) y (suc i) x is = elim (get_push xs y i x is) [
 ]
 
 -- one station more is open
-pub opened_more : (net : Net) (n : ℕ) (states : List StateView) (st : StateView) → AreOpenings net n states → (setup net (n + 1)).state ≡ st → FitsState st → SuitsNet net st → AreOpenings net (n + 1) (states ++ st ∷ [])
+pub opened_more : (net : Net) (n : ℕ) (states : List StateView) (st : StateView) → AreOpenings net n states
+    → (setup net (n + 1)).state ≡ st → FitsState st → SuitsNet net st → AreOpenings net (n + 1) (states ++ st ∷ [])
 opened_more net n states st before is fits suits =
     let longer = length-append states (st ∷ []) in
     let count = before.count in
@@ -41,53 +44,68 @@ opened_more net n states st before is fits suits =
       count = omega (arith, longer, count);
       each = λ i x at. elim (get_push states st i x at) [
         | inl old ↦ before.each i x old
-        | inr new ↦ rw new.1 record { is = sym is ∙ ap (λ k. (setup net (k + 1)).state) (sym (new.0 ∙ count)); fits = fits; suits = suits }
+        | inr new ↦ rw new.1 record {
+          is = sym is ∙ ap (λ k. (setup net (k + 1)).state) (sym (new.0 ∙ count));
+          fits = fits;
+          suits = suits;
+        }
       ];
     }
 
-put_after : (net : Net) (ms q : List Msg) (o : Option Msg) → insert_all msg_cmp (and_first (simulation net) ms o) q ≡ and_put o (insert_all msg_cmp ms q)
+put_after : (net : Net) (ms q : List Msg) (o : Option Msg) → insert_all msg_cmp (and_first (simulation net) ms o) q
+    ≡ and_put o (insert_all msg_cmp ms q)
 put_after net ms q None = refl
 put_after net ms q (Some m) = insert_all-push msg_cmp ms m q
 
 -- and what it sends first is pending
-pub first_more : (net : Net) (n : ℕ) (q p : List Msg) (first : Option Msg) → p ≡ insert_all msg_cmp (openings (simulation net) n) q → (setup net (n + 1)).first ≡ first → and_put first p ≡ insert_all msg_cmp (openings (simulation net) (n + 1)) q
+pub first_more : (net : Net) (n : ℕ) (q p : List Msg) (first : Option Msg)
+    → p ≡ insert_all msg_cmp (openings (simulation net) n) q → (setup net (n + 1)).first ≡ first
+    → and_put first p ≡ insert_all msg_cmp (openings (simulation net) (n + 1)) q
 first_more net n q p first is sends =
     let number : suc n ≡ n + 1 = omega arith in
     ap (and_put first) is
     ∙ (sym (put_after net (openings (simulation net) n) q first)
-    ∙ (ap (λ o. insert_all msg_cmp (and_first (simulation net) (openings (simulation net) n) o) q) (sym sends ∙ ap (λ k. (setup net k).first) (sym number))
+    ∙ (ap (λ o. insert_all msg_cmp (and_first (simulation net) (openings (simulation net) n) o) q)
+    (sym sends ∙ ap (λ k. (setup net k).first) (sym number))
     ∙ ap (λ k. insert_all msg_cmp (openings (simulation net) k) q) number))
 
 insert_both : (xs ys q : List Msg) → insert_all msg_cmp (xs ++ ys) q ≡ insert_all msg_cmp ys (insert_all msg_cmp xs q)
 insert_both [] ys q = refl
 insert_both (x ∷ xs) ys q = insert_both xs ys (insert msg_cmp x q)
 
-opening_at : (net : Net) (states : List StateView) → AreOpenings net (length net.sites) states → (s : ℕ) → state_of net states s ≡ (setup net s).state
+opening_at : (net : Net) (states : List StateView) → AreOpenings net (length net.sites) states → (s : ℕ)
+    → state_of net states s ≡ (setup net s).state
 opening_at net states opened zero = refl
 opening_at net states opened (suc i) = elim (slice_get_cases states i).1 [
   | inl found ↦
       let number : i + 1 ≡ suc i = omega arith in
-      ap (λ o. unwrap_or o (setup net (suc i)).state) found.2 ∙ ((opened.each i found.0 found.2).is ∙ ap (λ k. (setup net k).state) number)
+      ap (λ o. unwrap_or o (setup net (suc i)).state) found.2
+      ∙ ((opened.each i found.0 found.2).is ∙ ap (λ k. (setup net k).state) number)
   | inr past ↦ ap (λ o. unwrap_or o (setup net (suc i)).state) past.1
 ]
 
-module _ (net : Net) (valid : IsNet net) (list : List Planned) (states : List StateView) (p : List (Msg × Unit {0})) (firsts : List Msg)
+module _ (net : Net) (valid : IsNet net) (list : List Planned) (states : List StateView) (p : List (Msg × Unit {0}))
+    (firsts : List Msg)
     (opened : AreOpenings net (length net.sites) states)
     (first : firsts ≡ insert_all msg_cmp (openings (simulation net) (length net.sites)) [])
     (then_all : messages_of p ≡ insert_all msg_cmp (planned (simulation net) 0 list) firsts) where
   pending_is : messages_of p ≡ (start_of net list).pending
-  pending_is = then_all ∙ (ap (insert_all msg_cmp (planned (simulation net) 0 list)) first ∙ sym (insert_both (openings (simulation net) (length net.sites)) (planned (simulation net) 0 list) []))
+  pending_is = then_all ∙ (ap (insert_all msg_cmp (planned (simulation net) 0 list)) first
+      ∙ sym (insert_both (openings (simulation net) (length net.sites)) (planned (simulation net) 0 list) []))
 
   pub begins : config_of net (record { states = states; pending = p; trace = [] }) ≡ start_of net list
   begins =
-      ap (λ f. record { at = record { states = f; trace = [] }; pending = messages_of p }) (fun_ext (opening_at net states opened))
+      ap (λ f. record { at = record { states = f; trace = [] }; pending = messages_of p })
+      (fun_ext (opening_at net states opened))
       ∙ ap (λ q. record { at = record { states = λ s. (setup net s).state; trace = [] }; pending = q }) pending_is
 
-  pub begins_solo : AreForStations (simulation net) list → IsSolo net (record { states = states; pending = p; trace = [] })
+  pub begins_solo : AreForStations (simulation net) list
+      → IsSolo net (record { states = states; pending = p; trace = [] })
   unfolding run_to
   begins_solo there =
       let law = lawful-stations net valid in
-      let none = sum_most (λ st. st.handled) 0 states (λ i st at. let h = ap (λ d. d.handled) (opened.each i st at).is in omega (arith, h)) in
+      let none = sum_most (λ st. st.handled) 0 states
+      (λ i st at. let h = ap (λ d. d.handled) (opened.each i st at).is in omega (arith, h)) in
       let limit = valid.limit in
       record {
         valid = valid;
@@ -95,9 +113,20 @@ module _ (net : Net) (valid : IsNet net) (list : List Planned) (states : List St
         states = λ i st at.
             let o = opened.each i st at in
             let handled : st.handled ≡ 0 = ap (λ d. d.handled) o.is in
-            record { fits = o.fits; suits = o.suits; station = ap (λ d. d.sender.station) o.is ∙ (law.opens (i + 1)).station; within = omega (arith, handled, limit); log = handled };
-        sorted = subst (λ q. Sorted msg_cmp q) (sym pending_is) (sorted_insert_all law.order.order (openings (simulation net) (length net.sites) ++ planned (simulation net) 0 list) [] tt);
-        targets = subst (AllByRecursion (IsForStation net)) (sym pending_is) (all_from (IsForStation net) (start_of net list).pending (λ z i. pending_for_stations law (stations-to_stations net valid) list 0 there z i));
+            record {
+              fits = o.fits;
+              suits = o.suits;
+              station = ap (λ d. d.sender.station) o.is
+                  ∙ (law.opens (i + 1)).station;
+              within = omega (arith, handled, limit);
+              log = handled;
+            };
+        sorted = subst (λ q. Sorted msg_cmp q) (sym pending_is)
+            (sorted_insert_all law.order.order
+            (openings (simulation net) (length net.sites) ++ planned (simulation net) 0 list) [] tt);
+        targets = subst (AllByRecursion (IsForStation net)) (sym pending_is)
+            (all_from (IsForStation net) (start_of net list).pending
+            (λ z i. pending_for_stations law (stations-to_stations net valid) list 0 there z i));
         total = omega (arith, none);
         below = refl;
       }

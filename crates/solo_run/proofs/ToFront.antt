@@ -1,5 +1,6 @@
 -- The turns up to a front come to the run, or go beyond the limit.
-use Rattle.std.proofs.Common.{◌≡◌, inl, inr, ℕ, zero, suc, ◌+◌, ◌-◌, ◌*◌, Less, ◌<◌, ◌≤◌, refl, ap, sym, subst, ◌∙◌, List, [], ◌∷◌, ◌++◌, length, append-nil, Some, unwrap_or, arith}
+use Rattle.std.proofs.Common.{◌≡◌, inl, inr, ℕ, zero, suc, ◌+◌, ◌-◌, ◌*◌, Less, ◌<◌, ◌≤◌, refl}
+use Rattle.std.proofs.Common.{ap, sym, subst, ◌∙◌, List, [], ◌∷◌, ◌++◌, length, append-nil, Some, unwrap_or, arith}
 use Rattle.std.specs.List.{AllByRecursion}
 use Rattle.std.proofs.lemmas.List.{append_assoc}
 use Rattle.std.proofs.lemmas.Option.{slice_get_cases}
@@ -12,7 +13,7 @@ use Rattle.run_laws.specs.Queue.{Sorted}
 use Rattle.run_laws.specs.Machine.{Config, Next, Reach, stay, go, Done, after, run_to}
 use Rattle.run_laws.specs.World.{World, log_of}
 use Rattle.run_laws.specs.Handlers.{AllGood}
-use Rattle.run_laws.proofs.Queue.{all_weaker}
+use Rattle.sim_base.proofs.Placing.{all_weaker}
 use Rattle.run_laws.proofs.Machine.{reach_trans, reach_first, done_no_next}
 use Rattle.run_laws.proofs.Running.{Fine, all_from_zero, run_reach, run_is, fine_reach}
 use Rattle.run_laws.proofs.Worlds.{world_lawful}
@@ -33,7 +34,9 @@ use Rattle.solo_run.specs.declared.turn.SoloFault.TheVariants.{NoMemory, Limit}
 use Rattle.solo_run.proofs.OneTurn.{beyond_append, beyond_here, sum_most}
 
 -- each turn appends to the trace
-grows : (net : Net) (bound : ℕ) {c d : Config (World StateView Msg Line) Msg} → Reach msg_cmp (λ m. m.key.time) (step_of net) bound c d → (rest : List (Entry Msg Line)) × (d.at.trace ≡ c.at.trace ++ rest)
+grows : (net : Net) (bound : ℕ) {c d : Config (World StateView Msg Line) Msg}
+    → Reach msg_cmp (λ m. m.key.time) (step_of net) bound c d → (rest : List (Entry Msg Line))
+    × (d.at.trace ≡ c.at.trace ++ rest)
 grows net bound {c} stay = ([], sym (append-nil c.at.trace))
 grows net bound {c} {d} (go {d = b} r n) =
     let h = grows net bound r in
@@ -42,11 +45,13 @@ grows net bound {c} {d} (go {d = b} r n) =
     (h.0 ++ e ∷ [], one ∙ (ap (λ t. t ++ e ∷ []) h.1 ∙ append_assoc c.at.trace h.0 (e ∷ [])))
 
 module _ (net : Net) (valid : IsNet net) where
-  good_station : (trace : List (Entry Msg Line)) (i : ℕ) (st : StateView) → IsStateAfter net trace i st → IsGood net (suc i) st
+  good_station : (trace : List (Entry Msg Line)) (i : ℕ) (st : StateView) → IsStateAfter net trace i st
+      → IsGood net (suc i) st
   good_station trace i st is =
       let station : st.sender.station ≡ suc i = let h = is.station in omega (arith, h) in
       let site = site_is net st.sender.station is.suits.site is.suits.is_there in
-      let of : IsOfKind (site_of net st.sender.station) (site_of net st.sender.station).kind st.kind = subst (λ q. IsOfKind q q.kind st.kind) (sym site) is.suits.kind in
+      let of : IsOfKind (site_of net st.sender.station) (site_of net st.sender.station).kind st.kind =
+      subst (λ q. IsOfKind q q.kind st.kind) (sym site) is.suits.kind in
       record {
         station = station;
         kind = subst (λ k. IsOfKind (site_of net k) (site_of net k).kind st.kind) station of;
@@ -56,12 +61,18 @@ module _ (net : Net) (valid : IsNet net) where
   good_states : (v : SoloView) → IsSolo net v → (s : ℕ) → IsGood net s (state_of net v.states s)
   good_states v solo zero = (lawful-stations net valid).opens zero
   good_states v solo (suc i) = elim (slice_get_cases v.states i).1 [
-    | inl found ↦ subst (λ o. IsGood net (suc i) (unwrap_or o (setup net (suc i)).state)) (sym found.2) (good_station v.trace i found.0 (solo.states i found.0 found.2))
-    | inr past ↦ subst (λ o. IsGood net (suc i) (unwrap_or o (setup net (suc i)).state)) (sym past.1) ((lawful-stations net valid).opens (suc i))
+    | inl found ↦ subst (λ o. IsGood net (suc i) (unwrap_or o (setup net (suc i)).state)) (sym found.2)
+        (good_station v.trace i found.0 (solo.states i found.0 found.2))
+    | inr past ↦ subst (λ o. IsGood net (suc i) (unwrap_or o (setup net (suc i)).state)) (sym past.1)
+        ((lawful-stations net valid).opens (suc i))
   ]
 
   fine_solo : (v : SoloView) → IsSolo net v → Fine msg_cmp (λ m. m.key.time) (AllGood (IsGood net)) 0 (config_of net v)
-  fine_solo v solo = record { good = good_states v solo; sorted = solo.sorted; from_t = all_from_zero (λ (m : Msg). m.key.time) (messages_of v.pending) }
+  fine_solo v solo = record {
+    good = good_states v solo;
+    sorted = solo.sorted;
+    from_t = all_from_zero (λ (m : Msg). m.key.time) (messages_of v.pending);
+  }
 
   -- no more is handled than the stations may handle
   pub short : (v : SoloView) → IsSolo net v → length v.trace ≤ length net.sites * net.limit
@@ -72,15 +83,22 @@ module _ (net : Net) (valid : IsNet net) where
       omega (arith, most, count, total)
 
   -- where the first message is not before the front, none is
-  none_before : (front : ℕ) (q : List (Msg × Unit {0})) → Sorted msg_cmp (messages_of q) → NothingBefore front q → AllByRecursion (λ m. front ≤ m.key.time) (messages_of q)
+  none_before : (front : ℕ) (q : List (Msg × Unit {0})) → Sorted msg_cmp (messages_of q) → NothingBefore front q
+      → AllByRecursion (λ m. front ≤ m.key.time) (messages_of q)
   none_before front [] sorted late = tt
-  none_before front (p ∷ q) sorted late =
-      (late, all_weaker (λ y. msg_cmp p.0 y ≡ Less) (λ y. front ≤ y.key.time) (messages_of q) (λ y e. let h = (lawful-stations net valid).order.timed p.0 y e in omega arith) sorted.0)
+  none_before front (p ∷ q) sorted late = (
+    late,
+    all_weaker (λ y. msg_cmp p.0 y ≡ Less) (λ y. front ≤ y.key.time) (messages_of q)
+        (λ y e. let h = (lawful-stations net valid).order.timed p.0 y e in omega arith) sorted.0,
+  )
 
-  pub run_ends : (front : ℕ) (v w : SoloView) → IsSolo net v → IsSolo net w → Reach msg_cmp (λ m. m.key.time) (step_of net) front (config_of net v) (config_of net w) → NothingBefore front w.pending → config_of net w ≡ run_from net v front
+  pub run_ends : (front : ℕ) (v w : SoloView) → IsSolo net v → IsSolo net w
+      → Reach msg_cmp (λ m. m.key.time) (step_of net) front (config_of net v) (config_of net w)
+      → NothingBefore front w.pending → config_of net w ≡ run_from net v front
   run_ends front v w from to ran none =
       let law = lawful-stations net valid in
-      run_is law.order (world_lawful law) front (config_of net v) (config_of net w) (fine_solo v from) ran (none_before front w.pending to.sorted none)
+      run_is law.order (world_lawful law) front (config_of net v) (config_of net w) (fine_solo v from) ran
+      (none_before front w.pending to.sorted none)
 
   -- a turn of a message before the front
   pub next_turn : (front : ℕ) (w : SoloView) (m : Msg) (new : SoloView) → m.key.time < front
@@ -92,7 +110,8 @@ module _ (net : Net) (valid : IsNet net) where
   pub goes_beyond : (front : ℕ) (v w : SoloView) (m : Msg) (at_start at_end now station kept : ℕ)
       → IsSolo net v → IsSolo net (with_due m w)
       → Reach msg_cmp (λ m. m.key.time) (step_of net) front (config_of net v) (config_of net (with_due m w))
-      → m.key.time < front → IsFull net (m.to - 1) w.states now at_end station kept → now + length v.trace ≡ at_start + length w.trace
+      → m.key.time < front → IsFull net (m.to - 1) w.states now at_end station kept
+      → now + length v.trace ≡ at_start + length w.trace
       → GoesBeyond net v front at_start at_end station kept
   goes_beyond front v w m at_start at_end now station kept from here ran early full count =
       let law = lawful-stations net valid in
@@ -101,21 +120,26 @@ module _ (net : Net) (valid : IsNet net) where
       let step : Config (World StateView Msg Line) Msg = after msg_cmp (step_of net) c.at m (messages_of w.pending) in
       let on = run_reach law.order (world_lawful law) front front c (omega arith) fine in
       let last = run_to msg_cmp (step_of net) (λ m. m.key.time) c front in
-      let same : last ≡ run_from net v front = run_is law.order (world_lawful law) front (config_of net v) last (fine_solo v from) (reach_trans ran on.0) on.1.from_t in
-      let next : Next msg_cmp (λ m. m.key.time) (step_of net) front c step = record { m = m; q = messages_of w.pending; pending = refl; early = early; is = refl } in
+      let same : last ≡ run_from net v front = run_is law.order (world_lawful law) front (config_of net v) last
+      (fine_solo v from) (reach_trans ran on.0) on.1.from_t in
+      let next : Next msg_cmp (λ m. m.key.time) (step_of net) front c step =
+      record { m = m; q = messages_of w.pending; pending = refl; early = early; is = refl } in
       let later : Reach msg_cmp (λ m. m.key.time) (step_of net) front step last = elim (reach_first on.0 next) [
         | inl e ↦ absurd (done_no_next c step (subst (Done (λ m. m.key.time) front) e on.1.from_t) next)
         | inr r ↦ r
       ] in
       let e : Entry Msg Line = record { msg = m; line = (handle net (state_of net w.states m.to) m).line } in
       let more = grows net front later in
-      let whole : (run_from net v front).at.trace ≡ w.trace ++ e ∷ more.0 = ap (λ k. k.at.trace) (sym same) ∙ (more.1 ∙ append_assoc w.trace (e ∷ []) more.0) in
+      let whole : (run_from net v front).at.trace ≡ w.trace ++ e ∷ more.0 = ap (λ k. k.at.trace) (sym same)
+      ∙ (more.1 ∙ append_assoc w.trace (e ∷ []) more.0) in
       let old = here.states (m.to - 1) full.state full.is_there in
       let low : 1 ≤ m.to = here.targets.0.0 in
       let place : m.to - 1 + 1 ≡ m.to = omega arith in
       let log = old.log ∙ ap (λ k. length (log_of receiver k w.trace)) place in
       let has = full.full in
-      let is : first_beyond net.limit [] (w.trace ++ e ∷ more.0) ≡ Some m.to = beyond_append net.limit [] w.trace (e ∷ more.0) here.below ∙ beyond_here net.limit w.trace e more.0 (omega (arith, log, has)) in
+      let is : first_beyond net.limit [] (w.trace ++ e ∷ more.0) ≡ Some m.to =
+      beyond_append net.limit [] w.trace (e ∷ more.0) here.below ∙ beyond_here net.limit w.trace e more.0
+      (omega (arith, log, has)) in
       let number : station ≡ m.to = let h = full.is_here in omega (arith, h) in
       let unmoved = full.steps in
       record {
@@ -137,7 +161,9 @@ module _ (net : Net) (valid : IsNet net) where
   pub stops : (front : ℕ) (v w : SoloView) (m : Msg) (at_start at_end now : ℕ) (fault : SoloFault)
       → IsSolo net v → IsSolo net (with_due m w)
       → Reach msg_cmp (λ m. m.key.time) (step_of net) front (config_of net v) (config_of net (with_due m w))
-      → m.key.time < front → StopsAt net (m.to - 1) w.states now at_end fault → now + length v.trace ≡ at_start + length w.trace
+      → m.key.time < front → StopsAt net (m.to - 1) w.states now at_end fault
+      → now + length v.trace ≡ at_start + length w.trace
       → Stops net v front at_start at_end fault
   stops front v w m at_start at_end now NoMemory from here ran early at count = tt
-  stops front v w m at_start at_end now (Limit station kept) from here ran early at count = goes_beyond front v w m at_start at_end now station kept from here ran early at count
+  stops front v w m at_start at_end now (Limit station kept) from here ran early at count =
+      goes_beyond front v w m at_start at_end now station kept from here ran early at count

@@ -34,7 +34,10 @@ messages_of pending = map (λ p. p.0) pending
 
 -- the world of a clone in which the run stands
 abbrev pub config_of : Net → SoloView → Config (World StateView Msg Line) Msg
-config_of net v = record { at = record { states = state_of net v.states; trace = v.trace }; pending = messages_of v.pending }
+config_of net v = record {
+  at = record { states = state_of net v.states; trace = v.trace };
+  pending = messages_of v.pending;
+}
 
 -- the station of number i + 1, in a run with this trace
 pub record IsStateAfter (net : Net) (trace : List (Entry Msg Line)) (i : ℕ) (st : StateView) : Type 0 where

@@ -23,7 +23,8 @@ abbrev pub run_from : Net → SoloView → ℕ → Config (World StateView Msg L
 run_from net v front = run_to msg_cmp (step_of net) (λ m. m.key.time) (config_of net v) front
 
 -- the state at place i handles a message
-pub record HandlesAt (net : Net) (i : ℕ) (m : Msg) (old new : List StateView) (sends : List Msg) (line : Line) : Type 0 where
+pub record HandlesAt (net : Net) (i : ℕ) (m : Msg) (old new : List StateView) (sends : List Msg) (line : Line) :
+    Type 0 where
   pub before : StateView
   pub after : StateView
   pub is_there : slice_get old i ≡ Some before

@@ -32,7 +32,8 @@ pub(crate) fn open_all(
 ) -> Result<Vec<State>, NoMemory>
     ensures valid { IsNet model.now }
     ensures opened { IfOk result (λ states. AreOpenings model.now (length model.now.sites) states.items) }
-    ensures first { OnOk result (messages_of pending.new ≡ insert_all msg_cmp (openings (simulation model.now) (length model.now.sites)) (messages_of pending.old)) }
+    ensures first { OnOk result (messages_of pending.new ≡ insert_all msg_cmp
+        (openings (simulation model.now) (length model.now.sites)) (messages_of pending.old)) }
 {
     let mut states = Vec::new(alloc);
     for s in 0..model.len() {
@@ -45,7 +46,8 @@ pub(crate) fn open_all(
 
 /// The decisions of a clone become pending messages, numbered from 0.
 pub(crate) fn plan_all(pending: &mut Pending<()>, list: &[Planned]) -> Result<(), NoMemory>
-    ensures { (net : Net) → OnOk result (messages_of pending.new ≡ insert_all msg_cmp (planned (simulation net) 0 list.now) (messages_of pending.old)) }
+    ensures { (net : Net) → OnOk result
+        (messages_of pending.new ≡ insert_all msg_cmp (planned (simulation net) 0 list.now) (messages_of pending.old)) }
 {
     for k in 0..list.len() {
         let plan = list[k];

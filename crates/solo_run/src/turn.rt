@@ -1,6 +1,7 @@
 //! One turn of a one-thread run: the least pending message is handled at its station, and what that sends becomes
 //! pending.
-ghost use Rattle.std.specs.Prelude.{◌≡◌, ◌+◌, ◌-◌, ◌≤◌, ◌<◌, ◌^◌, ◌∷◌, ℕ, length, IfErr, IfOk, IfNone, IfSome, OnOk, slice_get, Some};
+ghost use Rattle.std.specs.Prelude.{◌≡◌, ◌+◌, ◌-◌, ◌≤◌, ◌<◌, ◌^◌, ◌∷◌, ℕ};
+ghost use Rattle.std.specs.Prelude.{length, IfErr, IfOk, IfNone, IfSome, OnOk, slice_get, Some};
 ghost use Rattle.arrayvec.specs.ArrayVec.{array_vec_len};
 ghost use Rattle.sim_base.specs.Order.{msg_cmp};
 ghost use Rattle.run_laws.specs.Queue.{insert_all};
@@ -51,7 +52,8 @@ fn handle_at<L: Ledger>(
     requires numbers { (i : ℕ) (st : StateView) → slice_get states.old.items i ≡ Some st → (st.sender.station ≡ i + 1) }
     requires early { msg.now.key.time < 2 ^ 31 }
     requires empty { array_vec_len out.old ≡ 0 }
-    ensures ok { IfOk result (λ line. HandlesAt model.now (msg.now.to - 1) msg.now states.old.items states.new.items out.new.items line) }
+    ensures ok { IfOk result (λ line. HandlesAt model.now (msg.now.to - 1) msg.now states.old.items states.new.items
+        out.new.items line) }
     ensures counted { OnOk result (steps.new ≡ steps.old + 1) }
     ensures full { IfErr result (λ e. StopsAt model.now (msg.now.to - 1) states.old.items steps.old steps.new e) }
 {

@@ -11,17 +11,21 @@ use Rattle.net_model.specs.Rules.{IsRange}
 use Rattle.stations.specs.Changes.{has_parameter, is_range, is_within, is_in_range, is_accepted}
 use Rattle.stations.specs.Fits.{is_router}
 
-both : (t r : Bool) (site : Site) (c : Change) → has_parameter site.kind c.param ≡ t → is_in_range (length site.links) c.param c.a c.b ≡ r → is_accepted site c ≡ true → (t ≡ true) × (r ≡ true)
+both : (t r : Bool) (site : Site) (c : Change) → has_parameter site.kind c.param ≡ t
+    → is_in_range (length site.links) c.param c.a c.b ≡ r → is_accepted site c ≡ true → (t ≡ true) × (r ≡ true)
 both true true site c t r accepted = (refl, refl)
 both true false site c t r accepted = absurd (false≢true (rw (t, r) at accepted))
 both false r site c t e accepted = absurd (false≢true (rw t at accepted))
 
 -- an accepted change has a parameter of the kind, and values in its range
-pub accepted-parts : (site : Site) (c : Change) → is_accepted site c ≡ true → (has_parameter site.kind c.param ≡ true) × (is_in_range (length site.links) c.param c.a c.b ≡ true)
-accepted-parts site c accepted = both (has_parameter site.kind c.param) (is_in_range (length site.links) c.param c.a c.b) site c refl refl accepted
+pub accepted-parts : (site : Site) (c : Change) → is_accepted site c ≡ true → (has_parameter site.kind c.param ≡ true)
+    × (is_in_range (length site.links) c.param c.a c.b ≡ true)
+accepted-parts site c accepted =
+    both (has_parameter site.kind c.param) (is_in_range (length site.links) c.param c.a c.b) site c refl refl accepted
 
 pub within-bounds : (low high n : ℕ) → is_within low high n ≡ true → (low ≤ n) × (n ≤ high)
-within-bounds low high n h = let parts = and_parts (nat_le low n) (nat_le n high) h in (leb-true low n parts.0, leb-true n high parts.1)
+within-bounds low high n h = let parts = and_parts (nat_le low n) (nat_le n high) h in
+    (leb-true low n parts.0, leb-true n high parts.1)
 
 pub range-bounds : (low lo hi : ℕ) → is_range low lo hi ≡ true → IsRange low lo hi
 range-bounds low lo hi h =
@@ -55,7 +59,8 @@ router_takes (Delay lo hi) p is has_parameter = absurd (false≢true is)
 router_takes Sink p is has_parameter = absurd (false≢true is)
 
 -- what a router accepts is a new weight of one of its links
-pub router-accepts : (site : Site) (c : Change) → is_router site.kind ≡ true → is_accepted site c ≡ true → IsWeightChange (length site.links) c
+pub router-accepts : (site : Site) (c : Change) → is_router site.kind ≡ true → is_accepted site c ≡ true
+    → IsWeightChange (length site.links) c
 router-accepts site c is accepted =
     let parts = accepted-parts site c accepted in
     let weight = router_takes site.kind c.param is parts.0 in
@@ -82,14 +87,16 @@ delay_takes lo hi Room has_parameter = absurd (false≢true has_parameter)
 delay_takes lo hi Weight has_parameter = absurd (false≢true has_parameter)
 
 -- what a source accepts is a range from 1 on
-pub source-accepts : (lo hi jobs class : ℕ) (site : Site) (c : Change) → site.kind ≡ Source lo hi jobs class → is_accepted site c ≡ true → IsRange 1 c.a c.b
+pub source-accepts : (lo hi jobs class : ℕ) (site : Site) (c : Change) → site.kind ≡ Source lo hi jobs class
+    → is_accepted site c ≡ true → IsRange 1 c.a c.b
 source-accepts lo hi jobs class site c is accepted =
     let parts = accepted-parts site c accepted in
     let every = source_takes lo hi jobs class c.param (rw is at parts.0) in
     range-bounds 1 c.a c.b (rw every at parts.1)
 
 -- what a delay accepts is a range from 0 on
-pub delay-accepts : (lo hi : ℕ) (site : Site) (c : Change) → site.kind ≡ Delay lo hi → is_accepted site c ≡ true → IsRange 0 c.a c.b
+pub delay-accepts : (lo hi : ℕ) (site : Site) (c : Change) → site.kind ≡ Delay lo hi → is_accepted site c ≡ true
+    → IsRange 0 c.a c.b
 delay-accepts lo hi site c is accepted =
     let parts = accepted-parts site c accepted in
     let hold = delay_takes lo hi c.param (rw is at parts.0) in

@@ -16,23 +16,29 @@ use Rattle.stations.specs.Delays.{delay_job, delay_set, delay_on}
 use Rattle.stations.proofs.Accepting.{delay-accepts}
 use Rattle.stations.proofs.Growing.{Grown, grown-more, grown-held, grown-same}
 
-module _ (net : Net) (site : Site) (now : ℕ) (links : AllByRecursion (IsLink net) site.links) (ahead : 1 ≤ net.lookahead)
+module _ (net : Net) (site : Site) (now : ℕ) (links : AllByRecursion (IsLink net) site.links)
+    (ahead : 1 ≤ net.lookahead)
     (a : Outgoing) (first : 1 ≤ a.sender.station) (last : a.sender.station ≤ length net.sites) where
-  delay_set-fits : (lo hi handled : ℕ) (c : Change) (s : DelayState) → site.kind ≡ kind.Delay lo hi → FitsDelay handled s → FitsDelay (handled + 1) (delay_set site c s)
+  delay_set-fits : (lo hi handled : ℕ) (c : Change) (s : DelayState) → site.kind ≡ kind.Delay lo hi
+      → FitsDelay handled s → FitsDelay (handled + 1) (delay_set site c s)
   delay_set-fits lo hi handled c s is f = by (is_accepted site c) refl
     where
-      by : (t : Bool) → is_accepted site c ≡ t → FitsDelay (handled + 1) (if t then record s { lo = c.a; hi = c.b } else s)
+      by : (t : Bool) → is_accepted site c ≡ t
+          → FitsDelay (handled + 1) (if t then record s { lo = c.a; hi = c.b } else s)
       by true accepted = record { range = delay-accepts lo hi site c is accepted; passed = omega (arith, f.passed) }
       by false refused = record { range = f.range; passed = omega (arith, f.passed) }
 
   delay_later : (handled : ℕ) (s : DelayState) → FitsDelay handled s → FitsDelay (handled + 1) s
   delay_later handled s f = record { range = f.range; passed = omega (arith, f.passed) }
 
-  pub delay_on-good : (lo hi handled : ℕ) (p : Payload) (s : DelayState) → site.kind ≡ kind.Delay lo hi → FitsDelay handled s
+  pub delay_on-good : (lo hi handled : ℕ) (p : Payload) (s : DelayState) → site.kind ≡ kind.Delay lo hi
+      → FitsDelay handled s
       → FitsDelay (handled + 1) (delay_on site now p s a).state × Grown net now 16 a (delay_on site now p s a).out
   delay_on-good lo hi handled (Job j) s is f = (
     record { range = f.range; passed = omega (arith, f.passed) },
-    grown-more net now 2 16 a (delay_job site now j s a) (grown-held net now site.links (weights_of site.links) (range_of s.lo s.hi (after_pick (weights_of site.links) a).sender.draws) j a links ahead) (omega arith),
+    grown-more net now 2 16 a (delay_job site now j s a)
+        (grown-held net now site.links (weights_of site.links)
+        (range_of s.lo s.hi (after_pick (weights_of site.links) a).sender.draws) j a links ahead) (omega arith),
   )
   delay_on-good lo hi handled (Set c) s is f = (delay_set-fits lo hi handled c s is f, grown-same net now 16 a)
   delay_on-good lo hi handled Tick s is f = (delay_later handled s f, grown-same net now 16 a)

@@ -1,5 +1,6 @@
 -- What the laws of runs ask of stations, proved of these.
-use Rattle.std.proofs.Common.{◌≡◌, ℕ, zero, suc, ◌+◌, ◌<◌, ◌≤◌, ◌⊎◌, inl, inr, List, [], ◌∷◌, length, refl, sym, ap, ◌∙◌, subst, Some, unwrap_or, arith}
+use Rattle.std.proofs.Common.{◌≡◌, ℕ, zero, suc, ◌+◌, ◌<◌, ◌≤◌, ◌⊎◌, inl, inr, List}
+use Rattle.std.proofs.Common.{[], ◌∷◌, length, refl, sym, ap, ◌∙◌, subst, Some, unwrap_or, arith}
 use Rattle.std.specs.List.{AllByRecursion}
 use Rattle.std.proofs.lemmas.Option.{slice_get_cases}
 use Rattle.sim_base.specs.declared.message.Msg.{Msg}
@@ -40,14 +41,18 @@ module _ (net : Net) (valid : IsNet net) where
     pub few : length (handle net st m).sends ≤ 16
     pub next : (handle net st m).state.sender.next ≡ st.sender.next + length (handle net st m).sends
 
-  at_station : (site : Site) (st : StateView) (m : Msg) → site_at net st.sender.station ≡ Some site → IsOfKind (site_of net st.sender.station) (site_of net st.sender.station).kind st.kind → GoodKind st.handled st.kind → HandlesGood st.sender.station st m
+  at_station : (site : Site) (st : StateView) (m : Msg) → site_at net st.sender.station ≡ Some site
+      → IsOfKind (site_of net st.sender.station) (site_of net st.sender.station).kind st.kind
+      → GoodKind st.handled st.kind → HandlesGood st.sender.station st m
   unfolding handle
   at_station site st m there of good =
       let at = site_of net st.sender.station in
-      let lawful : IsSite net at = rw (site_is net st.sender.station site there) (site_valid net st.sender.station site valid there) in
+      let lawful : IsSite net at = rw (site_is net st.sender.station site there)
+      (site_valid net st.sender.station site valid there) in
       let number = number_in net st.sender.station site there in
       let begin : Outgoing = record { sender = st.sender; sends = [] } in
-      let after = kind_on-good net at m.key.time lawful.links valid.ahead begin number.0 number.1 at.kind st.handled m.payload st.kind refl of good in
+      let after = kind_on-good net at m.key.time lawful.links valid.ahead begin number.0 number.1 at.kind st.handled
+      m.payload st.kind refl of good in
       let g = after.grown in
       let count = ap length g.sends in
       record {
@@ -58,25 +63,37 @@ module _ (net : Net) (valid : IsNet net) where
       }
 
   -- a number that is no station's stands for a sink
-  nowhere : (sender : Sender) (handled : ℕ) (k : KindState) (m : Msg) → site_of net sender.station ≡ no_site → IsOfKind no_site kind.Sink k → HandlesGood sender.station (record { sender = sender; handled = handled; kind = k }) m
+  nowhere : (sender : Sender) (handled : ℕ) (k : KindState) (m : Msg) → site_of net sender.station ≡ no_site
+      → IsOfKind no_site kind.Sink k
+      → HandlesGood sender.station (record { sender = sender; handled = handled; kind = k }) m
   unfolding handle
-  nowhere sender handled (Sink s) m none of = record { good = record { station = refl; kind = rw none tt; fits = tt }; sends = tt; few = omega arith; next = omega arith }
+  nowhere sender handled (Sink s) m none of =
+      record {
+        good = record { station = refl; kind = rw none tt; fits = tt };
+        sends = tt;
+        few = omega arith;
+        next = omega arith;
+      }
   nowhere sender handled (Source s) m none of = absurd of
   nowhere sender handled (Server s) m none of = absurd of
   nowhere sender handled (Delay s) m none of = absurd of
   nowhere sender handled (Router s) m none of = absurd of
 
-  own_good : (st : StateView) (m : Msg) → IsOfKind (site_of net st.sender.station) (site_of net st.sender.station).kind st.kind → GoodKind st.handled st.kind → HandlesGood st.sender.station st m
+  own_good : (st : StateView) (m : Msg)
+      → IsOfKind (site_of net st.sender.station) (site_of net st.sender.station).kind st.kind
+      → GoodKind st.handled st.kind → HandlesGood st.sender.station st m
   own_good st m of good = elim (site_cases net st.sender.station) [
     | inl found ↦ at_station found.0 st m found.1 of good
-    | inr none ↦ nowhere st.sender st.handled st.kind m none (subst (λ (site : Site). IsOfKind site site.kind st.kind) none of)
+    | inr none ↦ nowhere st.sender st.handled st.kind m none
+        (subst (λ (site : Site). IsOfKind site site.kind st.kind) none of)
   ]
 
   -- a good state stays good, and sends as stations send
   pub handles-good : (s : ℕ) (st : StateView) (m : Msg) → IsGood net s st → HandlesGood s st m
   handles-good s st m good =
       subst (λ (r : ℕ). HandlesGood r st m) good.station
-      (own_good st m (subst (λ (r : ℕ). IsOfKind (site_of net r) (site_of net r).kind st.kind) (sym good.station) good.kind) good.fits)
+      (own_good st m (subst (λ (r : ℕ). IsOfKind (site_of net r) (site_of net r).kind st.kind)
+      (sym good.station) good.kind) good.fits)
 
   module _ (now s : ℕ) where
     sends_later : (k : ℕ) (ms : List Msg) → AreSends net now s k ms → AllByRecursion (λ z. now < z.key.time) ms
@@ -92,13 +109,15 @@ module _ (net : Net) (valid : IsNet net) where
 
     pub among : (k : ℕ) (ms : List Msg) (z : Msg) → AreSends net now s k ms → In z ms → IsAmong k (k + length ms) z
     among k [] z are i = absurd i
-    among k (m ∷ ms) z are (inl same) = record { at = k; above = omega arith; below = omega arith; is = subst (IsSend net now s k) (sym same) are.0 }
+    among k (m ∷ ms) z are (inl same) =
+        record { at = k; above = omega arith; below = omega arith; is = subst (IsSend net now s k) (sym same) are.0 }
     among k (m ∷ ms) z are (inr later) =
         let rest = among (suc k) ms z are.1 later in
         record { at = rest.at; above = omega (arith, rest.above); below = omega (arith, rest.below); is = rest.is }
 
     -- numbers tell sends apart
-    numbers_apart : (k : ℕ) (ms : List Msg) (z y : Msg) → AreSends net now s k ms → In z ms → In y ms → z.key.number ≡ y.key.number → z ≡ y
+    numbers_apart : (k : ℕ) (ms : List Msg) (z y : Msg) → AreSends net now s k ms → In z ms → In y ms
+        → z.key.number ≡ y.key.number → z ≡ y
     numbers_apart k [] z y are i j same = absurd i
     numbers_apart k (m ∷ ms) z y are (inl a) (inl b) same = a ∙ sym b
     numbers_apart k (m ∷ ms) z y are (inl a) (inr j) same =
@@ -122,7 +141,8 @@ module _ (net : Net) (valid : IsNet net) where
         kind = opening-kind at at.kind;
         fits = elim (site_cases net s) [
           | inl found ↦ (
-              let lawful : IsSite net at = rw (site_is net s found.0 found.1) (site_valid net s found.0 valid found.1) in
+              let lawful : IsSite net at = rw (site_is net s found.0 found.1)
+              (site_valid net s found.0 valid found.1) in
               good_kind 0 (opening_kind at at.kind) (opening-fits net at at.kind lawful refl))
           | inr none ↦ subst (λ (site : Site). GoodKind 0 (opening_kind site site.kind)) (sym none) tt
         ];
@@ -133,25 +153,37 @@ module _ (net : Net) (valid : IsNet net) where
     order = record { order = record { total = msg_total; same = msg_same }; timed = msg-timed };
     opens = opens_good;
     keeps = λ s st m good. (handles-good net valid s st m good).good;
-    later = λ s st m good. sends_later net valid m.key.time s st.sender.next (handle net st m).sends (handles-good net valid s st m good).sends;
-    far = λ s st m z good i other. (among net valid m.key.time s st.sender.next (handle net st m).sends z (handles-good net valid s st m good).sends i).is.far other;
+    later = λ s st m good. sends_later net valid m.key.time s st.sender.next (handle net st m).sends
+        (handles-good net valid s st m good).sends;
+    far = λ s st m z good i other.
+        (among net valid m.key.time s st.sender.next (handle net st m).sends z
+        (handles-good net valid s st m good).sends i).is.far other;
   }
 
   pub stations-to_stations : SendsToStations (simulation net) (IsGood net)
   stations-to_stations = record {
     first = λ s m there is. (first_tick-first (opening_kind (site_of net s) (site_of net s).kind) _ m is).to;
     decided = λ k p. refl;
-    sends = λ s st m z there good i. let sent = (among net valid m.key.time s st.sender.next (handle net st m).sends z (handles-good net valid s st m good).sends i).is in (omega (arith, sent.first), sent.last);
+    sends = λ s st m z there good i. let sent =
+        (among net valid m.key.time s st.sender.next (handle net st m).sends z
+        (handles-good net valid s st m good).sends i).is in (omega (arith, sent.first), sent.last);
   }
 
   pub fresh-stations : HandlesFreshly (simulation net) (IsGood net) sender_of number_of next_number
   fresh-stations = record {
     keyed = λ x y less. msg-keyed x y less;
-    opened = λ s m there is. let first = first_tick-first (opening_kind (site_of net s) (site_of net s).kind) _ m is in (first.sender, first.used);
+    opened = λ s m there is. let first =
+        first_tick-first (opening_kind (site_of net s) (site_of net s).kind) _ m is in (first.sender, first.used);
     decided = λ k p. (refl, refl);
-    mine = λ s st m z there good i. (among net valid m.key.time s st.sender.next (handle net st m).sends z (handles-good net valid s st m good).sends i).is.sender;
-    low = λ s st m z there good i. let sent = among net valid m.key.time s st.sender.next (handle net st m).sends z (handles-good net valid s st m good).sends i in omega (arith, sent.above, sent.is.number);
-    high = λ s st m z there good i. let sent = among net valid m.key.time s st.sender.next (handle net st m).sends z (handles-good net valid s st m good).sends i in omega (arith, sent.below, sent.is.number, (handles-good net valid s st m good).next);
+    mine = λ s st m z there good i.
+        (among net valid m.key.time s st.sender.next (handle net st m).sends z
+        (handles-good net valid s st m good).sends i).is.sender;
+    low = λ s st m z there good i. let sent = among net valid m.key.time s st.sender.next (handle net st m).sends z
+        (handles-good net valid s st m good).sends i in omega (arith, sent.above, sent.is.number);
+    high = λ s st m z there good i. let sent = among net valid m.key.time s st.sender.next (handle net st m).sends z
+        (handles-good net valid s st m good).sends i in
+        omega (arith, sent.below, sent.is.number, (handles-good net valid s st m good).next);
     rises = λ s st m there good. omega (arith, (handles-good net valid s st m good).next);
-    apart = λ s st m z y there good i j same. numbers_apart net valid m.key.time s st.sender.next (handle net st m).sends z y (handles-good net valid s st m good).sends i j same;
+    apart = λ s st m z y there good i j same. numbers_apart net valid m.key.time s st.sender.next
+        (handle net st m).sends z y (handles-good net valid s st m good).sends i j same;
   }

@@ -1,5 +1,6 @@
 -- What sending adds to a sender and to what it has sent.
-use Rattle.std.proofs.Common.{◌≡◌, ◌≢◌, ℕ, suc, ◌+◌, ◌<◌, ◌≤◌, List, [], ◌∷◌, ◌++◌, length, refl, sym, ap, ◌∙◌, subst, append_assoc, append-nil, length-append, Option, Some, None, slice_get, arith}
+use Rattle.std.proofs.Common.{◌≡◌, ◌≢◌, ℕ, suc, ◌+◌, ◌<◌, ◌≤◌, List, [], ◌∷◌, ◌++◌, length, refl, sym, ap, ◌∙◌, subst}
+use Rattle.std.proofs.Common.{append_assoc, append-nil, length-append, Option, Some, None, slice_get, arith}
 use Rattle.std.specs.List.{AllByRecursion}
 use Rattle.sim_base.specs.declared.message.Msg.{Msg}
 use Rattle.sim_base.specs.declared.message.Job.{Job as JobOf}
@@ -24,17 +25,35 @@ module _ (net : Net) (now : ℕ) where
     pub next : b.sender.next ≡ a.sender.next + length more
     pub are : AreSends net now a.sender.station a.sender.next more
 
-  AreSends-append : (s k : ℕ) (ms ns : List Msg) → AreSends net now s k ms → AreSends net now s (k + length ms) ns → AreSends net now s k (ms ++ ns)
-  AreSends-append s k [] ns are more = let same : k + 0 ≡ k = omega arith in subst (λ (i : ℕ). AreSends net now s i ns) same more
+  AreSends-append : (s k : ℕ) (ms ns : List Msg) → AreSends net now s k ms → AreSends net now s (k + length ms) ns
+      → AreSends net now s k (ms ++ ns)
+  AreSends-append s k [] ns are more = let same : k + 0 ≡ k = omega arith in
+      subst (λ (i : ℕ). AreSends net now s i ns) same more
   AreSends-append s k (m ∷ ms) ns are more =
       let same : k + suc (length ms) ≡ suc k + length ms = omega arith in
       (are.0, AreSends-append s (suc k) ms ns are.1 (subst (λ (i : ℕ). AreSends net now s i ns) same more))
 
   pub grown-none : (a : Outgoing) → Grown 0 a a
-  grown-none a = record { station = refl; draws = omega arith; more = []; sends = sym (append-nil a.sends); few = omega arith; next = omega arith; are = tt }
+  grown-none a = record {
+    station = refl;
+    draws = omega arith;
+    more = [];
+    sends = sym (append-nil a.sends);
+    few = omega arith;
+    next = omega arith;
+    are = tt;
+  }
 
   pub grown-more : (n m : ℕ) (a b : Outgoing) → Grown n a b → n ≤ m → Grown m a b
-  grown-more n m a b g le = record { station = g.station; draws = omega (arith, g.draws); more = g.more; sends = g.sends; few = omega (arith, g.few); next = g.next; are = g.are }
+  grown-more n m a b g le = record {
+    station = g.station;
+    draws = omega (arith, g.draws);
+    more = g.more;
+    sends = g.sends;
+    few = omega (arith, g.few);
+    next = g.next;
+    are = g.are;
+  }
 
   pub grown-same : (n : ℕ) (a : Outgoing) → Grown n a a
   grown-same n a = grown-more 0 n a a (grown-none a) (omega arith)
@@ -42,7 +61,8 @@ module _ (net : Net) (now : ℕ) where
   pub grown-then : (n m : ℕ) (a b c : Outgoing) → Grown n a b → Grown m b c → Grown (n + m) a c
   grown-then n m a b c g h =
       let count = length-append g.more h.more in
-      let here : AreSends net now a.sender.station (a.sender.next + length g.more) h.more = rw (← g.station, ← g.next) h.are in
+      let here : AreSends net now a.sender.station (a.sender.next + length g.more) h.more =
+      rw (← g.station, ← g.next) h.are in
       record {
         station = h.station ∙ g.station;
         draws = omega (arith, g.draws, h.draws);
@@ -54,10 +74,17 @@ module _ (net : Net) (now : ℕ) where
       }
 
   -- one message that is sent as it should be, after at most one word was drawn
-  pub grown-send : (time to : ℕ) (payload : Payload) (a o : Outgoing) → o.sender.station ≡ a.sender.station → o.sender.next ≡ a.sender.next → o.sends ≡ a.sends → o.sender.draws.count ≤ a.sender.draws.count + 1
-      → now < time → (to ≢ a.sender.station → now + net.lookahead ≤ time) → (IsJob payload → now + net.lookahead ≤ time) → 1 ≤ to → to ≤ length net.sites → Grown 1 a (send time to payload o)
+  pub grown-send : (time to : ℕ) (payload : Payload) (a o : Outgoing) → o.sender.station ≡ a.sender.station
+      → o.sender.next ≡ a.sender.next → o.sends ≡ a.sends → o.sender.draws.count ≤ a.sender.draws.count + 1
+      → now < time → (to ≢ a.sender.station → now + net.lookahead ≤ time)
+      → (IsJob payload → now + net.lookahead ≤ time) → 1 ≤ to → to ≤ length net.sites
+      → Grown 1 a (send time to payload o)
   grown-send time to payload a o station next sends draws later far on_link first last =
-      let m : Msg = record { key = record { time = time; sender = o.sender.station; number = o.sender.next }; to = to; payload = payload } in
+      let m : Msg = record {
+        key = record { time = time; sender = o.sender.station; number = o.sender.next };
+        to = to;
+        payload = payload;
+      } in
       record {
         station = station;
         draws = draws;
@@ -65,51 +92,91 @@ module _ (net : Net) (now : ℕ) where
         sends = ap (λ s. s ++ m ∷ []) sends;
         few = omega arith;
         next = omega (arith, next);
-        are = (record { sender = station; number = next; later = later; far = far; on_link = on_link; first = first; last = last }, tt);
+        are = (
+          record {
+            sender = station;
+            number = next;
+            later = later;
+            far = far;
+            on_link = on_link;
+            first = first;
+            last = last;
+          },
+          tt,
+        );
       }
 
-  picked-draws : (weights : List ℕ) (o : Outgoing) → (after_pick weights o).sender.draws.count ≤ o.sender.draws.count + 1
+  picked-draws : (weights : List ℕ) (o : Outgoing)
+      → (after_pick weights o).sender.draws.count ≤ o.sender.draws.count + 1
   picked-draws [] o = omega arith
   picked-draws (w ∷ []) o = omega arith
   picked-draws (w ∷ v ∷ ws) o = omega arith
 
   -- a pick alone sends nothing
   grown-picked : (weights : List ℕ) (o : Outgoing) → Grown 1 o (after_pick weights o)
-  grown-picked weights o = record { station = refl; draws = picked-draws weights o; more = []; sends = sym (append-nil o.sends); few = omega arith; next = omega arith; are = tt }
+  grown-picked weights o = record {
+    station = refl;
+    draws = picked-draws weights o;
+    more = [];
+    sends = sym (append-nil o.sends);
+    few = omega arith;
+    next = omega arith;
+    are = tt;
+  }
 
   module _ (a : Outgoing) (first : 1 ≤ a.sender.station) (last : a.sender.station ≤ length net.sites) where
     -- a message to the station itself
-    pub grown-later : (lo hi : ℕ) (payload : Payload) → ¬ IsJob payload → 1 ≤ lo → Grown 1 a (send_later now lo hi payload a)
+    pub grown-later : (lo hi : ℕ) (payload : Payload) → ¬ IsJob payload → 1 ≤ lo
+        → Grown 1 a (send_later now lo hi payload a)
     grown-later lo hi payload own low =
-        grown-send (now + range_of lo hi a.sender.draws) a.sender.station payload a (draw a) refl refl refl (omega arith) (omega arith) (λ other. absurd (other refl)) (λ job. absurd (own job)) first last
+        grown-send (now + range_of lo hi a.sender.draws) a.sender.station payload a (draw a) refl refl refl
+        (omega arith) (omega arith) (λ other. absurd (other refl)) (λ job. absurd (own job)) first last
 
   -- a job over a link, from a sender that has drawn at most one word since a
-  over-link : (link : Option Link) (links : List Link) (i extra : ℕ) (job : JobOf) (a o : Outgoing) → AllByRecursion (IsLink net) links → 1 ≤ net.lookahead → link ≡ slice_get links i
-      → o.sender.station ≡ a.sender.station → o.sender.next ≡ a.sender.next → o.sends ≡ a.sends → o.sender.draws.count ≤ a.sender.draws.count + 1 → Grown 1 a (send_over link (now + extra) job o)
+  over-link : (link : Option Link) (links : List Link) (i extra : ℕ) (job : JobOf) (a o : Outgoing)
+      → AllByRecursion (IsLink net) links → 1 ≤ net.lookahead → link ≡ slice_get links i
+      → o.sender.station ≡ a.sender.station → o.sender.next ≡ a.sender.next → o.sends ≡ a.sends
+      → o.sender.draws.count ≤ a.sender.draws.count + 1 → Grown 1 a (send_over link (now + extra) job o)
   over-link None links i extra job a o are ahead is station next sends draws =
-      record { station = station; draws = draws; more = []; sends = sends ∙ sym (append-nil a.sends); few = omega arith; next = omega (arith, next); are = tt }
+      record {
+        station = station;
+        draws = draws;
+        more = [];
+        sends = sends ∙ sym (append-nil a.sends);
+        few = omega arith;
+        next = omega (arith, next);
+        are = tt;
+      }
   over-link (Some link) links i extra job a o are ahead is station next sends draws =
       let valid = all_at (IsLink net) links i link are (sym is) in
-      grown-send ((now + extra) + link.delay) link.to (Job job) a o station next sends draws (omega (arith, valid.slow)) (λ other. omega (arith, valid.slow)) (λ job. omega (arith, valid.slow)) valid.first valid.last
+      grown-send ((now + extra) + link.delay) link.to (Job job) a o station next sends draws
+      (omega (arith, valid.slow)) (λ other. omega (arith, valid.slow))
+      (λ job. omega (arith, valid.slow)) valid.first valid.last
 
   -- a job over a link that is picked by weights
-  pub grown-route : (links : List Link) (weights : List ℕ) (job : JobOf) (a : Outgoing) → AllByRecursion (IsLink net) links → 1 ≤ net.lookahead → Grown 1 a (route_by links weights now job a)
+  pub grown-route : (links : List Link) (weights : List ℕ) (job : JobOf) (a : Outgoing)
+      → AllByRecursion (IsLink net) links → 1 ≤ net.lookahead → Grown 1 a (route_by links weights now job a)
   grown-route links weights job a are ahead =
       let zero_more : now + 0 ≡ now = omega arith in
       subst (λ (t : ℕ). Grown 1 a (send_over (link_by links weights a) t job (after_pick weights a))) zero_more
-      (over-link (link_by links weights a) links _ 0 job a (after_pick weights a) are ahead refl refl refl refl (picked-draws weights a))
+      (over-link (link_by links weights a) links _ 0 job a (after_pick weights a) are ahead refl refl refl refl
+      (picked-draws weights a))
 
   -- a job over a given link of a station
-  pub grown-over : (links : List Link) (i : ℕ) (job : JobOf) (a : Outgoing) → AllByRecursion (IsLink net) links → 1 ≤ net.lookahead → Grown 1 a (send_over (slice_get links i) now job a)
+  pub grown-over : (links : List Link) (i : ℕ) (job : JobOf) (a : Outgoing) → AllByRecursion (IsLink net) links
+      → 1 ≤ net.lookahead → Grown 1 a (send_over (slice_get links i) now job a)
   grown-over links i job a are ahead =
       let zero_more : now + 0 ≡ now = omega arith in
       subst (λ (t : ℕ). Grown 1 a (send_over (slice_get links i) t job a)) zero_more
       (over-link (slice_get links i) links i 0 job a a are ahead refl refl refl refl (omega arith))
 
   -- a job that is held for a while, over a link that is picked first
-  pub grown-held : (links : List Link) (weights : List ℕ) (extra : ℕ) (job : JobOf) (a : Outgoing) → AllByRecursion (IsLink net) links → 1 ≤ net.lookahead
+  pub grown-held : (links : List Link) (weights : List ℕ) (extra : ℕ) (job : JobOf) (a : Outgoing)
+      → AllByRecursion (IsLink net) links → 1 ≤ net.lookahead
       → Grown 2 a (send_over (link_by links weights a) (now + extra) job (draw (after_pick weights a)))
   grown-held links weights extra job a are ahead =
       let routed = after_pick weights a in
-      grown-then 1 1 a routed (send_over (link_by links weights a) (now + extra) job (draw routed)) (grown-picked weights a)
-      (over-link (link_by links weights a) links _ extra job routed (draw routed) are ahead refl refl refl refl (omega arith))
+      grown-then 1 1 a routed (send_over (link_by links weights a) (now + extra) job (draw routed))
+      (grown-picked weights a)
+      (over-link (link_by links weights a) links _ extra job routed (draw routed) are ahead refl refl refl refl
+      (omega arith))

@@ -37,13 +37,16 @@ module _ (net : Net) (valid : IsNet net) where
 
   pub keys-small : KeysAreSmall net
   keys-small c front m counted i = record {
-    sender = elim (numbers_low (lawful-stations net valid) (stations-to_stations net valid) (fresh-stations net valid) few-numbers
+    sender = elim (numbers_low (lawful-stations net valid) (stations-to_stations net valid)
+        (fresh-stations net valid) few-numbers
         c front counted.there m i) [
           | inl a ↦ let analyst = a.0 in omega (arith, analyst)
           | inr a ↦ a.0.1
         ];
-    number = numbers_fit (lawful-stations net valid) (stations-to_stations net valid) (fresh-stations net valid) few-numbers
-        c front counted.there (2 ^ 21) m (λ s here beyond. counted.within s here.0 here.1 beyond) counted.short bound-enough i;
+    number = numbers_fit (lawful-stations net valid) (stations-to_stations net valid)
+        (fresh-stations net valid) few-numbers
+        c front counted.there (2 ^ 21) m (λ s here beyond. counted.within s here.0 here.1 beyond) counted.short
+        bound-enough i;
   }
 
   pub log_keys-small : LogKeysAreSmall net

@@ -33,10 +33,12 @@ module _ (net : Net) (site : Site) (now : ℕ) where
     pub kind : IsOfKind site site.kind r.state
     pub grown : Grown net now 16 a r.out
 
-module _ (net : Net) (site : Site) (now : ℕ) (links : AllByRecursion (IsLink net) site.links) (ahead : 1 ≤ net.lookahead)
+module _ (net : Net) (site : Site) (now : ℕ) (links : AllByRecursion (IsLink net) site.links)
+    (ahead : 1 ≤ net.lookahead)
     (a : Outgoing) (first : 1 ≤ a.sender.station) (last : a.sender.station ≤ length net.sites) where
   -- whatever message comes, a station of any kind keeps what it should, and sends as stations send
-  pub kind_on-good : (k : Kind) (handled : ℕ) (p : Payload) (s : KindState) → site.kind ≡ k → IsOfKind site k s → GoodKind handled s → IsGoodReaction net site now handled a (kind_on net site now p s a)
+  pub kind_on-good : (k : Kind) (handled : ℕ) (p : Payload) (s : KindState) → site.kind ≡ k → IsOfKind site k s
+      → GoodKind handled s → IsGoodReaction net site now handled a (kind_on net site now p s a)
   kind_on-good (kind.Source lo hi jobs class) handled p (Source s) is of f =
       let r = source_on-good net site now links ahead a first last lo hi jobs class handled p s is f in
       record { good = r.0; kind = rw is tt; grown = r.1 }
@@ -48,7 +50,12 @@ module _ (net : Net) (site : Site) (now : ℕ) (links : AllByRecursion (IsLink n
       record { good = r.0; kind = rw is tt; grown = r.1 }
   kind_on-good (kind.Router turn) handled p (Router s) is of f =
       let r = router_on-good net site now links ahead a first last handled p s (ap is_router is) of f in
-      record { good = r.0; kind = subst (λ (q : Kind). IsOfKind site q (Router (router_on site now p s a).state)) (sym is) r.1; grown = r.2 }
+      record {
+        good = r.0;
+        kind = subst (λ (q : Kind). IsOfKind site q (Router (router_on site now p s a).state))
+            (sym is) r.1;
+        grown = r.2;
+      }
   kind_on-good kind.Sink handled p (Sink s) is of f =
       record { good = tt; kind = rw is tt; grown = grown-same net now 16 a }
   kind_on-good (kind.Source lo hi jobs class) handled p (Server s) is of f = absurd of
@@ -74,7 +81,9 @@ module _ (net : Net) (site : Site) (now : ℕ) (links : AllByRecursion (IsLink n
 
 module _ (now : ℕ) (early : now < 2 ^ 31) where
   -- a good state fits, where the sums of a sink stay small
-  pub kind_on-fits : (net : Net) (site : Site) (handled : ℕ) (p : Payload) (s : KindState) (o : Outgoing) → FitsKind handled s → GoodKind (handled + 1) (kind_on net site now p s o).state → FitsKind (handled + 1) (kind_on net site now p s o).state
+  pub kind_on-fits : (net : Net) (site : Site) (handled : ℕ) (p : Payload) (s : KindState) (o : Outgoing)
+      → FitsKind handled s → GoodKind (handled + 1) (kind_on net site now p s o).state
+      → FitsKind (handled + 1) (kind_on net site now p s o).state
   kind_on-fits net site handled p (Source s) o f good = good
   kind_on-fits net site handled p (Server s) o f good = good
   kind_on-fits net site handled p (Delay s) o f good = good

@@ -1,5 +1,6 @@
 -- What a network promises of the stations that stand in it.
-use Rattle.std.proofs.Common.{◌≡◌, ℕ, zero, suc, ◌+◌, ◌^◌, ◌<◌, ◌≤◌, List, [], ◌∷◌, length, refl, sym, ap, subst, slice_get, Some, unwrap_or, arith}
+use Rattle.std.proofs.Common.{◌≡◌, ℕ, zero, suc, ◌+◌, ◌^◌, ◌<◌, ◌≤◌, List, []}
+use Rattle.std.proofs.Common.{◌∷◌, length, refl, sym, ap, subst, slice_get, Some, unwrap_or, arith}
 use Rattle.std.specs.List.{AllByRecursion}
 use Rattle.net_model.specs.declared.station.Kind.{Kind}
 use Rattle.net_model.specs.declared.station.Kind.TheVariants as kind
@@ -35,9 +36,11 @@ pub site_is : (net : Net) (s : ℕ) (site : Site) → site_at net s ≡ Some sit
 site_is net s site is = ap (λ o. unwrap_or o no_site) is
 
 links_parts : (net : Net) (links : List Link) → AllByRecursion (IsLink net) links
-    → AllByRecursion (λ l. 1 ≤ l.weight) links × AllByRecursion (λ l. l.weight ≤ 1000) links × AllByRecursion (λ l. l.delay ≤ 1000000) links
+    → AllByRecursion (λ l. 1 ≤ l.weight) links × AllByRecursion (λ l. l.weight ≤ 1000) links
+    × AllByRecursion (λ l. l.delay ≤ 1000000) links
 links_parts net [] all = (tt, tt, tt)
-links_parts net (l ∷ ls) all = let rest = links_parts net ls all.1 in ((all.0.heavy, rest.0), (all.0.light, rest.1), (all.0.small, rest.2))
+links_parts net (l ∷ ls) all = let rest = links_parts net ls all.1 in
+    ((all.0.heavy, rest.0), (all.0.light, rest.1), (all.0.small, rest.2))
 
 pub are_links : (net : Net) (site : Site) → IsSite net site → 1 ≤ length site.links → AreLinks site.links
 are_links net site valid some =
@@ -45,26 +48,31 @@ are_links net site valid some =
     record { some = some; few = valid.few; heavy = parts.0; light = parts.1; near = parts.2 }
 
 -- a state of the station's kind has the links that it needs
-has_links : (net : Net) (site : Site) (k : Kind) (st : KindState) → IsSite net site → site.kind ≡ k → IsOfKind site k st → HasLinks st site.links
-has_links net site (kind.Source lo hi jobs class) (Source s) valid is of = are_links net site valid (subst (λ (q : Kind). HasWayOut q site.links) is valid.way)
+has_links : (net : Net) (site : Site) (k : Kind) (st : KindState) → IsSite net site → site.kind ≡ k
+    → IsOfKind site k st → HasLinks st site.links
+has_links net site (kind.Source lo hi jobs class) (Source s) valid is of =
+    are_links net site valid (subst (λ (q : Kind). HasWayOut q site.links) is valid.way)
 has_links net site (kind.Source lo hi jobs class) (Server s) valid is of = absurd of
 has_links net site (kind.Source lo hi jobs class) (Delay s) valid is of = absurd of
 has_links net site (kind.Source lo hi jobs class) (Router s) valid is of = absurd of
 has_links net site (kind.Source lo hi jobs class) (Sink s) valid is of = absurd of
 has_links net site (kind.Server servers room lo hi by_class) (Source s) valid is of = absurd of
-has_links net site (kind.Server servers room lo hi by_class) (Server s) valid is of = are_links net site valid (subst (λ (q : Kind). HasWayOut q site.links) is valid.way)
+has_links net site (kind.Server servers room lo hi by_class) (Server s) valid is of =
+    are_links net site valid (subst (λ (q : Kind). HasWayOut q site.links) is valid.way)
 has_links net site (kind.Server servers room lo hi by_class) (Delay s) valid is of = absurd of
 has_links net site (kind.Server servers room lo hi by_class) (Router s) valid is of = absurd of
 has_links net site (kind.Server servers room lo hi by_class) (Sink s) valid is of = absurd of
 has_links net site (kind.Delay lo hi) (Source s) valid is of = absurd of
 has_links net site (kind.Delay lo hi) (Server s) valid is of = absurd of
-has_links net site (kind.Delay lo hi) (Delay s) valid is of = are_links net site valid (subst (λ (q : Kind). HasWayOut q site.links) is valid.way)
+has_links net site (kind.Delay lo hi) (Delay s) valid is of =
+    are_links net site valid (subst (λ (q : Kind). HasWayOut q site.links) is valid.way)
 has_links net site (kind.Delay lo hi) (Router s) valid is of = absurd of
 has_links net site (kind.Delay lo hi) (Sink s) valid is of = absurd of
 has_links net site (kind.Router turn) (Source s) valid is of = absurd of
 has_links net site (kind.Router turn) (Server s) valid is of = absurd of
 has_links net site (kind.Router turn) (Delay s) valid is of = absurd of
-has_links net site (kind.Router turn) (Router s) valid is of = are_links net site valid (subst (λ (q : Kind). HasWayOut q site.links) is valid.way)
+has_links net site (kind.Router turn) (Router s) valid is of =
+    are_links net site valid (subst (λ (q : Kind). HasWayOut q site.links) is valid.way)
 has_links net site (kind.Router turn) (Sink s) valid is of = absurd of
 has_links net site kind.Sink (Source s) valid is of = absurd of
 has_links net site kind.Sink (Server s) valid is of = absurd of
@@ -82,7 +90,8 @@ pub record HandlesWell (net : Net) (st : StateView) (m : Msg) : Type 0 where
   pub handled : (handle net st m).state.handled ≡ st.handled + 1
   pub station : (handle net st m).state.sender.station ≡ st.sender.station
 
-pub handles-well : (net : Net) (st : StateView) (m : Msg) → IsNet net → FitsState st → SuitsNet net st → m.key.time < 2 ^ 31 → HandlesWell net st m
+pub handles-well : (net : Net) (st : StateView) (m : Msg) → IsNet net → FitsState st → SuitsNet net st
+    → m.key.time < 2 ^ 31 → HandlesWell net st m
 unfolding handle
 handles-well net st m valid fits suits early =
     let site = site_of net st.sender.station in
@@ -92,7 +101,8 @@ handles-well net st m valid fits suits early =
     let of : IsOfKind site site.kind st.kind = subst (λ (q : Site). IsOfKind q q.kind st.kind) (sym is) suits.kind in
     let number = number_in net st.sender.station suits.site suits.is_there in
     let begin : Outgoing = record { sender = st.sender; sends = [] } in
-    let after = kind_on-good net site m.key.time lawful.links valid.ahead begin number.0 number.1 site.kind st.handled m.payload st.kind refl of (good_kind st.handled st.kind fits.kind) in
+    let after = kind_on-good net site m.key.time lawful.links valid.ahead begin number.0 number.1 site.kind st.handled
+    m.payload st.kind refl of (good_kind st.handled st.kind fits.kind) in
     let g = after.grown in
     let count = ap length g.sends in
     record {
@@ -117,9 +127,15 @@ no_element [] none = refl
 no_element (x ∷ xs) none = absurd (omega arith)
 
 -- the code's steps come to the handling of the message
-pub handle-is : (net : Net) (st : StateView) (m : Msg) (site : Site) (before after : List Msg) (kind' : KindState) (sender' : Sender) → site_at net st.sender.station ≡ Some site → length before ≡ 0
-    → kind_on net site m.key.time m.payload st.kind (outgoing st.sender before) ≡ reaction kind' (outgoing sender' after)
-    → handle net st m ≡ record { state = record { sender = sender'; handled = st.handled + 1; kind = kind' }; sends = after; line = line_of kind' }
+pub handle-is : (net : Net) (st : StateView) (m : Msg) (site : Site) (before after : List Msg) (kind' : KindState)
+    (sender' : Sender) → site_at net st.sender.station ≡ Some site → length before ≡ 0
+    → kind_on net site m.key.time m.payload st.kind (outgoing st.sender before) ≡ reaction kind'
+    (outgoing sender' after)
+    → handle net st m ≡ record {
+      state = record { sender = sender'; handled = st.handled + 1; kind = kind' };
+      sends = after;
+      line = line_of kind';
+    }
 unfolding handle
 handle-is net st m site before after kind' sender' there none is =
     let nothing = no_element before none in

@@ -6,7 +6,8 @@ use Rattle.net_model.specs.declared.station.Link.{Link}
 use Rattle.stations.specs.Fits.{AreWeights, AreLinks}
 use Rattle.stations.specs.Sending.{weights_of}
 
-all_weights : (P : ℕ → Type 0) (links : List Link) → AllByRecursion (λ l. P l.weight) links → AllByRecursion P (weights_of links)
+all_weights : (P : ℕ → Type 0) (links : List Link) → AllByRecursion (λ l. P l.weight) links
+    → AllByRecursion P (weights_of links)
 all_weights P [] all = tt
 all_weights P (l ∷ ls) all = (all.0, all_weights P ls all.1)
 

@@ -1,5 +1,6 @@
 -- The next in line stands in the line.
-use Rattle.std.proofs.Common.{◌≡◌, ℕ, ◌<◌, ◌≤◌, ◌⊎◌, inl, inr, min, List, [], ◌∷◌, length, Bool, true, false, if◌then◌else◌, eqb, eq-eqb, refl, sym, ◌∙◌, arith}
+use Rattle.std.proofs.Common.{◌≡◌, ℕ, ◌<◌, ◌≤◌, ◌⊎◌, inl, inr, min, List, [], ◌∷◌}
+use Rattle.std.proofs.Common.{length, Bool, true, false, if◌then◌else◌, eqb, eq-eqb, refl, sym, ◌∙◌, arith}
 use Rattle.std.proofs.lemmas.Bool.{cases_Bool, cases_lt, false≢true}
 use Rattle.sim_base.specs.declared.message.Job.{Job as JobOf}
 use Rattle.net_model.specs.Net.{Net, Site, serves_by_class}
@@ -27,7 +28,10 @@ module _ (net : Net) where
 
   least_in_line : (jobs : List JobOf) → 1 ≤ length jobs → HasClass (least_in net jobs) jobs
   least_in_line [] some = absurd (omega arith)
-  least_in_line (j ∷ js) some = elim (least_reached (class_of net j) js) [ inl same ↦ inl (sym same) | inr has ↦ inr has ]
+  least_in_line (j ∷ js) some = elim (least_reached (class_of net j) js) [
+    | inl same ↦ inl (sym same)
+    | inr has ↦ inr has
+  ]
 
   place_below : (n : ℕ) (jobs : List JobOf) → HasClass n jobs → place_of_class net n jobs < length jobs
   place_below n [] has = absurd has

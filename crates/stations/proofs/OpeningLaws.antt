@@ -1,5 +1,6 @@
 -- What a station opens with.
-use Rattle.std.proofs.Common.{◌≡◌, ℕ, ◌<◌, ◌≤◌, Bool, true, false, nat_lt, if◌then◌else◌, slice_get, inl, List, [], length, refl, sym, ap, subst, Some, arith}
+use Rattle.std.proofs.Common.{◌≡◌, ℕ, ◌<◌, ◌≤◌, Bool, true, false, nat_lt, if◌then◌else◌, slice_get}
+use Rattle.std.proofs.Common.{inl, List, [], length, refl, sym, ap, subst, Some, arith}
 use Rattle.std.proofs.lemmas.List.{length-map}
 use Rattle.net_model.specs.declared.station.Kind.{Kind}
 use Rattle.net_model.specs.declared.station.Kind.TheVariants as kind
@@ -21,17 +22,32 @@ use Rattle.stations.proofs.Lawful.{site_valid, number_in, site_is, are_links}
 use Rattle.stations.proofs.Links.{are_weights}
 
 -- what a kind opens with fits
-pub opening-fits : (net : Net) (site : Site) (k : Kind) → IsSite net site → site.kind ≡ k → FitsKind 0 (opening_kind site k)
+pub opening-fits : (net : Net) (site : Site) (k : Kind) → IsSite net site → site.kind ≡ k
+    → FitsKind 0 (opening_kind site k)
 opening-fits net site (kind.Source lo hi jobs class) valid is =
     let of : IsKind (kind.Source lo hi jobs class) = subst (λ (q : Kind). IsKind q) is valid.kind in
     record { range = of.every; jobs = of.few; sent = omega arith }
 opening-fits net site (kind.Server servers room lo hi by_class) valid is =
     let of : IsKind (kind.Server servers room lo hi by_class) = subst (λ (q : Kind). IsKind q) is valid.kind in
-    record { some = of.some; most = of.few; room = of.small; range = of.service; busy = omega arith; line = inl refl; short = omega arith; done = omega arith; lost = omega arith }
+    record {
+      some = of.some;
+      most = of.few;
+      room = of.small;
+      range = of.service;
+      busy = omega arith;
+      line = inl refl;
+      short = omega arith;
+      done = omega arith;
+      lost = omega arith;
+    }
 opening-fits net site (kind.Delay lo hi) valid is =
     record { range = subst (λ (q : Kind). IsKind q) is valid.kind; passed = omega arith }
 opening-fits net site (kind.Router turn) valid is =
-    record { weights = are_weights site.links (are_links net site valid (subst (λ (q : Kind). HasWayOut q site.links) is valid.way)); passed = omega arith }
+    record {
+      weights = are_weights site.links
+          (are_links net site valid (subst (λ (q : Kind). HasWayOut q site.links) is valid.way));
+      passed = omega arith;
+    }
 opening-fits net site kind.Sink valid is = record { got = omega arith; stay = omega arith }
 
 pub opening-kind : (site : Site) (k : Kind) → IsOfKind site k (opening_kind site k)
@@ -41,39 +57,67 @@ opening-kind site (kind.Delay lo hi) = tt
 opening-kind site (kind.Router turn) = length-map site.links (λ (l : Link). l.weight)
 opening-kind site kind.Sink = tt
 
-pub first_tick_grown : (net : Net) (site : Site) (k : Kind) (o : Outgoing) → IsNet net → IsSite net site → site.kind ≡ k → 1 ≤ o.sender.station → o.sender.station ≤ length net.sites → Grown net 0 1 o (first_tick (opening_kind site k) o)
+pub first_tick_grown : (net : Net) (site : Site) (k : Kind) (o : Outgoing) → IsNet net → IsSite net site
+    → site.kind ≡ k → 1 ≤ o.sender.station → o.sender.station ≤ length net.sites
+    → Grown net 0 1 o (first_tick (opening_kind site k) o)
 first_tick_grown net site (kind.Source lo hi jobs class) o valid lawful is first last =
     let fits = opening-fits net site (kind.Source lo hi jobs class) lawful is in
     tick_grown net 0 (record { lo = lo; hi = hi; jobs = jobs; sent = 0 }) o fits.range first last
-first_tick_grown net site (kind.Server servers room lo hi by_class) o valid lawful is first last = grown-more net 0 0 1 o o (grown-none net 0 o) (omega arith)
-first_tick_grown net site (kind.Delay lo hi) o valid lawful is first last = grown-more net 0 0 1 o o (grown-none net 0 o) (omega arith)
-first_tick_grown net site (kind.Router turn) o valid lawful is first last = grown-more net 0 0 1 o o (grown-none net 0 o) (omega arith)
-first_tick_grown net site kind.Sink o valid lawful is first last = grown-more net 0 0 1 o o (grown-none net 0 o) (omega arith)
+first_tick_grown net site (kind.Server servers room lo hi by_class) o valid lawful is first last =
+    grown-more net 0 0 1 o o (grown-none net 0 o) (omega arith)
+first_tick_grown net site (kind.Delay lo hi) o valid lawful is first last =
+    grown-more net 0 0 1 o o (grown-none net 0 o) (omega arith)
+first_tick_grown net site (kind.Router turn) o valid lawful is first last =
+    grown-more net 0 0 1 o o (grown-none net 0 o) (omega arith)
+first_tick_grown net site kind.Sink o valid lawful is first last =
+    grown-more net 0 0 1 o o (grown-none net 0 o) (omega arith)
 
 -- a station opens with a state that fits, and is one of the network
-pub opens-well : (net : Net) (s : ℕ) (site : Site) → IsNet net → site_at net s ≡ Some site → FitsState (setup net s).state × SuitsNet net (setup net s).state
+pub opens-well : (net : Net) (s : ℕ) (site : Site) → IsNet net → site_at net s ≡ Some site
+    → FitsState (setup net s).state × SuitsNet net (setup net s).state
 opens-well net s site valid there =
     let at = site_of net s in
     let is = site_is net s site there in
     let here : site_at net s ≡ Some at = rw is there in
     let lawful : IsSite net at = rw is (site_valid net s site valid there) in
     let number = number_in net s site there in
-    let o : Outgoing = record { sender = record { station = s; next = 0; draws = record { seed = net.seed; stream = at.stream; count = 0 } }; sends = [] } in
+    let o : Outgoing = record {
+      sender = record {
+        station = s;
+        next = 0;
+        draws = record { seed = net.seed; stream = at.stream; count = 0 };
+      };
+      sends = [];
+    } in
     let g = first_tick_grown net at at.kind o valid lawful refl number.0 number.1 in (
       record {
-        sender = record { station = rw g.station number.0; next = omega (arith, g.next, g.few); draws = omega (arith, g.draws) };
+        sender = record {
+          station = rw g.station number.0;
+          next = omega (arith, g.next, g.few);
+          draws = omega (arith, g.draws);
+        };
         kind = opening-fits net at at.kind lawful refl;
       },
       record { site = at; is_there = rw g.station here; kind = opening-kind at at.kind },
     )
 
 -- the code's steps come to the opening of the station
-pub opened-is : (net : Net) (s : ℕ) (site : Site) (kept : KindState) (sender' : Sender) (before after : List Msg) → site_at net s ≡ Some site → kept ≡ opening_kind site site.kind → before ≡ []
-    → first_tick kept (outgoing (record { station = s; next = 0; draws = record { seed = net.seed; stream = site.stream; count = 0 } }) before) ≡ outgoing sender' after
+pub opened-is : (net : Net) (s : ℕ) (site : Site) (kept : KindState) (sender' : Sender) (before after : List Msg)
+    → site_at net s ≡ Some site → kept ≡ opening_kind site site.kind → before ≡ []
+    → first_tick kept (outgoing (record {
+      station = s;
+      next = 0;
+      draws = record { seed = net.seed; stream = site.stream; count = 0 };
+    }) before) ≡ outgoing sender' after
     → (setup net s).state ≡ record { sender = sender'; handled = 0; kind = kept }
 opened-is net s site kept sender' before after there is none ticked =
     let ticked_here = rw (none, is) at ticked in
-    rw (site_is net s site there, is) (ap (λ (o : Outgoing). let st : StateView = record { sender = o.sender; handled = 0; kind = opening_kind site site.kind } in st) ticked_here)
+    rw (site_is net s site there, is)
+    (ap (λ (o : Outgoing). let st : StateView = record {
+      sender = o.sender;
+      handled = 0;
+      kind = opening_kind site site.kind;
+    } in st) ticked_here)
 
 -- the sender of the first tick is the station itself
 pub first_tick-station : (k : KindState) (o : Outgoing) → (first_tick k o).sender.station ≡ o.sender.station
@@ -96,13 +140,21 @@ pub record IsFirst (s next : ℕ) (m : Msg) : Type 0 where
 some_is : {X : Type 0} {x y : X} → Some x ≡ Some y → x ≡ y
 some_is is = cc
 
-pub first_tick-first : (k : KindState) (sender : Sender) (m : Msg) → slice_get (first_tick k (outgoing sender [])).sends 0 ≡ Some m → IsFirst sender.station (first_tick k (outgoing sender [])).sender.next m
+pub first_tick-first : (k : KindState) (sender : Sender) (m : Msg)
+    → slice_get (first_tick k (outgoing sender [])).sends 0 ≡ Some m
+    → IsFirst sender.station (first_tick k (outgoing sender [])).sender.next m
 first_tick-first (Source s) sender m is = by (nat_lt s.sent s.jobs) is
   where
-    by : (b : Bool) → slice_get (if b then send_later 0 s.lo s.hi Tick (outgoing sender []) else outgoing sender []).sends 0 ≡ Some m → IsFirst sender.station (if b then send_later 0 s.lo s.hi Tick (outgoing sender []) else outgoing sender []).sender.next m
+    by : (b : Bool) → slice_get (if b then send_later 0 s.lo s.hi Tick (outgoing sender []) else outgoing sender
+        []).sends 0 ≡ Some m → IsFirst sender.station
+        (if b then send_later 0 s.lo s.hi Tick (outgoing sender []) else outgoing sender []).sender.next m
     by true same =
         let it = some_is same in
-        record { to = ap (λ (x : Msg). x.to) (sym it); sender = ap (λ (x : Msg). x.key.sender) (sym it); used = (let number = ap (λ (x : Msg). x.key.number) it in omega arith) }
+        record {
+          to = ap (λ (x : Msg). x.to) (sym it);
+          sender = ap (λ (x : Msg). x.key.sender) (sym it);
+          used = (let number = ap (λ (x : Msg). x.key.number) it in omega arith);
+        }
     by false none = absurd (cc)
 first_tick-first (Server s) sender m is = absurd (cc)
 first_tick-first (Delay s) sender m is = absurd (cc)

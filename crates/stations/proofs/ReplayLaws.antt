@@ -1,5 +1,6 @@
 -- What a log leads to, and how what a station sends is numbered.
-use Rattle.std.proofs.Common.{◌≡◌, ℕ, zero, suc, ◌+◌, ◌*◌, ◌^◌, ◌<◌, ◌≤◌, inl, inr, List, [], ◌∷◌, ◌++◌, length, refl, ap, ◌∙◌, subst, Some, nat_lt, Bool, true, false, if◌then◌else◌, arith}
+use Rattle.std.proofs.Common.{◌≡◌, ℕ, zero, suc, ◌+◌, ◌*◌, ◌^◌, ◌<◌, ◌≤◌, inl, inr, List, [], ◌∷◌}
+use Rattle.std.proofs.Common.{◌++◌, length, refl, ap, ◌∙◌, subst, Some, nat_lt, Bool, true, false, if◌then◌else◌, arith}
 use Rattle.std.specs.List.{AllByRecursion}
 use Rattle.std.proofs.lemmas.Option.{slice_get_cases}
 use Rattle.sim_base.specs.declared.message.Msg.{Msg}
@@ -14,7 +15,8 @@ use Rattle.stations.specs.declared.kind_state.KindState.TheVariants.{Source, Ser
 use Rattle.stations.specs.Fits.{FitsState, IsOfKind, SuitsNet}
 use Rattle.stations.specs.Good.{IsGood}
 use Rattle.stations.specs.Handling.{StateView, handle}
-use Rattle.stations.specs.Laws.{ReplayIsGood, ReplayCounts, ReplaySuits, ReplayFits, ReplayGoesOn, SendsNextNumbers, NumbersAreSmall, JobsTakeTheLookahead}
+use Rattle.stations.specs.Laws.{ReplayIsGood, ReplayCounts, ReplaySuits, ReplayFits}
+use Rattle.stations.specs.Laws.{ReplayGoesOn, SendsNextNumbers, NumbersAreSmall, JobsTakeTheLookahead}
 use Rattle.stations.specs.Opening.{first_tick, opening_kind, setup}
 use Rattle.stations.specs.Sending.{Outgoing, send_later}
 use Rattle.stations.proofs.GoodLaws.{among, handles-good, opens_good}
@@ -38,7 +40,8 @@ module _ (net : Net) where
   abbrev replay_from : ℕ → StateView → List (Entry Msg Line) → StateView
   replay_from s st log = world.replay (λ (m : Msg). m.to) (λ (r : ℕ). handle net) s st log
 
-  count_from : (s : ℕ) (st : StateView) (log : List (Entry Msg Line)) → (replay_from s st log).handled ≡ st.handled + length log
+  count_from : (s : ℕ) (st : StateView) (log : List (Entry Msg Line))
+      → (replay_from s st log).handled ≡ st.handled + length log
   unfolding handle
   count_from s st [] = omega arith
   count_from s st (e ∷ es) = count_from s (handle net st e.msg).state es ∙ omega arith
@@ -46,7 +49,8 @@ module _ (net : Net) where
   pub replay-counts : ReplayCounts net
   replay-counts s log = count_from s (setup net s).state log ∙ omega arith
 
-  goes_on_from : (s : ℕ) (st : StateView) (log : List (Entry Msg Line)) (e : Entry Msg Line) → replay_from s st (log ++ e ∷ []) ≡ (handle net (replay_from s st log) e.msg).state
+  goes_on_from : (s : ℕ) (st : StateView) (log : List (Entry Msg Line)) (e : Entry Msg Line)
+      → replay_from s st (log ++ e ∷ []) ≡ (handle net (replay_from s st log) e.msg).state
   goes_on_from s st [] e = refl
   goes_on_from s st (x ∷ log) e = goes_on_from s (handle net st x.msg).state log e
 
@@ -62,9 +66,11 @@ there net (suc i) low high = elim (slice_get_cases net.sites i).1 [
 ]
 
 module _ (net : Net) (valid : IsNet net) where
-  good_from : (s : ℕ) (st : StateView) (log : List (Entry Msg Line)) → IsGood net s st → IsGood net s (replay_from net s st log)
+  good_from : (s : ℕ) (st : StateView) (log : List (Entry Msg Line)) → IsGood net s st
+      → IsGood net s (replay_from net s st log)
   good_from s st [] good = good
-  good_from s st (e ∷ es) good = good_from s (handle net st e.msg).state es (handles-good net valid s st e.msg good).good
+  good_from s st (e ∷ es) good =
+      good_from s (handle net st e.msg).state es (handles-good net valid s st e.msg good).good
 
   pub replay-good : ReplayIsGood net
   replay-good s log = good_from s (setup net s).state log (opens_good net valid s)
@@ -80,7 +86,8 @@ module _ (net : Net) (valid : IsNet net) where
         kind = subst (λ (q : Site). IsOfKind q q.kind (replay_from net s (setup net s).state log).kind) is good.kind;
       }
 
-  fits_from : (s : ℕ) (st : StateView) (log : List (Entry Msg Line)) → FitsState st → SuitsNet net st → AllByRecursion (λ e. e.msg.key.time < 2 ^ 31) log → FitsState (replay_from net s st log)
+  fits_from : (s : ℕ) (st : StateView) (log : List (Entry Msg Line)) → FitsState st → SuitsNet net st
+      → AllByRecursion (λ e. e.msg.key.time < 2 ^ 31) log → FitsState (replay_from net s st log)
   fits_from s st [] fits suits early = fits
   fits_from s st (e ∷ es) fits suits early =
       let well = handles-well net st e.msg valid fits suits early.0 in
@@ -103,7 +110,8 @@ module _ (net : Net) (valid : IsNet net) where
     sends = λ s st m good. (handles-good net valid s st m good).sends;
   }
 
-  next_from : (s : ℕ) (st : StateView) (log : List (Entry Msg Line)) → IsGood net s st → (replay_from net s st log).sender.next ≤ st.sender.next + 16 * length log
+  next_from : (s : ℕ) (st : StateView) (log : List (Entry Msg Line)) → IsGood net s st
+      → (replay_from net s st log).sender.next ≤ st.sender.next + 16 * length log
   next_from s st [] good = omega arith
   next_from s st (e ∷ es) good =
       let one = handles-good net valid s st e.msg good in
@@ -118,4 +126,5 @@ module _ (net : Net) (valid : IsNet net) where
 
   pub jobs-take_lookahead : JobsTakeTheLookahead net
   jobs-take_lookahead s st m z good i job =
-      (among net valid m.key.time s st.sender.next (handle net st m).sends z (handles-good net valid s st m good).sends i).is.on_link job
+      (among net valid m.key.time s st.sender.next (handle net st m).sends z
+      (handles-good net valid s st m good).sends i).is.on_link job

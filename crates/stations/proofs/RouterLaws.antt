@@ -1,5 +1,6 @@
 -- What a router keeps, and what it sends.
-use Rattle.std.proofs.Common.{◌≡◌, ℕ, ◌+◌, ◌-◌, ◌%◌, ◌≤◌, List, length, Bool, true, false, if◌then◌else◌, refl, ◌∙◌, slice_get, slice_set, length-set, arith}
+use Rattle.std.proofs.Common.{◌≡◌, ℕ, ◌+◌, ◌-◌, ◌%◌, ◌≤◌, List, length, Bool}
+use Rattle.std.proofs.Common.{true, false, if◌then◌else◌, refl, ◌∙◌, slice_get, slice_set, length-set, arith}
 use Rattle.std.specs.List.{AllByRecursion}
 use Rattle.sim_base.specs.declared.message.Job.{Job as JobOf}
 use Rattle.sim_base.specs.declared.message.Change.{Change}
@@ -16,7 +17,8 @@ use Rattle.stations.specs.Routers.{router_job, router_set, router_on}
 use Rattle.stations.proofs.Accepting.{router-accepts}
 use Rattle.stations.proofs.Growing.{Grown, grown-more, grown-route, grown-over, grown-same}
 
-module _ (net : Net) (site : Site) (now : ℕ) (links : AllByRecursion (IsLink net) site.links) (ahead : 1 ≤ net.lookahead)
+module _ (net : Net) (site : Site) (now : ℕ) (links : AllByRecursion (IsLink net) site.links)
+    (ahead : 1 ≤ net.lookahead)
     (a : Outgoing) (first : 1 ≤ a.sender.station) (last : a.sender.station ≤ length net.sites) where
   -- a router that fits, with a weight for each link
   router_later : (handled : ℕ) (s : RouterState) → FitsRouter handled s → FitsRouter (handled + 1) s
@@ -32,26 +34,44 @@ module _ (net : Net) (site : Site) (now : ℕ) (links : AllByRecursion (IsLink n
         light = all_set (λ v. v ≤ 1000) ws i w are.light high;
       }
 
-  router_set-fits : (handled : ℕ) (c : Change) (s : RouterState) → is_router site.kind ≡ true → length s.weights.items ≡ length site.links → FitsRouter handled s
-      → FitsRouter (handled + 1) (router_set site c s) × (length (router_set site c s).weights.items ≡ length site.links)
+  router_set-fits : (handled : ℕ) (c : Change) (s : RouterState) → is_router site.kind ≡ true
+      → length s.weights.items ≡ length site.links → FitsRouter handled s
+      → FitsRouter (handled + 1) (router_set site c s)
+      × (length (router_set site c s).weights.items ≡ length site.links)
   router_set-fits handled c s is count f = by (is_accepted site c) refl
     where
-      by : (t : Bool) → is_accepted site c ≡ t → let r = (if t then record s { weights = record { items = slice_set s.weights.items (c.a - 1) c.b } } else s) in FitsRouter (handled + 1) r × (length r.weights.items ≡ length site.links)
+      by : (t : Bool) → is_accepted site c ≡ t → let r =
+          (if t then record s { weights = record { items = slice_set s.weights.items (c.a - 1) c.b } } else s) in
+          FitsRouter (handled + 1) r × (length r.weights.items ≡ length site.links)
       by true accepted =
-          let change = router-accepts site c is accepted in
-          (record { weights = set_weights (c.a - 1) c.b s.weights.items f.weights change.heavy change.light; passed = omega (arith, f.passed) }, length-set s.weights.items (c.a - 1) c.b ∙ count)
+          let change = router-accepts site c is accepted in (
+            record {
+              weights = set_weights (c.a - 1) c.b s.weights.items f.weights change.heavy change.light;
+              passed = omega (arith, f.passed);
+            },
+            length-set s.weights.items (c.a - 1) c.b ∙ count,
+          )
       by false refused = (router_later handled s f, count)
 
   router_job-grown : (j : JobOf) (s : RouterState) → Grown net now 16 a (router_job site now j s a)
   router_job-grown j s = by (routes_by_turn site.kind)
     where
-      by : (b : Bool) → Grown net now 16 a (if b then send_over (slice_get site.links (s.passed % length site.links)) now j a else route_by site.links s.weights.items now j a)
-      by true = grown-more net now 1 16 a _ (grown-over net now site.links (s.passed % length site.links) j a links ahead) (omega arith)
-      by false = grown-more net now 1 16 a _ (grown-route net now site.links s.weights.items j a links ahead) (omega arith)
+      by : (b : Bool) → Grown net now 16 a
+          (if b then send_over (slice_get site.links (s.passed % length site.links)) now j a else route_by site.links
+          s.weights.items now j a)
+      by true = grown-more net now 1 16 a _
+          (grown-over net now site.links (s.passed % length site.links) j a links ahead) (omega arith)
+      by false = grown-more net now 1 16 a _ (grown-route net now site.links s.weights.items j a links ahead)
+          (omega arith)
 
-  pub router_on-good : (handled : ℕ) (p : Payload) (s : RouterState) → is_router site.kind ≡ true → length s.weights.items ≡ length site.links → FitsRouter handled s
-      → FitsRouter (handled + 1) (router_on site now p s a).state × (length (router_on site now p s a).state.weights.items ≡ length site.links) × Grown net now 16 a (router_on site now p s a).out
-  router_on-good handled (Job j) s is count f = (record { weights = f.weights; passed = omega (arith, f.passed) }, count, router_job-grown j s)
-  router_on-good handled (Set c) s is count f = let r = router_set-fits handled c s is count f in (r.0, r.1, grown-same net now 16 a)
+  pub router_on-good : (handled : ℕ) (p : Payload) (s : RouterState) → is_router site.kind ≡ true
+      → length s.weights.items ≡ length site.links → FitsRouter handled s
+      → FitsRouter (handled + 1) (router_on site now p s a).state
+      × (length (router_on site now p s a).state.weights.items ≡ length site.links)
+      × Grown net now 16 a (router_on site now p s a).out
+  router_on-good handled (Job j) s is count f =
+      (record { weights = f.weights; passed = omega (arith, f.passed) }, count, router_job-grown j s)
+  router_on-good handled (Set c) s is count f = let r = router_set-fits handled c s is count f in
+      (r.0, r.1, grown-same net now 16 a)
   router_on-good handled Tick s is count f = (router_later handled s f, count, grown-same net now 16 a)
   router_on-good handled (Done j) s is count f = (router_later handled s f, count, grown-same net now 16 a)

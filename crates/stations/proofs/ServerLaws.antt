@@ -1,5 +1,6 @@
 -- What a server keeps, and what it sends.
-use Rattle.std.proofs.Common.{◌≡◌, ℕ, zero, suc, ◌+◌, ◌-◌, ◌<◌, ◌≤◌, ◌⊎◌, inl, inr, [], ◌∷◌, ◌++◌, length, Bool, true, false, nat_lt, if◌then◌else◌, ltb-true, refl, slice_get, Some, length-append, arith}
+use Rattle.std.proofs.Common.{◌≡◌, ℕ, zero, suc, ◌+◌, ◌-◌, ◌<◌, ◌≤◌, ◌⊎◌, inl, inr, [], ◌∷◌, ◌++◌, length, Bool, true}
+use Rattle.std.proofs.Common.{false, nat_lt, if◌then◌else◌, ltb-true, refl, slice_get, Some, length-append, arith}
 use Rattle.std.specs.List.{AllByRecursion}
 use Rattle.std.proofs.lemmas.Bool.{ltb-false}
 use Rattle.std.proofs.lemmas.Option.{slice_get_cases}
@@ -16,7 +17,8 @@ use Rattle.stations.specs.declared.kind_state.ServerState.{ServerState}
 use Rattle.stations.specs.Changes.{is_accepted}
 use Rattle.stations.specs.Fits.{FitsServer}
 use Rattle.stations.specs.Sending.{Outgoing, Reaction, reaction, weights_of, route}
-use Rattle.stations.specs.Servers.{next_place, start, start_at, start_next, start_times, server_job, server_done, server_change, server_set, server_on}
+use Rattle.stations.specs.Servers.{next_place, start, start_at, start_next, start_times}
+use Rattle.stations.specs.Servers.{server_job, server_done, server_change, server_set, server_on}
 use Rattle.stations.proofs.Accepting.{accepted-parts, range-bounds, within-bounds, room-bound}
 use Rattle.stations.proofs.NextInLine.{next_place-below}
 use Rattle.stations.proofs.Growing.{Grown, grown-none, grown-more, grown-then, grown-later, grown-route}
@@ -48,9 +50,20 @@ busy_fits handled s b = record {
 
 -- more messages were handled
 pub server-later : (handled : ℕ) (s : ServerState) → FitsServer handled s → FitsServer (handled + 1) s
-server-later handled s f = record { some = f.some; most = f.most; room = f.room; range = f.range; busy = f.busy; line = f.line; short = f.short; done = omega (arith, f.done); lost = omega (arith, f.lost) }
+server-later handled s f = record {
+  some = f.some;
+  most = f.most;
+  room = f.room;
+  range = f.range;
+  busy = f.busy;
+  line = f.line;
+  short = f.short;
+  done = omega (arith, f.done);
+  lost = omega (arith, f.lost);
+}
 
-module _ (net : Net) (site : Site) (now : ℕ) (links : AllByRecursion (IsLink net) site.links) (ahead : 1 ≤ net.lookahead) where
+module _ (net : Net) (site : Site) (now : ℕ) (links : AllByRecursion (IsLink net) site.links)
+    (ahead : 1 ≤ net.lookahead) where
   -- a reaction after which P holds of the server, and which sends at most n messages
   pub record Holds (P : ServerState → Type 0) (n : ℕ) (a : Outgoing) (r : Reaction ServerState) : Type 0 where
     pub holds : P r.state
@@ -58,14 +71,27 @@ module _ (net : Net) (site : Site) (now : ℕ) (links : AllByRecursion (IsLink n
 
   module _ (a : Outgoing) (first : 1 ≤ a.sender.station) (last : a.sender.station ≤ length net.sites) where
     -- nobody waits, and nobody is started
-    nobody_started : (n handled : ℕ) (s : ServerState) → length s.waiting ≡ 0 → IsBusyBut (suc n) handled s → Holds (IsBusyBut n handled) 1 a (reaction s a)
+    nobody_started : (n handled : ℕ) (s : ServerState) → length s.waiting ≡ 0 → IsBusyBut (suc n) handled s
+        → Holds (IsBusyBut n handled) 1 a (reaction s a)
     nobody_started n handled s nobody b = record {
-      holds = record { some = b.some; most = b.most; room = b.room; range = b.range; busy = b.busy; line = inl nobody; short = b.short; done = b.done; lost = b.lost };
+      holds = record {
+        some = b.some;
+        most = b.most;
+        room = b.room;
+        range = b.range;
+        busy = b.busy;
+        line = inl nobody;
+        short = b.short;
+        done = b.done;
+        lost = b.lost;
+      };
       grown = grown-more net now 0 1 a a (grown-none net now a) (omega arith);
     }
 
     -- the job at a place of the line is started
-    one_started : (n handled place : ℕ) (job : JobOf) (s : ServerState) → s.busy < s.servers → place < length s.waiting → IsBusyBut (suc n) handled s → Holds (IsBusyBut n handled) 1 a (start_at now place (Some job) s a)
+    one_started : (n handled place : ℕ) (job : JobOf) (s : ServerState) → s.busy < s.servers
+        → place < length s.waiting → IsBusyBut (suc n) handled s
+        → Holds (IsBusyBut n handled) 1 a (start_at now place (Some job) s a)
     one_started n handled place job s free there b = record {
       holds = record {
         some = b.some;
@@ -81,11 +107,17 @@ module _ (net : Net) (site : Site) (now : ℕ) (links : AllByRecursion (IsLink n
       grown = grown-later net now a first last s.lo s.hi (Done job) (λ job. job) b.range.above;
     }
 
-    at_place : (n handled place : ℕ) (s : ServerState) → s.busy < s.servers → (1 ≤ length s.waiting → place < length s.waiting) → IsBusyBut (suc n) handled s → Holds (IsBusyBut n handled) 1 a (start_at now place (slice_get s.waiting place) s a)
+    at_place : (n handled place : ℕ) (s : ServerState) → s.busy < s.servers
+        → (1 ≤ length s.waiting → place < length s.waiting) → IsBusyBut (suc n) handled s
+        → Holds (IsBusyBut n handled) 1 a (start_at now place (slice_get s.waiting place) s a)
     at_place n handled place s free there b = elim (slice_get_cases s.waiting place).1 [
       | inl found ↦ rw found.2 (one_started n handled place found.0 s free found.1 b)
       | inr past ↦ (
-          let nobody : length s.waiting ≡ 0 = elim (length_cases (length s.waiting)) [ inl none ↦ none | inr some ↦ absurd (let below = there some in omega (arith, past.0)) ] in
+          let nobody : length s.waiting ≡ 0 =
+          elim (length_cases (length s.waiting)) [
+            | inl none ↦ none
+            | inr some ↦ absurd (let below = there some in omega (arith, past.0))
+          ] in
           rw past.1 (nobody_started n handled s nobody b))
     ]
       where
@@ -94,15 +126,30 @@ module _ (net : Net) (site : Site) (now : ℕ) (links : AllByRecursion (IsLink n
         length_cases (suc k) = inr (omega arith)
 
     -- one start: either a server was free and who waited was taken, or all are busy
-    pub start_next-good : (n handled : ℕ) (s : ServerState) → IsBusyBut (suc n) handled s → Holds (IsBusyBut n handled) 1 a (start_next net site now s a)
+    pub start_next-good : (n handled : ℕ) (s : ServerState) → IsBusyBut (suc n) handled s
+        → Holds (IsBusyBut n handled) 1 a (start_next net site now s a)
     start_next-good n handled s b = by (nat_lt s.busy s.servers) refl
       where
-        by : (t : Bool) → nat_lt s.busy s.servers ≡ t → Holds (IsBusyBut n handled) 1 a (if t then start_at now (next_place net site s.waiting) (slice_get s.waiting (next_place net site s.waiting)) s a else reaction s a)
-        by true free = at_place n handled (next_place net site s.waiting) s (ltb-true s.busy s.servers free) (next_place-below net site s.waiting) b
+        by : (t : Bool) → nat_lt s.busy s.servers ≡ t
+            → Holds (IsBusyBut n handled) 1 a
+            (if t then start_at now (next_place net site s.waiting)
+            (slice_get s.waiting (next_place net site s.waiting)) s a else reaction s a)
+        by true free = at_place n handled (next_place net site s.waiting) s (ltb-true s.busy s.servers free)
+            (next_place-below net site s.waiting) b
         by false full =
             let all_busy = ltb-false s.busy s.servers full in
             record {
-              holds = record { some = b.some; most = b.most; room = b.room; range = b.range; busy = b.busy; line = inr (omega arith); short = b.short; done = b.done; lost = b.lost };
+              holds = record {
+                some = b.some;
+                most = b.most;
+                room = b.room;
+                range = b.range;
+                busy = b.busy;
+                line = inr (omega arith);
+                short = b.short;
+                done = b.done;
+                lost = b.lost;
+              };
               grown = grown-more net now 0 1 a a (grown-none net now a) (omega arith);
             }
 
@@ -110,25 +157,37 @@ module _ (net : Net) (site : Site) (now : ℕ) (links : AllByRecursion (IsLink n
   first_along : (n : ℕ) (a b : Outgoing) → Grown net now n a b → 1 ≤ a.sender.station → 1 ≤ b.sender.station
   first_along n a b g first = rw g.station first
 
-  last_along : (n : ℕ) (a b : Outgoing) → Grown net now n a b → a.sender.station ≤ length net.sites → b.sender.station ≤ length net.sites
+  last_along : (n : ℕ) (a b : Outgoing) → Grown net now n a b → a.sender.station ≤ length net.sites
+      → b.sender.station ≤ length net.sites
   last_along n a b g last = rw g.station last
 
   module _ (a : Outgoing) (first : 1 ≤ a.sender.station) (last : a.sender.station ≤ length net.sites) where
-    pub start_times-good : (n m handled : ℕ) (r : Reaction ServerState) → IsBusyBut n handled r.state → Grown net now m a r.out → Holds (IsBusyBut 0 handled) (m + n) a (start_times n net site now r)
-    start_times-good zero m handled r b g = record { holds = b; grown = grown-more net now m (m + 0) a r.out g (omega arith) }
+    pub start_times-good : (n m handled : ℕ) (r : Reaction ServerState) → IsBusyBut n handled r.state
+        → Grown net now m a r.out → Holds (IsBusyBut 0 handled) (m + n) a (start_times n net site now r)
+    start_times-good zero m handled r b g =
+        record { holds = b; grown = grown-more net now m (m + 0) a r.out g (omega arith) }
     start_times-good (suc n) m handled r b g =
-        let one = start_next-good r.out (first_along m a r.out g first) (last_along m a r.out g last) n handled r.state b in
-        let rest = start_times-good n (m + 1) handled (start_next net site now r.state r.out) one.holds (grown-then net now m 1 a r.out (start_next net site now r.state r.out).out g one.grown) in
-        record { holds = rest.holds; grown = grown-more net now ((m + 1) + n) (m + suc n) a (start_times n net site now (start_next net site now r.state r.out)).out rest.grown (omega arith) }
+        let one = start_next-good r.out (first_along m a r.out g first) (last_along m a r.out g last) n handled
+        r.state b in
+        let rest = start_times-good n (m + 1) handled (start_next net site now r.state r.out) one.holds
+        (grown-then net now m 1 a r.out (start_next net site now r.state r.out).out g one.grown) in
+        record {
+          holds = rest.holds;
+          grown = grown-more net now ((m + 1) + n) (m + suc n) a
+              (start_times n net site now (start_next net site now r.state r.out)).out rest.grown (omega arith);
+        }
 
     same_grown : (n : ℕ) → Grown net now n a a
     same_grown n = grown-more net now 0 n a a (grown-none net now a) (omega arith)
 
-    pub server_job-good : (handled : ℕ) (job : JobOf) (s : ServerState) → FitsServer handled s → Holds (FitsServer (handled + 1)) 16 a (server_job now job s a)
+    pub server_job-good : (handled : ℕ) (job : JobOf) (s : ServerState) → FitsServer handled s
+        → Holds (FitsServer (handled + 1)) 16 a (server_job now job s a)
     server_job-good handled job s f = by (nat_lt s.busy s.servers) (nat_lt (length s.waiting) s.room) refl refl
       where
         by : (free space : Bool) → nat_lt s.busy s.servers ≡ free → nat_lt (length s.waiting) s.room ≡ space
-            → Holds (FitsServer (handled + 1)) 16 a (if free then start now job s a else if space then reaction (record s { waiting = s.waiting ++ job ∷ [] }) a else reaction (record s { lost = s.lost + 1 }) a)
+            → Holds (FitsServer (handled + 1)) 16 a
+            (if free then start now job s a else if space then reaction
+            (record s { waiting = s.waiting ++ job ∷ [] }) a else reaction (record s { lost = s.lost + 1 }) a)
         by true space free e =
             let below = ltb-true s.busy s.servers free in
             record {
@@ -143,7 +202,8 @@ module _ (net : Net) (site : Site) (now : ℕ) (links : AllByRecursion (IsLink n
                 done = omega (arith, f.done);
                 lost = omega (arith, f.lost);
               };
-              grown = grown-more net now 1 16 a (start now job s a).out (grown-later net now a first last s.lo s.hi (Done job) (λ job. job) f.range.above) (omega arith);
+              grown = grown-more net now 1 16 a (start now job s a).out
+                  (grown-later net now a first last s.lo s.hi (Done job) (λ job. job) f.range.above) (omega arith);
             }
         by false true full space =
             let all_busy = ltb-false s.busy s.servers full in
@@ -163,15 +223,28 @@ module _ (net : Net) (site : Site) (now : ℕ) (links : AllByRecursion (IsLink n
               grown = same_grown 16;
             }
         by false false full no_space = record {
-          holds = record { some = f.some; most = f.most; room = f.room; range = f.range; busy = f.busy; line = f.line; short = f.short; done = omega (arith, f.done); lost = omega (arith, f.lost) };
+          holds = record {
+            some = f.some;
+            most = f.most;
+            room = f.room;
+            range = f.range;
+            busy = f.busy;
+            line = f.line;
+            short = f.short;
+            done = omega (arith, f.done);
+            lost = omega (arith, f.lost);
+          };
           grown = same_grown 16;
         }
 
-    pub server_done-good : (handled : ℕ) (job : JobOf) (s : ServerState) → FitsServer handled s → Holds (FitsServer (handled + 1)) 16 a (server_done net site now job s a)
+    pub server_done-good : (handled : ℕ) (job : JobOf) (s : ServerState) → FitsServer handled s
+        → Holds (FitsServer (handled + 1)) 16 a (server_done net site now job s a)
     server_done-good handled job s f = by (nat_lt 0 s.busy) refl
       where
         by : (some : Bool) → nat_lt 0 s.busy ≡ some
-            → Holds (FitsServer (handled + 1)) 16 a (if some then start_next net site now (record s { busy = s.busy - 1; done = s.done + 1 }) (route site.links now job a) else reaction s a)
+            → Holds (FitsServer (handled + 1)) 16 a
+            (if some then start_next net site now (record s { busy = s.busy - 1; done = s.done + 1 })
+            (route site.links now job a) else reaction s a)
         by true some =
             let busy = ltb-true 0 s.busy some in
             let routed = grown-route net now site.links (weights_of site.links) job a links ahead in
@@ -187,25 +260,48 @@ module _ (net : Net) (site : Site) (now : ℕ) (links : AllByRecursion (IsLink n
               done = omega (arith, f.done);
               lost = omega (arith, f.lost);
             } in
-            let one = start_next-good after (first_along 1 a after routed first) (last_along 1 a after routed last) 0 (handled + 1) (record s { busy = s.busy - 1; done = s.done + 1 }) one_less in
+            let one = start_next-good after (first_along 1 a after routed first) (last_along 1 a after routed last) 0
+            (handled + 1) (record s { busy = s.busy - 1; done = s.done + 1 }) one_less in
             let r = start_next net site now (record s { busy = s.busy - 1; done = s.done + 1 }) after in
             record {
               holds = busy_fits (handled + 1) r.state one.holds;
-              grown = grown-more net now 2 16 a r.out (grown-then net now 1 1 a after r.out routed one.grown) (omega arith);
+              grown = grown-more net now 2 16 a r.out (grown-then net now 1 1 a after r.out routed one.grown)
+                  (omega arith);
             }
         by false none = record { holds = server-later handled s f; grown = same_grown 16 }
 
-    change_kept : (handled : ℕ) (p : Param) (c : Change) (s : ServerState) → c.param ≡ p → is_accepted site c ≡ true → FitsServer handled s → Holds (FitsServer (handled + 1)) 16 a (server_change net site now p c.a c.b s a)
+    change_kept : (handled : ℕ) (p : Param) (c : Change) (s : ServerState) → c.param ≡ p → is_accepted site c ≡ true
+        → FitsServer handled s → Holds (FitsServer (handled + 1)) 16 a (server_change net site now p c.a c.b s a)
     change_kept handled Service c s is accepted f =
         let range = range-bounds 1 c.a c.b (let h = (accepted-parts site c accepted).1 in rw is at h) in
         record {
-          holds = record { some = f.some; most = f.most; room = f.room; range = range; busy = f.busy; line = f.line; short = f.short; done = omega (arith, f.done); lost = omega (arith, f.lost) };
+          holds = record {
+            some = f.some;
+            most = f.most;
+            room = f.room;
+            range = range;
+            busy = f.busy;
+            line = f.line;
+            short = f.short;
+            done = omega (arith, f.done);
+            lost = omega (arith, f.lost);
+          };
           grown = same_grown 16;
         }
     change_kept handled Room c s is accepted f =
         let room = room-bound c.a (let h = (accepted-parts site c accepted).1 in rw is at h) in
         record {
-          holds = record { some = f.some; most = f.most; room = room; range = f.range; busy = f.busy; line = f.line; short = f.short; done = omega (arith, f.done); lost = omega (arith, f.lost) };
+          holds = record {
+            some = f.some;
+            most = f.most;
+            room = room;
+            range = f.range;
+            busy = f.busy;
+            line = f.line;
+            short = f.short;
+            done = omega (arith, f.done);
+            lost = omega (arith, f.lost);
+          };
           grown = same_grown 16;
         }
     change_kept handled Servers c s is accepted f =
@@ -233,15 +329,19 @@ module _ (net : Net) (site : Site) (now : ℕ) (links : AllByRecursion (IsLink n
     change_kept handled Hold c s is accepted f = record { holds = server-later handled s f; grown = same_grown 16 }
     change_kept handled Weight c s is accepted f = record { holds = server-later handled s f; grown = same_grown 16 }
 
-    set_kept : (handled : ℕ) (c : Change) (s : ServerState) → FitsServer handled s → Holds (FitsServer (handled + 1)) 16 a (server_set net site now c s a)
+    set_kept : (handled : ℕ) (c : Change) (s : ServerState) → FitsServer handled s
+        → Holds (FitsServer (handled + 1)) 16 a (server_set net site now c s a)
     set_kept handled c s f = by (is_accepted site c) refl
       where
-        by : (t : Bool) → is_accepted site c ≡ t → Holds (FitsServer (handled + 1)) 16 a (if t then server_change net site now c.param c.a c.b s a else reaction s a)
+        by : (t : Bool) → is_accepted site c ≡ t
+            → Holds (FitsServer (handled + 1)) 16 a
+            (if t then server_change net site now c.param c.a c.b s a else reaction s a)
         by true accepted = change_kept handled c.param c s refl accepted f
         by false refused = record { holds = server-later handled s f; grown = same_grown 16 }
 
     -- whatever message comes, a server keeps what servers keep, and sends as stations send
-    pub server_on-good : (handled : ℕ) (p : Payload) (s : ServerState) → FitsServer handled s → Holds (FitsServer (handled + 1)) 16 a (server_on net site now p s a)
+    pub server_on-good : (handled : ℕ) (p : Payload) (s : ServerState) → FitsServer handled s
+        → Holds (FitsServer (handled + 1)) 16 a (server_on net site now p s a)
     server_on-good handled (Job j) s f = server_job-good handled j s f
     server_on-good handled (Done j) s f = server_done-good handled j s f
     server_on-good handled (Set c) s f = set_kept handled c s f

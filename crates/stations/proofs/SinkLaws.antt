@@ -7,7 +7,8 @@ use Rattle.stations.specs.Fits.{FitsSink}
 use Rattle.stations.specs.Sinks.{sink_on}
 
 module _ (now : ℕ) (early : now < 2 ^ 31) where
-  pub sink_on-fits : (handled : ℕ) (p : Payload) (s : SinkState) → FitsSink handled s → FitsSink (handled + 1) (sink_on now p s)
+  pub sink_on-fits : (handled : ℕ) (p : Payload) (s : SinkState) → FitsSink handled s
+      → FitsSink (handled + 1) (sink_on now p s)
   sink_on-fits handled (Job j) s f = record { got = omega (arith, f.got); stay = omega (arith, f.stay) }
   sink_on-fits handled Tick s f = record { got = omega (arith, f.got); stay = omega (arith, f.stay) }
   sink_on-fits handled (Done j) s f = record { got = omega (arith, f.got); stay = omega (arith, f.stay) }

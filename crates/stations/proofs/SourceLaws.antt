@@ -18,20 +18,28 @@ use Rattle.stations.proofs.Growing.{Grown, grown-none, grown-more, grown-then, g
 
 -- the next tick, where one is sent
 module _ (net : Net) (now : ℕ) where
-  pub tick_grown : (s : SourceState) (o : Outgoing) → IsRange 1 s.lo s.hi → 1 ≤ o.sender.station → o.sender.station ≤ length net.sites → Grown net now 1 o (next_tick now s o)
+  pub tick_grown : (s : SourceState) (o : Outgoing) → IsRange 1 s.lo s.hi → 1 ≤ o.sender.station
+      → o.sender.station ≤ length net.sites → Grown net now 1 o (next_tick now s o)
   tick_grown s o range low high = by (nat_lt s.sent s.jobs)
     where
       by : (b : Bool) → Grown net now 1 o (if b then send_later now s.lo s.hi Tick o else o)
       by true = grown-later net now o low high s.lo s.hi Tick (λ job. job) range.above
       by false = grown-more net now 0 1 o o (grown-none net now o) (omega arith)
 
-module _ (net : Net) (site : Site) (now : ℕ) (links : AllByRecursion (IsLink net) site.links) (ahead : 1 ≤ net.lookahead)
+module _ (net : Net) (site : Site) (now : ℕ) (links : AllByRecursion (IsLink net) site.links)
+    (ahead : 1 ≤ net.lookahead)
     (a : Outgoing) (first : 1 ≤ a.sender.station) (last : a.sender.station ≤ length net.sites) where
-  source_set-fits : (lo hi jobs class handled : ℕ) (c : Change) (s : SourceState) → site.kind ≡ kind.Source lo hi jobs class → FitsSource handled s → FitsSource (handled + 1) (source_set site c s)
+  source_set-fits : (lo hi jobs class handled : ℕ) (c : Change) (s : SourceState)
+      → site.kind ≡ kind.Source lo hi jobs class → FitsSource handled s → FitsSource (handled + 1) (source_set site c s)
   source_set-fits lo hi jobs class handled c s is f = by (is_accepted site c) refl
     where
-      by : (t : Bool) → is_accepted site c ≡ t → FitsSource (handled + 1) (if t then record s { lo = c.a; hi = c.b } else s)
-      by true accepted = record { range = source-accepts lo hi jobs class site c is accepted; jobs = f.jobs; sent = omega (arith, f.sent) }
+      by : (t : Bool) → is_accepted site c ≡ t
+          → FitsSource (handled + 1) (if t then record s { lo = c.a; hi = c.b } else s)
+      by true accepted = record {
+        range = source-accepts lo hi jobs class site c is accepted;
+        jobs = f.jobs;
+        sent = omega (arith, f.sent);
+      }
       by false refused = record { range = f.range; jobs = f.jobs; sent = omega (arith, f.sent) }
 
   source_ticks-grown : (s : SourceState) → IsRange 1 s.lo s.hi → Grown net now 16 a (source_ticks site now s a).out
@@ -41,11 +49,17 @@ module _ (net : Net) (site : Site) (now : ℕ) (links : AllByRecursion (IsLink n
       let routed = grown-route net now site.links (weights_of site.links) job a links ahead in
       let after = route site.links now job a in
       let ticked = tick_grown net now t after range (rw routed.station first) (rw routed.station last) in
-      grown-more net now 2 16 a (next_tick now t after) (grown-then net now 1 1 a after (next_tick now t after) routed ticked) (omega arith)
+      grown-more net now 2 16 a (next_tick now t after)
+      (grown-then net now 1 1 a after (next_tick now t after) routed ticked) (omega arith)
 
-  pub source_on-good : (lo hi jobs class handled : ℕ) (p : Payload) (s : SourceState) → site.kind ≡ kind.Source lo hi jobs class → FitsSource handled s
+  pub source_on-good : (lo hi jobs class handled : ℕ) (p : Payload) (s : SourceState)
+      → site.kind ≡ kind.Source lo hi jobs class → FitsSource handled s
       → FitsSource (handled + 1) (source_on site now p s a).state × Grown net now 16 a (source_on site now p s a).out
-  source_on-good lo hi jobs class handled Tick s is f = (record { range = f.range; jobs = f.jobs; sent = omega (arith, f.sent) }, source_ticks-grown s f.range)
-  source_on-good lo hi jobs class handled (Set c) s is f = (source_set-fits lo hi jobs class handled c s is f, grown-same net now 16 a)
-  source_on-good lo hi jobs class handled (Job j) s is f = (record { range = f.range; jobs = f.jobs; sent = omega (arith, f.sent) }, grown-same net now 16 a)
-  source_on-good lo hi jobs class handled (Done j) s is f = (record { range = f.range; jobs = f.jobs; sent = omega (arith, f.sent) }, grown-same net now 16 a)
+  source_on-good lo hi jobs class handled Tick s is f =
+      (record { range = f.range; jobs = f.jobs; sent = omega (arith, f.sent) }, source_ticks-grown s f.range)
+  source_on-good lo hi jobs class handled (Set c) s is f =
+      (source_set-fits lo hi jobs class handled c s is f, grown-same net now 16 a)
+  source_on-good lo hi jobs class handled (Job j) s is f =
+      (record { range = f.range; jobs = f.jobs; sent = omega (arith, f.sent) }, grown-same net now 16 a)
+  source_on-good lo hi jobs class handled (Done j) s is f =
+      (record { range = f.range; jobs = f.jobs; sent = omega (arith, f.sent) }, grown-same net now 16 a)

@@ -1,5 +1,6 @@
 -- What starting a waiting job changes.
-use Rattle.std.proofs.Common.{◌≡◌, ℕ, suc, ◌+◌, ◌-◌, ◌<◌, ◌≤◌, ap, nat_lt, Bool, true, false, if◌then◌else◌, refl, length, length-append, Option, Some, None, slice_get, arith}
+use Rattle.std.proofs.Common.{◌≡◌, ℕ, suc, ◌+◌, ◌-◌, ◌<◌, ◌≤◌, ap, nat_lt, Bool, true}
+use Rattle.std.proofs.Common.{false, if◌then◌else◌, refl, length, length-append, Option, Some, None, slice_get, arith}
 use Rattle.sim_base.specs.declared.message.Job.{Job as JobOf}
 use Rattle.net_model.specs.Net.{Net, Site}
 use Rattle.stations.specs.declared.kind_state.ServerState.{ServerState}
@@ -17,20 +18,27 @@ pub record IsOneMore (a b : Reaction ServerState) : Type 0 where
 same_one : (a : Reaction ServerState) → IsOneMore a a
 same_one a = record { next = omega arith; draws = omega arith; sends = omega arith; lo = refl; hi = refl }
 
-start_at-one : (now place : ℕ) (job : Option JobOf) (s : ServerState) (o : Outgoing) → IsOneMore (reaction s o) (start_at now place job s o)
+start_at-one : (now place : ℕ) (job : Option JobOf) (s : ServerState) (o : Outgoing)
+    → IsOneMore (reaction s o) (start_at now place job s o)
 start_at-one now place None s o = same_one (reaction s o)
-start_at-one now place (Some job) s o = record { next = omega arith; draws = omega arith; sends = simp length-append (omega arith); lo = refl; hi = refl }
+start_at-one now place (Some job) s o =
+    record { next = omega arith; draws = omega arith; sends = simp length-append (omega arith); lo = refl; hi = refl }
 
 -- where a server is free, at most one job is started
-pub start_next-one : (net : Net) (site : Site) (now : ℕ) (s : ServerState) (o : Outgoing) → IsOneMore (reaction s o) (start_next net site now s o)
+pub start_next-one : (net : Net) (site : Site) (now : ℕ) (s : ServerState) (o : Outgoing)
+    → IsOneMore (reaction s o) (start_next net site now s o)
 start_next-one net site now s o = by (nat_lt s.busy s.servers)
   where
-    by : (b : Bool) → IsOneMore (reaction s o) (if b then start_at now (next_place net site s.waiting) (slice_get s.waiting (next_place net site s.waiting)) s o else reaction s o)
+    by : (b : Bool) → IsOneMore (reaction s o)
+        (if b then start_at now (next_place net site s.waiting) (slice_get s.waiting (next_place net site s.waiting))
+        s o else reaction s o)
     by true = start_at-one now (next_place net site s.waiting) (slice_get s.waiting (next_place net site s.waiting)) s o
     by false = same_one (reaction s o)
 
 -- of so many starts the next one is made
-pub start_times-more : (net : Net) (site : Site) (now times done : ℕ) (r : Reaction ServerState) → done < times → start_times (times - done) net site now r ≡ start_times (times - (done + 1)) net site now (start_next net site now r.state r.out)
+pub start_times-more : (net : Net) (site : Site) (now times done : ℕ) (r : Reaction ServerState) → done < times
+    → start_times (times - done) net site now r ≡ start_times (times - (done + 1)) net site now
+    (start_next net site now r.state r.out)
 start_times-more net site now times done r left =
     let more : times - done ≡ suc (times - (done + 1)) = omega arith in
     ap (λ n. start_times n net site now r) more

@@ -22,7 +22,15 @@ pub mod SeveralLinks
 
 -- time, receiver, sender, number, payload, counts
 abbrev pub at : ℕ → ℕ → ℕ → ℕ → Payload → Line → Entry Msg Line
-at time receiver sender number payload line = record { msg = record { key = record { time = time; sender = sender; number = number }; to = receiver; payload = payload }; line = line }
+at time receiver sender number payload line =
+    record {
+      msg = record {
+        key = record { time = time; sender = sender; number = number };
+        to = receiver;
+        payload = payload;
+      };
+      line = line;
+    }
 
 abbrev pub analyst : ℕ
 analyst = 0

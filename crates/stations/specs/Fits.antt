@@ -4,7 +4,8 @@ use Rattle.std.specs.List.{AllByRecursion}
 use Rattle.net_model.specs.declared.station.Kind.{Kind}
 use Rattle.net_model.specs.declared.station.Kind.TheVariants as kind
 use Rattle.net_model.specs.declared.station.Link.{Link}
-use Rattle.net_model.specs.declared.limits.TheConstants.{MOST_JOBS, MOST_LINKS, MOST_ROOM, MOST_SERVERS, MOST_TIME, MOST_WEIGHT}
+use Rattle.net_model.specs.declared.limits.TheConstants.{MOST_JOBS, MOST_LINKS, MOST_ROOM}
+use Rattle.net_model.specs.declared.limits.TheConstants.{MOST_SERVERS, MOST_TIME, MOST_WEIGHT}
 use Rattle.net_model.specs.Net.{Net, Site, site_at}
 use Rattle.net_model.specs.Rules.{IsRange}
 use Rattle.stations.specs.declared.sender.Sender.{Sender}

@@ -48,4 +48,5 @@ handled_as count r = record {
 -- a station handles a message
 unfoldable pub handle : Net → StateView → Msg → Handled StateView Msg Line
 handle net st m =
-    handled_as (st.handled + 1) (kind_on net (site_of net st.sender.station) m.key.time m.payload st.kind (record { sender = st.sender; sends = [] }))
+    handled_as (st.handled + 1) (kind_on net (site_of net st.sender.station) m.key.time m.payload st.kind
+    (record { sender = st.sender; sends = [] }))

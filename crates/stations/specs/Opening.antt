@@ -17,7 +17,8 @@ opening_kind site (kind.Source lo hi jobs class) = Source (record { lo = lo; hi 
 opening_kind site (kind.Server servers room lo hi by_class) =
     Server (record { servers = servers; room = room; lo = lo; hi = hi; busy = 0; waiting = []; done = 0; lost = 0 })
 opening_kind site (kind.Delay lo hi) = Delay (record { lo = lo; hi = hi; passed = 0 })
-opening_kind site (kind.Router turn) = Router (record { weights = record { items = weights_of site.links }; passed = 0 })
+opening_kind site (kind.Router turn) =
+    Router (record { weights = record { items = weights_of site.links }; passed = 0 })
 opening_kind site kind.Sink = Sink (record { got = 0; stay = 0 })
 
 -- a source sends itself its first tick
@@ -26,13 +27,24 @@ first_tick (Source s) o = next_tick 0 s o
 first_tick _ o = o
 
 abbrev pub opening_of : KindState → Outgoing → OpeningOf StateView Msg
-opening_of first_state o = record { state = record { sender = o.sender; handled = 0; kind = first_state }; first = slice_get o.sends 0 }
+opening_of first_state o = record {
+  state = record { sender = o.sender; handled = 0; kind = first_state };
+  first = slice_get o.sends 0;
+}
 
 -- a station opens: its state, and a source's first tick
 abbrev pub opening : ℕ → ℕ → Site → OpeningOf StateView Msg
 opening seed s site =
     let first_state = opening_kind site site.kind in
-    opening_of first_state (first_tick first_state (record { sender = record { station = s; next = 0; draws = record { seed = seed; stream = site.stream; count = 0 } }; sends = [] }))
+    opening_of first_state (first_tick first_state
+    (record {
+      sender = record {
+        station = s;
+        next = 0;
+        draws = record { seed = seed; stream = site.stream; count = 0 };
+      };
+      sends = [];
+    }))
 
 abbrev pub setup : Net → ℕ → OpeningOf StateView Msg
 setup net s = opening net.seed s (site_of net s)

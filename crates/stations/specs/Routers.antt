@@ -18,7 +18,8 @@ router_job site now job s o =
 
 -- the weight of a link changes; links are counted from 1
 abbrev pub router_set : Site → Change → RouterState → RouterState
-router_set site c s = if is_accepted site c then record s { weights = record { items = slice_set s.weights.items (c.a - 1) c.b } } else s
+router_set site c s = if is_accepted site c then record s
+    { weights = record { items = slice_set s.weights.items (c.a - 1) c.b } } else s
 
 abbrev pub router_on : Site → ℕ → Payload → RouterState → Outgoing → Reaction RouterState
 router_on site now (Job j) s o = reaction (record s { passed = s.passed + 1 }) (router_job site now j s o)

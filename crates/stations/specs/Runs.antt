@@ -21,7 +21,11 @@ use Rattle.stations.specs.Opening.{setup}
 
 -- the message of the decision at place k of a clone's list: the analyst is sender 0
 abbrev pub set_message : ℕ → Planned → Msg
-set_message k p = record { key = record { time = p.at; sender = 0; number = k }; to = p.station; payload = Set p.change }
+set_message k p = record {
+  key = record { time = p.at; sender = 0; number = k };
+  to = p.station;
+  payload = Set p.change;
+}
 
 abbrev pub simulation : Net → Simulation StateView Msg Line
 simulation net = record {
@@ -57,7 +61,8 @@ state_at net c s front = runs.state_at (simulation net) c s front
 abbrev pub window_of : Net → Clone → ℕ → ℕ → ℕ → Config (Part StateView Msg Line) Msg
 window_of net c s front bound =
     let sim = simulation net in
-    local sim s (runs.log_at sim c s front) (runs.state_at sim c s front) (runs.due_at sim c s front) bound (runs.end_of sim c)
+    local sim s (runs.log_at sim c s front) (runs.state_at sim c s front) (runs.due_at sim c s front) bound
+    (runs.end_of sim c)
 
 -- the next front of the clones
 abbrev pub next_front : Net → List Clone → ℕ → ℕ

@@ -28,7 +28,11 @@ pub record MaySend (more now : ℕ) (sender : Sender) (sent : ℕ) : Type 0 wher
 abbrev pub send : ℕ → ℕ → Payload → Outgoing → Outgoing
 send time to payload o = record {
   sender = record o.sender { next = o.sender.next + 1 };
-  sends = o.sends ++ record { key = record { time = time; sender = o.sender.station; number = o.sender.next }; to = to; payload = payload } ∷ [];
+  sends = o.sends ++ record {
+    key = record { time = time; sender = o.sender.station; number = o.sender.next };
+    to = to;
+    payload = payload;
+  } ∷ [];
 }
 
 -- one word was drawn

@@ -1,5 +1,6 @@
 -- Servers: jobs in service, and jobs that wait.
-use Rattle.std.specs.Prelude.{ℕ, zero, suc, ◌+◌, ◌-◌, ◌==◌, nat_lt, min, if◌then◌else◌, List, [], ◌∷◌, ◌++◌, length, remove, slice_get, Option, Some, None}
+use Rattle.std.specs.Prelude.{ℕ, zero, suc, ◌+◌, ◌-◌, ◌==◌, nat_lt, min, if◌then◌else◌, List}
+use Rattle.std.specs.Prelude.{[], ◌∷◌, ◌++◌, length, remove, slice_get, Option, Some, None}
 use Rattle.std.specs.List.{position_or_len}
 use Rattle.sim_base.specs.declared.message.Job.{Job as JobOf}
 use Rattle.sim_base.specs.declared.message.Change.{Change}
@@ -73,11 +74,13 @@ server_done net site now job s o =
 abbrev pub server_change : Net → Site → ℕ → Param → ℕ → ℕ → ServerState → Outgoing → Reaction ServerState
 server_change net site now Service a b s o = reaction (record s { lo = a; hi = b }) o
 server_change net site now Room a b s o = reaction (record s { room = a }) o
-server_change net site now Servers a b s o = start_times (a - s.busy) net site now (reaction (record s { servers = a }) o)
+server_change net site now Servers a b s o =
+    start_times (a - s.busy) net site now (reaction (record s { servers = a }) o)
 server_change net site now _ a b s o = reaction s o
 
 abbrev pub server_set : Net → Site → ℕ → Change → ServerState → Outgoing → Reaction ServerState
-server_set net site now c s o = if is_accepted site c then server_change net site now c.param c.a c.b s o else reaction s o
+server_set net site now c s o =
+    if is_accepted site c then server_change net site now c.param c.a c.b s o else reaction s o
 
 abbrev pub server_on : Net → Site → ℕ → Payload → ServerState → Outgoing → Reaction ServerState
 server_on net site now (Job j) s o = server_job now j s o

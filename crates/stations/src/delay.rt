@@ -27,7 +27,8 @@ fn hold_job(
     requires may_send { MaySend 1 now sender.old (array_vec_len out.old) }
     requires links { AreLinks station.now.links.items }
     requires range { IsRange 0 delay.now.lo delay.now.hi }
-    ensures { delay_job (as_site station.now) now job delay.now (outgoing sender.old out.old.items) ≡ outgoing sender.new out.new.items }
+    ensures { delay_job (as_site station.now) now job delay.now (outgoing sender.old out.old.items)
+        ≡ outgoing sender.new out.new.items }
 {
     let link = pick_by_model(sender, station.links.as_slice());
     let held = sender.draws.range(delay.lo, delay.hi);
@@ -55,7 +56,8 @@ pub(crate) fn delay_handles(
     requires may_send { MaySend 16 now sender.old (array_vec_len out.old) }
     requires links { AreLinks station.now.links.items }
     requires fits { FitsDelay MOST_LIMIT delay.old }
-    ensures { delay_on (as_site station.now) now payload.now delay.old (outgoing sender.old out.old.items) ≡ reaction delay.new (outgoing sender.new out.new.items) }
+    ensures { delay_on (as_site station.now) now payload.now delay.old (outgoing sender.old out.old.items)
+        ≡ reaction delay.new (outgoing sender.new out.new.items) }
 {
     match payload {
         Payload::Job(job) => {

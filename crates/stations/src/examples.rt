@@ -4,13 +4,18 @@
 //! as a line of a trace text reads. Each function's contract is a theorem; there is nothing to run.
 ghost use Rattle.std.specs.Prelude.{◌≡◌, [], ◌∷◌, true, false};
 ghost use Rattle.sim_base.specs.Clones.{base};
-ghost use Rattle.stations.specs.Runs.{trace_of, log_at, state_at, replay, window_of, copies, handled, alone, AreFronts, IsBeyond};
-ghost use Rattle.stations.specs.Examples.OneDesk.{one_desk, one_desk_trace, fast, fast_trace, set_at_start, first_set, brief, brief_trace, two_branches, short_logs, fast_desk, quick_desk, quick_desk_trace, gate, desk, out};
+ghost use Rattle.stations.specs.Runs.{trace_of, log_at, state_at, replay, window_of};
+ghost use Rattle.stations.specs.Runs.{copies, handled, alone, AreFronts, IsBeyond};
+ghost use Rattle.stations.specs.Examples.OneDesk.{one_desk, one_desk_trace, fast, fast_trace, set_at_start, first_set};
+ghost use Rattle.stations.specs.Examples.OneDesk.{brief, brief_trace, two_branches, short_logs, fast_desk, quick_desk};
+ghost use Rattle.stations.specs.Examples.OneDesk.{quick_desk_trace, gate, desk, out};
 ghost use Rattle.stations.specs.Examples.Draws.{drawn_gate, drawn_gate_trace};
 ghost use Rattle.stations.specs.Examples.FullRoom.{three_sources, no_room_trace, more_servers, more_servers_trace};
 ghost use Rattle.stations.specs.Examples.SeveralLinks.{several_links, several_links_trace};
 ghost use Rattle.stations.specs.Examples.Routers.{fan_network, fan_trace};
-ghost use Rattle.stations.specs.Examples.Changes.{answers, server_changes, server_answers, delay_changes, delay_answers, weight_changes, weight_answers, turn_answers, IsIgnored};
+ghost use Rattle.stations.specs.Examples.Changes.{answers, server_changes, server_answers};
+ghost use Rattle.stations.specs.Examples.Changes.{delay_changes, delay_answers, weight_changes};
+ghost use Rattle.stations.specs.Examples.Changes.{weight_answers, turn_answers, IsIgnored};
 ghost use Rattle.stations.specs.Examples.{tick, job, done, set};
 ghost use Rattle.sim_base.specs.declared.message.Param.TheVariants.{Service};
 ghost use Rattle.stations.specs.Examples.Classes.{two_classes, by_class_trace, by_arrival_trace};

@@ -1,5 +1,6 @@
 //! The waiting line of a server.
-ghost use Rattle.std.specs.Prelude.{◌≡◌, [], ◌∷◌, ◌++◌, ◌<◌, length, remove, slice_get, Some, IfSome, IfNone, OnOk, OnErr, IfOk};
+ghost use Rattle.std.specs.Prelude.{◌≡◌, [], ◌∷◌, ◌++◌, ◌<◌, length, remove};
+ghost use Rattle.std.specs.Prelude.{slice_get, Some, IfSome, IfNone, OnOk, OnErr, IfOk};
 
 use sim_base::{Job, NoMemory};
 use std::alloc::Global;

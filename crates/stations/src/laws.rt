@@ -5,7 +5,9 @@ ghost use Rattle.net_model.specs.Rules.{IsNet};
 ghost use Rattle.run_laws.specs.Handlers.{HandlesLawfully, SendsToStations, HandlesFreshly};
 ghost use Rattle.run_laws.specs.Laws.{TraceRises, StateIsReplay, EqualLogsEqualStates};
 ghost use Rattle.stations.specs.Good.{IsGood, sender_of, number_of, next_number};
-ghost use Rattle.stations.specs.Laws.{ReplayIsGood, ReplayCounts, ReplaySuits, ReplayFits, ReplayGoesOn, SendsNextNumbers, NumbersAreSmall, KeysAreSmall, LogKeysAreSmall, JobsTakeTheLookahead};
+ghost use Rattle.stations.specs.Laws.{ReplayIsGood, ReplayCounts, ReplaySuits, ReplayFits};
+ghost use Rattle.stations.specs.Laws.{ReplayGoesOn, SendsNextNumbers, NumbersAreSmall, KeysAreSmall};
+ghost use Rattle.stations.specs.Laws.{LogKeysAreSmall, JobsTakeTheLookahead};
 ghost use Rattle.stations.specs.Runs.{simulation};
 
 /// What the laws of runs ask of stations: each keeps what its kind keeps, sends later, to another station
@@ -13,7 +15,8 @@ ghost use Rattle.stations.specs.Runs.{simulation};
 pub fn stations_are_lawful()
     ensures lawful { (net : Net) → IsNet net → HandlesLawfully (simulation net) (IsGood net) }
     ensures to_stations { (net : Net) → IsNet net → SendsToStations (simulation net) (IsGood net) }
-    ensures fresh { (net : Net) → IsNet net → HandlesFreshly (simulation net) (IsGood net) sender_of number_of next_number }
+    ensures fresh { (net : Net) → IsNet net
+        → HandlesFreshly (simulation net) (IsGood net) sender_of number_of next_number }
 {}
 
 /// The trace of a clone rises strictly by time, sender and number.

@@ -27,7 +27,8 @@ fn pass_job(
     requires links { AreLinks station.now.links.items }
     requires weights { AreWeights router.now.weights.items }
     requires same { length router.now.weights.items ≡ length station.now.links.items }
-    ensures { router_job (as_site station.now) now job router.now (outgoing sender.old out.old.items) ≡ outgoing sender.new out.new.items }
+    ensures { router_job (as_site station.now) now job router.now (outgoing sender.old out.old.items)
+        ≡ outgoing sender.new out.new.items }
 {
     let links = station.links.as_slice();
     let link = if station.kind.by_turn() {
@@ -62,7 +63,8 @@ pub(crate) fn router_handles(
     requires fits { FitsRouter MOST_LIMIT router.old }
     requires same { length router.old.weights.items ≡ length station.now.links.items }
     requires kind { is_router station.now.kind ≡ true }
-    ensures { router_on (as_site station.now) now payload.now router.old (outgoing sender.old out.old.items) ≡ reaction router.new (outgoing sender.new out.new.items) }
+    ensures { router_on (as_site station.now) now payload.now router.old (outgoing sender.old out.old.items)
+        ≡ reaction router.new (outgoing sender.new out.new.items) }
 {
     match payload {
         Payload::Job(job) => {

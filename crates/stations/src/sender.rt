@@ -73,7 +73,8 @@ pub(crate) fn send_over_link(
     requires next { sender.old.next < 2 ^ 32 }
     requires near { link.now.delay ≤ 1000000 }
     requires early { time < 2 ^ 32 }
-    ensures { send_over (Some link.now) time job (outgoing sender.old out.old.items) ≡ outgoing sender.new out.new.items }
+    ensures { send_over (Some link.now) time job (outgoing sender.old out.old.items)
+        ≡ outgoing sender.new out.new.items }
 {
     send_message(sender, out, time + link.delay, link.to, Payload::Job(job));
 }

@@ -6,7 +6,8 @@ ghost use Rattle.net_model.specs.declared.limits.TheConstants.{MOST_LIMIT};
 ghost use Rattle.net_model.specs.Sites.{as_site};
 ghost use Rattle.stations.specs.Fits.{AreLinks, FitsServer};
 ghost use Rattle.stations.specs.Sending.{MaySend, outgoing, reaction};
-ghost use Rattle.stations.specs.Servers.{least_in, place_of_class, next_place, start, start_next as next_started, start_times, server_job, server_done, server_change, server_set, server_on};
+ghost use Rattle.stations.specs.Servers.{least_in, place_of_class, next_place, start, start_next as next_started};
+ghost use Rattle.stations.specs.Servers.{start_times, server_job, server_done, server_change, server_set, server_on};
 ghost use Rattle.sim_base.specs.declared.message.Param.TheVariants.{Servers};
 
 use crate::change::takes_change;
@@ -58,7 +59,8 @@ fn start_job(
     requires may_send { MaySend 1 now sender.old (array_vec_len out.old) }
     requires range { IsRange 1 server.old.lo server.old.hi }
     requires busy { server.old.busy < 2 ^ 32 }
-    ensures { start now job server.old (outgoing sender.old out.old.items) ≡ reaction server.new (outgoing sender.new out.new.items) }
+    ensures { start now job server.old (outgoing sender.old out.old.items) ≡ reaction server.new
+        (outgoing sender.new out.new.items) }
 {
     server.busy += 1;
     send_to_itself(sender, out, now, server.lo, server.hi, Payload::Done(job));
@@ -75,7 +77,8 @@ fn start_next(
 )
     requires may_send { MaySend 1 now sender.old (array_vec_len out.old) }
     requires range { IsRange 1 server.old.lo server.old.hi }
-    ensures { next_started model.now (as_site station.now) now server.old (outgoing sender.old out.old.items) ≡ reaction server.new (outgoing sender.new out.new.items) }
+    ensures { next_started model.now (as_site station.now) now server.old (outgoing sender.old out.old.items)
+        ≡ reaction server.new (outgoing sender.new out.new.items) }
 {
     if server.busy < u64::from(server.servers) {
         let place = place_of_next(model, station, &server.waiting);
@@ -95,8 +98,10 @@ fn job_comes(
     requires may_send { MaySend 1 now sender.old (array_vec_len out.old) }
     requires range { IsRange 1 server.old.lo server.old.hi }
     requires lost { server.old.lost < 2 ^ 32 }
-    ensures ok { OnOk result (server_job now job server.old (outgoing sender.old out.old.items) ≡ reaction server.new (outgoing sender.new out.new.items)) }
-    ensures err { OnErr result (reaction server.new (outgoing sender.new out.new.items) ≡ reaction server.old (outgoing sender.old out.old.items)) }
+    ensures ok { OnOk result (server_job now job server.old (outgoing sender.old out.old.items) ≡ reaction server.new
+        (outgoing sender.new out.new.items)) }
+    ensures err { OnErr result (reaction server.new (outgoing sender.new out.new.items) ≡ reaction server.old
+        (outgoing sender.old out.old.items)) }
 {
     if server.busy < u64::from(server.servers) {
         start_job(server, sender, out, now, job);
@@ -121,7 +126,8 @@ fn job_is_done(
     requires links { AreLinks station.now.links.items }
     requires range { IsRange 1 server.old.lo server.old.hi }
     requires done { server.old.done < 2 ^ 32 }
-    ensures { server_done model.now (as_site station.now) now job server.old (outgoing sender.old out.old.items) ≡ reaction server.new (outgoing sender.new out.new.items) }
+    ensures { server_done model.now (as_site station.now) now job server.old (outgoing sender.old out.old.items)
+        ≡ reaction server.new (outgoing sender.new out.new.items) }
 {
     if server.busy == 0 {
         return;
@@ -145,7 +151,9 @@ fn start_many(
     requires may_send { MaySend 16 now sender.old (array_vec_len out.old) }
     requires few_times { times ≤ 16 }
     requires range { IsRange 1 server.old.lo server.old.hi }
-    ensures { start_times times model.now (as_site station.now) now (reaction server.old (outgoing sender.old out.old.items)) ≡ reaction server.new (outgoing sender.new out.new.items) }
+    ensures { start_times times model.now (as_site station.now) now
+        (reaction server.old (outgoing sender.old out.old.items)) ≡ reaction server.new
+        (outgoing sender.new out.new.items) }
 {
     'starts: for _ in 0..times {
         start_next(server, sender, out, model, station, now);
@@ -165,7 +173,8 @@ fn set_servers(
     requires may_send { MaySend 16 now sender.old (array_vec_len out.old) }
     requires few_servers { servers ≤ 16 }
     requires range { IsRange 1 server.old.lo server.old.hi }
-    ensures { server_change model.now (as_site station.now) now Servers servers 0 server.old (outgoing sender.old out.old.items) ≡ reaction server.new (outgoing sender.new out.new.items) }
+    ensures { server_change model.now (as_site station.now) now Servers servers 0 server.old
+        (outgoing sender.old out.old.items) ≡ reaction server.new (outgoing sender.new out.new.items) }
 {
     server.servers = servers;
     let free = u64::from(servers).saturating_sub(server.busy);
@@ -183,7 +192,8 @@ fn set_server(
 )
     requires may_send { MaySend 16 now sender.old (array_vec_len out.old) }
     requires range { IsRange 1 server.old.lo server.old.hi }
-    ensures { server_set model.now (as_site station.now) now change.now server.old (outgoing sender.old out.old.items) ≡ reaction server.new (outgoing sender.new out.new.items) }
+    ensures { server_set model.now (as_site station.now) now change.now server.old (outgoing sender.old out.old.items)
+        ≡ reaction server.new (outgoing sender.new out.new.items) }
 {
     if !takes_change(station, change) {
         return;
@@ -214,8 +224,10 @@ pub(crate) fn server_handles(
     requires may_send { MaySend 16 now sender.old (array_vec_len out.old) }
     requires links { AreLinks station.now.links.items }
     requires fits { FitsServer MOST_LIMIT server.old }
-    ensures ok { OnOk result (server_on model.now (as_site station.now) now payload.now server.old (outgoing sender.old out.old.items) ≡ reaction server.new (outgoing sender.new out.new.items)) }
-    ensures err { OnErr result (reaction server.new (outgoing sender.new out.new.items) ≡ reaction server.old (outgoing sender.old out.old.items)) }
+    ensures ok { OnOk result (server_on model.now (as_site station.now) now payload.now server.old
+        (outgoing sender.old out.old.items) ≡ reaction server.new (outgoing sender.new out.new.items)) }
+    ensures err { OnErr result (reaction server.new (outgoing sender.new out.new.items) ≡ reaction server.old
+        (outgoing sender.old out.old.items)) }
 {
     match payload {
         Payload::Job(job) => job_comes(server, sender, out, now, *job),

@@ -42,7 +42,8 @@ fn make_job(
     requires links { AreLinks station.now.links.items }
     requires range { IsRange 1 source.old.lo source.old.hi }
     requires sent { source.old.sent < 2 ^ 32 }
-    ensures { source_ticks (as_site station.now) now source.old (outgoing sender.old out.old.items) ≡ reaction source.new (outgoing sender.new out.new.items) }
+    ensures { source_ticks (as_site station.now) now source.old (outgoing sender.old out.old.items)
+        ≡ reaction source.new (outgoing sender.new out.new.items) }
 {
     let job = Job {
         source: sender.station,
@@ -75,7 +76,8 @@ pub(crate) fn source_handles(
     requires may_send { MaySend 16 now sender.old (array_vec_len out.old) }
     requires links { AreLinks station.now.links.items }
     requires fits { FitsSource MOST_LIMIT source.old }
-    ensures { source_on (as_site station.now) now payload.now source.old (outgoing sender.old out.old.items) ≡ reaction source.new (outgoing sender.new out.new.items) }
+    ensures { source_on (as_site station.now) now payload.now source.old (outgoing sender.old out.old.items)
+        ≡ reaction source.new (outgoing sender.new out.new.items) }
 {
     match payload {
         Payload::Tick => make_job(source, sender, out, station, now),

@@ -56,8 +56,10 @@ fn kind_handles(
     requires links { HasLinks kind.old station.now.links.items }
     requires of_kind { IsOfKind (as_site station.now) station.now.kind kind.old }
     requires fits { FitsKind MOST_LIMIT kind.old }
-    ensures ok { OnOk result (kind_on model.now (as_site station.now) now payload.now kind.old (outgoing sender.old out.old.items) ≡ reaction kind.new (outgoing sender.new out.new.items)) }
-    ensures err { OnErr result (reaction kind.new (outgoing sender.new out.new.items) ≡ reaction kind.old (outgoing sender.old out.old.items)) }
+    ensures ok { OnOk result (kind_on model.now (as_site station.now) now payload.now kind.old
+        (outgoing sender.old out.old.items) ≡ reaction kind.new (outgoing sender.new out.new.items)) }
+    ensures err { OnErr result (reaction kind.new (outgoing sender.new out.new.items) ≡ reaction kind.old
+        (outgoing sender.old out.old.items)) }
 {
     match kind {
         KindState::Source(source) => {
@@ -122,8 +124,10 @@ pub fn handle<L: Ledger>(
     requires own { msg.now.to ≡ state.old.sender.station }
     requires below { state.old.handled < MOST_LIMIT }
     requires early { msg.now.key.time < 2 ^ 31 }
-    ensures ok { IfOk result (λ line. handled_by model.now state.old msg.now ≡ record { state = state.new; sends = out.new.items; line = line }) }
-    ensures sends { OnOk result (AreSends model.now msg.now.key.time state.old.sender.station state.old.sender.next out.new.items) }
+    ensures ok { IfOk result (λ line. handled_by model.now state.old msg.now
+        ≡ record { state = state.new; sends = out.new.items; line = line }) }
+    ensures sends { OnOk result (AreSends model.now msg.now.key.time state.old.sender.station state.old.sender.next
+        out.new.items) }
     ensures next { OnOk result (state.new.sender.next ≡ state.old.sender.next + length out.new.items) }
     ensures suits { SuitsNet model.now state.new }
     ensures fits { FitsState state.new }

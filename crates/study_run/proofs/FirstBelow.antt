@@ -50,9 +50,16 @@ module _ {X : Type 0} (f : ℕ → Option X) where
   found_below zero x h = absurd (cc)
   found_below (suc n) x h = by (first_below f n) refl h (λ e. found_below n x e)
     where
-      by : (o : Option X) → first_below f n ≡ o → sooner o (f n) ≡ Some x → (first_below f n ≡ Some x → IsFirstAt f n x) → IsFirstAt f (suc n) x
+      by : (o : Option X) → first_below f n ≡ o → sooner o (f n) ≡ Some x
+          → (first_below f n ≡ Some x → IsFirstAt f n x) → IsFirstAt f (suc n) x
       by (Some y) e h before =
           let r = before (e ∙ h) in
           let below = r.below in
           record { place = r.place; below = omega (arith, below); is_there = r.is_there; none_before = r.none_before }
-      by None e h before = record { place = n; below = omega arith; is_there = h; none_before = λ j l. none_below n j e l }
+      by None e h before = record {
+        place = n;
+        below = omega arith;
+        is_there = h;
+        none_before = λ j l.
+            none_below n j e l;
+      }

@@ -1,5 +1,6 @@
 -- The first log of a trace that is full, and the lengths of all.
-use Rattle.std.proofs.Common.{◌≡◌, inl, inr, ℕ, ◌<◌, ◌≤◌, ◌==◌, cond, refl, ap, sym, subst, ◌∙◌, List, [], ◌∷◌, ◌++◌, length, length-append, append-nil, Option, Some, None, arith}
+use Rattle.std.proofs.Common.{◌≡◌, inl, inr, ℕ, ◌<◌, ◌≤◌, ◌==◌, cond, refl, ap, sym, subst}
+use Rattle.std.proofs.Common.{◌∙◌, List, [], ◌∷◌, ◌++◌, length, length-append, append-nil, Option, Some, None, arith}
 use Rattle.std.proofs.lemmas.Bool.{cases_eq, cases_lt, lt-leb}
 use Rattle.std.proofs.lemmas.List.{append_assoc}
 use Rattle.std.proofs.lemmas.List.Elements.{filter-append}
@@ -18,24 +19,29 @@ use Rattle.study_run.specs.Laws.{FullIsFound, FullIsLonger, FullIsOne, NotWithin
 
 module _ (limit : ℕ) where
   -- the walk goes on behind an entry whose log was not full
-  later : (seen : List (Entry Msg Line)) (e : Entry Msg Line) (es : List (Entry Msg Line)) → length (log_of receiver e.msg.to seen) < limit
+  later : (seen : List (Entry Msg Line)) (e : Entry Msg Line) (es : List (Entry Msg Line))
+      → length (log_of receiver e.msg.to seen) < limit
       → first_beyond limit seen (e ∷ es) ≡ first_beyond limit (seen ++ e ∷ []) es
-  later seen e es below = ap (λ b. cond b (Some e.msg.to) (first_beyond limit (seen ++ e ∷ []) es)) (lt-leb limit (length (log_of receiver e.msg.to seen)) below)
+  later seen e es below = ap (λ b. cond b (Some e.msg.to) (first_beyond limit (seen ++ e ∷ []) es))
+      (lt-leb limit (length (log_of receiver e.msg.to seen)) below)
 
   -- the logs stay within the limit with an entry whose log was not full
-  grown : (seen : List (Entry Msg Line)) (e : Entry Msg Line) → ((s : ℕ) → length (log_of receiver s seen) ≤ limit) → length (log_of receiver e.msg.to seen) < limit
+  grown : (seen : List (Entry Msg Line)) (e : Entry Msg Line) → ((s : ℕ) → length (log_of receiver s seen) ≤ limit)
+      → length (log_of receiver e.msg.to seen) < limit
       → (s : ℕ) → length (log_of receiver s (seen ++ e ∷ [])) ≤ limit
   grown seen e h below s = elim (cases_eq e.msg.to s) [
     | inl same ↦
         let more = length-append (log_of receiver s seen) (e ∷ []) in
         let is = ap length (log_here receiver s seen e same) in
-        let free : length (log_of receiver s seen) < limit = subst (λ k. length (log_of receiver k seen) < limit) same below in
+        let free : length (log_of receiver s seen) < limit =
+        subst (λ k. length (log_of receiver k seen) < limit) same below in
         omega (arith, more, is, free)
     | inr other ↦ subst (λ l. length l ≤ limit) (sym (log_there receiver s seen e other)) (h s)
   ]
 
   -- where the walk finds none, no log is longer
-  within : (seen es : List (Entry Msg Line)) → ((s : ℕ) → length (log_of receiver s seen) ≤ limit) → first_beyond limit seen es ≡ None
+  within : (seen es : List (Entry Msg Line)) → ((s : ℕ) → length (log_of receiver s seen) ≤ limit)
+      → first_beyond limit seen es ≡ None
       → (s : ℕ) → length (log_of receiver s (seen ++ es)) ≤ limit
   within seen [] h none s = subst (λ t. length (log_of receiver s t) ≤ limit) (sym (append-nil seen)) (h s)
   within seen (e ∷ es) h none s = elim (cases_lt (length (log_of receiver e.msg.to seen)) limit) [
@@ -45,7 +51,8 @@ module _ (limit : ℕ) where
   ]
 
   -- the log that it finds is longer in the end
-  longer : (seen es : List (Entry Msg Line)) (s : ℕ) → first_beyond limit seen es ≡ Some s → limit < length (log_of receiver s (seen ++ es))
+  longer : (seen es : List (Entry Msg Line)) (s : ℕ) → first_beyond limit seen es ≡ Some s
+      → limit < length (log_of receiver s (seen ++ es))
   longer seen [] s some = absurd (cc)
   longer seen (e ∷ es) s some = elim (cases_lt (length (log_of receiver e.msg.to seen)) limit) [
     | inr full ↦
@@ -56,27 +63,40 @@ module _ (limit : ℕ) where
         let lengths = length-append (log_of receiver s (seen ++ e ∷ [])) (log_of receiver s es) in
         let here = ap length (log_here receiver s seen e same) in
         let more = length-append (log_of receiver s seen) (e ∷ []) in
-        let is_full : limit ≤ length (log_of receiver s seen) = subst (λ k. limit ≤ length (log_of receiver k seen)) same full in
+        let is_full : limit ≤ length (log_of receiver s seen) =
+        subst (λ k. limit ≤ length (log_of receiver k seen)) same full in
         omega (arith, whole, parts, lengths, here, more, is_full)
-    | inl below ↦ subst (λ t. limit < length (log_of receiver s t)) (append_assoc seen (e ∷ []) es) (longer (seen ++ e ∷ []) es s (sym (later seen e es below) ∙ some))
+    | inl below ↦ subst (λ t. limit < length (log_of receiver s t)) (append_assoc seen (e ∷ []) es)
+        (longer (seen ++ e ∷ []) es s (sym (later seen e es below) ∙ some))
   ]
 
   -- the entry at which the walk ends is the first whose log is full
-  full_at : (seen es : List (Entry Msg Line)) (s : ℕ) → ((t : ℕ) → length (log_of receiver t seen) ≤ limit) → first_beyond limit seen es ≡ Some s → IsFirstFull limit (seen ++ es) s
+  full_at : (seen es : List (Entry Msg Line)) (s : ℕ) → ((t : ℕ) → length (log_of receiver t seen) ≤ limit)
+      → first_beyond limit seen es ≡ Some s → IsFirstFull limit (seen ++ es) s
   full_at seen [] s h some = absurd (cc)
   full_at seen (e ∷ es) s h some = elim (cases_lt (length (log_of receiver e.msg.to seen)) limit) [
     | inr full ↦
         let at : Some e.msg.to ≡ Some s = sym (beyond_here limit seen e es full) ∙ some in
         let same : e.msg.to ≡ s = cc in
         let most = h s in
-        let least : limit ≤ length (log_of receiver s seen) = subst (λ k. limit ≤ length (log_of receiver k seen)) same full in
-        record { done = seen; entry = e; rest = es; parts = refl; is_for = same; full = omega (arith, most, least); within = h }
+        let least : limit ≤ length (log_of receiver s seen) =
+        subst (λ k. limit ≤ length (log_of receiver k seen)) same full in
+        record {
+          done = seen;
+          entry = e;
+          rest = es;
+          parts = refl;
+          is_for = same;
+          full = omega (arith, most, least);
+          within = h;
+        }
     | inl below ↦ subst (λ t. IsFirstFull limit t s) (append_assoc seen (e ∷ []) es)
         (full_at (seen ++ e ∷ []) es s (grown seen e h below) (sym (later seen e es below) ∙ some))
   ]
 
   -- where no log is longer, the walk finds none
-  none_found : (es : List (Entry Msg Line)) (o : Option ℕ) → first_beyond limit [] es ≡ o → ((s : ℕ) → length (log_of receiver s es) ≤ limit) → o ≡ None
+  none_found : (es : List (Entry Msg Line)) (o : Option ℕ) → first_beyond limit [] es ≡ o
+      → ((s : ℕ) → length (log_of receiver s es) ≤ limit) → o ≡ None
   none_found es None e h = refl
   none_found es (Some s) e h = let long = longer [] es s e in let short = h s in absurd (omega (arith, long, short))
 
@@ -86,8 +106,11 @@ module _ (limit : ℕ) where
       let none = none_found f.done (first_beyond limit [] f.done) refl f.within in
       let full = f.full in
       let least : limit ≤ length (log_of receiver s f.done) = omega (arith, full) in
-      let here : limit ≤ length (log_of receiver f.entry.msg.to f.done) = subst (λ k. limit ≤ length (log_of receiver k f.done)) (sym f.is_for) least in
-      ap (first_beyond limit []) f.parts ∙ (beyond_append limit [] f.done (f.entry ∷ f.rest) none ∙ (beyond_here limit f.done f.entry f.rest here ∙ ap Some f.is_for))
+      let here : limit ≤ length (log_of receiver f.entry.msg.to f.done) =
+      subst (λ k. limit ≤ length (log_of receiver k f.done)) (sym f.is_for) least in
+      ap (first_beyond limit []) f.parts
+      ∙ (beyond_append limit [] f.done (f.entry ∷ f.rest) none
+      ∙ (beyond_here limit f.done f.entry f.rest here ∙ ap Some f.is_for))
 
 pub full_is_found : FullIsFound
 full_is_found limit es s = (found_at limit es s, λ some. full_at limit [] es s (λ t. omega arith) some)
@@ -103,7 +126,10 @@ pub full_is_longer : FullIsLonger
 full_is_longer limit es s f = longer limit [] es s (found_at limit es s f)
 
 pub within_is_not_full : WithinIsNotFull
-within_is_not_full limit es = (λ h. none_found limit es (first_beyond limit [] es) refl h, λ none. within limit [] es (λ s. omega arith) none)
+within_is_not_full limit es = (
+  λ h. none_found limit es (first_beyond limit [] es) refl h,
+  λ none. within limit [] es (λ s. omega arith) none,
+)
 
 pub not_both_alone : NotWithinAndMetAlone
 not_both_alone net c s h m =
@@ -116,5 +142,7 @@ pub within_alone : (net : Net) (c : Clone) → first_beyond net.limit [] (trace_
 within_alone net c none s low high = within net.limit [] (trace_of net c) (λ t. omega arith) none s
 
 -- the limit is met where it finds one
-pub met_alone : (net : Net) (c : Clone) (s : ℕ) → 1 ≤ s → s ≤ length net.sites → first_beyond net.limit [] (trace_of net c) ≡ Some s → MeetsLimitAlone net c s
-met_alone net c s low high some = record { low = low; high = high; first = full_at net.limit [] (trace_of net c) s (λ t. omega arith) some }
+pub met_alone : (net : Net) (c : Clone) (s : ℕ) → 1 ≤ s → s ≤ length net.sites
+    → first_beyond net.limit [] (trace_of net c) ≡ Some s → MeetsLimitAlone net c s
+met_alone net c s low high some =
+    record { low = low; high = high; first = full_at net.limit [] (trace_of net c) s (λ t. omega arith) some }

@@ -1,5 +1,6 @@
 -- Where the limit is met in a run of clones.
-use Rattle.std.proofs.Common.{◌≡◌, ◌⊎◌, inl, inr, ℕ, zero, suc, ◌<◌, ◌≤◌, refl, sym, ap, ◌∙◌, subst, arith, List, [], ◌∷◌, length, Option, Some, None}
+use Rattle.std.proofs.Common.{◌≡◌, ◌⊎◌, inl, inr, ℕ, zero, suc, ◌<◌, ◌≤◌, refl, sym}
+use Rattle.std.proofs.Common.{ap, ◌∙◌, subst, arith, List, [], ◌∷◌, length, Option, Some, None}
 use Rattle.std.proofs.lemmas.Bool.{cases_lt}
 use Rattle.sim_base.specs.Clones.{Clone, clone_at}
 use Rattle.net_model.specs.Net.{Net}
@@ -20,10 +21,11 @@ use Rattle.study_run.proofs.OverLaws.{ended, is_first, no_windows, none_beyond, 
 
 -- no log is longer where none is beyond the limit at the horizon
 pub none_within : (net : Net) (cs : List Clone) → NoneBeyond net cs net.horizon → AreWithin net cs
-none_within net cs h c there s low high = elim (cases_lt net.limit (length (log_at net (clone_at cs c) s net.horizon))) [
-  | inl long ↦ absurd (h s c low high there long)
-  | inr short ↦ short
-]
+none_within net cs h c there s low high =
+    elim (cases_lt net.limit (length (log_at net (clone_at cs c) s net.horizon))) [
+      | inl long ↦ absurd (h s c low high there long)
+      | inr short ↦ short
+    ]
 
 -- and the other way round
 pub within_none : (net : Net) (cs : List Clone) → AreWithin net cs → NoneBeyond net cs net.horizon
@@ -47,7 +49,8 @@ module _ (net : Net) (valid : IsNet net) (cs : List Clone) where
   in_horizon front [] h g i = absurd i
   in_horizon front (f ∷ fs) h g (inl e) =
       let is = h.1 in
-      let within : next_front net cs front ≤ net.horizon = window_end-within (simulation net) (least (simulation net) cs front) in
+      let within : next_front net cs front ≤ net.horizon =
+      window_end-within (simulation net) (least (simulation net) cs front) in
       omega (arith, is, within, e)
   in_horizon front (f ∷ fs) h g (inr i) = in_horizon f fs h.2 g i
 
@@ -64,9 +67,11 @@ record MeetsFrom (net : Net) (cs : List Clone) (front s c : ℕ) : Type 0 where
 
 module _ (net : Net) (valid : IsNet net) (cs : List Clone) where
   -- the next window is the first, or it goes on behind it
-  meets_next : (n front s c : ℕ) (below : front < net.horizon) (o : Option (ℕ × ℕ)) → over_at net cs (next_front net cs front) ≡ o
+  meets_next : (n front s c : ℕ) (below : front < net.horizon) (o : Option (ℕ × ℕ))
+      → over_at net cs (next_front net cs front) ≡ o
       → sooner o (first_over net cs n (next_front net cs front)) ≡ Some (s, c)
-      → (first_over net cs n (next_front net cs front) ≡ Some (s, c) → MeetsFrom net cs (next_front net cs front) s c) → MeetsFrom net cs front s c
+      → (first_over net cs n (next_front net cs front) ≡ Some (s, c) → MeetsFrom net cs (next_front net cs front) s c)
+      → MeetsFrom net cs front s c
   meets_next n front s c below (Some p) e h on =
       let f : ℕ = next_front net cs front in
       let ahead = valid.ahead in
@@ -81,9 +86,11 @@ module _ (net : Net) (valid : IsNet net) (cs : List Clone) where
         before = none_before more.0 more.1;
       }
     where
-      none_before : (fs : List ℕ) → AreFronts net cs (next_front net cs front) fs → (g : ℕ) → In g (next_front net cs front ∷ fs) → g < next_front net cs front → NoneBeyond net cs g
+      none_before : (fs : List ℕ) → AreFronts net cs (next_front net cs front) fs → (g : ℕ)
+          → In g (next_front net cs front ∷ fs) → g < next_front net cs front → NoneBeyond net cs g
       none_before fs are g (inl is) less = absurd (omega (arith, is, less))
-      none_before fs are g (inr i) less = let after = later net valid cs (next_front net cs front) fs are g i in absurd (omega (arith, after, less))
+      none_before fs are g (inr i) less = let after = later net valid cs (next_front net cs front) fs are g i in
+          absurd (omega (arith, after, less))
   meets_next n front s c below None e h on =
       let m = on h in
       record {
@@ -97,14 +104,16 @@ module _ (net : Net) (valid : IsNet net) (cs : List Clone) where
     where
       none_before : {bound : ℕ} (fs : List ℕ) → ((f : ℕ) → In f fs → f < bound → NoneBeyond net cs f)
           → (g : ℕ) → In g (next_front net cs front ∷ fs) → g < bound → NoneBeyond net cs g
-      none_before fs before g (inl is) less = subst (NoneBeyond net cs) (sym is) (none_beyond net cs (next_front net cs front) e)
+      none_before fs before g (inl is) less =
+          subst (NoneBeyond net cs) (sym is) (none_beyond net cs (next_front net cs front) e)
       none_before fs before g (inr i) less = before g i less
 
   -- what the search finds from a front on
   meets_from : (n front s c : ℕ) → first_over net cs n front ≡ Some (s, c) → MeetsFrom net cs front s c
   meets_from zero front s c h = absurd (no_windows net cs front s c h)
   meets_from (suc n) front s c h = elim (cases_lt front net.horizon) [
-    | inl below ↦ meets_next n front s c below (over_at net cs (next_front net cs front)) refl (sym (window_more net cs n front below) ∙ h)
+    | inl below ↦ meets_next n front s c below (over_at net cs (next_front net cs front)) refl
+        (sym (window_more net cs n front below) ∙ h)
         (λ rest. meets_from n (next_front net cs front) s c rest)
     | inr past ↦ absurd (let k = sym (ended net cs (suc n) front past) ∙ h in cc)
   ]
@@ -117,7 +126,9 @@ module _ (net : Net) (valid : IsNet net) (cs : List Clone) where
         bound = m.bound;
         is_end = record { fronts = m.fronts; are_fronts = m.are_fronts; is_one = m.is_one };
         first = m.first;
-        before = λ f e less. m.before f (subst (In f) (fronts-unique (simulation net) cs 0 e.fronts m.fronts e.are_fronts m.are_fronts) e.is_one) less;
+        before = λ f e less. m.before f
+            (subst (In f) (fronts-unique (simulation net) cs 0 e.fronts m.fronts e.are_fronts m.are_fronts) e.is_one)
+            less;
       }
 
   -- where it is met, not all logs are within it
@@ -126,12 +137,14 @@ module _ (net : Net) (valid : IsNet net) (cs : List Clone) where
       let e = m.is_end in
       let first = m.first in
       let early = in_horizon net valid cs 0 e.fronts e.are_fronts m.bound e.is_one in
-      let short = shorter_before (lawful-stations net valid) (clone_at cs c) s m.bound net.horizon net.limit early (h c first.clone s first.low first.high) in
+      let short = shorter_before (lawful-stations net valid) (clone_at cs c) s m.bound net.horizon net.limit early
+      (h c first.clone s first.low first.high) in
       let long = first.beyond in
       absurd (omega (arith, short, long))
 
 -- at one bound there is one first
-first_is_one : (net : Net) (cs : List Clone) (bound s c t d : ℕ) → IsFirstBeyond net cs bound s c → IsFirstBeyond net cs bound t d → (s ≡ t) × (c ≡ d)
+first_is_one : (net : Net) (cs : List Clone) (bound s c t d : ℕ) → IsFirstBeyond net cs bound s c
+    → IsFirstBeyond net cs bound t d → (s ≡ t) × (c ≡ d)
 first_is_one net cs bound s c t d a b = elim (cases_lt s t) [
   | inl less ↦ absurd (b.least_station s a.low less c a.clone a.beyond)
   | inr most ↦ elim (cases_lt t s) [
@@ -155,9 +168,11 @@ first_is_one net cs bound s c t d a b = elim (cases_lt s t) [
 
 pub meeting_is_one : MeetingIsOne
 meeting_is_one net cs s c t d m k = elim (cases_lt m.bound k.bound) [
-  | inl less ↦ let first = m.first in absurd (k.before m.bound m.is_end less s c first.low first.high first.clone first.beyond)
+  | inl less ↦ let first = m.first in
+      absurd (k.before m.bound m.is_end less s c first.low first.high first.clone first.beyond)
   | inr most ↦ elim (cases_lt k.bound m.bound) [
-    | inl less ↦ let first = k.first in absurd (m.before k.bound k.is_end less t d first.low first.high first.clone first.beyond)
+    | inl less ↦ let first = k.first in
+        absurd (m.before k.bound k.is_end less t d first.low first.high first.clone first.beyond)
     | inr least ↦
         let same : k.bound ≡ m.bound = omega (arith, most, least) in
         first_is_one net cs m.bound s c t d m.first (subst (λ b. IsFirstBeyond net cs b t d) same k.first)
@@ -180,7 +195,8 @@ within_or_met net valid cs = elim (either net valid cs (first_over_of net cs) re
 ]
 
 -- where it is met, the search finds it
-met_found : (net : Net) → IsNet net → (cs : List Clone) (s c : ℕ) → MeetsLimit net cs s c → first_over_of net cs ≡ Some (s, c)
+met_found : (net : Net) → IsNet net → (cs : List Clone) (s c : ℕ) → MeetsLimit net cs s c
+    → first_over_of net cs ≡ Some (s, c)
 met_found net valid cs s c m = elim (either net valid cs (first_over_of net cs) refl) [
   | inl within ↦ absurd (not_within net valid cs s c within m)
   | inr met ↦
@@ -196,9 +212,13 @@ pub meeting_is_found : MeetingIsFound
 meeting_is_found net valid cs s c = (met_found net valid cs s c, found_met net valid cs s c)
 
 -- where all are within it, the search finds nothing
-within_found : (net : Net) → IsNet net → (cs : List Clone) (o : Option (ℕ × ℕ)) → first_over_of net cs ≡ o → AreWithin net cs → o ≡ None
+within_found : (net : Net) → IsNet net → (cs : List Clone) (o : Option (ℕ × ℕ)) → first_over_of net cs ≡ o
+    → AreWithin net cs → o ≡ None
 within_found net valid cs None e h = refl
 within_found net valid cs (Some (s, c)) e h = absurd (not_within net valid cs s c h (found_met net valid cs s c e))
 
 pub within_is_not_found : WithinIsNotFound
-within_is_not_found net valid cs = (within_found net valid cs (first_over_of net cs) refl, λ none. none_within net cs (within_horizon net cs valid none))
+within_is_not_found net valid cs = (
+  within_found net valid cs (first_over_of net cs) refl,
+  λ none. none_within net cs (within_horizon net cs valid none),
+)

@@ -1,5 +1,6 @@
 -- The first log of a run that is beyond the limit, as a search through the windows finds it.
-use Rattle.std.proofs.Common.{◌≡◌, inl, inr, ℕ, zero, suc, ◌+◌, ◌-◌, ◌<◌, ◌≤◌, refl, sym, ap, ◌∙◌, subst, arith, List, length, Some, None, Bool, lt-ltb, le-ltb}
+use Rattle.std.proofs.Common.{◌≡◌, inl, inr, ℕ, zero, suc, ◌+◌, ◌-◌, ◌<◌, ◌≤◌, refl, sym}
+use Rattle.std.proofs.Common.{ap, ◌∙◌, subst, arith, List, length, Some, None, Bool, lt-ltb, le-ltb}
 use Rattle.std.specs.Prelude.{if◌then◌else◌}
 use Rattle.std.proofs.lemmas.Bool.{cases_lt}
 use Rattle.sim_base.specs.Clones.{Clone, clone_at}
@@ -18,28 +19,34 @@ use Rattle.study_run.proofs.FirstBelow.{below_none, below_some, both_none, found
 module _ (net : Net) (cs : List Clone) (front : ℕ) where
   -- a log beyond the limit is found
   long_is : (s c : ℕ) → IsBeyond net s front (clone_at cs c) → over_of net cs front s c ≡ Some (s, c)
-  long_is s c long = ap (λ (b : Bool). if b then Some (s, c) else None) (lt-ltb net.limit (length (log_at net (clone_at cs c) s front)) long)
+  long_is s c long = ap (λ (b : Bool). if b then Some (s, c) else None)
+      (lt-ltb net.limit (length (log_at net (clone_at cs c) s front)) long)
 
   -- a log within it is not
   short_is : (s c : ℕ) → ¬ (IsBeyond net s front (clone_at cs c)) → over_of net cs front s c ≡ None
   short_is s c h = elim (cases_lt net.limit (length (log_at net (clone_at cs c) s front))) [
     | inl long ↦ absurd (h long)
-    | inr short ↦ ap (λ (b : Bool). if b then Some (s, c) else None) (le-ltb net.limit (length (log_at net (clone_at cs c) s front)) short)
+    | inr short ↦ ap (λ (b : Bool). if b then Some (s, c) else None)
+        (le-ltb net.limit (length (log_at net (clone_at cs c) s front)) short)
   ]
 
   -- what is found is beyond the limit
-  over_is : (s c : ℕ) (p : ℕ × ℕ) → over_of net cs front s c ≡ Some p → IsBeyond net s front (clone_at cs c) × (p ≡ (s, c))
+  over_is : (s c : ℕ) (p : ℕ × ℕ) → over_of net cs front s c ≡ Some p → IsBeyond net s front (clone_at cs c)
+      × (p ≡ (s, c))
   over_is s c p h = elim (cases_lt net.limit (length (log_at net (clone_at cs c) s front))) [
     | inl long ↦ (long, (let e : Some (s, c) ≡ Some p = sym (long_is s c long) ∙ h in cc))
     | inr short ↦
-        let none : over_of net cs front s c ≡ None = ap (λ (b : Bool). if b then Some (s, c) else None) (le-ltb net.limit (length (log_at net (clone_at cs c) s front)) short) in
+        let none : over_of net cs front s c ≡ None =
+        ap (λ (b : Bool). if b then Some (s, c) else None)
+        (le-ltb net.limit (length (log_at net (clone_at cs c) s front)) short) in
         absurd (let k = sym none ∙ h in cc)
   ]
 
   -- none is found where none is beyond it
   none_over : NoneBeyond net cs front → over_at net cs front ≡ None
   none_over h = below_none (λ i. over_in net cs front (i + 1)) (length net.sites)
-      (λ i l. below_none (over_of net cs front (i + 1)) (length cs) (λ c k. short_is (i + 1) c (h (i + 1) c (omega arith) (omega (arith, l)) k)))
+      (λ i l. below_none (over_of net cs front (i + 1)) (length cs)
+      (λ c k. short_is (i + 1) c (h (i + 1) c (omega arith) (omega (arith, l)) k)))
 
   none_here : (s c : ℕ) → over_in net cs front s ≡ None → c < length cs → ¬ (IsBeyond net s front (clone_at cs c))
   none_here s c h there long =
@@ -51,7 +58,8 @@ module _ (net : Net) (cs : List Clone) (front : ℕ) where
   pub none_beyond : over_at net cs front ≡ None → NoneBeyond net cs front
   none_beyond h s c low high there long =
       let e : s - 1 + 1 ≡ s = omega (arith, low) in
-      let here = none_below (λ i. over_in net cs front (i + 1)) (length net.sites) (s - 1) h (omega (arith, low, high)) in
+      let here = none_below (λ i. over_in net cs front (i + 1)) (length net.sites) (s - 1) h
+      (omega (arith, low, high)) in
       none_here s c (ap (over_in net cs front) (sym e) ∙ here) there long
 
   -- the least station with a log beyond the limit, and the least clone there, are found
@@ -61,9 +69,12 @@ module _ (net : Net) (cs : List Clone) (front : ℕ) where
       let e : i + 1 ≡ suc i = omega arith in
       let high = h.high in
       let here : over_in net cs front (suc i) ≡ Some (suc i, c) =
-      below_some (over_of net cs front (suc i)) (length cs) c (suc i, c) h.clone (long_is (suc i) c h.beyond) (λ j l. short_is (suc i) j (h.least_clone j l)) in
-      below_some (λ i. over_in net cs front (i + 1)) (length net.sites) i (suc i, c) (omega (arith, high)) (ap (over_in net cs front) e ∙ here)
-      (λ j l. below_none (over_of net cs front (j + 1)) (length cs) (λ k there. short_is (j + 1) k (h.least_station (j + 1) (omega arith) (omega (arith, l)) k there)))
+      below_some (over_of net cs front (suc i)) (length cs) c (suc i, c) h.clone (long_is (suc i) c h.beyond)
+      (λ j l. short_is (suc i) j (h.least_clone j l)) in
+      below_some (λ i. over_in net cs front (i + 1)) (length net.sites) i (suc i, c) (omega (arith, high))
+      (ap (over_in net cs front) e ∙ here)
+      (λ j l. below_none (over_of net cs front (j + 1)) (length cs)
+      (λ k there. short_is (j + 1) k (h.least_station (j + 1) (omega arith) (omega (arith, l)) k there)))
 
   -- and what is found are these
   pub is_first : (s c : ℕ) → over_at net cs front ≡ Some (s, c) → IsFirstBeyond net cs front s c
@@ -81,30 +92,35 @@ module _ (net : Net) (cs : List Clone) (front : ℕ) where
         beyond = here.0;
         least_station = λ t low less k there long.
             let e : t - 1 + 1 ≡ t = omega (arith, low) in
-            none_here t k (ap (over_in net cs front) (sym e) ∙ at.none_before (t - 1) (omega (arith, low, less))) there long;
+            none_here t k (ap (over_in net cs front) (sym e) ∙ at.none_before (t - 1) (omega (arith, low, less)))
+            there long;
         least_clone = λ k less long.
             let none = of.none_before k less in
             let some = long_is (at.place + 1) k long in
             absurd (let e = sym none ∙ some in cc);
       } in
-      subst (λ t. IsFirstBeyond net cs front t c) (sym same_s) (subst (λ k. IsFirstBeyond net cs front (at.place + 1) k) (sym same_c) first)
+      subst (λ t. IsFirstBeyond net cs front t c) (sym same_s)
+      (subst (λ k. IsFirstBeyond net cs front (at.place + 1) k) (sym same_c) first)
 
 -- ---- first_over
 
 module _ (net : Net) (cs : List Clone) where
   -- a window more
   pub window_more : (n front : ℕ) → front < net.horizon
-      → first_over net cs (suc n) front ≡ sooner (over_at net cs (next_front net cs front)) (first_over net cs n (next_front net cs front))
+      → first_over net cs (suc n) front ≡ sooner (over_at net cs (next_front net cs front))
+      (first_over net cs n (next_front net cs front))
   unfolding first_over
   window_more n front l =
-      ap (λ (b : Bool). if b then sooner (over_at net cs (next_front net cs front)) (first_over net cs n (next_front net cs front)) else None) (lt-ltb front net.horizon l)
+      ap (λ (b : Bool). if b then sooner (over_at net cs (next_front net cs front))
+      (first_over net cs n (next_front net cs front)) else None) (lt-ltb front net.horizon l)
 
   -- none more
   pub ended : (n front : ℕ) → net.horizon ≤ front → first_over net cs n front ≡ None
   unfolding first_over
   ended zero front h = refl
   ended (suc n) front h =
-      ap (λ (b : Bool). if b then sooner (over_at net cs (next_front net cs front)) (first_over net cs n (next_front net cs front)) else None) (le-ltb front net.horizon h)
+      ap (λ (b : Bool). if b then sooner (over_at net cs (next_front net cs front))
+      (first_over net cs n (next_front net cs front)) else None) (le-ltb front net.horizon h)
 
   -- without windows nothing is found
   pub no_windows : (front s c : ℕ) → first_over net cs 0 front ≡ Some (s, c) → ⊥
@@ -114,10 +130,12 @@ module _ (net : Net) (cs : List Clone) where
   module _ (valid : IsNet net) where
     -- below the horizon a window goes on
     pub rises : (front : ℕ) → front < net.horizon → front < next_front net cs front
-    rises front l = let ahead = valid.ahead in next_front-rises (lawful-stations net valid) cs front (omega (arith, ahead)) l
+    rises front l = let ahead = valid.ahead in
+        next_front-rises (lawful-stations net valid) cs front (omega (arith, ahead)) l
 
     -- from a front on, with windows enough
-    within_from : (n front : ℕ) → net.horizon ≤ n + front → front < net.horizon → first_over net cs n front ≡ None → NoneBeyond net cs net.horizon
+    within_from : (n front : ℕ) → net.horizon ≤ n + front → front < net.horizon → first_over net cs n front ≡ None
+        → NoneBeyond net cs net.horizon
     within_from zero front far below h = absurd (omega (arith, far, below))
     within_from (suc n) front far below h =
         let f : ℕ = next_front net cs front in
@@ -126,7 +144,8 @@ module _ (net : Net) (cs : List Clone) where
         let within : f ≤ net.horizon = window_end-within (simulation net) (least (simulation net) cs front) in
         elim (cases_lt f net.horizon) [
           | inl less ↦ within_from n f (omega (arith, far, later)) less p.1
-          | inr most ↦ let is : f ≡ net.horizon = omega (arith, within, most) in subst (NoneBeyond net cs) is (none_beyond net cs f p.0)
+          | inr most ↦ let is : f ≡ net.horizon = omega (arith, within, most) in
+              subst (NoneBeyond net cs) is (none_beyond net cs f p.0)
         ]
 
     -- where nothing is found, none is beyond the limit at the horizon
@@ -142,32 +161,44 @@ pub record HasCome (net : Net) (cs : List Clone) (front : ℕ) : Type 0 where
   pub same : first_over net cs left front ≡ first_over_of net cs
 
 pub comes_first : (net : Net) (cs : List Clone) (front : ℕ) → front ≡ 0 → HasCome net cs front
-comes_first net cs front e = record { left = net.horizon; enough = omega arith; same = ap (first_over net cs net.horizon) e }
+comes_first net cs front e = record {
+  left = net.horizon;
+  enough = omega arith;
+  same = ap (first_over net cs net.horizon) e;
+}
 
 module _ (net : Net) (cs : List Clone) (front : ℕ) (below : front < net.horizon) where
   -- a window after which no log is beyond it
-  pub comes_next : IsNet net → HasCome net cs front → NoneBeyond net cs (next_front net cs front) → HasCome net cs (next_front net cs front)
+  pub comes_next : IsNet net → HasCome net cs front → NoneBeyond net cs (next_front net cs front)
+      → HasCome net cs (next_front net cs front)
   comes_next valid come none = by come.left come.enough come.same
     where
-      by : (n : ℕ) → net.horizon ≤ n + front → first_over net cs n front ≡ first_over_of net cs → HasCome net cs (next_front net cs front)
+      by : (n : ℕ) → net.horizon ≤ n + front → first_over net cs n front ≡ first_over_of net cs
+          → HasCome net cs (next_front net cs front)
       by zero enough same = absurd (omega (arith, enough, below))
       by (suc n) enough same =
           let later = rises net cs valid front below in
           record {
             left = n;
             enough = omega (arith, enough, later);
-            same = sym (window_more net cs n front below ∙ ap (λ o. sooner o (first_over net cs n (next_front net cs front))) (none_over net cs (next_front net cs front) none)) ∙ same;
+            same = sym (window_more net cs n front below
+                ∙ ap (λ o. sooner o (first_over net cs n (next_front net cs front)))
+                (none_over net cs (next_front net cs front) none)) ∙ same;
           }
 
   -- a window at whose end one is
-  pub over_here : (s c : ℕ) → HasCome net cs front → IsFirstBeyond net cs (next_front net cs front) s c → first_over_of net cs ≡ Some (s, c)
+  pub over_here : (s c : ℕ) → HasCome net cs front → IsFirstBeyond net cs (next_front net cs front) s c
+      → first_over_of net cs ≡ Some (s, c)
   over_here s c come first = by come.left come.enough come.same
     where
-      by : (n : ℕ) → net.horizon ≤ n + front → first_over net cs n front ≡ first_over_of net cs → first_over_of net cs ≡ Some (s, c)
+      by : (n : ℕ) → net.horizon ≤ n + front → first_over net cs n front ≡ first_over_of net cs
+          → first_over_of net cs ≡ Some (s, c)
       by zero enough same = absurd (omega (arith, enough, below))
       by (suc n) enough same = sym same ∙ (window_more net cs n front below
-          ∙ ap (λ o. sooner o (first_over net cs n (next_front net cs front))) (first_is net cs (next_front net cs front) s c first))
+          ∙ ap (λ o. sooner o (first_over net cs n (next_front net cs front)))
+          (first_is net cs (next_front net cs front) s c first))
 
 -- at the horizon
-pub comes_last : (net : Net) (cs : List Clone) (front : ℕ) → net.horizon ≤ front → HasCome net cs front → first_over_of net cs ≡ None
+pub comes_last : (net : Net) (cs : List Clone) (front : ℕ) → net.horizon ≤ front → HasCome net cs front
+    → first_over_of net cs ≡ None
 comes_last net cs front h come = sym come.same ∙ ended net cs come.left front h

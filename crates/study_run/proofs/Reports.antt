@@ -1,5 +1,6 @@
 -- The figures of a report, and their total.
-use Rattle.std.proofs.Common.{◌≡◌, ℕ, zero, suc, ◌+◌, ◌*◌, ◌^◌, ◌<◌, ◌≤◌, refl, sym, ap, ap₂, ◌∙◌, subst, arith, suc-mul, List, [], ◌∷◌, ◌++◌, length, length-append, sum_by, Result, Ok, Err, IfOk}
+use Rattle.std.proofs.Common.{◌≡◌, ℕ, zero, suc, ◌+◌, ◌*◌, ◌^◌, ◌<◌, ◌≤◌, refl, sym, ap, ap₂, ◌∙◌, subst, arith}
+use Rattle.std.proofs.Common.{suc-mul, List, [], ◌∷◌, ◌++◌, length, length-append, sum_by, Result, Ok, Err, IfOk}
 use Rattle.std.proofs.lemmas.List.Sums.{sum_by_push}
 use Rattle.std.proofs.Math.Nat.{mul-le-mul}
 use Rattle.sim_base.specs.Clones.{Clone}
@@ -17,7 +18,8 @@ use Rattle.study_run.specs.Limits.{AreWithin}
 use Rattle.trace_report.specs.Outputs.{figures_of, figures_to, report}
 
 -- a clone at a station handles no more than the limit, and 64 stations of 256 clones no more than a number holds
-small : (net : Net) (cs : List Clone) → IsNet net → length cs ≤ 256 → length net.sites * (length cs * net.limit) < 2 ^ 64
+small : (net : Net) (cs : List Clone) → IsNet net → length cs ≤ 256
+    → length net.sites * (length cs * net.limit) < 2 ^ 64
 small net cs valid few =
     let a : length cs * net.limit ≤ 16777216 = mul-le-mul few valid.short in
     let b : length net.sites * (length cs * net.limit) ≤ 1073741824 = mul-le-mul valid.few a in
@@ -45,7 +47,8 @@ module _ (net : Net) (cs : List Clone) where
   figures_none = refl
 
   -- the sum of what each station has few of
-  module _ (f : Figures → ℕ) (each : (s : ℕ) → 1 ≤ s → s ≤ length net.sites → f (figures_of net cs s) ≤ length cs * net.limit) where
+  module _ (f : Figures → ℕ) (each : (s : ℕ) → 1 ≤ s → s ≤ length net.sites
+      → f (figures_of net cs s) ≤ length cs * net.limit) where
     figures_few : (n : ℕ) → n ≤ length net.sites → sum_by f (figures_to net cs n) ≤ n * (length cs * net.limit)
     unfolding figures_to
     figures_few zero l = omega arith
@@ -53,7 +56,8 @@ module _ (net : Net) (cs : List Clone) where
         let h = figures_few n (omega (arith, l)) in
         let one = each (n + 1) (omega arith) (omega (arith, l)) in
         let m = suc-mul n (length cs * net.limit) in
-        subst (λ k. k ≤ suc n * (length cs * net.limit)) (sym (sum_by_push f (figures_to net cs n) (figures_of net cs (n + 1)))) (omega (arith, h, one, m))
+        subst (λ k. k ≤ suc n * (length cs * net.limit))
+        (sym (sum_by_push f (figures_to net cs n) (figures_of net cs (n + 1)))) (omega (arith, h, one, m))
 
     pub figures_small : IsNet net → length cs ≤ 256 → sum_by f (figures_to net cs (length net.sites)) < 2 ^ 64
     figures_small valid few =
@@ -62,21 +66,25 @@ module _ (net : Net) (cs : List Clone) where
         omega (arith, a, b)
 
   -- where no log is longer than the limit, the counts are few
-  pub few_at : AreWithin net cs → (s : ℕ) → 1 ≤ s → s ≤ length net.sites → AreFew (simulation net) same_entry cs s net.horizon
+  pub few_at : AreWithin net cs → (s : ℕ) → 1 ≤ s → s ≤ length net.sites
+      → AreFew (simulation net) same_entry cs s net.horizon
   few_at h s low high = counts_are_few (simulation net) same_entry cs s net.horizon (λ c there. h c there s low high)
 
   -- ---- the total
 
-  total_to : (n : ℕ) → sum_by (λ (f : Figures). f.handled) (figures_to net cs n) ≡ station_sum (λ s. handled net cs s net.horizon) n
+  total_to : (n : ℕ) → sum_by (λ (f : Figures). f.handled) (figures_to net cs n) ≡ station_sum
+      (λ s. handled net cs s net.horizon) n
   unfolding figures_to
   total_to zero = refl
   total_to (suc n) =
       let h = total_to n in
       let e : n + 1 ≡ suc n = omega arith in
       let at = ap (λ s. handled net cs s net.horizon) e in
-      sum_by_push (λ (f : Figures). f.handled) (figures_to net cs n) (figures_of net cs (n + 1)) ∙ ap₂ (λ a b. a + b) h at
+      sum_by_push (λ (f : Figures). f.handled) (figures_to net cs n) (figures_of net cs (n + 1))
+      ∙ ap₂ (λ a b. a + b) h at
 
-  total_few : AreWithin net cs → (n : ℕ) → n ≤ length net.sites → station_sum (λ s. handled net cs s net.horizon) n ≤ n * (length cs * net.limit)
+  total_few : AreWithin net cs → (n : ℕ) → n ≤ length net.sites
+      → station_sum (λ s. handled net cs s net.horizon) n ≤ n * (length cs * net.limit)
   total_few within zero l = omega arith
   total_few within (suc n) l =
       let h = total_few within n (omega (arith, l)) in
@@ -98,8 +106,10 @@ same_figures f g a b c =
     ∙ ap (λ z. record { copies = g.copies; handled = g.handled; alone = z }) c
 
 -- the figures of one station more at the horizon
-pub figures_pushed : (net told : Net) (cs : List Clone) (front s : ℕ) (f : Figures) (done all : List Figures) → told ≡ net → front ≡ net.horizon
-    → f.copies ≡ copies told cs (s + 1) front → f.handled ≡ handled told cs (s + 1) front → f.alone ≡ alone told cs (s + 1) front
+pub figures_pushed : (net told : Net) (cs : List Clone) (front s : ℕ) (f : Figures) (done all : List Figures)
+    → told ≡ net → front ≡ net.horizon
+    → f.copies ≡ copies told cs (s + 1) front → f.handled ≡ handled told cs (s + 1) front
+    → f.alone ≡ alone told cs (s + 1) front
     → done ≡ figures_to net cs s → all ≡ done ++ f ∷ [] → all ≡ figures_to net cs (s + 1)
 figures_pushed net told cs front s f done all n h a b c before push =
     let is : f ≡ figures_of net cs (s + 1) = same_figures f (figures_of net cs (s + 1))
@@ -109,11 +119,13 @@ figures_pushed net told cs front s f done all n h a b c before push =
     push ∙ (ap₂ (λ xs x. xs ++ x ∷ []) before is ∙ sym (figures_more net cs s))
 
 -- the text of all figures is the report
-pub report_is : (net : Net) (cs : List Clone) (figures : List Figures) → figures ≡ figures_to net cs (length net.sites) → report_text net figures ≡ report net cs
+pub report_is : (net : Net) (cs : List Clone) (figures : List Figures)
+    → figures ≡ figures_to net cs (length net.sites) → report_text net figures ≡ report net cs
 unfolding report
 report_is net cs figures e = ap (report_text net) e
 
 -- a text that is there, by another name
-pub text_on : {T E : Type 0} (text : T → List ℕ) (r : Result T E) (a b : List ℕ) → a ≡ b → IfOk r (λ t. text t ≡ a) → IfOk r (λ t. text t ≡ b)
+pub text_on : {T E : Type 0} (text : T → List ℕ) (r : Result T E) (a b : List ℕ) → a ≡ b → IfOk r (λ t. text t ≡ a)
+    → IfOk r (λ t. text t ≡ b)
 text_on text (Ok t) a b e h = h ∙ e
 text_on text (Err r) a b e h = tt

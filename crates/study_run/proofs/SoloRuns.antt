@@ -1,5 +1,6 @@
 -- The run of one clone by itself.
-use Rattle.std.proofs.Common.{◌≡◌, ℕ, zero, suc, ◌+◌, ◌*◌, refl, sym, subst, ap, ap₂, ◌∙◌, arith, min, List, [], ◌∷◌, length, Option, unwrap_or}
+use Rattle.std.proofs.Common.{◌≡◌, ℕ, zero, suc, ◌+◌, ◌*◌, refl, sym, subst, ap}
+use Rattle.std.proofs.Common.{ap₂, ◌∙◌, arith, min, List, [], ◌∷◌, length, Option, unwrap_or}
 use Rattle.std.specs.List.{AllByRecursion}
 use Rattle.sim_base.specs.Order.{msg_cmp}
 use Rattle.sim_base.specs.Clones.{Clone, clone_at}
@@ -22,33 +23,39 @@ use Rattle.study_run.specs.Work.{IsFew}
 use Rattle.study_run.proofs.Fulls.{met_alone, within_alone}
 
 -- decisions that stations take are for stations
-for_stations : (net : Net) (plans : List Planned) → AllByRecursion (IsPlan net) plans → AreForStations (simulation net) plans
+for_stations : (net : Net) (plans : List Planned) → AllByRecursion (IsPlan net) plans
+    → AreForStations (simulation net) plans
 for_stations net [] h = tt
 for_stations net (p ∷ ps) h = ((h.0.first, h.0.last), for_stations net ps h.1)
 
 -- those of a planned clone
-planned_at : (net : Net) (cs : List Clone) (c : ℕ) → AllByRecursion (IsPlanned net) cs → AreForStations (simulation net) (clone_at cs c).plans
+planned_at : (net : Net) (cs : List Clone) (c : ℕ) → AllByRecursion (IsPlanned net) cs
+    → AreForStations (simulation net) (clone_at cs c).plans
 planned_at net [] c h = tt
 planned_at net (k ∷ ks) zero h = for_stations net k.plans h.0.plans
 planned_at net (k ∷ ks) (suc c) h = planned_at net ks c h.1
 
-pub plans_at : (net : Net) (cs : List Clone) (c : ℕ) (plans : List Planned) → ArePlanned net cs → plans ≡ (clone_at cs c).plans → AreForStations (simulation net) plans
+pub plans_at : (net : Net) (cs : List Clone) (c : ℕ) (plans : List Planned) → ArePlanned net cs
+    → plans ≡ (clone_at cs c).plans → AreForStations (simulation net) plans
 plans_at net cs c plans h e = subst (AreForStations (simulation net)) (sym e) (planned_at net cs c h.each)
 
 -- a clone's run goes to its end, or else to the horizon
 module _ (net : Net) (c : Clone) (plans : List Planned) (end : Option ℕ) (front : ℕ) (v : SoloView)
-    (same_plans : plans ≡ c.plans) (same_end : end ≡ c.end) (is_last : front ≡ min net.horizon (unwrap_or end net.horizon))
+    (same_plans : plans ≡ c.plans) (same_end : end ≡ c.end)
+    (is_last : front ≡ min net.horizon (unwrap_or end net.horizon))
     (begins : config_of net v ≡ start_of net plans) where
   -- the trace of the run from where it begins
   pub trace_from : (run_from net v front).at.trace ≡ trace_of net c
   trace_from = ap (λ k. (run_to msg_cmp (step_of net) (λ m. m.key.time) k front).at.trace) begins
-      ∙ ap₂ (λ ps b. (run (simulation net) ps b).at.trace) same_plans (is_last ∙ ap (λ o. min net.horizon (unwrap_or o net.horizon)) same_end)
+      ∙ ap₂ (λ ps b. (run (simulation net) ps b).at.trace) same_plans
+      (is_last ∙ ap (λ o. min net.horizon (unwrap_or o net.horizon)) same_end)
 
   -- at first nothing was handled
   none_yet : length v.trace ≡ 0
   none_yet = ap (λ k. length k.at.trace) begins
 
-  module _ (s : SoloView) (old new : ℕ) (ends : config_of net s ≡ run_from net v front) (solo : IsSolo net s) (steps : new + length v.trace ≡ old + length s.trace) where
+  module _ (s : SoloView) (old new : ℕ) (ends : config_of net s ≡ run_from net v front) (solo : IsSolo net s)
+      (steps : new + length v.trace ≡ old + length s.trace) where
     pub whole_trace : s.trace ≡ trace_of net c
     whole_trace = ap (λ k. k.at.trace) ends ∙ trace_from
 
@@ -67,7 +74,8 @@ module _ (net : Net) (c : Clone) (plans : List Planned) (end : Option ℕ) (fron
         let none = none_yet in
         omega (arith, all, count, total, none, steps)
 
-  pub stops_alone : (cs : List Clone) (place old new station kept : ℕ) → clone_at cs place ≡ c → Stops net v front old new (Limit station kept)
+  pub stops_alone : (cs : List Clone) (place old new station kept : ℕ) → clone_at cs place ≡ c
+      → Stops net v front old new (Limit station kept)
       → StopsAlone net cs place old new station place
   stops_alone cs place old new station kept is h =
       let none = none_yet in
@@ -75,7 +83,8 @@ module _ (net : Net) (c : Clone) (plans : List Planned) (end : Option ℕ) (fron
       let bounded = h.bounded in
       let some = ap (first_beyond net.limit []) (sym trace_from) ∙ h.first in
       record {
-        meets = subst (λ k. MeetsLimitAlone net k station) (sym is) (met_alone net c station h.first_station h.last_station some);
+        meets = subst (λ k. MeetsLimitAlone net k station) (sym is)
+            (met_alone net c station h.first_station h.last_station some);
         is_it = refl;
         few = omega (arith, none, steps, bounded);
       }

@@ -25,9 +25,11 @@ none_handled net cs (suc n) =
     omega (arith, before, here, at)
 
 -- the window at whose end a log is beyond the limit
-stops_at : (net : Net) (cs : List Clone) (front : ℕ) → front < net.horizon → IsNet net → (start mid new station who kept : ℕ)
+stops_at : (net : Net) (cs : List Clone) (front : ℕ) → front < net.horizon → IsNet net
+    → (start mid new station who kept : ℕ)
     → HasCome net cs front → mid ≡ start + total_handled net cs front
-    → IsFault net cs front (next_front net cs front) mid new (EventLimit station who kept) → StopsAll net cs start new station who
+    → IsFault net cs front (next_front net cs front) mid new (EventLimit station who kept)
+    → StopsAll net cs start new station who
 stops_at net cs front below valid start mid new station who kept come steps h =
     let most = h.2 in
     record {
@@ -35,30 +37,40 @@ stops_at net cs front below valid start mid new station who kept come steps h =
       few = omega (arith, most, steps);
     }
 
-module _ (net told : Net) (cs those : List Clone) (front bound : ℕ) (same_net : told ≡ net) (same_clones : those ≡ cs) (next : bound ≡ next_front told those front) (below : front < net.horizon) where
+module _ (net told : Net) (cs those : List Clone) (front bound : ℕ) (same_net : told ≡ net) (same_clones : those ≡ cs)
+    (next : bound ≡ next_front told those front) (below : front < net.horizon) where
   next_is : bound ≡ next_front net cs front
   next_is = next ∙ ap₂ (λ (n : Net) l. next_front n l front) same_net same_clones
 
   pub rises_in : IsNet net → front < bound
   rises_in valid = let r = rises net cs valid front below in let e = next_is in omega (arith, r, e)
 
-  pub comes_in : (now : ℕ) → now ≡ bound → IsNet net → HasCome net cs front → NoneBeyond told those bound → HasCome net cs now
+  pub comes_in : (now : ℕ) → now ≡ bound → IsNet net → HasCome net cs front → NoneBeyond told those bound
+      → HasCome net cs now
   comes_in now is valid come none =
       let one : NoneBeyond net those bound = subst (λ (n : Net). NoneBeyond n those bound) same_net none in
       let two : NoneBeyond net cs bound = subst (λ l. NoneBeyond net l bound) same_clones one in
-      subst (HasCome net cs) (sym (is ∙ next_is)) (comes_next net cs front below valid come (subst (NoneBeyond net cs) next_is two))
+      subst (HasCome net cs) (sym (is ∙ next_is))
+      (comes_next net cs front below valid come (subst (NoneBeyond net cs) next_is two))
 
-  pub steps_in : (now start mid new : ℕ) → now ≡ bound → mid ≡ start + total_handled net cs front → new + total_handled told those front ≡ mid + total_handled told those bound
+  pub steps_in : (now start mid new : ℕ) → now ≡ bound → mid ≡ start + total_handled net cs front
+      → new + total_handled told those front ≡ mid + total_handled told those bound
       → new ≡ start + total_handled net cs now
   steps_in now start mid new is before steps =
-      let a : total_handled told those front ≡ total_handled net cs front = ap₂ (λ (n : Net) l. total_handled n l front) same_net same_clones in
-      let b : total_handled told those bound ≡ total_handled net cs bound = ap₂ (λ (n : Net) l. total_handled n l bound) same_net same_clones in
+      let a : total_handled told those front ≡ total_handled net cs front =
+      ap₂ (λ (n : Net) l. total_handled n l front) same_net same_clones in
+      let b : total_handled told those bound ≡ total_handled net cs bound =
+      ap₂ (λ (n : Net) l. total_handled n l bound) same_net same_clones in
       let c : total_handled net cs now ≡ total_handled net cs bound = ap (total_handled net cs) is in
       omega (arith, a, b, c, before, steps)
 
-  pub stops_in : (start mid new station who kept : ℕ) → IsNet net → HasCome net cs front → mid ≡ start + total_handled net cs front
+  pub stops_in : (start mid new station who kept : ℕ) → IsNet net → HasCome net cs front
+      → mid ≡ start + total_handled net cs front
       → IsFault told those front bound mid new (EventLimit station who kept) → StopsAll net cs start new station who
   stops_in start mid new station who kept valid come steps h =
-      let one : IsFault net those front bound mid new (EventLimit station who kept) = subst (λ (n : Net). IsFault n those front bound mid new (EventLimit station who kept)) same_net h in
-      let two : IsFault net cs front bound mid new (EventLimit station who kept) = subst (λ l. IsFault net l front bound mid new (EventLimit station who kept)) same_clones one in
-      stops_at net cs front below valid start mid new station who kept come steps (subst (λ b. IsFault net cs front b mid new (EventLimit station who kept)) next_is two)
+      let one : IsFault net those front bound mid new (EventLimit station who kept) =
+      subst (λ (n : Net). IsFault n those front bound mid new (EventLimit station who kept)) same_net h in
+      let two : IsFault net cs front bound mid new (EventLimit station who kept) =
+      subst (λ l. IsFault net l front bound mid new (EventLimit station who kept)) same_clones one in
+      stops_at net cs front below valid start mid new station who kept come steps
+      (subst (λ b. IsFault net cs front b mid new (EventLimit station who kept)) next_is two)

@@ -21,4 +21,5 @@ pub record AllAccepted (net : Net) (events : List Event) : Type 0 where
 
 -- a right journal without fronts is one, where every call was accepted
 abbrev pub AcceptedIsTaken : Type 0
-AcceptedIsTaken = (net : Net) (events : List Event) → IsRight net events → fronts_of events ≡ [] → EachAccepted (calls_of events) → AllAccepted net events
+AcceptedIsTaken = (net : Net) (events : List Event) → IsRight net events → fronts_of events ≡ []
+    → EachAccepted (calls_of events) → AllAccepted net events

@@ -25,4 +25,5 @@ pub record StopsAlone (net : Net) (clones : List Clone) (c old_steps new_steps s
 
 abbrev pub IsFaultAlone : Net → List Clone → ℕ → ℕ → ℕ → StudyFault → Type 0
 IsFaultAlone net clones c old_steps new_steps NoMemory = Unit {0}
-IsFaultAlone net clones c old_steps new_steps (LimitMet station who) = StopsAlone net clones c old_steps new_steps station who
+IsFaultAlone net clones c old_steps new_steps (LimitMet station who) =
+    StopsAlone net clones c old_steps new_steps station who

@@ -16,7 +16,8 @@ use Rattle.study_run.specs.Work.{most_handled}
 
 -- there is one station and one clone at which the limit is met
 abbrev pub MeetingIsOne : Type 0
-MeetingIsOne = (net : Net) (clones : List Clone) (s who t other : ℕ) → MeetsLimit net clones s who → MeetsLimit net clones t other →
+MeetingIsOne = (net : Net) (clones : List Clone) (s who t other : ℕ) → MeetsLimit net clones s who
+    → MeetsLimit net clones t other →
     (s ≡ t) × (who ≡ other)
 
 -- it is met exactly where a search through the windows finds it
@@ -26,7 +27,8 @@ MeetingIsFound = (net : Net) → IsNet net → (clones : List Clone) (s who : �
 
 -- which finds nothing exactly where all logs of the whole run are within the limit
 abbrev pub WithinIsNotFound : Type 0
-WithinIsNotFound = (net : Net) → IsNet net → (clones : List Clone) → AreWithin net clones ↔ (first_over_of net clones ≡ None)
+WithinIsNotFound = (net : Net) → IsNet net → (clones : List Clone) → AreWithin net clones
+    ↔ (first_over_of net clones ≡ None)
 
 -- so all logs are within it, or it is met
 abbrev pub WithinOrMet : Type 0
@@ -35,19 +37,23 @@ WithinOrMet = (net : Net) → IsNet net → (clones : List Clone) →
 
 -- and never both
 abbrev pub NotWithinAndMet : Type 0
-NotWithinAndMet = (net : Net) → IsNet net → (clones : List Clone) (s who : ℕ) → AreWithin net clones → MeetsLimit net clones s who → ⊥
+NotWithinAndMet = (net : Net) → IsNet net → (clones : List Clone) (s who : ℕ) → AreWithin net clones
+    → MeetsLimit net clones s who → ⊥
 
 -- in a trace one station's log is the first that is full
 abbrev pub FullIsOne : Type 0
-FullIsOne = (limit : ℕ) (trace : List (Entry Msg Line)) (s t : ℕ) → IsFirstFull limit trace s → IsFirstFull limit trace t → s ≡ t
+FullIsOne = (limit : ℕ) (trace : List (Entry Msg Line)) (s t : ℕ) → IsFirstFull limit trace s
+    → IsFirstFull limit trace t → s ≡ t
 
 -- in the end it is longer than the limit
 abbrev pub FullIsLonger : Type 0
-FullIsLonger = (limit : ℕ) (trace : List (Entry Msg Line)) (s : ℕ) → IsFirstFull limit trace s → limit < length (log_of receiver s trace)
+FullIsLonger = (limit : ℕ) (trace : List (Entry Msg Line)) (s : ℕ) → IsFirstFull limit trace s
+    → limit < length (log_of receiver s trace)
 
 -- it is exactly where a walk over the entries finds it
 abbrev pub FullIsFound : Type 0
-FullIsFound = (limit : ℕ) (trace : List (Entry Msg Line)) (s : ℕ) → IsFirstFull limit trace s ↔ (first_beyond limit [] trace ≡ Some s)
+FullIsFound = (limit : ℕ) (trace : List (Entry Msg Line)) (s : ℕ) → IsFirstFull limit trace s
+    ↔ (first_beyond limit [] trace ≡ Some s)
 
 -- which finds nothing exactly where all logs are within the limit
 abbrev pub WithinIsNotFull : Type 0
@@ -65,4 +71,5 @@ TotalIsOfReport = (net : Net) (clones : List Clone) →
 
 -- and no more than the limit allows
 abbrev pub TotalIsFew : Type 0
-TotalIsFew = (net : Net) (clones : List Clone) → AreWithin net clones → total_handled net clones net.horizon ≤ most_handled net (length clones)
+TotalIsFew = (net : Net) (clones : List Clone) → AreWithin net clones
+    → total_handled net clones net.horizon ≤ most_handled net (length clones)

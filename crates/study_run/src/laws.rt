@@ -2,7 +2,9 @@
 //!
 //! `specs/Laws.antt` has the laws in words.
 ghost use Rattle.study_run.specs.Accepted.{AcceptedIsTaken};
-ghost use Rattle.study_run.specs.Laws.{FullIsFound, FullIsLonger, FullIsOne, MeetingIsFound, MeetingIsOne, NotWithinAndMet, NotWithinAndMetAlone, TotalIsFew, TotalIsOfReport, WithinIsNotFound, WithinIsNotFull, WithinOrMet};
+ghost use Rattle.study_run.specs.Laws.{FullIsFound, FullIsLonger, FullIsOne, MeetingIsFound};
+ghost use Rattle.study_run.specs.Laws.{MeetingIsOne, NotWithinAndMet, NotWithinAndMetAlone, TotalIsFew};
+ghost use Rattle.study_run.specs.Laws.{TotalIsOfReport, WithinIsNotFound, WithinIsNotFull, WithinOrMet};
 
 /// Where the limit is met in a run of clones: there is one such place, and it is there exactly where some log of the
 /// whole run is longer.

@@ -84,7 +84,8 @@ pub fn run_study<C: Crew, G: Gate, L: Ledger, R: Threads + Wait + Sync>(
 
     // No log is too long, and what clones share was handled once.
     ensures within { IfOk result (λ w. AreWithin model.now.value w.clones) }
-    ensures steps { IfOk result (λ w. steps.new ≡ steps.old + total_handled model.now.value w.clones model.now.value.horizon) }
+    ensures steps { IfOk result (λ w.
+        steps.new ≡ steps.old + total_handled model.now.value w.clones model.now.value.horizon) }
 
     // Or the limit is met.
     ensures fault { IfErr result (λ e.

@@ -1,5 +1,6 @@
 -- What comes first of merged lists.
-use Rattle.std.proofs.Common.{◌≡◌, ◌⊎◌, ℕ, zero, suc, ◌<◌, List, [], ◌∷◌, ◌++◌, inl, inr, refl, ap, ◌∙◌, arith, length, get_or, set}
+use Rattle.std.proofs.Common.{◌≡◌, ◌⊎◌, ℕ, zero, suc, ◌<◌, List, [], ◌∷◌, ◌++◌}
+use Rattle.std.proofs.Common.{inl, inr, refl, ap, ◌∙◌, arith, length, get_or, set}
 use Rattle.std.specs.declared.cmp.Ordering.{Ordering}
 use Rattle.std.specs.declared.cmp.Ordering.TheVariants.{Less, Equal, Greater}
 use Rattle.sim_base.specs.declared.entry.Entry.{Entry}
@@ -79,7 +80,8 @@ first_of_all all zero (l ∷ ls) e es there is a before behind =
     ∙ (ap (λ x. merge_onto x ls) (right_first all e es a)
     ∙ first_stays e (merge by_key all es) ls (λ j k. behind (suc j) (omega arith) (omega (arith, k))))
 first_of_all all (suc i) (l ∷ ls) e es there is a before behind =
-    first_of_all (merge by_key all l) i ls e es (omega (arith, there)) is (merge_after all l e a (before 0 (omega arith)))
+    first_of_all (merge by_key all l) i ls e es (omega (arith, there)) is
+    (merge_after all l e a (before 0 (omega arith)))
     (λ j k. before (suc j) (omega (arith, k)))
     (λ j k n. behind (suc j) (omega (arith, k)) (omega (arith, n)))
 

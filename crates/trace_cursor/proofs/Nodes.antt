@@ -1,7 +1,9 @@
 -- The top of a tournament is the least of its words, and a change goes up to it node by node.
-use Rattle.std.proofs.Common.{◌≡◌, ◌≢◌, ◌⊎◌, ℕ, zero, suc, ◌+◌, ◌*◌, ◌-◌, ◌/◌, ◌%◌, ◌<◌, ◌≤◌, min, List, inl, inr, sym, ap, ◌∙◌, subst, arith, length, get_or, set, drop, length-drop, eq-eqb, if◌then◌else◌}
+use Rattle.std.proofs.Common.{◌≡◌, ◌≢◌, ◌⊎◌, ℕ, zero, suc, ◌+◌, ◌*◌, ◌-◌, ◌/◌, ◌%◌, ◌<◌, ◌≤◌, min, List, inl, inr, sym}
+use Rattle.std.proofs.Common.{ap, ◌∙◌, subst, arith, length, get_or, set, drop, length-drop, eq-eqb, if◌then◌else◌}
 use Rattle.std.proofs.lemmas.Bool.{cases_lt, cases_eq, ne_eqb}
-use Rattle.std.proofs.lemmas.List.{length-set, get_or-set_same, get_or-set_other, get_or-drop, drop-set-lt, drop-set-add}
+use Rattle.std.proofs.lemmas.List.{length-set, get_or-set_same, get_or-set_other}
+use Rattle.std.proofs.lemmas.List.{get_or-drop, drop-set-lt, drop-set-add}
 use Rattle.trace_cursor.specs.Tournament.{beside, IsNode, IsTree, IsMending, IsLeast}
 
 -- ---- beside
@@ -57,8 +59,10 @@ module _ (nodes : List ℕ) (count : ℕ) (t : IsTree nodes count) where
         let up = top_least fuel h (omega arith) (omega arith) (omega arith) in
         let here = node_right h (omega arith) (omega arith) in
         let one : get_or nodes h 0 ≤ get_or nodes j 0 = elim (cases_eq (j % 2) 0) [
-          | inl e ↦ let p : j ≡ 2 * h = omega (arith, e) in let q = ap (λ m. get_or nodes m 0) p in omega (arith, here, q)
-          | inr n ↦ let p : j ≡ 2 * h + 1 = omega (arith, n) in let q = ap (λ m. get_or nodes m 0) p in omega (arith, here, q)
+          | inl e ↦ let p : j ≡ 2 * h = omega (arith, e) in let q = ap (λ m. get_or nodes m 0) p in
+              omega (arith, here, q)
+          | inr n ↦ let p : j ≡ 2 * h + 1 = omega (arith, n) in let q = ap (λ m. get_or nodes m 0) p in
+              omega (arith, here, q)
         ] in
         omega (arith, up, one)
     | inr l ↦ let p : j ≡ 1 = omega arith in let q = ap (λ m. get_or nodes m 0) p in omega (arith, q)
@@ -85,7 +89,8 @@ module _ (nodes : List ℕ) (count : ℕ) (t : IsTree nodes count) where
   least_word word e =
       let some : 1 ≤ count = t.some in
       let h = word_of_node (2 * count) 1 (omega arith) (omega arith) (omega arith) in
-      let long : length (drop count nodes) ≡ count = let a = length-drop count nodes in let b = t.size in omega (arith, a, b) in
+      let long : length (drop count nodes) ≡ count = let a = length-drop count nodes in let b = t.size in
+      omega (arith, a, b) in
       record {
         place = h.0;
         there = let l : h.0 < count = h.1 in omega (arith, l, long);
@@ -99,7 +104,8 @@ module _ (nodes : List ℕ) (count : ℕ) (t : IsTree nodes count) where
 -- ---- IsMending
 
 -- a node other than the one above a place that is set is as it was
-node_stays : (nodes : List ℕ) (p v i : ℕ) → IsNode nodes i → i ≢ p → 2 * i ≢ p → 2 * i + 1 ≢ p → IsNode (set nodes p v) i
+node_stays : (nodes : List ℕ) (p v i : ℕ) → IsNode nodes i → i ≢ p → 2 * i ≢ p → 2 * i + 1 ≢ p
+    → IsNode (set nodes p v) i
 node_stays nodes p v i h a b c =
     let x = get_or-set_other nodes p i v 0 a in
     let y = get_or-set_other nodes p (2 * i) v 0 b in
@@ -123,8 +129,10 @@ mending_starts nodes count i v t l =
     }
 
 -- where that node is mended, only the one above it may be wrong
-pub mending_goes_on : (nodes : List ℕ) (count node least v : ℕ) (words : List ℕ) → IsMending nodes count node least words →
-    1 < node → v ≡ min least (get_or nodes (beside node) 0) → IsMending (set nodes (node / 2) v) count (node / 2) v words
+pub mending_goes_on : (nodes : List ℕ) (count node least v : ℕ) (words : List ℕ)
+    → IsMending nodes count node least words →
+    1 < node → v ≡ min least (get_or nodes (beside node) 0)
+    → IsMending (set nodes (node / 2) v) count (node / 2) v words
 mending_goes_on nodes count node least v words m l e =
     let low : node < 2 * count = m.low in
     let size : length nodes ≡ 2 * count = m.size in

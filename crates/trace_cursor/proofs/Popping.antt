@@ -1,5 +1,6 @@
 -- The least word tells which entry is the first of all, and a cursor stays one.
-use Rattle.std.proofs.Common.{◌≡◌, ◌≢◌, ◌⊎◌, ℕ, zero, suc, ◌+◌, ◌%◌, ◌<◌, ◌≤◌, List, [], ◌∷◌, ◌++◌, inl, inr, refl, sym, ap, ◌∙◌, subst, arith, length, get_or, set}
+use Rattle.std.proofs.Common.{◌≡◌, ◌≢◌, ◌⊎◌, ℕ, zero, suc, ◌+◌, ◌%◌, ◌<◌, ◌≤◌, List, [], ◌∷◌}
+use Rattle.std.proofs.Common.{◌++◌, inl, inr, refl, sym, ap, ◌∙◌, subst, arith, length, get_or, set}
 use Rattle.std.specs.Cmp.{ranks, IsTotalOrder}
 use Rattle.std.specs.Ordering.{MatchOrdering, nat_cmp, ordering_then, ordering_reverse}
 use Rattle.std.specs.declared.cmp.Ordering.{Ordering}
@@ -27,7 +28,8 @@ by_number x y Less s m f g = inl refl
 by_number x y Equal s m f g = g m
 by_number x y Greater s m f g = absurd (f m)
 
-last_number : (x y : ℕ) (r : Ordering) → MatchOrdering r (x < y) (x ≡ y) (y < x) → (y < x → ⊥) → (r ≡ Less) ⊎ (r ≡ Equal)
+last_number : (x y : ℕ) (r : Ordering) → MatchOrdering r (x < y) (x ≡ y) (y < x) → (y < x → ⊥)
+    → (r ≡ Less) ⊎ (r ≡ Equal)
 last_number x y Less m f = inl refl
 last_number x y Equal m f = inr refl
 last_number x y Greater m f = absurd (f m)
@@ -40,11 +42,14 @@ less_word p q e f a b l k h =
     let sf : f.msg.key.sender < 128 = b.sender in
     let ne : e.msg.key.number < 2097152 = a.number in
     let nf : f.msg.key.number < 2097152 = b.number in
-    by_number e.msg.key.time f.msg.key.time (nat_cmp e.msg.key.time f.msg.key.time) _ (ranks e.msg.key.time f.msg.key.time)
+    by_number e.msg.key.time f.msg.key.time (nat_cmp e.msg.key.time f.msg.key.time) _
+    (ranks e.msg.key.time f.msg.key.time)
     (λ g. omega (arith, g, h, se, sf, ne, nf, l, k)) (λ t.
-    by_number e.msg.key.sender f.msg.key.sender (nat_cmp e.msg.key.sender f.msg.key.sender) _ (ranks e.msg.key.sender f.msg.key.sender)
+    by_number e.msg.key.sender f.msg.key.sender (nat_cmp e.msg.key.sender f.msg.key.sender) _
+    (ranks e.msg.key.sender f.msg.key.sender)
     (λ g. omega (arith, g, t, h, ne, nf, l, k)) (λ s.
-    last_number e.msg.key.number f.msg.key.number (nat_cmp e.msg.key.number f.msg.key.number) (ranks e.msg.key.number f.msg.key.number)
+    last_number e.msg.key.number f.msg.key.number (nat_cmp e.msg.key.number f.msg.key.number)
+    (ranks e.msg.key.number f.msg.key.number)
     (λ g. omega (arith, g, t, s, h, l, k))))
 
 -- what ties has one time, one sender and one number
@@ -60,13 +65,16 @@ tie_is_one x y z u v w Equal Equal Greater a b c e = let h : ⊥ = cc in absurd 
 tie_is_one x y z u v w Equal Equal Equal a b c e = (a, b, c)
 
 -- and one of a later place comes before
-greater_word : (p q : ℕ) (e f : E) → FitsWord e.msg.key → FitsWord f.msg.key → p < 64 → q < p → packed p e < packed q f →
+greater_word : (p q : ℕ) (e f : E) → FitsWord e.msg.key → FitsWord f.msg.key → p < 64 → q < p
+    → packed p e < packed q f →
     by_key f e ≡ Greater
 greater_word p q e f a b l k h = elim (less_word p q e f a b l (omega arith) h) [
   | inl d ↦ keys_total.antisymm f e ∙ ap ordering_reverse d
   | inr d ↦
-      let t = tie_is_one e.msg.key.time f.msg.key.time e.msg.key.sender f.msg.key.sender e.msg.key.number f.msg.key.number _ _ _
-      (ranks e.msg.key.time f.msg.key.time) (ranks e.msg.key.sender f.msg.key.sender) (ranks e.msg.key.number f.msg.key.number) d in
+      let t = tie_is_one e.msg.key.time f.msg.key.time e.msg.key.sender f.msg.key.sender e.msg.key.number
+      f.msg.key.number _ _ _
+      (ranks e.msg.key.time f.msg.key.time) (ranks e.msg.key.sender f.msg.key.sender)
+      (ranks e.msg.key.number f.msg.key.number) d in
       let t0 = t.0 in let t1 = t.1 in let t2 = t.2 in
       absurd (omega (arith, t0, t1, t2, h, k))
 ]
@@ -79,7 +87,8 @@ fit_at (l ∷ ls) zero h = h.0
 fit_at (l ∷ ls) (suc i) h = fit_at ls i h.1
 
 -- the first of a list fits a word
-fit_first : (ls : List (List E)) (i : ℕ) (e : E) (es : List E) → AllFit ls → get_or ls i [] ≡ e ∷ es → FitsWord e.msg.key
+fit_first : (ls : List (List E)) (i : ℕ) (e : E) (es : List E) → AllFit ls → get_or ls i [] ≡ e ∷ es
+    → FitsWord e.msg.key
 fit_first ls i e es h is = let all : FitWords (e ∷ es) = subst FitWords is (fit_at ls i h) in all.0
 
 fit_set : (ls : List (List E)) (i : ℕ) (l : List E) → AllFit ls → FitWords l → AllFit (set ls i l)
@@ -147,11 +156,13 @@ module _ (w : ℕ) (words : List ℕ) (ls : List (List E)) (reserved most : ℕ)
       (λ j behind lj f fs q.
       let le = not_less j (omega (arith, lj, place)) in
       let wf = ap (word_of j) q in
-      less_word i j e f fe (fit_first ls j f fs c.fit q) (omega (arith, there, place, few)) (omega (arith, lj, place, few))
+      less_word i j e f fe (fit_first ls j f fs c.fit q) (omega (arith, there, place, few))
+      (omega (arith, lj, place, few))
       (omega (arith, word, le, wf, behind, lj, place, few)))
 
   -- where that list has nothing left, the word is the greatest
-  greatest_of : (l : List E) → get_or ls h.place [] ≡ l → word_of h.place l ≡ w → get_or ls (w % 64) [] ≡ [] → w ≡ no_word
+  greatest_of : (l : List E) → get_or ls h.place [] ≡ l → word_of h.place l ≡ w → get_or ls (w % 64) [] ≡ []
+      → w ≡ no_word
   greatest_of [] is e none = sym e
   greatest_of (x ∷ xs) is e none =
       let p = h.there in
@@ -193,7 +204,7 @@ cursor_set ls words reserved most i l c there fit =
       few = let a = c.few in omega (arith, a, long_words);
       place = let a = c.place in omega (arith, a, long_ls);
       there = let a = c.there in omega (arith, a, long_words);
-      room = c.room;
+      fits = c.fits;
       fit = fit_set ls i l c.fit fit;
       words_are = λ j lj. elim (cases_eq j i) [
         | inl e ↦
@@ -237,7 +248,7 @@ cursor_more ls words reserved most now l c below more fit =
       few = let a = c.few in omega (arith, a, long_words);
       place = omega (arith, below, long_ls);
       there = let a = c.there in omega (arith, a, long_words);
-      room = let a = c.room in omega (arith, a, more);
+      fits = let a = c.fits in omega (arith, a, more);
       fit = fit_more ls l c.fit fit;
       words_are = λ j lj. elim (cases_eq j i) [
         | inl e ↦

@@ -1,5 +1,6 @@
 -- The rest of a trace is the merge of the rests of the logs.
-use Rattle.std.proofs.Common.{◌≡◌, ℕ, zero, suc, ◌<◌, ◌≤◌, Bool, not, nat_lt, List, inl, inr, ◌==◌, ap, subst, arith, eqb-true}
+use Rattle.std.proofs.Common.{◌≡◌, ℕ, zero, suc, ◌<◌, ◌≤◌, Bool, not, nat_lt}
+use Rattle.std.proofs.Common.{List, inl, inr, ◌==◌, ap, subst, arith, eqb-true}
 use Rattle.std.specs.declared.cmp.Ordering.{Ordering}
 use Rattle.std.specs.declared.cmp.Ordering.TheVariants.{Equal}
 use Rattle.std.proofs.lemmas.Bool.{cases_eq}
@@ -72,8 +73,10 @@ module _ {S M N : Type 0} {sim : Simulation S M N} {Good : ℕ → S → Type 0}
         (trace_sorted law stations fresh c sim.horizon there)
         (in_trace law stations fresh c sim.horizon there h.0 x in_x)
         (in_trace law stations fresh c sim.horizon there (suc n) y in_y) tie in
-        let a : sim.to x.msg ≡ h.0 = eqb-true (sim.to x.msg) h.0 (in_filter (λ f. sim.to f.msg == h.0) trace x in_x).1 in
-        let b : sim.to y.msg ≡ suc n = eqb-true (sim.to y.msg) (suc n) (in_filter (λ f. sim.to f.msg == suc n) trace y in_y).1 in
+        let a : sim.to x.msg ≡ h.0 = eqb-true (sim.to x.msg) h.0
+        (in_filter (λ f. sim.to f.msg == h.0) trace x in_x).1 in
+        let b : sim.to y.msg ≡ suc n =
+        eqb-true (sim.to y.msg) (suc n) (in_filter (λ f. sim.to f.msg == suc n) trace y in_y).1 in
         let l : h.0 ≤ n = h.2 in
         let same_to : sim.to x.msg ≡ sim.to y.msg = ap (λ e. sim.to e.msg) same in
         omega (arith, l, a, b, same_to)

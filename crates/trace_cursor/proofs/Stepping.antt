@@ -1,5 +1,6 @@
 -- What a step of a cursor gives and leaves, by what the walk whose turn it is gave; and what an added list leaves.
-use Rattle.std.proofs.Common.{◌≡◌, ℕ, zero, suc, ◌+◌, ◌%◌, ◌<◌, List, [], ◌∷◌, ◌++◌, refl, sym, ap, ◌∙◌, subst, arith, length, get_or, set, Option, Some, None}
+use Rattle.std.proofs.Common.{◌≡◌, ℕ, zero, suc, ◌+◌, ◌%◌, ◌<◌, List, [], ◌∷◌, ◌++◌, refl}
+use Rattle.std.proofs.Common.{sym, ap, ◌∙◌, subst, arith, length, get_or, set, Option, Some, None}
 use Rattle.std.specs.Prelude.{IfSome, IfNone}
 use Rattle.std.proofs.lemmas.List.{get_or-set_same, set-get_or}
 use Rattle.run_laws.specs.Merges.{merge}
@@ -45,7 +46,8 @@ module _ (ls : List (List E)) (words : List ℕ) (reserved most : ℕ) (c : IsCu
   new_fits None some none = subst FitWords (sym none.1) tt
 
   -- a cursor is left
-  pub stepped : (now : List ℕ) (word : ℕ) (here : List E) → here ≡ get_or (set ls i new) i here → word ≡ word_of i here →
+  pub stepped : (now : List ℕ) (word : ℕ) (here : List E) → here ≡ get_or (set ls i new) i here
+      → word ≡ word_of i here →
       now ≡ set words i word → IsCursor (set ls i new) now reserved most
   stepped now word here is a b =
       let same : here ≡ new = is ∙ get_or-set_same ls i new here there in
@@ -78,7 +80,8 @@ module _ (ls : List (List E)) (words : List ℕ) (reserved most : ℕ) (c : IsCu
           (sym (ap (λ (u : CursorView). u.left) is) ∙ nothing, ap merge_all same ∙ nothing)
 
 -- what is left where a list was added
-pub added : (ls new : List (List E)) (most : ℕ) (l : List E) (v : CursorView) → view_of ls most ≡ v → new ≡ ls ++ l ∷ [] →
+pub added : (ls new : List (List E)) (most : ℕ) (l : List E) (v : CursorView) → view_of ls most ≡ v
+    → new ≡ ls ++ l ∷ [] →
     view_of new most ≡ record { left = merge by_key v.left l; logs = v.logs + 1; most = v.most }
 added ls new most l v is a =
     same_view (merge_all new) (merge by_key v.left l) (length new) (v.logs + 1) most v.most

@@ -21,6 +21,6 @@ pub record IsCursor (ls : List (List (Entry Msg Line))) (words : List ℕ) (rese
   pub few : length words ≤ 64
   pub place : length ls ≤ most
   pub there : most ≤ length words
-  pub room : most ≤ reserved
+  pub fits : most ≤ reserved
   pub fit : AllFit ls
   pub words_are : AreWordsOf words ls

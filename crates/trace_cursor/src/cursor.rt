@@ -58,7 +58,10 @@ impl<'a> Cursor<'a> {
     pub fn add(&mut self, walk: Walk<'a>)
         requires place { self.old.logs < self.old.most }
         requires fit { FitWords walk }
-        ensures value { self.new ≡ record self.old { left = merge by_key self.old.left walk.entry; logs = self.old.logs + 1 } }
+        ensures value { self.new ≡ record self.old {
+          left = merge by_key self.old.left walk.entry;
+          logs = self.old.logs + 1;
+        } }
     {
         let place = self.walks.len();
         let word = word(&walk, place as u64);

@@ -13,39 +13,48 @@ pub one_digit : (n : ℕ) → n < 10 → length (decimal n) ≡ 1
 one_digit n l = ap length (decimal_digit n l)
 
 pub two_digits : (n : ℕ) → 10 ≤ n → n < 100 → length (decimal n) ≡ 2
-two_digits n l h = let a = digit_more n l (omega arith) in let b = one_digit (n / 10) (omega arith) in omega (arith, a, b)
+two_digits n l h = let a = digit_more n l (omega arith) in let b = one_digit (n / 10) (omega arith) in
+    omega (arith, a, b)
 
 pub three_digits : (n : ℕ) → 100 ≤ n → n < 1000 → length (decimal n) ≡ 3
 three_digits n l h =
-    let a = digit_more n (omega arith) (omega arith) in let b = two_digits (n / 10) (omega arith) (omega arith) in omega (arith, a, b)
+    let a = digit_more n (omega arith) (omega arith) in let b = two_digits (n / 10) (omega arith) (omega arith) in
+    omega (arith, a, b)
 
 pub four_digits : (n : ℕ) → 1000 ≤ n → n < 10000 → length (decimal n) ≡ 4
 four_digits n l h =
-    let a = digit_more n (omega arith) (omega arith) in let b = three_digits (n / 10) (omega arith) (omega arith) in omega (arith, a, b)
+    let a = digit_more n (omega arith) (omega arith) in let b = three_digits (n / 10) (omega arith) (omega arith) in
+    omega (arith, a, b)
 
 pub five_digits : (n : ℕ) → 10000 ≤ n → n < 100000 → length (decimal n) ≡ 5
 five_digits n l h =
-    let a = digit_more n (omega arith) (omega arith) in let b = four_digits (n / 10) (omega arith) (omega arith) in omega (arith, a, b)
+    let a = digit_more n (omega arith) (omega arith) in let b = four_digits (n / 10) (omega arith) (omega arith) in
+    omega (arith, a, b)
 
 pub six_digits : (n : ℕ) → 100000 ≤ n → n < 1000000 → length (decimal n) ≡ 6
 six_digits n l h =
-    let a = digit_more n (omega arith) (omega arith) in let b = five_digits (n / 10) (omega arith) (omega arith) in omega (arith, a, b)
+    let a = digit_more n (omega arith) (omega arith) in let b = five_digits (n / 10) (omega arith) (omega arith) in
+    omega (arith, a, b)
 
 pub seven_digits : (n : ℕ) → 1000000 ≤ n → n < 10000000 → length (decimal n) ≡ 7
 seven_digits n l h =
-    let a = digit_more n (omega arith) (omega arith) in let b = six_digits (n / 10) (omega arith) (omega arith) in omega (arith, a, b)
+    let a = digit_more n (omega arith) (omega arith) in let b = six_digits (n / 10) (omega arith) (omega arith) in
+    omega (arith, a, b)
 
 pub eight_digits : (n : ℕ) → 10000000 ≤ n → n < 100000000 → length (decimal n) ≡ 8
 eight_digits n l h =
-    let a = digit_more n (omega arith) (omega arith) in let b = seven_digits (n / 10) (omega arith) (omega arith) in omega (arith, a, b)
+    let a = digit_more n (omega arith) (omega arith) in let b = seven_digits (n / 10) (omega arith) (omega arith) in
+    omega (arith, a, b)
 
 pub nine_digits : (n : ℕ) → 100000000 ≤ n → n < 1000000000 → length (decimal n) ≡ 9
 nine_digits n l h =
-    let a = digit_more n (omega arith) (omega arith) in let b = eight_digits (n / 10) (omega arith) (omega arith) in omega (arith, a, b)
+    let a = digit_more n (omega arith) (omega arith) in let b = eight_digits (n / 10) (omega arith) (omega arith) in
+    omega (arith, a, b)
 
 pub ten_digits : (n : ℕ) → 1000000000 ≤ n → n < 10000000000 → length (decimal n) ≡ 10
 ten_digits n l h =
-    let a = digit_more n (omega arith) (omega arith) in let b = nine_digits (n / 10) (omega arith) (omega arith) in omega (arith, a, b)
+    let a = digit_more n (omega arith) (omega arith) in let b = nine_digits (n / 10) (omega arith) (omega arith) in
+    omega (arith, a, b)
 
 -- five digits more than the part that five digits leave
 five_more : (n : ℕ) → 100000 ≤ n → n < 2 ^ 64 → length (decimal n) ≡ 5 + length (decimal (n / 100000))

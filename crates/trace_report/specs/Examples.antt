@@ -22,7 +22,14 @@ out = 3
 -- time, receiver, sender, number, payload, counts
 abbrev pub at : ℕ → ℕ → ℕ → ℕ → Payload → Line → Entry Msg Line
 at time receiver sender number payload line =
-    record { msg = record { key = record { time = time; sender = sender; number = number }; to = receiver; payload = payload }; line = line }
+    record {
+      msg = record {
+        key = record { time = time; sender = sender; number = number };
+        to = receiver;
+        payload = payload;
+      };
+      line = line;
+    }
 
 -- source, count and time of birth of the job
 abbrev pub job : ℕ → ℕ → ℕ → Payload
@@ -94,6 +101,11 @@ two_classes = record {
   seed = 0;
   limit = 16384;
   sites =
-      record { name = codes "low"; kind = SourceKind 3 3 2 2; stream = 1; links = record { to = 2; delay = 2; weight = 1 } ∷ [] }
+      record {
+        name = codes "low";
+        kind = SourceKind 3 3 2 2;
+        stream = 1;
+        links = record { to = 2; delay = 2; weight = 1 } ∷ [];
+      }
       ∷ record { name = codes "out"; kind = SinkKind; stream = 2; links = [] } ∷ [];
 }

@@ -21,4 +21,5 @@ total_line figures =
 -- the report text of a network's stations, each beside its figures
 abbrev pub report_text : Net → List Figures → List ℕ
 report_text net figures =
-    codes "report\n" ++ flat_map (λ beside. station_line beside.0 beside.1) (zip net.sites figures) ++ total_line figures
+    codes "report\n" ++ flat_map (λ beside. station_line beside.0 beside.1) (zip net.sites figures)
+    ++ total_line figures

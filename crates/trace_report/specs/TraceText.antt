@@ -1,5 +1,6 @@
 -- The text of a clone's trace: a head, and then a line for each message that was handled.
-use Rattle.std.specs.Prelude.{◌==◌, ℕ, ◌++◌, Bool, true, false, if◌then◌else◌, List, [], ◌∷◌, Option, Some, None, codes, decimal}
+use Rattle.std.specs.Prelude.{◌==◌, ℕ, ◌++◌, Bool, true, false, if◌then◌else◌, List}
+use Rattle.std.specs.Prelude.{[], ◌∷◌, Option, Some, None, codes, decimal}
 use Rattle.std.specs.List.{flat_map, join_with_byte}
 use Rattle.sim_base.specs.Params.{param_word, param_values}
 use Rattle.sim_base.specs.declared.entry.Entry.{Entry}
@@ -35,7 +36,8 @@ abbrev pub job_text : Net → JobOf → List ℕ
 job_text net job = station_name net job.source ++ codes "." ++ decimal job.count ++ class_text net job.source
 
 abbrev pub values_text : Change → List ℕ
-values_text change = if param_values change.param == 2 then decimal change.a ++ codes " " ++ decimal change.b else decimal change.a
+values_text change = if param_values change.param == 2 then decimal change.a ++ codes " "
+    ++ decimal change.b else decimal change.a
 
 -- a change, as a script gives it
 abbrev pub change_text : Change → List ℕ
@@ -52,7 +54,8 @@ payload_text net (Set change) = codes "set " ++ change_text change
 abbrev pub counts_text : Line → List ℕ
 counts_text (Source sent) = codes "sent=" ++ decimal sent
 counts_text (Server busy wait done lost) =
-    codes "busy=" ++ decimal busy ++ codes " wait=" ++ decimal wait ++ codes " done=" ++ decimal done ++ codes " lost=" ++ decimal lost
+    codes "busy=" ++ decimal busy ++ codes " wait=" ++ decimal wait ++ codes " done=" ++ decimal done
+    ++ codes " lost=" ++ decimal lost
 counts_text (Passed passed) = codes "passed=" ++ decimal passed
 counts_text (Sink got stay) = codes "got=" ++ decimal got ++ codes " stay=" ++ decimal stay
 

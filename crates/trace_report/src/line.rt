@@ -1,11 +1,12 @@
 //! How a trace line is worded, written forward: each function writes its part at a place and returns the place behind.
 //!
-//! `room` and `near` say how long a part can be: a name has at most 16 bytes, a number 20 digits.
+//! `free` and `near` say how long a part can be: a name has at most 16 bytes, a number 20 digits.
 ghost use Rattle.std.specs.Prelude.{◌≡◌, ◌+◌, ◌≤◌, ◌++◌, length, take, codes, decimal};
 ghost use Rattle.sim_base.specs.declared.entry.Line.TheVariants.{Server};
 ghost use Rattle.trace_report.specs.Slots.{AreNames};
 ghost use Rattle.sim_base.specs.Params.{param_word};
-ghost use Rattle.trace_report.specs.TraceText.{station_name, class_text, job_text, values_text, change_text, payload_text, counts_text, entry_line};
+ghost use Rattle.trace_report.specs.TraceText.{station_name, class_text, job_text, values_text};
+ghost use Rattle.trace_report.specs.TraceText.{change_text, payload_text, counts_text, entry_line};
 
 use crate::names::Names;
 use crate::pieces::{put, put_count, put_name, put_number};
@@ -16,7 +17,7 @@ use sim_base::{Change, Entry, Job, Key, Line, Param, Payload};
 #[inline(always)]
 fn put_station(bytes: &mut [u8], at: usize, model: &Model, names: &Names, s: u32) -> usize
     requires names { AreNames model.now names.now }
-    requires room { at + 16 ≤ length bytes.old }
+    requires free { at + 16 ≤ length bytes.old }
     ensures text { take result bytes.new ≡ take at bytes.old ++ station_name model.now s }
     ensures size { length bytes.new ≡ length bytes.old }
     ensures near { result ≤ at + 16 }
@@ -27,7 +28,7 @@ fn put_station(bytes: &mut [u8], at: usize, model: &Model, names: &Names, s: u32
 #[inline(always)]
 fn put_class(bytes: &mut [u8], at: usize, model: &Model, names: &Names, source: u32) -> usize
     requires names { AreNames model.now names.now }
-    requires room { at + 21 ≤ length bytes.old }
+    requires free { at + 21 ≤ length bytes.old }
     ensures text { take result bytes.new ≡ take at bytes.old ++ class_text model.now source }
     ensures size { length bytes.new ≡ length bytes.old }
     ensures near { result ≤ at + 21 }
@@ -43,7 +44,7 @@ fn put_class(bytes: &mut [u8], at: usize, model: &Model, names: &Names, source: 
 #[inline(always)]
 fn put_job(bytes: &mut [u8], at: usize, model: &Model, names: &Names, job: &Job) -> usize
     requires names { AreNames model.now names.now }
-    requires room { at + 58 ≤ length bytes.old }
+    requires free { at + 58 ≤ length bytes.old }
     ensures text { take result bytes.new ≡ take at bytes.old ++ job_text model.now job.now }
     ensures size { length bytes.new ≡ length bytes.old }
     ensures near { result ≤ at + 58 }
@@ -63,7 +64,7 @@ pub fn word_of(param: Param) -> &'static [u8]
 
 // The values of a change.
 fn put_values(bytes: &mut [u8], at: usize, change: &Change) -> usize
-    requires room { at + 41 ≤ length bytes.old }
+    requires free { at + 41 ≤ length bytes.old }
     ensures text { take result bytes.new ≡ take at bytes.old ++ values_text change.now }
     ensures size { length bytes.new ≡ length bytes.old }
     ensures near { result ≤ at + 41 }
@@ -77,7 +78,7 @@ fn put_values(bytes: &mut [u8], at: usize, change: &Change) -> usize
 
 // A change, as a script gives it.
 fn put_change(bytes: &mut [u8], at: usize, change: &Change) -> usize
-    requires room { at + 49 ≤ length bytes.old }
+    requires free { at + 49 ≤ length bytes.old }
     ensures text { take result bytes.new ≡ take at bytes.old ++ change_text change.now }
     ensures size { length bytes.new ≡ length bytes.old }
     ensures near { result ≤ at + 49 }
@@ -97,7 +98,7 @@ fn put_payload(
     payload: &Payload,
 ) -> usize
     requires names { AreNames model.now names.now }
-    requires room { at + 63 ≤ length bytes.old }
+    requires free { at + 63 ≤ length bytes.old }
     ensures text { take result bytes.new ≡ take at bytes.old ++ payload_text model.now payload.now }
     ensures size { length bytes.new ≡ length bytes.old }
     ensures near { result ≤ at + 63 }
@@ -122,7 +123,7 @@ fn put_payload(
 // The counts of a server.
 #[inline(always)]
 fn put_server(bytes: &mut [u8], at: usize, busy: u64, wait: u64, done: u64, lost: u64) -> usize
-    requires room { at + 103 ≤ length bytes.old }
+    requires free { at + 103 ≤ length bytes.old }
     ensures text { take result bytes.new ≡ take at bytes.old ++ counts_text (Server busy wait done lost) }
     ensures size { length bytes.new ≡ length bytes.old }
     ensures near { result ≤ at + 103 }
@@ -136,7 +137,7 @@ fn put_server(bytes: &mut [u8], at: usize, busy: u64, wait: u64, done: u64, lost
 // The counts of a station after a message.
 #[inline(always)]
 fn put_counts(bytes: &mut [u8], at: usize, counts: &Line) -> usize
-    requires room { at + 103 ≤ length bytes.old }
+    requires free { at + 103 ≤ length bytes.old }
     ensures text { take result bytes.new ≡ take at bytes.old ++ counts_text counts.now }
     ensures size { length bytes.new ≡ length bytes.old }
     ensures near { result ≤ at + 103 }
@@ -161,7 +162,7 @@ fn put_counts(bytes: &mut [u8], at: usize, counts: &Line) -> usize
 #[inline(always)]
 fn put_key(bytes: &mut [u8], at: usize, model: &Model, names: &Names, key: &Key, to: u32) -> usize
     requires names { AreNames model.now names.now }
-    requires room { at + 75 ≤ length bytes.old }
+    requires free { at + 75 ≤ length bytes.old }
     ensures text { take result bytes.new ≡ take at bytes.old
         ++ (decimal key.now.time ++ codes " " ++ station_name model.now to ++ codes " " ++ station_name model.now key.now.sender ++ codes " " ++ decimal key.now.number) }
     ensures size { length bytes.new ≡ length bytes.old }
@@ -181,7 +182,7 @@ fn put_key(bytes: &mut [u8], at: usize, model: &Model, names: &Names, key: &Key,
 /// on: pieces reach past the line's end.
 pub fn write_line(bytes: &mut [u8], at: usize, model: &Model, names: &Names, entry: &Entry) -> usize
     requires names { AreNames model.now names.now }
-    requires room { at + 256 ≤ length bytes.old }
+    requires free { at + 256 ≤ length bytes.old }
     ensures text { take result bytes.new ≡ take at bytes.old ++ entry_line model.now entry.now }
     ensures size { length bytes.new ≡ length bytes.old }
     ensures place { result ≡ at + length (entry_line model.now entry.now) }

@@ -11,7 +11,7 @@ use sim_base::Name;
 /// Writes bytes.
 #[inline(always)]
 pub fn put(bytes: &mut [u8], at: usize, piece: &[u8]) -> usize
-    requires room { at + length piece.now ≤ length bytes.old }
+    requires free { at + length piece.now ≤ length bytes.old }
     ensures text { take result bytes.new ≡ take at bytes.old ++ piece.now }
     ensures size { length bytes.new ≡ length bytes.old }
     ensures place { result ≡ at + length piece.now }
@@ -24,7 +24,7 @@ pub fn put(bytes: &mut [u8], at: usize, piece: &[u8]) -> usize
 /// Writes a name.
 #[inline(always)]
 pub fn put_name(bytes: &mut [u8], at: usize, name: &Name) -> usize
-    requires room { at + 16 ≤ length bytes.old }
+    requires free { at + 16 ≤ length bytes.old }
     ensures text { take result bytes.new ≡ take at bytes.old ++ name.now }
     ensures size { length bytes.new ≡ length bytes.old }
     ensures near { result ≤ at + 16 }
@@ -36,7 +36,7 @@ pub fn put_name(bytes: &mut [u8], at: usize, name: &Name) -> usize
 /// Writes a number.
 #[inline(always)]
 pub fn put_number(bytes: &mut [u8], at: usize, n: u64) -> usize
-    requires room { at + 20 ≤ length bytes.old }
+    requires free { at + 20 ≤ length bytes.old }
     ensures text { take result bytes.new ≡ take at bytes.old ++ decimal n }
     ensures size { length bytes.new ≡ length bytes.old }
     ensures near { result ≤ at + 20 }
@@ -49,7 +49,7 @@ pub fn put_number(bytes: &mut [u8], at: usize, n: u64) -> usize
 /// Writes a number behind a word.
 #[inline(always)]
 pub fn put_count(bytes: &mut [u8], at: usize, word: &[u8], n: u64) -> usize
-    requires room { at + length word.now + 20 ≤ length bytes.old }
+    requires free { at + length word.now + 20 ≤ length bytes.old }
     ensures text { take result bytes.new ≡ take at bytes.old ++ (word.now ++ decimal n) }
     ensures size { length bytes.new ≡ length bytes.old }
     ensures near { result ≤ at + length word.now + 20 }

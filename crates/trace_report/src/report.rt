@@ -13,7 +13,7 @@ use std::alloc::Global;
 const LINE: usize = 128;
 
 fn write_figures(bytes: &mut [u8], at: usize, station: &Station, figures: &Figures) -> usize
-    requires room { at + 128 ≤ length bytes.old }
+    requires free { at + 128 ≤ length bytes.old }
     ensures text { take result bytes.new ≡ take at bytes.old ++ station_line (as_site station.now) figures.now }
     ensures size { length bytes.new ≡ length bytes.old }
     ensures near { result ≤ at + 128 }
@@ -28,7 +28,7 @@ fn write_figures(bytes: &mut [u8], at: usize, station: &Station, figures: &Figur
 // The lines of all stations, one after the other.
 fn write_stations(bytes: &mut [u8], start: usize, model: &Model, figures: &[Figures]) -> usize
     requires all { length figures.now ≡ length model.now.sites }
-    requires room { start + 128 * length model.now.sites ≤ length bytes.old }
+    requires free { start + 128 * length model.now.sites ≤ length bytes.old }
     ensures text { take result bytes.new ≡ take start bytes.old
         ++ flat_map (λ beside. station_line beside.0 beside.1) (zip model.now.sites figures.now) }
     ensures size { length bytes.new ≡ length bytes.old }
@@ -58,7 +58,7 @@ fn alone_in_all(figures: &[Figures]) -> u64
 fn write_total(bytes: &mut [u8], at: usize, figures: &[Figures]) -> usize
     requires handled { sum_by (λ f. f.handled) figures.now < 2 ^ 64 }
     requires alone { sum_by (λ f. f.alone) figures.now < 2 ^ 64 }
-    requires room { at + 128 ≤ length bytes.old }
+    requires free { at + 128 ≤ length bytes.old }
     ensures text { take result bytes.new ≡ take at bytes.old ++ total_line figures.now }
     ensures size { length bytes.new ≡ length bytes.old }
     ensures near { result ≤ at + 128 }

@@ -1,5 +1,7 @@
 -- What holds of a decision that was accepted: no row of the table of refusals is its.
-use Rattle.std.proofs.Common.{◌≡◌, ℕ, ◌+◌, ◌==◌, ◌<◌, ◌≤◌, Bool, true, false, List, [], ◌∷◌, refl, sym, ◌∙◌, arith, length, Option, Some, None, Result, Ok, Err, is_some, is_none, option_map, nat_le, nat_lt, position}
+use Rattle.std.proofs.Common.{◌≡◌, ℕ, ◌+◌, ◌==◌, ◌<◌, ◌≤◌, Bool, true, false, List}
+use Rattle.std.proofs.Common.{[], ◌∷◌, refl, sym, ◌∙◌, arith, length, Option, Some, None}
+use Rattle.std.proofs.Common.{Result, Ok, Err, is_some, is_none, option_map, nat_le, nat_lt, position}
 use Rattle.std.proofs.lemmas.Bool.{false≢true}
 use Rattle.std.proofs.lemmas.Bool.Decides.{nat_tests}
 use Rattle.std.specs.Str.{bytes_eq}
@@ -14,21 +16,25 @@ use Rattle.stations.specs.declared.change.ChangeFault.{ChangeFault}
 use Rattle.stations.specs.declared.change.ChangeFault.TheVariants as refused
 use Rattle.stations.specs.Changes.{accepts}
 use Rattle.decision_book.specs.declared.call.Reply.{Reply}
-use Rattle.decision_book.specs.declared.call.Reply.TheVariants.{Accepted, Full, Closed, Ended, NameTaken, TooManyClones, UnknownStation, ListFull, PastHorizon, Late}
+use Rattle.decision_book.specs.declared.call.Reply.TheVariants.{Accepted, Full, Closed, Ended, NameTaken, TooManyClones}
+use Rattle.decision_book.specs.declared.call.Reply.TheVariants.{UnknownStation, ListFull, PastHorizon, Late}
 use Rattle.decision_book.specs.declared.call.TheConstants.{MOST_CALLS}
 use Rattle.decision_book.specs.Replies.{row, first_row, reply, rows, clone_rows, time_rows, change_row, fault_row}
 use Rattle.world_core.specs.Taking.{situation, IsAccepted}
 
 -- a row that does not hold is passed over
-no_row : (b : Bool) (r : Reply) (more : List (Option Reply)) → (r ≡ Accepted → ⊥) → first_row (row b r ∷ more) ≡ Accepted → (b ≡ false) × (first_row more ≡ Accepted)
+no_row : (b : Bool) (r : Reply) (more : List (Option Reply)) → (r ≡ Accepted → ⊥)
+    → first_row (row b r ∷ more) ≡ Accepted → (b ≡ false) × (first_row more ≡ Accepted)
 no_row true r more not h = absurd (not h)
 no_row false r more not h = (refl, h)
 
-no_end : (o : Option ℕ) (more : List (Option Reply)) → first_row (option_map (λ at. Ended at) o ∷ more) ≡ Accepted → (o ≡ None) × (first_row more ≡ Accepted)
+no_end : (o : Option ℕ) (more : List (Option Reply)) → first_row (option_map (λ at. Ended at) o ∷ more) ≡ Accepted
+    → (o ≡ None) × (first_row more ≡ Accepted)
 no_end None more h = (refl, h)
 no_end (Some at) more h = absurd cc
 
-no_fault : (r : Result (Unit {0}) ChangeFault) (more : List (Option Reply)) → first_row (fault_row r ∷ more) ≡ Accepted → first_row more ≡ Accepted
+no_fault : (r : Result (Unit {0}) ChangeFault) (more : List (Option Reply))
+    → first_row (fault_row r ∷ more) ≡ Accepted → first_row more ≡ Accepted
 no_fault (Ok u) more h = h
 no_fault (Err refused.WrongParameter) more h = absurd cc
 no_fault (Err refused.OutOfRange) more h = absurd cc
@@ -46,15 +52,21 @@ pub record IsOpen (net : Net) (cs : List Clone) (front : ℕ) (d : Decision) : T
   pub open_end : (clone_at cs clone).end ≡ None
   pub rest : first_row (rows (situation net cs front) clone d) ≡ Accepted
 
-pub is_open : (net : Net) (cs : List Clone) (front : ℕ) (d : Decision) → IsAccepted net cs front d → IsOpen net cs front d
+pub is_open : (net : Net) (cs : List Clone) (front : ℕ) (d : Decision) → IsAccepted net cs front d
+    → IsOpen net cs front d
 is_open net cs front d h =
-    let a = no_row (nat_le MOST_CALLS 0) Full (row (front == net.horizon) Closed ∷ clone_rows (situation net cs front) d (place_of (subject d) cs)) (λ e. absurd cc) h in
-    let b = no_row (front == net.horizon) Closed (clone_rows (situation net cs front) d (place_of (subject d) cs)) (λ e. absurd cc) a.1 in
+    let a = no_row (nat_le MOST_CALLS 0) Full
+    (row (front == net.horizon) Closed ∷ clone_rows (situation net cs front) d (place_of (subject d) cs))
+    (λ e. absurd cc) h in
+    let b = no_row (front == net.horizon) Closed (clone_rows (situation net cs front) d (place_of (subject d) cs))
+    (λ e. absurd cc) a.1 in
     by (place_of (subject d) cs) refl b.1
   where
-    by : (o : Option ℕ) → place_of (subject d) cs ≡ o → first_row (clone_rows (situation net cs front) d o) ≡ Accepted → IsOpen net cs front d
+    by : (o : Option ℕ) → place_of (subject d) cs ≡ o → first_row (clone_rows (situation net cs front) d o) ≡ Accepted
+        → IsOpen net cs front d
     by None e k = absurd cc
-    by (Some c) e k = let x = no_end (clone_at cs c).end (rows (situation net cs front) c d) k in record { clone = c; place = e; open_end = x.0; rest = x.1 }
+    by (Some c) e k = let x = no_end (clone_at cs c).end (rows (situation net cs front) c d) k in
+        record { clone = c; place = e; open_end = x.0; rest = x.1 }
 
 -- a time that is not late, and before the horizon
 in_time : (net : Net) (front at : ℕ) → first_row (time_rows net front at) ≡ Accepted → (front ≤ at) × (at < net.horizon)
@@ -68,9 +80,11 @@ pub record MayFork (cs : List Clone) (new : List ℕ) : Type 0 where
   pub unused : place_of new cs ≡ None
   pub few : length cs < MOST_CLONES
 
-pub may_fork : (net : Net) (cs : List Clone) (front c : ℕ) (new old : List ℕ) → first_row (rows (situation net cs front) c (Fork new old)) ≡ Accepted → MayFork cs new
+pub may_fork : (net : Net) (cs : List Clone) (front c : ℕ) (new old : List ℕ)
+    → first_row (rows (situation net cs front) c (Fork new old)) ≡ Accepted → MayFork cs new
 may_fork net cs front c new old h =
-    let a = no_row (is_some (place_of new cs)) NameTaken (row (nat_le MOST_CLONES (length cs)) TooManyClones ∷ []) (λ e. absurd cc) h in
+    let a = no_row (is_some (place_of new cs)) NameTaken (row (nat_le MOST_CLONES (length cs)) TooManyClones ∷ [])
+    (λ e. absurd cc) h in
     let b = no_row (nat_le MOST_CLONES (length cs)) TooManyClones [] (λ e. absurd cc) a.1 in
     record { unused = none_of (place_of new cs) a.0; few = above MOST_CLONES (length cs) b.0 }
   where
@@ -91,13 +105,20 @@ pub record MaySet (net : Net) (cs : List Clone) (front c at : ℕ) (station : Li
   pub early : at < net.horizon
   pub short : length (clone_at cs c).plans < MOST_DECISIONS
 
-pub may_set : (net : Net) (cs : List Clone) (front c at : ℕ) (who station : List ℕ) (change : Change) → first_row (rows (situation net cs front) c (Set who at station change)) ≡ Accepted → MaySet net cs front c at station
+pub may_set : (net : Net) (cs : List Clone) (front c at : ℕ) (who station : List ℕ) (change : Change)
+    → first_row (rows (situation net cs front) c (Set who at station change)) ≡ Accepted
+    → MaySet net cs front c at station
 may_set net cs front c at who station change h = by (number_of station net) refl h
   where
-    after : (s : ℕ) → number_of station net ≡ Some s → first_row (fault_row (accepts (site_of net s) change) ∷ row (nat_le MOST_DECISIONS (length (clone_at cs c).plans)) ListFull ∷ time_rows net front at) ≡ Accepted → MaySet net cs front c at station
+    after : (s : ℕ) → number_of station net ≡ Some s
+        → first_row (fault_row (accepts (site_of net s) change) ∷ row
+        (nat_le MOST_DECISIONS (length (clone_at cs c).plans)) ListFull ∷ time_rows net front at) ≡ Accepted
+        → MaySet net cs front c at station
     after s e h =
-        let a = no_fault (accepts (site_of net s) change) (row (nat_le MOST_DECISIONS (length (clone_at cs c).plans)) ListFull ∷ time_rows net front at) h in
-        let b = no_row (nat_le MOST_DECISIONS (length (clone_at cs c).plans)) ListFull (time_rows net front at) (λ e. absurd cc) a in
+        let a = no_fault (accepts (site_of net s) change)
+        (row (nat_le MOST_DECISIONS (length (clone_at cs c).plans)) ListFull ∷ time_rows net front at) h in
+        let b = no_row (nat_le MOST_DECISIONS (length (clone_at cs c).plans)) ListFull (time_rows net front at)
+        (λ e. absurd cc) a in
         let t = in_time net front at b.1 in
         record {
           number = s;
@@ -108,12 +129,16 @@ may_set net cs front c at who station change h = by (number_of station net) refl
           short = above MOST_DECISIONS (length (clone_at cs c).plans) b.0;
         }
 
-    by : (o : Option ℕ) → number_of station net ≡ o → first_row (row (is_none o) UnknownStation ∷ change_row net o change ∷ row (nat_le MOST_DECISIONS (length (clone_at cs c).plans)) ListFull ∷ time_rows net front at) ≡ Accepted → MaySet net cs front c at station
+    by : (o : Option ℕ) → number_of station net ≡ o
+        → first_row (row (is_none o) UnknownStation ∷ change_row net o change ∷ row
+        (nat_le MOST_DECISIONS (length (clone_at cs c).plans)) ListFull ∷ time_rows net front at) ≡ Accepted
+        → MaySet net cs front c at station
     by None e h = absurd cc
     by (Some s) e h = after s e h
 
 -- an end is not late, and before the horizon
-pub may_end : (net : Net) (cs : List Clone) (front c at : ℕ) (who : List ℕ) → first_row (rows (situation net cs front) c (End who at)) ≡ Accepted → (front ≤ at) × (at < net.horizon)
+pub may_end : (net : Net) (cs : List Clone) (front c at : ℕ) (who : List ℕ)
+    → first_row (rows (situation net cs front) c (End who at)) ≡ Accepted → (front ≤ at) × (at < net.horizon)
 may_end net cs front c at who h = in_time net front at h
 
 -- the clone is there
@@ -121,5 +146,8 @@ pub no_place : (name : List ℕ) (cs : List Clone) (c : ℕ) → place_of name c
 no_place name cs c a b = let e : None ≡ Some c = b ∙ a in absurd cc
 
 -- a decision that a journal accepts is accepted, however many calls the journal holds
-pub accepted_at_any : (net : Net) (cs : List Clone) (front calls : ℕ) (d : Decision) → reply (record { net = net; clones = cs; front = front; calls = calls }) d ≡ Accepted → IsAccepted net cs front d
-accepted_at_any net cs front calls d h = (no_row (nat_le MOST_CALLS calls) Full (row (front == net.horizon) Closed ∷ clone_rows (situation net cs front) d (place_of (subject d) cs)) (λ e. absurd cc) h).1
+pub accepted_at_any : (net : Net) (cs : List Clone) (front calls : ℕ) (d : Decision)
+    → reply (record { net = net; clones = cs; front = front; calls = calls }) d ≡ Accepted → IsAccepted net cs front d
+accepted_at_any net cs front calls d h =
+    (no_row (nat_le MOST_CALLS calls) Full (row (front == net.horizon) Closed ∷ clone_rows (situation net cs front) d
+    (place_of (subject d) cs)) (λ e. absurd cc) h).1

@@ -1,5 +1,7 @@
 -- Messages given to stations, one after the other.
-use Rattle.std.proofs.Common.{◌≡◌, ℕ, zero, suc, ◌+◌, ◌==◌, ◌<◌, Bool, true, false, cond, List, [], ◌∷◌, ◌++◌, inl, inr, Some, refl, sym, ap, ◌∙◌, subst, arith, length, length-set, map, get_or, slice_get, slice_set, eq-eqb}
+use Rattle.std.proofs.Common.{◌≡◌, ℕ, zero, suc, ◌+◌, ◌==◌, ◌<◌, Bool, true, false, cond}
+use Rattle.std.proofs.Common.{List, [], ◌∷◌, ◌++◌, inl, inr, Some, refl, sym, ap, ◌∙◌}
+use Rattle.std.proofs.Common.{subst, arith, length, length-set, map, get_or, slice_get, slice_set, eq-eqb}
 use Rattle.std.proofs.lemmas.Bool.{cases_eq, ne_eqb}
 use Rattle.sim_base.specs.declared.message.Msg.{Msg}
 use Rattle.clone_sets.specs.declared.set.CloneSet.{CloneSet}
@@ -15,7 +17,8 @@ set_same [] i x l = absurd (omega (arith, l))
 set_same (y ∷ ys) zero x l = refl
 set_same (y ∷ ys) (suc i) x l = set_same ys i x (omega (arith, l))
 
-pub set_other : {X : Type 0} (xs : List X) (i j : ℕ) (x : X) → (i ≡ j → ⊥) → slice_get (slice_set xs j x) i ≡ slice_get xs i
+pub set_other : {X : Type 0} (xs : List X) (i j : ℕ) (x : X) → (i ≡ j → ⊥)
+    → slice_get (slice_set xs j x) i ≡ slice_get xs i
 set_other [] i j x n = refl
 set_other (y ∷ ys) zero zero x n = absurd (n refl)
 set_other (y ∷ ys) zero (suc j) x n = refl
@@ -42,60 +45,76 @@ for_it : (m : Msg) (k : CloneSet) (i : ℕ) → m.to ≡ i + 1 → sent_to i ((m
 for_it m k i e = ap (λ b. cond b ((m, k) ∷ []) []) (eq-eqb m.to (i + 1) e)
 
 -- a message for no station
-pub to_none : (m : Msg) (k : CloneSet) (procs : List ProcView) → ((i : ℕ) → i < length procs → m.to ≡ i + 1 → ⊥) → AllDelivered ((m, k) ∷ []) procs procs
+pub to_none : (m : Msg) (k : CloneSet) (procs : List ProcView) → ((i : ℕ) → i < length procs → m.to ≡ i + 1 → ⊥)
+    → AllDelivered ((m, k) ∷ []) procs procs
 to_none m k procs n = record {
   count = refl;
   each = λ i p q a b.
       let l = (at_got procs i p p a).0 in
-      subst (IsDeliveredTo (sent_to i ((m, k) ∷ [])) p) (of_some p q (sym a ∙ b)) (unchanged (sent_to i ((m, k) ∷ [])) p (not_for m k i (n i l)));
+      subst (IsDeliveredTo (sent_to i ((m, k) ∷ [])) p) (of_some p q (sym a ∙ b))
+      (unchanged (sent_to i ((m, k) ∷ [])) p (not_for m k i (n i l)));
 }
 
 -- a message for the station at place j
-pub to_one : (m : Msg) (k : CloneSet) (procs : List ProcView) (j : ℕ) (old new : ProcView) → j < length procs → m.to ≡ j + 1 → old ≡ get_or procs j old →
-    new.copies ≡ map (given m k) old.copies → new.station ≡ old.station → new.living ≡ old.living → new.handled ≡ old.handled → ((net : Net) → IsProc net old → IsProc net new) →
+pub to_one : (m : Msg) (k : CloneSet) (procs : List ProcView) (j : ℕ) (old new : ProcView) → j < length procs
+    → m.to ≡ j + 1 → old ≡ get_or procs j old →
+    new.copies ≡ map (given m k) old.copies → new.station ≡ old.station → new.living ≡ old.living
+    → new.handled ≡ old.handled → ((net : Net) → IsProc net old → IsProc net new) →
     AllDelivered ((m, k) ∷ []) procs (slice_set procs j new)
 to_one m k procs j old new l to is copies station living once proc = record {
   count = length-set procs j new;
   each = λ i p q a b. elim (cases_eq i j) [
     | inl e ↦
         let was : p ≡ old = one_got procs i j p old e a (there_at procs j old l ∙ ap Some (sym is)) in
-        let now : new ≡ q = of_some new q (sym (set_same procs j new l) ∙ ap (slice_get (slice_set procs j new)) (sym e) ∙ b) in
-        subst (IsDeliveredTo (sent_to i ((m, k) ∷ [])) p) now (subst (λ (o : ProcView). IsDeliveredTo (sent_to i ((m, k) ∷ [])) o new) (sym was) (record {
+        let now : new ≡ q = of_some new q (sym (set_same procs j new l) ∙ ap (slice_get (slice_set procs j new))
+        (sym e) ∙ b) in
+        subst (IsDeliveredTo (sent_to i ((m, k) ∷ [])) p) now
+        (subst (λ (o : ProcView). IsDeliveredTo (sent_to i ((m, k) ∷ [])) o new) (sym was) (record {
           copies = copies ∙ sym (ap (λ l. given_all l old.copies) (for_it m k i (to ∙ ap (λ x. x + 1) (sym e))));
           station = station;
           living = living;
           once = once;
           proc = proc;
         }))
-    | inr n ↦ subst (IsDeliveredTo (sent_to i ((m, k) ∷ [])) p) (of_some p q (sym a ∙ sym (set_other procs i j new n) ∙ b))
+    | inr n ↦ subst (IsDeliveredTo (sent_to i ((m, k) ∷ [])) p)
+        (of_some p q (sym a ∙ sym (set_other procs i j new n) ∙ b))
         (unchanged (sent_to i ((m, k) ∷ [])) p (not_for m k i (λ e. n (omega (arith, e, to)))))
   ];
 }
 
 -- the stations stand in the order of their numbers as before
-pub still_numbered : (ms : Marked) (olds news : List ProcView) → AreNumbered olds → AllDelivered ms olds news → AreNumbered news
+pub still_numbered : (ms : Marked) (olds news : List ProcView) → AreNumbered olds → AllDelivered ms olds news
+    → AreNumbered news
 still_numbered ms olds news h d = λ i q got.
     let l = (at_got news i q q got).0 in
     let p = there_at olds i q (let k = d.count in omega (arith, l, k)) in
     (d.each i (get_or olds i q) q p got).station ∙ h i (get_or olds i q) p
 
 pub none_delivered : (procs : List ProcView) → AllDelivered [] procs procs
-none_delivered procs = record { count = refl; each = λ i p q a b. subst (IsDeliveredTo [] p) (of_some p q (sym a ∙ b)) (unchanged [] p refl) }
+none_delivered procs = record {
+  count = refl;
+  each = λ i p q a b. subst (IsDeliveredTo [] p) (of_some p q (sym a ∙ b))
+      (unchanged [] p refl);
+}
 
 sent_append : (i : ℕ) (xs ys : Marked) → sent_to i (xs ++ ys) ≡ sent_to i xs ++ sent_to i ys
 sent_append i [] ys = refl
 sent_append i (x ∷ xs) ys = by (sent_append i xs ys) (x.0.to == i + 1)
   where
-    by : sent_to i (xs ++ ys) ≡ sent_to i xs ++ sent_to i ys → (b : Bool) → cond b (x ∷ sent_to i (xs ++ ys)) (sent_to i (xs ++ ys)) ≡ cond b (x ∷ sent_to i xs) (sent_to i xs) ++ sent_to i ys
+    by : sent_to i (xs ++ ys) ≡ sent_to i xs ++ sent_to i ys → (b : Bool)
+        → cond b (x ∷ sent_to i (xs ++ ys)) (sent_to i (xs ++ ys)) ≡ cond b (x ∷ sent_to i xs) (sent_to i xs)
+        ++ sent_to i ys
     by h true = ap (λ l. x ∷ l) h
     by h false = h
 
-given_append : (xs ys : Marked) (copies : List StationCopy) → given_all (xs ++ ys) copies ≡ given_all ys (given_all xs copies)
+given_append : (xs ys : Marked) (copies : List StationCopy)
+    → given_all (xs ++ ys) copies ≡ given_all ys (given_all xs copies)
 given_append [] ys copies = refl
 given_append (x ∷ xs) ys copies = given_append xs ys (map (given x.0 x.1) copies)
 
 -- messages, and then more of them
-pub delivered_more : (xs ys : Marked) (first second third : List ProcView) → AllDelivered xs first second → AllDelivered ys second third → AllDelivered (xs ++ ys) first third
+pub delivered_more : (xs ys : Marked) (first second third : List ProcView) → AllDelivered xs first second
+    → AllDelivered ys second third → AllDelivered (xs ++ ys) first third
 delivered_more xs ys first second third a b = record {
   count = b.count ∙ a.count;
   each = λ i p r got there.
@@ -104,7 +123,9 @@ delivered_more xs ys first second third a b = record {
       let u = a.each i p (get_or second i p) got q in
       let v = b.each i (get_or second i p) r q there in
       record {
-        copies = v.copies ∙ ap (given_all (sent_to i ys)) u.copies ∙ sym (ap (λ l. given_all l p.copies) (sent_append i xs ys) ∙ given_append (sent_to i xs) (sent_to i ys) p.copies);
+        copies = v.copies ∙ ap (given_all (sent_to i ys)) u.copies
+            ∙ sym (ap (λ l. given_all l p.copies) (sent_append i xs ys)
+            ∙ given_append (sent_to i xs) (sent_to i ys) p.copies);
         station = v.station ∙ u.station;
         living = v.living ∙ u.living;
         once = v.once ∙ u.once;

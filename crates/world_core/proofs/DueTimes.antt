@@ -1,5 +1,7 @@
 -- Due times and figures, by the copies.
-use Rattle.std.proofs.Common.{◌≡◌, ◌⊎◌, ℕ, zero, suc, ◌+◌, ◌-◌, ◌*◌, ◌++◌, take, ◌<◌, ◌≤◌, List, [], ◌∷◌, inl, inr, Option, Some, None, refl, sym, ap, ◌∙◌, subst, arith, length, slice_get, get_or, unwrap_or, option_map, sum_by}
+use Rattle.std.proofs.Common.{◌≡◌, ◌⊎◌, ℕ, zero, suc, ◌+◌, ◌-◌, ◌*◌, ◌++◌, take, ◌<◌}
+use Rattle.std.proofs.Common.{◌≤◌, List, [], ◌∷◌, inl, inr, Option, Some, None, refl, sym}
+use Rattle.std.proofs.Common.{ap, ◌∙◌, subst, arith, length, slice_get, get_or, unwrap_or, option_map, sum_by}
 use Rattle.std.specs.List.{AllByRecursion}
 use Rattle.std.proofs.Math.Nat.{add-mul, mul-le-mul_left}
 use Rattle.std.proofs.lemmas.Bool.{cases_eq}
@@ -41,7 +43,8 @@ by_law P None h = h
 by_law P (Some t) h = h
 
 -- the least of a class of messages is that of the same class in other words
-least_as : (P Q : Msg → Type 0) (t : Option ℕ) → ((m : Msg) → P m → Q m) → ((m : Msg) → Q m → P m) → IsLeastBy time_of P t → IsLeastBy time_of Q t
+least_as : (P Q : Msg → Type 0) (t : Option ℕ) → ((m : Msg) → P m → Q m) → ((m : Msg) → Q m → P m)
+    → IsLeastBy time_of P t → IsLeastBy time_of Q t
 least_as P Q None f g h = λ m q. h m (g m q)
 least_as P Q (Some t) f g h = ((h.0.0, f h.0.0 h.0.1, h.0.2), λ m q. h.1 m (g m q))
 
@@ -58,21 +61,25 @@ pub record TakenTo (ends : ℕ → ℕ) (procs : List ProcView) (n : ℕ) (m : M
 abbrev pub IsLeastTo : (ℕ → ℕ) → List ProcView → ℕ → Option ℕ → Type 0
 IsLeastTo ends procs n t = IsLeastBy time_of (TakenTo ends procs n) t
 
-module _ (net : Net) (cs : List Clone) (ended : List (ℕ × ℕ)) (front : ℕ) (procs : List ProcView) (world : WorldStands net cs ended front procs) where
+module _ (net : Net) (cs : List Clone) (ended : List (ℕ × ℕ)) (front : ℕ) (procs : List ProcView)
+    (world : WorldStands net cs ended front procs) where
   abbrev ends : ℕ → ℕ
   ends = ends_in net.horizon ended
 
   -- ---- of one clone
 
-  least_here : (i c : ℕ) (p : ProcView) (t : Option ℕ) → slice_get procs i ≡ Some p → c < length cs → IsLeastOf ends p.copies c t →
+  least_here : (i c : ℕ) (p : ProcView) (t : Option ℕ) → slice_get procs i ≡ Some p → c < length cs
+      → IsLeastOf ends p.copies c t →
       least_time time_of (due_at (simulation net) (clone_at cs c) (i + 1) front) ≡ t
   least_here i c p t got l h =
       let st = (world.each i p got).stands in
       let h2 = subst (λ e. IsLeastOf e p.copies c t) world.ends h in
-      sym (least-unique time_of (IsTakenBy (ends_of (simulation net) cs) p.copies c) (λ m. In m (due_at (simulation net) (clone_at cs c) (i + 1) front)) t
+      sym (least-unique time_of (IsTakenBy (ends_of (simulation net) cs) p.copies c)
+      (λ m. In m (due_at (simulation net) (clone_at cs c) (i + 1) front)) t
       (least_time time_of (due_at (simulation net) (clone_at cs c) (i + 1) front))
       (λ m x. subst (In m) (st.due x.copy c x.is_copy x.is_in) x.is_taken)
-      (λ m d. let a = st.carried c l in record { copy = a.0; is_copy = a.1; is_in = a.2; is_taken = subst (In m) (sym (st.due a.0 c a.1 a.2)) d })
+      (λ m d. let a = st.carried c l in
+      record { copy = a.0; is_copy = a.1; is_in = a.2; is_taken = subst (In m) (sym (st.due a.0 c a.1 a.2)) d })
       (by_law (IsTakenBy (ends_of (simulation net) cs) p.copies c) t h2)
       (least_time-is time_of (due_at (simulation net) (clone_at cs c) (i + 1) front)))
 
@@ -83,26 +90,43 @@ module _ (net : Net) (cs : List Clone) (ended : List (ℕ × ℕ)) (front : ℕ)
       before ≡ least_to (simulation net) (clone_at cs c) front i → IsLeastOf ends p.copies c here →
       earlier before here ≡ least_to (simulation net) (clone_at cs c) front (i + 1)
   least_of_next i c p before here got l e h =
-      let e1 : least_time time_of (due_at (simulation net) (clone_at cs c) (suc i) front) ≡ here = subst (λ s. least_time time_of (due_at (simulation net) (clone_at cs c) s front) ≡ here) (one_up i) (least_here i c p here got l h) in
-      subst (λ s. earlier before here ≡ least_to (simulation net) (clone_at cs c) front s) (sym (one_up i)) (ap (λ b. earlier b here) e ∙ ap (earlier (least_to (simulation net) (clone_at cs c) front i)) (sym e1))
+      let e1 : least_time time_of (due_at (simulation net) (clone_at cs c) (suc i) front) ≡ here =
+      subst (λ s. least_time time_of (due_at (simulation net) (clone_at cs c) s front) ≡ here) (one_up i)
+      (least_here i c p here got l h) in
+      subst (λ s. earlier before here ≡ least_to (simulation net) (clone_at cs c) front s) (sym (one_up i))
+      (ap (λ b. earlier b here) e ∙ ap (earlier (least_to (simulation net) (clone_at cs c) front i)) (sym e1))
 
-  pub least_of_all : (n c : ℕ) (t : Option ℕ) → n ≡ length procs → c < length cs → t ≡ least_to (simulation net) (clone_at cs c) front n → t ≡ least_of (simulation net) (clone_at cs c) front
+  pub least_of_all : (n c : ℕ) (t : Option ℕ) → n ≡ length procs → c < length cs
+      → t ≡ least_to (simulation net) (clone_at cs c) front n → t ≡ least_of (simulation net) (clone_at cs c) front
   least_of_all n c t many l e =
       e ∙ ap (least_to (simulation net) (clone_at cs c) front) (many ∙ world.count)
-      ∙ sym (least_of-stations (lawful-stations net world.valid) (stations-to_stations net world.valid) (clone_at cs c) front (world.for_stations c l))
+      ∙ sym (least_of-stations (lawful-stations net world.valid) (stations-to_stations net world.valid)
+      (clone_at cs c) front (world.for_stations c l))
 
   -- ---- of all clones
 
   pub least_none : IsLeastBy time_of (TakenTo ends procs 0) None
   least_none = λ m h. let l = h.before in absurd (omega (arith, l))
 
-  pub least_next : (i : ℕ) (p : ProcView) (before here : Option ℕ) → slice_get procs i ≡ Some p → IsLeastBy time_of (TakenTo ends procs i) before →
+  pub least_next : (i : ℕ) (p : ProcView) (before here : Option ℕ) → slice_get procs i ≡ Some p
+      → IsLeastBy time_of (TakenTo ends procs i) before →
       IsLeast ends p.copies here → IsLeastBy time_of (TakenTo ends procs (i + 1)) (earlier before here)
-  least_next i p before here got h k = least_as (λ m. TakenTo ends procs i m ⊎ ((c : ℕ) × IsTakenBy ends p.copies c m)) (TakenTo ends procs (i + 1)) (earlier before here) to from
-      (least-either time_of (TakenTo ends procs i) (λ m. (c : ℕ) × IsTakenBy ends p.copies c m) before here h (by_law (λ m. (c : ℕ) × IsTakenBy ends p.copies c m) here k))
+  least_next i p before here got h k =
+      least_as (λ m. TakenTo ends procs i m ⊎ ((c : ℕ) × IsTakenBy ends p.copies c m)) (TakenTo ends procs (i + 1))
+      (earlier before here) to from
+      (least-either time_of (TakenTo ends procs i) (λ m. (c : ℕ) × IsTakenBy ends p.copies c m) before here h
+      (by_law (λ m. (c : ℕ) × IsTakenBy ends p.copies c m) here k))
     where
       to : (m : Msg) → TakenTo ends procs i m ⊎ ((c : ℕ) × IsTakenBy ends p.copies c m) → TakenTo ends procs (i + 1) m
-      to m (inl x) = let l = x.before in record { place = x.place; before = omega (arith, l); proc = x.proc; got = x.got; clone = x.clone; taken = x.taken }
+      to m (inl x) = let l = x.before in
+          record {
+            place = x.place;
+            before = omega (arith, l);
+            proc = x.proc;
+            got = x.got;
+            clone = x.clone;
+            taken = x.taken;
+          }
       to m (inr x) = record { place = i; before = omega arith; proc = p; got = got; clone = x.0; taken = x.1 }
 
       of_some : (q : ProcView) → Some p ≡ Some q → p ≡ q
@@ -110,8 +134,20 @@ module _ (net : Net) (cs : List Clone) (ended : List (ℕ × ℕ)) (front : ℕ)
 
       from : (m : Msg) → TakenTo ends procs (i + 1) m → TakenTo ends procs i m ⊎ ((c : ℕ) × IsTakenBy ends p.copies c m)
       from m x = elim (cases_eq x.place i) [
-        | inl e ↦ inr (x.clone, subst (λ (q : ProcView). IsTakenBy ends q.copies x.clone m) (sym (of_some x.proc (sym got ∙ ap (slice_get procs) (sym e) ∙ x.got))) x.taken)
-        | inr n ↦ let l = x.before in inl (record { place = x.place; before = less n l; proc = x.proc; got = x.got; clone = x.clone; taken = x.taken })
+        | inl e ↦ inr (
+          x.clone,
+          subst (λ (q : ProcView). IsTakenBy ends q.copies x.clone m)
+              (sym (of_some x.proc (sym got ∙ ap (slice_get procs) (sym e) ∙ x.got))) x.taken,
+        )
+        | inr n ↦ let l = x.before in inl
+            (record {
+              place = x.place;
+              before = less n l;
+              proc = x.proc;
+              got = x.got;
+              clone = x.clone;
+              taken = x.taken;
+            })
       ]
         where
           less : (x.place ≡ i → ⊥) → x.place < i + 1 → x.place < i
@@ -126,17 +162,22 @@ module _ (net : Net) (cs : List Clone) (ended : List (ℕ × ℕ)) (front : ℕ)
   stand_there (suc i) h = elim (slice_get_cases procs i).1 [
     | inl found ↦
         let w = world.each i found.0 found.2 in
-        subst (λ s. Stands (simulation net) has cs front s (copies_at procs i)) (one_up i) (subst (Stands (simulation net) has cs front (i + 1)) (sym (ap (λ o. unwrap_or (option_map (λ (p : ProcView). p.copies) o) []) found.2)) w.stands)
+        subst (λ s. Stands (simulation net) has cs front s (copies_at procs i)) (one_up i)
+        (subst (Stands (simulation net) has cs front (i + 1))
+        (sym (ap (λ o. unwrap_or (option_map (λ (p : ProcView). p.copies) o) []) found.2)) w.stands)
     | inr past ↦ absurd (let l = h.1 in let k = past.0 in let n = world.count in omega (arith, k, l, n))
   ]
 
-  pub least_all : (n : ℕ) (t : Option ℕ) → length procs ≤ n → IsLeastBy time_of (TakenTo ends procs n) t → t ≡ least (simulation net) cs front
-  least_all n t many h = sym (least-copies (lawful-stations net world.valid) (stations-to_stations net world.valid) has cs front by_number world.for_stations stand_there t
+  pub least_all : (n : ℕ) (t : Option ℕ) → length procs ≤ n → IsLeastBy time_of (TakenTo ends procs n) t
+      → t ≡ least (simulation net) cs front
+  least_all n t many h = sym (least-copies (lawful-stations net world.valid) (stations-to_stations net world.valid)
+      has cs front by_number world.for_stations stand_there t
       (least_as (TakenTo ends procs n) (IsTaken CloneSet (simulation net) has cs by_number) t to from h))
     where
       to : (m : Msg) → TakenTo ends procs n m → IsTaken CloneSet (simulation net) has cs by_number m
       to m x =
-          let e : copies_at procs x.place ≡ x.proc.copies = ap (λ o. unwrap_or (option_map (λ (p : ProcView). p.copies) o) []) x.got in
+          let e : copies_at procs x.place ≡ x.proc.copies =
+          ap (λ o. unwrap_or (option_map (λ (p : ProcView). p.copies) o) []) x.got in
           let l = (at_got procs x.place x.proc x.proc x.got).0 in
           let k = world.count in
           record {
@@ -149,7 +190,8 @@ module _ (net : Net) (cs : List Clone) (ended : List (ℕ × ℕ)) (front : ℕ)
             is_taken = subst (λ e. In m (taken_at e x.clone x.taken.copy.pending)) world.ends x.taken.is_taken;
           }
 
-      at_place : (s : ℕ) (m : Msg) (copy : StationCopy) (c : ℕ) → IsStation (simulation net) s → In copy (by_number s) → Carries has copy c → In m (taken_at (ends_of (simulation net) cs) c copy.pending) → TakenTo ends procs n m
+      at_place : (s : ℕ) (m : Msg) (copy : StationCopy) (c : ℕ) → IsStation (simulation net) s → In copy (by_number s)
+          → Carries has copy c → In m (taken_at (ends_of (simulation net) cs) c copy.pending) → TakenTo ends procs n m
       at_place zero m copy c h i g k = absurd i
       at_place (suc i) m copy c h j g k = elim (slice_get_cases procs i).1 [
         | inl found ↦ record {
@@ -165,7 +207,8 @@ module _ (net : Net) (cs : List Clone) (ended : List (ℕ × ℕ)) (front : ℕ)
             is_taken = subst (λ e. In m (taken_at e c copy.pending)) (sym world.ends) k;
           };
         }
-        | inr past ↦ absurd (subst (In copy) (ap (λ o. unwrap_or (option_map (λ (p : ProcView). p.copies) o) []) past.1) j)
+        | inr past ↦ absurd (subst (In copy)
+            (ap (λ o. unwrap_or (option_map (λ (p : ProcView). p.copies) o) []) past.1) j)
       ]
         where
           found_at : (i : ℕ) (p : ProcView) → slice_get procs i ≡ Some p → i < n
@@ -178,23 +221,28 @@ module _ (net : Net) (cs : List Clone) (ended : List (ℕ × ℕ)) (front : ℕ)
 
 module _ (net : Net) (cs : List Clone) (front i : ℕ) (p : ProcView) (here : StandsAt net cs front i p) where
   pub many_copies : copies net cs (i + 1) front ≡ length p.copies
-  many_copies = copies_are_logs (lawful-stations net here.proc.valid) sets_join cs (i + 1) front p.copies here.stands same_entry same_entry-Decides
+  many_copies = copies_are_logs (lawful-stations net here.proc.valid) sets_join cs
+      (i + 1) front p.copies here.stands same_entry same_entry-Decides
 
   alone_sum : (xs : List StationCopy) → handled_alone xs ≡ sum_by (λ (a : StationCopy). size a.set * length a.log) xs
   alone_sum [] = refl
-  alone_sum (x ∷ xs) = let h = alone_sum xs in let e = sum_by-cons (λ (a : StationCopy). size a.set * length a.log) x xs in omega (arith, h, e)
+  alone_sum (x ∷ xs) = let h = alone_sum xs in let e =
+      sum_by-cons (λ (a : StationCopy). size a.set * length a.log) x xs in omega (arith, h, e)
 
   pub many_alone : alone net cs (i + 1) front ≡ handled_alone p.copies
-  many_alone = alone-copies has size (simulation net) cs front (i + 1) p.copies (λ a i. size_is_count a.set) here.stands ∙ sym (alone_sum p.copies)
+  many_alone = alone-copies has size (simulation net) cs front (i + 1) p.copies
+      (λ a i. size_is_count a.set) here.stands ∙ sym (alone_sum p.copies)
 
 -- the logs of a station's copies are short
-pub all_short : (net : Net) (s : ℕ) (xs : List StationCopy) → net.limit ≤ 65536 → AllByRecursion (IsCopy net s) xs → AllByRecursion (λ (a : StationCopy). length a.log ≤ 65536) xs
+pub all_short : (net : Net) (s : ℕ) (xs : List StationCopy) → net.limit ≤ 65536 → AllByRecursion (IsCopy net s) xs
+    → AllByRecursion (λ (a : StationCopy). length a.log ≤ 65536) xs
 all_short net s [] l h = tt
 all_short net s (x ∷ xs) l h = let k = h.0 in let e = k.short in (omega (arith, e, l), all_short net s xs l h.1)
 
 -- ---- the figures of a station of a world
 
-module _ (net : Net) (cs : List Clone) (ended : List (ℕ × ℕ)) (front : ℕ) (procs : List ProcView) (world : WorldStands net cs ended front procs) where
+module _ (net : Net) (cs : List Clone) (ended : List (ℕ × ℕ)) (front : ℕ) (procs : List ProcView)
+    (world : WorldStands net cs ended front procs) where
   pub record Figured (s : ℕ) (p : ProcView) : Type 0 where
     pub copies_are : length p.copies ≡ copies net cs s front
     pub once : p.handled ≡ handled net cs s front
@@ -209,26 +257,32 @@ module _ (net : Net) (cs : List Clone) (ended : List (ℕ × ℕ)) (front : ℕ)
         copies_are = sym (many_copies net cs front (s - 1) p w);
         once = w.once;
         each_alone = sym (many_alone net cs front (s - 1) p w);
-        sizes = let e = clones-copies has size (simulation net) cs front (s - 1 + 1) p.copies (λ a i. size_is_count a.set) w.stands in let f = world.few in let g = sizes_sum p.copies in omega (arith, e, f, g);
+        sizes = let e = clones-copies has size (simulation net) cs front (s - 1 + 1) p.copies
+            (λ a i. size_is_count a.set) w.stands in let f = world.few in let g = sizes_sum p.copies in
+            omega (arith, e, f, g);
       })
     where
       sizes_sum : (xs : List StationCopy) → all_sizes xs ≡ sum_by (λ (a : StationCopy). size a.set) xs
       sizes_sum [] = refl
-      sizes_sum (x ∷ xs) = let h = sizes_sum xs in let e = sum_by-cons (λ (a : StationCopy). size a.set) x xs in omega (arith, h, e)
+      sizes_sum (x ∷ xs) = let h = sizes_sum xs in let e = sum_by-cons (λ (a : StationCopy). size a.set) x xs in
+          omega (arith, h, e)
 
 -- one copy more
-pub alone_next : (xs : List StationCopy) (x : StationCopy) → handled_alone (xs ++ x ∷ []) ≡ handled_alone xs + size x.set * length x.log
+pub alone_next : (xs : List StationCopy) (x : StationCopy)
+    → handled_alone (xs ++ x ∷ []) ≡ handled_alone xs + size x.set * length x.log
 alone_next [] x = omega arith
 alone_next (y ∷ ys) x = let h = alone_next ys x in omega (arith, h)
 
 -- the sum of some of the copies is small
-pub alone_within : (xs : List StationCopy) (i : ℕ) (x : StationCopy) → i < length xs → x ≡ get_or xs i x → AllByRecursion (λ (a : StationCopy). length a.log ≤ 65536) xs →
+pub alone_within : (xs : List StationCopy) (i : ℕ) (x : StationCopy) → i < length xs → x ≡ get_or xs i x
+    → AllByRecursion (λ (a : StationCopy). length a.log ≤ 65536) xs →
     handled_alone (take i xs) + size x.set * length x.log ≤ all_sizes xs * 65536
 alone_within [] i x l e h = absurd (omega (arith, l))
 alone_within (y ∷ ys) zero x l e h =
     let m = mul-le-mul_left (size y.set) h.0 in
     let d = add-mul (size y.set) (all_sizes ys) 65536 in
-    let same : size x.set * length x.log ≡ size y.set * length y.log = ap (λ (a : StationCopy). size a.set * length a.log) e in
+    let same : size x.set * length x.log ≡ size y.set * length y.log =
+    ap (λ (a : StationCopy). size a.set * length a.log) e in
     omega (arith, m, d, same)
 alone_within (y ∷ ys) (suc i) x l e h =
     let k = alone_within ys i x (omega (arith, l)) e h.1 in

@@ -9,13 +9,15 @@ use Rattle.phys_proc.specs.declared.proc.Flow.{Flow}
 use Rattle.world_core.specs.Windows.{IsFlow}
 
 pub is_flow : (net : Net) (ends : ℕ → ℕ) (bound i : ℕ) (old : ProcView) (flow : Flow) → old.station ≡ i + 1 →
-    (flow.over ≡ empty → IsStepped (simulation net) has ends old.station bound old.copies flow.done.copies flow.sent.items) →
+    (flow.over ≡ empty → IsStepped (simulation net) has ends old.station bound old.copies flow.done.copies
+    flow.sent.items) →
     AreOver (simulation net) has ends old.station bound old.copies flow.over →
     GainTogether (simulation net) has ends old.station bound old.copies flow.handled →
     IsProc net flow.done → flow.done.station ≡ old.station → (flow.over ≡ empty → flow.done.living ≡ old.living) →
     (flow.over ≡ empty → flow.done.handled ≡ old.handled + flow.handled) → IsFlow net ends bound i old flow
 is_flow net ends bound i old flow number windows over gained proc station living once = record {
-  windows = λ e. subst (λ s. IsStepped (simulation net) has ends s bound old.copies flow.done.copies flow.sent.items) number (windows e);
+  windows = λ e. subst (λ s. IsStepped (simulation net) has ends s bound old.copies flow.done.copies flow.sent.items)
+      number (windows e);
   over = subst (λ s. AreOver (simulation net) has ends s bound old.copies flow.over) number over;
   gained = subst (λ s. GainTogether (simulation net) has ends s bound old.copies flow.handled) number gained;
   proc = proc;

@@ -1,5 +1,6 @@
 -- Merging the logs of a clone's stations, one after the other.
-use Rattle.std.proofs.Common.{subst, ◌≡◌, ℕ, zero, suc, ◌+◌, ◌-◌, inl, inr, ◌<◌, ◌≤◌, List, [], ◌∷◌, ◌++◌, Some, refl, sym, ap, ◌∙◌, arith, length, drop, slice_get, false, append-nil, append_assoc}
+use Rattle.std.proofs.Common.{subst, ◌≡◌, ℕ, zero, suc, ◌+◌, ◌-◌, inl, inr, ◌<◌, ◌≤◌, List, [], ◌∷◌, ◌++◌, Some, refl}
+use Rattle.std.proofs.Common.{sym, ap, ◌∙◌, arith, length, drop, slice_get, false, append-nil, append_assoc}
 use Rattle.std.specs.List.{AllByRecursion}
 use Rattle.std.specs.declared.cmp.Ordering.{Ordering}
 use Rattle.std.specs.declared.cmp.Ordering.TheVariants.{Less, Equal, Greater}
@@ -26,10 +27,12 @@ use Rattle.world_core.specs.Overs.{NoneBeyond}
 use Rattle.world_core.specs.Tracing.{by_key, HasLog}
 
 module _ {X : Type 0} (cmp : X → X → Ordering) where
-  first_goes : (x y : X) (xs ys : List X) → (cmp x y ≡ Greater → ⊥) → merge cmp (x ∷ xs) (y ∷ ys) ≡ x ∷ merge cmp xs (y ∷ ys)
+  first_goes : (x y : X) (xs ys : List X) → (cmp x y ≡ Greater → ⊥)
+      → merge cmp (x ∷ xs) (y ∷ ys) ≡ x ∷ merge cmp xs (y ∷ ys)
   first_goes x y xs ys n = by (cmp x y) n
     where
-      by : (o : Ordering) → (o ≡ Greater → ⊥) → pick o x y (merge cmp xs (y ∷ ys)) (merge_at cmp x (merge cmp xs) ys) ≡ x ∷ merge cmp xs (y ∷ ys)
+      by : (o : Ordering) → (o ≡ Greater → ⊥) → pick o x y (merge cmp xs (y ∷ ys)) (merge_at cmp x (merge cmp xs) ys)
+          ≡ x ∷ merge cmp xs (y ∷ ys)
       by Less n = refl
       by Equal n = refl
       by Greater n = absurd (n refl)
@@ -46,16 +49,20 @@ module _ {X : Type 0} (cmp : X → X → Ordering) where
         (out ++ x ∷ []) ++ merge cmp (drop (i + 1) xs) (drop j ys) ≡ merge cmp xs ys
     put_first x y a b n =
         append_assoc out (x ∷ []) (merge cmp (drop (i + 1) xs) (drop j ys))
-        ∙ ap (λ l. out ++ l) (sym (ap (λ l. merge cmp l (drop j ys)) (drop-at xs i x a) ∙ ap (merge cmp (x ∷ drop (i + 1) xs)) (drop-at ys j y b)
-        ∙ first_goes x y (drop (i + 1) xs) (drop (j + 1) ys) n ∙ ap (λ l. x ∷ merge cmp (drop (i + 1) xs) l) (sym (drop-at ys j y b))))
+        ∙ ap (λ l. out ++ l) (sym (ap (λ l. merge cmp l (drop j ys)) (drop-at xs i x a)
+        ∙ ap (merge cmp (x ∷ drop (i + 1) xs)) (drop-at ys j y b)
+        ∙ first_goes x y (drop (i + 1) xs) (drop (j + 1) ys) n ∙ ap (λ l. x ∷ merge cmp (drop (i + 1) xs) l)
+        (sym (drop-at ys j y b))))
         ∙ so_far
 
     pub put_second : (x y : X) → slice_get xs i ≡ Some x → slice_get ys j ≡ Some y → cmp x y ≡ Greater →
         (out ++ y ∷ []) ++ merge cmp (drop i xs) (drop (j + 1) ys) ≡ merge cmp xs ys
     put_second x y a b e =
         append_assoc out (y ∷ []) (merge cmp (drop i xs) (drop (j + 1) ys))
-        ∙ ap (λ l. out ++ l) (sym (ap (λ l. merge cmp l (drop j ys)) (drop-at xs i x a) ∙ ap (merge cmp (x ∷ drop (i + 1) xs)) (drop-at ys j y b)
-        ∙ second_goes x y (drop (i + 1) xs) (drop (j + 1) ys) e ∙ ap (λ l. y ∷ merge cmp l (drop (j + 1) ys)) (sym (drop-at xs i x a))))
+        ∙ ap (λ l. out ++ l) (sym (ap (λ l. merge cmp l (drop j ys)) (drop-at xs i x a)
+        ∙ ap (merge cmp (x ∷ drop (i + 1) xs)) (drop-at ys j y b)
+        ∙ second_goes x y (drop (i + 1) xs) (drop (j + 1) ys) e ∙ ap (λ l. y ∷ merge cmp l (drop (j + 1) ys))
+        (sym (drop-at xs i x a))))
         ∙ so_far
 
     drop_past : (zs : List X) (k : ℕ) → length zs ≤ k → drop k zs ≡ []
@@ -67,28 +74,35 @@ module _ {X : Type 0} (cmp : X → X → Ordering) where
     pub first_left : length ys ≤ j → (out ++ drop i xs) ++ drop j ys ≡ merge cmp xs ys
     first_left l =
         append_assoc out (drop i xs) (drop j ys)
-        ∙ ap (λ l. out ++ l) (ap (λ l. drop i xs ++ l) (drop_past ys j l) ∙ append-nil (drop i xs) ∙ sym (none_left (drop i xs)) ∙ ap (merge cmp (drop i xs)) (sym (drop_past ys j l)))
+        ∙ ap (λ l. out ++ l) (ap (λ l. drop i xs ++ l) (drop_past ys j l) ∙ append-nil (drop i xs)
+        ∙ sym (none_left (drop i xs)) ∙ ap (merge cmp (drop i xs)) (sym (drop_past ys j l)))
         ∙ so_far
 
     pub second_left : length xs ≤ i → (out ++ drop i xs) ++ drop j ys ≡ merge cmp xs ys
     second_left l =
         append_assoc out (drop i xs) (drop j ys)
-        ∙ ap (λ l. out ++ l) (ap (λ l. l ++ drop j ys) (drop_past xs i l) ∙ ap (λ l. merge cmp l (drop j ys)) (sym (drop_past xs i l)))
+        ∙ ap (λ l. out ++ l) (ap (λ l. l ++ drop j ys) (drop_past xs i l)
+        ∙ ap (λ l. merge cmp l (drop j ys)) (sym (drop_past xs i l)))
         ∙ so_far
 
-module _ (net : Net) (cs : List Clone) (ended : List (ℕ × ℕ)) (front : ℕ) (procs : List ProcView) (world : WorldStands net cs ended front procs) (who : ℕ) (there : who < length cs) where
-  pub has_a_copy : (i : ℕ) (p : ProcView) → slice_get procs i ≡ Some p → AllByRecursion (λ (a : StationCopy). has a.set who ≡ false) p.copies → ⊥
+module _ (net : Net) (cs : List Clone) (ended : List (ℕ × ℕ)) (front : ℕ) (procs : List ProcView)
+    (world : WorldStands net cs ended front procs) (who : ℕ) (there : who < length cs) where
+  pub has_a_copy : (i : ℕ) (p : ProcView) → slice_get procs i ≡ Some p
+      → AllByRecursion (λ (a : StationCopy). has a.set who ≡ false) p.copies → ⊥
   has_a_copy i p got none =
       let a = (world.each i p got).stands.carried who there in
       false≢true (sym (all_in (λ (a : StationCopy). has a.set who ≡ false) p.copies a.0 none a.1) ∙ a.2)
 
-  pub log_is : (i : ℕ) (p : ProcView) (log : List (Entry Msg Line)) → slice_get procs i ≡ Some p → HasLog p.copies who log → log ≡ log_at (simulation net) (clone_at cs who) (i + 1) front
+  pub log_is : (i : ℕ) (p : ProcView) (log : List (Entry Msg Line)) → slice_get procs i ≡ Some p
+      → HasLog p.copies who log → log ≡ log_at (simulation net) (clone_at cs who) (i + 1) front
   log_is i p log got h = h.is_log ∙ (world.each i p got).stands.log h.copy who h.is_copy h.is_in
 
   -- no log is longer than the limit
-  pub log_short : (i : ℕ) (p : ProcView) (log : List (Entry Msg Line)) → slice_get procs i ≡ Some p → HasLog p.copies who log → length log ≤ net.limit
+  pub log_short : (i : ℕ) (p : ProcView) (log : List (Entry Msg Line)) → slice_get procs i ≡ Some p
+      → HasLog p.copies who log → length log ≤ net.limit
   log_short i p log got h =
-      let is_copy : IsCopy net p.station h.copy = all_in (IsCopy net p.station) p.copies h.copy (world.each i p got).proc.copies h.is_copy in
+      let is_copy : IsCopy net p.station h.copy =
+      all_in (IsCopy net p.station) p.copies h.copy (world.each i p got).proc.copies h.is_copy in
       let short = is_copy.short in
       let same : length log ≡ length h.copy.log = ap length h.is_log in
       omega (arith, short, same)
@@ -101,28 +115,37 @@ module _ (net : Net) (cs : List Clone) (ended : List (ℕ × ℕ)) (front : ℕ)
         let a = (world.each i p found.2).stands.carried who there in
         let h : HasLog p.copies who a.0.log = record { copy = a.0; is_copy = a.1; is_in = a.2; is_log = refl } in
         let short = log_short i p a.0.log found.2 h in
-        let same : length a.0.log ≡ length (log_at (simulation net) (clone_at cs who) (i + 1) front) = ap length (log_is i p a.0.log found.2 h) in
+        let same : length a.0.log ≡ length (log_at (simulation net) (clone_at cs who) (i + 1) front) =
+        ap length (log_is i p a.0.log found.2 h) in
         omega (arith, beyond, short, same)
     | inr past ↦ absurd (let p = past.0 in omega (arith, p, l))
   ]
 
-  pub one_more : (i : ℕ) (p : ProcView) (before log after : List (Entry Msg Line)) → slice_get procs i ≡ Some p → HasLog p.copies who log →
-      before ≡ merge_of_logs (simulation net) sender_of number_of (clone_at cs who) front i → after ≡ merge by_key before log →
+  pub one_more : (i : ℕ) (p : ProcView) (before log after : List (Entry Msg Line)) → slice_get procs i ≡ Some p
+      → HasLog p.copies who log →
+      before ≡ merge_of_logs (simulation net) sender_of number_of (clone_at cs who) front i
+      → after ≡ merge by_key before log →
       after ≡ merge_of_logs (simulation net) sender_of number_of (clone_at cs who) front (i + 1)
   one_more i p before log after got h e f =
       let up : i + 1 ≡ suc i = omega arith in
       f ∙ ap (λ l. merge by_key l log) e
-      ∙ ap (merge by_key (merge_of_logs (simulation net) sender_of number_of (clone_at cs who) front i)) (log_is i p log got h ∙ ap (λ s. log_at (simulation net) (clone_at cs who) s front) up)
+      ∙ ap (merge by_key (merge_of_logs (simulation net) sender_of number_of (clone_at cs who) front i))
+      (log_is i p log got h ∙ ap (λ s. log_at (simulation net) (clone_at cs who) s front) up)
       ∙ ap (merge_of_logs (simulation net) sender_of number_of (clone_at cs who) front) (sym up)
 
-  pub all_merged : (n : ℕ) (trace : List (Entry Msg Line)) → n ≡ length procs → trace ≡ merge_of_logs (simulation net) sender_of number_of (clone_at cs who) front n → trace ≡ (run_of (simulation net) (clone_at cs who) front).at.trace
+  pub all_merged : (n : ℕ) (trace : List (Entry Msg Line)) → n ≡ length procs
+      → trace ≡ merge_of_logs (simulation net) sender_of number_of (clone_at cs who) front n
+      → trace ≡ (run_of (simulation net) (clone_at cs who) front).at.trace
   all_merged n trace many e =
       e ∙ ap (merge_of_logs (simulation net) sender_of number_of (clone_at cs who) front) (many ∙ world.count)
-      ∙ merge_of_logs-trace (lawful-stations net world.valid) (stations-to_stations net world.valid) (fresh-stations net world.valid) (clone_at cs who) front (world.for_stations who there)
+      ∙ merge_of_logs-trace (lawful-stations net world.valid) (stations-to_stations net world.valid)
+      (fresh-stations net world.valid) (clone_at cs who) front (world.for_stations who there)
 
 -- no log of a world is beyond the limit
-pub none_is_beyond : (net : Net) (cs : List Clone) (ended : List (ℕ × ℕ)) (front : ℕ) (procs : List ProcView) → WorldStands net cs ended front procs → NoneBeyond net cs front
+pub none_is_beyond : (net : Net) (cs : List Clone) (ended : List (ℕ × ℕ)) (front : ℕ) (procs : List ProcView)
+    → WorldStands net cs ended front procs → NoneBeyond net cs front
 none_is_beyond net cs ended front procs world = λ s c low high there beyond.
     let same : s ≡ s - 1 + 1 = omega (arith, low) in
     let many = world.count in
-    log_within net cs ended front procs world c there (s - 1) (omega (arith, low, high, many)) (subst (λ k. IsBeyond net k front (clone_at cs c)) same beyond)
+    log_within net cs ended front procs world c there (s - 1) (omega (arith, low, high, many))
+    (subst (λ k. IsBeyond net k front (clone_at cs c)) same beyond)

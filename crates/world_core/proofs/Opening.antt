@@ -1,5 +1,6 @@
 -- The world before anything was handled.
-use Rattle.std.proofs.Common.{◌≡◌, ◌↔◌, ◌==◌, true, ℕ, zero, suc, ◌+◌, List, [], ◌∷◌, ◌++◌, inl, inr, refl, sym, ap, ◌∙◌, subst, arith, length, eqb-true, eq-eqb, nat_lt}
+use Rattle.std.proofs.Common.{◌≡◌, ◌↔◌, ◌==◌, true, ℕ, zero, suc, ◌+◌, List, [], ◌∷◌, ◌++◌}
+use Rattle.std.proofs.Common.{inl, inr, refl, sym, ap, ◌∙◌, subst, arith, length, eqb-true, eq-eqb, nat_lt}
 use Rattle.std.proofs.Math.Path.{fun_ext}
 use Rattle.std.proofs.lemmas.Bool.Decides.{nat_tests}
 use Rattle.sim_base.specs.Clones.{base, clone_at}
@@ -21,7 +22,8 @@ use Rattle.world_core.specs.Opening.{IsFirstProc, AreFirst}
 use Rattle.world_core.proofs.Places.{push_got, at_got}
 
 -- one station more
-pub first_push : (net : Net) (procs : List ProcView) (new : ProcView) (n : ℕ) → length procs ≡ n → AreFirst net procs → IsFirstProc net n new → AreFirst net (procs ++ new ∷ [])
+pub first_push : (net : Net) (procs : List ProcView) (new : ProcView) (n : ℕ) → length procs ≡ n → AreFirst net procs
+    → IsFirstProc net n new → AreFirst net (procs ++ new ∷ [])
 first_push net procs new n count f first = λ i p got. elim (push_got procs new p i got) [
   | inl h ↦ f i p h
   | inr h ↦ subst (λ k. IsFirstProc net k p) (sym (h.0 ∙ count)) (subst (IsFirstProc net n) (sym h.1) first)
@@ -44,7 +46,8 @@ no_plans : (net : Net) (c : ℕ) → AreForStations (simulation net) (clone_at (
 no_plans net zero = tt
 no_plans net (suc c) = tt
 
-pub world_begins : (net : Net) (procs : List ProcView) → IsNet net → length procs ≡ length net.sites → AreFirst net procs → WorldStands net (base ∷ []) [] 0 procs
+pub world_begins : (net : Net) (procs : List ProcView) → IsNet net → length procs ≡ length net.sites
+    → AreFirst net procs → WorldStands net (base ∷ []) [] 0 procs
 world_begins net procs valid count first = record {
   valid = valid;
   early = omega arith;
@@ -61,6 +64,7 @@ world_begins net procs valid count first = record {
         living = λ c. ap (λ k. has k c) f.living ∙ first_lives c;
         once = f.once ∙ sym (handled-0 (simulation net) same_entry (base ∷ []) (i + 1));
         stands = subst (Stands (simulation net) has (base ∷ []) 0 (i + 1)) (sym f.copies)
-            (stands_first (lawful-stations net valid) (stations-to_stations net valid) has (one 0) only_first (i + 1) (omega arith, omega (arith, l, count)));
+            (stands_first (lawful-stations net valid) (stations-to_stations net valid) has (one 0) only_first (i + 1)
+            (omega arith, omega (arith, l, count)));
       };
 }

@@ -1,5 +1,6 @@
 -- The first clone over the limit, where there is one.
-use Rattle.std.proofs.Common.{◌≡◌, ◌↔◌, ℕ, zero, suc, ◌+◌, ◌<◌, ◌≤◌, List, inl, inr, Some, sym, ap, ◌∙◌, subst, true, arith, length, slice_get}
+use Rattle.std.proofs.Common.{◌≡◌, ◌↔◌, ℕ, zero, suc, ◌+◌, ◌<◌, ◌≤◌, List, inl}
+use Rattle.std.proofs.Common.{inr, Some, sym, ap, ◌∙◌, subst, true, arith, length, slice_get}
 use Rattle.std.proofs.lemmas.Bool.{false≢true}
 use Rattle.std.proofs.lemmas.Option.{slice_get_cases}
 use Rattle.sim_base.specs.Clones.{Clone, clone_at}
@@ -39,7 +40,9 @@ module _ (net : Net) (valid : IsNet net) (cs : List Clone) (front bound : ℕ) (
         clone = is.0;
         beyond = is.1;
         least_station = λ s one less c k long. before s one less c k long;
-        least_clone = λ c less long. absurd (false≢true (sym (h.first.least c less) ∙ (over_at i l h.flow h.is_there c).1 (omega (arith, less, there), long)));
+        least_clone = λ c less long. absurd
+            (false≢true (sym (h.first.least c less) ∙ (over_at i l h.flow h.is_there c).1
+            (omega (arith, less, there), long)));
       }
     where
       before : (s : ℕ) → 1 ≤ s → s < i + 1 → (c : ℕ) → c < length cs → ¬ (IsBeyond net s bound (clone_at cs c))
@@ -47,10 +50,14 @@ module _ (net : Net) (valid : IsNet net) (cs : List Clone) (front bound : ℕ) (
       before (suc j) one less c k long = elim (slice_get_cases flows j).1 [
         | inl found ↦
             let p = found.0 in
-            let l : j < length net.sites = let q = (at_got flows j found.0 found.0 found.2).0 in omega (arith, q, count) in
+            let l : j < length net.sites = let q = (at_got flows j found.0 found.0 found.2).0 in
+            omega (arith, q, count) in
             let e : suc j ≡ j + 1 = omega arith in
-            absurd (false≢true (sym (ap (λ k. has k c) (h.none_before j found.0 (omega (arith, less)) found.2) ∙ has-empty c) ∙ (over_at j l found.0 found.2 c).1 (k, subst (λ s. IsBeyond net s bound (clone_at cs c)) e long)))
-        | inr past ↦ absurd (let p = past.0 in let q = (at_got flows i h.flow h.flow h.is_there).0 in omega (arith, p, q, less))
+            absurd (false≢true (sym (ap (λ k. has k c) (h.none_before j found.0 (omega (arith, less)) found.2)
+            ∙ has-empty c) ∙ (over_at j l found.0 found.2 c).1
+            (k, subst (λ s. IsBeyond net s bound (clone_at cs c)) e long)))
+        | inr past ↦ absurd (let p = past.0 in let q = (at_got flows i h.flow h.flow h.is_there).0 in
+            omega (arith, p, q, less))
       ]
 
   -- where no clone went over the limit, no log is beyond it
@@ -60,4 +67,5 @@ module _ (net : Net) (valid : IsNet net) (cs : List Clone) (front bound : ℕ) (
       let l : i < length net.sites = omega (arith, high) in
       let e : suc i ≡ i + 1 = omega arith in
       let f = flow_of net valid cs front bound procs flows are_procs count later within stood stepped i l in
-      absurd (false≢true (sym (ap (λ k. has k c) (none i f.0 f.1) ∙ has-empty c) ∙ (over_at i l f.0 f.1 c).1 (there, subst (λ s. IsBeyond net s bound (clone_at cs c)) e long)))
+      absurd (false≢true (sym (ap (λ k. has k c) (none i f.0 f.1) ∙ has-empty c)
+      ∙ (over_at i l f.0 f.1 c).1 (there, subst (λ s. IsBeyond net s bound (clone_at cs c)) e long)))

@@ -1,5 +1,7 @@
 -- The world after a decision: the copies that stood for the clones stand for them again.
-use Rattle.std.proofs.Common.{◌≡◌, ℕ, zero, suc, ◌+◌, ◌==◌, ◌||◌, ◌<◌, ◌≤◌, Bool, true, false, cond, List, [], ◌∷◌, ◌++◌, inl, inr, refl, sym, ap, ◌∙◌, subst, arith, length, length-set, map, get_or, Option, Some, None, slice_get, min, nat_lt, eqb-true, eq-eqb}
+use Rattle.std.proofs.Common.{◌≡◌, ℕ, zero, suc, ◌+◌, ◌==◌, ◌||◌, ◌<◌, ◌≤◌, Bool, true, false, cond}
+use Rattle.std.proofs.Common.{List, [], ◌∷◌, ◌++◌, inl, inr, refl, sym, ap, ◌∙◌, subst, arith, length}
+use Rattle.std.proofs.Common.{length-set, map, get_or, Option, Some, None, slice_get, min, nat_lt, eqb-true, eq-eqb}
 use Rattle.std.proofs.Math.Path.{fun_ext}
 use Rattle.std.proofs.lemmas.Bool.{cases_eq, ne_eqb, lt-ltb, false≢true}
 use Rattle.std.proofs.lemmas.Bool.Decides.{nat_tests}
@@ -34,14 +36,17 @@ use Rattle.world_core.specs.Windows.{AllDelivered, AreNumbered, given_all}
 use Rattle.world_core.specs.Forking.{AllForked, LivesAtAll, LivesNowhere}
 use Rattle.world_core.proofs.Places.{at_got, there_at}
 
-pub are_numbered : (net : Net) (cs : List Clone) (ended : List (ℕ × ℕ)) (front : ℕ) (procs : List ProcView) → WorldStands net cs ended front procs → AreNumbered procs
+pub are_numbered : (net : Net) (cs : List Clone) (ended : List (ℕ × ℕ)) (front : ℕ) (procs : List ProcView)
+    → WorldStands net cs ended front procs → AreNumbered procs
 are_numbered net cs ended front procs world = λ i p got. (world.each i p got).number
 
 -- a clone lives at every station, and a number that no clone has nowhere
-pub lives : (net : Net) (cs : List Clone) (ended : List (ℕ × ℕ)) (front : ℕ) (procs : List ProcView) → WorldStands net cs ended front procs → (c : ℕ) → c < length cs → LivesAtAll c procs
+pub lives : (net : Net) (cs : List Clone) (ended : List (ℕ × ℕ)) (front : ℕ) (procs : List ProcView)
+    → WorldStands net cs ended front procs → (c : ℕ) → c < length cs → LivesAtAll c procs
 lives net cs ended front procs world c l = λ i p got. (world.each i p got).living c ∙ lt-ltb c (length cs) l
 
-pub lives_not : (net : Net) (cs : List Clone) (ended : List (ℕ × ℕ)) (front : ℕ) (procs : List ProcView) → WorldStands net cs ended front procs → LivesNowhere (length cs) procs
+pub lives_not : (net : Net) (cs : List Clone) (ended : List (ℕ × ℕ)) (front : ℕ) (procs : List ProcView)
+    → WorldStands net cs ended front procs → LivesNowhere (length cs) procs
 lives_not net cs ended front procs world = λ i p got. (world.each i p got).living (length cs) ∙ not_below
   where
     not_below : nat_lt (length cs) (length cs) ≡ false
@@ -49,13 +54,16 @@ lives_not net cs ended front procs world = λ i p got. (world.each i p got).livi
 
 -- ---- a fork
 
-module _ (net : Net) (cs : List Clone) (name : List ℕ) (old : ℕ) (there : old < length cs) (open_end : (clone_at cs old).end ≡ None) where
+module _ (net : Net) (cs : List Clone) (name : List ℕ) (old : ℕ) (there : old < length cs)
+    (open_end : (clone_at cs old).end ≡ None) where
   abbrev new_clone : Clone
   new_clone = record { name = name; plans = (clone_at cs old).plans; end = None }
 
   ends_forked : (c : ℕ) → ends_of (simulation net) cs c ≡ ends_of (simulation net) (forked cs name old) c
   ends_forked c = elim (cases_eq c (length cs)) [
-    | inl e ↦ ap (λ k. end_of (simulation net) k) (beyond cs c (omega (arith, e))) ∙ sym (ap (λ k. end_of (simulation net) k) (ap (clone_at (forked cs name old)) e ∙ clone_push_same cs new_clone))
+    | inl e ↦ ap (λ k. end_of (simulation net) k) (beyond cs c (omega (arith, e)))
+        ∙ sym (ap (λ k. end_of (simulation net) k) (ap (clone_at (forked cs name old)) e
+        ∙ clone_push_same cs new_clone))
     | inr n ↦ ap (λ k. end_of (simulation net) k) (sym (clone_push_other cs new_clone c n))
   ]
     where
@@ -65,23 +73,30 @@ module _ (net : Net) (cs : List Clone) (name : List ℕ) (old : ℕ) (there : ol
       beyond (x ∷ xs) zero l = absurd (omega (arith, l))
       beyond (x ∷ xs) (suc c) l = beyond xs c (omega (arith, l))
 
-  plans_forked : ((c : ℕ) → c < length cs → AreForStations (simulation net) (clone_at cs c).plans) → (c : ℕ) → c < length (forked cs name old) → AreForStations (simulation net) (clone_at (forked cs name old) c).plans
+  plans_forked : ((c : ℕ) → c < length cs → AreForStations (simulation net) (clone_at cs c).plans) → (c : ℕ)
+      → c < length (forked cs name old) → AreForStations (simulation net) (clone_at (forked cs name old) c).plans
   plans_forked f c l = elim (cases_eq c (length cs)) [
-    | inl e ↦ subst (λ k. AreForStations (simulation net) k.plans) (sym (ap (clone_at (forked cs name old)) e ∙ clone_push_same cs new_clone)) (f old there)
-    | inr n ↦ subst (λ k. AreForStations (simulation net) k.plans) (sym (clone_push_other cs new_clone c n)) (f c (less n))
+    | inl e ↦ subst (λ k. AreForStations (simulation net) k.plans)
+        (sym (ap (clone_at (forked cs name old)) e ∙ clone_push_same cs new_clone)) (f old there)
+    | inr n ↦ subst (λ k. AreForStations (simulation net) k.plans) (sym (clone_push_other cs new_clone c n))
+        (f c (less n))
   ]
     where
       less : (c ≡ length cs → ⊥) → c < length cs
       less n = let many = length_push cs new_clone in grind (arith, many, l)
 
-  living_forked : (living : CloneSet) (c : ℕ) → ((c : ℕ) → has living c ≡ nat_lt c (length cs)) → has (with living (length cs)) c ≡ nat_lt c (length (forked cs name old))
+  living_forked : (living : CloneSet) (c : ℕ) → ((c : ℕ) → has living c ≡ nat_lt c (length cs))
+      → has (with living (length cs)) c ≡ nat_lt c (length (forked cs name old))
   living_forked living c f =
-      has-with living (length cs) c ∙ ap (λ b. (length cs == c) || b) (f c) ∙ one_more c (length cs) ∙ ap (nat_lt c) (sym (length_push cs new_clone))
+      has-with living (length cs) c ∙ ap (λ b. (length cs == c) || b) (f c) ∙ one_more c (length cs)
+      ∙ ap (nat_lt c) (sym (length_push cs new_clone))
     where
       one_more : (c n : ℕ) → ((n == c) || nat_lt c n) ≡ nat_lt c (n + 1)
       one_more c n = grind (arith, nat_tests)
 
-  pub world_forked : (ended : List (ℕ × ℕ)) (front : ℕ) (procs news : List ProcView) → length cs < 256 → WorldStands net cs ended front procs → AllForked old (length cs) procs news → WorldStands net (forked cs name old) ended front news
+  pub world_forked : (ended : List (ℕ × ℕ)) (front : ℕ) (procs news : List ProcView) → length cs < 256
+      → WorldStands net cs ended front procs → AllForked old (length cs) procs news
+      → WorldStands net (forked cs name old) ended front news
   world_forked ended front procs news few world done = record {
     valid = world.valid;
     early = world.early;
@@ -102,8 +117,11 @@ module _ (net : Net) (cs : List Clone) (name : List ℕ) (old : ℕ) (there : ol
             proc = d.proc net w.proc;
             number = d.station ∙ w.number;
             living = λ c. ap (λ k. has k c) d.living ∙ living_forked (get_or procs i q).living c w.living;
-            once = d.once ∙ w.once ∙ sym (handled-forked (simulation net) same_entry same_entry-Decides cs name old (i + 1) front there open_end);
-            stands = stands_fork (simulation net) has cs old name front (i + 1) (get_or procs i q).copies q.copies there open_end (d.stands net (ends_of (simulation net) cs) w.proc) w.stands;
+            once = d.once ∙ w.once ∙ sym (handled-forked (simulation net) same_entry same_entry-Decides cs name old
+                (i + 1) front there open_end);
+            stands = stands_fork (simulation net) has cs old name front (i + 1)
+                (get_or procs i q).copies q.copies there open_end (d.stands net (ends_of (simulation net) cs) w.proc)
+                w.stands;
           }
 
 -- ---- a set
@@ -122,15 +140,21 @@ module _ (net : Net) (cs : List Clone) (who : ℕ) (plan : Planned) (there : who
   for_no_other : (c : ℕ) → (c ≡ who → ⊥) → has (one who) c ≡ false
   for_no_other c n = has-one who c ∙ ne_eqb who c (λ e. n (sym e))
 
-  pub world_added : (ended : List (ℕ × ℕ)) (front : ℕ) (procs news : List ProcView) → 1 ≤ plan.station → plan.station ≤ length net.sites → front ≤ plan.at → WorldStands net cs ended front procs → AllDelivered ((tells, one who) ∷ []) procs news → WorldStands net (added cs who plan) ended front news
+  pub world_added : (ended : List (ℕ × ℕ)) (front : ℕ) (procs news : List ProcView) → 1 ≤ plan.station
+      → plan.station ≤ length net.sites → front ≤ plan.at → WorldStands net cs ended front procs
+      → AllDelivered ((tells, one who) ∷ []) procs news → WorldStands net (added cs who plan) ended front news
   world_added ended front procs news low high late world done = record {
     valid = world.valid;
     early = world.early;
     count = done.count ∙ world.count;
     few = let many = length-set cs who with_set in let f = world.few in omega (arith, f, many);
-    ends = world.ends ∙ fun_ext (λ c. sym (set_cases (λ c k. end_of (simulation net) k ≡ end_of (simulation net) (clone_at cs c)) cs who with_set there refl (λ c n. refl) c));
-    for_stations = λ c l. set_cases (λ c k. c < length cs → AreForStations (simulation net) k.plans) cs who with_set there
-        (λ l. all_push (λ p. IsStation (simulation net) p.station) (clone_at cs who).plans plan (world.for_stations who there) (low, high))
+    ends = world.ends ∙ fun_ext (λ c.
+        sym (set_cases (λ c k. end_of (simulation net) k ≡ end_of (simulation net) (clone_at cs c)) cs who with_set
+        there refl (λ c n. refl) c));
+    for_stations = λ c l. set_cases (λ c k. c < length cs → AreForStations (simulation net) k.plans) cs who with_set
+        there
+        (λ l. all_push (λ p. IsStation (simulation net) p.station) (clone_at cs who).plans plan
+        (world.for_stations who there) (low, high))
         (λ c n l. world.for_stations c l) c (let many = length-set cs who with_set in omega (arith, many, l));
     each = each_added;
   }
@@ -145,19 +169,29 @@ module _ (net : Net) (cs : List Clone) (who : ℕ) (plan : Planned) (there : who
             proc = d.proc net w.proc;
             number = d.station ∙ w.number;
             living = λ c. ap (λ k. has k c) d.living ∙ w.living c ∙ ap (nat_lt c) (sym (length-set cs who with_set));
-            once = d.once ∙ w.once ∙ sym (handled-added (lawful-stations net world.valid) same_entry cs front (i + 1) who plan there late);
-            stands = subst (Stands (simulation net) has (added cs who plan) front (i + 1)) (sym d.copies) (by (plan.station == i + 1) refl (get_or procs i q).copies w.stands);
+            once = d.once ∙ w.once ∙ sym (handled-added (lawful-stations net world.valid) same_entry cs front
+                (i + 1) who plan there late);
+            stands = subst (Stands (simulation net) has (added cs who plan) front (i + 1)) (sym d.copies)
+                (by (plan.station == i + 1) refl (get_or procs i q).copies w.stands);
           }
         where
-          by : (b : Bool) → (plan.station == i + 1) ≡ b → (olds : List StationCopy) → Stands (simulation net) has cs front (i + 1) olds →
-              Stands (simulation net) has (added cs who plan) front (i + 1) (given_all (cond b ((tells, one who) ∷ []) []) olds)
-          by true e olds st = stands_after_decision (lawful-stations net world.valid) has cs front (i + 1) who plan tells (one who) olds (map (given tells (one who)) olds) there refl late (eqb-true plan.station (i + 1) e) for_it for_no_other
-              (all_given net (ends_of (simulation net) cs) tells (one who) olds (all_from (λ (a : StationCopy). SortedMarked msg_cmp a.pending) olds st.sorted)) st
-          by false e olds st = stands_after_other_decision (lawful-stations net world.valid) has cs front (i + 1) who plan tells olds there refl late (λ same. false≢true (sym e ∙ eq-eqb plan.station (i + 1) same)) st
+          by : (b : Bool) → (plan.station == i + 1) ≡ b → (olds : List StationCopy)
+              → Stands (simulation net) has cs front (i + 1) olds →
+              Stands (simulation net) has (added cs who plan) front (i + 1)
+              (given_all (cond b ((tells, one who) ∷ []) []) olds)
+          by true e olds st = stands_after_decision (lawful-stations net world.valid) has cs front
+              (i + 1) who plan tells (one who) olds (map (given tells (one who)) olds) there refl late
+              (eqb-true plan.station (i + 1) e) for_it for_no_other
+              (all_given net (ends_of (simulation net) cs) tells (one who) olds
+              (all_from (λ (a : StationCopy). SortedMarked msg_cmp a.pending) olds st.sorted)) st
+          by false e olds st = stands_after_other_decision (lawful-stations net world.valid) has cs front
+              (i + 1) who plan tells olds there refl late
+              (λ same. false≢true (sym e ∙ eq-eqb plan.station (i + 1) same)) st
 
 -- ---- an end
 
-module _ (net : Net) (cs : List Clone) (who at : ℕ) (there : who < length cs) (open_end : (clone_at cs who).end ≡ None) where
+module _ (net : Net) (cs : List Clone) (who at : ℕ) (there : who < length cs)
+    (open_end : (clone_at cs who).end ≡ None) where
   abbrev with_end : Clone
   with_end = record (clone_at cs who) { end = Some at }
 
@@ -165,7 +199,8 @@ module _ (net : Net) (cs : List Clone) (who at : ℕ) (there : who < length cs) 
   at_horizon = ap (λ (o : Option ℕ). end_of (simulation net) (record (clone_at cs who) { end = o })) open_end
 
   pub world_ended : (olds news : List (ℕ × ℕ)) (front : ℕ) (procs : List ProcView) → front ≤ at → at ≤ net.horizon →
-      ((c : ℕ) → ends_in net.horizon news c ≡ cond (who == c) (min at (ends_in net.horizon olds c)) (ends_in net.horizon olds c)) →
+      ((c : ℕ) → ends_in net.horizon news c ≡ cond (who == c) (min at (ends_in net.horizon olds c))
+      (ends_in net.horizon olds c)) →
       WorldStands net cs olds front procs → WorldStands net (ended cs who at) news front procs
   world_ended olds news front procs late early ends world = record {
     valid = world.valid;
@@ -173,14 +208,18 @@ module _ (net : Net) (cs : List Clone) (who at : ℕ) (there : who < length cs) 
     count = world.count;
     few = let many = length-set cs who with_end in let f = world.few in omega (arith, f, many);
     ends = fun_ext ends_are;
-    for_stations = λ c l. set_cases (λ c k. c < length cs → AreForStations (simulation net) k.plans) cs who with_end there
-        (λ l. world.for_stations who there) (λ c n l. world.for_stations c l) c (let many = length-set cs who with_end in omega (arith, many, l));
+    for_stations = λ c l. set_cases (λ c k. c < length cs → AreForStations (simulation net) k.plans) cs who with_end
+        there
+        (λ l. world.for_stations who there) (λ c n l. world.for_stations c l) c
+        (let many = length-set cs who with_end in omega (arith, many, l));
     each = λ i p got. let w = world.each i p got in record {
       proc = w.proc;
       number = w.number;
       living = λ c. w.living c ∙ ap (nat_lt c) (sym (length-set cs who with_end));
-      once = w.once ∙ sym (handled-ended (lawful-stations net world.valid) same_entry cs front (i + 1) who at there late within);
-      stands = stands_end (lawful-stations net world.valid) has cs front (i + 1) who there p.copies at late within w.stands;
+      once = w.once ∙ sym (handled-ended (lawful-stations net world.valid) same_entry cs front
+          (i + 1) who at there late within);
+      stands = stands_end (lawful-stations net world.valid) has cs front (i + 1) who there p.copies at late within
+          w.stands;
     };
   }
     where
@@ -192,9 +231,12 @@ module _ (net : Net) (cs : List Clone) (who at : ℕ) (there : who < length cs) 
 
       ends_are : (c : ℕ) → ends_in net.horizon news c ≡ ends_of (simulation net) (ended cs who at) c
       ends_are c = ends c ∙ ap (λ t. cond (who == c) (min at t) t) (was c)
-          ∙ sym (set_cases (λ c k. end_of (simulation net) k ≡ cond (who == c) (min at (ends_of (simulation net) cs c)) (ends_of (simulation net) cs c)) cs who with_end there
-          (sym (ap (λ b. cond b (min at (ends_of (simulation net) cs who)) (ends_of (simulation net) cs who)) (eq-eqb who who refl) ∙ least_is))
-          (λ c n. sym (ap (λ b. cond b (min at (ends_of (simulation net) cs c)) (ends_of (simulation net) cs c)) (ne_eqb who c (λ e. n (sym e))))) c)
+          ∙ sym (set_cases (λ c k. end_of (simulation net) k ≡ cond (who == c)
+          (min at (ends_of (simulation net) cs c)) (ends_of (simulation net) cs c)) cs who with_end there
+          (sym (ap (λ b. cond b (min at (ends_of (simulation net) cs who)) (ends_of (simulation net) cs who))
+          (eq-eqb who who refl) ∙ least_is))
+          (λ c n. sym (ap (λ b. cond b (min at (ends_of (simulation net) cs c)) (ends_of (simulation net) cs c))
+          (ne_eqb who c (λ e. n (sym e))))) c)
         where
           least_is : min at (ends_of (simulation net) cs who) ≡ at
           least_is = grind (arith, within)

@@ -1,5 +1,6 @@
 -- The world after a window.
-use Rattle.std.proofs.Common.{◌≡◌, ℕ, ◌+◌, ◌*◌, ◌<◌, ◌≤◌, List, sym, ap, ◌∙◌, subst, arith, length, [], map, slice_get, Some, unwrap_or, option_map}
+use Rattle.std.proofs.Common.{◌≡◌, ℕ, ◌+◌, ◌*◌, ◌<◌, ◌≤◌, List, sym, ap, ◌∙◌}
+use Rattle.std.proofs.Common.{subst, arith, length, [], map, slice_get, Some, unwrap_or, option_map}
 use Rattle.std.proofs.lemmas.List.{length-map}
 use Rattle.sim_base.specs.Clones.{Clone}
 use Rattle.clone_sets.specs.Sets.{has}
@@ -13,14 +14,16 @@ use Rattle.phys_proc.specs.Procs.{ProcView}
 use Rattle.phys_proc.specs.declared.proc.Flow.{Flow}
 use Rattle.phys_proc.proofs.Gone.{ends_soon}
 use Rattle.world_core.specs.Worlds.{AreInNet, StandsAt, WorldStands, total_handled}
-use Rattle.world_core.specs.Windows.{MayStep, AllNumbered, AllFlow, AllDelivered, AreNumbered, NoneOver, done_at, all_sent, all_handled, after_window, given_all, sent_to}
+use Rattle.world_core.specs.Windows.{MayStep, AllNumbered, AllFlow, AllDelivered, AreNumbered, NoneOver}
+use Rattle.world_core.specs.Windows.{done_at, all_sent, all_handled, after_window, given_all, sent_to}
 use Rattle.world_core.specs.Overs.{IsFirstOver, IsFirstBeyond, NoneBeyond}
 use Rattle.world_core.proofs.Places.{at_got, got_map, map_got}
 use Rattle.world_core.proofs.AfterWindow.{proc_of, flow_of, few_handled, stand_after, total_grows, grown_at}
 use Rattle.world_core.proofs.Overs.{first_beyond, none_beyond}
 
 -- the copies at a place stand for the clones also where the network and the lists are those that a reader is handed
-pub stands_for_reader : (net shown_net : Net) (cs shown : List Clone) (front i : ℕ) (p : ProcView) → shown_net ≡ net → shown ≡ cs →
+pub stands_for_reader : (net shown_net : Net) (cs shown : List Clone) (front i : ℕ) (p : ProcView) → shown_net ≡ net
+    → shown ≡ cs →
     StandsAt net cs front i p → Stands (simulation shown_net) has shown front p.station p.copies
 stands_for_reader net shown_net cs shown front i p e f at =
     subst (λ n. Stands (simulation n) has shown front p.station p.copies) (sym e)
@@ -28,11 +31,14 @@ stands_for_reader net shown_net cs shown front i p e f at =
     (subst (λ s. Stands (simulation net) has cs front s p.copies) (sym at.number) at.stands))
 
 -- the stations of a world may step, each its own copies
-pub all_numbered : (net : Net) (cs : List Clone) (ended : List (ℕ × ℕ)) (front : ℕ) (procs : List ProcView) → WorldStands net cs ended front procs → AllNumbered net procs
-all_numbered net cs ended front procs world = λ i p got. let h = world.each i p got in record { proc = h.proc; number = h.number }
+pub all_numbered : (net : Net) (cs : List Clone) (ended : List (ℕ × ℕ)) (front : ℕ) (procs : List ProcView)
+    → WorldStands net cs ended front procs → AllNumbered net procs
+all_numbered net cs ended front procs world = λ i p got. let h = world.each i p got in
+    record { proc = h.proc; number = h.number }
 
 -- the clones of a world are in its network
-pub clones_in_net : (net : Net) (cs : List Clone) (ended : List (ℕ × ℕ)) (front : ℕ) (procs : List ProcView) → WorldStands net cs ended front procs → AreInNet net cs
+pub clones_in_net : (net : Net) (cs : List Clone) (ended : List (ℕ × ℕ)) (front : ℕ) (procs : List ProcView)
+    → WorldStands net cs ended front procs → AreInNet net cs
 clones_in_net net cs ended front procs world = record {
   plans = world.for_stations;
   ends = λ k l.
@@ -41,14 +47,17 @@ clones_in_net net cs ended front procs world = record {
       omega (arith, same, soon);
 }
 
-module _ (net : Net) (cs : List Clone) (ended : List (ℕ × ℕ)) (front bound : ℕ) (procs : List ProcView) (world : WorldStands net cs ended front procs) (later : front < bound) (within : bound ≤ next_front (simulation net) cs front) where
+module _ (net : Net) (cs : List Clone) (ended : List (ℕ × ℕ)) (front bound : ℕ) (procs : List ProcView)
+    (world : WorldStands net cs ended front procs) (later : front < bound)
+    (within : bound ≤ next_front (simulation net) cs front) where
   early : bound ≤ net.horizon
   early = let h = window_end-within (simulation net) (least (simulation net) cs front) in omega (arith, within, h)
 
   pub may_step : MayStep net bound
   may_step = record { valid = world.valid; early = early }
 
-  module _ (flows : List Flow) (count : length flows ≡ length procs) (stepped : AllFlow net (ends_in net.horizon ended) bound procs flows) where
+  module _ (flows : List Flow) (count : length flows ≡ length procs)
+      (stepped : AllFlow net (ends_in net.horizon ended) bound procs flows) where
     steps_of : AllFlow net (ends_of (simulation net) cs) bound procs flows
     steps_of = subst (λ e. AllFlow net e bound procs flows) world.ends stepped
 
@@ -59,7 +68,8 @@ module _ (net : Net) (cs : List Clone) (ended : List (ℕ × ℕ)) (front bound 
     soon = omega (arith, later)
 
     pub first_beyond_is : (i who : ℕ) → IsFirstOver flows i who → IsFirstBeyond net cs bound (i + 1) who
-    first_beyond_is = first_beyond net world.valid cs front bound procs flows world.count many soon within world.each steps_of
+    first_beyond_is = first_beyond net world.valid cs front bound procs flows world.count many soon within world.each
+        steps_of
 
     pub few_are : total_handled net cs front + all_handled flows ≤ length net.sites * (length cs * net.limit)
     few_are = few_handled net world.valid cs front bound procs flows world.count many soon within world.each steps_of
@@ -69,17 +79,21 @@ module _ (net : Net) (cs : List Clone) (ended : List (ℕ × ℕ)) (front bound 
     done_numbered = λ i p got.
         let f = got_map (λ (f : Flow). f.done) flows i p got in
         let l : i < length net.sites = let k = (at_got flows i f.0 f.0 f.1).0 in omega (arith, k, many) in
-        let q = proc_of net world.valid cs front bound procs flows world.count many soon within world.each steps_of i l in
+        let q = proc_of net world.valid cs front bound procs flows world.count many soon within world.each steps_of i
+        l in
         ap (λ (p : ProcView). p.station) (sym f.2) ∙ (steps_of i q.0 f.0 q.1 f.1).number
 
     module _ (none : NoneOver flows) where
       pub none_are_beyond : NoneBeyond net cs bound
-      none_are_beyond = none_beyond net world.valid cs front bound procs flows world.count many soon within world.each steps_of none
+      none_are_beyond = none_beyond net world.valid cs front bound procs flows world.count many soon within world.each
+          steps_of none
 
       pub steps_sum : total_handled net cs bound ≡ total_handled net cs front + all_handled flows
-      steps_sum = total_grows net world.valid cs front bound procs flows world.count many soon within world.each steps_of world.for_stations none
+      steps_sum = total_grows net world.valid cs front bound procs flows world.count many soon within world.each
+          steps_of world.for_stations none
 
-      pub world_after : (news : List ProcView) → AllDelivered (all_sent flows) (map (λ (f : Flow). f.done) flows) news → WorldStands net cs ended bound news
+      pub world_after : (news : List ProcView) → AllDelivered (all_sent flows) (map (λ (f : Flow). f.done) flows) news
+          → WorldStands net cs ended bound news
       world_after news given = record {
         valid = world.valid;
         early = early;
@@ -92,22 +106,29 @@ module _ (net : Net) (cs : List Clone) (ended : List (ℕ × ℕ)) (front bound 
         where
           each_after : (i : ℕ) (q : ProcView) → slice_get news i ≡ Some q → StandsAt net cs bound i q
           each_after i q got =
-              let long : length news ≡ length net.sites = given.count ∙ length-map flows (λ (f : Flow). f.done) ∙ many in
+              let long : length news ≡ length net.sites = given.count ∙ length-map flows (λ (f : Flow). f.done)
+              ∙ many in
               let l : i < length net.sites = let k = (at_got news i q q got).0 in omega (arith, k, long) in
-              let f = flow_of net world.valid cs front bound procs flows world.count many soon within world.each steps_of i l in
-              let p = proc_of net world.valid cs front bound procs flows world.count many soon within world.each steps_of i l in
-              let done : slice_get (map (λ (f : Flow). f.done) flows) i ≡ Some f.0.done = map_got (λ (f : Flow). f.done) flows i f.0 f.1 in
+              let f = flow_of net world.valid cs front bound procs flows world.count many soon within world.each
+              steps_of i l in
+              let p = proc_of net world.valid cs front bound procs flows world.count many soon within world.each
+              steps_of i l in
+              let done : slice_get (map (λ (f : Flow). f.done) flows) i ≡ Some f.0.done =
+              map_got (λ (f : Flow). f.done) flows i f.0 f.1 in
               let d = given.each i f.0.done q done got in
               let s = steps_of i p.0 f.0 p.1 f.1 in
               let w = world.each i p.0 p.1 in
-              let e : done_at flows i ≡ f.0.done.copies = ap (λ o. unwrap_or (option_map (λ (f : Flow). f.done.copies) o) []) f.1 in
+              let e : done_at flows i ≡ f.0.done.copies =
+              ap (λ o. unwrap_or (option_map (λ (f : Flow). f.done.copies) o) []) f.1 in
               let c : after_window flows i ≡ q.copies = ap (given_all (sent_to i (all_sent flows))) e ∙ sym d.copies in
               record {
                 proc = d.proc net s.proc;
                 number = d.station ∙ s.number;
                 living = λ c. ap (λ k. has k c) (d.living ∙ s.living (none i f.0 f.1)) ∙ w.living c;
                 once = d.once ∙ s.once (none i f.0 f.1) ∙ ap (λ n. n + f.0.handled) w.once
-                    ∙ sym (grown_at net world.valid cs front bound procs flows world.count many soon within world.each steps_of world.for_stations none i l f.0 f.1);
+                    ∙ sym (grown_at net world.valid cs front bound procs flows world.count many soon within world.each
+                    steps_of world.for_stations none i l f.0 f.1);
                 stands = subst (Stands (simulation net) has cs bound (i + 1)) c
-                    (stand_after net world.valid cs front bound procs flows world.count many soon within world.each steps_of world.for_stations none i l);
+                    (stand_after net world.valid cs front bound procs flows world.count many soon within world.each
+                    steps_of world.for_stations none i l);
               }

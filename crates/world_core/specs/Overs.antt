@@ -20,7 +20,8 @@ pub record IsFirstBeyond (net : Net) (cs : List Clone) (bound station who : ℕ)
 
 -- no log is beyond the limit
 abbrev pub NoneBeyond : Net → List Clone → ℕ → Type 0
-NoneBeyond net cs bound = (s c : ℕ) → 1 ≤ s → s ≤ length net.sites → c < length cs → ¬ (IsBeyond net s bound (clone_at cs c))
+NoneBeyond net cs bound = (s c : ℕ) → 1 ≤ s → s ≤ length net.sites → c < length cs
+    → ¬ (IsBeyond net s bound (clone_at cs c))
 
 -- out of memory needs no cause; a limit names the first log beyond it, and then the messages that were handled are no
 -- more than the limit allows each clone at each station

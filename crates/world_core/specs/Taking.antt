@@ -19,7 +19,8 @@ IsAccepted net cs front d = reply (situation net cs front) d ≡ Accepted
 -- and none for each of the calls, after those before it
 abbrev pub AreAccepted : Net → List Clone → ℕ → List Call → Type 0
 AreAccepted net cs front [] = Unit {0}
-AreAccepted net cs front (call ∷ calls) = IsAccepted net cs front call.decision × AreAccepted net (clones_after net cs call.decision) front calls
+AreAccepted net cs front (call ∷ calls) = IsAccepted net cs front call.decision
+    × AreAccepted net (clones_after net cs call.decision) front calls
 
 -- the clones after the calls
 abbrev pub clones_after_calls : Net → List Clone → List Call → List Clone

@@ -1,5 +1,6 @@
 -- A window: each station is a task that steps its own copies, and then each gets what the others sent to it.
-use Rattle.std.specs.Prelude.{◌≡◌, ℕ, ◌+◌, ◌≤◌, ◌==◌, List, [], ◌∷◌, length, map, slice_get, unwrap_or, option_map, Some, sum_by}
+use Rattle.std.specs.Prelude.{◌≡◌, ℕ, ◌+◌, ◌≤◌, ◌==◌, List, [], ◌∷◌}
+use Rattle.std.specs.Prelude.{length, map, slice_get, unwrap_or, option_map, Some, sum_by}
 use Rattle.std.specs.List.{filter, flat_map}
 use Rattle.clone_sets.specs.Sets.{has, empty}
 use Rattle.net_model.specs.Net.{Net}
@@ -33,7 +34,8 @@ AllNumbered net procs = (i : ℕ) (p : ProcView) → slice_get procs i ≡ Some 
 -- what the task of place i answers: for each clone what its own window gives, and where some clone goes over the limit
 -- just those clones; what was handled is what the copies gained
 pub record IsFlow (net : Net) (ends : ℕ → ℕ) (bound i : ℕ) (old : ProcView) (flow : Flow) : Type 0 where
-  pub windows : flow.over ≡ empty → IsStepped (simulation net) has ends (i + 1) bound old.copies flow.done.copies flow.sent.items
+  pub windows : flow.over ≡ empty
+      → IsStepped (simulation net) has ends (i + 1) bound old.copies flow.done.copies flow.sent.items
   pub over : AreOver (simulation net) has ends (i + 1) bound old.copies flow.over
   pub gained : GainTogether (simulation net) has ends (i + 1) bound old.copies flow.handled
   pub proc : IsProc net flow.done
@@ -43,7 +45,8 @@ pub record IsFlow (net : Net) (ends : ℕ → ℕ) (bound i : ℕ) (old : ProcVi
 
 -- each task has answered
 abbrev pub AllFlow : Net → (ℕ → ℕ) → ℕ → List ProcView → List Flow → Type 0
-AllFlow net ends bound procs flows = (i : ℕ) (p : ProcView) (flow : Flow) → slice_get procs i ≡ Some p → slice_get flows i ≡ Some flow → IsFlow net ends bound i p flow
+AllFlow net ends bound procs flows = (i : ℕ) (p : ProcView) (flow : Flow) → slice_get procs i ≡ Some p
+    → slice_get flows i ≡ Some flow → IsFlow net ends bound i p flow
 
 -- the messages that all stations have handled
 abbrev pub all_handled : List Flow → ℕ
@@ -92,4 +95,5 @@ pub record IsDeliveredTo (msgs : Marked) (old new : ProcView) : Type 0 where
 -- every station got those of the messages that are for it
 pub record AllDelivered (msgs : Marked) (old new : List ProcView) : Type 0 where
   pub count : length new ≡ length old
-  pub each : (i : ℕ) (p q : ProcView) → slice_get old i ≡ Some p → slice_get new i ≡ Some q → IsDeliveredTo (sent_to i msgs) p q
+  pub each : (i : ℕ) (p q : ProcView) → slice_get old i ≡ Some p → slice_get new i ≡ Some q
+      → IsDeliveredTo (sent_to i msgs) p q

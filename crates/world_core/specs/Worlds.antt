@@ -33,7 +33,8 @@ pub record StandsAt (net : Net) (cs : List Clone) (front i : ℕ) (p : ProcView)
   pub stands : Stands (simulation net) has cs front (i + 1) p.copies
 
 -- what a world keeps: the copies of every station stand for the clones at the front
-pub record WorldStands (net : Net) (cs : List Clone) (ended : List (ℕ × ℕ)) (front : ℕ) (procs : List ProcView) : Type 0 where
+pub record WorldStands (net : Net) (cs : List Clone) (ended : List (ℕ × ℕ)) (front : ℕ) (procs : List ProcView) :
+    Type 0 where
   pub valid : IsNet net
   pub early : front ≤ net.horizon
   pub count : length procs ≡ length net.sites

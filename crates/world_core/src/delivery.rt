@@ -74,7 +74,8 @@ fn take_apart(
 /// Each station gets what was sent to it.
 pub(crate) fn hand_over(alloc: Global, flows: Vec<Flow>) -> Result<Vec<Proc>, NoMemory>
     requires numbered { AreNumbered (map (λ f. f.done) flows.items) }
-    ensures given { IfOk result (λ procs. AllDelivered (all_sent flows.items) (map (λ f. f.done) flows.items) procs.items) }
+    ensures given { IfOk result (λ procs. AllDelivered (all_sent flows.items)
+        (map (λ f. f.done) flows.items) procs.items) }
 {
     let (mut procs, sent) = take_apart(alloc, flows)?;
     deliver_all(&mut procs, sent.as_slice())?;

@@ -76,7 +76,8 @@ impl World {
         requires there { who < length self.now.clones }
         requires low { 1 ≤ station }
         requires high { station ≤ length self.now.net.sites }
-        ensures value { result.now ≡ log_at (simulation self.now.net) (clone_at self.now.clones who) station self.now.front }
+        ensures value { result.now ≡ log_at (simulation self.now.net) (clone_at self.now.clones who) station
+            self.now.front }
         ensures short { length result.now ≤ self.now.net.limit }
     {
         match log_of(self.procs[station as usize - 1].copies(), who) {
@@ -88,7 +89,8 @@ impl World {
     /// The trace of a clone up to the front: the logs of its stations, merged by time, sender and number.
     pub fn trace(&self, alloc: Global, who: u32) -> Result<Vec<Entry>, NoMemory>
         requires there { who < length self.now.clones }
-        ensures value { IfOk result (λ es. es.items ≡ (run_of (simulation self.now.net) (clone_at self.now.clones who) self.now.front).at.trace) }
+        ensures value { IfOk result (λ es.
+            es.items ≡ (run_of (simulation self.now.net) (clone_at self.now.clones who) self.now.front).at.trace) }
     {
         let mut trace = Vec::new(alloc);
         for i in 0..self.procs.len() {

@@ -84,7 +84,8 @@ pub(crate) fn step_all<C: Crew, G: Gate, L: Ledger, R: Threads + Wait + Sync>(
     requires few { length procs.items ≤ 64 }
     requires numbered { AllNumbered model.now procs.items }
     ensures count { IfOk result (λ flows. length flows.items ≡ length procs.items) }
-    ensures stepped { IfOk result (λ flows. AllFlow model.now (ends_in model.now.horizon ends.now) bound procs.items flows.items) }
+    ensures stepped { IfOk result (λ flows. AllFlow model.now (ends_in model.now.horizon ends.now) bound procs.items
+        flows.items) }
     ensures steps { IfOk result (λ flows. steps.new ≡ steps.old + all_handled flows.items) }
 {
     let work = Window {

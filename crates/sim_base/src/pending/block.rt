@@ -1,5 +1,6 @@
 //! One block of pending messages.
-ghost use Rattle.std.specs.Prelude.{◌≡◌, ℕ, ◌+◌, ◌-◌, ◌<◌, ◌≤◌, ◌==◌, List, [], ◌++◌, length, take, drop, slice_get, OnOk, OnErr, IfOk};
+ghost use Rattle.std.specs.Prelude.{◌≡◌, ℕ, ◌+◌, ◌-◌, ◌<◌, ◌≤◌, ◌==◌, List, []};
+ghost use Rattle.std.specs.Prelude.{◌++◌, length, take, drop, slice_get, OnOk, OnErr, IfOk};
 ghost use Rattle.sim_base.specs.Pending.{insert_marked, spread_marks, cut_by, first_time};
 ghost use Rattle.sim_base.specs.Order.{msg_cmp};
 ghost use Rattle.sim_base.specs.Marked.{SortedMarked};

@@ -102,7 +102,8 @@ pub(crate) fn put<S: Marks>(
     requires place { IsBlockOf msg_cmp msg later.old.items at }
     requires room { length (block_at first.old later.old.items at) < 64 }
     ensures blocks { AreBlocks msg_cmp first.new later.new.items }
-    ensures ok { OnOk result (of_blocks (first.new ∷ later.new.items) ≡ insert_marked S.joined msg_cmp msg marks (of_blocks (first.old ∷ later.old.items))) }
+    ensures ok { OnOk result (of_blocks (first.new ∷ later.new.items) ≡ insert_marked S.joined msg_cmp msg marks
+        (of_blocks (first.old ∷ later.old.items))) }
     ensures err { OnErr result (of_blocks (first.new ∷ later.new.items) ≡ of_blocks (first.old ∷ later.old.items)) }
 {
     if at == 0 {
@@ -132,7 +133,8 @@ pub(crate) fn add_block<S: Marks>(
 ) -> Result<(), NoMemory>
     requires sized { AreSized first.old later.old.items }
     requires small { length block ≤ 64 }
-    ensures all { OnOk result (of_blocks (first.new ∷ later.new.items) ≡ of_blocks (first.old ∷ later.old.items) ++ block) }
+    ensures all { OnOk result (of_blocks (first.new ∷ later.new.items) ≡ of_blocks (first.old ∷ later.old.items)
+        ++ block) }
     ensures sized { OnOk result (AreSized first.new later.new.items) }
 {
     if block.is_empty() {

@@ -20,10 +20,12 @@ abbrev pub answers : Net → ℕ → List Change → List (Result (Unit {0}) Cha
 answers net s changes = map (accepts (site_of net s)) changes
 
 abbrev pub server_changes : List Change
-server_changes = to Service 1 1000000 ∷ to Service 0 4 ∷ to Service 5 4 ∷ to Servers 16 0 ∷ to Servers 17 0 ∷ to Room 0 0 ∷ to Room 4097 0 ∷ to Every 1 1 ∷ []
+server_changes = to Service 1 1000000 ∷ to Service 0 4 ∷ to Service 5 4 ∷ to Servers 16 0 ∷ to Servers 17 0 ∷ to Room
+    0 0 ∷ to Room 4097 0 ∷ to Every 1 1 ∷ []
 
 abbrev pub server_answers : List (Result (Unit {0}) ChangeFault)
-server_answers = Ok tt ∷ Err OutOfRange ∷ Err OutOfRange ∷ Ok tt ∷ Err OutOfRange ∷ Ok tt ∷ Err OutOfRange ∷ Err WrongParameter ∷ []
+server_answers = Ok tt ∷ Err OutOfRange ∷ Err OutOfRange ∷ Ok tt ∷ Err OutOfRange ∷ Ok tt ∷ Err OutOfRange ∷ Err
+    WrongParameter ∷ []
 
 abbrev pub delay_changes : List Change
 delay_changes = to Hold 0 0 ∷ to Hold 0 1000001 ∷ to Weight 1 1 ∷ []

@@ -29,7 +29,12 @@ fan_network turn = record {
   limit = 16384;
   sites =
       record { name = codes "gate"; kind = Source 3 3 2 1; stream = 1; links = link fan 2 ∷ [] }
-      ∷ record { name = codes "fan"; kind = Router turn; stream = 54; links = record { to = slow; delay = 2; weight = 4 } ∷ record { to = out; delay = 3; weight = 6 } ∷ [] }
+      ∷ record {
+        name = codes "fan";
+        kind = Router turn;
+        stream = 54;
+        links = record { to = slow; delay = 2; weight = 4 } ∷ record { to = out; delay = 3; weight = 6 } ∷ [];
+      }
       ∷ record { name = codes "slow"; kind = Delay 1 1; stream = 3; links = link out 2 ∷ [] }
       ∷ record { name = codes "out"; kind = Sink; stream = 4; links = [] } ∷ [];
 }

@@ -33,8 +33,18 @@ several_links = record {
   seed = 42;
   limit = 16384;
   sites =
-      record { name = codes "gate"; kind = Source 1 10 6 1; stream = 54; links = weighted desk 2 4 ∷ weighted hold 3 6 ∷ [] }
-      ∷ record { name = codes "desk"; kind = Server 1 5 1 10 false; stream = 54; links = weighted hold 2 4 ∷ weighted out 2 6 ∷ [] }
+      record {
+        name = codes "gate";
+        kind = Source 1 10 6 1;
+        stream = 54;
+        links = weighted desk 2 4 ∷ weighted hold 3 6 ∷ [];
+      }
+      ∷ record {
+        name = codes "desk";
+        kind = Server 1 5 1 10 false;
+        stream = 54;
+        links = weighted hold 2 4 ∷ weighted out 2 6 ∷ [];
+      }
       ∷ record {
         name = codes "hold";
         kind = Delay 0 10;

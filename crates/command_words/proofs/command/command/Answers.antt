@@ -6,8 +6,12 @@ use Rattle.command_words.proofs.command.command.Goals as goal
 
 pub returns : goal.returns
 returns c =
-    let one : app_of c.in_ok-command.command ≡ with_rule bare (option (codes "workers")) = c.in_ok-command.ensures.value ∙ ap₂ with_rule c.bare_command.ensures.value c.option_arg.ensures.rule in
+    let one : app_of c.in_ok-command.command ≡ with_rule bare (option (codes "workers")) =
+    c.in_ok-command.ensures.value ∙ ap₂ with_rule c.bare_command.ensures.value c.option_arg.ensures.rule in
     let two = c.in_ok-command-2.ensures.value ∙ ap₂ with_rule one c.option_arg-2.ensures.rule in
     let three = c.in_ok-command-3.ensures.value ∙ ap₂ with_rule two c.positional_arg.ensures.rule in
     let four = c.in_ok-command-4.ensures.value ∙ ap₂ with_rule three c.positional_arg-2.ensures.rule in
-    record { value = IfOk-weaker c.with_arg-5.result _ _ (λ m h. h ∙ ap₂ with_rule four c.positional_arg-3.ensures.rule) c.with_arg-5.ensures.value }
+    record {
+      value = IfOk-weaker c.with_arg-5.result _ _
+          (λ m h. h ∙ ap₂ with_rule four c.positional_arg-3.ensures.rule) c.with_arg-5.ensures.value;
+    }

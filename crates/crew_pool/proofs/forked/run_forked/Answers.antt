@@ -12,5 +12,6 @@ returns-clause-answers g c =
     let outs = c.in_ok-outs.outs.items in
     slots_answers _ c.args.items.items c.as_mut_slice.result.now c.run_slots.new.slots outs
     (c.as_mut_slice.ensures.value ∙ c.in_ok-slots.ensures.value) (search rules)
-    (subst (λ l. map answer_in l ≡ map Some outs) (take-written _ c.run_slots.new.slots _ (search rules)) c.in_ok-outs.ensures.value)
+    (subst (λ l. map answer_in l ≡ map Some outs) (take-written _ c.run_slots.new.slots _ (search rules))
+    c.in_ok-outs.ensures.value)
     c.run_slots.ensures.answers

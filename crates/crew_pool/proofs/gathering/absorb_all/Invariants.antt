@@ -9,5 +9,6 @@ invariant-loop-seat g l =
     (worker_deque l.owner ≡ worker_deque l.initial.owner)
     × (worker_flavor l.owner ≡ worker_flavor l.initial.owner)
     × (worker_view l.owner
-    ≡ seat_view ((worker_view l.initial.owner).parts + length l.yielded) (worker_view l.initial.owner).dealt (numbers l.all.items))
+    ≡ seat_view ((worker_view l.initial.owner).parts + length l.yielded) (worker_view l.initial.owner).dealt
+    (numbers l.all.items))
     × EachPair (AnswersTo (g.W.Work.answers l.work) g.B.Batch.items) l.all.items

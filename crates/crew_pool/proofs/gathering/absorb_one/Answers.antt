@@ -11,7 +11,8 @@ pub returns-clause-view : goal.returns-clause-view
 returns-clause-view g c =
     let owner = worker_view c.args.owner.now in
     c.absorb.ensures.rule
-    ∙ numbers-merged owner (view c.args.seat) owner.dealt c.args.all.now.items c.args.outs.items c.add_all.new.list.items
+    ∙ numbers-merged owner (view c.args.seat) owner.dealt c.args.all.now.items c.args.outs.items
+    c.add_all.new.list.items
     c.requires.view c.requires.own.0 c.in_ok-add_all.ensures.value
 
 pub returns-clause-answers : goal.returns-clause-answers

@@ -10,7 +10,13 @@ returns-then-index-i g c =
     let ps = c.loop-k.pairs.items in
     let k = c.loop-k.k in
     let res = c.remove-number.result in
-    let less : k < length ps = omega (arith, c.loop-k-test.true, c.len-k-end.ensures, c.args.pairs.now.ok.0, ap length c.loop-k.invariant.0) in
+    let less : k < length ps = omega (
+      arith,
+      c.loop-k-test.true,
+      c.len-k-end.ensures,
+      c.args.pairs.now.ok.0,
+      ap length c.loop-k.invariant.0,
+    ) in
     let same = get_or-same ps k res c.index.result.now less c.remove-number.ensures.value c.index.ensures in
     let num = ap (λ z. z.0) same ∙ c.if-index-i.true in
     let r = Without-remove answers ps k res less c.remove-number.ensures.value in

@@ -11,8 +11,11 @@ sort_answers-requires-clause-answers g c κs within =
     let answers = AnswersTo (g.W.Work.answers c.args.work.now) g.B.Batch.items in
     let owner = worker_view c.run_owner-owner.result.0 in
     let before = worker_view c.absorb_all.new.owner in
-    let done = subst (λ r. IfOk r (λ v. (owner ≡ view_after before v.items) × EachPair answers v.items × IsComplete owner)) c.in_ok-rest.was c.run_owner-owner.ensures.done in
-    rw c.in_ok-add_all.ensures.value (EachPair-append answers c.absorb_all.new.all.items c.in_ok-rest.rest.items c.in_ok-absorb_all.ensures.answers done.1)
+    let done = subst (λ r. IfOk r (λ v. (owner ≡ view_after before v.items) × EachPair answers v.items
+    × IsComplete owner)) c.in_ok-rest.was c.run_owner-owner.ensures.done in
+    rw c.in_ok-add_all.ensures.value
+    (EachPair-append answers c.absorb_all.new.all.items c.in_ok-rest.rest.items c.in_ok-absorb_all.ensures.answers
+    done.1)
 
 pub sort_answers-requires-clause-once : goal.sort_answers-requires-clause-once
 sort_answers-requires-clause-once g c κs within x =
@@ -20,9 +23,14 @@ sort_answers-requires-clause-once g c κs within x =
     let owner = worker_view c.run_owner-owner.result.0 in
     let before = worker_view c.absorb_all.new.owner in
     let rest = c.in_ok-rest.rest.items in
-    let done = subst (λ r. IfOk r (λ v. (owner ≡ view_after before v.items) × EachPair answers v.items × IsComplete owner)) c.in_ok-rest.was c.run_owner-owner.ensures.done in
+    let done = subst (λ r. IfOk r (λ v. (owner ≡ view_after before v.items) × EachPair answers v.items
+    × IsComplete owner)) c.in_ok-rest.was c.run_owner-owner.ensures.done in
     let merged = c.in_ok-absorb_all.ensures.view in
-    let parts : owner.parts ≡ 1024 = ap (λ (u : SeatView). u.parts) done.0 ∙ (ap (λ (u : SeatView). u.parts) merged ∙ c.requires.every_part) in
-    let dealt : owner.dealt ≡ c.args.tasks = ap (λ (u : SeatView). u.dealt) done.0 ∙ (ap (λ (u : SeatView). u.dealt) merged ∙ (c.requires.dealt ∙ sym c.requires.tasks)) in
-    let taken : owner.taken ≡ numbers c.add_all.new.list.items = ap (λ (u : SeatView). u.taken) done.0 ∙ (ap (λ (u : SeatView). u.taken ++ numbers rest) merged ∙ (sym (numbers-append c.absorb_all.new.all.items rest) ∙ ap numbers (sym c.in_ok-add_all.ensures.value))) in
+    let parts : owner.parts ≡ 1024 = ap (λ (u : SeatView). u.parts) done.0
+    ∙ (ap (λ (u : SeatView). u.parts) merged ∙ c.requires.every_part) in
+    let dealt : owner.dealt ≡ c.args.tasks = ap (λ (u : SeatView). u.dealt) done.0
+    ∙ (ap (λ (u : SeatView). u.dealt) merged ∙ (c.requires.dealt ∙ sym c.requires.tasks)) in
+    let taken : owner.taken ≡ numbers c.add_all.new.list.items = ap (λ (u : SeatView). u.taken) done.0
+    ∙ (ap (λ (u : SeatView). u.taken ++ numbers rest) merged
+    ∙ (sym (numbers-append c.absorb_all.new.all.items rest) ∙ ap numbers (sym c.in_ok-add_all.ensures.value))) in
     sym (ap (occurrences x) taken) ∙ (done.2 parts x ∙ ap (one_if_below x) dealt)

@@ -9,8 +9,10 @@ use Rattle.crew_pool.proofs.stealing.seat_thieves.Goals as goal
 
 pub another-seat-requires : goal.another-seat-requires
 another-seat-requires g c =
-    let e : (worker_view c.loop-worker.owner).parts ≡ 1024 - length c.loop-worker.starts.items = ap (λ (u : SeatView). u.parts) c.loop-worker.invariant.3 in
-    TasksOnce-forks g.B.Batch.items _ _ (omega (arith, e, c.loop-worker.invariant.2, c.args.workers.few, c.loop-worker-test.true))
+    let e : (worker_view c.loop-worker.owner).parts ≡ 1024 - length c.loop-worker.starts.items =
+    ap (λ (u : SeatView). u.parts) c.loop-worker.invariant.3 in
+    TasksOnce-forks g.B.Batch.items _ _
+    (omega (arith, e, c.loop-worker.invariant.2, c.args.workers.few, c.loop-worker-test.true))
 
 pub loop-worker-preserved : goal.loop-worker-preserved
 loop-worker-preserved g c =

@@ -3,4 +3,6 @@ use Rattle.decision_book.proofs.Planned.{planned_forked}
 use Rattle.decision_book.proofs.reply.decide_fork.Goals as goal
 
 pub returns-clause-planned : goal.returns-clause-planned
-returns-clause-planned c = rw c.fork_in_reserved.ensures.value (planned_forked c.args.model.now c.args.lists.now.clones c.args.new c.args.clone c.requires.planned (omega (arith, c.if-len-ge-MOST_CLONES.false, c.len.ensures.value)))
+returns-clause-planned c = rw c.fork_in_reserved.ensures.value
+    (planned_forked c.args.model.now c.args.lists.now.clones c.args.new c.args.clone c.requires.planned
+    (omega (arith, c.if-len-ge-MOST_CLONES.false, c.len.ensures.value)))

@@ -4,4 +4,5 @@ use Rattle.decision_script.specs.Printing.{item_lines, line_text}
 use Rattle.decision_script.proofs.print.push_items.Given as goal
 
 abbrev pub invariant-items : goal.invariant-items
-invariant-items l = l.out.items ++ flat_map line_text (item_lines l.analysts l.force (drop l.item-index l.items)) ≡ l.fn.out.items ++ flat_map line_text (item_lines l.analysts (length l.analysts) l.items)
+invariant-items l = l.out.items ++ flat_map line_text (item_lines l.analysts l.force (drop l.item-index l.items))
+    ≡ l.fn.out.items ++ flat_map line_text (item_lines l.analysts (length l.analysts) l.items)

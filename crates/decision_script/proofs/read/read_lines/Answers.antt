@@ -13,9 +13,14 @@ use Rattle.decision_script.proofs.read.read_lines.Goals as goal
 pub lines-preserved : goal.lines-preserved
 lines-preserved c =
     let from = c.into_iter-part-iterator.ensures.into_iter_gives in
-    let t = YieldsList-turn (YieldsList-from_slice_split _ is_newline c.args.text.now (ap split_rest from ∙ c.split-part-items.ensures.rest) (ap split_done from ∙ c.split-part-items.ensures.done) (ap split_callee from ∙ c.split-part-items.ensures.closure) (λ x r q k. search (rules, tests))) c.lines.yielded _ c.lines.yielded_by _ _ c.in-Some.part c.in-Some.is c.next.ensures.steps in
-    let part : IsPart c.args.text.now c.lines.line c.in-Some.part.now = record { within = rw c.lines.invariant.count t.0; at = rw c.lines.invariant.count t.1 } in
-    let read : after_line (c.lines.line + 1) c.lines.reader (strip_carriage_return c.in-Some.part.now) ≡ Ok c.read_line.new.self = rw (← c.without_return.ensures.value) c.in_default.ensures.ok in
+    let t = YieldsList-turn (YieldsList-from_slice_split _ is_newline c.args.text.now
+    (ap split_rest from ∙ c.split-part-items.ensures.rest) (ap split_done from ∙ c.split-part-items.ensures.done)
+    (ap split_callee from ∙ c.split-part-items.ensures.closure) (λ x r q k. search (rules, tests)))
+    c.lines.yielded _ c.lines.yielded_by _ _ c.in-Some.part c.in-Some.is c.next.ensures.steps in
+    let part : IsPart c.args.text.now c.lines.line c.in-Some.part.now =
+    record { within = rw c.lines.invariant.count t.0; at = rw c.lines.invariant.count t.1 } in
+    let read : after_line (c.lines.line + 1) c.lines.reader (strip_carriage_return c.in-Some.part.now)
+    ≡ Ok c.read_line.new.self = rw (← c.without_return.ensures.value) c.in_default.ensures.ok in
     record {
       can = search rules;
       finite = tt;
@@ -26,13 +31,21 @@ lines-preserved c =
 pub returns-clause-ok : goal.returns-clause-ok
 returns-clause-ok c =
     let from = c.into_iter-part-iterator.ensures.into_iter_gives in
-    let t = YieldsList-end (YieldsList-from_slice_split _ is_newline c.args.text.now (ap split_rest from ∙ c.split-part-items.ensures.rest) (ap split_done from ∙ c.split-part-items.ensures.done) (ap split_callee from ∙ c.split-part-items.ensures.closure) (λ x r q k. search (rules, tests))) c.lines.yielded _ c.lines.yielded_by _ _ c.in-None.is c.next.ensures.steps in
+    let t = YieldsList-end (YieldsList-from_slice_split _ is_newline c.args.text.now
+    (ap split_rest from ∙ c.split-part-items.ensures.rest) (ap split_done from ∙ c.split-part-items.ensures.done)
+    (ap split_callee from ∙ c.split-part-items.ensures.closure) (λ x r q k. search (rules, tests)))
+    c.lines.yielded _ c.lines.yielded_by _ _ c.in-None.is c.next.ensures.steps in
     lines_read c.args.text.now _ _ _ (c.lines.invariant.count ∙ t.1) c.lines.invariant.same
 
 pub returns-in-Err-clause-refused : goal.returns-in-Err-clause-refused
 returns-in-Err-clause-refused c told =
     let from = c.into_iter-part-iterator.ensures.into_iter_gives in
-    let t = YieldsList-turn (YieldsList-from_slice_split _ is_newline c.args.text.now (ap split_rest from ∙ c.split-part-items.ensures.rest) (ap split_done from ∙ c.split-part-items.ensures.done) (ap split_callee from ∙ c.split-part-items.ensures.closure) (λ x r q k. search (rules, tests))) c.lines.yielded _ c.lines.yielded_by _ _ c.in-Some.part c.in-Some.is c.next.ensures.steps in
-    let part : IsPart c.args.text.now c.lines.line c.in-Some.part.now = record { within = rw c.lines.invariant.count t.0; at = rw c.lines.invariant.count t.1 } in
-    let refused : after_line (c.lines.line + 1) c.lines.reader (strip_carriage_return c.in-Some.part.now) ≡ Err c.in-Err.fault = rw (← c.without_return.ensures.value) (c.in-Err.ensures.refused told) in
+    let t = YieldsList-turn (YieldsList-from_slice_split _ is_newline c.args.text.now
+    (ap split_rest from ∙ c.split-part-items.ensures.rest) (ap split_done from ∙ c.split-part-items.ensures.done)
+    (ap split_callee from ∙ c.split-part-items.ensures.closure) (λ x r q k. search (rules, tests)))
+    c.lines.yielded _ c.lines.yielded_by _ _ c.in-Some.part c.in-Some.is c.next.ensures.steps in
+    let part : IsPart c.args.text.now c.lines.line c.in-Some.part.now =
+    record { within = rw c.lines.invariant.count t.0; at = rw c.lines.invariant.count t.1 } in
+    let refused : after_line (c.lines.line + 1) c.lines.reader (strip_carriage_return c.in-Some.part.now)
+    ≡ Err c.in-Err.fault = rw (← c.without_return.ensures.value) (c.in-Err.ensures.refused told) in
     line_refused _ _ _ part _ _ _ c.lines.invariant.same refused

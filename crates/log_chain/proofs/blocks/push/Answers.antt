@@ -1,17 +1,21 @@
 use Rattle.std.proofs.Common.{◌≡◌, ◌++◌, ◌∷◌, [], ◌+◌, ◌-◌, ◌<◌, length, ap, ◌∙◌, arith}
 use Rattle.log_chain.proofs.Tails.{all_push_last, blocks_push_last, blocks_push_new, pushed_length, same_element, on_ok}
 use Rattle.log_chain.proofs.blocks.push.Goals as goal
-use Rattle.log_chain.proofs.blocks.push.Goals.{else-count-gt0-via-then-count-gt0+else-len-lt-BLOCK, else-count-gt0-via-else-count-gt0}
+use Rattle.log_chain.proofs.blocks.push.Goals.{else-count-gt0-via-then-count-gt0+else-len-lt-BLOCK}
+use Rattle.log_chain.proofs.blocks.push.Goals.{else-count-gt0-via-else-count-gt0}
 
 pub returns-then-len-lt-BLOCK-clause-blocks : goal.returns-then-len-lt-BLOCK-clause-blocks
 returns-then-len-lt-BLOCK-clause-blocks c =
     let blocks = c.args.blocks.now in
     let last = c.len-count.result - 1 in
     let long : length blocks.items ≡ last + 1 = omega (arith, c.len-count.ensures, blocks.ok.0) in
-    let same = same_element blocks.items last last c.index_mut.result.now c.index.result.now (omega arith) (omega (arith, long)) c.index_mut.ensures.value c.index.ensures in
-    let small : length c.index_mut.result.now < 64 = omega (arith, ap length same, c.len.ensures.value, c.if-len-lt-BLOCK.true) in
+    let same = same_element blocks.items last last c.index_mut.result.now c.index.result.now (omega arith)
+    (omega (arith, long)) c.index_mut.ensures.value c.index.ensures in
+    let small : length c.index_mut.result.now < 64 =
+    omega (arith, ap length same, c.len.ensures.value, c.if-len-lt-BLOCK.true) in
     blocks_push_last blocks.items last c.push.new.self c.requires.blocks long
-    (pushed_length c.push.result c.index_mut.result.now c.push.new.self c.args.entry c.push.ensures.ok c.push.ensures.err small)
+    (pushed_length c.push.result c.index_mut.result.now c.push.new.self c.args.entry c.push.ensures.ok
+    c.push.ensures.err small)
 
 pub returns-then-len-lt-BLOCK-clause-ok : goal.returns-then-len-lt-BLOCK-clause-ok
 returns-then-len-lt-BLOCK-clause-ok c =
@@ -24,12 +28,15 @@ returns-then-len-lt-BLOCK-clause-ok c =
 pub returns-clause-blocks : goal.returns-clause-blocks
 returns-clause-blocks c =
     let blocks = c.args.blocks.now in
-    let new : c.push-2.new.self ≡ c.args.entry ∷ [] = c.in_ok-push.ensures.ok ∙ ap (λ l. l ++ c.args.entry ∷ []) c.in_ok-block.ensures.value in
+    let new : c.push-2.new.self ≡ c.args.entry ∷ [] = c.in_ok-push.ensures.ok
+    ∙ ap (λ l. l ++ c.args.entry ∷ []) c.in_ok-block.ensures.value in
     rw c.in_ok-push-2.ensures.items
     (blocks_push_new blocks.items c.push-2.new.self c.args.entry c.requires.blocks new (λ i l long here.
     elim c.else-count-gt0.branch [
       | else-count-gt0-via-then-count-gt0+else-len-lt-BLOCK w ↦
-          let last = same_element blocks.items i (c.len-count.result - 1) l w.index.result.now (omega (arith, long, c.len-count.ensures, blocks.ok.0)) (omega (arith, long)) here w.index.ensures in
+          let last = same_element blocks.items i (c.len-count.result - 1) l w.index.result.now
+          (omega (arith, long, c.len-count.ensures, blocks.ok.0)) (omega (arith, long)) here w.index.ensures in
           omega (arith, ap length last, w.len.ensures.value, w.if-len-lt-BLOCK.false)
-      | else-count-gt0-via-else-count-gt0 w ↦ absurd (omega (arith, long, c.len-count.ensures, blocks.ok.0, w.if-count-gt0.false))
+      | else-count-gt0-via-else-count-gt0 w ↦
+          absurd (omega (arith, long, c.len-count.ensures, blocks.ok.0, w.if-count-gt0.false))
     ]))

@@ -9,5 +9,6 @@ pub overflow_add-size : goal.overflow_add-size
 overflow_add-size c =
     let stay = c.loop-stay.stay in
     let segment = c.index-segments-stay-in-loop-stay.result in
-    let more = entries_in_next c.args.segments.now (stay - 1) stay segment (omega arith) c.index-segments-stay-in-loop-stay.is (omega arith) in
+    let more = entries_in_next c.args.segments.now (stay - 1) stay segment
+    (omega arith) c.index-segments-stay-in-loop-stay.is (omega arith) in
     omega (arith, more, ap length c.deref-in-loop-stay.ensures)

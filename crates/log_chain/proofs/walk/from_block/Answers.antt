@@ -6,7 +6,12 @@ use Rattle.log_chain.proofs.walk.from_block.Goals as goal
 
 pub returns-then-i-blocks : goal.returns-then-i-blocks
 returns-then-i-blocks c = record {
-  value = c.at_end.ensures.value ∙ sym (drop_all (all_of c.args.blocks.now) c.args.at (omega (arith, all_few c.args.blocks.now c.requires.sizes, c.if-i-blocks.true)));
+  value = c.at_end.ensures.value
+      ∙ sym (drop_all (all_of c.args.blocks.now) c.args.at (omega (
+        arith,
+        all_few c.args.blocks.now c.requires.sizes,
+        c.if-i-blocks.true,
+      )));
 }
 
 pub returns-then-left-packed : goal.returns-then-left-packed
@@ -14,13 +19,19 @@ returns-then-left-packed c =
     let at = c.args.at in
     let b = c.index-blocks-i.result in
     let many = as_many c.entries.result.1.now c.entries.result.0.now b c.entries.ensures.value in
-    let short = all_short c.args.blocks.now (at / 64) (at % 64) b c.requires.sizes (omega arith) c.index-blocks-i.is (omega (arith, many, c.if-left-packed.true)) (omega arith) in
-    record { value = c.at_end-then-left-packed.ensures.value ∙ sym (drop_all (all_of c.args.blocks.now) at (omega (arith, short))) }
+    let short = all_short c.args.blocks.now (at / 64) (at % 64) b c.requires.sizes (omega arith) c.index-blocks-i.is
+    (omega (arith, many, c.if-left-packed.true)) (omega arith) in
+    record {
+      value = c.at_end-then-left-packed.ensures.value
+          ∙ sym (drop_all (all_of c.args.blocks.now) at (omega (arith, short)));
+    }
 
 pub returns : goal.returns
 returns c =
     let at = c.args.at in
     record {
-      value = walk_from_block c.entries.result.1.now c.entries.result.0.now c.args.blocks.now c.index-blocks-i.result (at / 64) (at % 64) at
-          c.requires.sizes (omega arith) c.index-blocks-i.is c.entries.ensures.value (omega (arith, c.if-left-packed.false)) (omega arith);
+      value = walk_from_block c.entries.result.1.now c.entries.result.0.now c.args.blocks.now c.index-blocks-i.result
+          (at / 64) (at % 64) at
+          c.requires.sizes (omega arith) c.index-blocks-i.is c.entries.ensures.value
+          (omega (arith, c.if-left-packed.false)) (omega arith);
     }

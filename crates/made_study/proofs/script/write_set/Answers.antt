@@ -4,5 +4,6 @@ use Rattle.made_study.proofs.script.write_set.Goals as goal
 
 pub returns : goal.returns
 returns c = record {
-  value = rw c.in_ok-write.ensures.bytes (ap (λ x. string_bytes c.args.text.now ++ x) (sym (set_of_plan-line c.args.j)));
+  value = rw c.in_ok-write.ensures.bytes
+      (ap (λ x. string_bytes c.args.text.now ++ x) (sym (set_of_plan-line c.args.j)));
 }

@@ -6,5 +6,6 @@ use Rattle.msg_route.proofs.parts.cut.Goals as goal
 
 pub returns-clause-cut : goal.returns-clause-cut
 returns-clause-cut c =
-    let value : c.loop-receiver.parts.items ≡ parts_of c.args.senders c.args.receivers.now = grind (arith, common_steps) in
+    let value : c.loop-receiver.parts.items ≡ parts_of c.args.senders c.args.receivers.now =
+    grind (arith, common_steps) in
     rw value (parts_are_cut c.args.senders c.args.receivers.now)

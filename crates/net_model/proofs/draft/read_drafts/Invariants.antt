@@ -7,6 +7,7 @@ use Rattle.net_model.proofs.draft.read_drafts.Given as goal
 abbrev pub invariant-drafts : goal.invariant-drafts
 invariant-drafts l =
     record {
-      so_far : drafts_of l.format [] 1 (map view l.fn.tables) ≡ after (map as_draft l.drafts.items) (drafts_of l.format (map as_draft l.drafts.items) (l.i + 1) (map view (drop l.i l.fn.tables)));
+      so_far : drafts_of l.format [] 1 (map view l.fn.tables) ≡ after (map as_draft l.drafts.items)
+          (drafts_of l.format (map as_draft l.drafts.items) (l.i + 1) (map view (drop l.i l.fn.tables)));
       count : length l.drafts.items ≡ l.i;
     }

@@ -8,4 +8,6 @@ pub loop-byte-preserved : goal.loop-byte-preserved
 loop-byte-preserved c =
     let within : c.loop-byte.byte-index < length c.args.bytes.now = c.loop-byte-test.true in
     ap (slice_set c.loop-byte.bytes c.loop-byte.byte-index) c.shown_byte.ensures
-    ∙ map_over_more shown c.args.bytes.now c.loop-byte.bytes c.loop-byte.byte-index _ within c.loop-byte.invariant (sym (get_or_default_zero c.loop-byte.bytes c.loop-byte.byte-index _ (omega (arith, c.loop-byte.auto.bytes, within))))
+    ∙ map_over_more shown c.args.bytes.now c.loop-byte.bytes c.loop-byte.byte-index _ within c.loop-byte.invariant
+    (sym (get_or_default_zero c.loop-byte.bytes c.loop-byte.byte-index _
+    (omega (arith, c.loop-byte.auto.bytes, within))))

@@ -5,4 +5,5 @@ use Rattle.net_model.proofs.UnknownKeys.{first_unknown}
 use Rattle.net_model.proofs.keys.only_members.Given as goal
 
 abbrev pub invariant-keys : goal.invariant-keys
-invariant-keys l = least_unknown l.fn.fields (members_view l.fn.table.entries) ≡ first_unknown l.fn.fields (members_view l.key-iterator)
+invariant-keys l = least_unknown l.fn.fields (members_view l.fn.table.entries) ≡ first_unknown l.fn.fields
+    (members_view l.key-iterator)

@@ -7,4 +7,5 @@ use Rattle.net_model.proofs.resolve.resolve_stations.Given as goal
 
 abbrev pub invariant-stations : goal.invariant-stations
 invariant-stations l =
-    sites_of l.lookahead (map as_draft l.drafts) 1 (map as_draft l.drafts) ≡ after (map as_site l.stations.items) (sites_of l.lookahead (map as_draft l.drafts) (l.i + 1) (map as_draft (drop l.i l.drafts)))
+    sites_of l.lookahead (map as_draft l.drafts) 1 (map as_draft l.drafts) ≡ after (map as_site l.stations.items)
+    (sites_of l.lookahead (map as_draft l.drafts) (l.i + 1) (map as_draft (drop l.i l.drafts)))

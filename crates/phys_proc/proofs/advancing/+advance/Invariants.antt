@@ -9,7 +9,8 @@ decreases-advance g l = size l.first.set
 
 abbrev pub invariant-loop-due : goal.invariant-loop-due
 invariant-loop-due g l = record {
-  onward : Onward l.model l.station (ends_in l.model.horizon l.ends) l.bound l.fn.first l.copy l.fn.stage.sent.items l.stage.sent.items l.fn.steps l.steps;
+  onward : Onward l.model l.station (ends_in l.model.horizon l.ends) l.bound l.fn.first l.copy l.fn.stage.sent.items
+      l.stage.sent.items l.fn.steps l.steps;
   done : l.stage.done ≡ l.fn.stage.done;
   over : l.stage.over ≡ l.fn.stage.over;
   handled : l.stage.handled + l.fn.steps ≡ l.fn.stage.handled + l.steps;

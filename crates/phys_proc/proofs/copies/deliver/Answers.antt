@@ -10,15 +10,39 @@ loop-i-preserved c =
     let d = c.index_mut.result.now in
     let h = c.loop-i.invariant.given in
     record {
-      given = ap₂ (λ l y. slice_set l c.loop-i.i y) h (c.in_ok-give.ensures.given ∙ ap f (c.index_mut.ensures.value ∙ ap (λ l. get_or l c.loop-i.i d) h))
-          ∙ changed_more f c.loop-i.i c.args.copies.now.items d (omega (arith, c.loop-i-test.true, c.loop-i.auto.i-end, c.len-i-end.ensures, c.args.copies.now.ok.0));
-      same = same_set c.loop-i.i c.loop-i.copies.items c.give.new.copy d (omega (arith, c.loop-i-test.true, c.loop-i.auto.i-end, c.len-i-end.ensures, c.args.copies.now.ok.0, ap length c.loop-i.invariant.given, length-changed (given c.args.msg c.args.set) c.loop-i.i c.args.copies.now.items)) (c.in_ok-give.ensures.same ∙ ap but_pending c.index_mut.ensures.value) ∙ c.loop-i.invariant.same;
+      given = ap₂ (λ l y. slice_set l c.loop-i.i y) h
+          (c.in_ok-give.ensures.given ∙ ap f (c.index_mut.ensures.value ∙ ap (λ l. get_or l c.loop-i.i d) h))
+          ∙ changed_more f c.loop-i.i c.args.copies.now.items d
+          (omega (arith, c.loop-i-test.true, c.loop-i.auto.i-end, c.len-i-end.ensures, c.args.copies.now.ok.0));
+      same = same_set c.loop-i.i c.loop-i.copies.items c.give.new.copy d
+          (omega (
+            arith,
+            c.loop-i-test.true,
+            c.loop-i.auto.i-end,
+            c.len-i-end.ensures,
+            c.args.copies.now.ok.0,
+            ap length c.loop-i.invariant.given,
+            length-changed (given c.args.msg c.args.set) c.loop-i.i c.args.copies.now.items,
+          ))
+          (c.in_ok-give.ensures.same ∙ ap but_pending c.index_mut.ensures.value) ∙ c.loop-i.invariant.same;
     }
 
 pub returns-clause-given : goal.returns-clause-given
-returns-clause-given c = c.loop-i.invariant.given ∙ changed_all (given c.args.msg c.args.set) c.loop-i.i c.args.copies.now.items (omega (arith, c.loop-i-test.false, c.loop-i.auto.i-end, c.len-i-end.ensures, c.args.copies.now.ok.0))
+returns-clause-given c = c.loop-i.invariant.given
+    ∙ changed_all (given c.args.msg c.args.set) c.loop-i.i c.args.copies.now.items
+    (omega (arith, c.loop-i-test.false, c.loop-i.auto.i-end, c.len-i-end.ensures, c.args.copies.now.ok.0))
 
 pub returns-in_err-give-clause-same : goal.returns-in_err-give-clause-same
 returns-in_err-give-clause-same c =
     let d = c.index_mut.result.now in
-    same_set c.loop-i.i c.loop-i.copies.items c.give.new.copy d (omega (arith, c.loop-i-test.true, c.loop-i.auto.i-end, c.len-i-end.ensures, c.args.copies.now.ok.0, ap length c.loop-i.invariant.given, length-changed (given c.args.msg c.args.set) c.loop-i.i c.args.copies.now.items)) (c.in_err-give.ensures.same ∙ ap but_pending c.index_mut.ensures.value) ∙ c.loop-i.invariant.same
+    same_set c.loop-i.i c.loop-i.copies.items c.give.new.copy d
+    (omega (
+      arith,
+      c.loop-i-test.true,
+      c.loop-i.auto.i-end,
+      c.len-i-end.ensures,
+      c.args.copies.now.ok.0,
+      ap length c.loop-i.invariant.given,
+      length-changed (given c.args.msg c.args.set) c.loop-i.i c.args.copies.now.items,
+    ))
+    (c.in_err-give.ensures.same ∙ ap but_pending c.index_mut.ensures.value) ∙ c.loop-i.invariant.same

@@ -5,7 +5,13 @@ use Rattle.phys_proc.proofs.Late.{from_time, from_none}
 use Rattle.phys_proc.proofs.copies.earliest.Goals as goal
 
 pub returns-in-Some : goal.returns-in-Some
-returns-in-Some c = record { late = from_time c.args.copy.now c.in-Some.time (c.in-Some.ensures.value ∙ ap (λ (u : StationCopy). first_time u.pending) c.copy.view_is) c.requires.sorted }
+returns-in-Some c = record {
+  late = from_time c.args.copy.now c.in-Some.time
+      (c.in-Some.ensures.value ∙ ap (λ (u : StationCopy). first_time u.pending) c.copy.view_is) c.requires.sorted;
+}
 
 pub returns-in-None : goal.returns-in-None
-returns-in-None c = record { late = from_none c.args.copy.now 18446744073709551615 (c.in-None.ensures.value ∙ ap (λ (u : StationCopy). first_time u.pending) c.copy.view_is) }
+returns-in-None c = record {
+  late = from_none c.args.copy.now 18446744073709551615
+      (c.in-None.ensures.value ∙ ap (λ (u : StationCopy). first_time u.pending) c.copy.view_is);
+}

@@ -10,5 +10,9 @@ returns-then-bound-least-clause-comes g c =
     let net = c.args.model.now in
     let ends = ends_in net.horizon c.args.ends.now in
     let s = c.args.stage.now in
-    subst (λ d. Advanced net c.args.station ends c.args.bound c.args.copy s.done d s.sent.items s.sent.items s.over s.over c.args.steps.now c.args.steps.now) (sym c.in_ok-put.ensures.more)
-    (stays net c.requires.fits.valid c.args.station ends c.args.bound c.args.copy s.done s.sent.items s.over c.args.steps.now c.requires.fits (late_before c.args.bound c.earliest-least.result c.args.copy c.if-bound-least.true c.earliest-least.ensures.late))
+    subst (λ d. Advanced net c.args.station ends c.args.bound c.args.copy s.done d s.sent.items s.sent.items s.over
+    s.over c.args.steps.now c.args.steps.now) (sym c.in_ok-put.ensures.more)
+    (stays net c.requires.fits.valid c.args.station ends c.args.bound c.args.copy s.done s.sent.items s.over
+    c.args.steps.now c.requires.fits
+    (late_before c.args.bound c.earliest-least.result c.args.copy c.if-bound-least.true
+    c.earliest-least.ensures.late))

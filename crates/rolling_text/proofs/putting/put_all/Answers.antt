@@ -13,7 +13,7 @@ loop-c-init g c = record {
   net = refl;
   clones = refl;
   margin = omega (arith, c.requires.fresh);
-  room = refl;
+  reserved = refl;
   lines = drop_of_length-le c.args.page.now.text {i = 32} (omega (arith, c.requires.fresh));
   appended = appended_nothing (g.O.Sink.bytes c.args.out.now);
   later = omega arith;
@@ -23,9 +23,11 @@ loop-c-init g c = record {
 pub roll-requires-clause-kept : goal.roll-requires-clause-kept
 roll-requires-clause-kept g c =
     let h = c.loop-c.invariant in
-    let there : c.loop-c.c < length (g.T.Traces.clones c.args.traces.now) = omega (arith, c.loop-c-test.true, c.len-c-end.ensures.value) in
-    kept_at (g.T.Traces.net c.args.traces.now) _ (g.T.Traces.clones c.args.traces.now) _ c.args.page.now.room _ c.args.keeps.now c.loop-c.c _
-    c.requires.planned h.net h.clones h.room there
+    let there : c.loop-c.c < length (g.T.Traces.clones c.args.traces.now) =
+    omega (arith, c.loop-c-test.true, c.len-c-end.ensures.value) in
+    kept_at (g.T.Traces.net c.args.traces.now) _ (g.T.Traces.clones c.args.traces.now) _ c.args.page.now.reserved _
+    c.args.keeps.now c.loop-c.c _
+    c.requires.planned h.net h.clones h.reserved there
 
 pub returns-in-Err-clause-part : goal.returns-in-Err-clause-part
 returns-in-Err-clause-part g c =
@@ -33,15 +35,20 @@ returns-in-Err-clause-part g c =
     let net = g.T.Traces.net c.args.traces.now in
     let cs = g.T.Traces.clones c.args.traces.now in
     let there : c.loop-c.c < length cs = omega (arith, c.loop-c-test.true, c.len-c-end.ensures.value) in
-    let lines : drop 32 c.roll.new.page.text ≡ body net (clone_at cs c.loop-c.c) = c.roll.ensures.lines ∙ ap₂ (λ n k. body n (clone_at k c.loop-c.c)) h.net h.clones in
-    let name : c.name.result ≡ (clone_at cs c.loop-c.c).name = c.name.ensures.value ∙ ap (λ k. (clone_at k c.loop-c.c).name) (c.roll.ensures.clones ∙ h.clones) in
-    put_part net cs c.loop-c.c there c.name.result (drop 32 c.roll.new.page.text) c.put_head-start.new.page.text c.as_bytes.result.now c.put_head-start.result
+    let lines : drop 32 c.roll.new.page.text ≡ body net (clone_at cs c.loop-c.c) =
+    c.roll.ensures.lines ∙ ap₂ (λ n k. body n (clone_at k c.loop-c.c)) h.net h.clones in
+    let name : c.name.result ≡ (clone_at cs c.loop-c.c).name =
+    c.name.ensures.value ∙ ap (λ k. (clone_at k c.loop-c.c).name) (c.roll.ensures.clones ∙ h.clones) in
+    put_part net cs c.loop-c.c there c.name.result (drop 32 c.roll.new.page.text) c.put_head-start.new.page.text
+    c.as_bytes.result.now c.put_head-start.result
     name lines c.put_head-start.ensures.text c.as_bytes.ensures.value
-    (g.O.Sink.bytes c.args.out.now) (g.O.Sink.bytes c.loop-c.out) (g.O.Sink.bytes c.put.new.self) h.appended c.in-Err.ensures.part
+    (g.O.Sink.bytes c.args.out.now) (g.O.Sink.bytes c.loop-c.out) (g.O.Sink.bytes c.put.new.self) h.appended
+    c.in-Err.ensures.part
 
 pub returns-in-Err-clause-some : goal.returns-in-Err-clause-some
 returns-in-Err-clause-some g c =
-    counted_to c.loop-c.c (length (g.T.Traces.clones c.args.traces.now)) (g.O.Sink.calls c.args.out.now) (g.O.Sink.calls c.loop-c.out) (g.O.Sink.calls c.put.new.self)
+    counted_to c.loop-c.c (length (g.T.Traces.clones c.args.traces.now)) (g.O.Sink.calls c.args.out.now)
+    (g.O.Sink.calls c.loop-c.out) (g.O.Sink.calls c.put.new.self)
     (omega (arith, c.loop-c-test.true, c.len-c-end.ensures.value)) c.loop-c.invariant.counted c.put.ensures.counted
 
 pub loop-c-preserved : goal.loop-c-preserved
@@ -50,17 +57,22 @@ loop-c-preserved g c =
     let net = g.T.Traces.net c.args.traces.now in
     let cs = g.T.Traces.clones c.args.traces.now in
     let there : c.loop-c.c < length cs = omega (arith, c.loop-c-test.true, c.len-c-end.ensures.value) in
-    let lines : drop 32 c.roll.new.page.text ≡ body net (clone_at cs c.loop-c.c) = c.roll.ensures.lines ∙ ap₂ (λ n k. body n (clone_at k c.loop-c.c)) h.net h.clones in
-    let name : c.name.result ≡ (clone_at cs c.loop-c.c).name = c.name.ensures.value ∙ ap (λ k. (clone_at k c.loop-c.c).name) (c.roll.ensures.clones ∙ h.clones) in
+    let lines : drop 32 c.roll.new.page.text ≡ body net (clone_at cs c.loop-c.c) =
+    c.roll.ensures.lines ∙ ap₂ (λ n k. body n (clone_at k c.loop-c.c)) h.net h.clones in
+    let name : c.name.result ≡ (clone_at cs c.loop-c.c).name =
+    c.name.ensures.value ∙ ap (λ k. (clone_at k c.loop-c.c).name) (c.roll.ensures.clones ∙ h.clones) in
     record {
       net = c.roll.ensures.net ∙ h.net;
       clones = c.roll.ensures.clones ∙ h.clones;
       margin = omega (arith, c.roll.ensures.margin, c.put_head-start.ensures.size);
-      room = c.put_head-start.ensures.room ∙ (c.roll.ensures.room ∙ h.room);
+      reserved = c.put_head-start.ensures.reserved ∙ (c.roll.ensures.reserved ∙ h.reserved);
       lines = c.put_head-start.ensures.lines ∙ (lines ∙ sym (next_before net cs c.loop-c.c));
-      appended = put_whole net cs c.loop-c.c there c.name.result (drop 32 c.roll.new.page.text) c.put_head-start.new.page.text c.as_bytes.result.now c.put_head-start.result
+      appended = put_whole net cs c.loop-c.c there c.name.result
+          (drop 32 c.roll.new.page.text) c.put_head-start.new.page.text c.as_bytes.result.now c.put_head-start.result
           name lines c.put_head-start.ensures.text c.as_bytes.ensures.value
-          (g.O.Sink.bytes c.args.out.now) (g.O.Sink.bytes c.loop-c.out) (g.O.Sink.bytes c.put.new.self) h.appended c.in-Ok.ensures.ok;
+          (g.O.Sink.bytes c.args.out.now) (g.O.Sink.bytes c.loop-c.out) (g.O.Sink.bytes c.put.new.self) h.appended
+          c.in-Ok.ensures.ok;
       later = omega (arith, h.later, c.in-Ok.ensures.later);
-      counted = counted_more c.loop-c.c (g.O.Sink.calls c.args.out.now) (g.O.Sink.calls c.loop-c.out) (g.O.Sink.calls c.put.new.self) h.counted c.put.ensures.counted;
+      counted = counted_more c.loop-c.c (g.O.Sink.calls c.args.out.now) (g.O.Sink.calls c.loop-c.out)
+          (g.O.Sink.calls c.put.new.self) h.counted c.put.ensures.counted;
     }

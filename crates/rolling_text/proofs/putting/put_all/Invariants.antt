@@ -12,10 +12,11 @@ invariant-loop-c g l = record {
   net : g.T.Traces.net l.traces ≡ g.T.Traces.net l.fn.traces;
   clones : g.T.Traces.clones l.traces ≡ g.T.Traces.clones l.fn.traces;
   margin : 32 ≤ length l.page.text;
-  room : l.page.room ≡ l.fn.page.room;
+  reserved : l.page.reserved ≡ l.fn.page.reserved;
   lines : drop 32 l.page.text ≡ body_before (g.T.Traces.net l.fn.traces) (g.T.Traces.clones l.fn.traces) l.c;
   appended : Appended (g.O.Sink.bytes l.fn.out)
-      (flat_map (clone_text (g.T.Traces.net l.fn.traces)) (take l.c (g.T.Traces.clones l.fn.traces))) (g.O.Sink.bytes l.out);
+      (flat_map (clone_text (g.T.Traces.net l.fn.traces)) (take l.c (g.T.Traces.clones l.fn.traces)))
+      (g.O.Sink.bytes l.out);
   later : g.O.Sink.faults l.fn.out ≤ g.O.Sink.faults l.out;
   counted : AreCounted l.c (g.O.Sink.calls l.fn.out) (g.O.Sink.calls l.out);
 }

@@ -5,11 +5,13 @@ use Rattle.rolling_text.proofs.world_traces.gather.Goals as goal
 
 pub walk_from_time-requires : goal.walk_from_time-requires
 walk_from_time-requires c = record {
-  rises = log_rises_by_time c.args.world.now c.requires.over c.args.c c.requires.there (c.loop-s.s + 1) c.log-log.result.now c.log-log.ensures.value;
+  rises = log_rises_by_time c.args.world.now c.requires.over c.args.c c.requires.there
+      (c.loop-s.s + 1) c.log-log.result.now c.log-log.ensures.value;
 }
 
 pub add-requires-clause-fit : goal.add-requires-clause-fit
-add-requires-clause-fit c = walk_fits c.args.world.now c.requires.over c.args.c c.requires.there (c.loop-s.s + 1) c.args.time
+add-requires-clause-fit c = walk_fits c.args.world.now c.requires.over c.args.c c.requires.there
+    (c.loop-s.s + 1) c.args.time
     c.log-log.result.now c.walk_from_time.result c.log-log.ensures.value c.walk_from_time.ensures.value
 
 pub returns-clause-left : goal.returns-clause-left

@@ -7,7 +7,8 @@ use Rattle.rolling_text.proofs.world_traces.gather.Given as goal
 
 abbrev pub invariant-loop-s : goal.invariant-loop-s
 invariant-loop-s l = record {
-  left : l.cursor.left ≡ merge_of_rests (simulation l.world.net) sender_of number_of (clone_at l.world.clones l.c) l.time l.s;
+  left : l.cursor.left ≡ merge_of_rests (simulation l.world.net) sender_of number_of
+      (clone_at l.world.clones l.c) l.time l.s;
   logs : l.cursor.logs ≡ l.s;
   most : l.cursor.most ≡ l.fn.cursor.most;
   within : l.s ≤ length l.world.net.sites;

@@ -10,7 +10,8 @@ pub loop-entry-init : goal.loop-entry-init
 loop-entry-init c =
     let same = ap length c.walk_from_time-walk.ensures.value in
     let short = from_short c.args.time c.args.log.now in
-    let all = ap (sum_by (λ (e : Entry Msg Line). length (entry_line c.args.model.now e))) c.walk_from_time-walk.ensures.value in
+    let all = ap (sum_by (λ (e : Entry Msg Line). length (entry_line c.args.model.now e)))
+    c.walk_from_time-walk.ensures.value in
     record {
       sum = omega (arith, all);
       bound = omega (arith, same, short, c.requires.short);

@@ -5,7 +5,8 @@ use Rattle.rolling_text.proofs.world_traces.log_len.Given as goal
 
 abbrev pub invariant-loop-entry : goal.invariant-loop-entry
 invariant-loop-entry l = record {
-  sum : l.len + sum_by (λ e. length (entry_line l.model e)) l.walk ≡ sum_by (λ e. length (entry_line l.model e)) (from_time l.time l.log);
+  sum : l.len + sum_by (λ e. length (entry_line l.model e)) l.walk ≡ sum_by (λ e. length (entry_line l.model e))
+      (from_time l.time l.log);
   bound : l.len + 256 * length l.walk ≤ 256 * 65536;
 }
 

@@ -1,4 +1,5 @@
-use Rattle.run_laws.proofs.DueTimes.{least_of-stations, least_of-with_plan, least_of-with_end, least_of-fork, next_front-forked, least-copies}
+use Rattle.run_laws.proofs.DueTimes.{least_of-stations, least_of-with_plan, least_of-with_end}
+use Rattle.run_laws.proofs.DueTimes.{least_of-fork, next_front-forked, least-copies}
 use Rattle.run_laws.proofs.laws.due_times.Goals as goal
 
 pub returns-clause-stations : goal.returns-clause-stations
@@ -17,4 +18,5 @@ pub returns-clause-front_at_fork : goal.returns-clause-front_at_fork
 returns-clause-front_at_fork g c = λ cs old front name. next_front-forked g.T.Stations.sim front cs old name
 
 pub returns-clause-copies : goal.returns-clause-copies
-returns-clause-copies g c = λ has cs front copies t there stand f. least-copies g.T.Stations.lawful g.T.Stations.to_stations has cs front copies there stand t f
+returns-clause-copies g c = λ has cs front copies t there stand f.
+    least-copies g.T.Stations.lawful g.T.Stations.to_stations has cs front copies there stand t f

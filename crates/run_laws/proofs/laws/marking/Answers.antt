@@ -4,7 +4,8 @@ use Rattle.run_laws.proofs.Spread.{part-spread_marks}
 use Rattle.run_laws.proofs.laws.marking.Goals as goal
 
 pub returns-clause-half : goal.returns-clause-half
-returns-clause-half g c = λ has meet ends half k q meets here. part-cut_by meets half (λ m k. nat_lt (g.T.Stations.sim.time m) (ends k)) k here q
+returns-clause-half g c = λ has meet ends half k q meets here.
+    part-cut_by meets half (λ m k. nat_lt (g.T.Stations.sim.time m) (ends k)) k here q
 
 pub returns-clause-half_marks : goal.returns-clause-half_marks
 returns-clause-half_marks g c = λ has meet half q meets. cut_by-within meets half q

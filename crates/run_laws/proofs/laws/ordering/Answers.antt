@@ -13,4 +13,5 @@ pub returns-clause-for_stations : goal.returns-clause-for_stations
 returns-clause-for_stations g c = due_is_for_stations g.T.Stations.lawful g.T.Stations.to_stations
 
 pub returns-clause-entries : goal.returns-clause-entries
-returns-clause-entries g c = λ k front e f there. entries_apart g.T.Stations.lawful g.T.Stations.to_stations g.met.T.Numbered.fresh k front there e f
+returns-clause-entries g c = λ k front e f there.
+    entries_apart g.T.Stations.lawful g.T.Stations.to_stations g.met.T.Numbered.fresh k front there e f

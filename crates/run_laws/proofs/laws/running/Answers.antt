@@ -5,7 +5,8 @@ use Rattle.run_laws.proofs.laws.running.Goals as goal
 pub returns-clause-reached : goal.returns-clause-reached
 returns-clause-reached g c = λ bound d ready.
     let machine = g.T.Machine in
-    let h = run_reach machine.timed machine.lawful bound bound d (omega arith) (fine_if_ready machine.timed machine.lawful d ready) in
+    let h = run_reach machine.timed machine.lawful bound bound d (omega arith)
+    (fine_if_ready machine.timed machine.lawful d ready) in
     (h.0, h.1.from_t)
 
 pub returns-clause-determined : goal.returns-clause-determined

@@ -18,6 +18,9 @@ loop-k-preserved c net =
     let sim = simulation net in
     let more = drop_more c.args.list.now k none c.loop-k-test.true in
     let number : suc k ≡ k + 1 = omega arith in
-    let e : messages_of c.insert.new.self ≡ insert msg_cmp (set_message k plan) (messages_of c.loop-k.pending) = ap messages_of c.in_ok-insert.ensures.ok ∙ messages_insert _ _ c.loop-k.pending in
-    rw e (ap (λ j. insert_all msg_cmp (planned sim j (drop (k + 1) c.args.list.now)) (insert msg_cmp (set_message k plan) (messages_of c.loop-k.pending))) (sym number)
-    ∙ (ap (λ l. insert_all msg_cmp (planned sim k l) (messages_of c.loop-k.pending)) (sym more) ∙ c.loop-k.invariant net))
+    let e : messages_of c.insert.new.self ≡ insert msg_cmp (set_message k plan) (messages_of c.loop-k.pending) =
+    ap messages_of c.in_ok-insert.ensures.ok ∙ messages_insert _ _ c.loop-k.pending in
+    rw e (ap (λ j. insert_all msg_cmp (planned sim j (drop (k + 1) c.args.list.now))
+    (insert msg_cmp (set_message k plan) (messages_of c.loop-k.pending))) (sym number)
+    ∙ (ap (λ l. insert_all msg_cmp (planned sim k l) (messages_of c.loop-k.pending)) (sym more)
+    ∙ c.loop-k.invariant net))

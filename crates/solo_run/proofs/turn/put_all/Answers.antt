@@ -12,5 +12,7 @@ pub loop-msg-preserved : goal.loop-msg-preserved
 loop-msg-preserved c =
     let none : Msg = record { key = record { time = 0; sender = 0; number = 0 }; to = 0; payload = Tick } in
     let more = drop_more c.args.sends.now c.loop-msg.msg-index none c.loop-msg-test.true in
-    let e : messages_of c.insert.new.self ≡ insert msg_cmp (get_or c.args.sends.now c.loop-msg.msg-index none) (messages_of c.loop-msg.pending) = ap messages_of c.in_ok-insert.ensures.ok ∙ messages_insert _ _ c.loop-msg.pending in
+    let e : messages_of c.insert.new.self ≡ insert msg_cmp (get_or c.args.sends.now c.loop-msg.msg-index none)
+    (messages_of c.loop-msg.pending) = ap messages_of c.in_ok-insert.ensures.ok
+    ∙ messages_insert _ _ c.loop-msg.pending in
     rw e (rw more at c.loop-msg.invariant)

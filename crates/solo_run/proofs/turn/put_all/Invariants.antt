@@ -5,4 +5,5 @@ use Rattle.solo_run.specs.SoloView.{messages_of}
 use Rattle.solo_run.proofs.turn.put_all.Given as goal
 
 abbrev pub invariant-loop-msg : goal.invariant-loop-msg
-invariant-loop-msg l = insert_all msg_cmp (drop l.msg-index l.sends) (messages_of l.pending) ≡ insert_all msg_cmp l.sends (messages_of l.fn.pending)
+invariant-loop-msg l = insert_all msg_cmp (drop l.msg-index l.sends) (messages_of l.pending)
+    ≡ insert_all msg_cmp l.sends (messages_of l.fn.pending)

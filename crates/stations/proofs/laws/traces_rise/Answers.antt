@@ -3,4 +3,5 @@ use Rattle.stations.proofs.GoodLaws.{lawful-stations, stations-to_stations, fres
 use Rattle.stations.proofs.laws.traces_rise.Goals as goal
 
 pub returns : goal.returns
-returns c net valid = trace_rises (lawful-stations net valid) (stations-to_stations net valid) (fresh-stations net valid)
+returns c net valid = trace_rises (lawful-stations net valid) (stations-to_stations net valid)
+    (fresh-stations net valid)

@@ -5,7 +5,9 @@ use Rattle.stations.proofs.Places.{all_at}
 use Rattle.stations.proofs.sender.pick_by_model.Goals as goal
 
 pub pick_link-requires-clause-valid : goal.pick_link-requires-clause-valid
-pick_link-requires-clause-valid c = rw (c.as_slice.ensures.value, c.link_weights-weights.ensures) (are_weights c.args.links.now c.requires.valid)
+pick_link-requires-clause-valid c = rw (c.as_slice.ensures.value, c.link_weights-weights.ensures)
+    (are_weights c.args.links.now c.requires.valid)
 
 pub returns-clause-near : goal.returns-clause-near
-returns-clause-near c = all_at (λ (l : Link). l.delay ≤ 1000000) c.args.links.now _ c.pick_link.result c.requires.valid.near c.pick_link.ensures.link
+returns-clause-near c = all_at (λ (l : Link). l.delay ≤ 1000000) c.args.links.now _ c.pick_link.result
+    c.requires.valid.near c.pick_link.ensures.link

@@ -11,11 +11,13 @@ starts-preserved c =
     let site = as_site c.args.station.now in
     let before = reaction c.starts.server (outgoing c.starts.sender c.starts.out.items) in
     let after = reaction c.start_next.new.server (outgoing c.start_next.new.sender c.start_next.new.out.items) in
-    let one : IsOneMore before after = subst (IsOneMore before) c.start_next.ensures (start_next-one net site c.args.now before.state before.out) in
+    let one : IsOneMore before after =
+    subst (IsOneMore before) c.start_next.ensures (start_next-one net site c.args.now before.state before.out) in
     let more = start_times-more net site c.args.now c.args.times c.starts.counter before c.starts-test.true in
     let inv = c.starts.invariant in
     record {
-      rest = ap (start_times (c.args.times - (c.starts.counter + 1)) net site c.args.now) (sym c.start_next.ensures) ∙ (sym more ∙ inv.rest);
+      rest = ap (start_times (c.args.times - (c.starts.counter + 1)) net site c.args.now) (sym c.start_next.ensures)
+          ∙ (sym more ∙ inv.rest);
       room = omega (arith, one.sends, inv.room);
       next = omega (arith, one.next, inv.next);
       draws = omega (arith, one.draws, inv.draws);

@@ -7,8 +7,10 @@ use Rattle.stations.proofs.server.start_many.Given as goal
 
 abbrev pub invariant-starts : goal.invariant-starts
 invariant-starts l = record {
-  rest : start_times (l.times - l.counter) l.model (as_site l.station) l.now (reaction l.server (outgoing l.sender l.out.items))
-      ≡ start_times l.times l.model (as_site l.station) l.now (reaction l.initial.server (outgoing l.initial.sender l.initial.out.items));
+  rest : start_times (l.times - l.counter) l.model (as_site l.station) l.now
+      (reaction l.server (outgoing l.sender l.out.items))
+      ≡ start_times l.times l.model (as_site l.station) l.now
+      (reaction l.initial.server (outgoing l.initial.sender l.initial.out.items));
   room : array_vec_len l.out ≤ l.counter;
   next : l.sender.next ≤ l.initial.sender.next + l.counter;
   draws : l.sender.draws.count ≤ l.initial.sender.draws.count + l.counter;

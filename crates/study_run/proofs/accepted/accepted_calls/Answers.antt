@@ -14,7 +14,8 @@ returns-clause-accepted c =
     let net = c.args.book.now.net in
     let events = c.args.book.now.events in
     let none = sym c.fronts.ensures.value ∙ no_fronts c.fronts.result.now c.if-not-is_empty.ensures in
-    let all = accepted_is_taken net events c.front-front.ensures.right none (subst EachAccepted c.calls.ensures.value (c.if-not-each_accepted.ensures.each refl)) in
+    let all = accepted_is_taken net events c.front-front.ensures.right none
+    (subst EachAccepted c.calls.ensures.value (c.if-not-each_accepted.ensures.each refl)) in
     subst (AreAccepted net (base ∷ []) 0) (sym c.calls-2.ensures.value) all.accepted
 
 pub returns-clause-clones : goal.returns-clause-clones
@@ -22,5 +23,6 @@ returns-clause-clones c =
     let net = c.args.book.now.net in
     let events = c.args.book.now.events in
     let none = sym c.fronts.ensures.value ∙ no_fronts c.fronts.result.now c.if-not-is_empty.ensures in
-    let all = accepted_is_taken net events c.front-front.ensures.right none (subst EachAccepted c.calls.ensures.value (c.if-not-each_accepted.ensures.each refl)) in
+    let all = accepted_is_taken net events c.front-front.ensures.right none
+    (subst EachAccepted c.calls.ensures.value (c.if-not-each_accepted.ensures.each refl)) in
     ap (clones_after_calls net (base ∷ [])) c.calls-2.ensures.value ∙ all.clones

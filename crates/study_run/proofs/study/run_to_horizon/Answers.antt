@@ -26,46 +26,62 @@ window-init g c =
 
 pub window-requires-clause-above : goal.window-requires-clause-above
 window-requires-clause-above g c κs within =
-    let below : c.window.world.front < c.args.model.now.horizon = omega (arith, c.window-test.true, c.front.ensures.value, c.horizon.ensures.value) in
-    rises_in c.args.model.now c.window.world.net c.args.world.clones c.window.world.clones c.window.world.front c.bound-bound.result
+    let below : c.window.world.front < c.args.model.now.horizon =
+    omega (arith, c.window-test.true, c.front.ensures.value, c.horizon.ensures.value) in
+    rises_in c.args.model.now c.window.world.net c.args.world.clones c.window.world.clones c.window.world.front
+    c.bound-bound.result
     c.window.invariant.net c.window.invariant.clones c.bound-bound.ensures.value below c.horizon.ensures.valid
 
 pub returns-in-Err-EventLimit-clause-fault : goal.returns-in-Err-EventLimit-clause-fault
 returns-in-Err-EventLimit-clause-fault g c =
-    let below : c.window.world.front < c.args.model.now.horizon = omega (arith, c.window-test.true, c.front.ensures.value, c.horizon.ensures.value) in
-    let stops = stops_in c.args.model.now c.window.world.net c.args.world.clones c.window.world.clones c.window.world.front c.bound-bound.result
+    let below : c.window.world.front < c.args.model.now.horizon =
+    omega (arith, c.window-test.true, c.front.ensures.value, c.horizon.ensures.value) in
+    let stops = stops_in c.args.model.now c.window.world.net c.args.world.clones c.window.world.clones
+    c.window.world.front c.bound-bound.result
     c.window.invariant.net c.window.invariant.clones c.bound-bound.ensures.value below
-    c.args.steps.now c.window.steps c.window-in-window.new.steps c.in-Err-EventLimit.station c.in-Err-EventLimit.who c.in-Err-EventLimit.field-0-2
+    c.args.steps.now c.window.steps c.window-in-window.new.steps c.in-Err-EventLimit.station c.in-Err-EventLimit.who
+    c.in-Err-EventLimit.field-0-2
     c.horizon.ensures.valid c.window.invariant.come c.window.invariant.steps
-    (subst (λ e. IsFault c.window.world.net c.window.world.clones c.window.world.front c.bound-bound.result c.window.steps c.window-in-window.new.steps e)
+    (subst (λ e. IsFault c.window.world.net c.window.world.clones c.window.world.front c.bound-bound.result
+    c.window.steps c.window-in-window.new.steps e)
     c.in-Err-EventLimit.field-0-is c.in-Err-EventLimit.ensures.fault) in
-    both (StopsAll c.args.model.now c.args.world.clones c.args.steps.now c.window-in-window.new.steps) (sym c.in-Err-EventLimit.station-is) (sym c.in-Err-EventLimit.who-is) stops
+    both (StopsAll c.args.model.now c.args.world.clones c.args.steps.now c.window-in-window.new.steps)
+    (sym c.in-Err-EventLimit.station-is) (sym c.in-Err-EventLimit.who-is) stops
 
 pub window-smaller : goal.window-smaller
 window-smaller g c =
-    let below : c.window.world.front < c.args.model.now.horizon = omega (arith, c.window-test.true, c.front.ensures.value, c.horizon.ensures.value) in
-    let later = rises_in c.args.model.now c.window.world.net c.args.world.clones c.window.world.clones c.window.world.front c.bound-bound.result
+    let below : c.window.world.front < c.args.model.now.horizon =
+    omega (arith, c.window-test.true, c.front.ensures.value, c.horizon.ensures.value) in
+    let later = rises_in c.args.model.now c.window.world.net c.args.world.clones c.window.world.clones
+    c.window.world.front c.bound-bound.result
     c.window.invariant.net c.window.invariant.clones c.bound-bound.ensures.value below c.horizon.ensures.valid in
     let is = c.in-Ok.ensures.front in
-    let less : c.args.model.now.horizon - c.in-Ok.world.front < c.args.model.now.horizon - c.window.world.front = omega (arith, below, later, is) in
+    let less : c.args.model.now.horizon - c.in-Ok.world.front < c.args.model.now.horizon - c.window.world.front =
+    omega (arith, below, later, is) in
     less
 
 pub window-preserved : goal.window-preserved
 window-preserved g c =
-    let below : c.window.world.front < c.args.model.now.horizon = omega (arith, c.window-test.true, c.front.ensures.value, c.horizon.ensures.value) in
+    let below : c.window.world.front < c.args.model.now.horizon =
+    omega (arith, c.window-test.true, c.front.ensures.value, c.horizon.ensures.value) in
     record {
       net = c.in-Ok.ensures.net ∙ c.window.invariant.net;
       clones = c.in-Ok.ensures.clones ∙ c.window.invariant.clones;
-      come = comes_in c.args.model.now c.window.world.net c.args.world.clones c.window.world.clones c.window.world.front c.bound-bound.result
+      come = comes_in c.args.model.now c.window.world.net c.args.world.clones c.window.world.clones
+          c.window.world.front c.bound-bound.result
           c.window.invariant.net c.window.invariant.clones c.bound-bound.ensures.value below
-          c.in-Ok.world.front c.in-Ok.ensures.front c.horizon.ensures.valid c.window.invariant.come c.in-Ok.ensures.short;
-      steps = steps_in c.args.model.now c.window.world.net c.args.world.clones c.window.world.clones c.window.world.front c.bound-bound.result
+          c.in-Ok.world.front c.in-Ok.ensures.front c.horizon.ensures.valid c.window.invariant.come
+          c.in-Ok.ensures.short;
+      steps = steps_in c.args.model.now c.window.world.net c.args.world.clones c.window.world.clones
+          c.window.world.front c.bound-bound.result
           c.window.invariant.net c.window.invariant.clones c.bound-bound.ensures.value below
-          c.in-Ok.world.front c.args.steps.now c.window.steps c.window-in-window.new.steps c.in-Ok.ensures.front c.window.invariant.steps c.in-Ok.ensures.steps;
+          c.in-Ok.world.front c.args.steps.now c.window.steps c.window-in-window.new.steps c.in-Ok.ensures.front
+          c.window.invariant.steps c.in-Ok.ensures.steps;
     }
 
 pub returns-clause-within : goal.returns-clause-within
 returns-clause-within g c =
     none_within c.args.model.now c.args.world.clones
     (within_horizon c.args.model.now c.args.world.clones c.horizon.ensures.valid
-    (comes_last c.args.model.now c.args.world.clones c.window.world.front (omega (arith, c.window-test.false, c.front.ensures.value, c.horizon.ensures.value)) c.window.invariant.come))
+    (comes_last c.args.model.now c.args.world.clones c.window.world.front
+    (omega (arith, c.window-test.false, c.front.ensures.value, c.horizon.ensures.value)) c.window.invariant.come))

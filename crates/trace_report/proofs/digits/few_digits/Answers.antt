@@ -1,5 +1,6 @@
 use Rattle.std.proofs.Common.{sym, arith}
-use Rattle.trace_report.proofs.Tenths.{one_digit, two_digits, three_digits, four_digits, five_digits, six_digits, seven_digits, eight_digits, nine_digits, ten_digits}
+use Rattle.trace_report.proofs.Tenths.{one_digit, two_digits, three_digits, four_digits, five_digits}
+use Rattle.trace_report.proofs.Tenths.{six_digits, seven_digits, eight_digits, nine_digits, ten_digits}
 use Rattle.trace_report.proofs.digits.few_digits.Goals as goal
 
 pub returns-then-n-lt10-clause-count : goal.returns-then-n-lt10-clause-count

@@ -3,4 +3,5 @@ use Rattle.trace_report.proofs.Params.{param_word-short}
 use Rattle.trace_report.proofs.line.word_of.Goals as goal
 
 pub returns-clause-short : goal.returns-clause-short
-returns-clause-short c = subst (λ l. length l ≤ 7) (sym (c.as_bytes.ensures.value ∙ c.word.ensures.value)) (param_word-short c.args.param)
+returns-clause-short c = subst (λ l. length l ≤ 7) (sym (c.as_bytes.ensures.value ∙ c.word.ensures.value))
+    (param_word-short c.args.param)

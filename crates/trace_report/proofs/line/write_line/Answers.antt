@@ -20,7 +20,7 @@ returns-clause-place c =
     let whole = ap length (returns-clause-text c) in
     let after = length-take-le c.put.result c.put.new.bytes (omega (
       arith,
-      c.requires.room,
+      c.requires.free,
       c.put.ensures.size,
       c.put_counts-at.ensures.size,
       c.put-at-2.ensures.size,
@@ -34,6 +34,6 @@ returns-clause-place c =
       c.put-at.ensures.place,
       c.put_key-at.ensures.near,
     )) in
-    let before = length-take-le c.args.at c.args.bytes.now (omega (arith, c.requires.room)) in
+    let before = length-take-le c.args.at c.args.bytes.now (omega (arith, c.requires.free)) in
     let joined = length-append (take c.args.at c.args.bytes.now) line in
     omega (arith, whole, after, before, joined)

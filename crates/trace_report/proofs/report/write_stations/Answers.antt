@@ -8,8 +8,12 @@ use Rattle.trace_report.proofs.report.write_stations.Goals as goal
 
 pub loop-s-preserved : goal.loop-s-preserved
 loop-s-preserved c =
-    let more = station_lines_more c.args.model.now c.args.figures.now c.loop-s.s (as_site c.station.result.now) (record { copies = 0; handled = 0; alone = 0 }) (take c.args.start c.args.bytes.now) (omega arith) (omega arith) c.station.ensures.value in
-    (cc (more, c.write_figures-at.ensures.text, c.loop-s.invariant.0), omega (arith, c.write_figures-at.ensures.near, c.loop-s.invariant.1))
+    let more = station_lines_more c.args.model.now c.args.figures.now c.loop-s.s (as_site c.station.result.now)
+    (record { copies = 0; handled = 0; alone = 0 }) (take c.args.start c.args.bytes.now) (omega arith)
+    (omega arith) c.station.ensures.value in (
+      cc (more, c.write_figures-at.ensures.text, c.loop-s.invariant.0),
+      omega (arith, c.write_figures-at.ensures.near, c.loop-s.invariant.1),
+    )
 
 pub returns-clause-text : goal.returns-clause-text
 returns-clause-text c =

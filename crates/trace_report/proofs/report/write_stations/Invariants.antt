@@ -5,5 +5,6 @@ use Rattle.trace_report.proofs.report.write_stations.Given as goal
 
 abbrev pub invariant-loop-s : goal.invariant-loop-s
 invariant-loop-s l =
-    (take l.at l.bytes ≡ take l.start l.initial.bytes ++ flat_map (λ beside. station_line beside.0 beside.1) (take l.s (zip l.model.sites l.figures)))
+    (take l.at l.bytes ≡ take l.start l.initial.bytes ++ flat_map (λ beside. station_line beside.0 beside.1)
+    (take l.s (zip l.model.sites l.figures)))
     × (l.at ≤ l.start + 128 * l.s)

@@ -5,5 +5,6 @@ use Rattle.trace_report.proofs.trace.trace_text.Given as goal
 
 abbrev pub invariant-loop-entry : goal.invariant-loop-entry
 invariant-loop-entry l =
-    (l.text.items ≡ codes "clone " ++ l.name ++ codes "\n" ++ flat_map (entry_line l.model) (take l.entry-index l.entries))
+    (l.text.items ≡ codes "clone " ++ l.name ++ codes "\n" ++ flat_map (entry_line l.model)
+    (take l.entry-index l.entries))
     × (length l.page ≡ 512)

@@ -6,14 +6,23 @@ use Rattle.world_core.proofs.Delivering.{delivered_more, still_numbered}
 use Rattle.world_core.proofs.delivery.deliver_all.Goals as goal
 
 pub deliver_to-requires : goal.deliver_to-requires
-deliver_to-requires c = record { numbered = still_numbered (take c.loop-pair.pair-index c.args.sent.now) c.args.procs.now.items c.loop-pair.procs.items c.requires.numbered c.loop-pair.invariant }
+deliver_to-requires c = record {
+  numbered = still_numbered (take c.loop-pair.pair-index c.args.sent.now)
+      c.args.procs.now.items c.loop-pair.procs.items c.requires.numbered c.loop-pair.invariant;
+}
 
 pub loop-pair-preserved : goal.loop-pair-preserved
 loop-pair-preserved c =
     let ms = c.args.sent.now in
     let i = c.loop-pair.pair-index in
-    subst (λ l. AllDelivered l c.args.procs.now.items c.deliver_to.new.procs.items) (sym (take_next ms i c.pair-item.result c.loop-pair-test.true c.pair-item.is))
-    (delivered_more (take i ms) (c.pair-item.result ∷ []) c.args.procs.now.items c.loop-pair.procs.items c.deliver_to.new.procs.items c.loop-pair.invariant c.in_ok-deliver_to.ensures.given)
+    subst (λ l. AllDelivered l c.args.procs.now.items c.deliver_to.new.procs.items)
+    (sym (take_next ms i c.pair-item.result c.loop-pair-test.true c.pair-item.is))
+    (delivered_more (take i ms) (c.pair-item.result ∷ []) c.args.procs.now.items c.loop-pair.procs.items
+    c.deliver_to.new.procs.items c.loop-pair.invariant c.in_ok-deliver_to.ensures.given)
 
 pub returns : goal.returns
-returns c = record { given = subst (λ l. AllDelivered l c.args.procs.now.items c.loop-pair.procs.items) (take_all c.loop-pair.pair-index c.args.sent.now (let l = c.loop-pair-test.false in omega (arith, l))) c.loop-pair.invariant }
+returns c = record {
+  given = subst (λ l. AllDelivered l c.args.procs.now.items c.loop-pair.procs.items)
+      (take_all c.loop-pair.pair-index c.args.sent.now (let l = c.loop-pair-test.false in omega (arith, l)))
+      c.loop-pair.invariant;
+}

@@ -1,6 +1,7 @@
 use Rattle.std.proofs.Common.{◌-◌, arith}
 use Rattle.world_core.proofs.Delivering.{to_none, to_one}
-use Rattle.world_core.proofs.delivery.deliver_to.Goals.{else-msg-ge1-via-then-msg-ge1+else-msg-len, else-msg-ge1-via-else-msg-ge1}
+use Rattle.world_core.proofs.delivery.deliver_to.Goals.{else-msg-ge1-via-then-msg-ge1+else-msg-len}
+use Rattle.world_core.proofs.delivery.deliver_to.Goals.{else-msg-ge1-via-else-msg-ge1}
 use Rattle.world_core.proofs.delivery.deliver_to.Goals as goal
 
 pub returns-in_ok-deliver : goal.returns-in_ok-deliver
@@ -10,8 +11,10 @@ returns-in_ok-deliver c =
     let many = c.len.ensures in
     let d = c.in_ok-deliver.ensures in
     record {
-      given = to_one c.args.msg c.args.set c.args.procs.now.items (c.args.msg.to - 1) c.index_mut.result.now c.deliver.new.self
-          (omega (arith, one, few, many)) (omega (arith, one)) c.index_mut.ensures.value d.given d.station d.living d.handled d.proc;
+      given = to_one c.args.msg c.args.set c.args.procs.now.items (c.args.msg.to - 1) c.index_mut.result.now
+          c.deliver.new.self
+          (omega (arith, one, few, many)) (omega (arith, one)) c.index_mut.ensures.value d.given d.station d.living
+          d.handled d.proc;
     }
 
 pub returns-else-msg-ge1 : goal.returns-else-msg-ge1

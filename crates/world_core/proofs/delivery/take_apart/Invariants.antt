@@ -8,5 +8,6 @@ abbrev pub invariant-loop-flow : goal.invariant-loop-flow
 invariant-loop-flow l =
     (goal.iterator-loop-flow).can_next l.flow-iterator ×
     (goal.iterator-loop-flow).is_finite l.flow-iterator ×
-    (l.procs.items ++ map (λ (f : Flow). f.done) (into_iter_items l.flow-iterator) ≡ map (λ (f : Flow). f.done) l.fn.flows.items) ×
+    (l.procs.items ++ map (λ (f : Flow). f.done) (into_iter_items l.flow-iterator)
+    ≡ map (λ (f : Flow). f.done) l.fn.flows.items) ×
     (l.sent.items ++ all_sent (into_iter_items l.flow-iterator) ≡ all_sent l.fn.flows.items)

@@ -13,7 +13,9 @@ overflow_add-sum c =
     let few = c.requires.few in
     let l = alone_within xs c.loop-copy.copy-index x c.loop-copy-test.true c.copy-item.is c.requires.short in
     let a = c.loop-copy.invariant in
-    let b : c.len.result * c.len-in-loop-copy.result ≡ size x.set * length x.log = ap₂ (λ m n. m * n) (c.len.ensures.value ∙ ap size c.set.ensures.value) (c.len-in-loop-copy.ensures.value ∙ ap length c.log.ensures.value) in
+    let b : c.len.result * c.len-in-loop-copy.result ≡ size x.set * length x.log =
+    ap₂ (λ m n. m * n) (c.len.ensures.value ∙ ap size c.set.ensures.value) (c.len-in-loop-copy.ensures.value
+    ∙ ap length c.log.ensures.value) in
     omega (arith, l, a, b, few)
 
 pub loop-copy-preserved : goal.loop-copy-preserved
@@ -21,8 +23,15 @@ loop-copy-preserved c =
     let xs = c.args.copies.now in
     let x = c.copy-item.result in
     let i = c.loop-copy.copy-index in
-    let b : c.len.result * c.len-in-loop-copy.result ≡ size x.set * length x.log = ap₂ (λ m n. m * n) (c.len.ensures.value ∙ ap size c.set.ensures.value) (c.len-in-loop-copy.ensures.value ∙ ap length c.log.ensures.value) in
-    ap₂ (λ m n. m + n) c.loop-copy.invariant b ∙ sym (alone_next (take i xs) x) ∙ ap handled_alone (sym (take_next xs i x c.loop-copy-test.true c.copy-item.is))
+    let b : c.len.result * c.len-in-loop-copy.result ≡ size x.set * length x.log =
+    ap₂ (λ m n. m * n) (c.len.ensures.value ∙ ap size c.set.ensures.value) (c.len-in-loop-copy.ensures.value
+    ∙ ap length c.log.ensures.value) in
+    ap₂ (λ m n. m + n) c.loop-copy.invariant b ∙ sym (alone_next (take i xs) x)
+    ∙ ap handled_alone (sym (take_next xs i x c.loop-copy-test.true c.copy-item.is))
 
 pub returns : goal.returns
-returns c = record { value = c.loop-copy.invariant ∙ ap handled_alone (take_all c.loop-copy.copy-index c.args.copies.now (let l = c.loop-copy-test.false in omega (arith, l))) }
+returns c = record {
+  value = c.loop-copy.invariant
+      ∙ ap handled_alone (take_all c.loop-copy.copy-index c.args.copies.now (let l = c.loop-copy-test.false in
+      omega (arith, l)));
+}

@@ -15,12 +15,17 @@ returns c =
     let h = c.loop-i.invariant in
     let first = c.in_ok-extend_from_slice.ensures.items in
     let second = c.in_ok-extend_from_slice-2.ensures.items in
-    let rest_of_xs : take (length xs - i) (drop i xs) ≡ drop i xs = take_all (length xs - i) (drop i xs) (let l = length-drop i xs in omega (arith, l)) in
-    let rest_of_ys : take (length ys - j) (drop j ys) ≡ drop j ys = take_all (length ys - j) (drop j ys) (let l = length-drop j ys in omega (arith, l)) in
-    let whole : c.extend_from_slice-2.new.self.items ≡ (out ++ drop i xs) ++ drop j ys = second ∙ ap₂ (λ a b. a ++ b) (first ∙ ap (λ l. out ++ l) rest_of_xs) rest_of_ys in
+    let rest_of_xs : take (length xs - i) (drop i xs) ≡ drop i xs =
+    take_all (length xs - i) (drop i xs) (let l = length-drop i xs in omega (arith, l)) in
+    let rest_of_ys : take (length ys - j) (drop j ys) ≡ drop j ys =
+    take_all (length ys - j) (drop j ys) (let l = length-drop j ys in omega (arith, l)) in
+    let whole : c.extend_from_slice-2.new.self.items ≡ (out ++ drop i xs) ++ drop j ys =
+    second ∙ ap₂ (λ a b. a ++ b) (first ∙ ap (λ l. out ++ l) rest_of_xs) rest_of_ys in
     record {
       value = whole ∙ elim c.loop-i-test.branch [
-        | then-loop-i-test+else-j-ys w ↦ let l = w.if-j-ys.false in first_left by_key xs ys out i j h.so_far (omega (arith, l))
-        | else-loop-i-test w ↦ let l = w.loop-i-test.false in second_left by_key xs ys out i j h.so_far (omega (arith, l))
+        | then-loop-i-test+else-j-ys w ↦ let l = w.if-j-ys.false in
+            first_left by_key xs ys out i j h.so_far (omega (arith, l))
+        | else-loop-i-test w ↦ let l = w.loop-i-test.false in
+            second_left by_key xs ys out i j h.so_far (omega (arith, l))
       ];
     }

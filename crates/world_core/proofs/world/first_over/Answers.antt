@@ -8,7 +8,8 @@ use Rattle.world_core.proofs.world.first_over.Goals as goal
 pub returns-in-Some-clause-some : goal.returns-in-Some-clause-some
 returns-in-Some-clause-some c = record {
   flow = c.index-flows-i.result;
-  is_there = got_at c.args.flows.now c.loop-i.i c.index-flows-i.result (omega (arith, c.loop-i-test.true, c.loop-i.auto.i-end)) c.index-flows-i.is;
+  is_there = got_at c.args.flows.now c.loop-i.i c.index-flows-i.result
+      (omega (arith, c.loop-i-test.true, c.loop-i.auto.i-end)) c.index-flows-i.is;
   first = subst (λ (x : Flow). IsFirst x.over c.in-Some.who) (sym c.index-flows-i.is) c.in-Some.ensures.some;
   none_before = c.loop-i.invariant;
 }
@@ -16,8 +17,10 @@ returns-in-Some-clause-some c = record {
 pub loop-i-preserved : goal.loop-i-preserved
 loop-i-preserved c = λ j f l got. elim (cases_eq j c.loop-i.i) [
   | inl e ↦
-      let there = got_at c.args.flows.now c.loop-i.i c.index-flows-i.result (omega (arith, c.loop-i-test.true, c.loop-i.auto.i-end)) c.index-flows-i.is in
-      let same : f ≡ c.index-flows-i.result = one_got c.args.flows.now j c.loop-i.i f c.index-flows-i.result e got there in
+      let there = got_at c.args.flows.now c.loop-i.i c.index-flows-i.result
+      (omega (arith, c.loop-i-test.true, c.loop-i.auto.i-end)) c.index-flows-i.is in
+      let same : f ≡ c.index-flows-i.result =
+      one_got c.args.flows.now j c.loop-i.i f c.index-flows-i.result e got there in
       ap (λ (x : Flow). x.over) same ∙ ap (λ (x : Flow). x.over) c.index-flows-i.is ∙ c.in_default.ensures.none
   | inr n ↦ c.loop-i.invariant j f (omega (arith, l, n)) got
 ]

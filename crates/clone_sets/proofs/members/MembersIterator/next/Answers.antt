@@ -18,4 +18,5 @@ returns-clause-steps c = stepped c
 
 pub returns-clause-goes : goal.returns-clause-goes
 returns-clause-goes c =
-    let shorter = ap length (stepped c) in record { on = λ _. (tt, tt, omega (arith, shorter)); keeps = tt; rests = λ _. tt }
+    let shorter = ap length (stepped c) in
+    record { on = λ _. (tt, tt, omega (arith, shorter)); keeps = tt; rests = λ _. tt }

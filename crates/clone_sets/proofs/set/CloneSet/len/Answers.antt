@@ -9,4 +9,9 @@ pub returns : goal.returns
 returns c =
     let value = set_of-size _ _ _ _ c.self.invariant ∙ ap size c.self.view_is in
     let below = subst (λ s. s < 2 ^ 256) c.self.view_is (set_of-lt _ _ _ _ c.self.invariant) in
-    record { value = value; members = value ∙ sym (length-members c.args.self below); limit = λ d h. below_limit c.args.self 256 d below h }
+    record {
+      value = value;
+      members = value ∙ sym (length-members c.args.self below);
+      limit = λ d h.
+          below_limit c.args.self 256 d below h;
+    }

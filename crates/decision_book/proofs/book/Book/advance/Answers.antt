@@ -6,9 +6,13 @@ use Rattle.decision_book.proofs.book.Book.advance.Goals as goal
 pub invariant_of-self-2 : goal.invariant_of-self-2
 invariant_of-self-2 c =
     let b = c.self.inside in
-    rw c.in_ok-push.ensures.ok (advanced b.model.value b.lists b.calls b.fronts b.front c.args.front c.self.invariant (rw (← c.self.view_is, c.self.invariant.stands) at c.requires.above) (rw (← c.self.view_is) at c.requires.within))
+    rw c.in_ok-push.ensures.ok (advanced b.model.value b.lists b.calls b.fronts b.front c.args.front c.self.invariant
+    (rw (← c.self.view_is, c.self.invariant.stands) at c.requires.above)
+    (rw (← c.self.view_is) at c.requires.within))
 
 pub returns-clause-ok : goal.returns-clause-ok
 returns-clause-ok c =
     let b = c.self.inside in
-    rw (c.in_ok-push.ensures.ok, ← c.self.view_is) (ap (λ (es : List Event). record { net = b.model.value; events = es }) (journal_advanced b.model.value b.lists b.calls b.fronts b.front c.args.front c.self.invariant))
+    rw (c.in_ok-push.ensures.ok, ← c.self.view_is)
+    (ap (λ (es : List Event). record { net = b.model.value; events = es })
+    (journal_advanced b.model.value b.lists b.calls b.fronts b.front c.args.front c.self.invariant))

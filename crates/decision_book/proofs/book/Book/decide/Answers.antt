@@ -10,40 +10,61 @@ pub invariant_of-self : goal.invariant_of-self
 invariant_of-self c =
     let b = c.self.inside in
     rw c.in-Ok.ensures.ok (called b.model.value b.lists _ b.calls b.fronts b.front _ c.self.invariant
-    (record { stamp = c.len.ensures.value; answer = rw (← c.len-calls.ensures.value, ← c.deref.ensures) c.decide_by_table-reply.ensures.reply; not_full = sym c.if-not-fills_up.ensures.value })
-    (rw (← c.deref.ensures) c.decide_by_table-reply.ensures.lists) (rw (← c.deref.ensures) c.decide_by_table-reply.ensures.planned))
+    (record {
+      stamp = c.len.ensures.value;
+      answer = rw (← c.len-calls.ensures.value, ← c.deref.ensures) c.decide_by_table-reply.ensures.reply;
+      not_full =
+          sym c.if-not-fills_up.ensures.value;
+    })
+    (rw (← c.deref.ensures) c.decide_by_table-reply.ensures.lists)
+    (rw (← c.deref.ensures) c.decide_by_table-reply.ensures.planned))
 
 pub returns-in-Ok-clause-journal : goal.returns-in-Ok-clause-journal
 returns-in-Ok-clause-journal c =
     let b = c.self.inside in
-    rw (c.in-Ok.ensures.ok, ← c.self.view_is) (ap (λ (es : List Event). record { net = b.model.value; events = es }) (journal_called b.model.value b.lists b.calls b.fronts b.front _ c.self.invariant
-    (record { stamp = c.len.ensures.value; answer = rw (← c.len-calls.ensures.value, ← c.deref.ensures) c.decide_by_table-reply.ensures.reply; not_full = sym c.if-not-fills_up.ensures.value })))
+    rw (c.in-Ok.ensures.ok, ← c.self.view_is) (ap (λ (es : List Event). record { net = b.model.value; events = es })
+    (journal_called b.model.value b.lists b.calls b.fronts b.front _ c.self.invariant
+    (record {
+      stamp = c.len.ensures.value;
+      answer = rw (← c.len-calls.ensures.value, ← c.deref.ensures) c.decide_by_table-reply.ensures.reply;
+      not_full =
+          sym c.if-not-fills_up.ensures.value;
+    })))
 
 pub returns-in-Ok-clause-next : goal.returns-in-Ok-clause-next
 returns-in-Ok-clause-next c =
     let b = c.self.inside in
-    rw (c.in-Ok.ensures.ok, ← c.self.view_is) (ap (after b.model.value) (journal_called b.model.value b.lists b.calls b.fronts b.front _ c.self.invariant
-    (record { stamp = c.len.ensures.value; answer = rw (← c.len-calls.ensures.value, ← c.deref.ensures) c.decide_by_table-reply.ensures.reply; not_full = sym c.if-not-fills_up.ensures.value }))
+    rw (c.in-Ok.ensures.ok, ← c.self.view_is)
+    (ap (after b.model.value) (journal_called b.model.value b.lists b.calls b.fronts b.front _ c.self.invariant
+    (record {
+      stamp = c.len.ensures.value;
+      answer = rw (← c.len-calls.ensures.value, ← c.deref.ensures) c.decide_by_table-reply.ensures.reply;
+      not_full =
+          sym c.if-not-fills_up.ensures.value;
+    }))
     ∙ asking_is_next b.model.value (journal_of b.calls.items b.fronts.items) c.args.caller c.args.d)
 
 pub returns-in-Ok-clause-full : goal.returns-in-Ok-clause-full
 returns-in-Ok-clause-full c =
     let b = c.self.inside in
     full_where_full c.args.self.now.net c.args.self.now.events c.args.d c.decide_by_table-reply.result
-    (replied b.model.value b.lists b.calls b.fronts b.front c.args.d c.decide_by_table-reply.result c.args.self.now c.self.invariant c.self.view_is
+    (replied b.model.value b.lists b.calls b.fronts b.front c.args.d c.decide_by_table-reply.result c.args.self.now
+    c.self.invariant c.self.view_is
     (rw (← c.len-calls.ensures.value, ← c.deref.ensures) c.decide_by_table-reply.ensures.reply))
 
 pub returns-else-not-fills_up-clause-full : goal.returns-else-not-fills_up-clause-full
 returns-else-not-fills_up-clause-full c =
     let b = c.self.inside in
     full_where_full c.args.self.now.net c.args.self.now.events c.args.d c.decide_by_table-reply.result
-    (replied b.model.value b.lists b.calls b.fronts b.front c.args.d c.decide_by_table-reply.result c.args.self.now c.self.invariant c.self.view_is
+    (replied b.model.value b.lists b.calls b.fronts b.front c.args.d c.decide_by_table-reply.result c.args.self.now
+    c.self.invariant c.self.view_is
     (rw (← c.len-calls.ensures.value, ← c.deref.ensures) c.decide_by_table-reply.ensures.reply))
 
 pub returns-in-Ok-clause-kept : goal.returns-in-Ok-clause-kept
 returns-in-Ok-clause-kept c not =
     let b = c.self.inside in
     ap (λ (v : BookView). v.events) (kept_of c.args.self.now _ c.args.caller c.args.d c.decide_by_table-reply.result
-    (replied b.model.value b.lists b.calls b.fronts b.front c.args.d c.decide_by_table-reply.result c.args.self.now c.self.invariant c.self.view_is
+    (replied b.model.value b.lists b.calls b.fronts b.front c.args.d c.decide_by_table-reply.result c.args.self.now
+    c.self.invariant c.self.view_is
     (rw (← c.len-calls.ensures.value, ← c.deref.ensures) c.decide_by_table-reply.ensures.reply))
     (returns-in-Ok-clause-journal c) not)

@@ -15,7 +15,13 @@ loop-low-preserved-then-time_at-time c =
     record {
       order = omega arith;
       within = c.loop-low.invariant.within;
-      before = λ k b. omega (arith, rises_at (times_of es) k middle c.requires.rises (omega (arith, b)) (omega (arith, many)), c.time_at.ensures.value, c.if-time_at-time.true);
+      before = λ k b. omega (
+        arith,
+        rises_at (times_of es) k middle c.requires.rises (omega (arith, b))
+            (omega (arith, many)),
+        c.time_at.ensures.value,
+        c.if-time_at-time.true,
+      );
       behind = c.loop-low.invariant.behind;
     }
 
@@ -28,7 +34,13 @@ loop-low-preserved c =
       order = omega arith;
       within = omega arith;
       before = c.loop-low.invariant.before;
-      behind = λ k o there. omega (arith, rises_at (times_of es) middle k c.requires.rises o (omega (arith, many, there)), c.time_at.ensures.value, c.if-time_at-time.false);
+      behind = λ k o there. omega (
+        arith,
+        rises_at (times_of es) middle k c.requires.rises o
+            (omega (arith, many, there)),
+        c.time_at.ensures.value,
+        c.if-time_at-time.false,
+      );
     }
 
 pub returns : goal.returns

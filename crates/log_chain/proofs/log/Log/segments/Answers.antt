@@ -8,13 +8,25 @@ pub returns-clause-many : goal.returns-clause-many
 returns-clause-many c =
     let l = c.self.inside in
     let count : c.len.result ≡ length l.segments.items = omega (arith, c.len.ensures, l.segments.ok.0) in
-    rw count (omega (arith, few_segments l.segments.items c.self.invariant.halving, ap length c.self.view_is, length-append (entries_in l.segments.items) (all_of l.blocks.items)))
+    rw count (omega (
+      arith,
+      few_segments l.segments.items c.self.invariant.halving,
+      ap length c.self.view_is,
+      length-append (entries_in l.segments.items) (all_of l.blocks.items),
+    ))
 
 pub overflow_cast-result : goal.overflow_cast-result
 overflow_cast-result c =
     let l = c.self.inside in
     let less = power_below c.len.result 59 _ (returns-clause-many c)
-    (omega (arith, c.self.invariant.count, c.self.invariant.tail, c.self.invariant.most, ap length c.self.view_is, length-append (entries_in l.segments.items) (all_of l.blocks.items))) in
+    (omega (
+      arith,
+      c.self.invariant.count,
+      c.self.invariant.tail,
+      c.self.invariant.most,
+      ap length c.self.view_is,
+      length-append (entries_in l.segments.items) (all_of l.blocks.items),
+    )) in
     omega (arith, less)
 
 pub returns-clause-few : goal.returns-clause-few

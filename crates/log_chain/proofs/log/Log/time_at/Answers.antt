@@ -10,4 +10,7 @@ use Rattle.log_chain.proofs.log.Log.time_at.Goals as goal
 pub returns : goal.returns
 returns c =
     let key = λ (w : List (Entry Msg Line)). option_map (λ (e : Entry Msg Line). e.msg.key) (slice_get w 0) in
-    record { value = time_there c.args.self.now c.args.i c.in-Some.key c.requires.there (c.in-Some.ensures.value ∙ ap key c.walk_from.ensures.value) }
+    record {
+      value = time_there c.args.self.now c.args.i c.in-Some.key c.requires.there
+          (c.in-Some.ensures.value ∙ ap key c.walk_from.ensures.value);
+    }

@@ -8,8 +8,10 @@ pub returns-else-at-self : goal.returns-else-at-self
 returns-else-at-self c =
     let l = c.self.inside in
     let at = c.args.at in
-    let behind = drop_behind (entries_in l.segments.items) (all_of l.blocks.items) at (at - l.shared) (omega (arith, c.self.invariant.count, c.if-at-self.false)) in
+    let behind = drop_behind (entries_in l.segments.items) (all_of l.blocks.items) at (at - l.shared)
+    (omega (arith, c.self.invariant.count, c.if-at-self.false)) in
     record {
       value = c.from_block.ensures.value
-          ∙ (ap (λ bs. drop (at - l.shared) (all_of bs)) c.as_slice-blocks.ensures.value ∙ (sym behind ∙ ap (drop at) c.self.view_is));
+          ∙ (ap (λ bs. drop (at - l.shared) (all_of bs)) c.as_slice-blocks.ensures.value
+          ∙ (sym behind ∙ ap (drop at) c.self.view_is));
     }

@@ -7,6 +7,8 @@ pub returns : goal.returns
 returns c = record {
   words = λ t.
       let r = c.self.inside in
-      let none : length r.wide.items ≡ 0 = omega (arith, eqb-true (vec_len r.wide) 0 (sym c.is_empty.ensures ∙ t), r.wide.ok.0) in
-      subst FitWords c.self.view_is (words_fit r.wide.items r.packed.items (subst (λ n. ArePlaced n r.packed.items) none c.self.invariant));
+      let none : length r.wide.items ≡ 0 =
+      omega (arith, eqb-true (vec_len r.wide) 0 (sym c.is_empty.ensures ∙ t), r.wide.ok.0) in
+      subst FitWords c.self.view_is (words_fit r.wide.items r.packed.items
+      (subst (λ n. ArePlaced n r.packed.items) none c.self.invariant));
 }

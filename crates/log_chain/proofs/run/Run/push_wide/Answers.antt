@@ -8,7 +8,8 @@ pub returns-in_err-push-2-clause-err : goal.returns-in_err-push-2-clause-err
 returns-in_err-push-2-clause-err c =
     let same : entries_of c.push.new.self.items c.push-2.new.self.items ≡ c.args.self.now =
     rw (c.in_ok-push.ensures.items, c.in_err-push-2.ensures.items)
-    (entries_more c.self.inside.wide.items (c.args.entry ∷ []) c.self.inside.packed.items c.self.invariant ∙ c.self.view_is) in
+    (entries_more c.self.inside.wide.items (c.args.entry ∷ []) c.self.inside.packed.items c.self.invariant
+    ∙ c.self.view_is) in
     on_err c.from_residual-in_err-push-2.result same
 
 pub invariant_of-self-2 : goal.invariant_of-self-2
@@ -19,12 +20,15 @@ invariant_of-self-2 c =
     let long = length-append wide (c.args.entry ∷ []) in
     rw (c.in_ok-push.ensures.items, c.in_ok-push-2.ensures.items)
     (placed_push _ packed place (placed_more (length wide) _ packed (omega (arith, long)) c.self.invariant)
-    (wide_placed _ place c.in_side_list.ensures.wide (omega (arith, c.in_side_list.ensures.place, c.len-place.ensures, long, c.self.inside.wide.ok.0))))
+    (wide_placed _ place c.in_side_list.ensures.wide
+    (omega (arith, c.in_side_list.ensures.place, c.len-place.ensures, long, c.self.inside.wide.ok.0))))
 
 pub returns-clause-ok : goal.returns-clause-ok
 returns-clause-ok c =
     let wide = c.self.inside.wide.items in
-    let place : c.in_side_list.result.msg.count ≡ length wide = omega (arith, c.in_side_list.ensures.place, c.len-place.ensures, c.self.inside.wide.ok.0) in
+    let place : c.in_side_list.result.msg.count ≡ length wide =
+    omega (arith, c.in_side_list.ensures.place, c.len-place.ensures, c.self.inside.wide.ok.0) in
     rw (c.in_ok-push.ensures.items, c.in_ok-push-2.ensures.items)
-    (entries_push_wide wide c.self.inside.packed.items c.in_side_list.result c.args.entry c.self.invariant c.in_side_list.ensures.wide place
+    (entries_push_wide wide c.self.inside.packed.items c.in_side_list.result c.args.entry c.self.invariant
+    c.in_side_list.ensures.wide place
     ∙ ap (λ l. l ++ c.args.entry ∷ []) c.self.view_is)

@@ -11,4 +11,5 @@ returns-clause-value c =
     let count = ap length seen ∙ length-map c.self.inside.stations.items as_site in
     let low = c.requires.low in
     let high = c.requires.high in
-    seen_site c.args.self.now c.self.inside.stations.items seen c.args.s c.index.result.now low (slice_get_read c.self.inside.stations.items _ _ _ refl (omega (arith, count)) c.index.ensures)
+    seen_site c.args.self.now c.self.inside.stations.items seen c.args.s c.index.result.now low
+    (slice_get_read c.self.inside.stations.items _ _ _ refl (omega (arith, count)) c.index.ensures)

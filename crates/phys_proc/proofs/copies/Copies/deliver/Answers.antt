@@ -8,4 +8,5 @@ invariant_of-self c = late_zero c.deliver.new.copies.items
 
 pub invariant_of-self-2 : goal.invariant_of-self-2
 invariant_of-self-2 c = subst (AreLate c.min-least.result) (sym c.in_ok-deliver.ensures.given)
-    (all_late_given c.self.inside.least c.min-least.result c.args.msg c.args.set c.self.inside.copies.items c.min-least.ensures c.self.invariant)
+    (all_late_given c.self.inside.least c.min-least.result c.args.msg c.args.set c.self.inside.copies.items
+    c.min-least.ensures c.self.invariant)

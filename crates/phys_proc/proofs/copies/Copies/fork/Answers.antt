@@ -4,4 +4,5 @@ use Rattle.phys_proc.proofs.Forked.{late_forked}
 use Rattle.phys_proc.proofs.copies.Copies.fork.Goals as goal
 
 pub invariant_of-self : goal.invariant_of-self
-invariant_of-self c = subst (AreLate c.self.inside.least) (sym c.fork.ensures.forked) (late_forked c.args.old c.args.new c.self.inside.least c.self.inside.copies.items c.self.invariant)
+invariant_of-self c = subst (AreLate c.self.inside.least) (sym c.fork.ensures.forked)
+    (late_forked c.args.old c.args.new c.self.inside.least c.self.inside.copies.items c.self.invariant)

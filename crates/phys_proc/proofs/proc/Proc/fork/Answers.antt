@@ -11,21 +11,27 @@ pub invariant_of-self : goal.invariant_of-self
 invariant_of-self c =
     let i = c.self.inside in
     let is = c.self.view_is in
-    rw (c.with-self-inside.ensures.value, c.fork.ensures.forked) (shares_forked c.args.old c.args.new i.station i.handled i.living i.copies (ap (λ (u : ProcView). has u.living c.args.old) is ∙ c.requires.old) (ap (λ (u : ProcView). has u.living c.args.new) is ∙ c.requires.new) c.self.invariant)
+    rw (c.with-self-inside.ensures.value, c.fork.ensures.forked)
+    (shares_forked c.args.old c.args.new i.station i.handled i.living i.copies
+    (ap (λ (u : ProcView). has u.living c.args.old) is ∙ c.requires.old)
+    (ap (λ (u : ProcView). has u.living c.args.new) is ∙ c.requires.new) c.self.invariant)
 
 pub returns-clause-stands : goal.returns-clause-stands
 returns-clause-stands c = λ net ends f.
     let i = c.self.inside in
     let h = subst (IsProc net) (sym c.self.view_is) f in
-    let fresh = fresh_in c.args.old c.args.new i.living i.copies c.self.invariant.shares.together (ap (λ (u : ProcView). has u.living c.args.new) c.self.view_is ∙ c.requires.new) in
-    subst (λ (u : ProcView). AllZip (IsForked (simulation net) has ends c.args.old c.args.new) u.copies c.fork.new.self) c.self.view_is
+    let fresh = fresh_in c.args.old c.args.new i.living i.copies c.self.invariant.shares.together
+    (ap (λ (u : ProcView). has u.living c.args.new) c.self.view_is ∙ c.requires.new) in
+    subst (λ (u : ProcView). AllZip (IsForked (simulation net) has ends c.args.old c.args.new) u.copies
+    c.fork.new.self) c.self.view_is
     (rw c.fork.ensures.forked (all_forked c.args.old c.args.new net i.station ends i.copies fresh h.copies))
 
 pub returns-clause-proc : goal.returns-clause-proc
 returns-clause-proc c = λ net f.
     let i = c.self.inside in
     let h = subst (IsProc net) (sym c.self.view_is) f in
-    let fresh = fresh_in c.args.old c.args.new i.living i.copies c.self.invariant.shares.together (ap (λ (u : ProcView). has u.living c.args.new) c.self.view_is ∙ c.requires.new) in
+    let fresh = fresh_in c.args.old c.args.new i.living i.copies c.self.invariant.shares.together
+    (ap (λ (u : ProcView). has u.living c.args.new) c.self.view_is ∙ c.requires.new) in
     record {
       valid = h.valid;
       low = h.low;

@@ -15,7 +15,8 @@ loop-copy-preserved c =
     let l : i < length xs = subst (λ k. i < length k) same c.loop-copy-test.true in
     let whole = take_one xs i x l (c.copy-item.is ∙ ap (λ k. get_or k i x) same) in
     subst (IsLeast (ends_in net.horizon c.args.ends.now) (take (i + 1) xs)) (sym c.earlier-least.ensures.value)
-    (least_more (ends_in net.horizon c.args.ends.now) (take i xs) (take (i + 1) xs) x whole c.loop-copy.least c.least_of_copy.result c.loop-copy.invariant (rw (← c.horizon.ensures.value) c.least_of_copy.ensures.least))
+    (least_more (ends_in net.horizon c.args.ends.now) (take i xs) (take (i + 1) xs) x whole c.loop-copy.least
+    c.least_of_copy.result c.loop-copy.invariant (rw (← c.horizon.ensures.value) c.least_of_copy.ensures.least))
 
 pub returns : goal.returns
 returns c =
@@ -23,4 +24,7 @@ returns c =
     let same = c.copies-copy-items.ensures.value in
     let e = ap length same in
     let l = c.loop-copy-test.false in
-    record { least = subst (λ k. IsLeast (ends_in c.args.model.now.horizon c.args.ends.now) k c.loop-copy.least) (take_all c.loop-copy.copy-index xs (omega (arith, e, l))) c.loop-copy.invariant }
+    record {
+      least = subst (λ k. IsLeast (ends_in c.args.model.now.horizon c.args.ends.now) k c.loop-copy.least)
+          (take_all c.loop-copy.copy-index xs (omega (arith, e, l))) c.loop-copy.invariant;
+    }

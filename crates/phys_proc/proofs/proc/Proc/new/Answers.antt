@@ -11,6 +11,10 @@ use Rattle.phys_proc.proofs.proc.Proc.new.Goals as goal
 
 pub invariant_of-result : goal.invariant_of-result
 invariant_of-result c =
-    subst (λ (l : List StationCopy). KeepsShares (record { station = c.args.station; living = c.one.result; handled = 0; copies = l })) (sym c.in_ok-copies.ensures.first)
-    (shares_one c.args.station c.one.result (first_copy (simulation c.args.model.now) (one 0) c.args.station) (sym c.one.ensures.value)
-    (λ e. false≢true (sym (has-empty 0) ∙ (ap (λ k. has k 0) (sym e) ∙ (ap (λ k. has k 0) c.one.ensures.value ∙ has-one 0 0)))))
+    subst (λ (l : List StationCopy).
+    KeepsShares (record { station = c.args.station; living = c.one.result; handled = 0; copies = l }))
+    (sym c.in_ok-copies.ensures.first)
+    (shares_one c.args.station c.one.result (first_copy (simulation c.args.model.now) (one 0) c.args.station)
+    (sym c.one.ensures.value)
+    (λ e. false≢true (sym (has-empty 0)
+    ∙ (ap (λ k. has k 0) (sym e) ∙ (ap (λ k. has k 0) c.one.ensures.value ∙ has-one 0 0)))))

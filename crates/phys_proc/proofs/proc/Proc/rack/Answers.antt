@@ -11,4 +11,6 @@ invariant_of-result c =
     let net = c.args.model.value in
     let cs = c.args.lists.value.clones in
     let i = c.self.inside in
-    rw c.in_ok-copies.ensures.seen (shows net cs i.station c.args.front i.copies c.requires.few c.requires.early (subst (λ (u : ProcView). Stands (simulation net) has cs c.args.front u.station u.copies) (sym c.self.view_is) c.requires.stands))
+    rw c.in_ok-copies.ensures.seen (shows net cs i.station c.args.front i.copies c.requires.few c.requires.early
+    (subst (λ (u : ProcView). Stands (simulation net) has cs c.args.front u.station u.copies)
+    (sym c.self.view_is) c.requires.stands))

@@ -11,7 +11,8 @@ use Rattle.phys_proc.proofs.Shares.{few_members, few_clones, sizes_are, shares_a
 use Rattle.phys_proc.proofs.proc.Proc.step.Goals as goal
 
 pub step_copies-requires-clause-few : goal.step_copies-requires-clause-few
-step_copies-requires-clause-few g c = few_clones c.self.inside.living c.self.inside.copies c.self.invariant.shares (few_members c.self.inside.living c.len-clones.result c.len-clones.ensures.value c.len-clones.ensures.members)
+step_copies-requires-clause-few g c = few_clones c.self.inside.living c.self.inside.copies c.self.invariant.shares
+    (few_members c.self.inside.living c.len-clones.result c.len-clones.ensures.value c.len-clones.ensures.members)
 
 pub returns-then-not-is_empty-clause-over : goal.returns-then-not-is_empty-clause-over
 returns-then-not-is_empty-clause-over g c =
@@ -20,7 +21,9 @@ returns-then-not-is_empty-clause-over g c =
     let i = c.self.inside in
     let h = subst (IsProc net) (sym c.self.view_is) c.requires.proc in
     let st = c.in_ok-done.field-0 in
-    subst (λ (u : ProcView). AreOver (simulation net) has ends u.station c.args.bound u.copies st.over) c.self.view_is (all_over net h.valid i.station ends c.args.bound i.copies st.done st.sent.items st.over c.args.steps.now c.step_copies.new.steps h.copies c.in_ok-done.ensures.stepped)
+    subst (λ (u : ProcView). AreOver (simulation net) has ends u.station c.args.bound u.copies st.over) c.self.view_is
+    (all_over net h.valid i.station ends c.args.bound i.copies st.done st.sent.items st.over c.args.steps.now
+    c.step_copies.new.steps h.copies c.in_ok-done.ensures.stepped)
 
 pub returns-then-not-is_empty-clause-gained : goal.returns-then-not-is_empty-clause-gained
 returns-then-not-is_empty-clause-gained g c =
@@ -29,7 +32,10 @@ returns-then-not-is_empty-clause-gained g c =
     let i = c.self.inside in
     let h = subst (IsProc net) (sym c.self.view_is) c.requires.proc in
     let st = c.in_ok-done.field-0 in
-    subst (λ (u : ProcView). GainTogether (simulation net) has ends u.station c.args.bound u.copies st.handled) c.self.view_is (all_gained net h.valid i.station ends c.args.bound i.copies st.done st.sent.items st.over c.args.steps.now c.step_copies.new.steps h.copies c.in_ok-done.ensures.stepped st.handled c.in_ok-done.ensures.handled)
+    subst (λ (u : ProcView). GainTogether (simulation net) has ends u.station c.args.bound u.copies st.handled)
+    c.self.view_is (all_gained net h.valid i.station ends c.args.bound i.copies st.done st.sent.items st.over
+    c.args.steps.now c.step_copies.new.steps h.copies c.in_ok-done.ensures.stepped st.handled
+    c.in_ok-done.ensures.handled)
 
 pub returns-then-not-is_empty-clause-few : goal.returns-then-not-is_empty-clause-few
 returns-then-not-is_empty-clause-few g c =
@@ -38,7 +44,10 @@ returns-then-not-is_empty-clause-few g c =
     let i = c.self.inside in
     let h = subst (IsProc net) (sym c.self.view_is) c.requires.proc in
     let st = c.in_ok-done.field-0 in
-    subst (λ (u : ProcView). st.handled ≤ size u.living * net.limit) c.self.view_is (subst (λ n. st.handled ≤ n * net.limit) (sizes_are i.living i.copies c.self.invariant.shares) (all_few net h.valid i.station ends c.args.bound i.copies st.done st.sent.items st.over c.args.steps.now c.step_copies.new.steps h.copies c.in_ok-done.ensures.stepped st.handled c.in_ok-done.ensures.handled))
+    subst (λ (u : ProcView). st.handled ≤ size u.living * net.limit) c.self.view_is
+    (subst (λ n. st.handled ≤ n * net.limit) (sizes_are i.living i.copies c.self.invariant.shares)
+    (all_few net h.valid i.station ends c.args.bound i.copies st.done st.sent.items st.over c.args.steps.now
+    c.step_copies.new.steps h.copies c.in_ok-done.ensures.stepped st.handled c.in_ok-done.ensures.handled))
 
 pub returns-clause-over : goal.returns-clause-over
 returns-clause-over g c =
@@ -47,7 +56,9 @@ returns-clause-over g c =
     let i = c.self.inside in
     let h = subst (IsProc net) (sym c.self.view_is) c.requires.proc in
     let st = c.in_ok-done.field-0 in
-    subst (λ (u : ProcView). AreOver (simulation net) has ends u.station c.args.bound u.copies st.over) c.self.view_is (all_over net h.valid i.station ends c.args.bound i.copies st.done st.sent.items st.over c.args.steps.now c.step_copies.new.steps h.copies c.in_ok-done.ensures.stepped)
+    subst (λ (u : ProcView). AreOver (simulation net) has ends u.station c.args.bound u.copies st.over) c.self.view_is
+    (all_over net h.valid i.station ends c.args.bound i.copies st.done st.sent.items st.over c.args.steps.now
+    c.step_copies.new.steps h.copies c.in_ok-done.ensures.stepped)
 
 pub returns-clause-gained : goal.returns-clause-gained
 returns-clause-gained g c =
@@ -56,7 +67,10 @@ returns-clause-gained g c =
     let i = c.self.inside in
     let h = subst (IsProc net) (sym c.self.view_is) c.requires.proc in
     let st = c.in_ok-done.field-0 in
-    subst (λ (u : ProcView). GainTogether (simulation net) has ends u.station c.args.bound u.copies st.handled) c.self.view_is (all_gained net h.valid i.station ends c.args.bound i.copies st.done st.sent.items st.over c.args.steps.now c.step_copies.new.steps h.copies c.in_ok-done.ensures.stepped st.handled c.in_ok-done.ensures.handled)
+    subst (λ (u : ProcView). GainTogether (simulation net) has ends u.station c.args.bound u.copies st.handled)
+    c.self.view_is (all_gained net h.valid i.station ends c.args.bound i.copies st.done st.sent.items st.over
+    c.args.steps.now c.step_copies.new.steps h.copies c.in_ok-done.ensures.stepped st.handled
+    c.in_ok-done.ensures.handled)
 
 pub returns-clause-few : goal.returns-clause-few
 returns-clause-few g c =
@@ -65,7 +79,10 @@ returns-clause-few g c =
     let i = c.self.inside in
     let h = subst (IsProc net) (sym c.self.view_is) c.requires.proc in
     let st = c.in_ok-done.field-0 in
-    subst (λ (u : ProcView). st.handled ≤ size u.living * net.limit) c.self.view_is (subst (λ n. st.handled ≤ n * net.limit) (sizes_are i.living i.copies c.self.invariant.shares) (all_few net h.valid i.station ends c.args.bound i.copies st.done st.sent.items st.over c.args.steps.now c.step_copies.new.steps h.copies c.in_ok-done.ensures.stepped st.handled c.in_ok-done.ensures.handled))
+    subst (λ (u : ProcView). st.handled ≤ size u.living * net.limit) c.self.view_is
+    (subst (λ n. st.handled ≤ n * net.limit) (sizes_are i.living i.copies c.self.invariant.shares)
+    (all_few net h.valid i.station ends c.args.bound i.copies st.done st.sent.items st.over c.args.steps.now
+    c.step_copies.new.steps h.copies c.in_ok-done.ensures.stepped st.handled c.in_ok-done.ensures.handled))
 
 pub returns-clause-windows : goal.returns-clause-windows
 returns-clause-windows g c =
@@ -74,7 +91,9 @@ returns-clause-windows g c =
     let i = c.self.inside in
     let h = subst (IsProc net) (sym c.self.view_is) c.requires.proc in
     let st = c.in_ok-done.field-0 in
-    λ none. subst (λ (u : ProcView). IsStepped (simulation net) has ends u.station c.args.bound u.copies st.done st.sent.items) c.self.view_is (all_stepped net h.valid i.station ends c.args.bound i.copies st.done st.sent.items st.over c.args.steps.now c.step_copies.new.steps h.copies c.in_ok-done.ensures.stepped none)
+    λ none. subst (λ (u : ProcView). IsStepped (simulation net) has ends u.station c.args.bound u.copies st.done
+    st.sent.items) c.self.view_is (all_stepped net h.valid i.station ends c.args.bound i.copies st.done
+    st.sent.items st.over c.args.steps.now c.step_copies.new.steps h.copies c.in_ok-done.ensures.stepped none)
 
 pub overflow_add-result : goal.overflow_add-result
 overflow_add-result g c =
@@ -83,9 +102,11 @@ overflow_add-result g c =
     let i = c.self.inside in
     let h = subst (IsProc net) (sym c.self.view_is) c.requires.proc in
     let st = c.in_ok-done.field-0 in
-    let sizes = few_clones i.living i.copies c.self.invariant.shares (few_members i.living c.len-clones.result c.len-clones.ensures.value c.len-clones.ensures.members) in
+    let sizes = few_clones i.living i.copies c.self.invariant.shares
+    (few_members i.living c.len-clones.result c.len-clones.ensures.value c.len-clones.ensures.members) in
     let a = few_handled net i.station i.handled i.copies h.copies sizes h.valid.short c.self.invariant.once in
-    let b = all_few net h.valid i.station ends c.args.bound i.copies st.done st.sent.items st.over c.args.steps.now c.step_copies.new.steps h.copies c.in_ok-done.ensures.stepped st.handled c.in_ok-done.ensures.handled in
+    let b = all_few net h.valid i.station ends c.args.bound i.copies st.done st.sent.items st.over c.args.steps.now
+    c.step_copies.new.steps h.copies c.in_ok-done.ensures.stepped st.handled c.in_ok-done.ensures.handled in
     let m = mul-le (all_sizes i.copies) net.limit 256 65536 sizes h.valid.short in
     omega (arith, a, b, m)
 
@@ -97,4 +118,9 @@ invariant_of-result g c =
     let h = subst (IsProc net) (sym c.self.view_is) c.requires.proc in
     let st = c.in_ok-done.field-0 in
     let none = eqb-true st.over empty (sym c.if-not-is_empty.ensures.value) in
-    shares_after net i.station ends c.args.bound i.copies st.done st.sent.items (all_stepped net h.valid i.station ends c.args.bound i.copies st.done st.sent.items st.over c.args.steps.now c.step_copies.new.steps h.copies c.in_ok-done.ensures.stepped none) i.living i.handled st.handled c.self.invariant.shares.together c.self.invariant.once (all_shared net h.valid i.station ends c.args.bound i.copies st.done st.sent.items st.over c.args.steps.now c.step_copies.new.steps h.copies c.in_ok-done.ensures.stepped st.handled c.in_ok-done.ensures.handled none)
+    shares_after net i.station ends c.args.bound i.copies st.done st.sent.items
+    (all_stepped net h.valid i.station ends c.args.bound i.copies st.done st.sent.items st.over c.args.steps.now
+    c.step_copies.new.steps h.copies c.in_ok-done.ensures.stepped none) i.living i.handled st.handled
+    c.self.invariant.shares.together c.self.invariant.once
+    (all_shared net h.valid i.station ends c.args.bound i.copies st.done st.sent.items st.over c.args.steps.now
+    c.step_copies.new.steps h.copies c.in_ok-done.ensures.stepped st.handled c.in_ok-done.ensures.handled none)

@@ -8,7 +8,12 @@ pub invariant_of-self : goal.invariant_of-self
 invariant_of-self c =
     let l = c.self.inside in
     let held = c.self.invariant in
-    let forked = clones_after_fork l.clones.items _ c.args.new c.args.old _ (ap (λ l. l.clones) c.self.view_is) c.requires.unused c.requires.few held.2 in
-    let both = either (λ k. AreReserved k l.reserved_clones l.spare l.reserved_plans × AreClones (map clone_of k)) c.push_fork.result _ _ _ c.push_fork.ensures.ok c.push_fork.ensures.err
-    (reserved_push _ _ _ _ _ c.args.new c.args.old held.0 (omega (arith, ap (λ r. r.reserved) c.in_ok-plans.ensures.value)), forked) (held.0, held.2) in
+    let forked = clones_after_fork l.clones.items _ c.args.new c.args.old _
+    (ap (λ l. l.clones) c.self.view_is) c.requires.unused c.requires.few held.2 in
+    let both = either (λ k. AreReserved k l.reserved_clones l.spare l.reserved_plans × AreClones (map clone_of k))
+    c.push_fork.result _ _ _ c.push_fork.ensures.ok c.push_fork.ensures.err (
+      reserved_push _ _ _ _ _ c.args.new c.args.old held.0
+          (omega (arith, ap (λ r. r.reserved) c.in_ok-plans.ensures.value)),
+      forked,
+    ) (held.0, held.2) in
     (both.0, omega arith, both.1)

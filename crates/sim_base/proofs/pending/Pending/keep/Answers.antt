@@ -14,7 +14,8 @@ invariant_of-self g c =
     let rest = of_blocks c.self.inside.later.items in
     let all = c.next_block.ensures.same ∙ c.keep_later.ensures.value in
     record {
-      sorted = subst (SortedMarked msg_cmp) (sym all) (sorted_cut g.S.Marks.met c.args.by msg_cmp rest (sorted_right msg_cmp first rest c.self.invariant.sorted));
+      sorted = subst (SortedMarked msg_cmp) (sym all)
+          (sorted_cut g.S.Marks.met c.args.by msg_cmp rest (sorted_right msg_cmp first rest c.self.invariant.sorted));
       sized = c.next_block.ensures.sized;
     }
 
@@ -23,13 +24,20 @@ invariant_of-self-else-is_empty g c =
     let met = g.S.Marks.met in
     let first = c.self.inside.first in
     let rest = of_blocks c.self.inside.later.items in
-    let all = ap (λ xs. xs ++ of_blocks c.keep_later.new.later.items) c.keep.ensures.value ∙ ap (λ ys. cut_by met c.args.by first ++ ys) c.keep_later.ensures.value ∙ sym (cut-append met c.args.by first rest) in
+    let all = ap (λ xs. xs ++ of_blocks c.keep_later.new.later.items) c.keep.ensures.value
+    ∙ ap (λ ys. cut_by met c.args.by first ++ ys) c.keep_later.ensures.value
+    ∙ sym (cut-append met c.args.by first rest) in
     let some = filled_if c.keep.new.self c.if-is_empty.ensures.value in
     let short = length_cut met c.args.by first in
     let same = ap length c.keep.ensures.value in
     record {
-      sorted = subst (SortedMarked msg_cmp) (sym all) (sorted_cut met c.args.by msg_cmp (first ++ rest) c.self.invariant.sorted);
-      sized = record { first_filled = λ _. some; first_small = omega (arith, c.self.invariant.sized.first_small); later_filled = c.keep_later.ensures.filled };
+      sorted = subst (SortedMarked msg_cmp) (sym all)
+          (sorted_cut met c.args.by msg_cmp (first ++ rest) c.self.invariant.sorted);
+      sized = record {
+        first_filled = λ _. some;
+        first_small = omega (arith, c.self.invariant.sized.first_small);
+        later_filled = c.keep_later.ensures.filled;
+      };
     }
 
 pub returns-then-is_empty : goal.returns-then-is_empty
@@ -39,7 +47,8 @@ returns-then-is_empty g c =
     let rest = of_blocks c.self.inside.later.items in
     let none = sym c.keep.ensures.value ∙ empty_if c.keep.new.self c.if-is_empty.ensures.value in
     record {
-      value = c.next_block.ensures.same ∙ c.keep_later.ensures.value ∙ ap (λ xs. xs ++ cut_by met c.args.by rest) (sym none) ∙ sym (cut-append met c.args.by first rest) ∙ ap (cut_by met c.args.by) c.self.view_is;
+      value = c.next_block.ensures.same ∙ c.keep_later.ensures.value ∙ ap (λ xs. xs ++ cut_by met c.args.by rest)
+          (sym none) ∙ sym (cut-append met c.args.by first rest) ∙ ap (cut_by met c.args.by) c.self.view_is;
     }
 
 pub returns-else-is_empty : goal.returns-else-is_empty
@@ -47,5 +56,7 @@ returns-else-is_empty g c =
     let met = g.S.Marks.met in
     let first = c.self.inside.first in
     let rest = of_blocks c.self.inside.later.items in
-    let all = ap (λ xs. xs ++ of_blocks c.keep_later.new.later.items) c.keep.ensures.value ∙ ap (λ ys. cut_by met c.args.by first ++ ys) c.keep_later.ensures.value ∙ sym (cut-append met c.args.by first rest) in
+    let all = ap (λ xs. xs ++ of_blocks c.keep_later.new.later.items) c.keep.ensures.value
+    ∙ ap (λ ys. cut_by met c.args.by first ++ ys) c.keep_later.ensures.value
+    ∙ sym (cut-append met c.args.by first rest) in
     record { value = all ∙ ap (cut_by met c.args.by) c.self.view_is }

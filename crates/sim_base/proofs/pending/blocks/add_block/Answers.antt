@@ -8,5 +8,6 @@ pub returns-clause-all : goal.returns-clause-all
 returns-clause-all g c =
     let old = c.args.later.now.items in
     ap (λ bs. c.args.first.now ++ of_blocks bs) c.in_ok-push_back.ensures.items
-    ∙ ap (λ t. c.args.first.now ++ t) (of_blocks-append old (c.args.block ∷ []) ∙ ap (λ t. of_blocks old ++ t) (append-nil c.args.block))
+    ∙ ap (λ t. c.args.first.now ++ t) (of_blocks-append old (c.args.block ∷ [])
+    ∙ ap (λ t. of_blocks old ++ t) (append-nil c.args.block))
     ∙ sym (append_assoc c.args.first.now (of_blocks old) c.args.block)

@@ -13,6 +13,7 @@ returns g c =
       value = record {
         within = omega (arith, inv.within);
         before = inv.before;
-        behind = λ l. subst (λ i. StartsAfter msg_cmp c.args.msg.now (get_or c.args.later.now.items i []) true) same (inv.behind (omega arith));
+        behind = λ l. subst (λ i. StartsAfter msg_cmp c.args.msg.now (get_or c.args.later.now.items i []) true) same
+            (inv.behind (omega arith));
       };
     }

@@ -10,7 +10,8 @@ pub loop-i-preserved : goal.loop-i-preserved
 loop-i-preserved g c =
     let l : c.loop-i.i < length c.args.later.now.items = omega arith in
     ap (set c.loop-i.later.items c.loop-i.i) c.spread.ensures.value
-    ∙ map_over_more (spread_marks g.S.Marks.joined g.S.Marks.met c.args.by c.args.more) c.args.later.now.items c.loop-i.later.items c.loop-i.i c.index_mut.result.now l c.loop-i.invariant c.index_mut.ensures.value
+    ∙ map_over_more (spread_marks g.S.Marks.joined g.S.Marks.met c.args.by c.args.more) c.args.later.now.items
+    c.loop-i.later.items c.loop-i.i c.index_mut.result.now l c.loop-i.invariant c.index_mut.ensures.value
 
 pub returns : goal.returns
 returns g c =
@@ -18,10 +19,12 @@ returns g c =
     let old = c.args.later.now.items in
     let past : length old ≤ c.loop-i.i = omega arith in
     let all : c.loop-i.later.items ≡ map spread old =
-    c.loop-i.invariant ∙ ap (λ xs. map spread xs ++ drop c.loop-i.i old) (take_all c.loop-i.i old past) ∙ ap (λ xs. map spread old ++ xs) (drop_all c.loop-i.i old past) ∙ append-nil (map spread old)
+    c.loop-i.invariant ∙ ap (λ xs. map spread xs ++ drop c.loop-i.i old) (take_all c.loop-i.i old past)
+    ∙ ap (λ xs. map spread old ++ xs) (drop_all c.loop-i.i old past) ∙ append-nil (map spread old)
     in
     record {
       value = ap of_blocks all ∙ spread_of_blocks g.S.Marks.joined g.S.Marks.met c.args.by c.args.more old;
-      filled = subst AreFilled (sym all) (spread_filled g.S.Marks.joined g.S.Marks.met c.args.by c.args.more old c.requires.filled);
+      filled = subst AreFilled (sym all)
+          (spread_filled g.S.Marks.joined g.S.Marks.met c.args.by c.args.more old c.requires.filled);
       count = ap length all ∙ length-map old spread;
     }

@@ -8,10 +8,12 @@ pub nonzero_rem-from : goal.nonzero_rem-from
 nonzero_rem-from c = rw c.total.ensures (heavy_sum c.args.weights.now c.requires.some c.requires.heavy)
 
 pub index_above-requires : goal.index_above-requires
-index_above-requires c = let some = heavy_sum c.args.weights.now c.requires.some c.requires.heavy in omega (arith, c.total.ensures)
+index_above-requires c = let some = heavy_sum c.args.weights.now c.requires.some c.requires.heavy in
+    omega (arith, c.total.ensures)
 
 pub returns-clause-choice : goal.returns-clause-choice
 returns-clause-choice c = λ _.
     let ws = c.args.weights.now in
     let some = heavy_sum ws c.requires.some c.requires.heavy in
-    rw (c.index_above.ensures.value, c.from.ensures, c.total.ensures, c.word-word.ensures.value) (index_of-first ws (next_of c.args.self.now % sum ws) (omega arith))
+    rw (c.index_above.ensures.value, c.from.ensures, c.total.ensures, c.word-word.ensures.value)
+    (index_of-first ws (next_of c.args.self.now % sum ws) (omega arith))

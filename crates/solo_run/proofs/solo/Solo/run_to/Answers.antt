@@ -11,7 +11,11 @@ loop-due-init g c = record { solo = c.requires.solo; ran = stay; steps = refl }
 
 pub turn-requires-clause-solo : goal.turn-requires-clause-solo
 turn-requires-clause-solo g c =
-    let taken = ap (λ p. let v : SoloView = record { states = c.self.inside.states.items; pending = p; trace = c.self.inside.trace.items } in v) c.in-Some.ensures.some.0 in
+    let taken = ap (λ p. let v : SoloView = record {
+      states = c.self.inside.states.items;
+      pending = p;
+      trace = c.self.inside.trace.items;
+    } in v) c.in-Some.ensures.some.0 in
     subst (λ (v : SoloView). IsSolo c.args.model.now v) (sym c.self.view_is ∙ taken) c.loop-due.invariant.solo
 
 pub loop-due-smaller : goal.loop-due-smaller
@@ -25,13 +29,23 @@ loop-due-preserved g c =
     let net = c.args.model.now in
     let inv = c.loop-due.invariant in
     let some = c.in-Some.ensures.some in
-    let w : SoloView = record { states = c.self.inside.states.items; pending = c.take_before.new.self; trace = c.self.inside.trace.items } in
-    let taken = ap (λ p. let v : SoloView = record { states = c.self.inside.states.items; pending = p; trace = c.self.inside.trace.items } in v) some.0 in
-    let ran = subst (λ (v : SoloView). Reach msg_cmp (λ m. m.key.time) (step_of net) c.args.front (config_of net c.args.self) (config_of net v)) (sym c.self.view_is ∙ taken) inv.ran in
+    let w : SoloView = record {
+      states = c.self.inside.states.items;
+      pending = c.take_before.new.self;
+      trace = c.self.inside.trace.items;
+    } in
+    let taken = ap (λ p. let v : SoloView = record {
+      states = c.self.inside.states.items;
+      pending = p;
+      trace = c.self.inside.trace.items;
+    } in v) some.0 in
+    let ran = subst (λ (v : SoloView). Reach msg_cmp (λ m. m.key.time) (step_of net) c.args.front
+    (config_of net c.args.self) (config_of net v)) (sym c.self.view_is ∙ taken) inv.ran in
     let same = ap (λ (v : SoloView). length v.trace) c.self.view_is in
     record {
       solo = c.in-Ok.ensures.solo;
-      ran = go ran (next_turn net c.requires.solo.valid c.args.front w c.in-Some.due.0 c.turn.new.self some.1 c.in-Ok.ensures.turned);
+      ran = go ran (next_turn net c.requires.solo.valid c.args.front w c.in-Some.due.0 c.turn.new.self some.1
+          c.in-Ok.ensures.turned);
       steps = omega (arith, inv.steps, same, c.in-Ok.ensures.counted, c.in-Ok.ensures.longer);
     }
 
@@ -40,23 +54,42 @@ returns-in-Err-clause-stops g c =
     let net = c.args.model.now in
     let inv = c.loop-due.invariant in
     let some = c.in-Some.ensures.some in
-    let w : SoloView = record { states = c.self.inside.states.items; pending = c.take_before.new.self; trace = c.self.inside.trace.items } in
-    let taken = ap (λ p. let v : SoloView = record { states = c.self.inside.states.items; pending = p; trace = c.self.inside.trace.items } in v) some.0 in
+    let w : SoloView = record {
+      states = c.self.inside.states.items;
+      pending = c.take_before.new.self;
+      trace = c.self.inside.trace.items;
+    } in
+    let taken = ap (λ p. let v : SoloView = record {
+      states = c.self.inside.states.items;
+      pending = p;
+      trace = c.self.inside.trace.items;
+    } in v) some.0 in
     let is = sym c.self.view_is ∙ taken in
     let here = subst (λ (v : SoloView). IsSolo net v) is inv.solo in
-    let ran = subst (λ (v : SoloView). Reach msg_cmp (λ m. m.key.time) (step_of net) c.args.front (config_of net c.args.self) (config_of net v)) is inv.ran in
+    let ran = subst (λ (v : SoloView). Reach msg_cmp (λ m. m.key.time) (step_of net) c.args.front
+    (config_of net c.args.self) (config_of net v)) is inv.ran in
     let same = ap (λ (v : SoloView). length v.trace) c.self.view_is in
     let count = inv.steps in
-    stops net c.requires.solo.valid c.args.front c.args.self w c.in-Some.due.0 _ _ c.loop-due.steps c.in-Err.fault c.requires.solo here ran some.1 c.in-Err.ensures.full (omega (arith, count, same))
+    stops net c.requires.solo.valid c.args.front c.args.self w c.in-Some.due.0 _ _ c.loop-due.steps c.in-Err.fault
+    c.requires.solo here ran some.1 c.in-Err.ensures.full (omega (arith, count, same))
 
 pub returns-clause-ok : goal.returns-clause-ok
 returns-clause-ok g c =
     let net = c.args.model.now in
     let inv = c.loop-due.invariant in
     let none = c.in_default.ensures.none in
-    let w : SoloView = record { states = c.self.inside.states.items; pending = c.self.inside.pending; trace = c.self.inside.trace.items } in
+    let w : SoloView = record {
+      states = c.self.inside.states.items;
+      pending = c.self.inside.pending;
+      trace = c.self.inside.trace.items;
+    } in
     let back = sym c.self.view_is in
     let here = subst (λ (v : SoloView). IsSolo net v) back inv.solo in
-    let ran = subst (λ (v : SoloView). Reach msg_cmp (λ m. m.key.time) (step_of net) c.args.front (config_of net c.args.self) (config_of net v)) back inv.ran in
-    ap (λ p. let v : SoloView = record { states = c.self.inside.states.items; pending = p; trace = c.self.inside.trace.items } in config_of net v) none.0
+    let ran = subst (λ (v : SoloView). Reach msg_cmp (λ m. m.key.time) (step_of net) c.args.front
+    (config_of net c.args.self) (config_of net v)) back inv.ran in
+    ap (λ p. let v : SoloView = record {
+      states = c.self.inside.states.items;
+      pending = p;
+      trace = c.self.inside.trace.items;
+    } in config_of net v) none.0
     ∙ run_ends net c.requires.solo.valid c.args.front c.args.self w c.requires.solo here ran none.1

@@ -8,7 +8,8 @@ use Rattle.solo_run.proofs.solo.Solo.run_to.Given as goal
 abbrev pub invariant-loop-due : goal.invariant-loop-due
 invariant-loop-due g l = record {
   solo : IsSolo l.model l.self;
-  ran : Reach msg_cmp (λ m. m.key.time) (step_of l.model) l.front (config_of l.model l.fn.self) (config_of l.model l.self);
+  ran : Reach msg_cmp (λ m. m.key.time) (step_of l.model) l.front (config_of l.model l.fn.self)
+      (config_of l.model l.self);
   steps : l.steps + length l.fn.self.trace ≡ l.fn.steps + length l.self.trace;
 }
 

@@ -6,28 +6,45 @@ use Rattle.solo_run.proofs.solo.Solo.turn.Goals as goal
 
 pub handle_at-requires-clause-suits : goal.handle_at-requires-clause-suits
 handle_at-requires-clause-suits g c i st is =
-    let solo = subst (λ (w : SoloView). IsSolo c.args.model.now (with_due c.args.msg.now w)) (sym c.self.view_is) c.requires.solo in
+    let solo = subst (λ (w : SoloView). IsSolo c.args.model.now (with_due c.args.msg.now w))
+    (sym c.self.view_is) c.requires.solo in
     (solo.states i st is).suits
 
 pub handle_at-requires-clause-numbers : goal.handle_at-requires-clause-numbers
 handle_at-requires-clause-numbers g c i st is =
-    let solo = subst (λ (w : SoloView). IsSolo c.args.model.now (with_due c.args.msg.now w)) (sym c.self.view_is) c.requires.solo in
+    let solo = subst (λ (w : SoloView). IsSolo c.args.model.now (with_due c.args.msg.now w))
+    (sym c.self.view_is) c.requires.solo in
     (solo.states i st is).station
 
 pub returns-clause-turned : goal.returns-clause-turned
 returns-clause-turned g c =
     let net = c.args.model.now in
     let m = c.args.msg.now in
-    let v : SoloView = record { states = c.self.inside.states.items; pending = c.self.inside.pending; trace = c.self.inside.trace.items } in
+    let v : SoloView = record {
+      states = c.self.inside.states.items;
+      pending = c.self.inside.pending;
+      trace = c.self.inside.trace.items;
+    } in
     let solo = subst (λ (w : SoloView). IsSolo net (with_due m w)) (sym c.self.view_is) c.requires.solo in
-    let new : SoloView = record { states = c.handle_at.new.states.items; pending = c.put_all.new.pending; trace = c.push.new.self.items } in
+    let new : SoloView = record {
+      states = c.handle_at.new.states.items;
+      pending = c.put_all.new.pending;
+      trace = c.push.new.self.items;
+    } in
     subst (λ (w : SoloView). Turned net w m new) c.self.view_is
-    (rw c.in-Ok-push.ensures.items (turned net solo.valid v m c.handle_at.new.states.items c.put_all.new.pending _ _ c.requires.early solo c.in_ok-line.ensures.ok (rw c.as_slice.ensures.value at c.in-Ok.ensures)))
+    (rw c.in-Ok-push.ensures.items
+    (turned net solo.valid v m c.handle_at.new.states.items c.put_all.new.pending _ _ c.requires.early solo
+    c.in_ok-line.ensures.ok (rw c.as_slice.ensures.value at c.in-Ok.ensures)))
 
 pub returns-clause-solo : goal.returns-clause-solo
 returns-clause-solo g c =
     let net = c.args.model.now in
     let m = c.args.msg.now in
-    let v : SoloView = record { states = c.self.inside.states.items; pending = c.self.inside.pending; trace = c.self.inside.trace.items } in
+    let v : SoloView = record {
+      states = c.self.inside.states.items;
+      pending = c.self.inside.pending;
+      trace = c.self.inside.trace.items;
+    } in
     let solo = subst (λ (w : SoloView). IsSolo net (with_due m w)) (sym c.self.view_is) c.requires.solo in
-    rw c.in-Ok-push.ensures.items (solo_is net solo.valid v m c.handle_at.new.states.items c.put_all.new.pending _ _ c.requires.early solo c.in_ok-line.ensures.ok (rw c.as_slice.ensures.value at c.in-Ok.ensures))
+    rw c.in-Ok-push.ensures.items (solo_is net solo.valid v m c.handle_at.new.states.items c.put_all.new.pending _ _
+    c.requires.early solo c.in_ok-line.ensures.ok (rw c.as_slice.ensures.value at c.in-Ok.ensures))

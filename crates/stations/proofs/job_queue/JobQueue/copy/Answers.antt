@@ -4,4 +4,5 @@ use Rattle.stations.proofs.job_queue.JobQueue.copy.Goals as goal
 
 pub loop-place-preserved : goal.loop-place-preserved
 loop-place-preserved c =
-    c.in_ok-push_back.ensures.items ∙ (rw c.loop-place.invariant (sym (take-next c.args.self.now c.loop-place.place c.get.result c.get.ensures)))
+    c.in_ok-push_back.ensures.items
+    ∙ (rw c.loop-place.invariant (sym (take-next c.args.self.now c.loop-place.place c.get.result c.get.ensures)))

@@ -7,7 +7,8 @@ use Rattle.trace_report.proofs.names.Names.slot.Goals as goal
 pub returns-then-s-gt64 : goal.returns-then-s-gt64
 returns-then-s-gt64 c =
     let net = c.args._model.now in
-    let there = subst (λ slots. slice_get slots 0 ≡ Some (slot_of net 0)) (sym c.self.view_is) (c.requires.names.each 0 (omega arith)) in
+    let there = subst (λ slots. slice_get slots 0 ≡ Some (slot_of net 0)) (sym c.self.view_is)
+    (c.requires.names.each 0 (omega arith)) in
     record {
       value = get_or_from_slice_get c.self.inside.slots 0 (slot_of net 0) c.index-self-0.result there
           ∙ sym (slot_past net c.args.s (omega (arith, c.requires.names.few)));
@@ -17,5 +18,6 @@ pub returns : goal.returns
 returns c =
     let net = c.args._model.now in
     let s = c.args.s in
-    let there = subst (λ slots. slice_get slots s ≡ Some (slot_of net s)) (sym c.self.view_is) (c.requires.names.each s (omega arith)) in
+    let there = subst (λ slots. slice_get slots s ≡ Some (slot_of net s)) (sym c.self.view_is)
+    (c.requires.names.each s (omega arith)) in
     record { value = get_or_from_slice_get c.self.inside.slots s (slot_of net s) c.index-self-s.result there }

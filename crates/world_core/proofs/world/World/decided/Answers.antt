@@ -14,10 +14,13 @@ unreachable-requires c =
     no_place (subject c.args.decision.now) c.args.self.clones o.clone o.place
     (sym (subst (λ (w : WorldView). place_of (subject c.args.decision.now) w.clones ≡ None) c.self.view_is
     (subst (λ (l : ListsView). place_of (subject c.args.decision.now) l.clones ≡ None) c.lists.ensures.value
-    (sym (ap (λ n. place_of n c.lists.result.now.clones) c.subject.ensures.value) ∙ sym c.find.ensures.value ∙ c.in_default.is))))
+    (sym (ap (λ n. place_of n c.lists.result.now.clones) c.subject.ensures.value) ∙ sym c.find.ensures.value
+    ∙ c.in_default.is))))
 
 pub with_set-requires-clause-late : goal.with_set-requires-clause-late
 with_set-requires-clause-late c =
     let o = is_open c.args.self.net c.args.self.clones c.args.self.front c.args.decision.now c.requires.accepted in
-    (may_set c.args.self.net c.args.self.clones c.args.self.front o.clone c.in-Set.at c.in-Set.who c.in-Set.station c.in-Set.change
-    (subst (λ d. first_row (rows (situation c.args.self.net c.args.self.clones c.args.self.front) o.clone d) ≡ Accepted) c.in-Set.is o.rest)).late
+    (may_set c.args.self.net c.args.self.clones c.args.self.front o.clone c.in-Set.at c.in-Set.who c.in-Set.station
+    c.in-Set.change
+    (subst (λ d. first_row (rows (situation c.args.self.net c.args.self.clones c.args.self.front) o.clone d)
+    ≡ Accepted) c.in-Set.is o.rest)).late

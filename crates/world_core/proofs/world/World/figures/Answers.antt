@@ -16,7 +16,8 @@ alone_in-requires-clause-short c =
     let got = got_at procs (c.args.station - 1) p (omega (arith, c.requires.low, high, many)) c.index-proc.ensures in
     let proc = (c.self.invariant.each (c.args.station - 1) p got).proc in
     let short = c.self.invariant.valid.short in
-    subst (AllByRecursion (λ (a : StationCopy). length a.log ≤ 65536)) (sym c.copies-2.ensures.value) (all_short c.self.inside.model.value p.station p.copies (omega (arith, short)) proc.copies)
+    subst (AllByRecursion (λ (a : StationCopy). length a.log ≤ 65536)) (sym c.copies-2.ensures.value)
+    (all_short c.self.inside.model.value p.station p.copies (omega (arith, short)) proc.copies)
 
 pub alone_in-requires-clause-few : goal.alone_in-requires-clause-few
 alone_in-requires-clause-few c =
@@ -25,7 +26,8 @@ alone_in-requires-clause-few c =
     let high = subst (λ (w : WorldView). c.args.station ≤ length w.net.sites) (sym c.self.view_is) c.requires.high in
     let many = c.self.invariant.count in
     let got = got_at procs (c.args.station - 1) p (omega (arith, c.requires.low, high, many)) c.index-proc.ensures in
-    let f = figured c.self.inside.model.value c.self.inside.lists.clones c.self.inside.ends c.self.inside.front procs c.self.invariant c.args.station p c.requires.low got in
+    let f = figured c.self.inside.model.value c.self.inside.lists.clones c.self.inside.ends c.self.inside.front procs
+    c.self.invariant c.args.station p c.requires.low got in
     subst (λ k. all_sizes k ≤ 256) (sym c.copies-2.ensures.value) f.sizes
 
 pub returns-clause-copies : goal.returns-clause-copies
@@ -35,8 +37,11 @@ returns-clause-copies c =
     let high = subst (λ (w : WorldView). c.args.station ≤ length w.net.sites) (sym c.self.view_is) c.requires.high in
     let many = c.self.invariant.count in
     let got = got_at procs (c.args.station - 1) p (omega (arith, c.requires.low, high, many)) c.index-proc.ensures in
-    let f = figured c.self.inside.model.value c.self.inside.lists.clones c.self.inside.ends c.self.inside.front procs c.self.invariant c.args.station p c.requires.low got in
-    ap length c.copies.ensures.value ∙ subst (λ (w : WorldView). length p.copies ≡ copies w.net w.clones c.args.station w.front) c.self.view_is f.copies_are
+    let f = figured c.self.inside.model.value c.self.inside.lists.clones c.self.inside.ends c.self.inside.front procs
+    c.self.invariant c.args.station p c.requires.low got in
+    ap length c.copies.ensures.value
+    ∙ subst (λ (w : WorldView). length p.copies ≡ copies w.net w.clones c.args.station w.front) c.self.view_is
+    f.copies_are
 
 pub returns-clause-handled : goal.returns-clause-handled
 returns-clause-handled c =
@@ -45,8 +50,10 @@ returns-clause-handled c =
     let high = subst (λ (w : WorldView). c.args.station ≤ length w.net.sites) (sym c.self.view_is) c.requires.high in
     let many = c.self.invariant.count in
     let got = got_at procs (c.args.station - 1) p (omega (arith, c.requires.low, high, many)) c.index-proc.ensures in
-    let f = figured c.self.inside.model.value c.self.inside.lists.clones c.self.inside.ends c.self.inside.front procs c.self.invariant c.args.station p c.requires.low got in
-    c.handled.ensures.value ∙ subst (λ (w : WorldView). p.handled ≡ handled w.net w.clones c.args.station w.front) c.self.view_is f.once
+    let f = figured c.self.inside.model.value c.self.inside.lists.clones c.self.inside.ends c.self.inside.front procs
+    c.self.invariant c.args.station p c.requires.low got in
+    c.handled.ensures.value ∙ subst (λ (w : WorldView). p.handled ≡ handled w.net w.clones c.args.station w.front)
+    c.self.view_is f.once
 
 pub returns-clause-alone : goal.returns-clause-alone
 returns-clause-alone c =
@@ -55,5 +62,8 @@ returns-clause-alone c =
     let high = subst (λ (w : WorldView). c.args.station ≤ length w.net.sites) (sym c.self.view_is) c.requires.high in
     let many = c.self.invariant.count in
     let got = got_at procs (c.args.station - 1) p (omega (arith, c.requires.low, high, many)) c.index-proc.ensures in
-    let f = figured c.self.inside.model.value c.self.inside.lists.clones c.self.inside.ends c.self.inside.front procs c.self.invariant c.args.station p c.requires.low got in
-    c.alone_in.ensures.value ∙ ap handled_alone c.copies-2.ensures.value ∙ subst (λ (w : WorldView). handled_alone p.copies ≡ alone w.net w.clones c.args.station w.front) c.self.view_is f.each_alone
+    let f = figured c.self.inside.model.value c.self.inside.lists.clones c.self.inside.ends c.self.inside.front procs
+    c.self.invariant c.args.station p c.requires.low got in
+    c.alone_in.ensures.value ∙ ap handled_alone c.copies-2.ensures.value
+    ∙ subst (λ (w : WorldView). handled_alone p.copies ≡ alone w.net w.clones c.args.station w.front)
+    c.self.view_is f.each_alone

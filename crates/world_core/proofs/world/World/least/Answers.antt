@@ -15,14 +15,19 @@ loop-i-preserved c =
     let ended = c.self.inside.ends in
     let net = c.self.inside.model.value in
     let p = c.index.result.now in
-    let l : c.loop-i.i < length procs = omega (arith, c.loop-i-test.true, c.loop-i.auto.i-end, c.len-i-end.ensures, c.self.inside.procs.ok.0) in
+    let l : c.loop-i.i < length procs =
+    omega (arith, c.loop-i-test.true, c.loop-i.auto.i-end, c.len-i-end.ensures, c.self.inside.procs.ok.0) in
     subst (IsLeastTo (ends_in net.horizon ended) procs (c.loop-i.i + 1)) (sym c.earlier-least.ensures.value)
-    (least_next net c.self.inside.lists.clones ended c.self.inside.front procs c.self.invariant c.loop-i.i p c.loop-i.least c.least.result (got_at procs c.loop-i.i p l c.index.ensures) c.loop-i.invariant
-    (subst (λ (n : Net). IsLeast (ends_in n.horizon ended) p.copies c.least.result) c.deref.ensures c.least.ensures.least))
+    (least_next net c.self.inside.lists.clones ended c.self.inside.front procs c.self.invariant c.loop-i.i p
+    c.loop-i.least c.least.result (got_at procs c.loop-i.i p l c.index.ensures) c.loop-i.invariant
+    (subst (λ (n : Net). IsLeast (ends_in n.horizon ended) p.copies c.least.result) c.deref.ensures
+    c.least.ensures.least))
 
 pub returns : goal.returns
 returns c = record {
   value = subst (λ (w : WorldView). c.loop-i.least ≡ least (simulation w.net) w.clones w.front) c.self.view_is
-      (least_all c.self.inside.model.value c.self.inside.lists.clones c.self.inside.ends c.self.inside.front c.self.inside.procs.items c.self.invariant c.loop-i.i c.loop-i.least
-      (omega (arith, c.loop-i-test.false, c.loop-i.auto.i-end, c.len-i-end.ensures, c.self.inside.procs.ok.0)) c.loop-i.invariant);
+      (least_all c.self.inside.model.value c.self.inside.lists.clones c.self.inside.ends c.self.inside.front
+      c.self.inside.procs.items c.self.invariant c.loop-i.i c.loop-i.least
+      (omega (arith, c.loop-i-test.false, c.loop-i.auto.i-end, c.len-i-end.ensures, c.self.inside.procs.ok.0))
+      c.loop-i.invariant);
 }

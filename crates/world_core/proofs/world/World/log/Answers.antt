@@ -22,7 +22,8 @@ unreachable-requires c =
     let many = c.self.invariant.count in
     let got = got_at procs i p (omega (arith, c.requires.low, high, many)) c.index.ensures in
     has_a_copy w.model.value w.lists.clones w.ends w.front procs c.self.invariant c.args.who there i p got
-    (subst (AllByRecursion (λ (a : StationCopy). has a.set c.args.who ≡ false)) c.copies.ensures.value c.in-None.ensures.none)
+    (subst (AllByRecursion (λ (a : StationCopy). has a.set c.args.who ≡ false)) c.copies.ensures.value
+    c.in-None.ensures.none)
 
 pub returns-clause-value : goal.returns-clause-value
 returns-clause-value c =
@@ -34,10 +35,13 @@ returns-clause-value c =
     let high = subst (λ (w : WorldView). c.args.station ≤ length w.net.sites) (sym c.self.view_is) c.requires.high in
     let many = c.self.invariant.count in
     let got = got_at procs i p (omega (arith, c.requires.low, high, many)) c.index.ensures in
-    let has_log = subst (λ (k : List StationCopy). HasLog k c.args.who c.in-Some.log.now) c.copies.ensures.value c.in-Some.ensures.some in
+    let has_log = subst (λ (k : List StationCopy). HasLog k c.args.who c.in-Some.log.now) c.copies.ensures.value
+    c.in-Some.ensures.some in
     let same : i + 1 ≡ c.args.station = omega (arith, c.requires.low) in
-    subst (λ (w : WorldView). c.in-Some.log.now ≡ log_at (simulation w.net) (clone_at w.clones c.args.who) c.args.station w.front) c.self.view_is
-    (log_is w.model.value w.lists.clones w.ends w.front procs c.self.invariant c.args.who there i p c.in-Some.log.now got has_log
+    subst (λ (w : WorldView). c.in-Some.log.now ≡ log_at (simulation w.net)
+    (clone_at w.clones c.args.who) c.args.station w.front) c.self.view_is
+    (log_is w.model.value w.lists.clones w.ends w.front procs c.self.invariant c.args.who there i p c.in-Some.log.now
+    got has_log
     ∙ ap (λ s. log_at (simulation w.model.value) (clone_at w.lists.clones c.args.who) s w.front) same)
 
 pub returns-clause-short : goal.returns-clause-short
@@ -50,6 +54,8 @@ returns-clause-short c =
     let high = subst (λ (w : WorldView). c.args.station ≤ length w.net.sites) (sym c.self.view_is) c.requires.high in
     let many = c.self.invariant.count in
     let got = got_at procs i p (omega (arith, c.requires.low, high, many)) c.index.ensures in
-    let has_log = subst (λ (k : List StationCopy). HasLog k c.args.who c.in-Some.log.now) c.copies.ensures.value c.in-Some.ensures.some in
+    let has_log = subst (λ (k : List StationCopy). HasLog k c.args.who c.in-Some.log.now) c.copies.ensures.value
+    c.in-Some.ensures.some in
     subst (λ (w : WorldView). length c.in-Some.log.now ≤ w.net.limit) c.self.view_is
-    (log_short w.model.value w.lists.clones w.ends w.front procs c.self.invariant c.args.who there i p c.in-Some.log.now got has_log)
+    (log_short w.model.value w.lists.clones w.ends w.front procs c.self.invariant c.args.who there i p
+    c.in-Some.log.now got has_log)

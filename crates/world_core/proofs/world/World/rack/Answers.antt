@@ -10,6 +10,9 @@ rack-requires-clause-stands c =
     let p = c.index_mut.result.now in
     let high = subst (λ (w : WorldView). c.args.station ≤ length w.net.sites) (sym c.self.view_is) c.requires.high in
     let many = c.self.invariant.count in
-    let got = got_at procs (c.args.station - 1) p (omega (arith, c.requires.low, high, many)) c.index_mut.ensures.value in
-    stands_for_reader c.self.inside.model.value c.in_ok-model.model.value c.self.inside.lists.clones c.in_ok-lists.lists.value.clones
-    c.self.inside.front (c.args.station - 1) p c.in_ok-model.ensures.value c.in_ok-lists.ensures.value (c.self.invariant.each (c.args.station - 1) p got)
+    let got = got_at procs (c.args.station - 1) p (omega (arith, c.requires.low, high, many))
+    c.index_mut.ensures.value in
+    stands_for_reader c.self.inside.model.value c.in_ok-model.model.value c.self.inside.lists.clones
+    c.in_ok-lists.lists.value.clones
+    c.self.inside.front (c.args.station - 1) p c.in_ok-model.ensures.value c.in_ok-lists.ensures.value
+    (c.self.invariant.each (c.args.station - 1) p got)

@@ -16,22 +16,30 @@ pub unreachable-requires : goal.unreachable-requires
 unreachable-requires c =
     let procs = c.self.inside.procs.items in
     let p = c.index.result.now in
-    let l : c.loop-i.i < length procs = omega (arith, c.loop-i-test.true, c.loop-i.auto.i-end, c.len-i-end.ensures, c.self.inside.procs.ok.0) in
+    let l : c.loop-i.i < length procs =
+    omega (arith, c.loop-i-test.true, c.loop-i.auto.i-end, c.len-i-end.ensures, c.self.inside.procs.ok.0) in
     let there = subst (λ (w : WorldView). c.args.who < length w.clones) (sym c.self.view_is) c.requires.there in
-    has_a_copy c.self.inside.model.value c.self.inside.lists.clones c.self.inside.ends c.self.inside.front procs c.self.invariant c.args.who there c.loop-i.i p (got_at procs c.loop-i.i p l c.index.ensures)
-    (subst (AllByRecursion (λ (a : StationCopy). has a.set c.args.who ≡ false)) c.copies.ensures.value c.in_default.ensures.none)
+    has_a_copy c.self.inside.model.value c.self.inside.lists.clones c.self.inside.ends c.self.inside.front procs
+    c.self.invariant c.args.who there c.loop-i.i p (got_at procs c.loop-i.i p l c.index.ensures)
+    (subst (AllByRecursion (λ (a : StationCopy). has a.set c.args.who ≡ false)) c.copies.ensures.value
+    c.in_default.ensures.none)
 
 pub loop-i-preserved : goal.loop-i-preserved
 loop-i-preserved c =
     let procs = c.self.inside.procs.items in
     let p = c.index.result.now in
-    let l : c.loop-i.i < length procs = omega (arith, c.loop-i-test.true, c.loop-i.auto.i-end, c.len-i-end.ensures, c.self.inside.procs.ok.0) in
+    let l : c.loop-i.i < length procs =
+    omega (arith, c.loop-i-test.true, c.loop-i.auto.i-end, c.len-i-end.ensures, c.self.inside.procs.ok.0) in
     let there = subst (λ (w : WorldView). c.args.who < length w.clones) (sym c.self.view_is) c.requires.there in
     record {
       within = omega (arith, l);
-      merged = one_more c.self.inside.model.value c.self.inside.lists.clones c.self.inside.ends c.self.inside.front procs c.self.invariant c.args.who there c.loop-i.i p c.loop-i.trace.items c.in-Some.log.now c.in_ok-trace.trace.items (got_at procs c.loop-i.i p l c.index.ensures)
-          (subst (λ (k : List StationCopy). HasLog k c.args.who c.in-Some.log.now) c.copies.ensures.value c.in-Some.ensures.some) c.loop-i.invariant.merged
-          (c.in_ok-trace.ensures.value ∙ ap₂ (merge by_key) c.as_slice.ensures.value (c.as_slice-in-loop-i.ensures.value ∙ c.in_ok-log.ensures.value));
+      merged = one_more c.self.inside.model.value c.self.inside.lists.clones c.self.inside.ends c.self.inside.front
+          procs c.self.invariant c.args.who there c.loop-i.i p c.loop-i.trace.items c.in-Some.log.now
+          c.in_ok-trace.trace.items (got_at procs c.loop-i.i p l c.index.ensures)
+          (subst (λ (k : List StationCopy). HasLog k c.args.who c.in-Some.log.now) c.copies.ensures.value
+          c.in-Some.ensures.some) c.loop-i.invariant.merged
+          (c.in_ok-trace.ensures.value ∙ ap₂ (merge by_key) c.as_slice.ensures.value
+          (c.as_slice-in-loop-i.ensures.value ∙ c.in_ok-log.ensures.value));
     }
 
 pub returns : goal.returns
@@ -39,7 +47,16 @@ returns c =
     let there = subst (λ (w : WorldView). c.args.who < length w.clones) (sym c.self.view_is) c.requires.there in
     let within = c.loop-i.invariant.within in
     record {
-      value = subst (λ (w : WorldView). c.loop-i.trace.items ≡ (run_of (simulation w.net) (clone_at w.clones c.args.who) w.front).at.trace) c.self.view_is
-          (all_merged c.self.inside.model.value c.self.inside.lists.clones c.self.inside.ends c.self.inside.front c.self.inside.procs.items c.self.invariant c.args.who there c.loop-i.i c.loop-i.trace.items
-          (omega (arith, within, c.loop-i-test.false, c.loop-i.auto.i-end, c.len-i-end.ensures, c.self.inside.procs.ok.0)) c.loop-i.invariant.merged);
+      value = subst (λ (w : WorldView). c.loop-i.trace.items
+          ≡ (run_of (simulation w.net) (clone_at w.clones c.args.who) w.front).at.trace) c.self.view_is
+          (all_merged c.self.inside.model.value c.self.inside.lists.clones c.self.inside.ends c.self.inside.front
+          c.self.inside.procs.items c.self.invariant c.args.who there c.loop-i.i c.loop-i.trace.items
+          (omega (
+            arith,
+            within,
+            c.loop-i-test.false,
+            c.loop-i.auto.i-end,
+            c.len-i-end.ensures,
+            c.self.inside.procs.ok.0,
+          )) c.loop-i.invariant.merged);
     }

@@ -8,5 +8,6 @@ use Rattle.world_core.proofs.world.World.trace.Given as goal
 abbrev pub invariant-loop-i : goal.invariant-loop-i
 invariant-loop-i l = record {
   within : l.i ≤ length l.self-inside.procs.items;
-  merged : l.trace.items ≡ merge_of_logs (simulation l.self-inside.model.value) sender_of number_of (clone_at l.self-inside.lists.clones l.who) l.self-inside.front l.i;
+  merged : l.trace.items ≡ merge_of_logs (simulation l.self-inside.model.value) sender_of number_of
+      (clone_at l.self-inside.lists.clones l.who) l.self-inside.front l.i;
 }

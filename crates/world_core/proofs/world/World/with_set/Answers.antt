@@ -15,11 +15,17 @@ invariant_of-result c =
     let net = c.self.inside.model.value in
     let cs = c.self.inside.lists.clones in
     let there = subst (λ (w : WorldView). c.args.who < length w.clones) (sym c.self.view_is) c.requires.there in
-    let high = subst (λ (w : WorldView). c.args.plan.station ≤ length w.net.sites) (sym c.self.view_is) c.requires.high in
+    let high = subst (λ (w : WorldView). c.args.plan.station ≤ length w.net.sites)
+    (sym c.self.view_is) c.requires.high in
     let late = subst (λ (w : WorldView). w.front ≤ c.args.plan.at) (sym c.self.view_is) c.requires.late in
-    let tells : c.message_of-msg.result ≡ set_message (length (clone_at cs c.args.who).plans) c.args.plan = c.message_of-msg.ensures.value ∙ ap (λ (l : List Planned). set_message (length l) c.args.plan)
+    let tells : c.message_of-msg.result ≡ set_message (length (clone_at cs c.args.who).plans) c.args.plan =
+    c.message_of-msg.ensures.value ∙ ap (λ (l : List Planned). set_message (length l) c.args.plan)
     (c.list.ensures.value ∙ ap (λ (l : ListsView). (clone_at l.clones c.args.who).plans) c.lists.ensures.value) in
-    subst (λ cs. WorldStands net cs c.self.inside.ends c.self.inside.front c.deliver_to.new.procs.items) (sym c.in_ok-add.ensures.clones)
-    (world_added net cs c.args.who c.args.plan there c.self.inside.ends c.self.inside.front c.self.inside.procs.items c.deliver_to.new.procs.items c.requires.low high late c.self.invariant
-    (subst (λ (m : Msg). AllDelivered ((m, one c.args.who) ∷ []) c.self.inside.procs.items c.deliver_to.new.procs.items) tells
-    (subst (λ (k : CloneSet). AllDelivered ((c.message_of-msg.result, k) ∷ []) c.self.inside.procs.items c.deliver_to.new.procs.items) c.one.ensures.value c.in_ok-deliver_to.ensures.given)))
+    subst (λ cs. WorldStands net cs c.self.inside.ends c.self.inside.front c.deliver_to.new.procs.items)
+    (sym c.in_ok-add.ensures.clones)
+    (world_added net cs c.args.who c.args.plan there c.self.inside.ends c.self.inside.front c.self.inside.procs.items
+    c.deliver_to.new.procs.items c.requires.low high late c.self.invariant
+    (subst (λ (m : Msg). AllDelivered ((m, one c.args.who) ∷ []) c.self.inside.procs.items
+    c.deliver_to.new.procs.items) tells
+    (subst (λ (k : CloneSet). AllDelivered ((c.message_of-msg.result, k) ∷ []) c.self.inside.procs.items
+    c.deliver_to.new.procs.items) c.one.ensures.value c.in_ok-deliver_to.ensures.given)))

@@ -9,12 +9,16 @@ use Rattle.sim_base.proofs.pending.block.Block.has_at.Goals as goal
 pub returns-then-place-len : goal.returns-then-place-len
 returns-then-place-len g c =
     let past = past_at c.self.inside.items.items c.args.place (omega arith) in
-    record { value = ap (is_there msg_cmp c.args.msg.now) (sym past) ∙ ap (λ xs. is_there msg_cmp c.args.msg.now (slice_get xs c.args.place)) c.self.view_is }
+    record {
+      value = ap (is_there msg_cmp c.args.msg.now) (sym past)
+          ∙ ap (λ xs. is_there msg_cmp c.args.msg.now (slice_get xs c.args.place)) c.self.view_is;
+    }
 
 pub returns : goal.returns
 returns g c =
     let there = read_at c.self.inside.items.items c.args.place c.index.result.now (omega arith) c.index.ensures in
     record {
       value =
-          c.is_eq.ensures ∙ ap is_eq c.compare.ensures.value ∙ ap (is_there msg_cmp c.args.msg.now) (sym there) ∙ ap (λ xs. is_there msg_cmp c.args.msg.now (slice_get xs c.args.place)) c.self.view_is;
+          c.is_eq.ensures ∙ ap is_eq c.compare.ensures.value ∙ ap (is_there msg_cmp c.args.msg.now) (sym there)
+          ∙ ap (λ xs. is_there msg_cmp c.args.msg.now (slice_get xs c.args.place)) c.self.view_is;
     }

@@ -12,7 +12,8 @@ loop-low-preserved-then-is_gt g c =
     record {
       order = omega arith;
       within = inv.within;
-      before = λ d j e. gt_at msg_cmp c.args.msg.now c.self.inside.items.items c.next_look-middle.result j c.index.result.now d true (omega arith) (omega (arith, inv.within)) c.index.ensures answer;
+      before = λ d j e. gt_at msg_cmp c.args.msg.now c.self.inside.items.items c.next_look-middle.result j
+          c.index.result.now d true (omega arith) (omega (arith, inv.within)) c.index.ensures answer;
       behind = inv.behind;
     }
 
@@ -24,7 +25,9 @@ loop-low-preserved g c =
       order = omega arith;
       within = omega (arith, inv.within);
       before = inv.before;
-      behind = λ d l. gt_at msg_cmp c.args.msg.now c.self.inside.items.items c.next_look-middle.result c.next_look-middle.result c.index.result.now d false (omega arith) (omega (arith, inv.within)) c.index.ensures answer;
+      behind = λ d l. gt_at msg_cmp c.args.msg.now c.self.inside.items.items c.next_look-middle.result
+          c.next_look-middle.result c.index.result.now d false (omega arith)
+          (omega (arith, inv.within)) c.index.ensures answer;
     }
 
 pub returns : goal.returns
@@ -35,6 +38,7 @@ returns g c =
       value = subst (λ xs. IsPlaceOf msg_cmp c.args.msg.now xs c.loop-low.low) c.self.view_is (record {
         within = omega (arith, inv.within);
         before = inv.before;
-        behind = λ d l. subst (λ i. is_gt (msg_cmp c.args.msg.now (get_or c.self.inside.items.items i d).0) ≡ false) same (inv.behind d (omega arith));
+        behind = λ d l. subst (λ i. is_gt (msg_cmp c.args.msg.now (get_or c.self.inside.items.items i d).0) ≡ false)
+            same (inv.behind d (omega arith));
       });
     }

@@ -8,8 +8,10 @@ abbrev pub invariant-loop-low : goal.invariant-loop-low
 invariant-loop-low g l = record {
   order : l.low ≤ l.high;
   within : l.high ≤ length l.self-inside.items.items;
-  before : (d : Msg × g.row.S.Denot) (j : ℕ) → j + 1 ≡ l.low → is_gt (msg_cmp l.msg (get_or l.self-inside.items.items j d).0) ≡ true;
-  behind : (d : Msg × g.row.S.Denot) → l.high < length l.self-inside.items.items → is_gt (msg_cmp l.msg (get_or l.self-inside.items.items l.high d).0) ≡ false;
+  before : (d : Msg × g.row.S.Denot) (j : ℕ) → j + 1 ≡ l.low
+      → is_gt (msg_cmp l.msg (get_or l.self-inside.items.items j d).0) ≡ true;
+  behind : (d : Msg × g.row.S.Denot) → l.high < length l.self-inside.items.items
+      → is_gt (msg_cmp l.msg (get_or l.self-inside.items.items l.high d).0) ≡ false;
 }
 
 abbrev pub decreases-loop-low : goal.decreases-loop-low

@@ -10,14 +10,20 @@ loop-i-preserved g c =
     let met = g.S.Marks.met in
     let join = g.S.Marks.joined in
     let l : c.loop-i.i < length c.args.self.now = omega (arith, ap length c.self.view_is) in
-    let step = map_over_more (λ x. (x.0, if is_some (met x.1 c.args.by) then join x.1 c.args.more else x.1)) c.args.self.now c.loop-i.self-inside.items.items c.loop-i.i c.index_mut-item.result.now l c.loop-i.invariant c.index_mut-item.ensures.value in
+    let step = map_over_more (λ x. (x.0, if is_some (met x.1 c.args.by) then join x.1 c.args.more else x.1))
+    c.args.self.now c.loop-i.self-inside.items.items c.loop-i.i c.index_mut-item.result.now l c.loop-i.invariant
+    c.index_mut-item.ensures.value in
     elim c.if-is_some.branch [
       | then-is_some w ↦
           ap (λ b. b.items.items) w.self-inside-is
-          ∙ ap (set c.loop-i.self-inside.items.items c.loop-i.i) (spread_met join met c.args.by c.args.more c.index_mut-item.result.now w.join-item.result c.meet.result c.meet.ensures (sym c.is_some.ensures ∙ w.if-is_some.true) w.join-item.ensures)
+          ∙ ap (set c.loop-i.self-inside.items.items c.loop-i.i)
+          (spread_met join met c.args.by c.args.more c.index_mut-item.result.now w.join-item.result c.meet.result
+          c.meet.ensures (sym c.is_some.ensures ∙ w.if-is_some.true) w.join-item.ensures)
           ∙ step
       | else-is_some w ↦
           ap (λ b. b.items.items) w.self-inside-is
-          ∙ ap (set c.loop-i.self-inside.items.items c.loop-i.i) (spread_apart join met c.args.by c.args.more c.index_mut-item.result.now c.meet.result c.meet.ensures (sym c.is_some.ensures ∙ w.if-is_some.false))
+          ∙ ap (set c.loop-i.self-inside.items.items c.loop-i.i)
+          (spread_apart join met c.args.by c.args.more c.index_mut-item.result.now c.meet.result c.meet.ensures
+          (sym c.is_some.ensures ∙ w.if-is_some.false))
           ∙ step
     ]
