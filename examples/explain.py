@@ -27,7 +27,7 @@ def rules(subject):
     """The meaning of each refusal number of a model, a script or a decision."""
     text = open(FORMATS, encoding="utf-8").read()
     section = text.split(f"### Refusals of a {subject}\n", 1)[1].split("\n##", 1)[0]
-    rows = re.findall(r"^\| (\d+) \| `\w+` \| (.*?) \|", section, re.M)
+    rows = re.findall(r"^\| `\w+: refusal (\d+)` \| `\w+` \| (.*?) \|", section, re.M)
     return {int(number): meaning for number, meaning in rows}
 
 
@@ -66,6 +66,19 @@ def of_script(path, number):
         print(f"  {path}:{number}: {lines[number - 1].strip()}")
 
 
+def of_limit(path, station):
+    print("  A station would handle more messages in one clone than `limit` allows: 16384 where the model has none, at most 65536.")
+    for i, line in enumerate(open(path, encoding="utf-8", errors="replace").read().split("\n")):
+        if re.match(rf'\s*name\s*=\s*"{station}"', line):
+            print(f"  {path}:{i + 1}: {line.strip()}")
+
+
+def of_missing_clone(path):
+    lines = open(path, encoding="latin-1").read().split("\n")
+    made = [words[1] for words in map(str.split, lines) if len(words) == 4 and words[0] == "fork"]
+    print("  The clones are " + ", ".join(["base"] + made) + ".")
+
+
 def explain(model, script, said):
     print(said)
     if found := re.fullmatch(r"cloner: model: refusal (\d+) at station (\d+)(?: key (.*))?", said):
@@ -77,6 +90,10 @@ def explain(model, script, said):
         subject, number = found[1], int(found[2])
         print(f"  {rules(subject)[number]}")
         of_script(script, int(found[3]))
+    elif found := re.fullmatch(r"cloner: limit \d+ met at station (\w+) in clone \w+", said):
+        return of_limit(model, found[1])
+    elif said.startswith("cloner: no clone "):
+        return of_missing_clone(script)
     else:
         return
     if hint := HINTS.get((subject, number)):
