@@ -1,10 +1,12 @@
 #!/usr/bin/env python3
-"""check_docs.py [PAGE ..]
+"""check_docs.py [--bin FILE] [PAGE ..]
 
-Runs each command of the pages (README.md and examples/README.md where none is named) at the top of the checkout, and
-compares what it prints with the page. A command is a block ```sh; what it prints is the block ```text right behind it.
-`cloner` is the built program, crates/cloner_cli/out/cloner_cli. Ends with status 1 where something is otherwise.
+Runs each command of the pages (all that show commands, where none is named) at the top of the checkout, and compares
+what it prints with the page. A command is a block ```sh; what it prints is the block ```text right behind it. `cloner`
+is the built program, crates/cloner_cli/out/cloner_cli where no other is named. Ends with status 1 where something is
+otherwise.
 """
+import argparse
 import os
 import re
 import shutil
@@ -14,6 +16,7 @@ import tempfile
 
 TOP = os.path.join(os.path.dirname(os.path.abspath(__file__)), "..")
 PROGRAM = os.path.join(TOP, "crates", "cloner_cli", "out", "cloner_cli")
+PAGES = ["README.md", "examples/README.md", "docs/PLANNING.md", "docs/FORMATS.md"]
 
 
 def commands(page):
@@ -47,10 +50,13 @@ def check(pages, path):
 
 
 def main():
-    pages = sys.argv[1:] or ["README.md", "examples/README.md"]
+    parser = argparse.ArgumentParser(description=__doc__, formatter_class=argparse.RawDescriptionHelpFormatter)
+    parser.add_argument("--bin", default=PROGRAM)
+    parser.add_argument("pages", nargs="*", default=PAGES)
+    told = parser.parse_args()
     with tempfile.TemporaryDirectory() as folder:
-        shutil.copy(PROGRAM, os.path.join(folder, "cloner"))
-        same, other = check(pages, folder + os.pathsep + os.environ["PATH"])
+        shutil.copy(told.bin, os.path.join(folder, "cloner"))
+        same, other = check(told.pages, folder + os.pathsep + os.environ["PATH"])
     print(f"{same} as shown, {other} otherwise")
     return 1 if other else 0
 
