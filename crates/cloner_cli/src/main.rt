@@ -1,8 +1,8 @@
 //! The program `cloner`: `main` hands the words of the command line, real files and streams to `cloner_top`.
 #![tactic(auto)]
 
-ghost use Rattle.std.specs.Prelude.{◌≡◌, ◌↔◌, ◌<◌, None};
-ghost use Rattle.cloner_top.specs.Requests.{form};
+ghost use Rattle.std.specs.Prelude.{◌≡◌, ◌⊎◌, ◌<◌, None, IfOk, OnErr};
+ghost use Rattle.cloner_top.specs.Answers.{asked_by};
 
 use cloner_top::{Refusal, cloner};
 use crew_pool::NoGate;
@@ -10,6 +10,7 @@ use sim_base::{NoMemory, Steps};
 use sim_outer::{ErrSink, FileInputs, OutSink, Sink, Word};
 use std::alloc::Global;
 use std::env;
+use std::io::ErrorKind;
 use std::marker::Brand;
 use std::process::ExitCode;
 use std::rt::{Env, Files};
@@ -17,12 +18,13 @@ use std::sync::Wait;
 use std::sync::ledger::{Blank, Ledger};
 use std::thread::Threads;
 
-// The words of the command line, without the program's name; none where there are no arguments to read.
+// The words of the command line, without the program's name; none where they cannot be read as text.
 fn words<R: Env + AllocGlobal>(rt: &R) -> Result<Vec<Word>, NoMemory> {
     let alloc = rt.alloc();
     let mut words = Vec::new(alloc);
     let args = match env::args(rt) {
         Ok(args) => args,
+        Err(fault) if fault.kind() == ErrorKind::OutOfMemory => return Err(NoMemory),
         Err(_) => return Ok(words),
     };
     for (place, arg) in args.enumerate() {
@@ -43,7 +45,8 @@ fn run<L: Ledger, R: Files + Print + Eprint + Threads + Wait + Sync>(
     requires name { blank.name ≡ L.name }
     requires parts { blank.parts ≡ L.parts }
     requires some { 0 < L.parts }
-    ensures usage { (result ≡ 2) ↔ (form words.now ≡ None) }
+    ensures usage { (result ≡ 2 → asked_by words.now ≡ None)
+        × (asked_by words.now ≡ None → (result ≡ 1) ⊎ (result ≡ 2)) }
 {
     let mut steps = Steps::<L>::new(blank);
     let mut inputs = FileInputs::new(rt);
@@ -61,18 +64,32 @@ fn run<L: Ledger, R: Files + Print + Eprint + Threads + Wait + Sync>(
     )
 }
 
-fn main(rt: HostRuntime) -> ExitCode {
-    match words(&rt) {
-        Ok(words) => ExitCode::from(run::<Brand, HostRuntime>(
-            &rt,
-            rt.alloc(),
-            words.as_slice(),
-            Blank::new(1),
-        )),
+// The status, by the words or by the memory that was refused them.
+fn answer<L: Ledger, R: Files + Print + Eprint + Threads + Wait + Sync>(
+    rt: &R,
+    alloc: Global,
+    words: Result<Vec<Word>, NoMemory>,
+    blank: Blank,
+) -> u8
+    requires name { blank.name ≡ L.name }
+    requires parts { blank.parts ≡ L.parts }
+    requires some { 0 < L.parts }
+    ensures usage { IfOk words (λ w.
+        (result ≡ 2 → asked_by w.items ≡ None) × (asked_by w.items ≡ None → (result ≡ 1) ⊎ (result ≡ 2))) }
+    ensures memory { OnErr words (result ≡ 1) }
+{
+    match words {
+        Ok(words) => run::<L, R>(rt, alloc, words.as_slice(), blank),
         Err(NoMemory) => {
-            let line = Refusal::OutOfMemory.line();
-            let _ = ErrSink::new(&rt).put(line.text().as_bytes());
-            ExitCode::from(1)
+            let refusal = Refusal::OutOfMemory;
+            let line = refusal.line();
+            let _ = ErrSink::new(rt).put(line.text().as_bytes());
+            refusal.status()
         }
     }
+}
+
+fn main(rt: HostRuntime) -> ExitCode {
+    let words = words(&rt);
+    ExitCode::from(answer::<Brand, HostRuntime>(&rt, rt.alloc(), words, Blank::new(1)))
 }

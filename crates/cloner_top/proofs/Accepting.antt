@@ -1,12 +1,14 @@
 -- Journals of calls that were all accepted at front 0.
-use Rattle.std.proofs.Common.{◌≡◌, ℕ, ◌+◌, ◌==◌, refl, sym, ap, ◌∙◌, subst, Bool, true, false, List, [], ◌∷◌, ◌++◌, length, Option, Some, None, option_map}
+use Rattle.std.proofs.Common.{◌≡◌, ℕ, ◌+◌, ◌==◌, refl, sym, ap, ◌∙◌, subst, Bool, true}
+use Rattle.std.proofs.Common.{false, List, [], ◌∷◌, ◌++◌, length, Option, Some, None, option_map}
 use Rattle.std.specs.Prelude.{nat_le}
 use Rattle.sim_base.specs.Clones.{Clone, base, clone_at, place_of}
 use Rattle.sim_base.specs.Decisions.{subject}
 use Rattle.sim_base.specs.declared.decision.Decision.{Decision}
 use Rattle.sim_base.specs.declared.decision.Decision.TheVariants.{Fork, Set, End}
 use Rattle.net_model.specs.Net.{Net}
-use Rattle.decision_book.specs.Journal.{Event, Situation, after, asked, calls_of, clones_after, fronts_of, raised, with_reply}
+use Rattle.decision_book.specs.Journal.{Event, Situation, after, asked, calls_of}
+use Rattle.decision_book.specs.Journal.{clones_after, fronts_of, raised, with_reply}
 use Rattle.decision_book.specs.Replies.{clone_rows, first_row, reply, row, rows}
 use Rattle.decision_book.specs.Right.{journal_with}
 use Rattle.decision_book.specs.Scripts.{next}
@@ -15,9 +17,8 @@ use Rattle.decision_book.specs.declared.call.Reply.{Reply}
 use Rattle.decision_book.specs.declared.call.Reply.TheVariants.{Accepted, Full, Closed, Ended}
 use Rattle.decision_book.specs.declared.call.TheConstants.{MOST_CALLS}
 use Rattle.decision_book.proofs.Scripts.{journal_stands, next_accepted}
-use Rattle.decision_script.specs.declared.item.Act.{Act}
 use Rattle.world_core.specs.Taking.{AreAccepted, IsAccepted, clones_after_calls, situation}
-use Rattle.cloner_top.specs.Deciding.{AllAccepted}
+use Rattle.study_run.specs.Accepted.{AllAccepted}
 
 -- the rows of a decision do not depend on how many calls there were
 rows_same : (s : Situation) (c : ℕ) (d : Decision) → rows s c d ≡ rows (situation s.net s.clones s.front) c d
@@ -25,31 +26,38 @@ rows_same s c (Fork new old) = refl
 rows_same s c (Set who at station change) = refl
 rows_same s c (End who at) = refl
 
-clone_rows_same : (s : Situation) (d : Decision) (place : Option ℕ) → clone_rows s d place ≡ clone_rows (situation s.net s.clones s.front) d place
+clone_rows_same : (s : Situation) (d : Decision) (place : Option ℕ)
+    → clone_rows s d place ≡ clone_rows (situation s.net s.clones s.front) d place
 clone_rows_same s d None = refl
 clone_rows_same s d (Some c) = ap (λ r. option_map (λ at. Ended at) (clone_at s.clones c).end ∷ r) (rows_same s c d)
 
-not_full : (b : Bool) (more : List (Option Reply)) → first_row (row b Full ∷ more) ≡ Accepted → first_row more ≡ Accepted
+not_full : (b : Bool) (more : List (Option Reply)) → first_row (row b Full ∷ more) ≡ Accepted
+    → first_row more ≡ Accepted
 not_full true more h = absurd (cc)
 not_full false more h = h
 
 -- what was accepted is accepted in a journal that is not full
 accepted_at : (s : Situation) (d : Decision) → reply s d ≡ Accepted → IsAccepted s.net s.clones s.front d
 accepted_at s d h =
-    ap (λ r. first_row (row (s.front == s.net.horizon) Closed ∷ r)) (sym (clone_rows_same s d (place_of (subject d) s.clones)))
-    ∙ not_full (nat_le MOST_CALLS s.calls) (row (s.front == s.net.horizon) Closed ∷ clone_rows s d (place_of (subject d) s.clones)) h
+    ap (λ r. first_row (row (s.front == s.net.horizon) Closed ∷ r))
+    (sym (clone_rows_same s d (place_of (subject d) s.clones)))
+    ∙ not_full (nat_le MOST_CALLS s.calls)
+    (row (s.front == s.net.horizon) Closed ∷ clone_rows s d (place_of (subject d) s.clones)) h
 
 calls_more : (events : List Event) (call : Call) → calls_of (events ++ asked call ∷ []) ≡ calls_of events ++ call ∷ []
 calls_more [] call = refl
 calls_more (raised f ∷ es) call = calls_more es call
 calls_more (asked c ∷ es) call = ap (λ l. c ∷ l) (calls_more es call)
 
-accepted_more : (net : Net) (cs : List Clone) (calls : List Call) (call : Call) → AreAccepted net cs 0 calls → IsAccepted net (clones_after_calls net cs calls) 0 call.decision
+accepted_more : (net : Net) (cs : List Clone) (calls : List Call) (call : Call) → AreAccepted net cs 0 calls
+    → IsAccepted net (clones_after_calls net cs calls) 0 call.decision
     → AreAccepted net cs 0 (calls ++ call ∷ [])
 accepted_more net cs [] call h one = (one, tt)
-accepted_more net cs (c ∷ calls) call h one = (h.0, accepted_more net (clones_after net cs c.decision) calls call h.1 one)
+accepted_more net cs (c ∷ calls) call h one =
+    (h.0, accepted_more net (clones_after net cs c.decision) calls call h.1 one)
 
-clones_more : (net : Net) (cs : List Clone) (calls : List Call) (call : Call) → clones_after_calls net cs (calls ++ call ∷ []) ≡ clones_after net (clones_after_calls net cs calls) call.decision
+clones_more : (net : Net) (cs : List Clone) (calls : List Call) (call : Call)
+    → clones_after_calls net cs (calls ++ call ∷ []) ≡ clones_after net (clones_after_calls net cs calls) call.decision
 clones_more net cs [] call = refl
 clones_more net cs (c ∷ calls) call = clones_more net (clones_after net cs c.decision) calls call
 
@@ -58,7 +66,8 @@ pub none_asked : (net : Net) (events : List Event) → events ≡ [] → AllAcce
 none_asked net events e = subst (AllAccepted net) (sym e) (record { front = refl; accepted = tt; clones = refl })
 
 -- one decision more that is accepted
-pub asked_more : (net : Net) (events more : List Event) (caller : ℕ) (d : Decision) → reply (after net events) d ≡ Accepted → more ≡ journal_with net events caller d
+pub asked_more : (net : Net) (events more : List Event) (caller : ℕ) (d : Decision)
+    → reply (after net events) d ≡ Accepted → more ≡ journal_with net events caller d
     → after net more ≡ next (after net events) d → AllAccepted net events → AllAccepted net more
 asked_more net events more caller d is same on all =
     let s : Situation = after net events in
@@ -66,12 +75,16 @@ asked_more net events more caller d is same on all =
     let whole : more ≡ events ++ asked call ∷ [] = same ∙ ap (with_reply events caller d) is in
     let calls : calls_of more ≡ calls_of events ++ call ∷ [] = ap calls_of whole ∙ calls_more events call in
     let of_net : s.net ≡ net = ap (λ (t : Situation). t.net) (journal_stands net events) in
-    let now : after net more ≡ record s { clones = clones_after s.net s.clones d; calls = s.calls + 1 } = on ∙ next_accepted s d is in
+    let now : after net more ≡ record s { clones = clones_after s.net s.clones d; calls = s.calls + 1 } =
+    on ∙ next_accepted s d is in
     let one : IsAccepted net (clones_after_calls net (base ∷ []) (calls_of events)) 0 d =
-    subst (λ cs. IsAccepted net cs 0 d) (sym all.clones) (subst (λ f. IsAccepted net s.clones f d) all.front (subst (λ n. IsAccepted n s.clones s.front d) of_net (accepted_at s d is))) in
+    subst (λ cs. IsAccepted net cs 0 d) (sym all.clones)
+    (subst (λ f. IsAccepted net s.clones f d) all.front
+    (subst (λ n. IsAccepted n s.clones s.front d) of_net (accepted_at s d is))) in
     record {
       front = ap (λ (t : Situation). t.front) now ∙ all.front;
-      accepted = subst (AreAccepted net (base ∷ []) 0) (sym calls) (accepted_more net (base ∷ []) (calls_of events) call all.accepted one);
+      accepted = subst (AreAccepted net (base ∷ []) 0) (sym calls)
+          (accepted_more net (base ∷ []) (calls_of events) call all.accepted one);
       clones = ap (clones_after_calls net (base ∷ [])) calls
           ∙ (clones_more net (base ∷ []) (calls_of events) call
           ∙ (ap (λ cs. clones_after net cs d) all.clones

@@ -1,69 +1,213 @@
--- Deciding the items of a script one after the other.
-use Rattle.std.proofs.Common.{◌≡◌, ℕ, ◌+◌, refl, sym, ap, ap₂, ◌∙◌, List, ◌∷◌, drop, Option, Some, None, Ok, Err, Bool, true, false, slice_get}
-use Rattle.std.specs.Prelude.{if◌then◌else◌}
-use Rattle.std.proofs.lemmas.List.{drop_more}
+-- The decisions of a script, made one after the other.
+use Rattle.std.proofs.Common.{◌≡◌, ◌≢◌, ◌≤◌, ℕ, suc, ◌+◌, refl, sym, ap, ap₂, ◌∙◌, subst, arith, List, [], ◌∷◌, ◌++◌}
+use Rattle.std.proofs.Common.{length, append-nil, map, take, drop, Some, None, slice_get, unwrap_or}
+use Rattle.std.specs.Prelude.{option_map}
+use Rattle.std.proofs.lemmas.List.{drop_more, take-append-drop, take_all, take_more}
+use Rattle.std.proofs.lemmas.List.Sums.{fold-append}
 use Rattle.std.proofs.lemmas.Option.{get_or_from_slice_get, slice_get_within}
-use Rattle.sim_base.specs.Clones.{Clone}
-use Rattle.sim_base.specs.declared.decision.Decision.{Decision}
 use Rattle.net_model.specs.Net.{Net}
 use Rattle.decision_script.specs.Alone.{decisions, decisions_onto}
 use Rattle.decision_script.specs.Stating.{ScriptView}
 use Rattle.decision_script.specs.declared.item.Act.{Act}
 use Rattle.decision_script.specs.declared.item.Act.TheVariants.{Decide, Look}
 use Rattle.decision_script.specs.declared.item.Item.{Item}
-use Rattle.decision_book.specs.Journal.{Situation, opening}
+use Rattle.decision_book.specs.Books.{BookView}
+use Rattle.decision_book.specs.Journal.{Situation, after, opening}
 use Rattle.decision_book.specs.Replies.{reply}
-use Rattle.decision_book.specs.Scripts.{after_all}
-use Rattle.cloner_top.specs.declared.refusal.Refusal.{Refusal}
-use Rattle.cloner_top.specs.declared.refusal.Refusal.TheVariants.{Refused}
-use Rattle.cloner_top.specs.Deciding.{act_refused, after_act, decided, first_refused, is_accepted, unless_refused}
+use Rattle.decision_book.specs.Right.{journal_with}
+use Rattle.decision_book.specs.Scripts.{Question, after_all, first_refusal, journal_of_script}
+use Rattle.decision_book.specs.declared.call.Reply.TheVariants.{Accepted}
+use Rattle.decision_book.proofs.Scripts.{accepted_goes_on, refused_is_first, script_stands}
+use Rattle.cloner_top.specs.declared.stop.Stop.{Stop}
+use Rattle.cloner_top.specs.declared.stop.Stop.TheVariants.{Refused}
+use Rattle.cloner_top.proofs.Accepting.{none_asked}
+use Rattle.study_run.specs.Accepted.{AllAccepted}
+use Rattle.cloner_top.specs.Deciding.{AcceptsAct, IsDecided, IsRefusal, RefusesAct, by_line, decision_lines}
+use Rattle.cloner_top.specs.Deciding.{journal_after, lines_onto, questions, questions_onto, scripted}
 
--- the items from a place on begin with the one there
-items_at : (is : List Item) (i : ℕ) (item : Item) → slice_get is i ≡ Some item → drop i is ≡ item ∷ drop (i + 1) is
-items_at is i item h = drop_more is i item (slice_get_within is i item h) ∙ ap (λ x. x ∷ drop (i + 1) is) (get_or_from_slice_get is i item item h)
+-- ---- items that stand before others
 
-first_at : (s : Situation) (is : List Item) (i : ℕ) (item : Item) → slice_get is i ≡ Some item
-    → first_refused s (drop i is) ≡ act_refused s item.line item.act (first_refused (after_act s item.act) (drop (i + 1) is))
-first_at s is i item h = ap (first_refused s) (items_at is i item h)
+questions-append : (xs ys : List Item) → questions (xs ++ ys) ≡ questions xs ++ questions ys
+questions-append [] ys = refl
+questions-append (i ∷ is) ys = of_act i.act (questions-append is ys)
+  where
+    of_act : (act : Act) → questions (is ++ ys) ≡ questions is ++ questions ys
+        → questions_onto i.analyst act (questions (is ++ ys)) ≡ questions_onto i.analyst act (questions is)
+        ++ questions ys
+    of_act (Decide d) h = ap (λ qs. record { caller = i.analyst; decision = d } ∷ qs) h
+    of_act (Look who station) h = h
 
-accepted_passes : (accepted : Bool) (r : Refusal) → (if accepted then None else Some r) ≡ None → (later : Option Refusal) → (if accepted then later else Some r) ≡ later
-accepted_passes true r h later = refl
-accepted_passes false r h later = absurd (cc)
+decisions-append : (xs ys : List Item) → decisions (xs ++ ys) ≡ decisions xs ++ decisions ys
+decisions-append [] ys = refl
+decisions-append (i ∷ is) ys = of_act i.act (decisions-append is ys)
+  where
+    of_act : (act : Act) → decisions (is ++ ys) ≡ decisions is ++ decisions ys
+        → decisions_onto act (decisions (is ++ ys)) ≡ decisions_onto act (decisions is) ++ decisions ys
+    of_act (Decide d) h = ap (λ ds. d ∷ ds) h
+    of_act (Look who station) h = h
 
--- what is not refused leaves what comes of the later items
-passes : (s : Situation) (line : ℕ) (act : Act) → act_refused s line act None ≡ None → (later : Option Refusal) → act_refused s line act later ≡ later
-passes s line (Decide d) h later = accepted_passes (is_accepted (reply s d)) (Refused (reply s d) line) h later
-passes s line (Look who station) h later = refl
+lines-append : (xs ys : List Item) → decision_lines (xs ++ ys) ≡ decision_lines xs ++ decision_lines ys
+lines-append [] ys = refl
+lines-append (i ∷ is) ys = of_act i.act (lines-append is ys)
+  where
+    of_act : (act : Act) → decision_lines (is ++ ys) ≡ decision_lines is ++ decision_lines ys
+        → lines_onto i.line act (decision_lines (is ++ ys)) ≡ lines_onto i.line act (decision_lines is)
+        ++ decision_lines ys
+    of_act (Decide d) h = ap (λ ls. i.line ∷ ls) h
+    of_act (Look who station) h = h
 
-stands_on : (s : Situation) (act : Act) (ds : List Decision) → after_all (after_act s act) ds ≡ after_all s (decisions_onto act ds)
-stands_on s (Decide d) ds = refl
-stands_on s (Look who station) ds = refl
+-- each decision has its line
+lines-length : (is : List Item) → length (decision_lines is) ≡ length (decisions is)
+lines-length [] = refl
+lines-length (i ∷ is) = of_act i.act (lines-length is)
+  where
+    of_act : (act : Act) → length (decision_lines is) ≡ length (decisions is)
+        → length (lines_onto i.line act (decision_lines is)) ≡ length (decisions_onto act (decisions is))
+    of_act (Decide d) h = ap suc h
+    of_act (Look who station) h = h
 
--- an item is refused, and none before it
-pub refused_here : (s start : Situation) (is : List Item) (i : ℕ) (item : Item) (r : Refusal) → slice_get is i ≡ Some item
-    → first_refused s (drop i is) ≡ first_refused start is → ((later : Option Refusal) → act_refused s item.line item.act later ≡ Some r) → first_refused start is ≡ Some r
-refused_here s start is i item r h same refused = sym same ∙ (first_at s is i item h ∙ refused (first_refused (after_act s item.act) (drop (i + 1) is)))
+-- what is asked are the decisions
+asked-decisions : (is : List Item) → map (λ q. q.decision) (questions is) ≡ decisions is
+asked-decisions [] = refl
+asked-decisions (i ∷ is) = of_act i.act (asked-decisions is)
+  where
+    of_act : (act : Act) → map (λ q. q.decision) (questions is) ≡ decisions is
+        → map (λ q. q.decision) (questions_onto i.analyst act (questions is)) ≡ decisions_onto act (decisions is)
+    of_act (Decide d) h = ap (λ ds. d ∷ ds) h
+    of_act (Look who station) h = h
 
--- an item is not refused, and the later ones are left
-pub refused_later : (s t start : Situation) (is : List Item) (i : ℕ) (item : Item) → slice_get is i ≡ Some item → t ≡ after_act s item.act
-    → first_refused s (drop i is) ≡ first_refused start is → act_refused s item.line item.act None ≡ None → first_refused t (drop (i + 1) is) ≡ first_refused start is
-refused_later s t start is i item h on same ok =
-    ap (λ x. first_refused x (drop (i + 1) is)) on ∙ (sym (first_at s is i item h ∙ passes s item.line item.act ok (first_refused (after_act s item.act) (drop (i + 1) is))) ∙ same)
+-- ---- one item more
 
-pub stands_later : (s t start : Situation) (is : List Item) (i : ℕ) (item : Item) → slice_get is i ≡ Some item → t ≡ after_act s item.act
-    → after_all s (decisions (drop i is)) ≡ after_all start (decisions is) → after_all t (decisions (drop (i + 1) is)) ≡ after_all start (decisions is)
-stands_later s t start is i item h on same =
-    ap (λ x. after_all x (decisions (drop (i + 1) is))) on
-    ∙ (stands_on s item.act (decisions (drop (i + 1) is)) ∙ (sym (ap (λ l. after_all s (decisions l)) (items_at is i item h)) ∙ same))
+module _ (is : List Item) (i : ℕ) (item : Item) (there : slice_get is i ≡ Some item) where
+  rest_is : drop i is ≡ item ∷ drop (i + 1) is
+  rest_is = drop_more is i item (slice_get_within is i item there)
+      ∙ ap (λ x. x ∷ drop (i + 1) is) (get_or_from_slice_get is i item item there)
 
--- all decisions of a script are accepted
-pub all_accepted : (net : Net) (s : ScriptView) (clones : List Clone) (start : Situation) → start ≡ opening net → first_refused start s.items ≡ None
-    → clones ≡ (after_all start (decisions s.items)).clones → decided net s ≡ Ok clones
-unfolding decided
-all_accepted net s clones start e none is =
-    ap₂ unless_refused (ap (λ x. first_refused x s.items) (sym e) ∙ none) (ap (λ x. (after_all x (decisions s.items)).clones) (sym e) ∙ sym is)
+  all_are : take i is ++ (item ∷ drop (i + 1) is) ≡ is
+  all_are = ap (λ l. take i is ++ l) (sym rest_is) ∙ take-append-drop i is
 
--- a decision of a script is refused
-pub one_refused : (net : Net) (s : ScriptView) (r : Refusal) (start : Situation) → start ≡ opening net → first_refused start s.items ≡ Some r → decided net s ≡ Err r
-unfolding decided
-one_refused net s r start e some = rw (← e, some) refl
+  first_are : take i is ++ item ∷ [] ≡ take (i + 1) is
+  first_are = sym (take_more is i item (slice_get_within is i item there)
+      ∙ ap (λ x. take i is ++ x ∷ []) (get_or_from_slice_get is i item item there))
+
+-- how things stand after the items up to one
+stands : (net : Net) (is : List Item) → after net (journal_of_script net (questions is)) ≡ after_all (opening net)
+    (decisions is)
+stands net is = script_stands net (questions is) ∙ ap (after_all (opening net)) (asked-decisions is)
+
+journal-more : (net : Net) (is : List Item) (item : Item) → journal_of_script net (questions (is ++ item ∷ []))
+    ≡ journal_after net (journal_of_script net (questions is)) item.analyst item.act
+journal-more net is item = ap (journal_of_script net) (questions-append is (item ∷ [])) ∙ of_act item.act
+  where
+    of_act : (act : Act) → journal_of_script net (questions is ++ questions_onto item.analyst act [])
+        ≡ journal_after net (journal_of_script net (questions is)) item.analyst act
+    of_act (Decide d) = fold-append (λ events (q : Question). journal_with net events q.caller q.decision) []
+        (questions is) (record { caller = item.analyst; decision = d } ∷ [])
+    of_act (Look who station) = ap (journal_of_script net) (append-nil (questions is))
+
+none-more : (net : Net) (is : List Item) (item : Item) → first_refusal net (decisions is) ≡ None
+    → AcceptsAct (after net (journal_of_script net (questions is))) item.act
+    → first_refusal net (decisions (is ++ item ∷ [])) ≡ None
+none-more net is item none accepts = ap (first_refusal net) (decisions-append is (item ∷ [])) ∙ of_act item.act accepts
+  where
+    of_act : (act : Act) → AcceptsAct (after net (journal_of_script net (questions is))) act
+        → first_refusal net (decisions is ++ decisions_onto act []) ≡ None
+    of_act (Decide d) ok = accepted_goes_on net (decisions is) d none
+        (subst (λ s. reply s d ≡ Accepted) (stands net is) ok)
+    of_act (Look who station) ok = ap (first_refusal net) (append-nil (decisions is)) ∙ none
+
+-- the element behind others
+at_length : (xs ys : List ℕ) (x n : ℕ) → n ≡ length xs → slice_get (xs ++ x ∷ ys) n ≡ Some x
+at_length [] ys x n e = rw e refl
+at_length (a ∷ xs) ys x n e = let m : n ≡ suc (length xs) = omega (arith, e) in
+    rw m (at_length xs ys x (length xs) refl)
+
+-- the first decision that is refused, by its line
+refused_at : (net : Net) (is more : List Item) (item : Item) (stop : Stop) (stated : ScriptView)
+    → stated.items ≡ is ++ item ∷ more
+    → first_refusal net (decisions is) ≡ None
+    → RefusesAct (after net (journal_of_script net (questions is))) item.line item.act stop
+    → IsRefusal net stated stop
+refused_at net is more item stop stated whole none h = of_act item.act refl h
+  where
+    of_act : (act : Act) → item.act ≡ act
+        → RefusesAct (after net (journal_of_script net (questions is))) item.line act stop → IsRefusal net stated stop
+    of_act (Look who station) e h = absurd h
+    of_act (Decide d) e h =
+        let other : reply (after_all (opening net) (decisions is)) d ≢ Accepted =
+        subst (λ s. reply s d ≢ Accepted) (stands net is) h.0 in
+        let stop_is : Refused (reply (after_all (opening net) (decisions is)) d) item.line ≡ stop =
+        ap (λ s. Refused (reply s d) item.line) (sym (stands net is)) ∙ sym h.1 in
+        let ds : decisions stated.items ≡ decisions is ++ d ∷ decisions more =
+        ap decisions whole ∙ (decisions-append is (item ∷ more)
+        ∙ ap (λ a. decisions is ++ decisions_onto a (decisions more)) e) in
+        let ls : decision_lines stated.items ≡ decision_lines is ++ item.line ∷ decision_lines more =
+        ap decision_lines whole ∙ (lines-append is (item ∷ more)
+        ∙ ap (λ a. decision_lines is ++ lines_onto item.line a (decision_lines more)) e) in
+        let first : first_refusal net (decisions stated.items)
+        ≡ Some (length (decisions is), reply (after_all (opening net) (decisions is)) d) =
+        ap (first_refusal net) ds ∙ refused_is_first net (decisions is) d (decisions more) none other in
+        let line : slice_get (decision_lines stated.items) (length (decisions is)) ≡ Some item.line =
+        ap (λ l. slice_get l (length (decisions is))) ls
+        ∙ at_length (decision_lines is) (decision_lines more) item.line (length (decisions is))
+        (sym (lines-length is)) in
+        subst (IsRefusal net stated) stop_is
+        (ap (option_map (by_line (decision_lines stated.items))) first
+        ∙ ap (λ o. Some (reply (after_all (opening net) (decisions is)) d, unwrap_or o 0)) line)
+
+-- ---- a book that has come to an item
+
+pub record IsAt (net : Net) (is : List Item) (i : ℕ) (book : BookView) : Type 0 where
+  pub net_is : book.net ≡ net
+  pub events : book.events ≡ journal_of_script net (questions (take i is))
+  pub none : first_refusal net (decisions (take i is)) ≡ None
+  pub accepted : AllAccepted book.net book.events
+
+pub begins : (net : Net) (is : List Item) (book : BookView) → book ≡ record { net = net; events = [] }
+    → IsAt net is 0 book
+begins net is book e = record {
+  net_is = ap (λ (b : BookView). b.net) e;
+  events = ap (λ (b : BookView). b.events) e;
+  none = refl;
+  accepted = none_asked book.net book.events (ap (λ (b : BookView). b.events) e);
+}
+
+module _ (net : Net) (is : List Item) (i : ℕ) (item : Item) (old : BookView) (there : slice_get is i ≡ Some item)
+    (at : IsAt net is i old) where
+  journal_is : after old.net old.events ≡ after net (journal_of_script net (questions (take i is)))
+  journal_is = ap₂ after at.net_is at.events
+
+  pub goes_on : (new : BookView) → new.net ≡ old.net
+      → new.events ≡ journal_after old.net old.events item.analyst item.act
+      → AcceptsAct (after old.net old.events) item.act
+      → (AllAccepted old.net old.events → AllAccepted new.net new.events) → IsAt net is (i + 1) new
+  goes_on new same events accepts all = record {
+    net_is = same ∙ at.net_is;
+    events = events ∙ (ap₂ (λ n es. journal_after n es item.analyst item.act) at.net_is at.events
+        ∙ (sym (journal-more net (take i is) item) ∙ ap (λ l. journal_of_script net (questions l))
+        (first_are is i item there)));
+    none = ap (λ l. first_refusal net (decisions l)) (sym (first_are is i item there))
+        ∙ none-more net (take i is) item at.none (subst (λ s. AcceptsAct s item.act) journal_is accepts);
+    accepted = all at.accepted;
+  }
+
+  pub refused_here : (stated : ScriptView) (stop : Stop) → stated.items ≡ is
+      → RefusesAct (after old.net old.events) item.line item.act stop → IsRefusal net stated stop
+  refused_here stated stop e h =
+      refused_at net (take i is) (drop (i + 1) is) item stop stated (e ∙ sym (all_are is i item there)) at.none
+      (subst (λ s. RefusesAct s item.line item.act stop) journal_is h)
+
+-- at the end all decisions were accepted
+pub ends : (net : Net) (stated : ScriptView) (i : ℕ) (book : BookView) → length stated.items ≤ i
+    → IsAt net stated.items i book → IsDecided net stated book
+ends net stated i book last at =
+    let all : take i stated.items ≡ stated.items = take_all i stated.items last in
+    let events : book.events ≡ scripted net stated = at.events ∙ ap (λ l. journal_of_script net (questions l)) all in
+    record {
+      net_is = at.net_is;
+      events = events;
+      none = ap (option_map (by_line (decision_lines stated.items)))
+          (ap (λ l. first_refusal net (decisions l)) (sym all) ∙ at.none);
+      accepted = subst (λ n. AllAccepted n book.events) at.net_is at.accepted;
+      clones = ap (λ (s : Situation). s.clones) (ap (after net) events ∙ stands net stated.items);
+    }

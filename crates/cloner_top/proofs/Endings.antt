@@ -1,85 +1,260 @@
--- How the program ends, by what its steps answered.
-use Rattle.std.proofs.Common.{◌≡◌, arith, inl, inr, refl, sym, subst, ℕ, List, Option, Some, None, Err}
+-- How the steps of a study join to an ending, and endings to an answer.
+use Rattle.std.proofs.Common.{◌≡◌, ◌≤◌, ℕ, ◌+◌, inl, inr, refl, sym, ap}
+use Rattle.std.proofs.Common.{subst, ◌∙◌, arith, List, [], Option, Some, None, Ok}
+use Rattle.sim_outer.specs.Causes.{AreCounted, Rose}
 use Rattle.sim_outer.specs.Files.{Files}
+use Rattle.net_model.specs.Net.{Net}
+use Rattle.net_model.specs.Text.{model}
+use Rattle.decision_script.specs.Reading.{script}
+use Rattle.decision_script.specs.Stating.{ScriptView}
+use Rattle.decision_book.specs.Books.{BookView}
+use Rattle.decision_book.specs.Journal.{after}
+use Rattle.command_words.specs.declared.request.WordsFault.{WordsFault}
+use Rattle.command_words.specs.declared.request.WordsFault.TheVariants as fault
+use Rattle.command_words.specs.Requests.{Asked, Source, made, named}
+use Rattle.cloner_top.specs.declared.reading.Text.TheVariants.{Model, Script}
 use Rattle.cloner_top.specs.declared.refusal.Refusal.{Refusal}
-use Rattle.cloner_top.specs.declared.refusal.Refusal.TheVariants.{OutOfMemory, Usage, NoModel, NoScript, BadModel, BadScript, Refused, NoClone, LimitMetAt, CannotWrite}
-use Rattle.cloner_top.specs.Requests.{Asked}
-use Rattle.cloner_top.specs.Refusals.{status_of}
-use Rattle.cloner_top.specs.Work.{IsBounded, IsWork, IsWorkOf}
-use Rattle.cloner_top.specs.Answers.{Ends, EndsFor, ErrorsFailed, Expects, IsAnswer, IsPut, IsRefused, Outside, OutputFailed, Tells}
+use Rattle.cloner_top.specs.declared.refusal.Refusal.TheVariants.{OutOfMemory, Usage, NoModel}
+use Rattle.cloner_top.specs.declared.refusal.Refusal.TheVariants.{NoScript, Stopped, CannotWrite}
+use Rattle.cloner_top.specs.declared.stop.Stop.{Stop}
+use Rattle.cloner_top.specs.declared.stop.Stop.TheVariants.{BadModel, BadScript, Refused, NoClone, LimitMet}
+use Rattle.cloner_top.specs.Answers.{Comes, IsAnswer, IsRefused, IsUnobeyed, Outside}
+use Rattle.cloner_top.specs.Answers as answer
+use Rattle.cloner_top.specs.Deciding.{IsRefusal}
+use Rattle.cloner_top.specs.Endings.{Ending, MayCome, MayEnd, MaySimulate, StoppedFor, Wrote, overrun, stopped, written}
+use Rattle.cloner_top.specs.Endings as ends
+use Rattle.cloner_top.specs.Outsides.{ArePut, IsFailed, IsFinished, IsNotPut, IsTold, SinkView}
+use Rattle.cloner_top.specs.Plans.{HasModel, IsPlanned, IsUnplanned, StopsEarly}
+use Rattle.cloner_top.specs.Refusals.{Stops, line_of, status_of, words_refusal}
+use Rattle.cloner_top.specs.Texts.{AreTexts, IsBadModel, IsBadScript, IsNotRead, IsText}
+use Rattle.cloner_top.specs.Texts.{IsUnread, all_fetches, fetches_of, text_of}
 
--- the words are of no form
-pub usage : (before after : Outside) (words : Option Asked) (status : ℕ) → words ≡ None → after.output ≡ before.output → Tells before after (Some Usage) → status ≡ 2 → IsAnswer words before after status
-usage before after words status none same told is = record {
-  refusal = Some Usage;
-  ends = subst (λ w. EndsFor before after w (Some Usage)) (sym none) (refl, same);
-  tells = told;
-  is_status = is;
+-- ---- the plan of a study
+
+pub no_model_text : (rose : Type 0) (source : Source) (files : Option Files) (r : Refusal)
+    → IsNotRead rose source Model files r → IsUnplanned rose source files r
+no_model_text rose source files OutOfMemory h = tt
+no_model_text rose source files Usage h = absurd h
+no_model_text rose source files NoModel h = h
+no_model_text rose source files NoScript h = absurd h
+no_model_text rose source files (Stopped stop) h = absurd h
+no_model_text rose source files CannotWrite h = absurd h
+
+unread_on : (a b c : ℕ) (source : Source) (files : Option Files) → a ≤ b → IsUnread (Rose b c) source Script files
+    → IsUnread (Rose a c) source Script files
+unread_on a b c (named m s) files le (inl rose) = inl (omega (arith, rose, le))
+unread_on a b c (named m s) files le (inr lacks) = inr lacks
+unread_on a b c (made n) files le h = h
+
+pub no_script_text : (a b c : ℕ) (source : Source) (files more : Option Files) (r : Refusal) → a ≤ b → more ≡ files
+    → HasModel source files
+    → IsNotRead (Rose b c) source Script more r → IsUnplanned (Rose a c) source files r
+no_script_text a b c source files more OutOfMemory le same has h = tt
+no_script_text a b c source files more Usage le same has h = absurd h
+no_script_text a b c source files more NoModel le same has h = absurd h
+no_script_text a b c source files more NoScript le same has h =
+    (has, unread_on a b c source files le (subst (λ f. IsUnread (Rose b c) source Script f) same h))
+no_script_text a b c source files more (Stopped stop) le same has h = absurd h
+no_script_text a b c source files more CannotWrite le same has h = absurd h
+
+bad_model_stops : (source : Source) (files : Option Files) (m : List ℕ) (stop : Stop)
+    → IsText (text_of source Model files) m → IsBadModel m stop → StopsEarly source files stop
+bad_model_stops source files m (BadModel fault) text h = record {
+  m = m;
+  s = [];
+  texts = record { model_is = text; script_is = λ net is. absurd (let e = sym h ∙ is in cc) };
+  may = λ a. ends.bad_model fault h;
+}
+bad_model_stops source files m (BadScript fault) text h = absurd h
+bad_model_stops source files m (Refused reply line) text h = absurd h
+bad_model_stops source files m (NoClone name) text h = absurd h
+bad_model_stops source files m (LimitMet limit station clone) text h = absurd h
+
+pub no_model : (rose : Type 0) (source : Source) (files : Option Files) (m : List ℕ) (r : Refusal)
+    → IsText (text_of source Model files) m → Stops (IsBadModel m) r → IsUnplanned rose source files r
+no_model rose source files m OutOfMemory text h = tt
+no_model rose source files m Usage text h = absurd h
+no_model rose source files m NoModel text h = absurd h
+no_model rose source files m NoScript text h = absurd h
+no_model rose source files m (Stopped stop) text h = bad_model_stops source files m stop text h
+no_model rose source files m CannotWrite text h = absurd h
+
+-- both texts of a study
+pub both_texts : (source : Source) (files more : Option Files) (m s : List ℕ) → IsText (text_of source Model files) m
+    → more ≡ files → IsText (text_of source Script more) s → AreTexts source files m s
+both_texts source files more m s model_is same script_is =
+    record { model_is = model_is; script_is = λ net is. subst (λ f. IsText (text_of source Script f) s) same script_is }
+
+bad_script_stops : (source : Source) (files : Option Files) (m s : List ℕ) (net : Net) (stop : Stop)
+    → AreTexts source files m s → model m ≡ Ok net → IsBadScript s stop → StopsEarly source files stop
+bad_script_stops source files m s net (BadScript fault) texts is h =
+    record { m = m; s = s; texts = texts; may = λ a. ends.bad_script net fault is h }
+bad_script_stops source files m s net (BadModel fault) texts is h = absurd h
+bad_script_stops source files m s net (Refused reply line) texts is h = absurd h
+bad_script_stops source files m s net (NoClone name) texts is h = absurd h
+bad_script_stops source files m s net (LimitMet limit station clone) texts is h = absurd h
+
+pub no_script : (rose : Type 0) (source : Source) (files : Option Files) (m s : List ℕ) (net : Net) (r : Refusal)
+    → AreTexts source files m s → model m ≡ Ok net → Stops (IsBadScript s) r → IsUnplanned rose source files r
+no_script rose source files m s net OutOfMemory texts is h = tt
+no_script rose source files m s net Usage texts is h = absurd h
+no_script rose source files m s net NoModel texts is h = absurd h
+no_script rose source files m s net NoScript texts is h = absurd h
+no_script rose source files m s net (Stopped stop) texts is h = bad_script_stops source files m s net stop texts is h
+no_script rose source files m s net CannotWrite texts is h = absurd h
+
+refusal_stops : (source : Source) (files : Option Files) (m s : List ℕ) (net : Net) (stated : ScriptView)
+    (stop : Stop) → AreTexts source files m s → model m ≡ Ok net → script s ≡ Ok stated
+    → IsRefusal net stated stop → StopsEarly source files stop
+refusal_stops source files m s net stated (Refused reply line) texts is_model is_script h =
+    record {
+      m = m;
+      s = s;
+      texts = texts;
+      may = λ a. ends.studied net stated (stopped (Refused reply line)) is_model
+          is_script (ends.refused reply line h);
+    }
+refusal_stops source files m s net stated (BadModel fault) texts is_model is_script h = absurd h
+refusal_stops source files m s net stated (BadScript fault) texts is_model is_script h = absurd h
+refusal_stops source files m s net stated (NoClone name) texts is_model is_script h = absurd h
+refusal_stops source files m s net stated (LimitMet limit station clone) texts is_model is_script h = absurd h
+
+pub no_decisions : (rose : Type 0) (source : Source) (files : Option Files) (m s : List ℕ) (net : Net)
+    (stated : ScriptView) (r : Refusal) → AreTexts source files m s → model m ≡ Ok net → script s ≡ Ok stated
+    → Stops (IsRefusal net stated) r → IsUnplanned rose source files r
+no_decisions rose source files m s net stated OutOfMemory texts is_model is_script h = tt
+no_decisions rose source files m s net stated Usage texts is_model is_script h = absurd h
+no_decisions rose source files m s net stated NoModel texts is_model is_script h = absurd h
+no_decisions rose source files m s net stated NoScript texts is_model is_script h = absurd h
+no_decisions rose source files m s net stated (Stopped stop) texts is_model is_script h =
+    refusal_stops source files m s net stated stop texts is_model is_script h
+no_decisions rose source files m s net stated CannotWrite texts is_model is_script h = absurd h
+
+-- ---- how often is fetched
+
+twice : (source : Source) (a b c : Option ℕ) → AreCounted (fetches_of source) a b → AreCounted (fetches_of source) b c
+    → AreCounted (all_fetches source) a c
+twice (made n) None b c h k = let e : b ≡ None = h in (rw e at k)
+twice (made n) (Some x) b c h k = (rw h at k)
+twice (named m s) None b c h k = let e : b ≡ None = h in (rw e at k)
+twice (named m s) (Some x) b c h k = (rw h at k)
+
+pub fetched_twice : (source : Source) (a b c : Option ℕ) → AreCounted (fetches_of source) a b
+    → AreCounted (fetches_of source) b c → AreCounted (all_fetches source) a c
+fetched_twice = twice
+
+pub fetched_once : (source : Source) → fetches_of source ≤ all_fetches source
+fetched_once (named m s) = omega arith
+fetched_once (made n) = omega arith
+
+-- ---- endings
+
+module _ (P Q : Ending → Type 0) (on : (end : Ending) → P end → Q end) (old_steps new_steps : ℕ) where
+  wrote_on : (texts : List (List ℕ)) → Wrote P old_steps new_steps texts → Wrote Q old_steps new_steps texts
+  wrote_on texts w = record { work = w.work; may = on (written texts w.work) w.may; steps = w.steps }
+
+  stopped_on : (stop : Stop) → StoppedFor P old_steps new_steps stop → StoppedFor Q old_steps new_steps stop
+  stopped_on stop (ends.at_once may same) = ends.at_once (on (stopped stop) may) same
+  stopped_on stop (ends.at_limit most may few) = ends.at_limit most (on (overrun stop most) may) few
+
+  pub finished_on : (old new : SinkView) → IsFinished P old_steps new_steps old new
+      → IsFinished Q old_steps new_steps old new
+  finished_on old new f = record { texts = f.texts; wrote = wrote_on f.texts f.wrote; put = f.put }
+
+  pub failed_on : (old new : SinkView) (r : Refusal) → IsFailed P old_steps new_steps old new r
+      → IsFailed Q old_steps new_steps old new r
+  failed_on old new OutOfMemory h = h
+  failed_on old new Usage h = h
+  failed_on old new NoModel h = h
+  failed_on old new NoScript h = h
+  failed_on old new (Stopped stop) h = (stopped_on stop h.0, h.1)
+  failed_on old new CannotWrite h = record { texts = h.texts; wrote = wrote_on h.texts h.wrote; cut = h.cut }
+
+-- what the simulation of a planned study comes to is what is asked
+pub comes : (files : Option Files) (a : Asked) (net : Net) (book : BookView) → IsPlanned a.source files net book
+    → (end : Ending) → MaySimulate a.mode a.source net (after book.net book.events).clones end → Comes files a end
+comes files a net book plan end may = record {
+  m = plan.m;
+  s = plan.s;
+  texts = plan.texts;
+  may = ends.studied net plan.stated end plan.is_model plan.is_script
+      (ends.decided end plan.decided.none (subst (λ cs. MaySimulate a.mode a.source net cs end)
+      (ap (λ n. (after n book.events).clones) plan.decided.net_is ∙ plan.decided.clones) may));
 }
 
--- a cause is how it ends
-ends_so : (before after : Outside) (a : Asked) (r : Refusal) → IsRefused before after a r → Ends before after a (Some r)
-ends_so before after a OutOfMemory h = h
-ends_so before after a Usage h = h
-ends_so before after a NoModel h = h
-ends_so before after a NoScript h = h
-ends_so before after a (BadModel fault) h = h
-ends_so before after a (BadScript fault) h = h
-ends_so before after a (Refused reply line) h = h
-ends_so before after a (NoClone name) h = h
-ends_so before after a (LimitMetAt limit station clone) h = h
-ends_so before after a CannotWrite h = absurd h.0
+pub failed_is : (rose : Type 0) (files : Option Files) (a : Asked) (old_steps new_steps : ℕ) (old new : SinkView)
+    (r : Refusal)
+    → IsFailed (Comes files a) old_steps new_steps old new r → IsUnobeyed rose files a old_steps new_steps old new r
+failed_is rose files a old_steps new_steps old new OutOfMemory h = h
+failed_is rose files a old_steps new_steps old new Usage h = h
+failed_is rose files a old_steps new_steps old new NoModel h = absurd h
+failed_is rose files a old_steps new_steps old new NoScript h = absurd h
+failed_is rose files a old_steps new_steps old new (Stopped stop) h = h
+failed_is rose files a old_steps new_steps old new CannotWrite h = h
 
--- nothing is written
-pub refused : (before after : Outside) (words : Option Asked) (a : Asked) (r : Refusal) (status : ℕ) → Some a ≡ words → IsRefused before after a r → Tells before after (Some r) → status ≡ status_of r → IsAnswer words before after status
-refused before after words a r status form cause told is = record {
-  refusal = Some r;
-  ends = subst (λ w. EndsFor before after w (Some r)) form (ends_so before after a r cause);
-  tells = told;
-  is_status = is;
-}
+-- a study that is not planned is not written
+pub unplanned_is : (rose : Type 0) (files : Option Files) (a : Asked) (steps : ℕ) (out : SinkView) (r : Refusal)
+    → IsUnplanned rose a.source files r → IsUnobeyed rose files a steps steps out out r
+unplanned_is rose files a steps out OutOfMemory h = refl
+unplanned_is rose files a steps out Usage h = h
+unplanned_is rose files a steps out NoModel h = (h, refl, refl)
+unplanned_is rose files a steps out NoScript h = (h.0, h.1, refl, refl)
+unplanned_is rose files a steps out (Stopped stop) h =
+    (ends.at_once (record { m = h.m; s = h.s; texts = h.texts; may = h.may a }) refl, refl)
+unplanned_is rose files a steps out CannotWrite h = absurd h
 
--- the texts are written, or cut off
-pub put : (before after : Outside) (words : Option Asked) (a : Asked) (text : List ℕ) (status : ℕ) → Some a ≡ words → Expects before.files a text
-    → IsPut (OutputFailed before after) before.output after.output text before.errors after.errors (ErrorsFailed before after) status → IsAnswer words before after status
-put before after words a text status form expects (inl whole) = record {
-  refusal = None;
-  ends = subst (λ w. EndsFor before after w None) form (text, expects, whole.1);
-  tells = whole.2;
-  is_status = whole.0;
-}
-put before after words a text status form expects (inr cut) = record {
-  refusal = Some CannotWrite;
-  ends = subst (λ w. EndsFor before after w (Some CannotWrite)) form (text, expects, cut.1, cut.2);
-  tells = cut.3;
-  is_status = cut.0;
-}
+-- ---- texts that were put
 
--- words of no form are no work
-pub usage_work : (words : Option Asked) (files : Option Files) (steps status : ℕ) → words ≡ None → IsWorkOf words files steps steps status
-usage_work words files steps status none = subst (λ w. IsWorkOf w files steps steps status) (sym none) refl
+module _ (P : Ending → Type 0) (old_steps new_steps work : ℕ) (texts : List (List ℕ)) (may : P (written texts work))
+    (steps : new_steps ≡ old_steps + work) (old new : SinkView) where
+  pub all_put : ArePut texts old new → IsFinished P old_steps new_steps old new
+  all_put put = record { texts = texts; wrote = record { work = work; may = may; steps = steps }; put = put }
 
-work_of : (a : Asked) (files : Option Files) (old new : ℕ) (r : Refusal) (status : ℕ) → IsWork {T = ℕ} (Err r) (IsBounded files a old new) (new ≡ old) → status ≡ status_of r → IsWorkOf (Some a) files old new status
-work_of a files old new OutOfMemory status work is = (λ z. absurd (omega (arith, is, z)), (λ l h. absurd (omega (arith, is, l))), λ l. absurd (omega (arith, is, l)))
-work_of a files old new Usage status work is = (λ z. absurd (omega (arith, is, z)), (λ l h. work), λ l. absurd (omega (arith, is, l)))
-work_of a files old new NoModel status work is = (λ z. absurd (omega (arith, is, z)), (λ l h. work), λ l. absurd (omega (arith, is, l)))
-work_of a files old new NoScript status work is = (λ z. absurd (omega (arith, is, z)), (λ l h. work), λ l. absurd (omega (arith, is, l)))
-work_of a files old new (BadModel fault) status work is = (λ z. absurd (omega (arith, is, z)), (λ l h. work), λ l. absurd (omega (arith, is, l)))
-work_of a files old new (BadScript fault) status work is = (λ z. absurd (omega (arith, is, z)), (λ l h. work), λ l. absurd (omega (arith, is, l)))
-work_of a files old new (Refused reply line) status work is = (λ z. absurd (omega (arith, is, z)), (λ l h. work), λ l. absurd (omega (arith, is, l)))
-work_of a files old new (NoClone name) status work is = (λ z. absurd (omega (arith, is, z)), (λ l h. work), λ l. absurd (omega (arith, is, l)))
-work_of a files old new (LimitMetAt limit station clone) status work is = (λ z. absurd (omega (arith, is, z)), (λ l h. absurd (omega (arith, is, h))), λ l. work)
-work_of a files old new CannotWrite status work is = (λ z. absurd (omega (arith, is, z)), (λ l h. work), λ l fs e. omega (arith, work))
+  pub not_put : (r : Refusal) → IsNotPut texts old new r → IsFailed P old_steps new_steps old new r
+  not_put OutOfMemory h = h
+  not_put Usage h = h
+  not_put NoModel h = h
+  not_put NoScript h = h
+  not_put (Stopped stop) h = absurd h
+  not_put CannotWrite h = record { texts = texts; wrote = record { work = work; may = may; steps = steps }; cut = h }
 
-pub refused_work : (words : Option Asked) (a : Asked) (files : Option Files) (old new : ℕ) (r : Refusal) (status : ℕ) → Some a ≡ words
-    → IsWork {T = ℕ} (Err r) (IsBounded files a old new) (new ≡ old) → status ≡ status_of r → IsWorkOf words files old new status
-refused_work words a files old new r status form work is = subst (λ w. IsWorkOf w files old new status) form (work_of a files old new r status work is)
+pub stops_failed : (P : Ending → Type 0) (old_steps new_steps : ℕ) (out : SinkView) (r : Refusal)
+    → Stops (StoppedFor P old_steps new_steps) r → IsFailed P old_steps new_steps out out r
+stops_failed P old_steps new_steps out OutOfMemory h = refl
+stops_failed P old_steps new_steps out Usage h = h
+stops_failed P old_steps new_steps out NoModel h = h
+stops_failed P old_steps new_steps out NoScript h = h
+stops_failed P old_steps new_steps out (Stopped stop) h = (h, refl)
+stops_failed P old_steps new_steps out CannotWrite h = absurd h
 
-pub put_work : (words : Option Asked) (a : Asked) (files : Option Files) (old new : ℕ) (rose : Type 0) (from to : Option (List ℕ)) (text : List ℕ) (errors_from errors_to : Option (List ℕ)) (errors_rose : Type 0) (status : ℕ)
-    → Some a ≡ words → IsBounded files a old new → IsPut rose from to text errors_from errors_to errors_rose status → IsWorkOf words files old new status
-put_work words a files old new rose from to text errors_from errors_to errors_rose status form work (inl whole) =
-    let is = whole.0 in
-    subst (λ w. IsWorkOf w files old new status) form ((λ z. work), (λ l h. absurd (omega (arith, is, l))), λ l. work)
-put_work words a files old new rose from to text errors_from errors_to errors_rose status form work (inr cut) =
-    let is = cut.0 in
-    subst (λ w. IsWorkOf w files old new status) form ((λ z. work), (λ l h. absurd (omega (arith, is, h))), λ l. work)
+-- ---- answers
+
+module _ (words : Option Asked) (before after : Outside) where
+  by_fault : (f : WordsFault) → (f ≡ fault.Usage → words ≡ None) → IsRefused before after (words_refusal f)
+      → after.inputs ≡ before.inputs → after.steps ≡ before.steps
+      → IsAnswer words before after (status_of (words_refusal f))
+  by_fault fault.NoMemory none refused inputs steps = answer.memory refused
+  by_fault fault.Usage none refused inputs steps = answer.usage (none refl) refused inputs steps
+
+  pub unread_words : (f : WordsFault) (status : ℕ) → (f ≡ fault.Usage → words ≡ None)
+      → IsRefused before after (words_refusal f) → after.inputs ≡ before.inputs → after.steps ≡ before.steps
+      → status ≡ status_of (words_refusal f) → IsAnswer words before after status
+  unread_words f status none refused inputs steps is =
+      subst (IsAnswer words before after) (sym is) (by_fault f none refused inputs steps)
+
+  by_refusal : (a : Asked) (r : Refusal) → words ≡ Some a
+      → IsUnobeyed (Rose before.inputs.faults after.inputs.faults) before.inputs.files a before.steps after.steps
+      before.output after.output r
+      → IsTold (line_of r) before.errors after.errors → IsAnswer words before after (status_of r)
+  by_refusal a OutOfMemory is h told = answer.memory (record { output = h; told = told })
+  by_refusal a Usage is h told = absurd h
+  by_refusal a NoModel is h told = answer.no_model a is h.0 (record { output = h.1; told = told }) h.2
+  by_refusal a NoScript is h told = answer.no_script a is h.0 h.1 (record { output = h.2; told = told }) h.3
+  by_refusal a (Stopped stop) is h told = answer.stopped a is stop h.0 (record { output = h.1; told = told })
+  by_refusal a CannotWrite is h told = answer.cut a is h told
+
+  pub unobeyed : (a : Asked) (r : Refusal) (status : ℕ) → words ≡ Some a
+      → IsUnobeyed (Rose before.inputs.faults after.inputs.faults) before.inputs.files a before.steps after.steps
+      before.output after.output r
+      → IsTold (line_of r) before.errors after.errors → status ≡ status_of r → IsAnswer words before after status
+  unobeyed a r status asks h told is = subst (IsAnswer words before after) (sym is) (by_refusal a r asks h told)

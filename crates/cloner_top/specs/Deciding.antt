@@ -1,53 +1,82 @@
--- The decisions of a script, decided in its order before the simulation begins; looks are passed over.
-use Rattle.std.specs.Prelude.{◌≡◌, ℕ, Bool, true, false, if◌then◌else◌, List, [], ◌∷◌, Option, Some, None, Result, Ok, Err}
-use Rattle.sim_base.specs.Clones.{Clone, base}
+-- The decisions of a script, made in its order at front 0 before the simulation begins; looks are passed over.
+use Rattle.std.specs.Prelude.{◌≡◌, ◌≢◌, ℕ, List, [], ◌∷◌, Option, Some, None, option_map, slice_get, unwrap_or}
+use Rattle.sim_base.specs.Clones.{Clone}
 use Rattle.net_model.specs.Net.{Net}
 use Rattle.decision_script.specs.Alone.{decisions}
 use Rattle.decision_script.specs.Stating.{ScriptView}
 use Rattle.decision_script.specs.declared.item.Act.{Act}
 use Rattle.decision_script.specs.declared.item.Act.TheVariants.{Decide, Look}
 use Rattle.decision_script.specs.declared.item.Item.{Item}
-use Rattle.decision_book.specs.Journal.{Event, Situation, after, calls_of, opening}
+use Rattle.decision_book.specs.Books.{BookView}
+use Rattle.decision_book.specs.Journal.{Event, Situation, after}
 use Rattle.decision_book.specs.Replies.{reply}
-use Rattle.decision_book.specs.Scripts.{lists_of, next}
+use Rattle.decision_book.specs.Right.{journal_with}
+use Rattle.decision_book.specs.Scripts.{Question, first_refusal, journal_of_script, lists_of}
 use Rattle.decision_book.specs.declared.call.Reply.{Reply}
 use Rattle.decision_book.specs.declared.call.Reply.TheVariants.{Accepted}
-use Rattle.world_core.specs.Taking.{AreAccepted, clones_after_calls}
-use Rattle.cloner_top.specs.declared.refusal.Refusal.{Refusal}
-use Rattle.cloner_top.specs.declared.refusal.Refusal.TheVariants.{Refused}
+use Rattle.study_run.specs.Accepted.{AllAccepted}
+use Rattle.cloner_top.specs.declared.stop.Stop.{Stop}
+use Rattle.cloner_top.specs.declared.stop.Stop.TheVariants.{Refused}
 
--- how things stand after an item
-abbrev pub after_act : Situation → Act → Situation
-after_act s (Decide d) = next s d
-after_act s (Look who station) = s
+-- who asks what, before other questions
+abbrev pub questions_onto : ℕ → Act → List Question → List Question
+questions_onto analyst (Decide d) qs = record { caller = analyst; decision = d } ∷ qs
+questions_onto analyst (Look who station) qs = qs
 
-abbrev pub is_accepted : Reply → Bool
-is_accepted Accepted = true
-is_accepted reply = false
+-- who asks what, in the order of a script
+abbrev pub questions : List Item → List Question
+questions [] = []
+questions (i ∷ is) = questions_onto i.analyst i.act (questions is)
 
--- the refusal of the decision on this line, or else what comes of the later ones
-abbrev pub refused_or : Reply → ℕ → Option Refusal → Option Refusal
-refused_or reply line later = if is_accepted reply then later else Some (Refused reply line)
+abbrev pub lines_onto : ℕ → Act → List ℕ → List ℕ
+lines_onto line (Decide d) ls = line ∷ ls
+lines_onto line (Look who station) ls = ls
 
-abbrev pub act_refused : Situation → ℕ → Act → Option Refusal → Option Refusal
-act_refused s line (Decide d) later = refused_or (reply s d) line later
-act_refused s line (Look who station) later = later
+-- the lines of the decisions
+abbrev pub decision_lines : List Item → List ℕ
+decision_lines [] = []
+decision_lines (i ∷ is) = lines_onto i.line i.act (decision_lines is)
 
--- the first decision among the items that is refused, with its line
-abbrev pub first_refused : Situation → List Item → Option Refusal
-first_refused s [] = None
-first_refused s (i ∷ is) = act_refused s i.line i.act (first_refused (after_act s i.act) is)
+-- the journal that a script leaves, where each decision is asked by its analyst
+abbrev pub scripted : Net → ScriptView → List Event
+scripted net s = journal_of_script net (questions s.items)
 
-abbrev pub unless_refused : Option Refusal → List Clone → Result (List Clone) Refusal
-unless_refused None clones = Ok clones
-unless_refused (Some refusal) clones = Err refusal
+-- the clones that the decisions of a script leave
+abbrev pub clones_of : Net → ScriptView → List Clone
+clones_of net s = lists_of net (decisions s.items)
 
--- the clones that a script's decisions leave, or the first that is refused
-unfoldable pub decided : Net → ScriptView → Result (List Clone) Refusal
-decided net s = unless_refused (first_refused (opening net) s.items) (lists_of net (decisions s.items))
+-- a refusal by its line, where these are the lines of the decisions
+abbrev pub by_line : List ℕ → ℕ × Reply → Reply × ℕ
+by_line lines refusal = (refusal.1, unwrap_or (slice_get lines refusal.0) 0)
 
--- a journal of calls that were all accepted at front 0, one after the other, which leave its clones
-pub record AllAccepted (net : Net) (events : List Event) : Type 0 where
-  pub front : (after net events).front ≡ 0
-  pub accepted : AreAccepted net (base ∷ []) 0 (calls_of events)
-  pub clones : clones_after_calls net (base ∷ []) (calls_of events) ≡ (after net events).clones
+-- the first decision of a script that is refused: the reply to it, and its line
+abbrev pub first_refused : Net → ScriptView → Option (Reply × ℕ)
+first_refused net s = option_map (by_line (decision_lines s.items)) (first_refusal net (decisions s.items))
+
+-- what an item makes of a journal
+abbrev pub journal_after : Net → List Event → ℕ → Act → List Event
+journal_after net events analyst (Decide d) = journal_with net events analyst d
+journal_after net events analyst (Look who station) = events
+
+-- an item is no decision, or one that is accepted
+abbrev pub AcceptsAct : Situation → Act → Type 0
+AcceptsAct s (Decide d) = reply s d ≡ Accepted
+AcceptsAct s (Look who station) = Unit {0}
+
+-- an item is a decision that is refused so
+abbrev pub RefusesAct : Situation → ℕ → Act → Stop → Type 0
+RefusesAct s line (Decide d) stop = (reply s d ≢ Accepted) × (stop ≡ Refused (reply s d) line)
+RefusesAct s line (Look who station) stop = ⊥
+
+-- the stop that the first refused decision is
+abbrev pub IsRefusal : Net → ScriptView → Stop → Type 0
+IsRefusal net s (Refused reply line) = first_refused net s ≡ Some (reply, line)
+IsRefusal net s stop = ⊥
+
+-- a book in which the decisions of a script were all accepted
+pub record IsDecided (net : Net) (s : ScriptView) (book : BookView) : Type 0 where
+  pub net_is : book.net ≡ net
+  pub events : book.events ≡ scripted net s
+  pub none : first_refused net s ≡ None
+  pub accepted : AllAccepted net book.events
+  pub clones : (after net book.events).clones ≡ clones_of net s

@@ -1,75 +1,123 @@
 -- What an answer of the program says, one fact at a time.
-use Rattle.std.specs.Prelude.{◌≡◌, ◌⊎◌, ℕ, List, ◌++◌, Option, Some, None, Result, Ok, Err}
+use Rattle.std.specs.Prelude.{◌≡◌, ◌⊎◌, ℕ, ◌+◌, ◌≤◌, List, [], ◌∷◌, length, Option, Some, None, Ok}
 use Rattle.sim_base.specs.Clones.{Clone, clone_at, place_of}
-use Rattle.sim_outer.specs.Bytes.{Appended}
+use Rattle.sim_outer.specs.Causes.{AreCounted, Rose}
 use Rattle.sim_outer.specs.Files.{Files}
 use Rattle.net_model.specs.Net.{Net}
 use Rattle.net_model.specs.Text.{model}
 use Rattle.decision_script.specs.Reading.{script}
 use Rattle.decision_script.specs.Stating.{ScriptView}
-use Rattle.world_core.specs.Overs.{NoneBeyond}
+use Rattle.stations.specs.Runs.{trace_of}
+use Rattle.world_core.specs.Worlds.{total_handled}
+use Rattle.trace_report.specs.Outputs.{clone_text, report}
+use Rattle.study_run.specs.Limits.{AreWithin, IsWithin}
+use Rattle.command_words.specs.declared.request.Mode.{Mode}
+use Rattle.command_words.specs.declared.request.Mode.TheVariants.{All, One}
+use Rattle.command_words.specs.Requests.{Asked, Source, made, named}
+use Rattle.cloner_top.specs.declared.reading.Text.TheVariants.{Model, Script}
 use Rattle.cloner_top.specs.declared.refusal.Refusal.{Refusal}
-use Rattle.cloner_top.specs.declared.request.Mode.{Mode}
-use Rattle.cloner_top.specs.declared.request.Mode.TheVariants.{Run, Solo}
-use Rattle.cloner_top.specs.Requests.{Asked}
-use Rattle.cloner_top.specs.Refusals.{status_of}
-use Rattle.cloner_top.specs.Deciding.{decided}
-use Rattle.cloner_top.specs.Outputs.{beyond, clone_text, report, traces}
-use Rattle.cloner_top.specs.Answers.{IsUnread, Refuses, expected, told}
+use Rattle.cloner_top.specs.declared.stop.Stop.{Stop}
+use Rattle.cloner_top.specs.Answers.{Comes, InputsFailed, Outside}
+use Rattle.cloner_top.specs.Deciding.{clones_of, first_refused}
+use Rattle.cloner_top.specs.Endings.{Ending, StoppedFor, overrun, run_texts, stopped, written}
+use Rattle.cloner_top.specs.Outsides.{ArePut, IsCutOff, IsTold}
+use Rattle.cloner_top.specs.Refusals.{line_of, status_of}
+use Rattle.cloner_top.specs.Stops.{stop_status}
+use Rattle.cloner_top.specs.Texts.{AreTexts, IsUnread, all_fetches}
 
--- the two files are a model and a script whose decisions are all accepted, and leave these clones
-pub record Makes (files : Files) (a : Asked) (net : Net) (clones : List Clone) : Type 0 where
-  pub model_text : List ℕ
-  pub has_model : told files a.model ≡ Some model_text
-  pub is_model : model model_text ≡ Ok net
-  pub script_text : List ℕ
-  pub has_script : told files a.script ≡ Some script_text
+-- the study's two texts are a model and a script whose decisions are all accepted
+pub record IsStudy (files : Option Files) (a : Asked) (net : Net) (stated : ScriptView) : Type 0 where
+  pub m : List ℕ
+  pub s : List ℕ
+  pub texts : AreTexts a.source files m s
+  pub is_model : model m ≡ Ok net
+  pub is_script : script s ≡ Ok stated
+  pub accepted : first_refused net stated ≡ None
+
+-- all clones were run, no log of any is beyond the limit, and these texts were put, each in one call; a step for each
+-- message that the clones do not share
+pub record WritesAll (texts : Net → List Clone → List (List ℕ)) (before after : Outside) (a : Asked) : Type 0 where
+  pub net : Net
   pub stated : ScriptView
-  pub is_script : script script_text ≡ Ok stated
-  pub accepted : decided net stated ≡ Ok clones
+  pub study : IsStudy before.inputs.files a net stated
+  pub within : AreWithin net (clones_of net stated)
+  pub put : ArePut (texts net (clones_of net stated)) before.output after.output
+  pub steps : after.steps ≡ before.steps + total_handled net (clones_of net stated) net.horizon
 
--- what is appended is the trace text of each clone, in order of making, and behind them the report; at the horizon no
--- log of any clone is beyond the limit
-pub record WritesAll (files : Files) (a : Asked) (old new : Option (List ℕ)) : Type 0 where
+-- the clone of this name was run by itself, none of its logs is beyond the limit, and its trace text was put
+pub record WritesOne (name : List ℕ) (before after : Outside) (a : Asked) : Type 0 where
   pub net : Net
-  pub clones : List Clone
-  pub made : Makes files a net clones
-  pub within : NoneBeyond net clones net.horizon
-  pub writes : Appended old (traces net clones ++ report net clones) new
-
--- what is appended is the trace text of the clone of this name; none of its logs goes beyond the limit
-pub record WritesOne (files : Files) (a : Asked) (name : List ℕ) (old new : Option (List ℕ)) : Type 0 where
-  pub net : Net
-  pub clones : List Clone
-  pub made : Makes files a net clones
+  pub stated : ScriptView
+  pub study : IsStudy before.inputs.files a net stated
   pub place : ℕ
-  pub named : place_of name clones ≡ Some place
-  pub within : beyond net (clone_at clones place) ≡ None
-  pub writes : Appended old (clone_text net (clone_at clones place)) new
+  pub named : place_of name (clones_of net stated) ≡ Some place
+  pub within : IsWithin net (clone_at (clones_of net stated) place)
+  pub put : ArePut (clone_text net (clone_at (clones_of net stated) place) ∷ []) before.output after.output
+  pub steps : after.steps ≡ before.steps + length (trace_of net (clone_at (clones_of net stated) place))
 
-abbrev pub Writes : Mode → Files → Asked → Option (List ℕ) → Option (List ℕ) → Type 0
-Writes Run files a old new = WritesAll files a old new
-Writes (Solo name) files a old new = WritesOne files a name old new
+-- what is written: `run` each clone's trace text and then the report, `gen` the report alone, `solo` one trace text
+abbrev pub Writes : Mode → Source → Outside → Outside → Asked → Type 0
+Writes All (named model script) before after a = WritesAll run_texts before after a
+Writes All (made n) before after a = WritesAll (λ net clones. report net clones ∷ []) before after a
+Writes (One name) source before after a = WritesOne name before after a
 
--- status 0: the whole output is appended
-abbrev pub IsFinished : Option Asked → Option Files → Option (List ℕ) → Option (List ℕ) → Type 0
-IsFinished words files old new = (a : Asked) → words ≡ Some a → (fs : Files) → files ≡ Some fs → Writes a.mode fs a old new
+-- status 0: the whole output is written, and nothing told
+pub record IsWritten (words : Option Asked) (before after : Outside) : Type 0 where
+  pub a : Asked
+  pub asks : words ≡ Some a
+  pub writes : Writes a.mode a.source before after a
+  pub fetches : AreCounted (all_fetches a.source) before.inputs.calls after.inputs.calls
+  pub quiet : after.errors ≡ before.errors
 
--- status 3: one of the files was not read
-abbrev pub IsUnreadFor : Option Asked → Option Files → Type 0 → Type 0
-IsUnreadFor words files inputs_failed = (a : Asked) × (words ≡ Some a) × (IsUnread inputs_failed files a.model ⊎ IsUnread inputs_failed files a.script)
+-- status 3: a text was not read
+pub record IsUnreadFor (words : Option Asked) (before after : Outside) : Type 0 where
+  pub a : Asked
+  pub asks : words ≡ Some a
+  pub unread : IsUnread (InputsFailed before after) a.source Model before.inputs.files
+      ⊎ IsUnread (InputsFailed before after) a.source Script before.inputs.files
 
--- statuses 4 to 7: the files ask for something that is refused
-abbrev pub IsRefusedFor : Option Asked → Option Files → ℕ → Type 0
-IsRefusedFor words files status = (a : Asked) × (words ≡ Some a) × ((r : Refusal) × (status ≡ status_of r) × Refuses files a r)
+-- statuses 4 to 7: the study stops, and at most so many messages were handled as the limit allows
+pub record IsStoppedFor (words : Option Asked) (before after : Outside) (status : ℕ) : Type 0 where
+  pub a : Asked
+  pub asks : words ≡ Some a
+  pub stop : Stop
+  pub is : status ≡ stop_status stop
+  pub stops : StoppedFor (Comes before.inputs.files a) before.steps after.steps stop
 
--- what is expected comes, or the output's fault
-abbrev pub Meets : Result (List ℕ) Refusal → Type 0 → ℕ → Type 0
-Meets (Ok text) output_failed status = (status ≡ 0) ⊎ ((status ≡ 8) × output_failed)
-Meets (Err refusal) output_failed status = status ≡ status_of refusal
+-- status 8: a prefix of the output was written, and the output had a fault
+pub record IsCutFor (words : Option Asked) (before after : Outside) : Type 0 where
+  pub a : Asked
+  pub asks : words ≡ Some a
+  pub cut : IsCutOff (Comes before.inputs.files a) before.steps after.steps before.output after.output
 
--- where the files are told and the inputs have no fault, what is expected comes, or out of memory
-abbrev pub Completes : Option Asked → Option Files → Type 0 → Type 0 → ℕ → Type 0
-Completes None files inputs_failed output_failed status = status ≡ 2
-Completes (Some a) files inputs_failed output_failed status = (fs : Files) → files ≡ Some fs → ¬ inputs_failed
-    → (status ≡ 1) ⊎ Meets (expected a fs) output_failed status
+-- after any status but 0 one line tells why
+pub record IsToldFor (before after : Outside) (status : ℕ) : Type 0 where
+  pub refusal : Refusal
+  pub is : status ≡ status_of refusal
+  pub told : IsTold (line_of refusal) before.errors after.errors
+
+-- an ending comes, or the output's fault
+abbrev pub Meets : Ending → Type 0 → ℕ → Type 0
+Meets (written texts work) output_failed status = (status ≡ 0) ⊎ ((status ≡ 8) × output_failed)
+Meets (stopped stop) output_failed status = status ≡ stop_status stop
+Meets (overrun stop most) output_failed status = status ≡ stop_status stop
+
+-- where the inputs have no fault a lawful ending comes, or out of memory; or the files are known, and one is not there
+abbrev pub Completes : Option Asked → Outside → Outside → ℕ → Type 0
+Completes None before after status = (status ≡ 1) ⊎ (status ≡ 2)
+Completes (Some a) before after status = ¬ (InputsFailed before after)
+    → (status ≡ 1)
+    ⊎ (((status ≡ 3) × (IsUnread ⊥ a.source Model before.inputs.files ⊎ IsUnread ⊥ a.source Script before.inputs.files))
+    ⊎ ((end : Ending) × (Comes before.inputs.files a end
+    × Meets end (Rose before.output.faults after.output.faults) status)))
+
+-- how many fetches the words ask for
+abbrev pub fetches_for : Option Asked → ℕ
+fetches_for None = 0
+fetches_for (Some a) = all_fetches a.source
+
+-- there were at most so many fetches
+pub record AreFewFetches (words : Option Asked) (before after : Outside) : Type 0 where
+  pub fetches : ℕ
+  pub few : fetches ≤ fetches_for words
+  pub calls : AreCounted fetches before.inputs.calls after.inputs.calls

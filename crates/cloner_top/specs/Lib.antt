@@ -1,12 +1,10 @@
-pub mod Requests
+pub mod Stops
 pub mod Refusals
+pub mod Texts
 pub mod Deciding
-pub mod Overs
-pub mod Outputs
-pub mod Stopping
+pub mod Endings
+pub mod Plans
+pub mod Outsides
 pub mod Answers
-pub mod Work
 pub mod Facts
-pub mod Limits
 pub mod OwnScripts
-pub mod Kept

@@ -1,14 +1,18 @@
 //! The one line that tells why there is no output.
 ghost use Rattle.std.specs.Prelude.{◌≡◌, ◌+◌, ◌≤◌, ◌++◌, [], decimal, length};
+ghost use Rattle.cloner_top.specs.declared.error_line.TheConstants.{LONGEST_LINE};
 
 use arrayvec::ArrayString;
 use itoa::Buffer;
 use std::marker::Model;
 
-/// A line of at most 160 bytes, in a buffer of its own. It takes no memory.
+/// The most bytes of a line: more than the longest usage line has.
+pub const LONGEST_LINE: usize = 320;
+
+/// A line of at most [`LONGEST_LINE`] bytes, in a buffer of its own. It takes no memory.
 #[derive(Drop)]
 pub struct ErrorLine {
-    text: ArrayString<160>,
+    text: ArrayString<LONGEST_LINE>,
 }
 
 impl Model for ErrorLine {
@@ -31,7 +35,7 @@ impl ErrorLine {
 
     /// Appends a piece.
     pub fn push(&mut self, piece: &str)
-        requires room { length self.old + length piece.now ≤ 160 }
+        requires free { length self.old + length piece.now ≤ LONGEST_LINE }
         ensures { self.new ≡ self.old ++ piece.now }
     {
         let Ok(()) = self.text.try_push_str(piece) else {
@@ -41,7 +45,7 @@ impl ErrorLine {
 
     /// Appends a number in decimal.
     pub fn push_number(&mut self, number: u64)
-        requires room { length self.old + 20 ≤ 160 }
+        requires free { length self.old + 20 ≤ LONGEST_LINE }
         ensures value { self.new ≡ self.old ++ decimal number }
         ensures short { length self.new ≤ length self.old + 20 }
     {

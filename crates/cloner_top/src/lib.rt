@@ -5,7 +5,7 @@
 //! steps, each with a definition of its own in `specs/`:
 //!
 //! ```text
-//! words -request-> what is asked -reading-> model, script -deciding-> branches -running-> texts -program-> output
+//! words -command_words-> what is asked -plan-> model, decisions -running-> all branches at the horizon -putting-> output
 //!                                    each step may end in a refusal with a status and a line of its own
 //! ```
 //!
@@ -16,23 +16,26 @@
 //! ```
 //!
 //! A run costs a step for each message that differs, and a line, merged from the logs of the stations, for each message
-//! of each branch; the memory is that of its texts. The promises of the README stand on the contract of `cloner`: right traces, the first refusal, all or nothing,
-//! bounded work.
+//! of each branch that it does not share with the branch before; the memory is that of the world and of the longest
+//! text. The promises of the README stand on the contract of `cloner`: right traces, the first refusal, all or nothing,
+//! bounded work, each text in one put, each file fetched once.
 #![tactic(auto)]
 
 mod deciding;
 pub mod error_line;
 pub mod laws;
-mod pieces;
+mod plan;
 pub mod program;
+mod putting;
 mod reading;
 pub mod refusal;
-pub mod request;
 mod running;
+pub mod stop;
 #[cfg(test)]
 mod tests;
 
+pub use command_words::{Mode, Request, Source};
 pub use error_line::ErrorLine;
 pub use program::cloner;
 pub use refusal::Refusal;
-pub use request::{Mode, Request};
+pub use stop::Stop;

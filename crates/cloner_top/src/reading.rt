@@ -1,70 +1,110 @@
-//! Reads the files that the words name.
-ghost use Rattle.std.specs.Prelude.{◌≡◌, ◌≢◌, ◌≤◌, IfErr, IfOk, Ok, Err};
-ghost use Rattle.sim_outer.specs.Causes.{Rose};
+//! Reads the two texts of a study: out of files, or made of a number.
+ghost use Rattle.std.specs.Prelude.{◌≡◌, ◌≤◌, IfErr, IfOk, Ok, Err};
+ghost use Rattle.sim_outer.specs.Causes.{AreCounted, Rose};
 ghost use Rattle.net_model.specs.Text.{model};
 ghost use Rattle.decision_script.specs.Reading.{script};
-ghost use Rattle.cloner_top.specs.Answers.{as_model, as_script, IsModelOf, IsScriptOf, HasNoModel, HasNoScript};
+ghost use Rattle.command_words.specs.Requests.{source_view};
+ghost use Rattle.cloner_top.specs.Refusals.{Stops};
+ghost use Rattle.cloner_top.specs.Texts.{IsBadModel, IsBadScript, IsNotRead, IsText, fetches_of};
+ghost use Rattle.cloner_top.specs.Texts.{made_text, name_of as name_of_text, text_of, unread_refusal};
 
 use crate::refusal::Refusal;
+use crate::stop::Stop;
+use command_words::Source;
 use decision_script::{Script, ScriptFault, read_script};
+use made_study::{model_text, script_text};
 use net_model::{Model, ModelFault, read_model};
+use sim_base::NoMemory;
 use sim_outer::{FetchFault, Inputs};
 use std::alloc::Global;
 
-fn model_of(alloc: Global, text: &[u8]) -> Result<Model, Refusal>
-    ensures ok { IfOk result (λ m. as_model (model text.now) ≡ Ok m) }
-    ensures err { IfErr result (λ r. r ≢ Refusal.OutOfMemory → as_model (model text.now) ≡ Err r) }
+/// Which of a study's two texts.
+#[derive(Clone, Copy, Debug, PartialEq, Eq)]
+pub enum Text {
+    Model,
+    Script,
+}
+
+/// The model that a text is.
+pub(crate) fn model_of(alloc: Global, text: &[u8]) -> Result<Model, Refusal>
+    ensures ok { IfOk result (λ m. model text.now ≡ Ok m) }
+    ensures err { IfErr result (λ r. Stops (IsBadModel text.now) r) }
 {
     match read_model(alloc, text) {
         Ok(model) => Ok(model),
         Err(ModelFault::NoMemory) => Err(Refusal::OutOfMemory),
-        Err(fault) => Err(Refusal::BadModel(fault)),
+        Err(fault) => Err(Refusal::Stopped(Stop::BadModel(fault))),
     }
 }
 
-fn script_of(alloc: Global, text: &[u8]) -> Result<Script, Refusal>
-    ensures ok { IfOk result (λ s. as_script (script text.now) ≡ Ok s) }
-    ensures err { IfErr result (λ r. r ≢ Refusal.OutOfMemory → as_script (script text.now) ≡ Err r) }
+/// The script that a text is.
+pub(crate) fn script_of(alloc: Global, text: &[u8]) -> Result<Script, Refusal>
+    ensures ok { IfOk result (λ s. script text.now ≡ Ok s) }
+    ensures err { IfErr result (λ r. Stops (IsBadScript text.now) r) }
 {
     match read_script(alloc, text) {
         Ok(script) => Ok(script),
         Err(ScriptFault::NoMemory) => Err(Refusal::OutOfMemory),
-        Err(fault) => Err(Refusal::BadScript(fault)),
+        Err(fault) => Err(Refusal::Stopped(Stop::BadScript(fault))),
     }
 }
 
-/// The model in the file of this name.
-pub(crate) fn fetch_model<I: Inputs>(
-    alloc: Global,
-    inputs: &mut I,
-    name: &str,
-) -> Result<Model, Refusal>
-    ensures ok { IfOk result (λ m. IsModelOf (I.files inputs.old) name.now m) }
-    ensures err { IfErr result (λ r. HasNoModel (Rose (I.faults inputs.old) (I.faults inputs.new)) (I.files inputs.old) name.now r) }
-    ensures later { I.faults inputs.old ≤ I.faults inputs.new }
-    ensures same { I.files inputs.new ≡ I.files inputs.old }
+// Makes a text of a number.
+fn make_text(alloc: Global, text: Text, number: u32) -> Result<Vec<u8>, NoMemory>
+    ensures { IfOk result (λ v. v.items ≡ made_text text number) }
 {
-    match inputs.fetch(alloc, name) {
-        Ok(text) => model_of(alloc, text.as_slice()),
-        Err(FetchFault::NoMemory) => Err(Refusal::OutOfMemory),
-        Err(FetchFault::Failed) => Err(Refusal::NoModel),
+    match text {
+        Text::Model => model_text(alloc, number),
+        Text::Script => script_text(alloc),
     }
 }
 
-/// The script in the file of this name.
-pub(crate) fn fetch_script<I: Inputs>(
+// Why a text was not read.
+fn not_read(text: Text) -> Refusal
+    ensures { result ≡ unread_refusal text }
+{
+    match text {
+        Text::Model => Refusal::NoModel,
+        Text::Script => Refusal::NoScript,
+    }
+}
+
+/// One of the texts.
+pub(crate) fn fetch_text<I: Inputs>(
     alloc: Global,
     inputs: &mut I,
-    name: &str,
-) -> Result<Script, Refusal>
-    ensures ok { IfOk result (λ s. IsScriptOf (I.files inputs.old) name.now s) }
-    ensures err { IfErr result (λ r. HasNoScript (Rose (I.faults inputs.old) (I.faults inputs.new)) (I.files inputs.old) name.now r) }
+    source: &Source,
+    text: Text,
+) -> Result<Vec<u8>, Refusal>
+    ensures ok { IfOk result (λ v. IsText (text_of (source_view source.now) text (I.files inputs.old)) v.items) }
+    ensures err { IfErr result (λ r. IsNotRead (Rose (I.faults inputs.old) (I.faults inputs.new))
+        (source_view source.now) text (I.files inputs.old) r) }
     ensures later { I.faults inputs.old ≤ I.faults inputs.new }
     ensures same { I.files inputs.new ≡ I.files inputs.old }
+    ensures counted { AreCounted (fetches_of (source_view source.now)) (I.calls inputs.old) (I.calls inputs.new) }
 {
+    let name = match *source {
+        Source::Named { model, script } => name_of(text, model, script),
+        Source::Made(number) => {
+            return match make_text(alloc, text, number) {
+                Ok(bytes) => Ok(bytes),
+                Err(NoMemory) => Err(Refusal::OutOfMemory),
+            };
+        }
+    };
     match inputs.fetch(alloc, name) {
-        Ok(text) => script_of(alloc, text.as_slice()),
+        Ok(bytes) => Ok(bytes),
         Err(FetchFault::NoMemory) => Err(Refusal::OutOfMemory),
-        Err(FetchFault::Failed) => Err(Refusal::NoScript),
+        Err(FetchFault::Failed) => Err(not_read(text)),
+    }
+}
+
+// The name of a text's file.
+fn name_of<'a>(text: Text, model: &'a str, script: &'a str) -> &'a str
+    ensures { result.now ≡ name_of_text text model.now script.now }
+{
+    match text {
+        Text::Model => model,
+        Text::Script => script,
     }
 }

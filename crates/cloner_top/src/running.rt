@@ -1,275 +1,209 @@
-//! Runs clones, all in one world or one by itself, and makes their texts.
-ghost use Rattle.std.specs.Prelude.{◌≡◌, ◌≢◌, ◌+◌, ◌*◌, ◌<◌, ◌≤◌, ◌++◌, ◌∷◌, [], length, min, unwrap_or, IfErr, IfOk, OnErr, OnOk, Ok, Err, Some, None};
-ghost use Rattle.std.specs.List.{AllByRecursion, flat_map};
-ghost use Rattle.sim_base.specs.Clones.{base, clone_at};
-ghost use Rattle.net_model.specs.Net.{site_of};
-ghost use Rattle.solo_run.specs.Limit.{first_beyond};
+//! Runs a planned study, and puts its texts.
+ghost use Rattle.std.specs.Prelude.{◌≡◌, ◌+◌, ◌≤◌, ℕ, List, [], ◌∷◌, length, IfErr, IfOk, OnOk};
 ghost use Rattle.decision_book.specs.Journal.{after};
-ghost use Rattle.decision_book.specs.Plans.{ArePlanned, IsPlan};
-ghost use Rattle.trace_report.specs.Outputs.{clone_texts};
 ghost use Rattle.rolling_text.specs.WorldTraces.{AreShort};
-ghost use Rattle.world_core.specs.Overs.{NoneBeyond};
-ghost use Rattle.world_core.specs.Taking.{AreAccepted, clones_after_calls};
 ghost use Rattle.world_core.specs.Worlds.{total_handled};
-ghost use Rattle.cloner_top.specs.Deciding.{AllAccepted};
-ghost use Rattle.cloner_top.specs.Outputs.{clone_trace, clone_text as text_of, report, run_output, solo_output, traces};
-ghost use Rattle.cloner_top.specs.Overs.{IsRunFault, first_over_of};
-ghost use Rattle.cloner_top.specs.Stopping.{IsFew, IsStop, most_of_clone, run_trace};
-ghost use Rattle.cloner_top.specs.Work.{IsWork};
+ghost use Rattle.study_run.specs.Limits.{AreWithin};
+ghost use Rattle.study_run.specs.Accepted.{AllAccepted};
+ghost use Rattle.command_words.specs.Requests.{source_view};
+ghost use Rattle.cloner_top.specs.Endings.{MayRun, MayRunAlone, MaySimulate, StoppedFor, limit_met, run_texts};
+ghost use Rattle.cloner_top.specs.Outsides.{IsFailed, IsFinished};
+ghost use Rattle.cloner_top.specs.Refusals.{Stops};
+ghost use Rattle.trace_report.specs.Outputs.{report};
 
-use crate::pieces::Pieces;
+use crate::plan::Plan;
+use crate::putting::{put_report, put_run, put_text};
 use crate::refusal::Refusal;
-use crew_pool::{Gate, Serial};
-use decision_book::{Book, Call};
+use crate::stop::Stop;
+use command_words::{Mode, Request, Source};
+use crew_pool::{Gate, Workers};
 use net_model::Model;
-use rolling_text::{WorldTraces, prepare, put_texts};
-use sim_base::{Lists, Name, NoMemory, Planned, Steps};
-use solo_run::{Solo, SoloFault};
+use sim_base::{Name, Steps};
+use sim_outer::Sink;
 use std::alloc::Global;
+use std::sync::Wait;
 use std::sync::ledger::Ledger;
-use std::sync::{Arc, Wait};
 use std::thread::Threads;
-use trace_report::{report_text, trace_text};
-use world_core::{World, WorldFault};
+use study_run::{StudyCrew, StudyFault, run_study, text_alone};
+use world_core::World;
 
-// Runs a clone of these decisions by itself to a front.
-fn run_alone<L: Ledger>(
-    alloc: Global,
-    model: &Model,
-    plans: &[Planned],
-    front: u64,
-    steps: &mut Steps<L>,
-) -> Result<Solo, SoloFault>
-    requires planned { AllByRecursion (IsPlan model.now) plans.now }
-    requires early { front ≤ model.now.horizon }
-    ensures ok { IfOk result (λ solo. solo.trace ≡ run_trace model.now plans.now front) }
-    ensures within { OnOk result (first_beyond model.now.limit [] (run_trace model.now plans.now front) ≡ None) }
-    ensures few { OnOk result (IsFew model.now steps.old steps.new) }
-    ensures err { IfErr result (λ e. IsStop model.now (run_trace model.now plans.now front) steps.old steps.new e) }
-{
-    let solo = match Solo::new(alloc, model, plans) {
-        Ok(solo) => solo,
-        Err(_) => return Err(SoloFault::NoMemory),
-    };
-    solo.run_to(model, front, steps)
-}
-
-// How far a clone runs: to its end, or else to the horizon.
-fn front_of(model: &Model, end: Option<u64>) -> u64
-    ensures value { result ≡ min model.now.horizon (unwrap_or end model.now.horizon) }
-    ensures within { result ≤ model.now.horizon }
-{
-    match end {
-        Some(end) => end.min(model.horizon()),
-        None => model.horizon(),
-    }
-}
-
-// The text of the trace of the clone at a place, simulated alone.
-fn clone_text<L: Ledger>(
-    alloc: Global,
-    model: &Model,
-    lists: &Lists,
-    c: u32,
-    steps: &mut Steps<L>,
-) -> Result<Vec<u8>, SoloFault>
-    requires there { c < length lists.now.clones }
-    requires planned { ArePlanned model.now lists.now.clones }
-    ensures ok { IfOk result (λ text. text.items ≡ text_of model.now (clone_at lists.now.clones c)) }
-    ensures within { OnOk result (first_beyond model.now.limit [] (clone_trace model.now (clone_at lists.now.clones c)) ≡ None) }
-    ensures few { OnOk result (IsFew model.now steps.old steps.new) }
-    ensures err { IfErr result (λ e. IsStop model.now (clone_trace model.now (clone_at lists.now.clones c)) steps.old steps.new e) }
-{
-    let front = front_of(model, lists.end_of(c));
-    let solo = match run_alone(alloc, model, lists.list(c), front, steps) {
-        Ok(solo) => solo,
-        Err(fault) => return Err(fault),
-    };
-    match trace_text(alloc, model, &lists.name(c), solo.trace()) {
-        Ok(text) => Ok(text),
-        Err(NoMemory) => Err(SoloFault::NoMemory),
-    }
-}
-
-fn push_text(texts: &mut Vec<Vec<u8>>, text: Vec<u8>) -> Result<(), Refusal>
-    ensures ok { OnOk result (flat_map (λ t. t.items) texts.new.items ≡ flat_map (λ t. t.items) texts.old.items ++ text.items) }
-    ensures err { IfErr result (λ r. r ≡ Refusal.OutOfMemory) }
-{
-    match texts.push(text) {
-        Ok(()) => Ok(()),
-        Err(_) => Err(Refusal::OutOfMemory),
-    }
-}
-
-// The world of all clones that the calls make, before anything is handled.
-fn open_world(alloc: Global, model: &Arc<Model>, calls: &[Call]) -> Result<World, NoMemory>
-    requires accepted { AreAccepted model.now.value (base ∷ []) 0 calls.now }
-    ensures net { IfOk result (λ w. w.net ≡ model.now.value) }
-    ensures front { IfOk result (λ w. w.front ≡ 0) }
-    ensures clones { IfOk result (λ w. w.clones ≡ clones_after_calls model.now.value (base ∷ []) calls.now) }
-{
-    let shared = model.clone()?;
-    let world = World::new(alloc, shared)?;
-    let world = world.take(alloc, calls)?;
-    Ok(world)
-}
-
-// Runs all clones window by window, up to the horizon.
-fn run_world<G: Gate, L: Ledger, R: Threads + Wait + Sync>(
-    rt: &R,
-    alloc: Global,
-    gate: &G,
-    model: &Model,
-    world: World,
-    steps: &mut Steps<L>,
-) -> Result<World, WorldFault>
-    requires net { world.net ≡ model.now }
-    requires front { world.front ≡ 0 }
-    ensures net { IfOk result (λ w. w.net ≡ model.now) }
-    ensures clones { IfOk result (λ w. w.clones ≡ world.clones) }
-    ensures front { IfOk result (λ w. w.front ≡ model.now.horizon) }
-    ensures within { OnOk result (first_over_of model.now world.clones ≡ None) }
-    ensures short { OnOk result (NoneBeyond model.now world.clones model.now.horizon) }
-    ensures steps { OnOk result (steps.new ≡ steps.old + total_handled model.now world.clones model.now.horizon) }
-    ensures fault { IfErr result (λ e. IsRunFault model.now world.clones steps.old steps.new e) }
-{
-    let mut world = world;
-    'window: while world.front() < model.horizon() {
-        let bound = world.bound();
-        world = match world.window(rt, alloc, &Serial, gate, bound, steps) {
-            Ok(world) => world,
-            Err(fault) => return Err(fault),
-        };
-    }
-    Ok(world)
-}
-
-// The texts of the traces of all clones. One buffer holds the lines that neighbours share.
-fn trace_texts(alloc: Global, world: &World) -> Result<Vec<Vec<u8>>, NoMemory>
-    requires ended { world.now.front ≡ world.now.net.horizon }
-    requires short { AreShort world.now.clones }
-    ensures value { IfOk result (λ texts. flat_map (λ t. t.items) texts.items ≡ clone_texts world.now.net world.now.clones) }
-{
-    let mut traces = WorldTraces::new(alloc, world)?;
-    let texts = prepare(alloc, &traces)?;
-    let mut pieces = Pieces::none(alloc);
-    match put_texts(&mut traces, texts, &mut pieces) {
-        Ok(()) => Ok(pieces.into_texts()),
-        Err(_) => Err(NoMemory),
-    }
-}
-
-// The text of the report.
-fn reported(alloc: Global, model: &Model, world: &World) -> Result<Vec<u8>, NoMemory>
-    requires net { world.now.net ≡ model.now }
-    requires ended { world.now.front ≡ model.now.horizon }
-    requires few { length world.now.clones ≤ 256 }
-    requires within { NoneBeyond model.now world.now.clones model.now.horizon }
-    ensures value { IfOk result (λ text. text.items ≡ report model.now world.now.clones) }
-{
-    let mut figures = Vec::new(alloc);
-    for s in 0..model.len() {
-        figures.push(world.figures(s + 1))?;
-    }
-    report_text(alloc, model, figures.as_slice())
-}
-
-// The texts of a world at the horizon: each clone's trace, and the report.
-fn world_texts(alloc: Global, model: &Model, world: &World) -> Result<Vec<Vec<u8>>, NoMemory>
-    requires net { world.now.net ≡ model.now }
-    requires ended { world.now.front ≡ model.now.horizon }
-    requires few { length world.now.clones ≤ 256 }
-    requires short { AreShort world.now.clones }
-    requires within { NoneBeyond model.now world.now.clones model.now.horizon }
-    ensures value { IfOk result (λ texts.
-        flat_map (λ t. t.items) texts.items ≡ traces model.now world.now.clones ++ report model.now world.now.clones) }
-{
-    let mut texts = trace_texts(alloc, world)?;
-    let report = reported(alloc, model, world)?;
-    texts.push(report)?;
-    Ok(texts)
-}
-
-/// The trace text of each clone of a book, in order of making, and behind them the report: all clones share one
-/// world.
-pub(crate) fn run_texts<G: Gate, L: Ledger, R: Threads + Wait + Sync>(
-    rt: &R,
-    alloc: Global,
-    gate: &G,
-    model: &Arc<Model>,
-    book: &Book,
-    steps: &mut Steps<L>,
-) -> Result<Vec<Vec<u8>>, Refusal>
-    requires net { book.now.net ≡ model.now.value }
-    requires accepted { AllAccepted book.now.net book.now.events }
-    ensures ok { IfOk result (λ texts.
-        run_output model.now.value (after book.now.net book.now.events).clones ≡ Ok (flat_map (λ t. t.items) texts.items)) }
-    ensures err { IfErr result (λ r. r ≢ Refusal.OutOfMemory
-        → run_output model.now.value (after book.now.net book.now.events).clones ≡ Err r) }
-    ensures work { IsWork result
-        (steps.new ≤ steps.old + length (after book.now.net book.now.events).clones * most_of_clone model.now.value)
-        (steps.new ≡ steps.old) }
-{
-    let lists = book.lists();
-    let world = match open_world(alloc, model, book.calls()) {
-        Ok(world) => world,
-        Err(NoMemory) => return Err(Refusal::OutOfMemory),
-    };
-    let world = match run_world(rt, alloc, gate, model, world, steps) {
-        Ok(world) => world,
-        Err(WorldFault::NoMemory) => return Err(Refusal::OutOfMemory),
-        Err(WorldFault::EventLimit { station, who, .. }) => {
-            return Err(limit_met_at(model, station, lists.name(who)));
-        }
-    };
-    match world_texts(alloc, model, &world) {
-        Ok(texts) => Ok(texts),
-        Err(NoMemory) => Err(Refusal::OutOfMemory),
-    }
-}
-
-fn limit_met_at(model: &Model, station: u32, clone: Name) -> Refusal
+fn stop_at(model: &Model, station: u32, clone: Name) -> Stop
     requires first { 1 ≤ station }
     requires last { station ≤ length model.now.sites }
-    ensures { result ≡ Refusal.LimitMetAt model.now.limit (site_of model.now station).name clone }
+    ensures { result ≡ limit_met model.now station clone }
 {
-    Refusal::LimitMetAt {
+    Stop::LimitMet {
         limit: model.limit(),
         station: model.station(station).name,
         clone,
     }
 }
 
-/// The trace text of the clone of a name, simulated alone.
-pub(crate) fn solo_texts<L: Ledger>(
+// Runs all clones in one world, to the horizon.
+fn run_world<G: Gate, L: Ledger, R: Threads + Wait + Sync>(
+    rt: &R,
     alloc: Global,
-    model: &Model,
-    lists: &Lists,
-    name: &Name,
+    gate: &G,
+    request: &Request,
+    plan: &Plan,
     steps: &mut Steps<L>,
-) -> Result<Vec<Vec<u8>>, Refusal>
-    requires planned { ArePlanned model.now lists.now.clones }
-    ensures ok { IfOk result (λ texts. solo_output model.now lists.now.clones name.now ≡ Ok (flat_map (λ t. t.items) texts.items)) }
-    ensures err { IfErr result (λ r. r ≢ Refusal.OutOfMemory → solo_output model.now lists.now.clones name.now ≡ Err r) }
-    ensures work { IsWork result (steps.new ≤ steps.old + most_of_clone model.now) (steps.new ≡ steps.old) }
+) -> Result<World, Refusal>
+    requires net { plan.now.book.net ≡ plan.now.model.value }
+    requires accepted { AllAccepted plan.now.book.net plan.now.book.events }
+    ensures net { IfOk result (λ w. w.net ≡ plan.now.model.value) }
+    ensures clones { IfOk result (λ w. w.clones ≡ (after plan.now.book.net plan.now.book.events).clones) }
+    ensures front { IfOk result (λ w. w.front ≡ plan.now.model.value.horizon) }
+    ensures few { IfOk result (λ w. length w.clones ≤ 256) }
+    ensures within { IfOk result (λ w. AreWithin plan.now.model.value w.clones) }
+    ensures short { IfOk result (λ w. AreShort w.clones) }
+    ensures steps { IfOk result (λ w.
+        steps.new ≡ steps.old + total_handled plan.now.model.value w.clones plan.now.model.value.horizon) }
+    ensures err { IfErr result (λ r. (texts : List (List ℕ))
+        → Stops (StoppedFor (MayRun plan.now.model.value (after plan.now.book.net plan.now.book.events).clones texts)
+        steps.old steps.new) r) }
 {
-    let Some(c) = lists.find(name) else {
-        return Err(Refusal::NoClone(*name));
+    let lists = plan.book.lists();
+    let crew = StudyCrew {
+        workers: Workers {
+            count: request.workers,
+        },
     };
-    match clone_text(alloc, model, lists, c, steps) {
-        Ok(text) => one_text(alloc, text),
-        Err(SoloFault::NoMemory) => Err(Refusal::OutOfMemory),
-        Err(SoloFault::Limit { station, .. }) => Err(limit_met_at(model, station, *name)),
+    match run_study(
+        rt,
+        alloc,
+        &crew,
+        gate,
+        &plan.model,
+        plan.book.calls(),
+        steps,
+    ) {
+        Ok(world) => Ok(world),
+        Err(StudyFault::NoMemory) => Err(Refusal::OutOfMemory),
+        Err(StudyFault::LimitMet { station, who }) => Err(Refusal::Stopped(stop_at(
+            &plan.model,
+            station,
+            lists.name(who),
+        ))),
     }
 }
 
-fn one_text(alloc: Global, text: Vec<u8>) -> Result<Vec<Vec<u8>>, Refusal>
-    ensures ok { IfOk result (λ texts. flat_map (λ t. t.items) texts.items ≡ text.items) }
-    ensures err { IfErr result (λ r. r ≡ Refusal.OutOfMemory) }
+// Runs all clones, and writes their traces and the report.
+fn write_run<O: Sink, G: Gate, L: Ledger, R: Threads + Wait + Sync>(
+    rt: &R,
+    alloc: Global,
+    gate: &G,
+    request: &Request,
+    plan: &Plan,
+    out: &mut O,
+    steps: &mut Steps<L>,
+) -> Result<(), Refusal>
+    requires net { plan.now.book.net ≡ plan.now.model.value }
+    requires accepted { AllAccepted plan.now.book.net plan.now.book.events }
+    ensures ok { OnOk result (IsFinished
+        (MayRun plan.now.model.value (after plan.now.book.net plan.now.book.events).clones
+        (run_texts plan.now.model.value (after plan.now.book.net plan.now.book.events).clones)) steps.old steps.new
+        (record { bytes = O.bytes out.old; faults = O.faults out.old; calls = O.calls out.old })
+        (record { bytes = O.bytes out.new; faults = O.faults out.new; calls = O.calls out.new })) }
+    ensures err { IfErr result (λ r. IsFailed
+        (MayRun plan.now.model.value (after plan.now.book.net plan.now.book.events).clones
+        (run_texts plan.now.model.value (after plan.now.book.net plan.now.book.events).clones)) steps.old steps.new
+        (record { bytes = O.bytes out.old; faults = O.faults out.old; calls = O.calls out.old })
+        (record { bytes = O.bytes out.new; faults = O.faults out.new; calls = O.calls out.new }) r) }
 {
-    let mut texts = Vec::new(alloc);
-    match push_text(&mut texts, text) {
-        Ok(()) => Ok(texts),
+    match run_world(rt, alloc, gate, request, plan, steps) {
+        Ok(world) => put_run(alloc, &plan.model, &world, out),
         Err(refusal) => Err(refusal),
+    }
+}
+
+// Runs all clones, and writes the report alone.
+fn write_report<O: Sink, G: Gate, L: Ledger, R: Threads + Wait + Sync>(
+    rt: &R,
+    alloc: Global,
+    gate: &G,
+    request: &Request,
+    plan: &Plan,
+    out: &mut O,
+    steps: &mut Steps<L>,
+) -> Result<(), Refusal>
+    requires net { plan.now.book.net ≡ plan.now.model.value }
+    requires accepted { AllAccepted plan.now.book.net plan.now.book.events }
+    ensures ok { OnOk result (IsFinished
+        (MayRun plan.now.model.value (after plan.now.book.net plan.now.book.events).clones
+        (report plan.now.model.value (after plan.now.book.net plan.now.book.events).clones ∷ [])) steps.old steps.new
+        (record { bytes = O.bytes out.old; faults = O.faults out.old; calls = O.calls out.old })
+        (record { bytes = O.bytes out.new; faults = O.faults out.new; calls = O.calls out.new })) }
+    ensures err { IfErr result (λ r. IsFailed
+        (MayRun plan.now.model.value (after plan.now.book.net plan.now.book.events).clones
+        (report plan.now.model.value (after plan.now.book.net plan.now.book.events).clones ∷ [])) steps.old steps.new
+        (record { bytes = O.bytes out.old; faults = O.faults out.old; calls = O.calls out.old })
+        (record { bytes = O.bytes out.new; faults = O.faults out.new; calls = O.calls out.new }) r) }
+{
+    match run_world(rt, alloc, gate, request, plan, steps) {
+        Ok(world) => put_report(alloc, &plan.model, &world, out),
+        Err(refusal) => Err(refusal),
+    }
+}
+
+// Runs the clone of a name by itself, and writes its trace.
+fn write_alone<O: Sink, L: Ledger>(
+    alloc: Global,
+    name: &Name,
+    plan: &Plan,
+    out: &mut O,
+    steps: &mut Steps<L>,
+) -> Result<(), Refusal>
+    requires net { plan.now.book.net ≡ plan.now.model.value }
+    ensures ok { OnOk result (IsFinished
+        (MayRunAlone plan.now.model.value (after plan.now.book.net plan.now.book.events).clones name.now)
+        steps.old steps.new
+        (record { bytes = O.bytes out.old; faults = O.faults out.old; calls = O.calls out.old })
+        (record { bytes = O.bytes out.new; faults = O.faults out.new; calls = O.calls out.new })) }
+    ensures err { IfErr result (λ r. IsFailed
+        (MayRunAlone plan.now.model.value (after plan.now.book.net plan.now.book.events).clones name.now)
+        steps.old steps.new
+        (record { bytes = O.bytes out.old; faults = O.faults out.old; calls = O.calls out.old })
+        (record { bytes = O.bytes out.new; faults = O.faults out.new; calls = O.calls out.new }) r) }
+{
+    let lists = plan.book.lists();
+    let Some(place) = lists.find(name) else {
+        return Err(Refusal::Stopped(Stop::NoClone(*name)));
+    };
+    match text_alone(alloc, &plan.model, lists, place, steps) {
+        Ok(text) => put_text(out, text.as_slice()),
+        Err(StudyFault::NoMemory) => Err(Refusal::OutOfMemory),
+        Err(StudyFault::LimitMet { station, .. }) => {
+            Err(Refusal::Stopped(stop_at(&plan.model, station, *name)))
+        }
+    }
+}
+
+/// Runs a planned study as it is asked for, and writes its texts.
+pub(crate) fn write_study<O: Sink, G: Gate, L: Ledger, R: Threads + Wait + Sync>(
+    rt: &R,
+    alloc: Global,
+    gate: &G,
+    request: &Request,
+    plan: &Plan,
+    out: &mut O,
+    steps: &mut Steps<L>,
+) -> Result<(), Refusal>
+    requires net { plan.now.book.net ≡ plan.now.model.value }
+    requires accepted { AllAccepted plan.now.book.net plan.now.book.events }
+    ensures ok { OnOk result (IsFinished
+        (MaySimulate request.now.mode (source_view request.now.source) plan.now.model.value
+        (after plan.now.book.net plan.now.book.events).clones) steps.old steps.new
+        (record { bytes = O.bytes out.old; faults = O.faults out.old; calls = O.calls out.old })
+        (record { bytes = O.bytes out.new; faults = O.faults out.new; calls = O.calls out.new })) }
+    ensures err { IfErr result (λ r. IsFailed
+        (MaySimulate request.now.mode (source_view request.now.source) plan.now.model.value
+        (after plan.now.book.net plan.now.book.events).clones) steps.old steps.new
+        (record { bytes = O.bytes out.old; faults = O.faults out.old; calls = O.calls out.old })
+        (record { bytes = O.bytes out.new; faults = O.faults out.new; calls = O.calls out.new }) r) }
+{
+    match (request.mode, request.source) {
+        (Mode::All, Source::Named { .. }) => write_run(rt, alloc, gate, request, plan, out, steps),
+        (Mode::All, Source::Made(_)) => write_report(rt, alloc, gate, request, plan, out, steps),
+        (Mode::One(name), _) => write_alone(alloc, &name, plan, out, steps),
     }
 }

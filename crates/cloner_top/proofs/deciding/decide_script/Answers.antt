@@ -1,16 +1,18 @@
-use Rattle.std.proofs.Common.{ap}
-use Rattle.decision_book.specs.Journal.{after}
-use Rattle.decision_book.specs.Books.{BookView}
-use Rattle.cloner_top.proofs.Accepting.{none_asked}
-use Rattle.cloner_top.proofs.Decisions.{all_accepted, one_refused}
+use Rattle.std.proofs.Common.{arith, refl}
+use Rattle.cloner_top.proofs.Decisions.{begins, ends, goes_on, refused_here}
 use Rattle.cloner_top.proofs.deciding.decide_script.Goals as goal
 
-pub returns-in-Ok-decide_items-clause-ok : goal.returns-in-Ok-decide_items-clause-ok
-returns-in-Ok-decide_items-clause-ok c =
-    all_accepted _ _ _ _ (ap (λ b. after b.net b.events) c.in-Ok.ensures.value) c.in-Ok-decide_items.ensures.ok (ap (λ s. s.clones) c.in-Ok-decide_items.ensures.stands)
+pub loop-i-init : goal.loop-i-init
+loop-i-init c = begins _ _ _ c.in-Ok.ensures.value
+
+pub loop-i-preserved : goal.loop-i-preserved
+loop-i-preserved c =
+    goes_on _ _ _ _ _ c.item.ensures.value c.loop-i.invariant _ c.decide_item.ensures.net c.decide_item.ensures.events
+    c.in-Ok-decide_item.ensures.ok c.in-Ok-decide_item.ensures.accepted
 
 pub returns-in-Err-clause-err : goal.returns-in-Err-clause-err
-returns-in-Err-clause-err c = λ _. one_refused _ _ _ _ (ap (λ b. after b.net b.events) c.in-Ok.ensures.value) c.in-Err.ensures.err
+returns-in-Err-clause-err c = refused_here _ _ _ _ _ c.item.ensures.value c.loop-i.invariant c.args.script.now _ refl
+    c.in-Err.ensures.err
 
-pub returns-in-Ok-decide_items-clause-accepted : goal.returns-in-Ok-decide_items-clause-accepted
-returns-in-Ok-decide_items-clause-accepted c = c.in-Ok-decide_items.ensures.accepted (none_asked _ _ (ap (λ (b : BookView). b.events) c.in-Ok.ensures.value))
+pub returns-clause-ok : goal.returns-clause-ok
+returns-clause-ok c = ends _ _ _ _ (omega (arith, c.loop-i-test.false, c.len-i-end.ensures.value)) c.loop-i.invariant

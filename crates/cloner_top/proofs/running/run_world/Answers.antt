@@ -1,62 +1,22 @@
-use Rattle.std.proofs.Common.{◌≡◌, ◌+◌, ◌-◌, ◌<◌, ◌≤◌, ◌∙◌, ap, arith, length, refl}
-use Rattle.world_core.specs.Worlds.{total_handled}
-use Rattle.cloner_top.proofs.OverLaws.{comes_first, comes_in, comes_last, fault_in, none_handled, rises_in, steps_in, within_horizon}
+use Rattle.std.proofs.Common.{◌∙◌, ◌∷◌, [], ap, ap₂, subst, sym}
+use Rattle.sim_base.specs.Clones.{base, clone_at}
+use Rattle.net_model.specs.Net.{Net}
+use Rattle.world_core.specs.Taking.{clones_after_calls}
+use Rattle.rolling_text.specs.WorldTraces.{AreShort}
+use Rattle.cloner_top.proofs.Runs.{run_stops, short_planned}
 use Rattle.cloner_top.proofs.running.run_world.Goals as goal
 
-pub window-init : goal.window-init
-window-init g c =
-    let net = c.args.model.now in
-    let cs = c.args.world.clones in
-    let z : total_handled net cs 0 ≡ 0 = none_handled net cs (length net.sites) in
-    let at = ap (total_handled net cs) c.requires.front in
-    record {
-      net = c.requires.net;
-      clones = refl;
-      come = comes_first net cs c.args.world.front c.requires.front;
-      steps = omega (arith, z, at);
-    }
+pub returns-in-Err-LimitMet-clause-err : goal.returns-in-Err-LimitMet-clause-err
+returns-in-Err-LimitMet-clause-err g c = λ texts.
+    let made = ap₂ (λ (n : Net) calls. clones_after_calls n (base ∷ []) calls)
+    (sym c.requires.net) c.calls.ensures.value ∙ c.requires.accepted.clones in
+    let name = c.name.ensures.value ∙ ap (λ l. (clone_at l c.in-Err-LimitMet.who).name) c.lists-lists.ensures.value in
+    run_stops _ _ _ _ texts _ _ _ _ _ _ made (rw c.in-Err-LimitMet.field-0-is at c.in-Err-LimitMet.ensures.fault)
+    c.deref.ensures name c.stop_at.ensures
 
-pub window-requires-clause-above : goal.window-requires-clause-above
-window-requires-clause-above g c κs within =
-    let below : c.window.world.front < c.args.model.now.horizon = omega (arith, c.window-test.true, c.front.ensures.value, c.horizon.ensures.value) in
-    rises_in c.args.model.now c.window.world.net c.args.world.clones c.window.world.clones c.window.world.front c.bound-bound.result
-    c.window.invariant.net c.window.invariant.clones c.bound-bound.ensures.value below c.horizon.ensures.valid
-
-pub returns-in-Err-clause-fault : goal.returns-in-Err-clause-fault
-returns-in-Err-clause-fault g c =
-    let below : c.window.world.front < c.args.model.now.horizon = omega (arith, c.window-test.true, c.front.ensures.value, c.horizon.ensures.value) in
-    fault_in c.args.model.now c.window.world.net c.args.world.clones c.window.world.clones c.window.world.front c.bound-bound.result
-    c.window.invariant.net c.window.invariant.clones c.bound-bound.ensures.value below
-    c.args.steps.now c.window.steps c.window-in-window.new.steps c.in-Err.fault c.window.invariant.come c.window.invariant.steps c.in-Err.ensures.fault
-
-pub window-smaller : goal.window-smaller
-window-smaller g c =
-    let below : c.window.world.front < c.args.model.now.horizon = omega (arith, c.window-test.true, c.front.ensures.value, c.horizon.ensures.value) in
-    let later = rises_in c.args.model.now c.window.world.net c.args.world.clones c.window.world.clones c.window.world.front c.bound-bound.result
-    c.window.invariant.net c.window.invariant.clones c.bound-bound.ensures.value below c.horizon.ensures.valid in
-    let is = c.in-Ok.ensures.front in
-    let less : c.args.model.now.horizon - c.in-Ok.world.front < c.args.model.now.horizon - c.window.world.front = omega (arith, below, later, is) in
-    less
-
-pub window-preserved : goal.window-preserved
-window-preserved g c =
-    let below : c.window.world.front < c.args.model.now.horizon = omega (arith, c.window-test.true, c.front.ensures.value, c.horizon.ensures.value) in
-    record {
-      net = c.in-Ok.ensures.net ∙ c.window.invariant.net;
-      clones = c.in-Ok.ensures.clones ∙ c.window.invariant.clones;
-      come = comes_in c.args.model.now c.window.world.net c.args.world.clones c.window.world.clones c.window.world.front c.bound-bound.result
-          c.window.invariant.net c.window.invariant.clones c.bound-bound.ensures.value below
-          c.in-Ok.world.front c.in-Ok.ensures.front c.horizon.ensures.valid c.window.invariant.come c.in-Ok.ensures.short;
-      steps = steps_in c.args.model.now c.window.world.net c.args.world.clones c.window.world.clones c.window.world.front c.bound-bound.result
-          c.window.invariant.net c.window.invariant.clones c.bound-bound.ensures.value below
-          c.in-Ok.world.front c.args.steps.now c.window.steps c.window-in-window.new.steps c.in-Ok.ensures.front c.window.invariant.steps c.in-Ok.ensures.steps;
-    }
-
-pub returns-clause-within : goal.returns-clause-within
-returns-clause-within g c =
-    comes_last c.args.model.now c.args.world.clones c.window.world.front (omega (arith, c.window-test.false, c.front.ensures.value, c.horizon.ensures.value)) c.window.invariant.come
-
-pub returns-clause-short : goal.returns-clause-short
-returns-clause-short g c =
-    within_horizon c.args.model.now c.horizon.ensures.valid c.args.world.clones
-    (comes_last c.args.model.now c.args.world.clones c.window.world.front (omega (arith, c.window-test.false, c.front.ensures.value, c.horizon.ensures.value)) c.window.invariant.come)
+pub returns-in-Ok-clause-short : goal.returns-in-Ok-clause-short
+returns-in-Ok-clause-short g c =
+    let made = ap₂ (λ (n : Net) calls. clones_after_calls n (base ∷ []) calls)
+    (sym c.requires.net) c.calls.ensures.value ∙ c.requires.accepted.clones in
+    let short = short_planned _ _ c.lists-lists.ensures.planned in
+    subst AreShort (c.lists-lists.ensures.value ∙ (sym made ∙ sym c.in-Ok.ensures.clones)) short

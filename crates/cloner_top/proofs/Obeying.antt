@@ -1,0 +1,89 @@
+-- From the plan of a study and its run to what the program answers.
+use Rattle.std.proofs.Common.{◌≡◌, ◌≤◌, ℕ, refl, sym, ap, subst, ◌∙◌, arith}
+use Rattle.std.proofs.Common.{Option, Some, None, Result, Ok, Err, IfErr, OnOk}
+use Rattle.sim_outer.specs.Causes.{AreCounted}
+use Rattle.sim_outer.specs.Files.{Files}
+use Rattle.net_model.specs.Net.{Net}
+use Rattle.decision_book.specs.Books.{BookView}
+use Rattle.decision_book.specs.Journal.{after}
+use Rattle.command_words.specs.declared.request.WordsFault.{WordsFault}
+use Rattle.command_words.specs.declared.request.WordsFault.TheVariants as fault
+use Rattle.command_words.specs.Requests.{Asked}
+use Rattle.study_run.specs.Accepted.{AllAccepted}
+use Rattle.cloner_top.specs.declared.refusal.Refusal.{Refusal}
+use Rattle.cloner_top.specs.Answers.{Comes, IsAnswer, IsUnobeyed, Outside}
+use Rattle.cloner_top.specs.Endings.{MaySimulate}
+use Rattle.cloner_top.specs.Facts.{AreFewFetches, fetches_for}
+use Rattle.cloner_top.specs.Outsides.{IsFailed, IsFinished, IsTold, SinkView}
+use Rattle.cloner_top.specs.Plans.{IsPlanned}
+use Rattle.cloner_top.specs.Refusals.{line_of, status_of, words_refusal}
+use Rattle.cloner_top.specs.Texts.{all_fetches}
+use Rattle.cloner_top.proofs.Endings.{comes, failed_is, failed_on, finished_on, unread_words}
+use Rattle.cloner_top.proofs.Runs.{on_err, on_ok}
+
+module _ (files : Option Files) (a : Asked) (net : Net) (book : BookView)
+    (plan : IsPlanned a.source files net book) where
+  -- the decisions in the book of a plan were all accepted in its network
+  pub plan_accepted : AllAccepted book.net book.events
+  plan_accepted = subst (λ n. AllAccepted n book.events) (sym plan.decided.net_is) plan.decided.accepted
+
+  -- what is written of a planned study is what is asked
+  pub obeyed : (old_steps new_steps : ℕ) (old new : SinkView) {T : Type 0} (r : Result T Refusal)
+      → OnOk r (IsFinished (MaySimulate a.mode a.source net (after book.net book.events).clones) old_steps new_steps
+      old new)
+      → OnOk r (IsFinished (Comes files a) old_steps new_steps old new)
+  obeyed old_steps new_steps old new r h =
+      on_ok r (finished_on (MaySimulate a.mode a.source net (after book.net book.events).clones) (Comes files a)
+      (comes files a net book plan)
+      old_steps new_steps old new) h
+
+  -- and why nothing is
+  pub not_obeyed : (rose : Type 0) (old_steps new_steps : ℕ) (old new : SinkView) {T : Type 0} (r : Result T Refusal)
+      → IfErr r (λ e. IsFailed (MaySimulate a.mode a.source net (after book.net book.events).clones) old_steps
+      new_steps old new e)
+      → IfErr r (λ e. IsUnobeyed rose files a old_steps new_steps old new e)
+  not_obeyed rose old_steps new_steps old new r h =
+      on_err r (λ e failed. failed_is rose files a old_steps new_steps old new e
+      (failed_on (MaySimulate a.mode a.source net (after book.net book.events).clones) (Comes files a)
+      (comes files a net book plan)
+      old_steps new_steps old new e failed)) h
+
+-- what holds holds where a result is there
+pub if_ok : {T E : Type 0} {A : Type 0} (r : Result T E) → A → OnOk r A
+if_ok (Ok t) a = a
+if_ok (Err e) a = tt
+
+-- no call is none
+pub not_counted : (calls : Option ℕ) → AreCounted 0 calls calls
+not_counted None = refl
+not_counted (Some n) = refl
+
+module _ (words : Option Asked) (before after : Outside) where
+  -- the words were not read, and one line tells why
+  pub words_answer : (f : WordsFault) (r : Refusal) (status : ℕ) → (f ≡ fault.Usage → words ≡ None)
+      → r ≡ words_refusal f → after.output ≡ before.output
+      → IsTold (line_of r) before.errors after.errors → after.inputs ≡ before.inputs → after.steps ≡ before.steps
+      → status ≡ status_of r
+      → IsAnswer words before after status
+  words_answer f r status none same output told inputs steps is =
+      unread_words words before after f status none
+      (record { output = output; told = subst (λ x. IsTold (line_of x) before.errors after.errors) same told }) inputs
+      steps (is ∙ ap status_of same)
+
+  -- nothing was fetched
+  pub no_fetches : after.inputs ≡ before.inputs → AreFewFetches words before after
+  no_fetches same = record {
+    fetches = 0;
+    few = omega arith;
+    calls = subst (λ i. AreCounted 0 before.inputs.calls i.calls) (sym same) (not_counted before.inputs.calls);
+  }
+
+  -- no more was fetched than what is asked takes
+  pub few_fetches : (a : Asked) (n : ℕ) → words ≡ Some a → n ≤ all_fetches a.source
+      → AreCounted n before.inputs.calls after.inputs.calls
+      → AreFewFetches words before after
+  few_fetches a n is few calls = record {
+    fetches = n;
+    few = subst (λ w. n ≤ fetches_for w) (sym is) few;
+    calls = calls;
+  }

@@ -1,0 +1,121 @@
+-- Texts that are put one after the other.
+use Rattle.std.proofs.Common.{◌≡◌, ◌≤◌, ℕ, suc, ◌+◌, sym, ap, ap₂, ◌∙◌, subst, arith, min}
+use Rattle.std.proofs.Common.{List, [], ◌∷◌, ◌++◌, append-nil, length, length-append, map, take, Option, Some, None}
+use Rattle.std.proofs.lemmas.List.{append_assoc, length-map, take-append-le, take_all}
+use Rattle.std.proofs.lemmas.List.Concat.{concat_is}
+use Rattle.std.proofs.lemmas.List.Folds.{concat-append, flat_map-map}
+use Rattle.std.specs.List.{concat, flat_map}
+use Rattle.std.proofs.Math.Seq.{take-append-add}
+use Rattle.sim_outer.specs.Bytes.{Appended, PartAppended}
+use Rattle.sim_outer.specs.Causes.{AreCounted, Counted, Rose, counts_after}
+use Rattle.cloner_top.specs.Outsides.{AreCut, ArePut, SinkView}
+
+appended_then : (a b : List ℕ) (old mid new : Option (List ℕ)) → Appended old a mid → Appended mid b new
+    → Appended old (a ++ b) new
+appended_then a b None mid new h k = let m : mid ≡ None = h in (rw m at k)
+appended_then a b (Some o) mid new h k = (rw h at k) ∙ ap Some (append_assoc o a b)
+
+-- a prefix of the first text is one of both
+part_first : (a b : List ℕ) (old new : Option (List ℕ)) → PartAppended old a new → PartAppended old (a ++ b) new
+part_first a b None new h = h
+part_first a b (Some o) new h = (min h.0 (length a), h.1 ∙ ap (λ t. Some (o ++ t)) (sym (take_front h.0 a b)))
+  where
+    take_front : (n : ℕ) (b c : List ℕ) → take (min n (length b)) (b ++ c) ≡ take n b
+    take_front n b c = grind (arith, take-append-le (min n (length b)) b c, take_all)
+
+-- the first text, and a prefix of the second
+part_second : (a b : List ℕ) (old mid new : Option (List ℕ)) → Appended old a mid → PartAppended mid b new
+    → PartAppended old (a ++ b) new
+part_second a b None mid new h k = let m : mid ≡ None = h in (rw m at k)
+part_second a b (Some o) mid new h k =
+    let k2 : PartAppended (Some (o ++ a)) b new = rw h at k in (
+      length a + k2.0,
+      k2.1 ∙ (ap Some (append_assoc o a (take k2.0 b)
+          ∙ ap (λ t. o ++ t) (sym (take-append-add a b k2.0)))),
+    )
+
+one_more : (n : ℕ) (old mid new : Option ℕ) → AreCounted n old mid → Counted mid new → AreCounted (n + 1) old new
+one_more n None mid new h k = let m : mid ≡ None = h in (rw m at k)
+one_more n (Some o) mid new h k =
+    let e : n + 1 ≡ suc n = omega arith in
+    (rw h at k) ∙ ap (λ m. Some (counts_after m o)) (sym e)
+
+one : (old new : Option ℕ) → Counted old new → AreCounted 1 old new
+one None new h = h
+one (Some o) new h = h
+
+-- ---- one text
+
+pub put_one : (text : List ℕ) (old new : SinkView) → Appended old.bytes text new.bytes → Counted old.calls new.calls
+    → ArePut (text ∷ []) old new
+put_one text old new bytes calls = record {
+  bytes = subst (λ t. Appended old.bytes t new.bytes) (sym (append-nil text)) bytes;
+  calls = one old.calls new.calls calls;
+}
+
+pub cut_one : (text : List ℕ) (old new : SinkView) → PartAppended old.bytes text new.bytes
+    → Rose old.faults new.faults → Counted old.calls new.calls → AreCut (text ∷ []) old new
+cut_one text old new bytes failed calls = record {
+  bytes = subst (λ t. PartAppended old.bytes t new.bytes) (sym (append-nil text)) bytes;
+  failed = failed;
+  puts = 1;
+  some = omega arith;
+  few = omega arith;
+  calls = one old.calls new.calls calls;
+}
+
+-- ---- texts, and then one
+
+module _ {X : Type 0} (f : X → List ℕ) (xs : List X) (last : List ℕ) where
+  all_texts : concat (map f xs ++ last ∷ []) ≡ flat_map f xs ++ last
+  all_texts = concat-append (map f xs) (last ∷ [])
+      ∙ ap₂ (λ a b. a ++ b) (concat_is (map f xs) ∙ flat_map-map (λ x. x) f xs) (append-nil last)
+
+  how_many : length (map f xs ++ last ∷ []) ≡ length xs + 1
+  how_many = length-append (map f xs) (last ∷ []) ∙ ap (λ n. n + 1) (length-map xs f)
+
+  module _ (old mid new : SinkView) where
+    pub put_more : Appended old.bytes (flat_map f xs) mid.bytes → AreCounted (length xs) old.calls mid.calls
+        → ArePut (last ∷ []) mid new → ArePut (map f xs ++ last ∷ []) old new
+    put_more bytes calls put = record {
+      bytes = subst (λ t. Appended old.bytes t new.bytes) (sym all_texts)
+          (appended_then (flat_map f xs) last old.bytes mid.bytes new.bytes bytes
+          (subst (λ t. Appended mid.bytes t new.bytes) (append-nil last) put.bytes));
+      calls = subst (λ n. AreCounted n old.calls new.calls) (sym how_many)
+          (one_more (length xs) old.calls mid.calls new.calls calls (of_one mid.calls new.calls put.calls));
+    }
+      where
+        of_one : (a b : Option ℕ) → AreCounted 1 a b → Counted a b
+        of_one None b h = h
+        of_one (Some o) b h = h
+
+    pub cut_last : Appended old.bytes (flat_map f xs) mid.bytes → AreCounted (length xs) old.calls mid.calls
+        → old.faults ≤ mid.faults → AreCut (last ∷ []) mid new
+        → AreCut (map f xs ++ last ∷ []) old new
+    cut_last bytes calls later cut = record {
+      bytes = subst (λ t. PartAppended old.bytes t new.bytes) (sym all_texts)
+          (part_second (flat_map f xs) last old.bytes mid.bytes new.bytes bytes
+          (subst (λ t. PartAppended mid.bytes t new.bytes) (append-nil last) cut.bytes));
+      failed = let r = cut.failed in omega (arith, r, later);
+      puts = length xs + 1;
+      some = omega arith;
+      few = let n = how_many in omega (arith, n);
+      calls = one_more (length xs) old.calls mid.calls new.calls calls
+          (of_some mid.calls new.calls cut.puts cut.some cut.few cut.calls);
+    }
+      where
+        of_some : (a b : Option ℕ) (n : ℕ) → 1 ≤ n → n ≤ 1 → AreCounted n a b → Counted a b
+        of_some None b n low high h = h
+        of_some (Some o) b n low high h = let e : n ≡ 1 = omega (arith, low, high) in (rw e at h)
+
+  pub cut_before : (old new : SinkView) → PartAppended old.bytes (flat_map f xs) new.bytes → Rose old.faults new.faults
+      → (n : ℕ) → 1 ≤ n → n ≤ length xs → AreCounted n old.calls new.calls → AreCut (map f xs ++ last ∷ []) old new
+  cut_before old new bytes failed n some few calls = record {
+    bytes = subst (λ t. PartAppended old.bytes t new.bytes) (sym all_texts)
+        (part_first (flat_map f xs) last old.bytes new.bytes bytes);
+    failed = failed;
+    puts = n;
+    some = some;
+    few = let e = how_many in omega (arith, e, few);
+    calls = calls;
+  }

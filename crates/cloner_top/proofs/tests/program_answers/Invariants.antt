@@ -1,4 +1,0 @@
-use Rattle.cloner_top.proofs.tests.program_answers.Given as goal
-
-abbrev pub ghosts-all : goal.ghosts-all
-ghosts-all g a = record { name = a.blank.name; parts = a.blank.parts }

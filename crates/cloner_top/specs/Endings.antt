@@ -1,0 +1,88 @@
+-- How a study may end.
+use Rattle.std.specs.Prelude.{◌≡◌, ℕ, ◌+◌, ◌≤◌, List, [], ◌∷◌, ◌++◌, map, length, Some, None, Ok, Err}
+use Rattle.sim_base.specs.Clones.{Clone, clone_at, place_of}
+use Rattle.net_model.specs.Net.{Net, site_of}
+use Rattle.net_model.specs.Text.{model}
+use Rattle.net_model.specs.declared.fault.ModelFault.{ModelFault}
+use Rattle.decision_script.specs.Reading.{script}
+use Rattle.decision_script.specs.Stating.{ScriptView}
+use Rattle.decision_script.specs.declared.fault.ScriptFault.{ScriptFault}
+use Rattle.decision_book.specs.declared.call.Reply.{Reply}
+use Rattle.stations.specs.Runs.{trace_of}
+use Rattle.world_core.specs.Worlds.{total_handled}
+use Rattle.trace_report.specs.Outputs.{clone_text, report}
+use Rattle.study_run.specs.Limits.{AreWithin, IsWithin, MeetsLimit, MeetsLimitAlone}
+use Rattle.study_run.specs.Work.{most_handled}
+use Rattle.command_words.specs.declared.request.Mode.{Mode}
+use Rattle.command_words.specs.declared.request.Mode.TheVariants.{All, One}
+use Rattle.command_words.specs.Requests.{Asked, Source, made, named}
+use Rattle.cloner_top.specs.declared.stop.Stop.{Stop}
+use Rattle.cloner_top.specs.declared.stop.Stop.TheVariants.{BadModel, BadScript, Refused, NoClone, LimitMet}
+use Rattle.cloner_top.specs.Deciding.{clones_of, first_refused}
+
+-- an ending: these texts are written, for which so many messages were handled; nothing is, for this cause, and none was
+-- handled; or the limit is met, and at most so many were handled
+pub data Ending : Type 0 where
+  written : List (List ℕ) → ℕ → Ending
+  stopped : Stop → Ending
+  overrun : Stop → ℕ → Ending
+
+abbrev pub limit_met : Net → ℕ → List ℕ → Stop
+limit_met net station clone = LimitMet net.limit (site_of net station).name clone
+
+-- how a run of these clones may end, which is to write these texts
+pub data MayRun (net : Net) (clones : List Clone) (texts : List (List ℕ)) : Ending → Type 0 where
+  within : AreWithin net clones → MayRun net clones texts (written texts (total_handled net clones net.horizon))
+  over : (station who : ℕ) → MeetsLimit net clones station who
+      → MayRun net clones texts (overrun (limit_met net station (clone_at clones who).name)
+      (most_handled net (length clones)))
+
+-- how a run of the clone of this name by itself may end
+pub data MayRunAlone (net : Net) (clones : List Clone) (name : List ℕ) : Ending → Type 0 where
+  missing : place_of name clones ≡ None → MayRunAlone net clones name (stopped (NoClone name))
+  fits : (k : ℕ) → place_of name clones ≡ Some k → IsWithin net (clone_at clones k)
+      → MayRunAlone net clones name (written (clone_text net (clone_at clones k) ∷ [])
+      (length (trace_of net (clone_at clones k))))
+  beyond : (k station : ℕ) → place_of name clones ≡ Some k → MeetsLimitAlone net (clone_at clones k) station
+      → MayRunAlone net clones name (overrun (limit_met net station name) (most_handled net 1))
+
+-- what a run of all clones writes: each one's trace text, in order of making, and then the report
+unfoldable pub run_texts : Net → List Clone → List (List ℕ)
+run_texts net clones = map (clone_text net) clones ++ report net clones ∷ []
+
+-- what is written of a study: of a made one the report alone
+abbrev pub study_texts : Source → Net → List Clone → List (List ℕ)
+study_texts (named model script) net clones = run_texts net clones
+study_texts (made n) net clones = report net clones ∷ []
+
+-- how the simulation of these clones may end: of all of them, or of one by itself
+abbrev pub MaySimulate : Mode → Source → Net → List Clone → Ending → Type 0
+MaySimulate All source net clones end = MayRun net clones (study_texts source net clones) end
+MaySimulate (One name) source net clones end = MayRunAlone net clones name end
+
+-- how a script's study of a model may end
+pub data MayEnd (a : Asked) (net : Net) (s : ScriptView) : Ending → Type 0 where
+  refused : (reply : Reply) (line : ℕ) → first_refused net s ≡ Some (reply, line)
+      → MayEnd a net s (stopped (Refused reply line))
+  decided : (end : Ending) → first_refused net s ≡ None → MaySimulate a.mode a.source net (clones_of net s) end
+      → MayEnd a net s end
+
+-- how the study of two texts may end
+pub data MayCome (a : Asked) (m s : List ℕ) : Ending → Type 0 where
+  bad_model : (fault : ModelFault) → model m ≡ Err fault → MayCome a m s (stopped (BadModel fault))
+  bad_script : (net : Net) (fault : ScriptFault) → model m ≡ Ok net → script s ≡ Err fault
+      → MayCome a m s (stopped (BadScript fault))
+  studied : (net : Net) (stated : ScriptView) (end : Ending) → model m ≡ Ok net → script s ≡ Ok stated
+      → MayEnd a net stated end
+      → MayCome a m s end
+
+-- what was written for an ending for which this holds; the steps are the messages handled
+pub record Wrote (P : Ending → Type 0) (old_steps new_steps : ℕ) (texts : List (List ℕ)) : Type 0 where
+  pub work : ℕ
+  pub may : P (written texts work)
+  pub steps : new_steps ≡ old_steps + work
+
+-- a stop of an ending for which this holds: before anything is handled, or at the limit
+pub data StoppedFor (P : Ending → Type 0) (old_steps new_steps : ℕ) (stop : Stop) : Type 0 where
+  at_once : P (stopped stop) → new_steps ≡ old_steps → StoppedFor P old_steps new_steps stop
+  at_limit : (most : ℕ) → P (overrun stop most) → new_steps ≤ old_steps + most → StoppedFor P old_steps new_steps stop

@@ -1,0 +1,65 @@
+-- The outside of the program: what contracts see of inputs and sinks, and what becomes of them.
+use Rattle.std.specs.Prelude.{◌≡◌, ◌⊎◌, ℕ, ◌≤◌, List, Option, length}
+use Rattle.std.specs.List.{concat}
+use Rattle.sim_outer.specs.Bytes.{Appended, PartAppended}
+use Rattle.sim_outer.specs.Causes.{AreCounted, Counted, Rose}
+use Rattle.sim_outer.specs.Files.{Files}
+use Rattle.cloner_top.specs.declared.refusal.Refusal.{Refusal}
+use Rattle.cloner_top.specs.declared.refusal.Refusal.TheVariants.{OutOfMemory, Stopped, CannotWrite}
+use Rattle.cloner_top.specs.Endings.{Ending, StoppedFor, Wrote}
+
+-- the files where they are known, the count of faults, and that of calls where it is known
+pub record InputsView : Type 0 where
+  pub files : Option Files
+  pub faults : ℕ
+  pub calls : Option ℕ
+
+-- what a sink took where that is known, and its counts
+pub record SinkView : Type 0 where
+  pub bytes : Option (List ℕ)
+  pub faults : ℕ
+  pub calls : Option ℕ
+
+-- each text was put, in one call
+pub record ArePut (texts : List (List ℕ)) (old new : SinkView) : Type 0 where
+  pub bytes : Appended old.bytes (concat texts) new.bytes
+  pub calls : AreCounted (length texts) old.calls new.calls
+
+-- the texts were cut off: a call failed, and a prefix of them all was taken
+pub record AreCut (texts : List (List ℕ)) (old new : SinkView) : Type 0 where
+  pub bytes : PartAppended old.bytes (concat texts) new.bytes
+  pub failed : Rose old.faults new.faults
+  pub puts : ℕ
+  pub some : 1 ≤ puts
+  pub few : puts ≤ length texts
+  pub calls : AreCounted puts old.calls new.calls
+
+-- one line was told in one call: the sink took it, or failed and took a prefix of it
+pub record IsTold (line : List ℕ) (old new : SinkView) : Type 0 where
+  pub bytes : Appended old.bytes line new.bytes ⊎ (Rose old.faults new.faults × PartAppended old.bytes line new.bytes)
+  pub calls : Counted old.calls new.calls
+
+-- a study of which an ending is lawful was written
+pub record IsFinished (P : Ending → Type 0) (old_steps new_steps : ℕ) (old new : SinkView) : Type 0 where
+  pub texts : List (List ℕ)
+  pub wrote : Wrote P old_steps new_steps texts
+  pub put : ArePut texts old new
+
+-- or it was cut off
+pub record IsCutOff (P : Ending → Type 0) (old_steps new_steps : ℕ) (old new : SinkView) : Type 0 where
+  pub texts : List (List ℕ)
+  pub wrote : Wrote P old_steps new_steps texts
+  pub cut : AreCut texts old new
+
+-- why it was not written
+abbrev pub IsFailed : (Ending → Type 0) → ℕ → ℕ → SinkView → SinkView → Refusal → Type 0
+IsFailed P old_steps new_steps old new OutOfMemory = new ≡ old
+IsFailed P old_steps new_steps old new (Stopped stop) = StoppedFor P old_steps new_steps stop × (new ≡ old)
+IsFailed P old_steps new_steps old new CannotWrite = IsCutOff P old_steps new_steps old new
+IsFailed P old_steps new_steps old new refusal = ⊥
+
+-- why texts were not put
+abbrev pub IsNotPut : List (List ℕ) → SinkView → SinkView → Refusal → Type 0
+IsNotPut texts old new OutOfMemory = new ≡ old
+IsNotPut texts old new CannotWrite = AreCut texts old new
+IsNotPut texts old new refusal = ⊥

@@ -1,0 +1,56 @@
+-- Why a study is not written: its status, and the line that tells it.
+use Rattle.std.specs.Prelude.{ℕ, ◌++◌, List, [], Option, Some, None, codes, decimal}
+use Rattle.net_model.specs.declared.fault.ModelFault.{ModelFault}
+use Rattle.net_model.specs.Faults.{fault_key, fault_number, fault_place}
+use Rattle.decision_script.specs.declared.fault.ScriptFault.{ScriptFault}
+use Rattle.decision_script.specs.Faults as script
+use Rattle.decision_book.specs.declared.call.Reply.{Reply}
+use Rattle.decision_book.specs.Numbers.{reply_number}
+use Rattle.cloner_top.specs.declared.stop.Stop.{Stop}
+use Rattle.cloner_top.specs.declared.stop.Stop.TheVariants.{BadModel, BadScript, Refused, NoClone, LimitMet}
+
+abbrev pub stop_status : Stop → ℕ
+stop_status (BadModel fault) = 4
+stop_status (BadScript fault) = 5
+stop_status (Refused reply line) = 6
+stop_status (NoClone name) = 6
+stop_status (LimitMet limit station clone) = 7
+
+abbrev pub key_part : Option (List ℕ) → List ℕ
+key_part None = []
+key_part (Some key) = codes " key " ++ key
+
+-- the first rule of a model that is broken: its number, the station, and the key if it has one
+abbrev pub model_line : ModelFault → List ℕ
+model_line fault =
+    codes "cloner: model: refusal " ++ decimal (fault_number fault) ++ codes " at station "
+    ++ decimal (fault_place fault)
+    ++ key_part (fault_key fault) ++ codes "\n"
+
+-- the first rule of a script that is broken
+abbrev pub script_line : ScriptFault → List ℕ
+script_line fault =
+    codes "cloner: script: refusal " ++ decimal (script.fault_number fault) ++ codes " at line "
+    ++ decimal (script.fault_line fault) ++ codes "\n"
+
+-- the first decision that is refused
+abbrev pub decision_line : Reply → ℕ → List ℕ
+decision_line reply line =
+    codes "cloner: decision: refusal " ++ decimal (reply_number reply) ++ codes " at line " ++ decimal line
+    ++ codes "\n"
+
+abbrev pub no_clone_line : List ℕ → List ℕ
+no_clone_line name = codes "cloner: no clone " ++ name ++ codes "\n"
+
+abbrev pub limit_line : ℕ → List ℕ → List ℕ → List ℕ
+limit_line limit station clone =
+    codes "cloner: limit " ++ decimal limit ++ codes " met at station " ++ station ++ codes " in clone " ++ clone
+    ++ codes "\n"
+
+-- the line for each stop
+abbrev pub stop_line : Stop → List ℕ
+stop_line (BadModel fault) = model_line fault
+stop_line (BadScript fault) = script_line fault
+stop_line (Refused reply line) = decision_line reply line
+stop_line (NoClone name) = no_clone_line name
+stop_line (LimitMet limit station clone) = limit_line limit station clone

@@ -1,0 +1,93 @@
+-- The two texts of a study, and what is known of them.
+use Rattle.std.specs.Prelude.{◌≡◌, ◌⊎◌, ℕ, List, Option, Some, None, Ok, Err}
+use Rattle.std.specs.FinMap as map
+use Rattle.sim_outer.specs.Files.{Files, Lacks, prefix_of}
+use Rattle.net_model.specs.Net.{Net}
+use Rattle.net_model.specs.Text.{model}
+use Rattle.decision_script.specs.Printing.{canonical_text}
+use Rattle.made_study.specs.Scripts.{made_script}
+use Rattle.made_study.specs.Texts.{model_text}
+use Rattle.decision_script.specs.Reading.{script}
+use Rattle.cloner_top.specs.declared.refusal.Refusal.{Refusal}
+use Rattle.cloner_top.specs.declared.refusal.Refusal.TheVariants.{OutOfMemory, NoModel, NoScript}
+use Rattle.cloner_top.specs.declared.stop.Stop.{Stop}
+use Rattle.cloner_top.specs.declared.stop.Stop.TheVariants.{BadModel, BadScript}
+use Rattle.cloner_top.specs.declared.reading.Text.{Text}
+use Rattle.cloner_top.specs.declared.reading.Text.TheVariants.{Model, Script}
+use Rattle.command_words.specs.Requests.{Source, named, made}
+
+-- what is known of a text: nothing, that it is not there, or its bytes
+pub data Known : Type 0 where
+  unknown : Known
+  absent : Known
+  bytes : List ℕ → Known
+
+abbrev pub known_file : Option (List ℕ) → Known
+known_file None = absent
+known_file (Some file) = bytes (prefix_of file)
+
+-- a file, as far as a fetch gives it
+abbrev pub known_in : Option Files → List ℕ → Known
+known_in None name = unknown
+known_in (Some files) name = known_file (map.get files name)
+
+-- the name of a text's file
+abbrev pub name_of : Text → List ℕ → List ℕ → List ℕ
+name_of Model model script = model
+name_of Script model script = script
+
+-- the text that is made of a number
+abbrev pub made_text : Text → ℕ → List ℕ
+made_text Model n = model_text n
+made_text Script n = canonical_text made_script
+
+-- a text of a study: in a file, or made of a number
+abbrev pub text_of : Source → Text → Option Files → Known
+text_of (named model script) text files = known_in files (name_of text model script)
+text_of (made n) text files = bytes (made_text text n)
+
+-- these bytes may be the text
+abbrev pub IsText : Known → List ℕ → Type 0
+IsText unknown found = Unit {0}
+IsText absent found = ⊥
+IsText (bytes known) found = found ≡ known
+
+-- the model's text, and where that is a model the script's
+pub record AreTexts (source : Source) (files : Option Files) (m s : List ℕ) : Type 0 where
+  pub model_is : IsText (text_of source Model files) m
+  pub script_is : (net : Net) → model m ≡ Ok net → IsText (text_of source Script files) s
+
+-- a text was not read: the inputs had a fault, or the files are known and lack it; a made text is always there
+abbrev pub IsUnread : Type 0 → Source → Text → Option Files → Type 0
+IsUnread rose (named model script) text files = rose ⊎ Lacks files (name_of text model script)
+IsUnread rose (made n) text files = ⊥
+
+-- how many fetches one text takes, and both
+abbrev pub fetches_of : Source → ℕ
+fetches_of (named model script) = 1
+fetches_of (made n) = 0
+
+abbrev pub all_fetches : Source → ℕ
+all_fetches (named model script) = 2
+all_fetches (made n) = 0
+
+-- the refusal where a text was not read
+abbrev pub unread_refusal : Text → Refusal
+unread_refusal Model = NoModel
+unread_refusal Script = NoScript
+
+-- out of memory, or a text was not read
+abbrev pub IsNotRead : Type 0 → Source → Text → Option Files → Refusal → Type 0
+IsNotRead rose source text files OutOfMemory = Unit {0}
+IsNotRead rose source Model files NoModel = IsUnread rose source Model files
+IsNotRead rose source Script files NoScript = IsUnread rose source Script files
+IsNotRead rose source text files refusal = ⊥
+
+-- the rule that a text breaks
+abbrev pub IsBadModel : List ℕ → Stop → Type 0
+IsBadModel text (BadModel fault) = model text ≡ Err fault
+IsBadModel text stop = ⊥
+
+abbrev pub IsBadScript : List ℕ → Stop → Type 0
+IsBadScript text (BadScript fault) = script text ≡ Err fault
+IsBadScript text stop = ⊥

@@ -1,0 +1,146 @@
+//! Why a study is not written.
+ghost use Rattle.std.specs.Prelude.{◌≡◌, ◌+◌, ◌++◌, ◌≤◌, length};
+ghost use Rattle.cloner_top.specs.Stops.{key_part, stop_line, stop_status, model_line};
+ghost use Rattle.cloner_top.specs.Stops.{script_line, decision_line, no_clone_line, limit_line};
+ghost use Rattle.cloner_top.specs.declared.error_line.TheConstants.{LONGEST_LINE};
+ghost use Rattle.net_model.specs.Faults.{fault_key};
+
+use crate::error_line::ErrorLine;
+use decision_book::Reply;
+use decision_script::ScriptFault;
+use net_model::ModelFault;
+use sim_base::Name;
+
+/// The first cause, in the order of the statuses, that a study of two texts is not written.
+#[derive(Clone, Copy, Debug, PartialEq, Eq)]
+pub enum Stop {
+    /// The model's text is no model.
+    BadModel(ModelFault),
+    /// The script's text is no script.
+    BadScript(ScriptFault),
+    /// The first decision that is refused, with its line.
+    Refused {
+        reply: Reply,
+        line: u32,
+    },
+    /// The decisions make no clone of this name.
+    NoClone(Name),
+    /// The station and the clone at which the limit is met.
+    LimitMet {
+        limit: u64,
+        station: Name,
+        clone: Name,
+    },
+}
+
+fn model_refused(fault: &ModelFault) -> ErrorLine
+    ensures { result ≡ model_line fault.now }
+{
+    let mut line = ErrorLine::new();
+    line.push("cloner: model: refusal ");
+    line.push_number(fault.number() as u64);
+    line.push(" at station ");
+    line.push_number(fault.place() as u64);
+    push_key(&mut line, fault);
+    line.push("\n");
+    line
+}
+
+fn push_key(line: &mut ErrorLine, fault: &ModelFault)
+    requires free { length line.old + 37 ≤ LONGEST_LINE }
+    ensures value { line.new ≡ line.old ++ key_part (fault_key fault.now) }
+    ensures short { length line.new ≤ length line.old + 37 }
+{
+    if let Some(key) = fault.key() {
+        line.push(" key ");
+        line.push(key);
+    }
+}
+
+fn script_refused(fault: &ScriptFault) -> ErrorLine
+    ensures { result ≡ script_line fault.now }
+{
+    let mut line = ErrorLine::new();
+    line.push("cloner: script: refusal ");
+    line.push_number(fault.number() as u64);
+    line.push(" at line ");
+    line.push_number(fault.line() as u64);
+    line.push("\n");
+    line
+}
+
+fn decision_refused(reply: &Reply, number: u32) -> ErrorLine
+    ensures { result ≡ decision_line reply.now number }
+{
+    let mut line = ErrorLine::new();
+    line.push("cloner: decision: refusal ");
+    line.push_number(reply.number() as u64);
+    line.push(" at line ");
+    line.push_number(number as u64);
+    line.push("\n");
+    line
+}
+
+fn clone_missing(name: &Name) -> ErrorLine
+    ensures { result ≡ no_clone_line name.now }
+{
+    let mut line = ErrorLine::new();
+    line.push("cloner: no clone ");
+    push_name(&mut line, name);
+    line.push("\n");
+    line
+}
+
+fn limit_met(limit: u64, station: &Name, clone: &Name) -> ErrorLine
+    ensures { result ≡ limit_line limit station.now clone.now }
+{
+    let mut line = ErrorLine::new();
+    line.push("cloner: limit ");
+    line.push_number(limit);
+    line.push(" met at station ");
+    push_name(&mut line, station);
+    line.push(" in clone ");
+    push_name(&mut line, clone);
+    line.push("\n");
+    line
+}
+
+#[tactic(auto, using(crate::proofs::Short::name_short))]
+fn push_name(line: &mut ErrorLine, name: &Name)
+    requires free { length line.old + 16 ≤ LONGEST_LINE }
+    ensures value { line.new ≡ line.old ++ name.now }
+    ensures short { length line.new ≤ length line.old + 16 }
+{
+    line.push(name.text());
+}
+
+impl Stop {
+    /// The status of the program, from 4 to 7.
+    pub fn status(&self) -> u8
+        ensures { result ≡ stop_status self.now }
+    {
+        match self {
+            Stop::BadModel(_) => 4,
+            Stop::BadScript(_) => 5,
+            Stop::Refused { .. } | Stop::NoClone(_) => 6,
+            Stop::LimitMet { .. } => 7,
+        }
+    }
+
+    /// The line that tells it.
+    pub fn line(&self) -> ErrorLine
+        ensures { result ≡ stop_line self.now }
+    {
+        match self {
+            Stop::BadModel(fault) => model_refused(fault),
+            Stop::BadScript(fault) => script_refused(fault),
+            Stop::Refused { reply, line } => decision_refused(reply, *line),
+            Stop::NoClone(name) => clone_missing(name),
+            Stop::LimitMet {
+                limit,
+                station,
+                clone,
+            } => limit_met(*limit, station, clone),
+        }
+    }
+}

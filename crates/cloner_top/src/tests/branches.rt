@@ -1,0 +1,93 @@
+//! Branches, and what they share.
+use super::{PLAIN, Row, models, texts};
+use std::process::Abort;
+use std::test::Fail;
+
+const FAST: &str = "fork fast from base\nset fast at 8 desk service 2 2";
+
+const TWINS: &str = "set base at 8 desk service 2 2\nfork twin from base\n";
+
+const EQUAL: &str =
+    "fork a from base\nfork b from base\nset a at 8 desk service 2 2\nset b at 8 desk service 2 2\n";
+
+const APART: &str =
+    "fork a from base\nfork b from base\nset a at 15 desk room 9\nset a at 8 desk service 2 2\nset b at 8 desk service 2 2\n";
+
+const ALONE: &str = "fork b from base\nset b at 8 desk service 2 2\n";
+
+const SOLO_B: &[&str] = &["solo", "m", "s", "--clone", "b"];
+
+const ROWS: &[Row] = &[
+    PLAIN,
+    Row {
+        shows: "looks and comments change nothing",
+        script: "look base desk\n# a comment\n",
+        ..PLAIN
+    },
+    Row {
+        shows: "a branch whose desk is faster",
+        script: FAST,
+        traces: texts::BASE_AND_FAST,
+        report: texts::BASE_AND_FAST_REPORT,
+        ..PLAIN
+    },
+    Row {
+        shows: "a fork after a set that is not due",
+        script: TWINS,
+        traces: texts::FAST_TWINS,
+        report: texts::FAST_TWINS_REPORT,
+        ..PLAIN
+    },
+    Row {
+        shows: "branches of equal decisions never split",
+        script: EQUAL,
+        traces: texts::EQUAL_BRANCHES,
+        report: texts::EQUAL_BRANCHES_REPORT,
+        ..PLAIN
+    },
+    Row {
+        shows: "the same set under two numbers splits",
+        script: APART,
+        traces: texts::BRANCHES_APART,
+        report: texts::BRANCHES_APART_REPORT,
+        ..PLAIN
+    },
+    Row {
+        shows: "one of the equal branches alone",
+        words: SOLO_B,
+        script: EQUAL,
+        traces: texts::ONE_BRANCH,
+        report: "",
+        ..PLAIN
+    },
+    Row {
+        shows: "the same by its own script",
+        words: SOLO_B,
+        script: ALONE,
+        traces: texts::ONE_BRANCH,
+        report: "",
+        ..PLAIN
+    },
+    Row {
+        shows: "a branch that ends early",
+        script: "fork brief from base\nend brief at 9\n",
+        traces: texts::BRIEF,
+        report: texts::BRIEF_REPORT,
+        ..PLAIN
+    },
+    Row {
+        shows: "a base that ends before it begins",
+        script: "end base at 0\n",
+        traces: texts::NOTHING,
+        report: texts::NOTHING_REPORT,
+        ..PLAIN
+    },
+];
+
+#[test]
+fn branches_are_written(rt: HostRuntime) -> Result<(), Fail> {
+    for row in ROWS {
+        assert!(rt; row.holds(&rt, rt.alloc()), "{}", row.shows);
+    }
+    Ok(())
+}

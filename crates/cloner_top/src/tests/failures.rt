@@ -1,0 +1,192 @@
+//! Inputs and sinks that fail.
+use super::{GOOD, Outside, RUN, both, ended, models, texts};
+use crew_pool::NoGate;
+use std::alloc::Global;
+use std::process::Abort;
+use std::sync::Wait;
+use std::test::Fail;
+use std::thread::Threads;
+
+const FAST: &str = "fork fast from base\nset fast at 8 desk service 2 2";
+
+const NO_MODEL: &str = "cloner: cannot read the model\n";
+
+const NO_SCRIPT: &str = "cloner: cannot read the script\n";
+
+const CUT: &str = "cloner: cannot write\n";
+
+/// A run of two branches over an outside: its status, how many bytes of the output are written, and what is told.
+#[derive(Clone, Copy)]
+struct Fault<'a> {
+    shows: &'a str,
+    outside: Outside<'a>,
+    status: u8,
+    size: usize,
+    errors: &'a str,
+}
+
+impl<'a> Fault<'a> {
+    fn holds<R: Threads + Wait + Sync>(&self, rt: &R, alloc: Global) -> bool {
+        let whole = both(alloc, texts::BASE_AND_FAST, texts::BASE_AND_FAST_REPORT);
+        let ended = ended(
+            rt,
+            alloc,
+            &NoGate,
+            RUN,
+            models::ONE_DESK,
+            FAST,
+            &self.outside,
+        );
+        match (ended, whole) {
+            (Ok(ended), Ok(whole)) => {
+                whole.len() >= self.size
+                    && ended.is(self.status, &whole.as_slice()[..self.size], self.errors)
+            }
+            _ => false,
+        }
+    }
+}
+
+#[test]
+fn fetches_fail(rt: HostRuntime) -> Result<(), Fail> {
+    for (fetch, errors) in [([1u32], NO_MODEL), ([2u32], NO_SCRIPT)] {
+        let fault = Fault {
+            shows: "a fetch fails",
+            outside: Outside {
+                fetch: &fetch,
+                ..GOOD
+            },
+            status: 3,
+            size: 0,
+            errors,
+        };
+        assert!(rt; fault.holds(&rt, rt.alloc()), "{} {}", fault.shows, errors);
+    }
+    Ok(())
+}
+
+/// Put `put` of the run, which begins after `before` bytes and has `length`, fails after some of them; once more with an
+/// error sink that fails too.
+fn put_fails<R: Threads + Wait + Sync>(
+    rt: &R,
+    alloc: Global,
+    put: u32,
+    before: usize,
+    length: usize,
+) -> bool {
+    let mut holds = true;
+    for taken in [0, 1, length.saturating_sub(1), length] {
+        let outside = Outside {
+            put: &[(put, taken)],
+            ..GOOD
+        };
+        let size = before.saturating_add(taken);
+        let cut = Fault {
+            shows: "",
+            outside,
+            status: 8,
+            size,
+            errors: CUT,
+        };
+        let outside = Outside {
+            error: &[(1, 6)],
+            ..outside
+        };
+        let untold = Fault {
+            shows: "",
+            outside,
+            status: 8,
+            size,
+            errors: "cloner",
+        };
+        holds = holds && cut.holds(rt, alloc) && untold.holds(rt, alloc);
+    }
+    holds
+}
+
+#[test]
+fn puts_fail(rt: HostRuntime) -> Result<(), Fail> {
+    let first = texts::BASE.len();
+    let traces = texts::BASE_AND_FAST.len();
+    let report = texts::BASE_AND_FAST_REPORT.len();
+    assert!(rt; put_fails(&rt, rt.alloc(), 1, 0, first));
+    assert!(rt; put_fails(&rt, rt.alloc(), 2, first, traces.saturating_sub(first)));
+    assert!(rt; put_fails(&rt, rt.alloc(), 3, traces, report));
+    Ok(())
+}
+
+#[test]
+fn other_faults(rt: HostRuntime) -> Result<(), Fail> {
+    let whole = texts::BASE_AND_FAST
+        .len()
+        .saturating_add(texts::BASE_AND_FAST_REPORT.len());
+    let faults = [
+        Fault {
+            shows: "one byte too little",
+            outside: Outside {
+                takes: whole.saturating_sub(1),
+                ..GOOD
+            },
+            status: 8,
+            size: whole.saturating_sub(1),
+            errors: CUT,
+        },
+        Fault {
+            shows: "a sink that just takes all",
+            outside: Outside {
+                takes: whole,
+                ..GOOD
+            },
+            status: 0,
+            size: whole,
+            errors: "",
+        },
+        Fault {
+            shows: "calls after the last",
+            outside: Outside {
+                fetch: &[3],
+                put: &[(4, 0)],
+                error: &[(1, 0)],
+                ..GOOD
+            },
+            status: 0,
+            size: whole,
+            errors: "",
+        },
+        Fault {
+            shows: "a second line that would fail",
+            outside: Outside {
+                fetch: &[1],
+                error: &[(2, 0)],
+                ..GOOD
+            },
+            status: 3,
+            size: 0,
+            errors: NO_MODEL,
+        },
+    ];
+    for fault in faults {
+        assert!(rt; fault.holds(&rt, rt.alloc()), "{}", fault.shows);
+    }
+    Ok(())
+}
+
+#[test]
+fn solo_is_cut_off(rt: HostRuntime) -> Result<(), Fail> {
+    let words: &[&str] = &["solo", "m", "s", "--clone", "base"];
+    let outside = Outside {
+        put: &[(1, 7)],
+        ..GOOD
+    };
+    let ended = ended(
+        &rt,
+        rt.alloc(),
+        &NoGate,
+        words,
+        models::ONE_DESK,
+        "",
+        &outside,
+    )?;
+    assert!(rt; ended.is(8, b"clone b", CUT));
+    Ok(())
+}

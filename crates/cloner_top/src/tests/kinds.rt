@@ -1,0 +1,86 @@
+//! Stations of every kind.
+use super::{PLAIN, Row, models, texts};
+use std::process::Abort;
+use std::test::Fail;
+
+const ROWS: &[Row] = &[
+    Row {
+        shows: "a set at time 0",
+        script: "set base at 0 desk service 4 4",
+        traces: texts::SET_AT_START,
+        report: texts::SET_AT_START_REPORT,
+        ..PLAIN
+    },
+    Row {
+        shows: "a set at the last time",
+        script: "set base at 19 desk room 5",
+        traces: texts::SET_AT_LAST,
+        report: texts::SET_AT_LAST_REPORT,
+        ..PLAIN
+    },
+    Row {
+        shows: "several messages to itself in a window",
+        model: models::CLOSE_MESSAGES,
+        traces: texts::CLOSE_MESSAGES,
+        report: texts::CLOSE_MESSAGES_REPORT,
+        ..PLAIN
+    },
+    Row {
+        shows: "drawn interarrival times",
+        model: models::DRAWN_GATE,
+        traces: texts::DRAWN_GATE,
+        report: texts::DRAWN_GATE_REPORT,
+        ..PLAIN
+    },
+    Row {
+        shows: "a desk without a queue loses jobs",
+        model: models::NO_ROOM,
+        traces: texts::NO_ROOM,
+        report: texts::NO_ROOM_REPORT,
+        ..PLAIN
+    },
+    Row {
+        shows: "more servers take the waiting",
+        model: models::SOME_ROOM,
+        script: "set base at 6 desk servers 3",
+        traces: texts::MORE_SERVERS,
+        report: texts::MORE_SERVERS_REPORT,
+        ..PLAIN
+    },
+    Row {
+        shows: "a router by turn, and a delay",
+        model: models::BY_TURN,
+        traces: texts::FAN,
+        report: texts::FAN_REPORT,
+        ..PLAIN
+    },
+    Row {
+        shows: "a router by weights",
+        model: models::BY_WEIGHTS,
+        traces: texts::FAN,
+        report: texts::FAN_REPORT,
+        ..PLAIN
+    },
+    Row {
+        shows: "a server by class",
+        model: models::CLASSES,
+        traces: texts::CLASSES,
+        report: texts::CLASSES_REPORT,
+        ..PLAIN
+    },
+    Row {
+        shows: "a sink to which nothing comes",
+        model: models::ONLY_OUT,
+        traces: texts::NOTHING,
+        report: texts::ONLY_OUT_REPORT,
+        ..PLAIN
+    },
+];
+
+#[test]
+fn kinds_are_written(rt: HostRuntime) -> Result<(), Fail> {
+    for row in ROWS {
+        assert!(rt; row.holds(&rt, rt.alloc()), "{}", row.shows);
+    }
+    Ok(())
+}
