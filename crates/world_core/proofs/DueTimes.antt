@@ -23,24 +23,28 @@ use Rattle.run_laws.specs.Copies.{Stands, ends_of, Carries}
 use Rattle.run_laws.specs.Fronts.{earlier, least_time, least_of, least}
 use Rattle.run_laws.specs.FrontLaws.{IsTaken, least_to, IsLeastTime as IsLeastBy}
 use Rattle.run_laws.specs.Runs.{due_at}
-use Rattle.run_laws.proofs.Leasts.{least-either, least-unique, least_time-is}
+use Rattle.run_laws.proofs.Leasts.{least-unique, least_time-is}
 use Rattle.run_laws.proofs.DueTimes.{least_of-stations, least-copies}
 use Rattle.run_laws.proofs.Gaining.{copies_are_logs}
 use Rattle.run_laws.proofs.Sums.{alone-copies, clones-copies}
 use Rattle.phys_proc.specs.Gone.{ends_in}
 use Rattle.phys_proc.specs.Own.{StationCopy, IsCopy, handled_alone, all_sizes, taken_at}
-use Rattle.phys_proc.specs.Procs.{ProcView, IsTakenBy, IsLeastTime, IsLeastOf, IsLeast}
+use Rattle.phys_proc.specs.Procs.{ProcView, IsTakenBy, IsLeastTime, IsLeastOf}
 use Rattle.phys_proc.proofs.Onward.{sets_join}
 use Rattle.world_core.specs.Worlds.{StandsAt, WorldStands, copies_at}
 use Rattle.world_core.proofs.Places.{at_got}
 
-abbrev time_of : Msg → ℕ
+abbrev pub time_of : Msg → ℕ
 time_of m = m.key.time
 
 -- two texts of one thing
-by_law : (P : Msg → Type 0) (t : Option ℕ) → IsLeastTime P t → IsLeastBy time_of P t
+pub by_law : (P : Msg → Type 0) (t : Option ℕ) → IsLeastTime P t → IsLeastBy time_of P t
 by_law P None h = h
 by_law P (Some t) h = h
+
+pub by_words : (P : Msg → Type 0) (t : Option ℕ) → IsLeastBy time_of P t → IsLeastTime P t
+by_words P None h = h
+by_words P (Some t) h = h
 
 -- the least of a class of messages is that of the same class in other words
 least_as : (P Q : Msg → Type 0) (t : Option ℕ) → ((m : Msg) → P m → Q m) → ((m : Msg) → Q m → P m)
@@ -108,14 +112,12 @@ module _ (net : Net) (cs : List Clone) (ended : List (ℕ × ℕ)) (front : ℕ)
   pub least_none : IsLeastBy time_of (TakenTo ends procs 0) None
   least_none = λ m h. let l = h.before in absurd (omega (arith, l))
 
-  pub least_next : (i : ℕ) (p : ProcView) (before here : Option ℕ) → slice_get procs i ≡ Some p
-      → IsLeastBy time_of (TakenTo ends procs i) before →
-      IsLeast ends p.copies here → IsLeastBy time_of (TakenTo ends procs (i + 1)) (earlier before here)
-  least_next i p before here got h k =
-      least_as (λ m. TakenTo ends procs i m ⊎ ((c : ℕ) × IsTakenBy ends p.copies c m)) (TakenTo ends procs (i + 1))
-      (earlier before here) to from
-      (least-either time_of (TakenTo ends procs i) (λ m. (c : ℕ) × IsTakenBy ends p.copies c m) before here h
-      (by_law (λ m. (c : ℕ) × IsTakenBy ends p.copies c m) here k))
+  pub least_next : (i : ℕ) (p : ProcView) (after : Option ℕ) → slice_get procs i ≡ Some p →
+      IsLeastTime (λ m. TakenTo ends procs i m ⊎ ((c : ℕ) × IsTakenBy ends p.copies c m)) after →
+      IsLeastBy time_of (TakenTo ends procs (i + 1)) after
+  least_next i p after got h = least_as (λ m. TakenTo ends procs i m ⊎ ((c : ℕ) × IsTakenBy ends p.copies c m))
+      (TakenTo ends procs (i + 1)) after to from
+      (by_law (λ m. TakenTo ends procs i m ⊎ ((c : ℕ) × IsTakenBy ends p.copies c m)) after h)
     where
       to : (m : Msg) → TakenTo ends procs i m ⊎ ((c : ℕ) × IsTakenBy ends p.copies c m) → TakenTo ends procs (i + 1) m
       to m (inl x) = let l = x.before in

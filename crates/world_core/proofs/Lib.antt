@@ -1,5 +1,7 @@
 pub mod Places
 pub mod Flows
+pub mod InPlace
+pub mod Timing
 pub mod AfterWindow
 pub mod Overs
 pub mod Worlds

@@ -2,6 +2,8 @@ pub mod Worlds
 pub mod Windows
 pub mod Opening
 pub mod Overs
+pub mod Stepping
+pub mod Due
 pub mod Taking
 pub mod Forking
 pub mod Tracing

@@ -24,9 +24,10 @@
 //! let trace = world.trace(alloc, 0)?;                                      // as `base` by itself would handle it
 //! ```
 //!
-//! What it costs: a window moves the copies of each station and looks at one time of each; it takes two lists with
-//! a place for each station, and memory for what is new. A message costs one step of its copy, whatever the number
-//! of its clones. Windows in which little is due run in the caller's thread.
+//! What it costs: a window looks at one time of each station, and moves the copies of those with something due. Where
+//! the window before it handled much, a crew is handed all stations, which takes two lists with a place for each. Memory
+//! is taken for what is new. A message costs one step of its copy, whatever the number of its clones. Windows in which
+//! little is due run in the caller's thread.
 //!
 //! The promise that it carries: **at every front the copies of each station stand for the clones**. Each clone is in
 //! one copy, whose log, state and messages are those that the clone has where it runs alone, and two clones share a
@@ -42,6 +43,7 @@ mod shared_lists;
 mod taking;
 #[cfg(test)]
 mod tests;
+mod timed_proc;
 mod tracing;
 pub mod windows;
 pub mod world;

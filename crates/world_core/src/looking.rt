@@ -5,25 +5,13 @@ ghost use Rattle.sim_base.specs.Clones.{clone_at};
 ghost use Rattle.clone_sets.specs.Sets.{size};
 ghost use Rattle.net_model.specs.Net.{Net};
 ghost use Rattle.stations.specs.Runs.{simulation, next_front, copies, handled, alone};
-ghost use Rattle.run_laws.specs.Fronts.{earlier as earlier', least_of, least};
+ghost use Rattle.run_laws.specs.Fronts.{least_of, least};
 ghost use Rattle.phys_proc.specs.Own.{IsCopy, handled_alone, all_sizes};
 
+use crate::timed_proc::earlier;
 use crate::world::World;
 use phys_proc::PhysCopy;
 use sim_base::Figures;
-
-// The lesser of two times, where there is one.
-fn earlier(a: Option<u64>, b: Option<u64>) -> Option<u64>
-    ensures value { result ≡ earlier' a b }
-{
-    match a {
-        Some(first) => match b {
-            Some(second) => Some(first.min(second)),
-            None => Some(first),
-        },
-        None => b,
-    }
-}
 
 // How many messages the clones of these copies would have handled each by itself.
 fn alone_in(copies: &[PhysCopy]) -> u64
@@ -57,7 +45,7 @@ impl World {
     {
         let mut least = None;
         for i in 0..self.procs.len() {
-            least = earlier(least, self.procs[i].least(&self.model, &self.ends));
+            least = self.procs[i].with_least(&self.model, &self.ends, least);
         }
         least
     }

@@ -7,10 +7,10 @@ ghost use Rattle.world_core.specs.Taking.{IsAccepted, AreAccepted, clones_after_
 ghost use Rattle.world_core.specs.Forking.{AllForked, LivesAtAll, LivesNowhere};
 
 use crate::delivery::deliver_to;
+use crate::timed_proc::TimedProc;
 use crate::world::World;
 use clone_sets::CloneSet;
 use decision_book::Call;
-use phys_proc::Proc;
 use sim_base::{Decision, Key, Msg, Name, NoMemory, Payload, Planned};
 use std::alloc::Global;
 
@@ -30,7 +30,7 @@ fn message_of(k: usize, plan: &Planned) -> Msg
 }
 
 // At each station the new clone stands beside the old one.
-fn fork_all(procs: &mut Vec<Proc>, old: u32, new: u32)
+fn fork_all(procs: &mut Vec<TimedProc>, old: u32, new: u32)
     requires old { LivesAtAll old procs.old.items }
     requires new { LivesNowhere new procs.old.items }
     requires below { new < 256 }

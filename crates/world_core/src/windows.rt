@@ -1,12 +1,19 @@
 //! The tasks of a window: each station steps its own copies.
-ghost use Rattle.std.specs.Prelude.{◌≡◌, ◌+◌, ◌≤◌, length, IfOk};
+ghost use Rattle.std.specs.Prelude.{◌≡◌, ℕ, ◌+◌, ◌<◌, ◌≤◌, ◌++◌, ◌∷◌, []};
+ghost use Rattle.std.specs.Prelude.{Some, None, List, length, map, slice_get, IfOk, IfSome};
+ghost use Rattle.clone_sets.specs.declared.set.CloneSet.{CloneSet as CloneSet'};
 ghost use Rattle.phys_proc.specs.Gone.{ends_in};
-ghost use Rattle.world_core.specs.Windows.{AllFlow, AllNumbered, MayStep, all_handled};
+ghost use Rattle.phys_proc.specs.Procs.{ProcView};
+ghost use Rattle.phys_proc.specs.declared.proc.Flow.{Flow as Flow'};
+ghost use Rattle.world_core.specs.Windows.{AllFlow, AllNumbered, MayStep, IsNumbered, all_handled, all_sent};
+ghost use Rattle.world_core.specs.Stepping.{FirstOver, AllStepped, SteppedAt};
 
+use crate::timed_proc::TimedProc;
+use clone_sets::CloneSet;
 use crew_pool::{Crew, Gate, Work};
 use net_model::Model;
-use phys_proc::{CloneEnds, Flow, Proc};
-use sim_base::{NoMemory, Steps};
+use phys_proc::{CloneEnds, Flow};
+use sim_base::{Msg, NoMemory, Steps};
 use std::alloc::Global;
 use std::sync::Wait;
 use std::sync::ledger::Ledger;
@@ -18,7 +25,6 @@ pub struct Window<'a> {
     model: &'a Model,
     ends: &'a CloneEnds,
     bound: u64,
-    small: bool,
 }
 
 impl<'a> std::marker::Model for Window<'a> {
@@ -32,7 +38,7 @@ impl<'a> std::marker::Model for Window<'a> {
 }
 
 impl<'a> Work for Window<'a> {
-    type In = Proc;
+    type In = TimedProc;
 
     type Out = Flow;
 
@@ -49,9 +55,10 @@ impl<'a> Work for Window<'a> {
         &self,
         alloc: Global,
         _i: u32,
-        item: Proc,
+        item: TimedProc,
         steps: &mut Steps<L>,
     ) -> Result<Flow, NoMemory> {
+        let item = item.into_proc();
         let flow = item.step(alloc, self.model, self.ends, self.bound, steps)?;
         Ok(flow)
     }
@@ -61,13 +68,209 @@ impl<'a> Work for Window<'a> {
     }
 
     fn is_small(&self) -> bool {
-        self.small
+        false
     }
+}
+
+/// What a window has come to: the copies of all stations, what they sent to others, and the first station with a
+/// clone over the limit beside the first such clone there.
+#[derive(Drop)]
+pub(crate) struct Stepped {
+    pub procs: Vec<TimedProc>,
+    pub sent: Vec<(Msg, CloneSet)>,
+    pub over: Option<(u32, u32)>,
+    /// How many messages were handled: a hint.
+    pub handled: u64,
+}
+
+// What the step of one station gives beside its copies.
+#[derive(Drop)]
+struct Part {
+    sent: Vec<(Msg, CloneSet)>,
+    over: CloneSet,
+    handled: u64,
+}
+
+// Both lists, one behind the other; where one is empty, the other itself.
+fn joined(
+    sent: Vec<(Msg, CloneSet)>,
+    out: Vec<(Msg, CloneSet)>,
+) -> Result<Vec<(Msg, CloneSet)>, NoMemory>
+    ensures both { IfOk result (λ v. v.items ≡ sent.items ++ out.items) }
+{
+    if out.is_empty() {
+        return Ok(sent);
+    }
+    if sent.is_empty() {
+        return Ok(out);
+    }
+    let mut sent = sent;
+    sent.extend_from_slice(out.as_slice())?;
+    Ok(sent)
+}
+
+// The first station over the limit so far, and there the first clone, where the station at place i comes next.
+fn first_with(before: Option<(u32, u32)>, i: u32, over: CloneSet) -> Option<(u32, u32)>
+    requires few { i < 64 }
+    requires before { IfSome before (λ p. p.0 < 64) }
+    ensures first { (flows : List Flow') (f : Flow') → length flows ≡ i → f.over ≡ over → FirstOver flows before →
+        FirstOver (flows ++ f ∷ []) result }
+    ensures few { IfSome result (λ p. p.0 < 64) }
+{
+    if let Some(first) = before {
+        return Some(first);
+    }
+    if let Some(who) = over.first() {
+        return Some((i, who));
+    }
+    None
+}
+
+// Steps the station at place i where it stands, if something is due there.
+fn step_place<L: Ledger>(
+    alloc: Global,
+    work: &Window,
+    procs: &mut Vec<TimedProc>,
+    i: usize,
+    steps: &mut Steps<L>,
+) -> Result<Part, NoMemory>
+    requires place { i < length procs.old.items }
+    requires few { i < 64 }
+    requires numbered { (p : ProcView) → slice_get procs.old.items i ≡ Some p → IsNumbered work.now.net i p }
+    ensures stepped { IfOk result (λ part. SteppedAt work.now.net (ends_in work.now.net.horizon work.now.ended)
+        work.now.bound i
+        procs.old.items procs.new.items part.sent.items part.over part.handled) }
+    ensures steps { IfOk result (λ part. steps.new ≡ steps.old + part.handled) }
+{
+    if procs[i].is_idle(work.bound) {
+        return Ok(Part {
+            sent: Vec::new(alloc),
+            over: CloneSet::empty(),
+            handled: 0,
+        });
+    }
+    let item = procs.swap_remove(i);
+    let flow = work.run(alloc, i as u32, item, steps)?;
+    let Flow {
+        done,
+        sent,
+        over,
+        handled,
+    } = flow;
+    let last = procs.len();
+    procs.push(TimedProc::of(work.model, done))?;
+    procs.swap(i, last);
+    Ok(Part {
+        sent,
+        over,
+        handled,
+    })
+}
+
+// Steps the stations one by one, in the caller's thread. Those with nothing due stay where they are.
+fn step_in_place<G: Gate, L: Ledger, R: Wait>(
+    rt: &R,
+    alloc: Global,
+    gate: &G,
+    work: &Window,
+    olds: Vec<TimedProc>,
+    steps: &mut Steps<L>,
+) -> Result<Stepped, NoMemory>
+    requires few { length olds.items ≤ 64 }
+    requires numbered { AllNumbered work.now.net olds.items }
+    ensures stepped { IfOk result (λ s. AllStepped work.now.net (ends_in work.now.net.horizon work.now.ended)
+        work.now.bound
+        olds.items s.procs.items s.sent.items s.over steps.old steps.new) }
+    ensures few { IfOk result (λ s. IfSome s.over (λ p. p.0 < 64)) }
+{
+    let mut procs = olds;
+    let mut sent = Vec::new(alloc);
+    let mut over = None;
+    let mut handled: u64 = 0;
+    for i in 0..procs.len() {
+        gate.before(rt, 0, i as u32);
+        let part = step_place(alloc, work, &mut procs, i, steps)?;
+        sent = joined(sent, part.sent)?;
+        over = first_with(over, i as u32, part.over);
+        handled = handled.saturating_add(part.handled);
+    }
+    Ok(Stepped {
+        procs,
+        sent,
+        over,
+        handled,
+    })
+}
+
+// The copies of all stations, and all that was sent.
+fn take_apart(
+    alloc: Global,
+    flows: Vec<Flow>,
+) -> Result<(Vec<TimedProc>, Vec<(Msg, CloneSet)>), NoMemory>
+    ensures procs { IfOk result (λ p. p.0.items ≡ map (λ f. f.done) flows.items) }
+    ensures sent { IfOk result (λ p. p.1.items ≡ all_sent flows.items) }
+{
+    let mut procs = Vec::with_capacity(alloc, flows.len())?;
+    let mut sent = Vec::new(alloc);
+    for flow in flows {
+        let Flow {
+            done,
+            sent: out,
+            over: _,
+            handled: _,
+        } = flow;
+        procs.push(TimedProc::untimed(done))?;
+        sent = joined(sent, out)?;
+    }
+    Ok((procs, sent))
+}
+
+// How many messages the stations have handled.
+fn handled_in(flows: &[Flow]) -> u64 {
+    let mut sum: u64 = 0;
+    for flow in flows {
+        sum = sum.saturating_add(flow.handled);
+    }
+    sum
+}
+
+// The first station with a clone over the limit, and there the first clone.
+fn first_over(flows: &[Flow]) -> Option<(u32, u32)>
+    requires few { length flows.now ≤ 64 }
+    ensures first { FirstOver flows.now result }
+    ensures few { IfSome result (λ p. p.0 < 64) }
+{
+    for i in 0..flows.len() {
+        if let Some(who) = flows[i].over.first() {
+            return Some((i as u32, who));
+        }
+    }
+    None
+}
+
+// What the answers of all tasks come to.
+fn gathered(alloc: Global, flows: Vec<Flow>) -> Result<Stepped, NoMemory>
+    requires few { length flows.items ≤ 64 }
+    ensures procs { IfOk result (λ s. s.procs.items ≡ map (λ f. f.done) flows.items) }
+    ensures sent { IfOk result (λ s. s.sent.items ≡ all_sent flows.items) }
+    ensures over { IfOk result (λ s. FirstOver flows.items s.over) }
+    ensures few { IfOk result (λ s. IfSome s.over (λ p. p.0 < 64)) }
+{
+    let over = first_over(flows.as_slice());
+    let handled = handled_in(flows.as_slice());
+    let (procs, sent) = take_apart(alloc, flows)?;
+    Ok(Stepped {
+        procs,
+        sent,
+        over,
+        handled,
+    })
 }
 
 /// Steps all stations to the bound. Out of memory, they are gone.
 ///
-/// `small` says that so little is due that threads would cost more than they save.
+/// `small` says that so little is due that threads would cost more than they save: then the caller's thread steps the
+/// stations where they stand. Else each is handed to the crew, and comes back in its answer.
 pub(crate) fn step_all<C: Crew, G: Gate, L: Ledger, R: Threads + Wait + Sync>(
     rt: &R,
     alloc: Global,
@@ -75,25 +278,24 @@ pub(crate) fn step_all<C: Crew, G: Gate, L: Ledger, R: Threads + Wait + Sync>(
     gate: &G,
     model: &Model,
     ends: &CloneEnds,
-    procs: Vec<Proc>,
+    procs: Vec<TimedProc>,
     bound: u64,
     small: bool,
     steps: &mut Steps<L>,
-) -> Result<Vec<Flow>, NoMemory>
+) -> Result<Stepped, NoMemory>
     requires step { MayStep model.now bound }
     requires few { length procs.items ≤ 64 }
     requires numbered { AllNumbered model.now procs.items }
-    ensures count { IfOk result (λ flows. length flows.items ≡ length procs.items) }
-    ensures stepped { IfOk result (λ flows. AllFlow model.now (ends_in model.now.horizon ends.now) bound procs.items
-        flows.items) }
-    ensures steps { IfOk result (λ flows. steps.new ≡ steps.old + all_handled flows.items) }
+    ensures stepped { IfOk result (λ s. AllStepped model.now (ends_in model.now.horizon ends.now) bound procs.items
+        s.procs.items s.sent.items s.over steps.old steps.new) }
+    ensures few { IfOk result (λ s. IfSome s.over (λ p. p.0 < 64)) }
 {
-    let work = Window {
-        model,
-        ends,
-        bound,
-        small,
-    };
+    let work = Window { model, ends, bound };
+    if small {
+        let stepped = step_in_place(rt, alloc, gate, &work, procs, steps)?;
+        return Ok(stepped);
+    }
     let flows = crew.all(rt, alloc, &work, procs, gate, steps)?;
-    Ok(flows)
+    let all = gathered(alloc, flows)?;
+    Ok(all)
 }

@@ -1,19 +1,19 @@
 //! The world of all clones, and its windows.
-ghost use Rattle.std.specs.Prelude.{◌≡◌, ℕ, ◌+◌, ◌<◌, ◌≤◌, ◌∷◌, [], length, IfOk, IfErr, IfSome, IfNone};
+ghost use Rattle.std.specs.Prelude.{◌≡◌, ℕ, ◌+◌, ◌<◌, ◌≤◌, ◌∷◌, [], length, IfOk, IfErr};
 ghost use Rattle.sim_base.specs.Clones.{base};
 ghost use Rattle.net_model.specs.Rules.{IsNet};
 ghost use Rattle.stations.specs.Runs.{next_front};
 ghost use Rattle.world_core.specs.Worlds.{AreInNet, total_handled};
-ghost use Rattle.world_core.specs.Windows.{NoneOver};
 ghost use Rattle.world_core.specs.Opening.{AreFirst};
-ghost use Rattle.world_core.specs.Overs.{IsFault, IsFirstOver, NoneBeyond};
+ghost use Rattle.world_core.specs.Overs.{IsFault, NoneBeyond};
 
-use crate::delivery::hand_over;
+use crate::delivery::deliver_all;
 use crate::shared_lists::SharedLists;
-use crate::windows::step_all;
+use crate::timed_proc::TimedProc;
+use crate::windows::{Stepped, step_all};
 use crew_pool::{Crew, Gate};
 use net_model::Model;
-use phys_proc::{CloneEnds, Flow, Proc};
+use phys_proc::{CloneEnds, Proc};
 use sim_base::{Lists, NoMemory, Steps};
 use std::alloc::Global;
 use std::sync::ledger::Ledger;
@@ -27,7 +27,7 @@ pub struct World {
     pub(crate) lists: SharedLists,
     pub(crate) ends: CloneEnds,
     pub(crate) front: u64,
-    pub(crate) procs: Vec<Proc>,
+    pub(crate) procs: Vec<TimedProc>,
     // how many messages the last window handled: a hint of how many the next one will
     pub(crate) last: u64,
 }
@@ -55,14 +55,15 @@ pub enum WorldFault {
 }
 
 // The copies of all stations as they open, for the first clone.
-fn open_all(alloc: Global, model: &Model) -> Result<Vec<Proc>, NoMemory>
+fn open_all(alloc: Global, model: &Model) -> Result<Vec<TimedProc>, NoMemory>
     ensures valid { IsNet model.now }
     ensures count { IfOk result (λ procs. length procs.items ≡ length model.now.sites) }
     ensures first { IfOk result (λ procs. AreFirst model.now procs.items) }
 {
     let mut procs = Vec::new(alloc);
     for s in 0..model.len() {
-        procs.push(Proc::new(alloc, model, s + 1)?)?;
+        let proc = Proc::new(alloc, model, s + 1)?;
+        procs.push(TimedProc::untimed(proc))?;
     }
     Ok(procs)
 }
@@ -110,7 +111,8 @@ impl World {
     }
 
     /// Handles what comes before the bound, at each station by itself, and gives each station what the others sent
-    /// to it. Each station is a task of the crew, whether or not something is due there.
+    /// to it. Each station is a task, whether or not something is due there: of the crew, or where little is due of
+    /// the caller's thread, which moves only those with something due.
     ///
     /// Out of memory, or where a log would get longer than the limit, the world is given up.
     pub fn window<C: Crew, G: Gate, L: Ledger, R: Threads + Wait + Sync>(
@@ -141,52 +143,34 @@ impl World {
             last,
         } = self;
         let small = last < SMALL_WINDOW;
-        let Ok(flows) = step_all(
+        let Ok(stepped) = step_all(
             rt, alloc, crew, gate, &model, &ends, procs, bound, small, steps,
         ) else {
             return Err(WorldFault::NoMemory);
         };
-        if let Some((place, who)) = first_over(flows.as_slice()) {
+        let Stepped {
+            mut procs,
+            sent,
+            over,
+            handled,
+        } = stepped;
+        if let Some((place, who)) = over {
             return Err(WorldFault::EventLimit {
                 station: place + 1,
                 who,
                 kept: model.limit(),
             });
         }
-        let last = handled_in(flows.as_slice());
-        match hand_over(alloc, flows) {
-            Ok(procs) => Ok(World {
+        match deliver_all(&mut procs, sent.as_slice()) {
+            Ok(()) => Ok(World {
                 model,
                 lists,
                 ends,
                 front: bound,
                 procs,
-                last,
+                last: handled,
             }),
             Err(NoMemory) => Err(WorldFault::NoMemory),
         }
     }
-}
-
-// How many messages the stations have handled.
-fn handled_in(flows: &[Flow]) -> u64 {
-    let mut sum: u64 = 0;
-    for flow in flows {
-        sum = sum.saturating_add(flow.handled);
-    }
-    sum
-}
-
-// The first station with a clone over the limit, and there the first clone.
-fn first_over(flows: &[Flow]) -> Option<(u32, u32)>
-    requires few { length flows.now ≤ 64 }
-    ensures some { IfSome result (λ p. IsFirstOver flows.now p.0 p.1) }
-    ensures none { IfNone result (NoneOver flows.now) }
-{
-    for i in 0..flows.len() {
-        if let Some(who) = flows[i].over.first() {
-            return Some((i as u32, who));
-        }
-    }
-    None
 }

@@ -5,11 +5,11 @@ use Rattle.world_core.proofs.world.open_all.Goals as goal
 pub loop-s-preserved : goal.loop-s-preserved
 loop-s-preserved c =
     let n = c.loop-s.invariant.count in
-    let p = c.in_ok-new in
-    let l = length-append c.loop-s.procs.items (p.field-0 ∷ []) in
-    rw c.in_ok-push.ensures.items (record {
+    let p = c.in_ok-proc in
+    let l = length-append c.loop-s.procs.items (p.proc ∷ []) in
+    rw (c.in_ok-push.ensures.items, c.untimed.ensures.same) (record {
       count = omega (arith, n, l);
-      first = first_push c.args.model.now c.loop-s.procs.items p.field-0 c.loop-s.s n c.loop-s.invariant.first (record {
+      first = first_push c.args.model.now c.loop-s.procs.items p.proc c.loop-s.s n c.loop-s.invariant.first (record {
         numbered = record { proc = p.ensures.proc; number = p.ensures.station };
         copies = p.ensures.first;
         living = p.ensures.living;

@@ -1,12 +1,13 @@
-use Rattle.std.proofs.Common.{◌≡◌, ◌+◌, ◌<◌, sym, subst, arith, length}
+use Rattle.std.proofs.Common.{◌≡◌, ◌<◌, subst, arith, length}
 use Rattle.net_model.specs.Net.{Net}
 use Rattle.stations.specs.Runs.{simulation}
 use Rattle.run_laws.specs.Fronts.{least}
 use Rattle.phys_proc.specs.Gone.{ends_in}
-use Rattle.phys_proc.specs.Procs.{IsLeast}
 use Rattle.world_core.specs.Worlds.{WorldView}
+use Rattle.world_core.specs.Due.{IsWithLeast}
 use Rattle.world_core.proofs.Places.{got_at}
-use Rattle.world_core.proofs.DueTimes.{IsLeastTo, least_next, least_all}
+use Rattle.world_core.proofs.DueTimes.{TakenTo, by_words, least_next, least_all}
+use Rattle.world_core.proofs.Timing.{least_with}
 use Rattle.world_core.proofs.world.World.least.Goals as goal
 
 pub loop-i-preserved : goal.loop-i-preserved
@@ -17,11 +18,12 @@ loop-i-preserved c =
     let p = c.index.result.now in
     let l : c.loop-i.i < length procs =
     omega (arith, c.loop-i-test.true, c.loop-i.auto.i-end, c.len-i-end.ensures, c.self.inside.procs.ok.0) in
-    subst (IsLeastTo (ends_in net.horizon ended) procs (c.loop-i.i + 1)) (sym c.earlier-least.ensures.value)
-    (least_next net c.self.inside.lists.clones ended c.self.inside.front procs c.self.invariant c.loop-i.i p
-    c.loop-i.least c.least.result (got_at procs c.loop-i.i p l c.index.ensures) c.loop-i.invariant
-    (subst (λ (n : Net). IsLeast (ends_in n.horizon ended) p.copies c.least.result) c.deref.ensures
-    c.least.ensures.least))
+    least_next net c.self.inside.lists.clones ended c.self.inside.front procs c.self.invariant c.loop-i.i p
+    c.with_least-least.result (got_at procs c.loop-i.i p l c.index.ensures)
+    (least_with (ends_in net.horizon ended) p.copies c.loop-i.least c.with_least-least.result
+    (subst (λ (n : Net). IsWithLeast (ends_in n.horizon ended) p.copies c.loop-i.least c.with_least-least.result)
+    c.deref.ensures c.with_least-least.ensures.least) (TakenTo (ends_in net.horizon ended) procs c.loop-i.i)
+    (by_words (TakenTo (ends_in net.horizon ended) procs c.loop-i.i) c.loop-i.least c.loop-i.invariant))
 
 pub returns : goal.returns
 returns c = record {

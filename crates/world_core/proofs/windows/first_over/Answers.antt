@@ -3,10 +3,10 @@ use Rattle.std.proofs.lemmas.Bool.{cases_eq}
 use Rattle.phys_proc.specs.declared.proc.Flow.{Flow}
 use Rattle.clone_sets.specs.Sets.{IsFirst}
 use Rattle.world_core.proofs.Places.{got_at, at_got, one_got}
-use Rattle.world_core.proofs.world.first_over.Goals as goal
+use Rattle.world_core.proofs.windows.first_over.Goals as goal
 
-pub returns-in-Some-clause-some : goal.returns-in-Some-clause-some
-returns-in-Some-clause-some c = record {
+pub returns-in-Some-clause-first : goal.returns-in-Some-clause-first
+returns-in-Some-clause-first c = record {
   flow = c.index-flows-i.result;
   is_there = got_at c.args.flows.now c.loop-i.i c.index-flows-i.result
       (omega (arith, c.loop-i-test.true, c.loop-i.auto.i-end)) c.index-flows-i.is;
@@ -25,8 +25,8 @@ loop-i-preserved c = λ j f l got. elim (cases_eq j c.loop-i.i) [
   | inr n ↦ c.loop-i.invariant j f (omega (arith, l, n)) got
 ]
 
-pub returns-clause-none : goal.returns-clause-none
-returns-clause-none c = λ i flow got.
+pub returns-clause-first : goal.returns-clause-first
+returns-clause-first c = λ i flow got.
     let h = at_got c.args.flows.now i flow flow got in
     let l = h.0 in
     c.loop-i.invariant i flow (omega (arith, l, c.loop-i-test.false, c.loop-i.auto.i-end)) got

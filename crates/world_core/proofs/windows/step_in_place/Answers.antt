@@ -1,0 +1,45 @@
+use Rattle.std.proofs.Common.{◌<◌, None, arith, sym, subst, length}
+use Rattle.phys_proc.specs.Gone.{ends_in}
+use Rattle.world_core.specs.Stepping.{SteppedTo}
+use Rattle.world_core.proofs.InPlace.{stepped_none, stepped_next, stepped_all}
+use Rattle.world_core.proofs.windows.step_in_place.Goals as goal
+
+pub loop-i-init : goal.loop-i-init
+loop-i-init g c =
+    let w = c.args.work.now in
+    let olds = c.args.olds.items in
+    record {
+      stepped = subst (λ l. SteppedTo w.net (ends_in w.net.horizon w.ended) w.bound 0 olds olds l None
+          c.args.steps.now c.args.steps.now)
+          (sym c.new-sent.ensures.items)
+          (stepped_none w.net (ends_in w.net.horizon w.ended) w.bound olds c.args.steps.now);
+      few = tt;
+    }
+
+pub loop-i-preserved : goal.loop-i-preserved
+loop-i-preserved g c =
+    let w = c.args.work.now in
+    let olds = c.args.olds.items in
+    let far = c.loop-i.invariant.stepped in
+    let same = far.long in
+    let l : c.loop-i.i < length olds =
+    omega (arith, c.loop-i-test.true, c.loop-i.auto.i-end, c.len-i-end.ensures, c.args.olds.ok.0) in
+    record {
+      stepped = stepped_next w.net (ends_in w.net.horizon w.ended) w.bound olds c.loop-i.i c.loop-i.procs.items
+          c.step_place.new.procs.items c.loop-i.sent.items
+          c.in_ok-part.part.sent.items c.in_ok-sent.sent.items c.loop-i.over c.first_with-over.result
+          c.in_ok-part.part.over c.in_ok-part.part.handled
+          c.args.steps.now c.loop-i.steps c.step_place.new.steps l far c.in_ok-part.ensures.stepped
+          c.in_ok-sent.ensures.both c.in_ok-part.ensures.steps
+          c.first_with-over.ensures.first;
+      few = c.first_with-over.ensures.few;
+    }
+
+pub returns-clause-stepped : goal.returns-clause-stepped
+returns-clause-stepped g c =
+    let w = c.args.work.now in
+    let olds = c.args.olds.items in
+    stepped_all w.net (ends_in w.net.horizon w.ended) w.bound olds c.loop-i.i c.loop-i.procs.items c.loop-i.sent.items
+    c.loop-i.over c.args.steps.now c.loop-i.steps
+    (omega (arith, c.loop-i-test.false, c.loop-i.auto.i-end, c.len-i-end.ensures, c.args.olds.ok.0))
+    c.loop-i.invariant.stepped

@@ -1,0 +1,50 @@
+-- What the stations of a window come to, whoever steps them.
+use Rattle.std.specs.Prelude.{◌≡◌, ◌≢◌, ℕ, ◌+◌, ◌<◌, ◌≤◌, List, length, map, slice_get, Option, Some, None}
+use Rattle.clone_sets.specs.declared.set.CloneSet.{CloneSet}
+use Rattle.net_model.specs.Net.{Net}
+use Rattle.phys_proc.specs.Own.{Marked}
+use Rattle.phys_proc.specs.Procs.{ProcView}
+use Rattle.phys_proc.specs.declared.proc.Flow.{Flow}
+use Rattle.world_core.specs.Windows.{AllFlow, IsFlow, NoneOver, all_handled, all_sent}
+use Rattle.world_core.specs.Overs.{IsFirstOver}
+
+-- the first station with a clone over the limit, by its place, and there the first clone, if there is one
+abbrev pub FirstOver : List Flow → Option (ℕ × ℕ) → Type 0
+FirstOver flows None = NoneOver flows
+FirstOver flows (Some p) = IsFirstOver flows p.0 p.1
+
+-- the station at place i has answered, and the others stand as they did
+pub record SteppedAt (net : Net) (ends : ℕ → ℕ) (bound i : ℕ) (olds news : List ProcView) (sent : Marked)
+    (over : CloneSet) (handled : ℕ) : Type 0 where
+  pub flow : Flow
+  pub is_flow : (p : ProcView) → slice_get olds i ≡ Some p → IsFlow net ends bound i p flow
+  pub there : slice_get news i ≡ Some flow.done
+  pub others : (j : ℕ) → j ≢ i → slice_get news j ≡ slice_get olds j
+  pub long : length news ≡ length olds
+  pub sent_is : sent ≡ flow.sent.items
+  pub over_is : over ≡ flow.over
+  pub handled_is : handled ≡ flow.handled
+
+-- the first n stations have answered: what they sent, the first over the limit, and the steps that they took
+pub record SteppedTo (net : Net) (ends : ℕ → ℕ) (bound n : ℕ) (olds news : List ProcView) (sent : Marked)
+    (over : Option (ℕ × ℕ)) (steps0 steps : ℕ) : Type 0 where
+  pub flows : List Flow
+  pub count : length flows ≡ n
+  pub stepped : AllFlow net ends bound olds flows
+  pub done : (i : ℕ) → i < n → slice_get news i ≡ slice_get (map (λ f. f.done) flows) i
+  pub others : (i : ℕ) → n ≤ i → slice_get news i ≡ slice_get olds i
+  pub long : length news ≡ length olds
+  pub sent_is : sent ≡ all_sent flows
+  pub first : FirstOver flows over
+  pub steps_are : steps ≡ steps0 + all_handled flows
+
+-- all stations have
+pub record AllStepped (net : Net) (ends : ℕ → ℕ) (bound : ℕ) (olds news : List ProcView) (sent : Marked)
+    (over : Option (ℕ × ℕ)) (steps0 steps : ℕ) : Type 0 where
+  pub flows : List Flow
+  pub count : length flows ≡ length olds
+  pub stepped : AllFlow net ends bound olds flows
+  pub done : news ≡ map (λ f. f.done) flows
+  pub sent_is : sent ≡ all_sent flows
+  pub first : FirstOver flows over
+  pub steps_are : steps ≡ steps0 + all_handled flows

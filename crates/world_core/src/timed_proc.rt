@@ -1,0 +1,199 @@
+//! The copies of a station, beside a time that nothing of them is pending before.
+ghost use Rattle.std.specs.Prelude.{◌≡◌, ℕ, ◌<◌, ◌≤◌, true, false, IfOk, OnOk, IsTrue, map, length};
+ghost use Rattle.std.specs.List.{AllZip};
+ghost use Rattle.clone_sets.specs.Sets.{has, with};
+ghost use Rattle.net_model.specs.Net.{Net};
+ghost use Rattle.stations.specs.Runs.{simulation};
+ghost use Rattle.run_laws.specs.Fronts.{earlier as earlier'};
+ghost use Rattle.run_laws.specs.Copies.{IsForked, Stands};
+ghost use Rattle.phys_proc.specs.Own.{given, forked, AreLate};
+ghost use Rattle.phys_proc.specs.Gone.{ends_in};
+ghost use Rattle.phys_proc.specs.Procs.{IsProc, IsLeastOf, AreShared};
+ghost use Rattle.phys_proc.specs.Racks.{seen};
+ghost use Rattle.world_core.specs.Due.{IsWithLeast};
+
+use clone_sets::CloneSet;
+use net_model::Model;
+use phys_proc::{CloneEnds, PhysCopy, Proc, Rack};
+use sim_base::{Lists, Msg, NoMemory};
+use std::alloc::Global;
+use std::sync::Arc;
+
+/// The copies of one station, beside a lower bound of the times of their pending messages. So a station with nothing
+/// due is known by one comparison.
+#[derive(Drop)]
+pub struct TimedProc {
+    proc: Proc,
+    // nothing is pending before it
+    least: u64,
+}
+
+impl std::marker::Model for TimedProc {
+    ghost use Rattle.phys_proc.specs.Own.{AreLate};
+    ghost use Rattle.phys_proc.specs.Procs.{ProcView};
+
+    ghost Value = { ProcView };
+
+    ghost view = { λ t. t.proc };
+
+    ghost invariant = { λ t. AreLate t.least t.proc.copies };
+}
+
+// The least time that is pending, or the greatest number where nothing is.
+fn earliest(net: &Model, proc: &Proc) -> u64
+    requires proc { IsProc net.now proc.now }
+    ensures late { AreLate result proc.now.copies }
+{
+    let mut least = u64::MAX;
+    for copy in proc.copies() {
+        if let Some(time) = copy.least() {
+            least = least.min(time);
+        }
+    }
+    least
+}
+
+/// The lesser of two times, where there is one.
+pub(crate) fn earlier(a: Option<u64>, b: Option<u64>) -> Option<u64>
+    ensures value { result ≡ earlier' a b }
+{
+    match a {
+        Some(first) => match b {
+            Some(second) => Some(first.min(second)),
+            None => Some(first),
+        },
+        None => b,
+    }
+}
+
+impl TimedProc {
+    /// The copies, of which something may be pending at any time.
+    pub fn untimed(proc: Proc) -> TimedProc
+        ensures same { result ≡ proc }
+    {
+        TimedProc { proc, least: 0 }
+    }
+
+    /// The copies, with the least time that is pending.
+    pub fn of(net: &Model, proc: Proc) -> TimedProc
+        requires proc { IsProc net.now proc }
+        ensures same { result ≡ proc }
+    {
+        let least = earliest(net, &proc);
+        TimedProc { proc, least }
+    }
+
+    /// The copies themselves.
+    pub fn into_proc(self) -> Proc
+        ensures same { result ≡ self }
+    {
+        let TimedProc { proc, least: _ } = self;
+        proc
+    }
+
+    /// Whether nothing is pending before the bound.
+    pub fn is_idle(&self, bound: u64) -> bool
+        ensures late { IsTrue result → AreLate bound self.now.copies }
+        ensures shared { AreShared self.now.living self.now.copies }
+    {
+        let _copies = self.proc.copies();
+        bound <= self.least
+    }
+
+    /// The lesser of a time that was found before, and the least time at which something is due to any clone here.
+    pub fn with_least(&self, model: &Model, ends: &CloneEnds, before: Option<u64>) -> Option<u64>
+        requires proc { IsProc model.now self.now }
+        ensures least { IsWithLeast (ends_in model.now.horizon ends.now) self.now.copies before result }
+    {
+        if let Some(time) = before {
+            if self.is_idle(time) {
+                return before;
+            }
+        }
+        earlier(before, self.proc.least(model, ends))
+    }
+
+    /// The least time at which something is due to the clone, below its end; None exactly where nothing is.
+    pub fn least_of(&self, model: &Model, ends: &CloneEnds, c: u32) -> Option<u64>
+        requires proc { IsProc model.now self.now }
+        requires clone { c < 256 }
+        ensures least { IsLeastOf (ends_in model.now.horizon ends.now) self.now.copies c result }
+    {
+        self.proc.least_of(model, ends, c)
+    }
+
+    /// Gives a message to those of its clones that are in the set.
+    ///
+    /// Out of memory, some of the copies may have it; nothing else of them has changed.
+    pub fn deliver(&mut self, msg: Msg, set: CloneSet) -> Result<(), NoMemory>
+        requires target { msg.to ≡ self.old.station }
+        ensures given { OnOk result (self.new.copies ≡ map (given msg set) self.old.copies) }
+        ensures proc { OnOk result ((net : Net) → IsProc net self.old → IsProc net self.new) }
+        ensures station { self.new.station ≡ self.old.station }
+        ensures living { self.new.living ≡ self.old.living }
+        ensures handled { self.new.handled ≡ self.old.handled }
+    {
+        let least = self.least.min(msg.key.time);
+        // also where memory is refused
+        self.least = 0;
+        self.proc.deliver(msg, set)?;
+        self.least = least;
+        Ok(())
+    }
+
+    /// Puts the clone `new`, which has no end, beside the clone `old`: in its copy, and in what is pending to it.
+    pub fn fork(&mut self, old: u32, new: u32)
+        requires old { has self.old.living old ≡ true }
+        requires new { has self.old.living new ≡ false }
+        requires below { new < 256 }
+        ensures stands { (net : Net) (ends : ℕ → ℕ) → IsProc net self.old →
+            AllZip (IsForked (simulation net) has ends old new) self.old.copies self.new.copies }
+        ensures proc { (net : Net) → IsProc net self.old → IsProc net self.new }
+        ensures station { self.new.station ≡ self.old.station }
+        ensures living { self.new.living ≡ with self.old.living new }
+        ensures handled { self.new.handled ≡ self.old.handled }
+    {
+        self.proc.fork(old, new);
+    }
+
+    /// What a reader sees of the station: the copies at the front, and the lists of the clones that they stand for.
+    ///
+    /// The station is unchanged, also out of memory.
+    pub fn rack(
+        &mut self,
+        alloc: Global,
+        model: Arc<Model>,
+        lists: Arc<Lists>,
+        front: u64,
+    ) -> Result<Rack, NoMemory>
+        requires stands { Stands (simulation model.value) has lists.value.clones front self.old.station
+            self.old.copies }
+        requires few { length lists.value.clones ≤ 256 }
+        requires early { front ≤ model.value.horizon }
+        ensures rack { IfOk result (λ r. r ≡ record {
+          net = model.value;
+          clones = lists.value.clones;
+          station = self.old.station;
+          front = front;
+          copies = map seen self.old.copies;
+        }) }
+        ensures same { self.new ≡ self.old }
+    {
+        let rack = self.proc.rack(alloc, model, lists, front)?;
+        Ok(rack)
+    }
+
+    /// How many messages were handled, each once for all clones of a copy.
+    pub fn handled(&self) -> u64
+        ensures value { result ≡ self.now.handled }
+    {
+        self.proc.handled()
+    }
+
+    /// The copies.
+    pub fn copies(&self) -> &[PhysCopy]
+        ensures value { result.now ≡ self.now.copies }
+    {
+        self.proc.copies()
+    }
+}
