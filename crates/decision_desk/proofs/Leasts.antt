@@ -1,0 +1,402 @@
+-- The least times that are due in the clones, after accepted calls.
+use Rattle.std.proofs.Common.{◌≡◌, ⊎_elim, ℕ, zero, suc, ◌+◌, ◌<◌, ◌≤◌, min, Bool, true, false, cond, List, [], ◌∷◌}
+use Rattle.std.proofs.Common.{◌++◌, map, length, Option, Some, None, Result, Ok, Err, option_map, is_none, unwrap_or}
+use Rattle.std.proofs.Common.{slice_get, slice_set, nat_lt, nat_le, refl, sym, ap, ◌∙◌, subst, arith, fold, take, drop}
+use Rattle.std.proofs.Common.{◌-◌, length-append}
+use Rattle.std.proofs.lemmas.List.{map_push, map-set}
+use Rattle.std.proofs.lemmas.Option.{slice_get-map, slice_get-get_or, unwrap_or-slice_get}
+use Rattle.std.specs.Str.{bytes_eq}
+use Rattle.sim_base.specs.declared.decision.Decision.{Decision}
+use Rattle.sim_base.specs.declared.decision.Decision.TheVariants.{Fork, Set, End}
+use Rattle.sim_base.specs.Clones.{Clone, clone_at, place_of, nobody}
+use Rattle.sim_base.specs.Decisions.{subject}
+use Rattle.sim_base.specs.declared.message.Change.{Change}
+use Rattle.sim_base.specs.declared.lists.TheConstants.{MOST_DECISIONS}
+use Rattle.stations.specs.declared.change.ChangeFault.{ChangeFault}
+use Rattle.stations.specs.declared.change.ChangeFault.TheVariants as refused
+use Rattle.stations.specs.Changes.{accepts}
+use Rattle.net_model.specs.Net.{Net, number_of, site_of}
+use Rattle.net_model.specs.Rules.{IsNet}
+use Rattle.run_laws.specs.Fronts.{earlier, least_of, least, window_end, next_front}
+use Rattle.run_laws.specs.Runs.{end_of}
+use Rattle.run_laws.specs.Laws.{with_plan, with_end}
+use Rattle.run_laws.proofs.DueTimes.{least_of-fork, least_of-with_plan, least_of-with_end}
+use Rattle.run_laws.proofs.NextFronts.{next_front-rises, window_end-within}
+use Rattle.stations.specs.Runs.{simulation}
+use Rattle.stations.proofs.GoodLaws.{lawful-stations}
+use Rattle.decision_book.specs.declared.call.Call.{Call}
+use Rattle.decision_book.specs.declared.call.Reply.{Reply}
+use Rattle.decision_book.specs.declared.call.Reply.TheVariants.{Accepted, PastHorizon, Late, UnknownStation, ListFull}
+use Rattle.decision_book.specs.Journal.{Event, Situation, asked, raised, after, after_event}
+use Rattle.decision_book.specs.Journal.{opening, clones_after, if_accepted, clone_place, plan_of_set, calls_of}
+use Rattle.decision_book.specs.Replies.{row, first_row, rows, reply, time_rows, fault_row, change_row}
+use Rattle.decision_book.specs.Right.{IsRight, MayFollow, EachAfter}
+use Rattle.decision_book.specs.Scripts.{if_taken, accepted_of}
+use Rattle.decision_book.proofs.AloneLaw.{opened, IsOpen}
+use Rattle.decision_book.proofs.ClonesByName.{place_of-cons}
+use Rattle.decision_book.proofs.JournalScripts.{Passes, kind_of, fold_append, each_later, net_stays}
+use Rattle.decision_desk.specs.Accounts.{front_of, front_from}
+use Rattle.decision_desk.specs.Leasts.{leasts_of, earliest, changed, changed_at, changed_by, helm_at, calls_at}
+use Rattle.decision_desk.specs.Passes.{IsSince, IsAhead, IsGoneOn}
+use Rattle.decision_desk.specs.declared.helm.Turn.{Turn}
+use Rattle.decision_desk.proofs.Journals.{front_calls}
+use Rattle.decision_book.specs.Books.{BookView}
+
+-- ---- places
+
+found_on : (b : Bool) (o p : Option ℕ) (i : ℕ) → ((k : ℕ) → o ≡ Some k → p ≡ Some k)
+    → cond b (Some 0) (option_map (λ n. suc n) o) ≡ Some i → cond b (Some 0) (option_map (λ n. suc n) p) ≡ Some i
+found_on true o p i f e = e
+found_on false None p i f e = absurd cc
+found_on false (Some k) p i f e = ap (option_map (λ n. suc n)) (f k refl) ∙ e
+
+-- a clone more, behind the others
+place_of-push : (m : List ℕ) (cs more : List Clone) (i : ℕ) → place_of m cs ≡ Some i → place_of m (cs ++ more) ≡ Some i
+place_of-push m [] more i e = absurd cc
+place_of-push m (c ∷ cs) more i e = place_of-cons m c (cs ++ more)
+    ∙ found_on (bytes_eq c.name m) (place_of m cs) (place_of m (cs ++ more)) i (λ k h. place_of-push m cs more k h)
+    (sym (place_of-cons m c cs) ∙ e)
+
+-- a clone changes, but for its name
+place_of-set : (m : List ℕ) (cs : List Clone) (j : ℕ) (k : Clone) → k.name ≡ (clone_at cs j).name
+    → place_of m (slice_set cs j k) ≡ place_of m cs
+place_of-set m [] j k e = refl
+place_of-set m (c ∷ cs) zero k e =
+    place_of-cons m k cs ∙ (ap (λ (n : List ℕ). cond (bytes_eq n m) (Some 0)
+    (option_map (λ n. suc n) (place_of m cs))) e ∙ sym (place_of-cons m c cs))
+place_of-set m (c ∷ cs) (suc j) k e = place_of-cons m c (slice_set cs j k)
+    ∙ (ap (λ o. cond (bytes_eq c.name m) (Some 0) (option_map (λ n. suc n) o)) (place_of-set m cs j k e)
+    ∙ sym (place_of-cons m c cs))
+
+-- an accepted decision leaves each clone in its place
+place_of-decided : (net : Net) (m : List ℕ) (cs : List Clone) (d : Decision) (i : ℕ) → place_of m cs ≡ Some i
+    → place_of m (clones_after net cs d) ≡ Some i
+place_of-decided net m cs (Fork new old) i e = place_of-push m cs _ i e
+place_of-decided net m cs (Set who at station change) i e = place_of-set m cs (clone_place who cs) _ refl ∙ e
+place_of-decided net m cs (End who at) i e = place_of-set m cs (clone_place who cs) _ refl ∙ e
+
+-- so do calls
+place_of-calls : (m : List ℕ) (s : Situation) (calls : List Call) (i : ℕ) → place_of m s.clones ≡ Some i
+    → place_of m (fold after_event s (map asked calls)).clones ≡ Some i
+place_of-calls m s [] i e = e
+place_of-calls m s (c ∷ cs) i e = place_of-calls m (after_event s (asked c)) cs i (⊎_elim
+    (λ (h : c.reply ≡ Accepted). ap
+    (λ r. place_of m (if_accepted r (clones_after s.net s.clones c.decision) s.clones)) h
+    ∙ place_of-decided s.net m s.clones c.decision i e)
+    (λ (h : Passes c.reply). ap (place_of m) (h.1 (clones_after s.net s.clones c.decision) s.clones) ∙ e)
+    (kind_of c.reply))
+
+-- ---- one decision
+
+-- the time of an accepted set or end
+abbrev IsTimely : Situation → ℕ → Type 0
+IsTimely s at = (s.front ≤ at) × (at < s.net.horizon)
+
+timely : (s : Situation) (at : ℕ) → first_row (time_rows s.net s.front at) ≡ Accepted → IsTimely s at
+timely s at h = by (nat_le s.net.horizon at) (nat_lt at s.front) refl refl h
+  where
+    by : (b c : Bool) → b ≡ nat_le s.net.horizon at → c ≡ nat_lt at s.front
+        → first_row (row b PastHorizon ∷ row c (Late s.front) ∷ []) ≡ Accepted → IsTimely s at
+    by true c e d h = absurd cc
+    by false true e d h = absurd cc
+    by false false e d h = (grind (arith, d), grind (arith, e))
+
+skip_row : (b : Bool) (r : Reply) (more : List (Option Reply)) → (r ≡ Accepted → ⊥)
+    → first_row (row b r ∷ more) ≡ Accepted → first_row more ≡ Accepted
+skip_row true r more other h = absurd (other h)
+skip_row false r more other h = h
+
+skip_fault : (f : Result (Unit {0}) ChangeFault) (more : List (Option Reply))
+    → first_row (fault_row f ∷ more) ≡ Accepted → first_row more ≡ Accepted
+skip_fault (Ok u) more h = h
+skip_fault (Err refused.WrongParameter) more h = absurd cc
+skip_fault (Err refused.OutOfRange) more h = absurd cc
+
+skip_change : (net : Net) (o : Option ℕ) (change : Change) (more : List (Option Reply))
+    → first_row (change_row net o change ∷ more) ≡ Accepted → first_row more ≡ Accepted
+skip_change net None change more h = h
+skip_change net (Some s) change more h = skip_fault (accepts (site_of net s) change) more h
+
+timely_set : (s : Situation) (clone : ℕ) (who : List ℕ) (at : ℕ) (station : List ℕ) (change : Change)
+    → first_row (rows s clone (Set who at station change)) ≡ Accepted → IsTimely s at
+timely_set s clone who at station change h =
+    let room = row (nat_le MOST_DECISIONS (length (clone_at s.clones clone).plans)) ListFull in
+    let times = time_rows s.net s.front at in
+    let one = skip_row (is_none (number_of station s.net)) UnknownStation
+    (change_row s.net (number_of station s.net) change ∷ room ∷ times) (λ e. cc) h in
+    let two = skip_change s.net (number_of station s.net) change (room ∷ times) one in
+    timely s at (skip_row (nat_le MOST_DECISIONS (length (clone_at s.clones clone).plans)) ListFull times (λ e. cc) two)
+
+some_is : (a b : ℕ) → Some a ≡ Some b → a ≡ b
+some_is a b e = ap {B = ℕ} (λ o. unwrap_or o 0) e
+
+-- a clone that has a place is there
+inside : (m : List ℕ) (cs : List Clone) (i : ℕ) → place_of m cs ≡ Some i → i < length cs
+inside m [] i e = absurd cc
+inside m (c ∷ cs) i e = by (bytes_eq c.name m) (place_of m cs) (λ k h. inside m cs k h) (sym (place_of-cons m c cs) ∙ e)
+  where
+    by : (b : Bool) (o : Option ℕ) → ((k : ℕ) → o ≡ Some k → k < length cs)
+        → cond b (Some 0) (option_map (λ n. suc n) o) ≡ Some i → i < length (c ∷ cs)
+    by true o f e = omega (arith, some_is 0 i e)
+    by false None f e = absurd cc
+    by false (Some k) f e = omega (arith, some_is (suc k) i e, f k refl)
+
+least_at : (net : Net) (front : ℕ) (cs : List Clone) (i : ℕ) → i < length cs
+    → slice_get (leasts_of net cs front) i ≡ Some (least_of (simulation net) (clone_at cs i) front)
+least_at net front cs i lt = slice_get-map (λ c. least_of (simulation net) c front) cs i
+    ∙ ap (option_map (λ c. least_of (simulation net) c front)) (slice_get-get_or cs i nobody lt
+    ∙ ap (λ (k : Clone). Some k) (sym (unwrap_or-slice_get cs i nobody)))
+
+-- an accepted decision changes the least times so
+abbrev Changes : Situation → ℕ → Decision → Type 0
+Changes s p d = changed_at p (Some (least_of (simulation s.net) (clone_at s.clones p) s.front))
+    (leasts_of s.net s.clones s.front) d ≡ leasts_of s.net (clones_after s.net s.clones d) s.front
+
+changes_fork : (s : Situation) (p : ℕ) (new old : List ℕ) → clone_place old s.clones ≡ p
+    → (clone_at s.clones p).end ≡ None → Changes s p (Fork new old)
+changes_fork s p new old place going =
+    let L : Clone → Option ℕ = λ c. least_of (simulation s.net) c s.front in
+    let k : ℕ → Clone = λ i. record { name = new; plans = (clone_at s.clones i).plans; end = None } in
+    sym (map_push L s.clones (k (clone_place old s.clones))
+    ∙ ap (λ t. map L s.clones ++ t ∷ [])
+    (ap (λ i. L (k i)) place ∙ least_of-fork (simulation s.net) (clone_at s.clones p) new s.front going))
+
+changes_set : (s : Situation) (p : ℕ) (who : List ℕ) (at : ℕ) (station : List ℕ) (change : Change) → IsNet s.net
+    → clone_place who s.clones ≡ p → (clone_at s.clones p).end ≡ None → IsTimely s at
+    → Changes s p (Set who at station change)
+changes_set s p who at station change valid place going time =
+    let sim = simulation s.net in
+    let L : Clone → Option ℕ = λ c. least_of sim c s.front in
+    let plan = plan_of_set s.net at station change in
+    let k : Clone = clone_at s.clones p in
+    let late = time.0 in
+    let ends : end_of sim k ≡ s.net.horizon = ap (λ o. unwrap_or o s.net.horizon) going in
+    let before : nat_lt at (end_of sim k) ≡ true = grind (arith, time.1, ends) in
+    let new : L (with_plan k plan) ≡ earlier (Some at) (L k) =
+    least_of-with_plan (lawful-stations s.net valid) k plan s.front at refl late
+    ∙ ap (λ b. cond b (earlier (Some at) (L k)) (L k)) before in
+    sym (ap (λ i. map L (slice_set s.clones i (with_plan (clone_at s.clones i) plan))) place
+    ∙ (map-set L s.clones p (with_plan k plan) ∙ ap (λ t. slice_set (map L s.clones) p t) new))
+
+changes_end : (s : Situation) (p : ℕ) (who : List ℕ) (at : ℕ) → IsNet s.net → clone_place who s.clones ≡ p
+    → (clone_at s.clones p).end ≡ None → IsTimely s at → Changes s p (End who at)
+changes_end s p who at valid place going time =
+    let sim = simulation s.net in
+    let L : Clone → Option ℕ = λ c. least_of sim c s.front in
+    let k : Clone = clone_at s.clones p in
+    let ends : end_of sim k ≡ s.net.horizon = ap (λ o. unwrap_or o s.net.horizon) going in
+    let within : at ≤ end_of sim k = omega (arith, time.1, ends) in
+    sym (ap (λ i. map L (slice_set s.clones i (with_end (clone_at s.clones i) at))) place
+    ∙ (map-set L s.clones p (with_end k at) ∙ ap (λ t. slice_set (map L s.clones) p t)
+    (least_of-with_end (lawful-stations s.net valid) k at s.front time.0 within)))
+
+changes : (s : Situation) (d : Decision) → IsNet s.net → (o : IsOpen s d) → Changes s o.clone d
+changes s (Fork new old) valid o = changes_fork s o.clone new old (ap (λ q. unwrap_or q 0) o.place) o.going
+changes s (Set who at station change) valid o =
+    changes_set s o.clone who at station change valid (ap (λ q. unwrap_or q 0) o.place) o.going
+    (timely_set s o.clone who at station change o.rest)
+changes s (End who at) valid o = changes_end s o.clone who at valid (ap (λ q. unwrap_or q 0) o.place) o.going
+    (timely s at o.rest)
+
+-- ---- calls
+
+-- the least times after calls, where the clones are these at last
+leads : (net : Net) (before : List Event) (cs : List Call) (s : Situation) (all : List Clone) → IsNet s.net
+    → after net before ≡ s → EachAfter (MayFollow net) before (map asked cs)
+    → all ≡ (fold after_event s (map asked cs)).clones
+    → changed_by all (leasts_of s.net s.clones s.front) (accepted_of cs) ≡ leasts_of s.net all s.front
+leads net before [] s all valid is right end = ap (λ cl. leasts_of s.net cl s.front) (sym end)
+leads net before (c ∷ cs) s all valid is right end =
+    let d = c.decision in
+    let ts = leasts_of s.net s.clones s.front in
+    let then = fold_append (opening net) before (asked c ∷ []) ∙ ap (λ (x : Situation). after_event x (asked c)) is in
+    let answer : c.reply ≡ reply s d = right.0.answer ∙ ap (λ (x : Situation). reply x d) is in
+    let more = leads net (before ++ asked c ∷ []) cs (after_event s (asked c)) all valid then right.1 end in
+    ⊎_elim
+    (λ (h : c.reply ≡ Accepted).
+    let o = opened s d (sym answer ∙ h) in
+    let place : place_of (subject d) all ≡ Some o.clone = ap (place_of (subject d)) end
+    ∙ place_of-calls (subject d) s (c ∷ cs) o.clone o.place in
+    let one : changed (place_of (subject d) all) ts d ≡ leasts_of s.net (clones_after s.net s.clones d) s.front =
+    ap (λ q. changed q ts d) place
+    ∙ (ap (λ t. changed_at o.clone t ts d)
+    (least_at s.net s.front s.clones o.clone (inside (subject d) s.clones o.clone o.place))
+    ∙ changes s d valid o) in
+    ap (λ r. changed_by all ts (if_taken r c (accepted_of cs))) h
+    ∙ (ap (λ us. changed_by all us (accepted_of cs))
+    (one ∙ sym (ap (λ r. leasts_of s.net (if_accepted r (clones_after s.net s.clones d) s.clones) s.front) h))
+    ∙ more))
+    (λ (h : Passes c.reply).
+    ap (changed_by all ts) (h.0 c (accepted_of cs))
+    ∙ (ap (λ cl. changed_by all (leasts_of s.net cl s.front) (accepted_of cs))
+    (sym (h.1 (clones_after s.net s.clones d) s.clones)) ∙ more))
+    (kind_of c.reply)
+
+-- the front of a journal is the one that it stands at
+front_stands : (s : Situation) (es : List Event) → (fold after_event s es).front ≡ front_from s.front es
+front_stands s [] = refl
+front_stands s (raised f ∷ es) = front_stands (after_event s (raised f)) es
+front_stands s (asked c ∷ es) = front_stands (after_event s (asked c)) es
+
+pub front_is : (net : Net) (es : List Event) → (after net es).front ≡ front_of es
+front_is net es = front_stands (opening net) es
+
+-- the least times after the calls since the helm's last turn
+pub leasts_after : (net : Net) (helm : List Event) (cs : List Call) → IsNet net → IsRight net (helm ++ map asked cs)
+    → changed_by (after net (helm ++ map asked cs)).clones (leasts_of net (after net helm).clones (front_of helm))
+    (accepted_of cs) ≡ leasts_of net (after net (helm ++ map asked cs)).clones (front_of helm)
+leasts_after net helm cs valid right =
+    let s = after net helm in
+    let all = (after net (helm ++ map asked cs)).clones in
+    let same : s.net ≡ net = net_stays (opening net) helm in
+    let l = leads net helm cs s all (subst (λ n. IsNet n) (sym same) valid) refl
+    (each_later (MayFollow net) [] helm (map asked cs) right)
+    (ap (λ (x : Situation). x.clones) (fold_append (opening net) helm (map asked cs))) in
+    subst (λ f. changed_by all (leasts_of net s.clones f) (accepted_of cs) ≡ leasts_of net all f) (front_is net helm)
+    (subst (λ n. changed_by all (leasts_of n s.clones s.front) (accepted_of cs) ≡ leasts_of n all s.front) same l)
+
+-- ---- the earliest of all
+
+least-earliest : (net : Net) (cs : List Clone) (front : ℕ)
+    → least (simulation net) cs front ≡ earliest (leasts_of net cs front)
+least-earliest net [] front = refl
+least-earliest net (c ∷ cs) front = ap (earlier (least_of (simulation net) c front)) (least-earliest net cs front)
+
+pub earlier_again : (a b c : Option ℕ) → earlier (earlier a b) c ≡ earlier a (earlier b c)
+earlier_again None b c = refl
+earlier_again (Some a) None c = refl
+earlier_again (Some a) (Some b) None = refl
+earlier_again (Some a) (Some b) (Some c) = let e : min (min a b) c ≡ min a (min b c) = omega arith in ap (λ n. Some n) e
+
+pub earlier_none : (a : Option ℕ) → earlier a None ≡ a
+earlier_none None = refl
+earlier_none (Some a) = refl
+
+-- the front that ends the window of these least times
+pub next_is : (net : Net) (helm : List Event) (cs : List Call) → IsNet net → IsRight net (helm ++ map asked cs)
+    → window_end (simulation net) (earliest
+    (changed_by (after net (helm ++ map asked cs)).clones (leasts_of net (after net helm).clones (front_of helm))
+    (accepted_of cs)))
+    ≡ next_front (simulation net) (after net (helm ++ map asked cs)).clones (front_of helm)
+next_is net helm cs valid right = ap (λ t. window_end (simulation net) t)
+    (ap earliest (leasts_after net helm cs valid right)
+    ∙ sym (least-earliest net (after net (helm ++ map asked cs)).clones (front_of helm)))
+
+-- it is later, and not past the horizon
+pub next_is-later : (net : Net) (cs : List Clone) (front : ℕ) → IsNet net → front < net.horizon
+    → front < next_front (simulation net) cs front
+next_is-later net cs front valid below = next_front-rises (lawful-stations net valid) cs front valid.ahead below
+
+pub next_is-within : (net : Net) (cs : List Clone) (front : ℕ) → next_front (simulation net) cs front ≤ net.horizon
+next_is-within net cs front = window_end-within (simulation net) (least (simulation net) cs front)
+
+-- the calls since the helm's last turn
+pub calls_since : (helm : List Event) (cs : List Call) → calls_of (helm ++ map asked cs) ≡ calls_of helm ++ cs
+calls_since [] [] = refl
+calls_since [] (c ∷ cs) = ap (λ l. c ∷ l) (calls_since [] cs)
+calls_since (raised f ∷ es) cs = calls_since es cs
+calls_since (asked c ∷ es) cs = ap (λ l. c ∷ l) (calls_since es cs)
+
+-- the journal as it stood when so many calls were known is the one that only calls follow
+pub parted : (es helm : List Event) (cs : List Call) (known : ℕ) → es ≡ helm ++ map asked cs
+    → known ≡ length (calls_of helm) → (helm_at known es ≡ helm) × (calls_at known es ≡ cs)
+parted es helm cs known is count =
+    let calls : calls_of es ≡ calls_of helm ++ cs = ap calls_of is ∙ calls_since helm cs in
+    let longer : length (calls_of es) ≡ length (calls_of helm) + length cs =
+    ap length calls ∙ length-append (calls_of helm) cs in
+    let all : length es ≡ length helm + length cs =
+    ap length is ∙ (length-append helm (map asked cs) ∙ ap (λ n. length helm + n) (as_many cs)) in
+    let n : length es - (length (calls_of es) - known) ≡ length helm = omega (arith, longer, all, count) in (
+      ap (λ k. take k es) n ∙ (ap (take (length helm)) is ∙ take_first helm (map asked cs)),
+      ap (λ k. drop k (calls_of es)) count ∙ (ap (drop (length (calls_of helm))) calls ∙ drop_first (calls_of helm) cs),
+    )
+  where
+    as_many : (cs : List Call) → length (map {B = Event} (λ c. asked c) cs) ≡ length cs
+    as_many [] = refl
+    as_many (c ∷ cs) = ap (λ n. suc n) (as_many cs)
+
+    take_first : {X : Type 0} (xs ys : List X) → take (length xs) (xs ++ ys) ≡ xs
+    take_first [] ys = refl
+    take_first (x ∷ xs) ys = ap (λ l. x ∷ l) (take_first xs ys)
+
+    drop_first : {X : Type 0} (xs ys : List X) → drop (length xs) (xs ++ ys) ≡ ys
+    drop_first [] ys = refl
+    drop_first (x ∷ xs) ys = drop_first xs ys
+
+-- what is found ahead of a book
+ahead : (b : BookView) (helm : List Event) (cs fresh : List Call) (known front : ℕ) (least ts : List (Option ℕ))
+    (all : List Clone) → b.events ≡ helm ++ map asked cs → known ≡ length (calls_of helm)
+    → front_of helm < b.net.horizon → least ≡ leasts_of b.net (after b.net helm).clones (front_of helm) → IsNet b.net
+    → IsRight b.net b.events
+    → fresh ≡ accepted_of (drop known (calls_of b.events)) → all ≡ (after b.net b.events).clones
+    → ts ≡ changed_by all least fresh → front ≡ window_end (simulation b.net) (earliest ts)
+    → IsAhead b helm cs fresh front
+ahead b helm cs fresh known front least ts all is count below least_is valid right fresh_is all_is ts_is front_at =
+    let net = b.net in
+    let here = (after net b.events).clones in
+    let same : fresh ≡ accepted_of cs = fresh_is ∙ ap accepted_of (parted b.events helm cs known is count).1 in
+    let times : ts ≡ changed_by here (leasts_of net (after net helm).clones (front_of helm)) (accepted_of cs) =
+    ts_is ∙ (ap (λ a. changed_by a least fresh) all_is
+    ∙ (ap (λ l. changed_by here l fresh) least_is
+    ∙ ap (changed_by here (leasts_of net (after net helm).clones (front_of helm))) same)) in
+    let next : window_end (simulation net)
+    (earliest (changed_by here (leasts_of net (after net helm).clones (front_of helm)) (accepted_of cs)))
+    ≡ next_front (simulation net) here (front_of helm) =
+    subst (λ (es : List Event). window_end (simulation net)
+    (earliest (changed_by (after net es).clones (leasts_of net (after net helm).clones (front_of helm))
+    (accepted_of cs))) ≡ next_front (simulation net) (after net es).clones (front_of helm))
+    (sym is) (next_is net helm cs valid (subst (λ (es : List Event). IsRight net es) is right)) in
+    let found : front ≡ next_front (simulation net) here (front_of helm) =
+    front_at ∙ (ap (λ l. window_end (simulation net) (earliest l)) times ∙ next) in
+    let stays : front_of b.events ≡ front_of helm = ap front_of is ∙ front_calls helm cs in
+    let at : (after net b.events).front ≡ front_of helm = front_is net b.events ∙ stays in
+    let more : front_of helm < front =
+    subst (λ n. front_of helm < n) (sym found) (next_is-later net here (front_of helm) valid below) in
+    record {
+      fresh_is = same;
+      front_is = found;
+      next = found ∙ ap (next_front (simulation net) here) (sym at);
+      later = omega (arith, at, more);
+      above = omega (arith, stays, more);
+      within = subst (λ n. n ≤ net.horizon) (sym found) (next_is-within net here (front_of helm));
+      right = right;
+    }
+
+pub looked_ahead : (b : BookView) (fresh : List Call) (known front : ℕ) (least ts : List (Option ℕ))
+    (all : List Clone) → IsSince b known least → IsNet b.net → IsRight b.net b.events
+    → fresh ≡ accepted_of (drop known (calls_of b.events)) → all ≡ (after b.net b.events).clones
+    → ts ≡ changed_by all least fresh → front ≡ window_end (simulation b.net) (earliest ts)
+    → IsAhead b (helm_at known b.events) (calls_at known b.events) fresh front
+looked_ahead b fresh known front least ts all s valid right fresh_is all_is ts_is front_at =
+    let p = parted b.events s.helm s.calls known s.events s.known_is in
+    subst (λ (h : List Event). IsAhead b h (calls_at known b.events) fresh front) (sym p.0)
+    (subst (λ (cs : List Call). IsAhead b s.helm cs fresh front) (sym p.1)
+    (ahead b s.helm s.calls fresh known front least ts all s.events s.known_is s.below s.least_is valid right fresh_is
+    all_is ts_is front_at))
+
+-- the calls since then are calls of the book
+pub known_calls : (b : BookView) (known : ℕ) (least : List (Option ℕ)) → IsSince b known least
+    → known ≤ length (calls_of b.events)
+known_calls b known least s = omega (
+  arith,
+  s.known_is,
+  ap length (ap calls_of s.events ∙ calls_since s.helm s.calls)
+      ∙ length-append (calls_of s.helm) s.calls,
+)
+
+-- the book after a turn of the helm
+pub gone_on : (old new : BookView) (known : ℕ) (turn : Turn) (helm : List Event) (cs : List Call)
+    → old.events ≡ helm ++ map asked cs → known ≡ length (calls_of helm)
+    → IsAhead old (helm_at known old.events) (calls_at known old.events) turn.fresh.items turn.front
+    → new ≡ record old { events = old.events ++ raised turn.front ∷ [] } → IsGoneOn old helm cs turn new
+gone_on old new known turn helm cs is count a then =
+    let p = parted old.events helm cs known is count in
+    record {
+      fresh = a.fresh_is ∙ ap accepted_of p.1;
+      front = a.front_is ∙ ap (λ (h : List Event). next_front (simulation old.net) (after old.net old.events).clones
+          (front_of h)) p.0;
+      above = a.above;
+      within = a.within;
+      right = a.right;
+      new_is = then;
+    }

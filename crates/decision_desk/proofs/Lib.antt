@@ -1,0 +1,7 @@
+pub mod Journals
+pub mod Turnings
+pub mod Restings
+pub mod Legals
+pub mod Comings
+pub mod Leasts
+pub mod NewPasses

@@ -1,0 +1,66 @@
+-- What the desk keeps of each caller, over a journal.
+use Rattle.std.specs.Prelude.{◌≡◌, ℕ, ◌+◌, ◌<◌, Bool, true, List, [], ◌∷◌, ◌++◌, length, map, nat_eq, if◌then◌else◌}
+use Rattle.decision_book.specs.declared.call.Call.{Call}
+use Rattle.decision_book.specs.Journal.{Event, raised, asked, calls_of}
+
+-- a caller: its calls, each with its place in the journal, the fronts that it saw, and whether it was answered Full
+pub record Account : Type 0 where
+  pub caller : ℕ
+  pub calls : List (ℕ × Call)
+  pub fronts : List ℕ
+  pub full : Bool
+
+-- the calls of one caller among these, each with its place; the first has this place
+abbrev pub numbered : ℕ → ℕ → List Call → List (ℕ × Call)
+numbered x n [] = []
+numbered x n (c ∷ cs) = if nat_eq c.caller x then (n, c) ∷ numbered x (n + 1) cs else numbered x (n + 1) cs
+
+abbrev pub calls_by : ℕ → List Event → List (ℕ × Call)
+calls_by x events = numbered x 0 (calls_of events)
+
+-- the last front of a journal, or this one where it has none
+abbrev pub front_from : ℕ → List Event → ℕ
+front_from f [] = f
+front_from f (raised g ∷ es) = front_from g es
+front_from f (asked c ∷ es) = front_from f es
+
+abbrev pub front_of : List Event → ℕ
+front_of events = front_from 0 events
+
+-- the fronts of a journal rise, above this one
+abbrev pub RisesFrom : ℕ → List Event → Type 0
+RisesFrom f [] = Unit {0}
+RisesFrom f (raised g ∷ es) = (f < g) × RisesFrom g es
+RisesFrom f (asked c ∷ es) = RisesFrom f es
+
+-- it begins with these
+abbrev pub Begins : List Event → List Event → Type 0
+Begins before events = (more : List Event) × (events ≡ before ++ more)
+
+-- it is these, followed by calls alone
+abbrev pub OnlyCalls : List Event → List Event → Type 0
+OnlyCalls before events = (cs : List Call) × (events ≡ before ++ map asked cs)
+
+-- 0, or a front of the journal
+abbrev pub IsFrontOf : List Event → ℕ → Type 0
+IsFrontOf events f = (before : List Event) × Begins before events × (f ≡ front_of before)
+
+abbrev pub EachFront : List Event → List ℕ → Type 0
+EachFront events [] = Unit {0}
+EachFront events (f ∷ fs) = IsFrontOf events f × EachFront events fs
+
+-- an account is right: its calls are the caller's, its fronts are fronts, and the mark of Full comes only of a full
+-- journal
+pub record IsAccount (events : List Event) (a : Account) : Type 0 where
+  pub calls : a.calls ≡ calls_by a.caller events
+  pub fronts : EachFront events a.fronts
+  pub full : a.full ≡ true → length (calls_of events) ≡ 4096
+
+abbrev pub AreAccounts : List Event → List Account → Type 0
+AreAccounts events [] = Unit {0}
+AreAccounts events (a ∷ as') = IsAccount events a × AreAccounts events as'
+
+-- how many of the accounts are this caller's
+abbrev pub accounts_of : ℕ → List Account → ℕ
+accounts_of x [] = 0
+accounts_of x (a ∷ as') = (if nat_eq a.caller x then 1 else 0) + accounts_of x as'

@@ -1,0 +1,5 @@
+pub mod Accounts
+pub mod Turns
+pub mod Legal
+pub mod Leasts
+pub mod Passes

@@ -1,0 +1,230 @@
+-- What contracts see of a pass, and what a turn of a pass does.
+use Rattle.std.specs.Prelude.{◌≡◌, ◌≢◌, ◌⊎◌, ℕ, zero, suc, ◌+◌, ◌-◌, ◌<◌, ◌≤◌, List, []}
+use Rattle.std.specs.Prelude.{◌∷◌, ◌++◌, length, map, true, Some, None, Option, MatchOption, nat_lt, if◌then◌else◌}
+use Rattle.atomic_table.specs.Table.{Me}
+use Rattle.atomic_table.specs.Seated.{TableId}
+use Rattle.sim_base.specs.Reserved.{ReservedView}
+use Rattle.sim_base.specs.declared.decision.Decision.{Decision}
+use Rattle.net_model.specs.Net.{Net}
+use Rattle.decision_book.specs.declared.call.Call.{Call}
+use Rattle.decision_book.specs.declared.call.Reply.{Reply}
+use Rattle.decision_book.specs.declared.call.Reply.TheVariants.{Full}
+use Rattle.decision_book.specs.Journal.{Event, asked, raised, call_of, calls_of, after}
+use Rattle.decision_book.specs.Books.{BookView}
+use Rattle.decision_book.specs.Replies.{reply}
+use Rattle.decision_book.specs.Scripts.{accepted_of}
+use Rattle.decision_book.specs.Right.{IsRight}
+use Rattle.decision_desk.specs.Accounts.{Account, AreAccounts, accounts_of, calls_by, Begins, OnlyCalls, front_of}
+use Rattle.decision_desk.specs.Leasts.{leasts_of}
+use Rattle.decision_desk.specs.Turns.{Slot, book_of, turned_to, pass_view}
+use Rattle.decision_desk.specs.Turns.{helm_view, new_account, with_call, full_account}
+use Rattle.decision_desk.specs.declared.view.View.{View}
+use Rattle.stations.specs.Runs.{next_front}
+use Rattle.decision_desk.specs.declared.pass.Receipt.{Receipt}
+use Rattle.decision_desk.specs.declared.helm.Turn.{Turn}
+
+-- what contracts see of a pass: its desk and network, the journal as far as it was seen, and the caller's account
+pub record Passed : Type 0 where
+  pub desk : TableId
+  pub net : Net
+  pub seen : List Event
+  pub account : Account
+
+abbrev pub first_account : List Account → Account
+first_account [] = new_account 0
+first_account (a ∷ as') = a
+
+abbrev pub passed : TableId → View → Passed
+passed desk v = record { desk = desk; net = v.net; seen = v.seen; account = first_account v.accounts }
+
+-- the receipt of a call that is in the journal
+abbrev pub receipt_of : ℕ × Call → Receipt
+receipt_of p = record { entry = Some p.0; reply = p.1.reply }
+
+pub record IsPass (caller : ℕ) (receipts : ReservedView Receipt) (desk : TableId) (me : Me Slot View) : Type 0 where
+  pub words : desk.words ≡ 4
+  pub slots : desk.slots ≡ 1
+  pub rest : me ≡ (pass_view me.0.net me.0.seen (first_account me.0.accounts), [])
+  pub caller_is : (first_account me.0.accounts).caller ≡ caller
+  pub receipts_are : receipts.items ≡ map receipt_of (first_account me.0.accounts).calls
+  pub room : receipts.reserved ≡ 4096
+
+-- a decision has the reply of the table, and is the last call of the book; or the book is full, and stays as it was
+pub record IsKept (old : BookView) (caller : ℕ) (d : Decision) (answer : Reply) (call : Call) (new : BookView) :
+    Type 0 where
+  pub is : call ≡ call_of caller old.events d answer
+  pub new_is : new ≡ record old { events = old.events ++ asked call ∷ [] }
+  pub room : length (calls_of old.events) < 4096
+  pub not_full : answer ≢ Full
+
+abbrev pub Asked : BookView → ℕ → Decision → Reply → Option Call → BookView → Type 0
+Asked old caller d answer kept new = (answer ≡ reply (after old.net old.events) d)
+    × MatchOption kept ((answer ≡ Full) × (4096 ≤ length (calls_of old.events)) × (new ≡ old))
+    (λ call. IsKept old caller d answer call new)
+
+-- the view of a pass in its turn
+abbrev pub turn_view : Net → List Event → Account → ℕ → View
+turn_view net j a ticket = turned_to (pass_view net j a) true ticket true j
+
+-- a seat that came to its turn, behind the events j
+pub record HasTurn (net : Net) (seen : List Event) (a : Account) (me : Me Slot View) (j : List Event) : Type 0 where
+  pub ticket : ℕ
+  pub begins : Begins seen j
+  pub rises : front_of seen ≤ front_of j
+  pub right : AreAccounts j (a ∷ [])
+  pub few : length (calls_of j) ≤ 4096
+  pub is : me ≡ (turn_view net j a ticket, (0, book_of net j) ∷ [])
+
+-- what became of a pass in its turn, behind the events j: the call is in the journal, or it was Full
+pub record IsTurn (net : Net) (seen : List Event) (a : Account) (d : Decision) (receipt : Receipt)
+    (new : Me Slot View) (j : List Event) : Type 0 where
+  pub begins : Begins seen j
+  pub rises : front_of seen ≤ front_of j
+  pub right : AreAccounts j (a ∷ [])
+  pub few : length (calls_of j) ≤ 4096
+  pub reply_is : receipt.reply ≡ reply (after net j) d
+  pub kept :
+      ((receipt.reply ≢ Full) × (receipt.entry ≡ Some (length (calls_of j))) × (length (calls_of j) < 4096)
+      × (new ≡ (
+        pass_view net (j ++ asked (call_of a.caller j d receipt.reply) ∷ [])
+            (with_call a j (call_of a.caller j d receipt.reply)),
+        [],
+      )))
+      ⊎ ((receipt.reply ≡ Full) × (receipt.entry ≡ None) × (length (calls_of j) ≡ 4096)
+      × (new ≡ (pass_view net j (full_account a), [])))
+
+-- the same, as contracts see it
+pub record IsAsked (old : Passed) (d : Decision) (receipt : Receipt) (new : Passed) (j : List Event) : Type 0 where
+  pub begins : Begins old.seen j
+  -- the front that it was decided at is at least the one that was seen
+  pub rises : front_of old.seen ≤ front_of j
+  pub reply_is : receipt.reply ≡ reply (after old.net j) d
+  -- it is in the journal, at the place that the receipt names; or it is full
+  pub kept :
+      ((receipt.reply ≢ Full) × (receipt.entry ≡ Some (length (calls_of j)))
+      × (new ≡ record old {
+        seen = j ++ asked (call_of old.account.caller j d receipt.reply) ∷ [];
+        account = with_call old.account j (call_of old.account.caller j d receipt.reply);
+      }))
+      ⊎ ((receipt.reply ≡ Full) × (receipt.entry ≡ None) × (length (calls_of j) ≡ 4096)
+      × (new ≡ record old { seen = j; account = full_account old.account }))
+
+-- what contracts see of a helm: the journal as far as it was seen, the journal when it last raised the front, its
+-- parts, how many passes were made, and the accounts that came back
+pub record Helmed : Type 0 where
+  pub desk : TableId
+  pub net : Net
+  pub parts : ℕ
+  pub seen : List Event
+  pub helm : List Event
+  pub made : ℕ
+  pub accounts : List Account
+
+abbrev pub helmed : TableId → View → Helmed
+helmed desk v = record {
+  desk = desk;
+  net = v.net;
+  parts = v.parts;
+  seen = v.seen;
+  helm = v.helm;
+  made = v.made;
+  accounts = v.accounts;
+}
+
+pub record IsHelm (made known front : ℕ) (desk : TableId) (me : Me Slot View) : Type 0 where
+  pub words : desk.words ≡ 4
+  pub slots : desk.slots ≡ 1
+  pub rest : me ≡ (helm_view me.0.net me.0.parts me.0.seen me.0.helm me.0.made me.0.accounts, [])
+  pub some_part : 0 < me.0.parts
+  pub made_is : me.0.made ≡ made
+  -- how many calls there were when it last raised the front
+  pub known_is : known ≡ length (calls_of me.0.helm)
+  -- and that front
+  pub front_is : front ≡ front_of me.0.helm
+
+-- the pass of a caller that has asked nothing
+abbrev pub new_pass : TableId → Net → ℕ → Passed
+new_pass desk net x = record { desk = desk; net = net; seen = []; account = new_account x }
+
+-- those of the callers from 1 to n
+abbrev pub new_passes : TableId → Net → ℕ → List Passed
+new_passes desk net zero = []
+new_passes desk net (suc n) = new_passes desk net n ++ new_pass desk net (n + 1) ∷ []
+
+-- the helm, once so many passes were made
+abbrev pub new_helm : TableId → Net → ℕ → Helmed
+new_helm desk net n = record { desk = desk; net = net; parts = 17 - n; seen = []; helm = []; made = n; accounts = [] }
+
+-- the front was seen, behind the events j
+abbrev pub looked_at : Passed → List Event → Passed
+looked_at p j = record p { seen = j; account = record p.account { fronts = p.account.fronts ++ front_of j ∷ [] } }
+
+abbrev pub late_front : ℕ → ℕ → Option ℕ
+late_front front time = if nat_lt time front then Some front else None
+
+-- what the book is that a desk leaves
+pub record IsClosed (helm : Helmed) (book : BookView) : Type 0 where
+  pub net : book.net ≡ helm.net
+  pub seen : Begins helm.seen book.events
+  pub only_calls : OnlyCalls helm.helm book.events
+  -- each account has its caller's calls, and each front that it saw is one of the journal's
+  pub accounts : AreAccounts book.events helm.accounts
+  -- nobody else has calls
+  pub others : (x : ℕ) → accounts_of x helm.accounts ≡ 0 → calls_by x book.events ≡ []
+
+-- the view of the helm in its turn
+abbrev pub helm_turn : Net → ℕ → List Event → List Event → ℕ → List Account → ℕ → View
+helm_turn net parts j helm made accounts ticket =
+    turned_to (helm_view net parts j helm made accounts) true ticket true j
+
+-- a helm that came to its turn: only calls were made since it last raised the front
+pub record HelmHasTurn (old : View) (me : Me Slot View) (j : List Event) : Type 0 where
+  pub ticket : ℕ
+  pub only_calls : OnlyCalls old.helm j
+  pub is : me ≡ (helm_turn old.net old.parts j old.helm old.made old.accounts ticket, (0, book_of old.net j) ∷ [])
+
+-- only calls were made since so many were known; these are the least times as the clones stood then, below the horizon
+pub record IsSince (book : BookView) (known : ℕ) (least : List (Option ℕ)) : Type 0 where
+  pub helm : List Event
+  pub calls : List Call
+  pub events : book.events ≡ helm ++ map asked calls
+  pub known_is : known ≡ length (calls_of helm)
+  pub below : front_of helm < book.net.horizon
+  pub least_is : least ≡ leasts_of book.net (after book.net helm).clones (front_of helm)
+
+-- the accepted ones of the calls since the helm's last turn, and the next front
+pub record IsAhead (book : BookView) (helm : List Event) (cs fresh : List Call) (front : ℕ) : Type 0 where
+  pub fresh_is : fresh ≡ accepted_of cs
+  pub front_is : front ≡ next_front book.net (after book.net book.events).clones (front_of helm)
+  -- no call raises the front, so it is the next one from where the book stands
+  pub next : front ≡ next_front book.net (after book.net book.events).clones (after book.net book.events).front
+  pub later : (after book.net book.events).front < front
+  pub above : front_of book.events < front
+  pub within : front ≤ book.net.horizon
+  pub right : IsRight book.net book.events
+
+-- a turn of the helm over the book
+pub record IsGoneOn (old : BookView) (helm : List Event) (cs : List Call) (turn : Turn) (new : BookView) : Type 0 where
+  pub fresh : turn.fresh.items ≡ accepted_of cs
+  pub front : turn.front ≡ next_front old.net (after old.net old.events).clones (front_of helm)
+  pub above : front_of old.events < turn.front
+  pub within : turn.front ≤ old.net.horizon
+  pub right : IsRight old.net old.events
+  pub new_is : new ≡ record old { events = old.events ++ raised turn.front ∷ [] }
+
+-- a turn of the helm, behind the events j: only calls were made since its last, and the front is the next one
+pub record IsNextTurn (old : Helmed) (turn : Turn) (new : Helmed) (cs : List Call) : Type 0 where
+  pub fresh : turn.fresh.items ≡ accepted_of cs
+  pub front : turn.front ≡ next_front old.net (after old.net (old.helm ++ map asked cs)).clones (front_of old.helm)
+  pub above : front_of (old.helm ++ map asked cs) < turn.front
+  pub within : turn.front ≤ old.net.horizon
+  -- so each accepted set or end has a time at least the front
+  pub right : IsRight old.net (old.helm ++ map asked cs)
+  pub new_is : new ≡ record old {
+    seen = (old.helm ++ map asked cs) ++ raised turn.front ∷ [];
+    helm = (old.helm ++ map asked cs) ++ raised turn.front ∷ [];
+  }
+
+-- a turn that found no memory
+abbrev pub IsMissed : Helmed → Helmed → Type 0
+IsMissed old new = (j : List Event) × OnlyCalls old.helm j × (new ≡ record old { seen = j })

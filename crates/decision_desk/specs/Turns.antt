@@ -1,0 +1,196 @@
+-- The rule of the desk: the words, the slot, and what each seat knows.
+use Rattle.std.specs.Prelude.{◌≡◌, ℕ, ◌+◌, ◌%◌, ◌^◌, ◌<◌, ◌≤◌, ◌⊎◌, Bool, true, false}
+use Rattle.std.specs.Prelude.{List, [], ◌∷◌, ◌++◌, length, nat_eq, nat_lt, MatchBool, if◌then◌else◌, Some}
+use Rattle.std.specs.declared.option.Option.{Option as Option'}
+use mathlib.Core.Option.{Option, some, none}
+use lib.ListN.{get_elem?}
+use Rattle.atomic_table.specs.Table.{State, Me}
+use Rattle.net_model.specs.Net.{Net}
+use Rattle.decision_book.specs.declared.call.Call.{Call}
+use Rattle.decision_book.specs.Journal.{Event, raised, asked, calls_of}
+use Rattle.decision_book.specs.Books.{BookView}
+use Rattle.decision_desk.specs.Accounts.{Account, AreAccounts, accounts_of, calls_by}
+use Rattle.decision_desk.specs.Accounts.{front_of, RisesFrom, Begins, OnlyCalls}
+use Rattle.decision_desk.specs.declared.view.View.{View}
+
+-- what lies in the slot
+abbrev pub Slot : Type 0
+Slot = Option' BookView
+
+abbrev pub book_of : Net → List Event → Slot
+book_of net events = Some (record { net = net; events = events })
+
+abbrev pub total : (View → ℕ) → List View → ℕ
+total f [] = 0
+total f (v ∷ vs) = f v + total f vs
+
+abbrev pub waiting : View → ℕ
+waiting v = if v.waits then 1 else 0
+
+-- 1 where the seat waits with this ticket
+abbrev pub has_ticket : ℕ → View → ℕ
+has_ticket x v = if v.waits then (if nat_eq v.ticket x then 1 else 0) else 0
+
+-- how many accounts of this caller the seat has
+abbrev pub has_caller : ℕ → View → ℕ
+has_caller x v = accounts_of x v.accounts
+
+abbrev pub in_line : ℕ → ℕ → ℕ → ℕ
+in_line x from to = if nat_lt x from then 0 else (if nat_lt x to then 1 else 0)
+
+-- what holds of a seat by itself, where this ticket is served, over this journal
+pub record Fits (net : Net) (serve : ℕ) (journal : List Event) (v : View) : Type 0 where
+  pub part : waiting v ≤ v.parts
+  pub idle : v.parts ≡ 0 → v.accounts ≡ []
+  pub about : 0 < v.parts → v.net ≡ net
+  pub seen : Begins v.seen journal
+  pub turn : v.turn ≡ true → (v.waits ≡ true) × (v.ticket ≡ serve) × (v.seen ≡ journal)
+  pub helm : v.steers ≡ true → OnlyCalls v.helm journal
+  pub accounts : AreAccounts journal v.accounts
+
+abbrev pub EachFits : Net → ℕ → List Event → List View → Type 0
+EachFits net serve journal views = (id : ℕ) (v : View) → get_elem? views id ≡ some v → Fits net serve journal v
+
+abbrev pub NoTurn : List View → Type 0
+NoTurn views = (id : ℕ) (v : View) → get_elem? views id ≡ some v → v.turn ≡ false
+
+-- the book is at home with the journal, or some seat has the turn
+abbrev pub Housed : Net → List Event → List (Option Slot) → List View → Type 0
+Housed net journal homes views = ((homes ≡ some (book_of net journal) ∷ []) × NoTurn views)
+    ⊎ ((homes ≡ none ∷ []) × ((id : ℕ) × (v : View) × (get_elem? views id ≡ some v) × (v.turn ≡ true)))
+
+-- a caller has no account above the number of passes made, and one seat at most steers
+abbrev pub Unmade : List View → Type 0
+Unmade views = (id : ℕ) (v : View) → get_elem? views id ≡ some v → v.steers ≡ true → (x : ℕ) → v.made < x
+    → total (has_caller x) views ≡ 0
+
+abbrev pub OneHelm : List View → Type 0
+OneHelm views = (i j : ℕ) (u v : View) → get_elem? views i ≡ some u → get_elem? views j ≡ some v → u.steers ≡ true
+    → v.steers ≡ true → i ≡ j
+
+pub record Kept (s : State Slot View) : Type 0 where
+  pub net : Net
+  pub journal : List Event
+  pub next : ℕ
+  pub serve : ℕ
+  pub words : s.words ≡ front_of journal ∷ next % 2 ^ 64 ∷ serve % 2 ^ 64 ∷ length (calls_of journal) ∷ []
+  pub few : length (calls_of journal) ≤ 4096
+  pub rising : RisesFrom 0 journal
+  pub parts : total (λ v. v.parts) s.views ≡ 17
+  pub line : serve + total waiting s.views ≡ next
+  pub each_once : (x : ℕ) → total (has_ticket x) s.views ≡ in_line x serve next
+  pub fits : EachFits net serve journal s.views
+  pub home : Housed net journal s.homes s.views
+  pub once : (x : ℕ) → total (has_caller x) s.views ≤ 1
+  pub others : (x : ℕ) → total (has_caller x) s.views ≡ 0 → calls_by x journal ≡ []
+  pub unmade : Unmade s.views
+  pub one_helm : OneHelm s.views
+
+-- a seat that changes in the course of a turn: what its ticket, turn and knowledge become
+abbrev pub turned_to : View → Bool → ℕ → Bool → List Event → View
+turned_to v waits ticket turn seen = record v { waits = waits; ticket = ticket; turn = turn; seen = seen }
+
+-- what the steps tell
+abbrev pub Drew : Me Slot View → ℕ → Me Slot View → Type 0
+Drew m n m' = (t : ℕ) × (n ≡ t % 2 ^ 64) × (m' ≡ (turned_to m.0 true t false m.0.seen, m.1))
+
+abbrev pub ServedIf : Bool → Me Slot View → Me Slot View → Type 0
+ServedIf b m m' = MatchBool b
+    ((j : List Event) × Begins m.0.seen j × (length (calls_of j) ≤ 4096) × (m.0.steers ≡ true → OnlyCalls m.0.helm j)
+    × AreAccounts j m.0.accounts
+    × (m' ≡ (turned_to m.0 true m.0.ticket true j, (0, book_of m.0.net j) ∷ m.1)) × (front_of m.0.seen ≤ front_of j))
+    (m' ≡ m)
+
+abbrev pub Served : Me Slot View → ℕ → Me Slot View → Type 0
+Served m n m' = ServedIf (nat_eq n (m.0.ticket % 2 ^ 64)) m m'
+
+-- the call joins the journal, and the account of its caller
+abbrev pub with_call : Account → List Event → Call → Account
+with_call a journal c = record a {
+  calls = a.calls ++ (length (calls_of journal), c) ∷ [];
+  fronts = a.fronts ++ front_of journal ∷ [];
+}
+
+abbrev pub after_call : View → Account → Call → View
+after_call v a c = record v { seen = v.seen ++ asked c ∷ []; accounts = with_call a v.seen c ∷ [] }
+
+abbrev pub Called : List Call → Me Slot View → ℕ → Me Slot View → Type 0
+Called said m n m' = (a : Account) (c : Call) → said ≡ c ∷ [] → m.0.accounts ≡ a ∷ []
+    → (n ≡ length (calls_of m.0.seen)) × (m' ≡ (after_call m.0 a c, m.1))
+
+-- the front joins the journal
+abbrev pub after_front : View → ℕ → View
+after_front v f = record v { seen = v.seen ++ raised f ∷ []; helm = v.seen ++ raised f ∷ [] }
+
+abbrev pub Raised : Me Slot View → ℕ → Me Slot View → Type 0
+Raised m n m' = m' ≡ (after_front m.0 n, m.1)
+
+abbrev pub Left : Me Slot View → ℕ → Me Slot View → Type 0
+Left m n m' = m' ≡ (turned_to m.0 false 0 false m.0.seen, [])
+
+-- the account of a caller whose pass was just made
+abbrev pub new_account : ℕ → Account
+new_account x = record { caller = x; calls = []; fronts = []; full = false }
+
+abbrev pub no_net : Net
+no_net = record { format = 1; lookahead = 1; horizon = 1; seed = 0; limit = 1; sites = [] }
+
+-- a seat at rest: a pass with its account, the helm, and a seat that gave all away
+abbrev pub pass_view : Net → List Event → Account → View
+pass_view net seen a = record {
+  net = net;
+  parts = 1;
+  waits = false;
+  ticket = 0;
+  turn = false;
+  seen = seen;
+  helm = [];
+  steers = false;
+  made = 0;
+  accounts = a ∷ [];
+}
+
+abbrev pub helm_view : Net → ℕ → List Event → List Event → ℕ → List Account → View
+helm_view net parts seen helm made accounts =
+    record {
+      net = net;
+      parts = parts;
+      waits = false;
+      ticket = 0;
+      turn = false;
+      seen = seen;
+      helm = helm;
+      steers = true;
+      made = made;
+      accounts = accounts;
+    }
+
+abbrev pub spent_view : View
+spent_view = record {
+  net = no_net;
+  parts = 0;
+  waits = false;
+  ticket = 0;
+  turn = false;
+  seen = [];
+  helm = [];
+  steers = false;
+  made = 0;
+  accounts = [];
+}
+
+-- a look at the front: the journal is seen as it then stands, and its front is noted
+abbrev pub after_look : View → Account → List Event → View
+after_look v a j = record v { seen = j; accounts = record a { fronts = a.fronts ++ front_of j ∷ [] } ∷ [] }
+
+abbrev pub Looked : Me Slot View → ℕ → Me Slot View → Type 0
+Looked m n m' = (a : Account) → m.0.accounts ≡ a ∷ [] → (j : List Event) × Begins m.0.seen j × (n ≡ front_of j)
+    × (m' ≡ (after_look m.0 a j, m.1)) × (front_of m.0.seen ≤ n)
+
+-- the turn ends, and the caller was answered Full
+abbrev pub full_account : Account → Account
+full_account a = record a { full = true }
+
+abbrev pub LeftFull : Me Slot View → ℕ → Me Slot View → Type 0
+LeftFull m n m' = (a : Account) → m.0.accounts ≡ a ∷ []
+    → m' ≡ (record (turned_to m.0 false 0 false m.0.seen) { accounts = full_account a ∷ [] }, [])

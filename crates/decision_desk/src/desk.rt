@@ -1,0 +1,199 @@
+//! The desk.
+ghost use Rattle.std.specs.Prelude.{◌≡◌, ℕ, ◌+◌, ◌-◌, ◌<◌, ◌≤◌, ◌++◌, ◌∷◌, []};
+ghost use Rattle.std.specs.Prelude.{List, All, Some, length, map, IfOk, OnOk, OnErr};
+ghost use Rattle.decision_book.specs.Journal.{Event};
+ghost use Rattle.decision_desk.specs.Accounts.{Begins, front_of};
+ghost use Rattle.decision_desk.specs.Turns.{new_account};
+ghost use Rattle.decision_desk.specs.Passes.{IsAsked, IsClosed, late_front, looked_at, new_passes, new_helm};
+
+use crate::helm::Helm;
+use crate::legal::LegalBook;
+use crate::pass::{Pass, Receipt, take_turn};
+use crate::turns::{Law, Share, look_at_front};
+use crate::view::View;
+use atomic_table::{Refused, Table};
+use decision_book::MOST_CALLS;
+use net_model::Model;
+use sim_base::{Decision, NoMemory, Reserved};
+use std::alloc::Global;
+use std::sync::{Arc, Wait};
+
+/// The book between threads.
+#[derive(Drop)]
+pub struct Desk {
+    pub(crate) table: Table<Option<LegalBook>, View, Model, Law, Global>,
+    pub ghost sized: { (table.shared.table_id.words ≡ 4) × (table.shared.table_id.slots ≡ 1) },
+}
+
+impl Desk {
+    /// A desk with an empty book, a pass for each analyst, with room for all its receipts, and the helm.
+    pub fn begin(
+        alloc: Global,
+        model: Arc<Model>,
+        analysts: u32,
+    ) -> Result<(Desk, Vec<Pass>, Helm), NoMemory>
+        requires some { 1 ≤ analysts }
+        requires few { analysts ≤ 16 }
+        ensures passes { IfOk result (λ r.
+            r.1.items ≡ new_passes r.0.table.shared.table_id model.value analysts) }
+        ensures helm { IfOk result (λ r.
+            r.2 ≡ new_helm r.0.table.shared.table_id model.value analysts) }
+    {
+        let (desk, mut helm) = Desk::open(alloc, model)?;
+        let mut passes = Vec::with_capacity(alloc, analysts as usize)?;
+        for _i in 0..analysts {
+            let pass = desk.another(alloc, &mut helm)?;
+            passes.push(pass)?;
+        }
+        Ok((desk, passes, helm))
+    }
+
+    // A desk with an empty book, and no passes.
+    fn open(alloc: Global, model: Arc<Model>) -> Result<(Desk, Helm), NoMemory>
+        ensures value { IfOk result (λ r. r.1 ≡ new_helm r.0.table.shared.table_id model.value 0) }
+    {
+        let mut slots = Vec::with_capacity(alloc, 1)?;
+        let about = Arc::try_clone(&model)?;
+        let book = LegalBook::begin(alloc, model)?;
+        slots.push_reserved(Some(book));
+        match Table::new(alloc, &[0, 0, 0, 0], slots, &*about) {
+            Ok((table, seat)) => Ok((
+                Desk { table },
+                Helm {
+                    seat,
+                    made: 0,
+                    known: 0,
+                    front: 0,
+                },
+            )),
+            Err(Refused { slots: _ }) => Err(NoMemory),
+        }
+    }
+
+    // A pass for the next caller, with room for all its receipts.
+    fn another(&self, alloc: Global, helm: &mut Helm) -> Result<Pass, NoMemory>
+        requires desk { helm.old.desk ≡ self.now.table.shared.table_id }
+        requires parts { 1 < helm.old.parts }
+        requires few { helm.old.made < 16 }
+        ensures pass { IfOk result (λ p. p ≡ record {
+          desk = helm.old.desk;
+          net = helm.old.net;
+          seen = helm.old.seen;
+          account = new_account (helm.old.made + 1);
+        }) }
+        ensures helm { OnOk result (
+            helm.new ≡ record helm.old { parts = helm.old.parts - 1; made = helm.old.made + 1 }) }
+        ensures same { OnErr result (helm.new ≡ helm.old) }
+    {
+        let receipts = Reserved::with_capacity(alloc, MOST_CALLS)?;
+        let Helm { seat, made, .. } = helm;
+        let caller = *made + 1;
+        let seat = self.table.shared.split_seat::<Share>(seat);
+        *made = caller;
+        Ok(Pass {
+            seat,
+            caller,
+            receipts,
+        })
+    }
+
+    // Takes a pass in.
+    fn absorb(&self, helm: &mut Helm, pass: Pass)
+        requires helm { helm.old.desk ≡ self.now.table.shared.table_id }
+        requires pass { pass.desk ≡ self.now.table.shared.table_id }
+        ensures helm { helm.new ≡ record helm.old {
+          parts = helm.old.parts + 1;
+          accounts = helm.old.accounts ++ pass.account ∷ [];
+        } }
+    {
+        let Pass {
+            seat,
+            caller: _,
+            receipts: _,
+        } = pass;
+        self.table.shared.join_seat::<Share>(&mut helm.seat, seat);
+    }
+
+    /// Asks a decision in its turn. It may wait, and takes no memory.
+    pub fn decide<R: Wait>(&self, rt: &R, pass: &mut Pass, d: Decision) -> Receipt
+        requires desk { pass.old.desk ≡ self.now.table.shared.table_id }
+        ensures asked { (j : List Event) × IsAsked pass.old d result pass.new j }
+    {
+        let Pass {
+            seat,
+            caller,
+            receipts,
+        } = pass;
+        let receipt = take_turn(rt, &self.table.shared, seat, *caller, &d);
+        if receipt.entry.is_some() {
+            let Ok(()) = receipts.push(receipt) else {
+                unreachable!()
+            };
+        }
+        receipt
+    }
+
+    /// The front. It waits for nobody, and takes no memory.
+    pub fn front(&self, pass: &mut Pass) -> u64
+        requires desk { pass.old.desk ≡ self.now.table.shared.table_id }
+        ensures rises { front_of pass.old.seen ≤ result }
+        ensures seen { (j : List Event) × Begins pass.old.seen j
+            × (result ≡ front_of j) × (pass.new ≡ looked_at pass.old j) }
+    {
+        look_at_front(&self.table.shared, &mut pass.seat)
+    }
+
+    /// The front, where it is beyond this time. It waits for nobody, and takes no memory.
+    pub fn is_late(&self, pass: &mut Pass, time: u64) -> Option<u64>
+        requires desk { pass.old.desk ≡ self.now.table.shared.table_id }
+        ensures rises { (f : ℕ) → result ≡ Some f → front_of pass.old.seen ≤ f }
+        ensures late { (j : List Event) × Begins pass.old.seen j
+            × (result ≡ late_front (front_of j) time) × (pass.new ≡ looked_at pass.old j) }
+    {
+        let front = self.front(pass);
+        if time < front { Some(front) } else { None }
+    }
+
+    // Takes all passes in.
+    fn absorb_all(&self, helm: &mut Helm, passes: Vec<Pass>)
+        requires helm { helm.old.desk ≡ self.now.table.shared.table_id }
+        requires passes { All (λ p. p.desk ≡ self.now.table.shared.table_id) passes.items }
+        ensures helm { helm.new ≡ record helm.old {
+          parts = helm.old.parts + length passes.items;
+          accounts = helm.old.accounts ++ map (λ p. p.account) passes.items;
+        } }
+    {
+        for pass in passes {
+            self.absorb(helm, pass);
+        }
+    }
+
+    /// The book, once all passes are handed back. It takes no memory.
+    pub fn close(self, passes: Vec<Pass>, helm: Helm) -> LegalBook
+        requires desk { helm.desk ≡ self.table.shared.table_id }
+        requires passes { All (λ p. p.desk ≡ self.table.shared.table_id) passes.items }
+        requires whole { helm.parts + length passes.items ≡ 17 }
+        ensures closed { IsClosed (record helm {
+          parts = 17;
+          accounts = helm.accounts ++ map (λ p. p.account) passes.items;
+        }) result }
+    {
+        let mut helm = helm;
+        self.absorb_all(&mut helm, passes);
+        self.take_book(helm)
+    }
+
+    // The book, once the helm has every part.
+    fn take_book(self, helm: Helm) -> LegalBook
+        requires desk { helm.desk ≡ self.table.shared.table_id }
+        requires whole { helm.parts ≡ 17 }
+        ensures closed { IsClosed helm result }
+    {
+        let Desk { table } = self;
+        let Helm { seat, .. } = helm;
+        let mut closed = table.close_with(seat);
+        let book = closed.take(0).unwrap();
+        closed.free();
+        book
+    }
+}

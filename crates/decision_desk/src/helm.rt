@@ -1,0 +1,155 @@
+//! The engine's seat.
+ghost use Rattle.std.specs.Prelude.{◌≡◌, ℕ, ◌<◌, ◌≤◌, ◌++◌, ◌∷◌, [], List, map, None, MatchResult, length};
+ghost use Rattle.decision_book.specs.Journal.{Event, raised, asked, after};
+ghost use Rattle.decision_book.specs.declared.call.Call.{Call};
+ghost use Rattle.decision_book.specs.Right.{IsRight};
+ghost use Rattle.decision_book.specs.Scripts.{accepted_of};
+ghost use Rattle.stations.specs.Runs.{next_front};
+ghost use Rattle.decision_desk.specs.Accounts.{Begins, OnlyCalls, front_of};
+ghost use Rattle.decision_desk.specs.Turns.{book_of, helm_view};
+ghost use Rattle.decision_desk.specs.Passes.{HelmHasTurn, helm_turn, IsNextTurn, IsMissed};
+ghost use Rattle.decision_desk.specs.Leasts.{leasts_of};
+
+use crate::desk::Desk;
+use crate::legal::LegalBook;
+use crate::pass::{give_book, take_book};
+use crate::turns::{Board, Chair, draw_ticket, end_turn, raise_front, wait_turn};
+use decision_book::Call;
+use sim_base::NoMemory;
+use std::alloc::Global;
+use std::sync::Wait;
+
+/// What a turn of the helm gives: the front that it raised, and the calls that were accepted since its last turn.
+#[derive(Drop)]
+pub struct Turn {
+    pub front: u64,
+    pub fresh: Vec<Call>,
+}
+
+/// The engine's seat: it raises the front, and makes the passes.
+#[derive(Drop)]
+pub struct Helm {
+    pub(crate) seat: Chair,
+    pub(crate) made: u32,
+    pub(crate) known: usize,
+    pub(crate) front: u64,
+}
+
+impl std::marker::Model for Helm {
+    ghost use Rattle.decision_desk.specs.Passes.{Helmed, helmed, IsHelm};
+
+    ghost Value = { Helmed };
+
+    ghost view = { λ h. helmed h.seat.table_id h.seat.me.0 };
+
+    ghost invariant = { λ h. IsHelm h.made h.known h.front h.seat.table_id h.seat.me };
+}
+
+/// Waits for the turn of the helm.
+fn come_to_helm_turn<R: Wait>(rt: &R, board: &Board, seat: &mut Chair)
+    requires table { (seat.old.table_id ≡ board.now.table_id) × (board.now.table_id.words ≡ 4)
+        × (board.now.table_id.slots ≡ 1) }
+    requires rest { seat.old.me ≡ (
+      helm_view seat.old.me.0.net seat.old.me.0.parts seat.old.me.0.seen
+          seat.old.me.0.helm seat.old.me.0.made seat.old.me.0.accounts,
+      [],
+    ) }
+    requires part { 0 < seat.old.me.0.parts }
+    ensures table { seat.new.table_id ≡ seat.old.table_id }
+    ensures turn { (j : List Event) × HelmHasTurn seat.old.me.0 seat.new.me j }
+{
+    let ticket = draw_ticket(board, seat);
+    wait_turn(rt, board, seat, ticket);
+}
+
+/// Tells of a front, and ends the turn.
+fn raise_and_leave(board: &Board, seat: &mut Chair, book: LegalBook, front: u64)
+    requires table { (seat.old.table_id ≡ board.now.table_id) × (board.now.table_id.words ≡ 4)
+        × (board.now.table_id.slots ≡ 1) }
+    requires turn { seat.old.me ≡ (
+      helm_turn seat.old.me.0.net seat.old.me.0.parts seat.old.me.0.seen
+          seat.old.me.0.helm seat.old.me.0.made seat.old.me.0.accounts seat.old.me.0.ticket,
+      (0, None) ∷ [],
+    ) }
+    requires part { 0 < seat.old.me.0.parts }
+    requires above { front_of seat.old.me.0.seen < front }
+    requires book { book ≡ record { net = seat.old.me.0.net; events = seat.old.me.0.seen ++ raised front ∷ [] } }
+    ensures table { seat.new.table_id ≡ seat.old.table_id }
+    ensures rest { seat.new.me ≡ (
+      helm_view seat.old.me.0.net seat.old.me.0.parts
+          (seat.old.me.0.seen ++ raised front ∷ []) (seat.old.me.0.seen ++ raised front ∷ []) seat.old.me.0.made
+          seat.old.me.0.accounts,
+      [],
+    ) }
+{
+    raise_front(board, seat, front);
+    give_book(board, seat, book);
+    end_turn(board, seat);
+}
+
+/// Ends the turn with the book as it was.
+fn leave_as_it_was(board: &Board, seat: &mut Chair, book: LegalBook)
+    requires table { (seat.old.table_id ≡ board.now.table_id) × (board.now.table_id.words ≡ 4)
+        × (board.now.table_id.slots ≡ 1) }
+    requires turn { seat.old.me ≡ (
+      helm_turn seat.old.me.0.net seat.old.me.0.parts seat.old.me.0.seen
+          seat.old.me.0.helm seat.old.me.0.made seat.old.me.0.accounts seat.old.me.0.ticket,
+      (0, None) ∷ [],
+    ) }
+    requires part { 0 < seat.old.me.0.parts }
+    requires book { book ≡ record { net = seat.old.me.0.net; events = seat.old.me.0.seen } }
+    ensures table { seat.new.table_id ≡ seat.old.table_id }
+    ensures rest { seat.new.me ≡ (
+      helm_view seat.old.me.0.net seat.old.me.0.parts seat.old.me.0.seen
+          seat.old.me.0.helm seat.old.me.0.made seat.old.me.0.accounts,
+      [],
+    ) }
+{
+    give_book(board, seat, book);
+    end_turn(board, seat);
+}
+
+impl Helm {
+    /// The front that this helm raised last, or 0 before its first turn. It takes no memory.
+    pub fn front(&self) -> u64
+        ensures value { result ≡ front_of self.now.helm }
+    {
+        self.front
+    }
+
+    /// In one turn: takes the accepted calls since the last one, and raises the front to the next one.
+    #[tactic(auto, using(crate::proofs::Journals::front_raised))]
+    pub fn next<R: Wait>(
+        &mut self,
+        rt: &R,
+        alloc: Global,
+        desk: &Desk,
+        least: &[Option<u64>],
+    ) -> Result<Turn, NoMemory>
+        requires desk { self.old.desk ≡ desk.now.table.shared.table_id }
+        requires below { front_of self.old.helm < self.old.net.horizon }
+        requires least { least.now ≡ leasts_of self.old.net (after self.old.net self.old.helm).clones
+            (front_of self.old.helm) }
+        ensures turn { MatchResult result
+            (λ turn. (cs : List Call) × IsNextTurn self.old turn self.new cs)
+            (λ _. IsMissed self.old self.new) }
+    {
+        let board = &desk.table.shared;
+        let seat = &mut self.seat;
+        come_to_helm_turn(rt, board, seat);
+        let mut book = take_book(board, seat);
+        match book.go_on(alloc, self.known, least) {
+            Ok(turn) => {
+                let known = book.book().calls().len();
+                raise_and_leave(board, seat, book, turn.front);
+                self.known = known;
+                self.front = turn.front;
+                Ok(turn)
+            }
+            Err(fault) => {
+                leave_as_it_was(board, seat, book);
+                Err(fault)
+            }
+        }
+    }
+}

@@ -1,0 +1,40 @@
+//! The desk: a book of decisions that threads share, one turn after the other.
+//!
+//! Whoever asks draws a ticket and waits until it is served; then the book is its own until it ends its turn. So the
+//! decisions of all threads are one journal, and the engine's fronts stand in it at the places where they were raised:
+//!
+//! ```text
+//! ticket  1           2         3                  4
+//! who     analyst 1   engine    analyst 2          analyst 1
+//! what    set at 9    front 5   set at 4: late, 5  fork
+//! ```
+//!
+//! An example:
+//!
+//! ```text
+//! let (desk, passes, helm) = Desk::begin(alloc, model, 2)?;
+//! let receipt = desk.decide(&rt, &mut pass, decision);    // an analyst's thread: the entry in the journal, and the reply
+//! let turn = helm.next(&rt, alloc, &desk, &least)?;       // the engine's: what was accepted since, and the next front
+//! let book = desk.close(passes, helm);                    // a legal journal, when all is handed back
+//! ```
+//!
+//! Everything that a seat knows of the journal is one beginning of it: what its pass has seen. The rule of the table, in
+//! `specs/Turns.antt`, says what each step of a seat does to the words front, ticket, serving and count, and to the slot
+//! that holds the book; the book's own type keeps that its journal is legal, which means that each front is the next one
+//! of the lists before it. `front` and `is_late` load one word and wait for nobody.
+#![tactic(auto)]
+
+pub mod desk;
+pub mod helm;
+pub mod legal;
+mod next_front;
+pub mod pass;
+#[cfg(test)]
+mod tests;
+mod turns;
+pub mod view;
+
+pub use desk::Desk;
+pub use helm::{Helm, Turn};
+pub use legal::LegalBook;
+pub use pass::{Pass, Receipt};

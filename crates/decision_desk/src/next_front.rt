@@ -1,0 +1,171 @@
+//! The helm's turn over the book: the accepted calls since its last one, and the next front.
+ghost use Rattle.std.specs.Prelude.{◌≡◌, ◌≤◌, ◌<◌, ◌++◌, ◌∷◌, [], List};
+ghost use Rattle.std.specs.Prelude.{map, drop, length, IfOk, OnOk, MatchResult, if◌then◌else◌};
+ghost use Rattle.sim_base.specs.Clones.{place_of};
+ghost use Rattle.sim_base.specs.Decisions.{subject};
+ghost use Rattle.net_model.specs.Rules.{IsNet};
+ghost use Rattle.run_laws.specs.Fronts.{earlier as earlier', window_end};
+ghost use Rattle.run_laws.specs.FrontLaws.{time_before as time_before'};
+ghost use Rattle.stations.specs.Runs.{simulation};
+ghost use Rattle.decision_book.specs.Journal.{Event, asked, calls_of};
+ghost use Rattle.decision_book.specs.Scripts.{if_taken, accepted_of};
+ghost use Rattle.decision_book.specs.declared.call.Call.{Call};
+ghost use Rattle.decision_desk.specs.Passes.{IsGoneOn, IsAhead, IsSince};
+ghost use Rattle.decision_desk.specs.Leasts.{earliest as earliest', changed, changed_by, helm_at, calls_at};
+
+use crate::helm::Turn;
+use crate::legal::LegalBook;
+use decision_book::{Call, Reply};
+use net_model::Model;
+use sim_base::{Decision, Lists, NoMemory};
+use std::alloc::Global;
+
+// The lesser of two times, where there is one.
+fn earlier(a: Option<u64>, b: Option<u64>) -> Option<u64>
+    ensures value { result ≡ earlier' a b }
+{
+    match a {
+        Some(first) => match b {
+            Some(second) => Some(first.min(second)),
+            None => Some(first),
+        },
+        None => b,
+    }
+}
+
+// A time, where it comes before another.
+fn time_before(at: u64, time: Option<u64>) -> Option<u64>
+    ensures value { result ≡ time_before' at time }
+{
+    match time {
+        Some(t) => { if t < at { Some(t) } else { None } }
+        None => None,
+    }
+}
+
+fn is_accepted(reply: Reply) -> bool
+    ensures value { (later : List Call) (call : Call) →
+        if_taken reply call later ≡ (if result then call ∷ later else later) }
+{
+    match reply {
+        Reply::Accepted => true,
+        _ => false,
+    }
+}
+
+// The accepted ones of these calls, in order.
+fn accepted(alloc: Global, calls: &[Call]) -> Result<Vec<Call>, NoMemory>
+    ensures value { IfOk result (λ fresh. fresh.items ≡ accepted_of calls.now) }
+{
+    let mut fresh = Vec::new(alloc);
+    for call in calls {
+        if is_accepted(call.reply) {
+            fresh.push(*call)?;
+        }
+    }
+    Ok(fresh)
+}
+
+// Those of the calls from this one on.
+fn accepted_from(alloc: Global, calls: &[Call], known: usize) -> Result<Vec<Call>, NoMemory>
+    requires known { known ≤ length calls.now }
+    ensures value { IfOk result (λ fresh. fresh.items ≡ accepted_of (drop known calls.now)) }
+{
+    accepted(alloc, &calls[known..])
+}
+
+// The least times after an accepted decision on the clone at this place.
+fn change(times: &mut Vec<Option<u64>>, place: Option<u32>, d: &Decision) -> Result<(), NoMemory>
+    ensures ok { OnOk result (times.new.items ≡ changed place times.old.items d.now) }
+{
+    let Some(place) = place else {
+        return Ok(());
+    };
+    let place = place as usize;
+    if place >= times.len() {
+        return Ok(());
+    }
+    let time = times[place];
+    match d {
+        Decision::Fork { .. } => times.push(time)?,
+        Decision::Set { at, .. } => times[place] = earlier(Some(*at), time),
+        Decision::End { at, .. } => times[place] = time_before(*at, time),
+    }
+    Ok(())
+}
+
+// The least times after these accepted calls.
+fn change_all(times: &mut Vec<Option<u64>>, lists: &Lists, fresh: &[Call]) -> Result<(), NoMemory>
+    ensures ok { OnOk result (times.new.items ≡ changed_by lists.now.clones times.old.items fresh.now) }
+{
+    for call in fresh {
+        change(times, lists.find(&call.decision.subject()), &call.decision)?;
+    }
+    Ok(())
+}
+
+// The earliest of these times.
+#[tactic(auto, using(crate::proofs::Leasts::earlier_again, crate::proofs::Leasts::earlier_none))]
+fn earliest(times: &[Option<u64>]) -> Option<u64>
+    ensures value { result ≡ earliest' times.now }
+{
+    let mut first = None;
+    for time in times {
+        first = earlier(first, *time);
+    }
+    first
+}
+
+// Where a window ends whose least message has this time.
+fn end_of_window(model: &Model, least: Option<u64>) -> u64
+    ensures value { result ≡ window_end (simulation model.now) least }
+    ensures valid { IsNet model.now }
+{
+    let horizon = model.horizon();
+    match least {
+        None => horizon,
+        Some(time) => horizon.min(time.saturating_add(model.lookahead())),
+    }
+}
+
+impl LegalBook {
+    // The accepted calls since the helm's last turn, when so many calls were known, and the next front.
+    fn look_ahead(
+        &self,
+        alloc: Global,
+        known: usize,
+        least: &[Option<u64>],
+    ) -> Result<Turn, NoMemory>
+        requires since { IsSince self.now known least.now }
+        ensures ahead { IfOk result (λ turn. IsAhead self.now
+            (helm_at known self.now.events) (calls_at known self.now.events) turn.fresh.items turn.front) }
+    {
+        let book = self.book();
+        let _front = book.front();
+        let fresh = accepted_from(alloc, book.calls(), known)?;
+        let mut times = Vec::new(alloc);
+        times.extend_from_slice(least)?;
+        change_all(&mut times, book.lists(), fresh.as_slice())?;
+        let front = end_of_window(book.model(), earliest(times.as_slice()));
+        Ok(Turn { front, fresh })
+    }
+
+    /// Takes the accepted calls since the helm's last turn, when so many calls were known, and raises the front to
+    /// the next one; out of memory leaves all unchanged.
+    pub fn go_on(
+        &mut self,
+        alloc: Global,
+        known: usize,
+        least: &[Option<u64>],
+    ) -> Result<Turn, NoMemory>
+        requires since { IsSince self.old known least.now }
+        ensures turn { (helm : List Event) (cs : List Call) →
+            self.old.events ≡ helm ++ map asked cs → known ≡ length (calls_of helm) → MatchResult result
+            (λ turn. IsGoneOn self.old helm cs turn self.new)
+            (λ _. self.new ≡ self.old) }
+    {
+        let turn = self.look_ahead(alloc, known, least)?;
+        self.raise(turn.front)?;
+        Ok(turn)
+    }
+}

@@ -1,0 +1,166 @@
+//! Passes: what an analyst asks the desk with.
+ghost use Rattle.std.specs.Prelude.{◌≡◌, ◌++◌, ◌∷◌, [], ℕ, List, ◌<◌, ◌≤◌, length, Some, None, false};
+ghost use Rattle.atomic_table.specs.Table.{rest};
+ghost use Rattle.decision_book.specs.Journal.{Event, asked, calls_of};
+ghost use Rattle.decision_desk.specs.Accounts.{Account, front_of, Begins};
+ghost use Rattle.decision_desk.specs.Turns.{book_of, pass_view, with_call, full_account};
+ghost use Rattle.decision_desk.specs.Passes.{HasTurn, IsTurn, first_account, turn_view};
+
+use crate::legal::LegalBook;
+use crate::turns::{Board, Chair, draw_ticket, end_full_turn, end_turn, raise_count, wait_turn};
+use decision_book::{Call, Reply};
+use sim_base::{Decision, Reserved};
+use std::marker::{Brand, Model};
+use std::sync::Wait;
+
+/// What a caller got for a call: its place in the journal, None exactly where the reply is Full.
+#[derive(Clone, Copy, Debug, PartialEq, Eq)]
+pub struct Receipt {
+    pub entry: Option<u32>,
+    pub reply: Reply,
+}
+
+/// What an analyst asks the desk with.
+#[derive(Drop)]
+pub struct Pass {
+    pub(crate) seat: Chair,
+    pub(crate) caller: u32,
+    pub(crate) receipts: Reserved<Receipt>,
+}
+
+impl Model for Pass {
+    ghost use Rattle.decision_desk.specs.Passes.{Passed, passed, IsPass};
+
+    ghost Value = { Passed };
+
+    ghost view = { λ p. passed p.seat.table_id p.seat.me.0 };
+
+    ghost invariant = { λ p. IsPass p.caller p.receipts p.seat.table_id p.seat.me };
+}
+
+/// Takes the book out of the slot.
+pub(crate) fn take_book(board: &Board, seat: &mut Chair) -> LegalBook
+    requires table { (seat.old.table_id ≡ board.now.table_id) × (board.now.table_id.words ≡ 4)
+        × (board.now.table_id.slots ≡ 1) }
+    requires held { seat.old.me.1 ≡ (0, book_of seat.old.me.0.net seat.old.me.0.seen) ∷ [] }
+    ensures table { seat.new.table_id ≡ seat.old.table_id }
+    ensures book { result ≡ record { net = seat.old.me.0.net; events = seat.old.me.0.seen } }
+    ensures seat { seat.new.me ≡ (seat.old.me.0, (0, None) ∷ []) }
+{
+    board.exchange(seat, 0, None).unwrap()
+}
+
+/// Puts the book back.
+pub(crate) fn give_book(board: &Board, seat: &mut Chair, book: LegalBook)
+    requires table { (seat.old.table_id ≡ board.now.table_id) × (board.now.table_id.words ≡ 4)
+        × (board.now.table_id.slots ≡ 1) }
+    requires held { seat.old.me.1 ≡ (0, None) ∷ [] }
+    requires book { book ≡ record { net = seat.old.me.0.net; events = seat.old.me.0.seen } }
+    ensures table { seat.new.table_id ≡ seat.old.table_id }
+    ensures seat { seat.new.me ≡ (seat.old.me.0, (0, book_of seat.old.me.0.net seat.old.me.0.seen) ∷ []) }
+{
+    drop(board.exchange(seat, 0, Some(book)));
+}
+
+/// Waits for the turn of a pass.
+pub(crate) fn come_to_turn<R: Wait>(rt: &R, board: &Board, seat: &mut Chair)
+    requires table { (seat.old.table_id ≡ board.now.table_id) × (board.now.table_id.words ≡ 4)
+        × (board.now.table_id.slots ≡ 1) }
+    requires rest { seat.old.me ≡ (
+      pass_view seat.old.me.0.net seat.old.me.0.seen
+          (first_account seat.old.me.0.accounts),
+      [],
+    ) }
+    ensures table { seat.new.table_id ≡ seat.old.table_id }
+    ensures turn { (j : List Event) × HasTurn seat.old.me.0.net seat.old.me.0.seen
+        (first_account seat.old.me.0.accounts) seat.new.me j }
+{
+    let ticket = draw_ticket(board, seat);
+    wait_turn(rt, board, seat, ticket);
+}
+
+/// Tells of a call, and ends the turn.
+pub(crate) fn tell_and_leave(board: &Board, seat: &mut Chair, book: LegalBook, call: &Call) -> u64
+    requires table { (seat.old.table_id ≡ board.now.table_id) × (board.now.table_id.words ≡ 4)
+        × (board.now.table_id.slots ≡ 1) }
+    requires turn { seat.old.me ≡ (
+      turn_view seat.old.me.0.net seat.old.me.0.seen
+          (first_account seat.old.me.0.accounts) seat.old.me.0.ticket,
+      (0, None) ∷ [],
+    ) }
+    requires room { length (calls_of seat.old.me.0.seen) < 4096 }
+    requires caller { call.now.caller ≡ (first_account seat.old.me.0.accounts).caller }
+    requires book { book ≡ record { net = seat.old.me.0.net; events = seat.old.me.0.seen ++ asked call.now ∷ [] } }
+    ensures table { seat.new.table_id ≡ seat.old.table_id }
+    ensures entry { result ≡ length (calls_of seat.old.me.0.seen) }
+    ensures rest { seat.new.me ≡ (
+      pass_view seat.old.me.0.net (seat.old.me.0.seen ++ asked call.now ∷ [])
+          (with_call (first_account seat.old.me.0.accounts) seat.old.me.0.seen call.now),
+      [],
+    ) }
+{
+    let entry = raise_count::<Brand>(board, seat, call);
+    give_book(board, seat, book);
+    end_turn(board, seat);
+    entry
+}
+
+/// Ends the turn of a caller that was answered Full.
+pub(crate) fn leave_full(board: &Board, seat: &mut Chair, book: LegalBook)
+    requires table { (seat.old.table_id ≡ board.now.table_id) × (board.now.table_id.words ≡ 4)
+        × (board.now.table_id.slots ≡ 1) }
+    requires turn { seat.old.me ≡ (
+      turn_view seat.old.me.0.net seat.old.me.0.seen
+          (first_account seat.old.me.0.accounts) seat.old.me.0.ticket,
+      (0, None) ∷ [],
+    ) }
+    requires full { length (calls_of seat.old.me.0.seen) ≡ 4096 }
+    requires book { book ≡ record { net = seat.old.me.0.net; events = seat.old.me.0.seen } }
+    ensures table { seat.new.table_id ≡ seat.old.table_id }
+    ensures rest { seat.new.me ≡ (
+      pass_view seat.old.me.0.net seat.old.me.0.seen
+          (full_account (first_account seat.old.me.0.accounts)),
+      [],
+    ) }
+{
+    give_book(board, seat, book);
+    end_full_turn(board, seat);
+}
+
+/// A turn of a pass.
+pub(crate) fn take_turn<R: Wait>(
+    rt: &R,
+    board: &Board,
+    seat: &mut Chair,
+    caller: u32,
+    d: &Decision,
+) -> Receipt
+    requires table { (seat.old.table_id ≡ board.now.table_id) × (board.now.table_id.words ≡ 4)
+        × (board.now.table_id.slots ≡ 1) }
+    requires rest { seat.old.me ≡ (
+      pass_view seat.old.me.0.net seat.old.me.0.seen
+          (first_account seat.old.me.0.accounts),
+      [],
+    ) }
+    requires caller { (first_account seat.old.me.0.accounts).caller ≡ caller }
+    ensures table { seat.new.table_id ≡ seat.old.table_id }
+    ensures turn { (j : List Event) × IsTurn seat.old.me.0.net seat.old.me.0.seen
+        (first_account seat.old.me.0.accounts) d.now result seat.new.me j }
+{
+    come_to_turn(rt, board, seat);
+    let mut book = take_book(board, seat);
+    let (reply, kept) = book.ask(caller, d);
+    match kept {
+        Some(call) => {
+            let entry = tell_and_leave(board, seat, book, &call);
+            Receipt {
+                entry: Some(entry as u32),
+                reply,
+            }
+        }
+        None => {
+            leave_full(board, seat, book);
+            Receipt { entry: None, reply }
+        }
+    }
+}

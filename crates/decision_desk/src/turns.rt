@@ -1,0 +1,243 @@
+//! The steps of a turn.
+ghost use Rattle.std.specs.Prelude.{◌≡◌, ℕ, ◌+◌, ◌-◌, ◌%◌, ◌^◌, ◌<◌, ◌≤◌, []};
+ghost use Rattle.std.specs.Prelude.{◌∷◌, ◌++◌, List, length, Some, None, true, false, MatchBool};
+ghost use Rattle.decision_book.specs.Journal.{Event, calls_of};
+ghost use Rattle.decision_book.specs.declared.call.Call.{Call};
+ghost use Rattle.decision_desk.specs.Accounts.{Account, AreAccounts, Begins, OnlyCalls, front_of};
+ghost use Rattle.decision_desk.specs.Turns.{book_of, turned_to, after_call, after_front, after_look, full_account};
+
+use crate::legal::LegalBook;
+use crate::view::View;
+use atomic_table::{Join, Play, Seat, Shared, Split, TableRule};
+use decision_book::Call;
+use net_model::Model;
+use std::marker::{Brand, PhantomData};
+use std::sync::Wait;
+use std::thread;
+
+pub struct Law;
+
+impl TableRule<Option<LegalBook>, View, Model> for Law {
+    ghost use Rattle.std.specs.Prelude.{[]};
+    ghost use Rattle.decision_desk.specs.Turns.{helm_view, Kept};
+
+    ghost holds = { λ _ s. Kept s };
+
+    ghost first = { λ net. helm_view net 17 [] [] 0 [] };
+}
+
+pub struct Draw;
+
+impl Play<Option<LegalBook>, View> for Draw {
+    ghost use Rattle.decision_desk.specs.Turns.{Drew};
+
+    ghost then = { λ _ m n w. Drew m n w };
+}
+
+pub struct Serve;
+
+impl Play<Option<LegalBook>, View> for Serve {
+    ghost use Rattle.decision_desk.specs.Turns.{Served};
+
+    ghost then = { λ _ m n w. Served m n w };
+}
+
+pub struct Leave;
+
+impl Play<Option<LegalBook>, View> for Leave {
+    ghost use Rattle.decision_desk.specs.Turns.{Left};
+
+    ghost then = { λ _ m n w. Left m n w };
+}
+
+pub struct LeaveFull;
+
+impl Play<Option<LegalBook>, View> for LeaveFull {
+    ghost use Rattle.decision_desk.specs.Turns.{LeftFull};
+
+    ghost then = { λ _ m n w. LeftFull m n w };
+}
+
+pub struct Look;
+
+impl Play<Option<LegalBook>, View> for Look {
+    ghost use Rattle.decision_desk.specs.Turns.{Looked};
+
+    ghost then = { λ _ m n w. Looked m n w };
+}
+
+pub struct RaiseFront;
+
+impl Play<Option<LegalBook>, View> for RaiseFront {
+    ghost use Rattle.decision_desk.specs.Turns.{Raised};
+
+    ghost then = { λ _ m n w. Raised m n w };
+}
+
+/// The call that a step tells of. Each use picks it.
+pub trait Said {
+    ghost use Rattle.std.specs.Prelude.{List};
+    ghost use Rattle.decision_book.specs.declared.call.Call.{Call};
+
+    ghost said: { List Call };
+}
+
+impl Said for Brand {
+    ghost use Rattle.std.specs.Prelude.{[]};
+
+    ghost said = { [] };
+}
+
+pub struct RaiseCount<E: Said> {
+    of: PhantomData<E>,
+}
+
+impl<E: Said> Play<Option<LegalBook>, View> for RaiseCount<E> {
+    ghost use Rattle.decision_desk.specs.Turns.{Called};
+
+    ghost then = { λ _ m n w. Called E.said m n w };
+}
+
+/// A pass that is cut off the helm's seat, and one that is taken in.
+pub struct Share;
+
+impl Split<View> for Share {
+    ghost use Rattle.std.specs.Prelude.{◌-◌, ◌+◌};
+    ghost use Rattle.decision_desk.specs.Turns.{pass_view, new_account};
+
+    ghost left = { λ v. record v { parts = v.parts - 1; made = v.made + 1 } };
+
+    ghost right = { λ v. pass_view v.net v.seen (new_account (v.made + 1)) };
+}
+
+impl Join<View> for Share {
+    ghost use Rattle.std.specs.Prelude.{◌+◌, ◌++◌};
+    ghost use Rattle.decision_desk.specs.Turns.{spent_view};
+
+    ghost both = { λ v u. record v { parts = v.parts + u.parts; accounts = v.accounts ++ u.accounts } };
+
+    ghost spent = { spent_view };
+}
+
+pub type Chair = Seat<Option<LegalBook>, View>;
+
+pub type Board = Shared<Option<LegalBook>, View, Model, Law>;
+
+/// Draws a ticket.
+pub fn draw_ticket(board: &Board, seat: &mut Chair) -> u64
+    requires table { (seat.old.table_id ≡ board.now.table_id) × (board.now.table_id.words ≡ 4)
+        × (board.now.table_id.slots ≡ 1) }
+    requires rest { (seat.old.me.0.waits ≡ false) × (seat.old.me.0.turn ≡ false) × (0 < seat.old.me.0.parts) }
+    ensures table { seat.new.table_id ≡ seat.old.table_id }
+    ensures waits { (t : ℕ) × (result ≡ t % 2 ^ 64)
+        × (seat.new.me ≡ (turned_to seat.old.me.0 true t false seat.old.me.0.seen, seat.old.me.1)) }
+{
+    board.fetch_add::<Draw>(seat, 1, 1)
+}
+
+/// Looks whether it is the seat's turn.
+pub fn is_served(board: &Board, seat: &mut Chair, ticket: u64) -> bool
+    requires table { (seat.old.table_id ≡ board.now.table_id) × (board.now.table_id.words ≡ 4)
+        × (board.now.table_id.slots ≡ 1) }
+    requires waits { (seat.old.me.0.waits ≡ true) × (seat.old.me.0.turn ≡ false) × (0 < seat.old.me.0.parts) }
+    requires ticket { ticket ≡ seat.old.me.0.ticket % 2 ^ 64 }
+    ensures table { seat.new.table_id ≡ seat.old.table_id }
+    ensures turn { MatchBool result
+        ((j : List Event) × Begins seat.old.me.0.seen j × (length (calls_of j) ≤ 4096) × (seat.old.me.0.steers ≡ true → OnlyCalls seat.old.me.0.helm j) × AreAccounts j seat.old.me.0.accounts
+        × (seat.new.me ≡ (turned_to seat.old.me.0 true seat.old.me.0.ticket true j, (0, book_of seat.old.me.0.net j) ∷ seat.old.me.1)) × (front_of seat.old.me.0.seen ≤ front_of j))
+        (seat.new.me ≡ seat.old.me) }
+{
+    board.load::<Serve>(seat, 2) == ticket
+}
+
+/// Waits for the seat's turn.
+pub fn wait_turn<R: Wait>(rt: &R, board: &Board, seat: &mut Chair, ticket: u64)
+    requires table { (seat.old.table_id ≡ board.now.table_id) × (board.now.table_id.words ≡ 4)
+        × (board.now.table_id.slots ≡ 1) }
+    requires waits { (seat.old.me.0.waits ≡ true) × (seat.old.me.0.turn ≡ false) × (0 < seat.old.me.0.parts) }
+    requires ticket { ticket ≡ seat.old.me.0.ticket % 2 ^ 64 }
+    ensures table { seat.new.table_id ≡ seat.old.table_id }
+    ensures turn { (j : List Event) × Begins seat.old.me.0.seen j × (length (calls_of j) ≤ 4096)
+        × (seat.old.me.0.steers ≡ true → OnlyCalls seat.old.me.0.helm j) × AreAccounts j seat.old.me.0.accounts
+        × (seat.new.me ≡ (turned_to seat.old.me.0 true seat.old.me.0.ticket true j, (0, book_of seat.old.me.0.net j) ∷ seat.old.me.1)) × (front_of seat.old.me.0.seen ≤ front_of j) }
+{
+    for _ in rt.forever() {
+        if is_served(board, seat, ticket) {
+            break;
+        }
+        thread::yield_now();
+    }
+}
+
+/// Tells of a call.
+pub fn raise_count<E: Said>(board: &Board, seat: &mut Chair, call: &Call) -> u64
+    requires table { (seat.old.table_id ≡ board.now.table_id) × (board.now.table_id.words ≡ 4)
+        × (board.now.table_id.slots ≡ 1) }
+    requires said { E.said ≡ call.now ∷ [] }
+    requires turn { (seat.old.me.0.turn ≡ true) × (length (calls_of seat.old.me.0.seen) < 4096) }
+    requires account { (a : Account) × (seat.old.me.0.accounts ≡ a ∷ []) × (call.now.caller ≡ a.caller) }
+    ensures table { seat.new.table_id ≡ seat.old.table_id }
+    ensures count { result ≡ length (calls_of seat.old.me.0.seen) }
+    ensures call { (a : Account) → seat.old.me.0.accounts ≡ a ∷ []
+        → seat.new.me ≡ (after_call seat.old.me.0 a call.now, seat.old.me.1) }
+{
+    board.fetch_add::<RaiseCount<E>>(seat, 3, 1)
+}
+
+/// Raises the front.
+pub fn raise_front(board: &Board, seat: &mut Chair, front: u64)
+    requires table { (seat.old.table_id ≡ board.now.table_id) × (board.now.table_id.words ≡ 4)
+        × (board.now.table_id.slots ≡ 1) }
+    requires turn { (seat.old.me.0.turn ≡ true) × (seat.old.me.0.steers ≡ true) }
+    requires above { front_of seat.old.me.0.seen < front }
+    ensures table { seat.new.table_id ≡ seat.old.table_id }
+    ensures front { seat.new.me ≡ (after_front seat.old.me.0 front, seat.old.me.1) }
+{
+    board.store::<RaiseFront>(seat, 0, front)
+}
+
+/// Ends the turn.
+pub fn end_turn(board: &Board, seat: &mut Chair)
+    requires table { (seat.old.table_id ≡ board.now.table_id) × (board.now.table_id.words ≡ 4)
+        × (board.now.table_id.slots ≡ 1) }
+    requires turn { (seat.old.me.0.turn ≡ true) × (0 < seat.old.me.0.parts) }
+    requires home { seat.old.me.1 ≡ (0, book_of seat.old.me.0.net seat.old.me.0.seen) ∷ [] }
+    ensures table { seat.new.table_id ≡ seat.old.table_id }
+    ensures rest { seat.new.me ≡ (turned_to seat.old.me.0 false 0 false seat.old.me.0.seen, []) }
+{
+    board.fetch_add::<Leave>(seat, 2, 1);
+}
+
+/// Ends the turn of a caller that was answered Full.
+pub fn end_full_turn(board: &Board, seat: &mut Chair)
+    requires table { (seat.old.table_id ≡ board.now.table_id) × (board.now.table_id.words ≡ 4)
+        × (board.now.table_id.slots ≡ 1) }
+    requires turn { (seat.old.me.0.turn ≡ true) × (0 < seat.old.me.0.parts) }
+    requires home { seat.old.me.1 ≡ (0, book_of seat.old.me.0.net seat.old.me.0.seen) ∷ [] }
+    requires full { length (calls_of seat.old.me.0.seen) ≡ 4096 }
+    requires account { (a : Account) × (seat.old.me.0.accounts ≡ a ∷ []) }
+    ensures table { seat.new.table_id ≡ seat.old.table_id }
+    ensures rest { (a : Account) → seat.old.me.0.accounts ≡ a ∷ []
+        → seat.new.me ≡ (
+          record (turned_to seat.old.me.0 false 0 false seat.old.me.0.seen)
+              { accounts = full_account a ∷ [] },
+          [],
+        ) }
+{
+    board.fetch_add::<LeaveFull>(seat, 2, 1);
+}
+
+/// Loads the front. It waits for nobody.
+pub fn look_at_front(board: &Board, seat: &mut Chair) -> u64
+    requires table { (seat.old.table_id ≡ board.now.table_id) × (board.now.table_id.words ≡ 4)
+        × (board.now.table_id.slots ≡ 1) }
+    requires rest { (seat.old.me.0.waits ≡ false) × (seat.old.me.0.turn ≡ false) × (0 < seat.old.me.0.parts)
+        × (seat.old.me.0.steers ≡ false) }
+    requires account { (a : Account) × (seat.old.me.0.accounts ≡ a ∷ []) }
+    ensures table { seat.new.table_id ≡ seat.old.table_id }
+    ensures seen { (a : Account) → seat.old.me.0.accounts ≡ a ∷ [] → (j : List Event) × Begins seat.old.me.0.seen j
+        × (result ≡ front_of j) × (seat.new.me ≡ (after_look seat.old.me.0 a j, seat.old.me.1))
+        × (front_of seat.old.me.0.seen ≤ result) }
+{
+    board.load::<Look>(seat, 0)
+}

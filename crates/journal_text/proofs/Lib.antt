@@ -1,0 +1,6 @@
+pub mod Lines
+pub mod Sections
+pub mod Reading
+pub mod Rightly
+pub mod Sizes
+pub mod ReadsAsScript

@@ -1,0 +1,3 @@
+pub mod JournalText
+pub mod Laws
+pub mod Examples

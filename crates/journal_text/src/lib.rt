@@ -1,0 +1,44 @@
+//! The text of a journal: what analysts decided while a simulation ran, at which fronts, and what they saw.
+//!
+//! When analysts decide during a run, what each of them gets depends on when they ask. The journal says how it went,
+//! and its text is both: a record to read, and a script by which the same run is made again.
+//!
+//! ```text
+//! journal 3 2                                             how many calls and fronts
+//! # front 5                                               all before 5 was handled
+//! analyst ada                                             ada asked, and it was accepted
+//! fork fast from base
+//! # front 7
+//! analyst ben                                             ben's set came too late
+//! # refused 11 front 7: set base at 6 desk room 5
+//! analyst ada
+//! set fast at 8 desk service 2 2
+//! looks 1
+//! look ben base desk front=7 clones=2 handled=3 shared=2  what ben saw, and how many clones shared it
+//! ```
+//!
+//! An example:
+//!
+//! ```text
+//! let text = journal_text(alloc, &script, book.calls(), book.fronts(), &looks)?;
+//! ```
+//!
+//! It costs a walk over calls, fronts and looks, and one text that grows. Out of memory is the only error.
+//!
+//! The definition of the text stands in `specs/JournalText.antt`, and what is written is that. The promise that it
+//! carries: **a run is repeated by its journal**. The lines of a right journal's calls, without comments, are read as
+//! a script; its items are the accepted decisions, in order, each by the analyst who made it; all are accepted before
+//! the simulation begins, and they leave the clones that the journal leaves. So the same traces and the same report
+//! come of it.
+#![tactic(auto)]
+
+pub mod examples;
+pub mod laws;
+mod looked;
+mod pieces;
+#[cfg(test)]
+mod tests;
+mod text;
+
+pub use looked::Looked;
+pub use text::journal_text;

@@ -1,0 +1,100 @@
+-- The accepted calls of a turn are calls that a world takes at its front.
+use Rattle.std.proofs.Common.{◌≡◌, ⊎_elim, ℕ, ◌+◌, ◌==◌, refl, sym, ap, ◌∙◌, subst, fold, Bool, true, false, List, [], ◌∷◌, ◌++◌, map, Option, Some, None, option_map}
+use Rattle.std.specs.Prelude.{nat_le}
+use Rattle.sim_base.specs.Clones.{clone_at, place_of}
+use Rattle.sim_base.specs.Decisions.{subject}
+use Rattle.sim_base.specs.declared.decision.Decision.{Decision}
+use Rattle.sim_base.specs.declared.decision.Decision.TheVariants.{Fork, Set, End}
+use Rattle.net_model.specs.Net.{Net}
+use Rattle.decision_book.specs.Journal.{Event, Situation, after, after_event, asked, clones_after, if_accepted, opening}
+use Rattle.decision_book.specs.Replies.{clone_rows, first_row, reply, row, rows}
+use Rattle.decision_book.specs.Right.{EachAfter, IsRight, MayFollow}
+use Rattle.decision_book.specs.Scripts.{accepted_of, if_taken}
+use Rattle.decision_book.specs.declared.call.Call.{Call}
+use Rattle.decision_book.specs.declared.call.Reply.{Reply}
+use Rattle.decision_book.specs.declared.call.Reply.TheVariants.{Accepted, Full, Closed, Ended}
+use Rattle.decision_book.specs.declared.call.TheConstants.{MOST_CALLS}
+use Rattle.decision_book.proofs.JournalScripts.{Passes, each_later, fold_append, kind_of}
+use Rattle.world_core.specs.Taking.{AreAccepted, IsAccepted, clones_after_calls, situation}
+
+-- ---- a journal that is not full
+-- the rows of a decision do not depend on how many calls there were
+rows_same : (s : Situation) (c : ℕ) (d : Decision) → rows s c d ≡ rows (situation s.net s.clones s.front) c d
+rows_same s c (Fork new old) = refl
+rows_same s c (Set who at station change) = refl
+rows_same s c (End who at) = refl
+
+clone_rows_same : (s : Situation) (d : Decision) (place : Option ℕ)
+    → clone_rows s d place ≡ clone_rows (situation s.net s.clones s.front) d place
+clone_rows_same s d None = refl
+clone_rows_same s d (Some c) = ap (λ r. option_map (λ at. Ended at) (clone_at s.clones c).end ∷ r) (rows_same s c d)
+
+not_full : (b : Bool) (more : List (Option Reply)) → first_row (row b Full ∷ more) ≡ Accepted
+    → first_row more ≡ Accepted
+not_full true more h = absurd (cc)
+not_full false more h = h
+
+-- what was accepted is accepted in a journal that is not full
+accepted_at : (s : Situation) (d : Decision) → reply s d ≡ Accepted → IsAccepted s.net s.clones s.front d
+accepted_at s d h =
+    ap (λ r. first_row (row (s.front == s.net.horizon) Closed ∷ r))
+    (sym (clone_rows_same s d (place_of (subject d) s.clones)))
+    ∙ not_full (nat_le MOST_CALLS s.calls)
+    (row (s.front == s.net.horizon) Closed ∷ clone_rows s d (place_of (subject d) s.clones)) h
+
+-- ---- calls behind a journal
+-- the calls are ones that a world takes, and it has the clones that they leave then
+pub record AreTaken (s : Situation) (cs : List Call) : Type 0 where
+  pub accepted : AreAccepted s.net s.clones s.front (accepted_of cs)
+  pub clones : (fold after_event s (map asked cs)).clones ≡ clones_after_calls s.net s.clones (accepted_of cs)
+
+abbrev moved : Situation → Decision → Situation
+moved s d = record s { clones = clones_after s.net s.clones d; calls = s.calls + 1 }
+
+taken_accepted : (s : Situation) (c : Call) (cs : List Call) → c.reply ≡ Accepted → reply s c.decision ≡ Accepted
+    → AreTaken (moved s c.decision) cs → AreTaken s (c ∷ cs)
+taken_accepted s c cs h is more =
+    let then : after_event s (asked c) ≡ moved s c.decision =
+    ap (λ r. record s { clones = if_accepted r (clones_after s.net s.clones c.decision) s.clones; calls = s.calls + 1 }) h in
+    let taken : if_taken c.reply c (accepted_of cs) ≡ c ∷ accepted_of cs = ap (λ r. if_taken r c (accepted_of cs)) h in
+    record {
+      accepted = subst (λ l. AreAccepted s.net s.clones s.front l) (sym taken)
+          (accepted_at s c.decision is, more.accepted);
+      clones = ap (λ (x : Situation). (fold after_event x (map asked cs)).clones) then ∙ more.clones
+          ∙ ap (clones_after_calls s.net s.clones) (sym taken);
+    }
+
+taken_refused : (s : Situation) (c : Call) (cs : List Call) → Passes c.reply
+    → AreTaken (record s { calls = s.calls + 1 }) cs → AreTaken s (c ∷ cs)
+taken_refused s c cs h more =
+    let then : after_event s (asked c) ≡ record s { calls = s.calls + 1 } =
+    ap (λ l. record s { clones = l; calls = s.calls + 1 }) (h.1 (clones_after s.net s.clones c.decision) s.clones) in
+    let taken : if_taken c.reply c (accepted_of cs) ≡ accepted_of cs = h.0 c (accepted_of cs) in
+    record {
+      accepted = subst (λ l. AreAccepted s.net s.clones s.front l) (sym taken) more.accepted;
+      clones = ap (λ (x : Situation). (fold after_event x (map asked cs)).clones) then ∙ more.clones
+          ∙ ap (clones_after_calls s.net s.clones) (sym taken);
+    }
+
+taken_from : (net : Net) (before : List Event) (cs : List Call) (s : Situation) → after net before ≡ s
+    → EachAfter (MayFollow net) before (map asked cs) → AreTaken s cs
+taken_from net before [] s is right = record { accepted = tt; clones = refl }
+taken_from net before (c ∷ cs) s is right =
+    let then = fold_append (opening net) before (asked c ∷ []) ∙ ap (λ (x : Situation). after_event x (asked c)) is in
+    let answer : c.reply ≡ reply s c.decision = right.0.answer ∙ ap (λ (x : Situation). reply x c.decision) is in
+    ⊎_elim
+    (λ (h : c.reply ≡ Accepted).
+    let now : after_event s (asked c) ≡ moved s c.decision =
+    ap (λ r. record s { clones = if_accepted r (clones_after s.net s.clones c.decision) s.clones; calls = s.calls + 1 }) h in
+    taken_accepted s c cs h (sym answer ∙ h) (taken_from net (before ++ asked c ∷ []) cs (moved s c.decision) (then ∙ now) right.1))
+    (λ (h : Passes c.reply).
+    let now : after_event s (asked c) ≡ record s { calls = s.calls + 1 } =
+    ap (λ l. record s { clones = l; calls = s.calls + 1 }) (h.1 (clones_after s.net s.clones c.decision) s.clones) in
+    taken_refused s c cs h (taken_from net (before ++ asked c ∷ []) cs (record s { calls = s.calls + 1 }) (then ∙ now) right.1))
+    (kind_of c.reply)
+
+-- calls behind a right journal
+pub taken_behind : (net : Net) (before : List Event) (cs : List Call) → IsRight net (before ++ map asked cs)
+    → AreTaken (after net before) cs
+taken_behind net before cs right =
+    taken_from net before cs (after net before) refl (each_later (MayFollow net) [] before (map asked cs) right)

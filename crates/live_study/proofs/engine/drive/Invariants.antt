@@ -1,0 +1,12 @@
+use Rattle.std.proofs.Common.{◌-◌}
+use Rattle.live_study.specs.Engines.{InStep, Steers}
+use Rattle.live_study.proofs.engine.drive.Given as goal
+
+abbrev pub invariant-turns : goal.invariant-turns
+invariant-turns g l = record {
+  steers : Steers l.initial.helm l.helm;
+  stands : InStep l.helm l.world;
+}
+
+abbrev pub decreases-turns : goal.decreases-turns
+decreases-turns g l = l.world.net.horizon - l.world.front

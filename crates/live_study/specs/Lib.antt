@@ -1,0 +1,3 @@
+pub mod Asking
+pub mod Engines
+pub mod Lives
