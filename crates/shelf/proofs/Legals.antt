@@ -1,0 +1,270 @@
+-- Legal lists of racks, and the last rack of a station.
+use Rattle.std.proofs.Common.{◌≡◌, ◌==◌, ℕ, zero, suc, ◌+◌, ◌<◌, ◌≤◌, Bool, true, false, List, [], ◌∷◌, ◌++◌, Option}
+use Rattle.std.proofs.Common.{Some, None, length, map, take, refl, ap, sym, ◌∙◌, subst, arith, slice_get, get_or, ◌-◌}
+use Rattle.std.proofs.lemmas.List.{length-map}
+use Rattle.std.specs.List.{AllByRecursion}
+use Rattle.std.proofs.lemmas.Bool.Decides.{nat_tests}
+use mathlib.Core.List.{IsPrefix}
+use Rattle.phys_proc.specs.Racks.{RackView}
+use Rattle.shelf.specs.Racks.{MayComeAfter, MayFollow, AreLegal, latest, or_this, if_this}
+use Rattle.shelf.specs.Racks.{HasRack, AreSeenUpTo, AreShown, OneEach, MayOpen}
+use Rattle.net_model.specs.Net.{Net}
+
+-- what holds of a list and of one more holds of both together
+all_with : {A : Type 0} (P : A → Type 0) (xs : List A) (y : A) → AllByRecursion P xs → P y
+    → AllByRecursion P (xs ++ y ∷ [])
+all_with P [] y h p = (p, tt)
+all_with P (x ∷ xs) y h p = (h.0, all_with P xs y h.1 p)
+
+-- one rack more that may follow leaves the list legal
+pub legal_with : (racks : List RackView) (r : RackView) → AreLegal racks → MayFollow racks r
+    → AreLegal (racks ++ r ∷ [])
+legal_with [] r legal may = (tt, tt)
+legal_with (q ∷ racks) r legal may =
+    (all_with (λ (r : RackView). MayComeAfter r q) racks r legal.0 may.0, legal_with racks r legal.1 may.1)
+
+-- ---- latest
+
+-- what holds of all racks holds of the last of a station, which is of this station
+pub latest-all : (P : RackView → Type 0) (s : ℕ) (racks : List RackView) (r : RackView) → AllByRecursion P racks
+    → latest s racks ≡ Some r → P r × (r.station ≡ s)
+latest-all P s [] r all e = absurd (cc)
+latest-all P s (q ∷ racks) r all e = by_later (λ f. latest-all P s racks r all.1 f) (latest s racks) refl
+    (q.station == s) refl e
+  where
+    by_later : (latest s racks ≡ Some r → P r × (r.station ≡ s)) → (o : Option RackView) → latest s racks ≡ o
+        → (b : Bool) → (q.station == s) ≡ b → or_this o b q ≡ Some r → P r × (r.station ≡ s)
+    by_later more (Some later) f b is e = more (f ∙ e)
+    by_later more None f true is e = let g : q ≡ r = cc in let h : q.station ≡ s = grind (arith, nat_tests) in
+        (subst P g all.0, ap (λ (x : RackView). x.station) (sym g) ∙ h)
+    by_later more None f false is e = absurd (cc)
+
+-- one rack more is the last of its station, and of the other stations nothing changes
+pub latest-with : (s : ℕ) (racks : List RackView) (r : RackView)
+    → latest s (racks ++ r ∷ []) ≡ if_this (r.station == s) r (latest s racks)
+latest-with s [] r = by_test (r.station == s)
+  where
+    by_test : (b : Bool) → or_this None b r ≡ if_this b r None
+    by_test true = refl
+    by_test false = refl
+latest-with s (q ∷ racks) r = ap (λ o. or_this o (q.station == s) q) (latest-with s racks r) ∙ by_test (r.station == s)
+  where
+    by_test : (b : Bool) → or_this (if_this b r (latest s racks)) (q.station == s) q ≡ if_this b r
+        (latest s (q ∷ racks))
+    by_test true = refl
+    by_test false = refl
+
+-- what goes on from a list shows of a station what the list showed, or what is later
+pub latest-later : (s : ℕ) (xs zs : List RackView) (q : RackView) → AreLegal (xs ++ zs) → latest s xs ≡ Some q
+    → (r : RackView) × (latest s (xs ++ zs) ≡ Some r) × (q.front ≤ r.front)
+latest-later s [] zs q legal e = absurd (cc)
+latest-later s (x ∷ xs) zs q legal e = by_rest (λ f. latest-later s xs zs q legal.1 f) (latest s xs) refl
+    (x.station == s) refl e
+  where
+    goal_at : Option RackView → Bool → Type 0
+    goal_at o b = (r : RackView) × (or_this o b x ≡ Some r) × (q.front ≤ r.front)
+
+    by_whole : (o : Option RackView) → latest s (xs ++ zs) ≡ o → x ≡ q → x.station ≡ s → goal_at o true
+    by_whole None f same here = (x, refl, omega (arith, ap (λ (r : RackView). r.front) same))
+    by_whole (Some r) f same here =
+        let h = latest-all (λ (r : RackView). MayComeAfter r x) s (xs ++ zs) r legal.0 f in
+        let l : x.front < r.front = h.0.later (here ∙ sym h.1) in
+        (r, refl, omega (arith, l, ap (λ (r : RackView). r.front) same))
+
+    by_rest : (latest s xs ≡ Some q → (r : RackView) × (latest s (xs ++ zs) ≡ Some r) × (q.front ≤ r.front))
+        → (o : Option RackView) → latest s xs ≡ o → (b : Bool) → (x.station == s) ≡ b → or_this o b x ≡ Some q
+        → goal_at (latest s (xs ++ zs)) (x.station == s)
+    by_rest more (Some later) f b is e =
+        let h = more (f ∙ e) in
+        (h.0, ap (λ o. or_this o (x.station == s) x) h.1, h.2)
+    by_rest more None f true is e =
+        let same : x ≡ q = cc in
+        let here : x.station ≡ s = grind (arith, nat_tests) in
+        subst (goal_at (latest s (xs ++ zs))) (sym is) (by_whole (latest s (xs ++ zs)) refl same here)
+    by_rest more None f false is e = absurd (cc)
+
+-- the same of a list that begins with the other
+pub front-later : (s : ℕ) (xs ys : List RackView) (q r : RackView) → AreLegal ys → IsPrefix xs ys
+    → latest s xs ≡ Some q → latest s ys ≡ Some r → q.front ≤ r.front
+front-later s xs ys q r legal begins e f =
+    let h = latest-later s xs begins.0 q (subst AreLegal (sym begins.1) legal) e in
+    let g : latest s ys ≡ Some h.0 = subst (λ zs. latest s zs ≡ Some h.0) begins.1 h.1 in
+    let same : r ≡ h.0 = of_some (sym f ∙ g) in
+    omega (arith, h.2, ap (λ (x : RackView). x.front) same)
+  where
+    of_some : {x y : RackView} → Some x ≡ Some y → x ≡ y
+    of_some e = cc
+
+-- a station that has a rack has one in a list that goes on
+has_on : (s : ℕ) (xs zs : List RackView) → HasRack s xs → HasRack s (xs ++ zs)
+has_on s [] zs has = let e = has.1 in absurd (cc)
+has_on s (x ∷ xs) zs has = by_rest (λ h. has_on s xs zs h) (latest s xs) refl (x.station == s) refl has.1
+  where
+    this_or : (o : Option RackView) → (r : RackView) × (or_this o true x ≡ Some r)
+    this_or (Some r) = (r, refl)
+    this_or None = (x, refl)
+
+    by_rest : (HasRack s xs → HasRack s (xs ++ zs)) → (o : Option RackView) → latest s xs ≡ o → (b : Bool)
+        → (x.station == s) ≡ b → or_this o b x ≡ Some has.0 → HasRack s (x ∷ (xs ++ zs))
+    by_rest more (Some later) f b is e = let h = more (later, f) in (h.0, ap (λ o. or_this o (x.station == s) x) h.1)
+    by_rest more None f true is e = subst (λ b. (r : RackView) × (or_this (latest s (xs ++ zs)) b x ≡ Some r))
+        (sym is) (this_or (latest s (xs ++ zs)))
+    by_rest more None f false is e = absurd (cc)
+
+-- and from then on
+pub has_later : (s : ℕ) (xs ys : List RackView) → IsPrefix xs ys → HasRack s xs → HasRack s ys
+has_later s xs ys begins has = subst (HasRack s) begins.1 (has_on s xs begins.0 has)
+
+-- ---- opening
+
+-- racks of later stations have none of an earlier one
+none_of : (s n : ℕ) (racks : List RackView) → s ≤ n
+    → ((i : ℕ) (r : RackView) → slice_get racks i ≡ Some r → r.station ≡ n + i + 1) → latest s racks ≡ None
+none_of s n [] l each = refl
+none_of s n (x ∷ xs) l each =
+    let h = each 0 x refl in
+    by_test (none_of s (n + 1) xs (omega (arith, l)) (λ i r e. let h = each (suc i) r e in omega (arith, h)))
+    (omega (arith, h, l)) (x.station == s) refl
+  where
+    by_test : latest s xs ≡ None → s < x.station → (b : Bool) → (x.station == s) ≡ b
+        → or_this (latest s xs) (x.station == s) x ≡ None
+    by_test rest above true is = let g : x.station ≡ s = grind (arith, nat_tests) in absurd (omega (arith, g, above))
+    by_test rest above false is = rw (rest, is) refl
+
+-- of one rack for each station, each is the last of its station
+opens_at : (n : ℕ) (racks : List RackView)
+    → ((i : ℕ) (r : RackView) → slice_get racks i ≡ Some r → r.station ≡ n + i + 1)
+    → (i : ℕ) → i < length racks → slice_get racks i ≡ latest (n + i + 1) racks
+opens_at n [] each i l = absurd (omega (arith, l))
+opens_at n (x ∷ xs) each zero l =
+    let none : latest (n + 0 + 1) xs ≡ None =
+    none_of (n + 0 + 1) (n + 1) xs (omega arith) (λ i r e. let h = each (suc i) r e in omega (arith, h)) in
+    let h = each 0 x refl in by_test (x.station == n + 0 + 1) refl none h
+  where
+    by_test : (b : Bool) → (x.station == n + 0 + 1) ≡ b → latest (n + 0 + 1) xs ≡ None → x.station ≡ n + 0 + 1
+        → Some x ≡ or_this (latest (n + 0 + 1) xs) (x.station == n + 0 + 1) x
+    by_test true is none h = rw (none, is) refl
+    by_test false is none h = absurd (grind (arith, nat_tests))
+opens_at n (x ∷ xs) each (suc i) l =
+    let h = opens_at (n + 1) xs (λ i r e. let h = each (suc i) r e in omega (arith, h)) i (omega (arith, l)) in
+    let g = each 0 x refl in
+    let k : (n + 1) + i + 1 ≡ n + suc i + 1 = omega arith in
+    subst (λ s. slice_get xs i ≡ latest s xs) k h ∙ by_test (x.station == n + suc i + 1) refl g
+    (latest (n + suc i + 1) xs)
+  where
+    by_test : (b : Bool) → (x.station == n + suc i + 1) ≡ b → x.station ≡ n + 0 + 1 → (o : Option RackView)
+        → o ≡ or_this o (x.station == n + suc i + 1) x
+    by_test true is g o = absurd (grind (arith, nat_tests))
+    by_test false is g None = rw is refl
+    by_test false is g (Some r) = refl
+
+-- what holds at each place holds of all
+all_at : {A : Type 0} (P : A → Type 0) (xs : List A)
+    → ((i : ℕ) (x : A) → i < length xs → slice_get xs i ≡ Some x → P x) → AllByRecursion P xs
+all_at P [] f = tt
+all_at P (x ∷ xs) f = (f 0 x (omega arith) refl, all_at P xs (λ i y l e. f (suc i) y (omega (arith, l)) e))
+
+pub opens : (racks : List RackView) → OneEach racks → AreShown racks racks
+opens racks each = record {
+  each = λ i l. let h = opens_at 0 racks (λ i r e. let h = each i r e in omega (arith, h)) i l in
+      subst (λ s. slice_get racks i ≡ latest s racks) (zero_more i) h;
+  all = λ s has. let h = latest-all (λ (r : RackView). (1 ≤ r.station) × (r.station ≤ length racks)) s racks has.0
+      within has.1 in
+      subst (λ s. (1 ≤ s) × (s ≤ length racks)) h.1 h.0;
+}
+  where
+    zero_more : (i : ℕ) → 0 + i + 1 ≡ i + 1
+    zero_more i = omega arith
+
+    within : AllByRecursion (λ (r : RackView). (1 ≤ r.station) × (r.station ≤ length racks)) racks
+    within = all_at (λ (r : RackView). (1 ≤ r.station) × (r.station ≤ length racks)) racks
+        (λ i r l e. let h = each i r e in (omega (arith, h), omega (arith, h, l)))
+
+-- each of the opening racks may follow those before it
+pub may_open : (racks : List RackView) (i : ℕ) (r : RackView) → MayOpen racks → slice_get racks i ≡ Some r
+    → MayFollow (take i racks) r
+may_open racks i r may e = of_part racks i (λ j q l f. record {
+  net = may.net j i q r f e;
+  later = λ same. let h = may.each j q f in let g = may.each i r e in absurd (omega (arith, h, g, same, l));
+})
+  where
+    of_part : (xs : List RackView) (i : ℕ)
+        → ((j : ℕ) (q : RackView) → j < i → slice_get xs j ≡ Some q → MayComeAfter r q) → MayFollow (take i xs) r
+    of_part [] zero f = tt
+    of_part [] (suc i) f = tt
+    of_part (x ∷ xs) zero f = tt
+    of_part (x ∷ xs) (suc i) f = (f 0 x (omega arith) refl, of_part xs i (λ j q l e. f (suc j) q (omega (arith, l)) e))
+
+-- the image of what stands at a place
+image_at : {A : Type 0} (f : A → RackView) (xs : List A) (i : ℕ) (x : A) → i < length xs → x ≡ get_or xs i x
+    → slice_get (map f xs) i ≡ Some (f x)
+image_at f [] i x l e = absurd (omega (arith, l))
+image_at f (y ∷ ys) zero x l e = ap (λ z. Some (f z)) (sym e)
+image_at f (y ∷ ys) (suc i) x l e = image_at f ys i x (omega (arith, l)) e
+
+-- the first elements and the one behind them
+take_more : (ys : List RackView) (i : ℕ) (y : RackView) → slice_get ys i ≡ Some y
+    → take (i + 1) ys ≡ take i ys ++ y ∷ []
+take_more [] i y e = absurd (cc)
+take_more (z ∷ zs) zero y e = let h : z ≡ y = cc in ap (λ w. w ∷ []) h
+take_more (z ∷ zs) (suc i) y e = ap (λ n. take n (z ∷ zs)) (one_more i) ∙ ap (λ l. z ∷ l) (take_more zs i y e)
+  where
+    one_more : (i : ℕ) → suc i + 1 ≡ suc (i + 1)
+    one_more i = omega arith
+
+-- the next of the opening racks may follow those before it, and with it they are one more
+pub open_next : {A : Type 0} (f : A → RackView) (xs : List A) (i : ℕ) (x : A) (r : RackView) (published : List RackView)
+    → published ≡ take i (map f xs) → MayOpen (map f xs) → i < length xs → x ≡ get_or xs i x → r ≡ f x
+    → MayFollow published r × (published ++ r ∷ [] ≡ take (i + 1) (map f xs))
+open_next f xs i x r published e may l got is =
+    let g : slice_get (map f xs) i ≡ Some r = image_at f xs i x l got ∙ ap Some (sym is) in (
+      subst (λ q. MayFollow q r) (sym e) (may_open (map f xs) i r may g),
+      ap (λ q. q ++ r ∷ []) e
+          ∙ sym (take_more (map f xs) i r g),
+    )
+
+-- a rack that readers are shown is the last of its station
+pub shown_at : {A : Type 0} (f : A → RackView) (xs : List A) (published : List RackView) (s : ℕ) (x : A)
+    → AreShown (map f xs) published → HasRack s published → x ≡ get_or xs (s - 1) x → latest s published ≡ Some (f x)
+shown_at f xs published s x shown has got =
+    let k = shown.all s has in
+    let l : s - 1 < length xs = omega (arith, k.0, k.1, length-map xs f) in
+    let m : s - 1 < length (map f xs) = omega (arith, l, length-map xs f) in
+    let e : s - 1 + 1 ≡ s = omega (arith, k.0) in
+    sym (subst (λ n. slice_get (map f xs) (s - 1) ≡ latest n published) e (shown.each (s - 1) m))
+    ∙ image_at f xs (s - 1) x l got
+
+-- the place of the shown racks at which the rack of a station stands
+pub has_place : {A : Type 0} (f : A → RackView) (xs : List A) (published : List RackView) (s : ℕ)
+    → AreShown (map f xs) published → HasRack s published → (1 ≤ s) × (s ≤ length xs)
+has_place f xs published s shown has = let k = shown.all s has in (k.0, omega (arith, k.1, length-map xs f))
+
+-- ---- racks up to a front
+
+-- a rack of a later front may follow
+pub seen_follows : (net : Net) (front : ℕ) (racks : List RackView) (r : RackView) → AreSeenUpTo net front racks
+    → r.net ≡ net → front < r.front → MayFollow racks r
+seen_follows net front [] r seen e l = tt
+seen_follows net front (q ∷ racks) r seen e l =
+    let same : r.net ≡ q.net = e ∙ sym seen.0.0 in
+    let f : q.front < r.front = let h = seen.0.1 in omega (arith, h, l) in
+    (record { net = same; later = λ s. f }, seen_follows net front racks r seen.1 e l)
+
+-- and with it they are seen up to its front
+pub seen_with : (net : Net) (front : ℕ) (racks : List RackView) (r : RackView) → AreSeenUpTo net front racks
+    → r.net ≡ net → front ≤ r.front
+    → AreSeenUpTo net r.front (racks ++ r ∷ [])
+seen_with net front racks r seen e l = all_with (λ (q : RackView). (q.net ≡ net) × (q.front ≤ r.front)) racks r
+    (later racks seen) (e, omega arith)
+  where
+    later : (racks : List RackView) → AreSeenUpTo net front racks → AreSeenUpTo net r.front racks
+    later [] seen = tt
+    later (q ∷ racks) seen = let h = seen.0.1 in ((seen.0.0, omega (arith, h, l)), later racks seen.1)
+
+-- a station that has a rack has one also with one rack more
+pub has_with : (s : ℕ) (racks : List RackView) (r : RackView) → HasRack s racks → HasRack s (racks ++ r ∷ [])
+has_with s racks r has = by_test (r.station == s) (latest-with s racks r)
+  where
+    by_test : (b : Bool) → latest s (racks ++ r ∷ []) ≡ if_this b r (latest s racks) → HasRack s (racks ++ r ∷ [])
+    by_test true e = (r, e)
+    by_test false e = (has.0, e ∙ has.1)

@@ -1,0 +1,4 @@
+pub mod Prefixes
+pub mod Legals
+pub mod Adding
+pub mod Replacing

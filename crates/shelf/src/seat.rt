@@ -1,0 +1,112 @@
+//! Readers.
+ghost use Rattle.std.specs.Prelude.{◌≡◌, ◌≤◌, Some, IfSome, MatchBool};
+ghost use mathlib.Core.List.{IsPrefix};
+ghost use Rattle.phys_proc.specs.Racks.{RackView};
+ghost use Rattle.shelf.specs.Racks.{AreLegal, HasRack, IsGlance, latest};
+
+use crate::history::{Naming, Published};
+use crate::version::{Shown, Version};
+use left_right::ReadHandle;
+use phys_proc::Glance;
+use sim_base::Name;
+use std::marker::Model;
+use std::sync::Arc;
+
+/// What was published up to some time, for a seat to learn. The stocker alone makes it.
+#[derive(Drop)]
+pub struct Told<J: Naming> {
+    pub(crate) version: Arc<Version<J>>,
+}
+
+impl<J: Naming> Model for Told<J> {
+    ghost use Rattle.std.specs.Prelude.{List};
+    ghost use Rattle.phys_proc.specs.Racks.{RackView};
+
+    ghost Value = { List RackView };
+
+    ghost view = { λ t. t.version.value };
+}
+
+/// A reader. Contracts see the racks that it knows: all that were published up to what it last saw or learnt.
+#[derive(Drop)]
+pub struct Seat<J: Naming> {
+    pub(crate) handle: ReadHandle<Shown<J>>,
+    pub(crate) newest: Arc<Version<J>>,
+}
+
+impl<J: Naming> Model for Seat<J> {
+    ghost use Rattle.std.specs.Prelude.{List};
+    ghost use Rattle.phys_proc.specs.Racks.{RackView};
+
+    ghost Value = { List RackView };
+
+    ghost view = { λ s. s.newest.value };
+}
+
+// Whether b knows more than a; else a knows all that b knows.
+fn is_behind<J: Naming>(a: &Published<J>, b: &Published<J>) -> bool
+    ensures value { MatchBool result (IsPrefix a.now b.now) (IsPrefix b.now a.now) }
+{
+    let _both = a.longer(b);
+    a.len() < b.len()
+}
+
+// The version that is shown, where it has more than what is known.
+fn newer<J: Naming>(
+    handle: &mut ReadHandle<Shown<J>>,
+    known: &Published<J>,
+) -> Option<Arc<Version<J>>>
+    ensures begins { IfSome result (λ v. IsPrefix known.now v.value) }
+{
+    let guard = handle.enter()?;
+    if !is_behind(known, guard.version.published()) {
+        return None;
+    }
+    let again = Arc::try_clone(&guard.version).ok()?;
+    drop(guard);
+    Some(again)
+}
+
+// Takes the newest version that there is, where that can be had.
+fn refresh<J: Naming>(handle: &mut ReadHandle<Shown<J>>, newest: &mut Arc<Version<J>>)
+    ensures begins { IsPrefix newest.old.value newest.new.value }
+{
+    if let Some(version) = newer(handle, newest.published()) {
+        *newest = version;
+    }
+}
+
+// What the version tells of the clone of this name at a station.
+fn glanced<J: Naming>(version: &Version<J>, station: u32, who: &Name) -> Glance
+    requires there { HasRack station version.now }
+    ensures glance { (r : RackView) × (latest station version.now ≡ Some r) × IsGlance r who.now result }
+{
+    version.rack(station).glance(who)
+}
+
+impl<J: Naming> Seat<J> {
+    /// Looks at the station's newest rack. It waits for nobody, takes no memory, and always answers.
+    pub fn look(&mut self, station: u32, who: &Name) -> Glance
+        requires there { HasRack station self.old }
+        ensures begins { IsPrefix self.old self.new }
+        ensures legal { AreLegal self.new }
+        // the answer is that of the last rack of the station that was published, and no older than what was known
+        ensures glance { (r : RackView) × (latest station self.new ≡ Some r) × IsGlance r who.now result }
+        ensures front { (r : RackView) → latest station self.old ≡ Some r → r.front ≤ result.front }
+    {
+        refresh(&mut self.handle, &mut self.newest);
+        let _legal = self.newest.published().len();
+        glanced(&self.newest, station, who)
+    }
+
+    /// Learns what was published: no later look is older.
+    pub fn learn(&mut self, told: Told<J>)
+        ensures begins { IsPrefix self.old self.new }
+        ensures told { IsPrefix told self.new }
+    {
+        let Told { version } = told;
+        if is_behind(self.newest.published(), version.published()) {
+            self.newest = version;
+        }
+    }
+}

@@ -1,0 +1,252 @@
+//! The one that publishes.
+ghost use Rattle.std.specs.Prelude.{All, ◌≡◌, ◌+◌, ◌<◌, ◌≤◌, ◌^◌, ◌++◌, ◌∷◌, []};
+ghost use Rattle.std.specs.Prelude.{length, map, List, Some, IfOk, IfSome, IfNone, OnOk, OnErr};
+ghost use Rattle.std.specs.Arc.{arc_value};
+ghost use Rattle.phys_proc.specs.Racks.{RackView};
+ghost use Rattle.shelf.specs.Racks.{AreShown, HasRack, MayFollow, MayOpen, with_rack};
+
+use crate::history::{History, Naming, Opened, Published};
+use crate::seat::{Seat, Told};
+use crate::version::{Put, Shown, Version};
+use left_right::{Absorb, WriteHandle};
+use phys_proc::Rack;
+use sim_base::NoMemory;
+use std::alloc::Global;
+use std::sync::{Arc, Wait};
+
+/// The most racks that a history may have.
+const MOST_RACKS: u64 = 1 << 61;
+
+// Handles of one version, so many.
+fn handles<J: Naming>(
+    alloc: Global,
+    version: &Arc<Version<J>>,
+    many: u32,
+) -> Result<Vec<Arc<Version<J>>>, NoMemory>
+    ensures many { IfOk result (λ v. length v.items ≡ many) }
+    ensures each { IfOk result (λ v. All (λ a. arc_value a ≡ version.now.value) v.items) }
+{
+    let mut all = Vec::with_capacity(alloc, many as usize)?;
+    for _ in 0..many {
+        all.push(Arc::try_clone(version)?)?;
+    }
+    Ok(all)
+}
+
+// What stands at a place of the racks, where this one is put at its own.
+fn at_place(
+    racks: &[Arc<Rack>],
+    rack: &Arc<Rack>,
+    place: usize,
+    i: usize,
+) -> Result<Arc<Rack>, NoMemory>
+    requires there { i < length racks.now }
+    ensures value { IfOk result (λ a. Some a.value ≡ with_rack (map arc_value racks.now) place rack.now.value i) }
+{
+    if i == place {
+        return Ok(Arc::try_clone(rack)?);
+    }
+    Ok(Arc::try_clone(&racks[i])?)
+}
+
+// The racks with this one at its station's place.
+fn replaced(
+    alloc: Global,
+    racks: &[Arc<Rack>],
+    rack: &Arc<Rack>,
+) -> Result<Vec<Arc<Rack>>, NoMemory>
+    ensures shown { IfOk result (λ v. (published : List RackView) → AreShown (map arc_value racks.now) published →
+        HasRack rack.now.value.station published →
+        AreShown (map arc_value v.items) (published ++ rack.now.value ∷ [])) }
+{
+    let place = rack.station().saturating_sub(1) as usize;
+    let mut all = Vec::with_capacity(alloc, racks.len())?;
+    for i in 0..racks.len() {
+        let next = at_place(racks, rack, place, i)?;
+        all.push(next)?;
+    }
+    Ok(all)
+}
+
+// The opening racks as the first of the history.
+fn first_published<J: Naming>(
+    history: &History<J>,
+    nothing: Published<J>,
+    racks: &[Arc<Rack>],
+) -> Result<Published<J>, NoMemory>
+    requires nothing { nothing ≡ [] }
+    requires opening { MayOpen (map arc_value racks.now) }
+    requires few { length racks.now ≤ 64 }
+    ensures opening { IfOk result (λ p. p ≡ map arc_value racks.now) }
+{
+    let mut published = nothing;
+    for i in 0..racks.len() {
+        if !published.add(history, &racks[i]) {
+            return Err(NoMemory);
+        }
+    }
+    Ok(published)
+}
+
+/// The one that publishes. It has a handle of the newest version for each reader, to tell of it.
+#[derive(Drop)]
+pub struct Stocker<J: Naming, R: Wait + Drop>
+where
+    Shown<J>: Absorb<Put<J>, State = ()>,
+{
+    writer: WriteHandle<Shown<J>, Put<J>, R>,
+    history: History<J>,
+    newest: Arc<Version<J>>,
+    /// The racks that were published, the opening ones first.
+    pub published: Published<J>,
+    /// How many readers there are.
+    pub readers: u32,
+    /// A handle for each reader that was not told of the last publish.
+    pub spares: Vec<Arc<Version<J>>>,
+    ghost newest_is: { newest.value ≡ published },
+    ghost spares_are: { All (λ a. arc_value a ≡ published) spares.items },
+}
+
+// The version that comes after this one with a rack more, and what is published then.
+fn next_version<J: Naming>(
+    alloc: Global,
+    history: &History<J>,
+    published: &Published<J>,
+    newest: &Version<J>,
+    rack: Rack,
+) -> Result<(Published<J>, Arc<Version<J>>), NoMemory>
+    requires few { length published.now < 2 ^ 62 }
+    requires newest { newest.now ≡ published.now }
+    requires there { HasRack rack.station published.now }
+    requires may { MayFollow published.now rack }
+    ensures published { IfOk result (λ p. p.0 ≡ published.now ++ rack ∷ []) }
+    ensures version { IfOk result (λ p. p.1.value ≡ published.now ++ rack ∷ []) }
+{
+    let mut next = published.again();
+    let rack = Arc::new(alloc, rack)?;
+    let racks = replaced(alloc, newest.racks(), &rack)?;
+    if !next.add(history, &rack) {
+        return Err(NoMemory);
+    }
+    let version = Version::of(next.again(), racks);
+    Ok((next, Arc::new(alloc, version)?))
+}
+
+impl<J: Naming, R: Wait + Drop> Stocker<J, R>
+where
+    Shown<J>: Absorb<Put<J>, State = ()>,
+{
+    /// Makes this the rack of its station for all looks from now on. Out of memory readers see what they saw.
+    pub fn publish(&mut self, alloc: Global, rack: Rack) -> Result<(), NoMemory>
+        requires there { HasRack rack.station self.old.published }
+        requires may { MayFollow self.old.published rack }
+        ensures published { OnOk result (self.new.published ≡ self.old.published ++ rack ∷ []) }
+        ensures spares { OnOk result (length self.new.spares.items ≡ self.old.readers) }
+        ensures readers { self.new.readers ≡ self.old.readers }
+        ensures same { OnErr result ((self.new.published ≡ self.old.published)
+            × (self.new.spares.items ≡ self.old.spares.items)) }
+    {
+        if self.published.len() >= MOST_RACKS {
+            return Err(NoMemory);
+        }
+        let (next, version) = next_version(
+            alloc,
+            &self.history,
+            &self.published,
+            &self.newest,
+            rack,
+        )?;
+        let spares = handles(alloc, &version, self.readers)?;
+        let newest = Arc::try_clone(&version)?;
+        self.writer.append(Put::of(version)?).map_err(|_| NoMemory)?;
+        self.writer.publish()?;
+        self.published = next;
+        self.newest = newest;
+        self.spares = spares;
+        Ok(())
+    }
+
+    /// Tells what was published, once for each reader since the last publish. It takes no memory.
+    pub fn told(&mut self) -> Option<Told<J>>
+        ensures some { IfSome result (λ t. (t ≡ self.old.published)
+            × (length self.old.spares.items ≡ length self.new.spares.items + 1)) }
+        ensures none { IfNone result (length self.old.spares.items ≡ 0) }
+        ensures published { self.new.published ≡ self.old.published }
+        ensures readers { self.new.readers ≡ self.old.readers }
+    {
+        let version = self.spares.pop()?;
+        Some(Told { version })
+    }
+}
+
+// The racks, each to be shared.
+fn shared(alloc: Global, racks: Vec<Rack>) -> Result<Vec<Arc<Rack>>, NoMemory>
+    ensures value { IfOk result (λ v. map arc_value v.items ≡ racks.items) }
+{
+    let mut all = Vec::with_capacity(alloc, racks.len())?;
+    for rack in racks {
+        all.push(Arc::new(alloc, rack)?)?;
+    }
+    Ok(all)
+}
+
+// A seat for each reader, with the opening version.
+fn seats<J: Naming, R: Wait + Drop>(
+    alloc: Global,
+    writer: &WriteHandle<Shown<J>, Put<J>, R>,
+    version: &Arc<Version<J>>,
+    readers: u32,
+) -> Result<Vec<Seat<J>>, NoMemory>
+    ensures many { IfOk result (λ v. length v.items ≡ readers) }
+    ensures each { IfOk result (λ v. All (λ s. s ≡ version.now.value) v.items) }
+{
+    let mut all = Vec::with_capacity(alloc, readers as usize)?;
+    for _ in 0..readers {
+        let handle = writer.factory()?.handle()?;
+        let newest = Arc::try_clone(version)?;
+        all.push(Seat { handle, newest })?;
+    }
+    Ok(all)
+}
+
+/// The stocker and a seat for each reader, over a history that gets its name here. It opens with these racks.
+pub fn begin<J: Naming, R: Wait + Drop>(
+    rt: R,
+    alloc: Global,
+    opened: Opened,
+    racks: Vec<Rack>,
+    readers: u32,
+) -> Result<(Stocker<J, R>, Vec<Seat<J>>), NoMemory>
+    requires name { opened.seen.book ≡ J.book }
+    requires opening { MayOpen racks.items }
+    requires few { length racks.items ≤ 64 }
+    requires some { 1 ≤ readers }
+    requires most { readers ≤ 16 }
+    ensures published { IfOk result (λ r. r.0.published ≡ racks.items) }
+    ensures readers { IfOk result (λ r. r.0.readers ≡ readers) }
+    ensures spares { IfOk result (λ r. r.0.spares.items ≡ []) }
+    ensures many { IfOk result (λ r. length r.1.items ≡ readers) }
+    ensures seats { IfOk result (λ r. All (λ s. s ≡ racks.items) r.1.items) }
+{
+    let (history, nothing) = opened.named::<J>();
+    let racks = shared(alloc, racks)?;
+    let published = first_published(&history, nothing, racks.as_slice())?;
+    let version = Arc::new(alloc, Version::of(published.again(), racks))?;
+    let first = Shown {
+        version: Arc::try_clone(&version)?,
+    };
+    let second = Shown {
+        version: Arc::try_clone(&version)?,
+    };
+    let writer = WriteHandle::new(alloc, rt, first, second, readers as usize)?;
+    let seats = seats(alloc, &writer, &version, readers)?;
+    let stocker = Stocker {
+        writer,
+        history,
+        newest: version,
+        published,
+        readers,
+        spares: Vec::new(alloc),
+    };
+    Ok((stocker, seats))
+}
