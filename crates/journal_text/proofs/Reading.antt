@@ -1,5 +1,6 @@
 -- The lines of a journal that are no comments are read as the accepted decisions.
-use Rattle.std.proofs.Common.{◌≡◌, ⊎_elim, ℕ, ◌+◌, ◌<◌, ◌≤◌, true, nat_lt, List, [], ◌∷◌, ◌++◌, length, map, Result, Ok, refl, sym, ap, ap₂, ◌∙◌, subst, arith, append_assoc, append-nil}
+use Rattle.std.proofs.Common.{◌≡◌, ⊎_elim, ℕ, ◌+◌, ◌<◌, ◌≤◌, true, nat_lt, List, [], ◌∷◌, ◌++◌, length}
+use Rattle.std.proofs.Common.{map, Result, Ok, refl, sym, ap, ap₂, ◌∙◌, subst, arith, append_assoc, append-nil}
 use Rattle.std.specs.List.{AllByRecursion, join_with_byte}
 use Rattle.std.proofs.lemmas.Bool.Decides.{nat_tests}
 use Rattle.std.proofs.lemmas.List.{length_push}
@@ -25,13 +26,16 @@ use Rattle.journal_text.proofs.Sections.{IsInForce, after_words, missing, name_k
 
 -- ---- after_line
 after_act : (line : ℕ) (r : Reading) (act : Act) → IsAct act → length r.items < 4096
-    → after_line line r (join_with_byte 32 (words_of_act act)) ≡ Ok (record r { items = r.items ++ (record { line = line; analyst = r.current; act = act }) ∷ [] })
+    → after_line line r (join_with_byte 32 (words_of_act act))
+    ≡ Ok (record r { items = r.items ++ (record { line = line; analyst = r.current; act = act }) ∷ [] })
 after_act line r act h few =
     let lt : nat_lt (length r.items) 4096 ≡ true = grind (arith, nat_tests) in
-    after_words line r (words_of_act act) (act_words act h) ∙ ap (λ x. at_line line x >>= after_saying line r) (saying-act act h) ∙ rw lt refl
+    after_words line r (words_of_act act) (act_words act h) ∙ ap (λ x. at_line line x >>= after_saying line r)
+    (saying-act act h) ∙ rw lt refl
 
 -- what comes of reading: analysts and items behind those of before, the items being these calls
-pub record ReadOn (analysts : List (List ℕ)) (r : Reading) (given : Result Reading ScriptFault) (calls : List Call) : Type 0 where
+pub record ReadOn (analysts : List (List ℕ)) (r : Reading) (given : Result Reading ScriptFault) (calls : List Call) :
+    Type 0 where
   pub after : Reading
   pub names : List (List ℕ)
   pub new : List Item
@@ -41,8 +45,10 @@ pub record ReadOn (analysts : List (List ℕ)) (r : Reading) (given : Result Rea
   pub said : map (who_does after.analysts) new ≡ map (who_decided analysts) calls
 
 -- behind a section
-over_section : (analysts : List (List ℕ)) (line : ℕ) (r : Reading) (name l : List ℕ) (rest : List (List ℕ)) (calls : List Call) → (s : IsInForce analysts r name (after_line line r l))
-    → ReadOn analysts s.next (after_lines (line + 1) s.next rest) calls → ReadOn analysts r (after_lines line r (l ∷ rest)) calls
+over_section : (analysts : List (List ℕ)) (line : ℕ) (r : Reading) (name l : List ℕ) (rest : List (List ℕ))
+    (calls : List Call) → (s : IsInForce analysts r name (after_line line r l))
+    → ReadOn analysts s.next (after_lines (line + 1) s.next rest) calls
+    → ReadOn analysts r (after_lines line r (l ∷ rest)) calls
 over_section analysts line r name l rest calls s m = record {
   after = m.after;
   names = s.names ++ m.names;
@@ -58,19 +64,23 @@ abbrev with_item : ℕ → Reading → Act → Reading
 with_item line r act = record r { items = r.items ++ (record { line = line; analyst = r.current; act = act }) ∷ [] }
 
 -- behind a decision
-over_decision : (analysts : List (List ℕ)) (line : ℕ) (r : Reading) (c : Call) (rest : List (List ℕ)) (calls : List Call) → IsDecision c.decision → length r.items < 4096
+over_decision : (analysts : List (List ℕ)) (line : ℕ) (r : Reading) (c : Call) (rest : List (List ℕ))
+    (calls : List Call) → IsDecision c.decision → length r.items < 4096
     → 1 ≤ r.current → r.current ≤ length r.analysts → analyst_name r.analysts r.current ≡ analyst_name analysts c.caller
-    → ReadOn analysts (with_item line r (Decide c.decision)) (after_lines (line + 1) (with_item line r (Decide c.decision)) rest) calls
+    → ReadOn analysts (with_item line r (Decide c.decision))
+    (after_lines (line + 1) (with_item line r (Decide c.decision)) rest) calls
     → ReadOn analysts r (after_lines line r (join_with_byte 32 (words_of_decision c.decision) ∷ rest)) (c ∷ calls)
 over_decision analysts line r c rest calls h few low high name m =
     let item : Item = record { line = line; analyst = r.current; act = Decide c.decision } in
     let same : analyst_name m.after.analysts r.current ≡ analyst_name analysts c.caller =
-    ap (λ names. analyst_name names r.current) m.analysts_are ∙ name_kept r.analysts m.names r.current low high ∙ name in
+    ap (λ names. analyst_name names r.current) m.analysts_are ∙ name_kept r.analysts m.names r.current low high
+    ∙ name in
     record {
       after = m.after;
       names = m.names;
       new = item ∷ m.new;
-      read = then line r (with_item line r (Decide c.decision)) (join_with_byte 32 (words_of_decision c.decision)) rest (after_act line r (Decide c.decision) h few) ∙ m.read;
+      read = then line r (with_item line r (Decide c.decision)) (join_with_byte 32 (words_of_decision c.decision))
+          rest (after_act line r (Decide c.decision) h few) ∙ m.read;
       analysts_are = m.analysts_are;
       items_are = m.items_are ∙ append_assoc r.items (item ∷ []) m.new;
       said = ap₂ (λ n more. (n, Decide c.decision) ∷ more) same m.said;
@@ -87,38 +97,64 @@ abbrev joined : List (List (List ℕ)) → List (List ℕ)
 joined ls = map (join_with_byte 32) ls ++ ([] ∷ [])
 
 -- the lines of events, up to the end of the text
-pub events_read : (analysts : List (List ℕ)) (line : ℕ) (r : Reading) (es : List Event) → length analysts ≤ 16 → length r.analysts + missing r.analysts analysts ≤ length analysts
+pub events_read : (analysts : List (List ℕ)) (line : ℕ) (r : Reading) (es : List Event) → length analysts ≤ 16
+    → length r.analysts + missing r.analysts analysts ≤ length analysts
     → AllByRecursion (IsCallBy analysts) (calls_of es) → length r.items + length (calls_of es) ≤ 4096
     → ReadOn analysts r (after_lines line r (joined (said_lines analysts es))) (accepted_of (calls_of es))
 unfolding after_lines after_line
-events_read analysts line r [] most fits h few = record { after = r; names = []; new = []; read = refl; analysts_are = sym (append-nil r.analysts); items_are = sym (append-nil r.items); said = refl }
+events_read analysts line r [] most fits h few =
+    record {
+      after = r;
+      names = [];
+      new = [];
+      read = refl;
+      analysts_are = sym (append-nil r.analysts);
+      items_are = sym (append-nil r.items);
+      said = refl;
+    }
 events_read analysts line r (raised f ∷ es) most fits h few = events_read analysts line r es most fits h few
 events_read analysts line r (asked c ∷ es) most fits h few =
     let s = section_read analysts line r c.caller h.0.low h.0.high h.0.named most fits in
     let len : length s.next.items ≡ length r.items = ap length s.items in
-    over_section analysts line r (analyst_name analysts c.caller) (join_with_byte 32 (words_of_section (analyst_name analysts c.caller))) (joined (if_decided c.reply c.decision (said_lines analysts es))) (if_taken c.reply c (accepted_of (calls_of es))) s
+    over_section analysts line r (analyst_name analysts c.caller)
+    (join_with_byte 32 (words_of_section (analyst_name analysts c.caller)))
+    (joined (if_decided c.reply c.decision (said_lines analysts es)))
+    (if_taken c.reply c (accepted_of (calls_of es))) s
     (⊎_elim
     (λ (e : c.reply ≡ Accepted).
     let next : Reading = with_item (line + 1) s.next (Decide c.decision) in
-    let longer = length_push s.next.items (record { line = line + 1; analyst = s.next.current; act = Decide c.decision }) in
+    let longer = length_push s.next.items
+    (record { line = line + 1; analyst = s.next.current; act = Decide c.decision }) in
     let more = events_read analysts (line + 1 + 1) next es most s.fits h.1 (omega (arith, longer, len, few)) in
-    subst (λ x. ReadOn analysts s.next (after_lines (line + 1) s.next (joined (if_decided x c.decision (said_lines analysts es)))) (if_taken x c (accepted_of (calls_of es)))) (sym e)
-    (over_decision analysts (line + 1) s.next c (joined (said_lines analysts es)) (accepted_of (calls_of es)) h.0.decision (omega (arith, len, few)) s.low s.high s.name_is more))
+    subst (λ x. ReadOn analysts s.next
+    (after_lines (line + 1) s.next (joined (if_decided x c.decision (said_lines analysts es))))
+    (if_taken x c (accepted_of (calls_of es)))) (sym e)
+    (over_decision analysts (line + 1) s.next c (joined (said_lines analysts es))
+    (accepted_of (calls_of es)) h.0.decision (omega (arith, len, few)) s.low s.high s.name_is more))
     (λ (e : IsRefused c.reply).
     let more = events_read analysts (line + 1) s.next es most s.fits h.1 (omega (arith, len, few)) in
-    subst (λ ls. ReadOn analysts s.next (after_lines (line + 1) s.next (joined ls)) (if_taken c.reply c (accepted_of (calls_of es)))) (sym (not_decided c.reply e c.decision (said_lines analysts es)))
-    (subst (λ cs. ReadOn analysts s.next (after_lines (line + 1) s.next (joined (said_lines analysts es))) cs) (sym (e.taken c (accepted_of (calls_of es)))) more))
+    subst (λ ls. ReadOn analysts s.next (after_lines (line + 1) s.next (joined ls))
+    (if_taken c.reply c (accepted_of (calls_of es))))
+    (sym (not_decided c.reply e c.decision (said_lines analysts es)))
+    (subst (λ cs. ReadOn analysts s.next (after_lines (line + 1) s.next (joined (said_lines analysts es))) cs)
+    (sym (e.taken c (accepted_of (calls_of es)))) more))
     (kind_of c.reply))
 
 -- the words of these lines are words
-pub said_words : (analysts : List (List ℕ)) (es : List Event) → AllByRecursion (IsCallBy analysts) (calls_of es) → AllByRecursion (AllByRecursion IsWord) (said_lines analysts es)
+pub said_words : (analysts : List (List ℕ)) (es : List Event) → AllByRecursion (IsCallBy analysts) (calls_of es)
+    → AllByRecursion (AllByRecursion IsWord) (said_lines analysts es)
 said_words analysts [] h = tt
 said_words analysts (raised f ∷ es) h = said_words analysts es h
 said_words analysts (asked c ∷ es) h = (
   section_words (analyst_name analysts c.caller) h.0.named,
   ⊎_elim
-      (λ (e : c.reply ≡ Accepted). subst (λ x. AllByRecursion (AllByRecursion IsWord) (if_decided x c.decision (said_lines analysts es))) (sym e) (act_words (Decide c.decision) h.0.decision, said_words analysts es h.1))
-      (λ (e : IsRefused c.reply). subst (λ ls. AllByRecursion (AllByRecursion IsWord) ls) (sym (not_decided c.reply e c.decision (said_lines analysts es))) (said_words analysts es h.1))
+      (λ (e : c.reply ≡ Accepted). subst (λ x. AllByRecursion (AllByRecursion IsWord)
+      (if_decided x c.decision (said_lines analysts es))) (sym e) (
+        act_words (Decide c.decision) h.0.decision,
+        said_words analysts es h.1,
+      ))
+      (λ (e : IsRefused c.reply). subst (λ ls. AllByRecursion (AllByRecursion IsWord) ls)
+      (sym (not_decided c.reply e c.decision (said_lines analysts es))) (said_words analysts es h.1))
       (kind_of c.reply),
 )
 
@@ -127,14 +163,17 @@ abbrev decisions_said : List (List ℕ × Act) → List Decision
 decisions_said [] = []
 decisions_said (p ∷ ps) = decisions_onto p.1 (decisions_said ps)
 
-of_items : (analysts : List (List ℕ)) (items : List Item) → decisions items ≡ decisions_said (map (who_does analysts) items)
+of_items : (analysts : List (List ℕ)) (items : List Item)
+    → decisions items ≡ decisions_said (map (who_does analysts) items)
 of_items analysts [] = refl
 of_items analysts (i ∷ items) = ap (decisions_onto i.act) (of_items analysts items)
 
-of_calls : (analysts : List (List ℕ)) (cs : List Call) → decisions_said (map (who_decided analysts) cs) ≡ map (λ c. c.decision) cs
+of_calls : (analysts : List (List ℕ)) (cs : List Call)
+    → decisions_said (map (who_decided analysts) cs) ≡ map (λ c. c.decision) cs
 of_calls analysts [] = refl
 of_calls analysts (c ∷ cs) = ap (λ ds. c.decision ∷ ds) (of_calls analysts cs)
 
 -- items that are these calls have their decisions
-pub same_decisions : (names analysts : List (List ℕ)) (items : List Item) (cs : List Call) → map (who_does names) items ≡ map (who_decided analysts) cs → decisions items ≡ map (λ c. c.decision) cs
+pub same_decisions : (names analysts : List (List ℕ)) (items : List Item) (cs : List Call)
+    → map (who_does names) items ≡ map (who_decided analysts) cs → decisions items ≡ map (λ c. c.decision) cs
 same_decisions names analysts items cs h = of_items names items ∙ ap decisions_said h ∙ of_calls analysts cs

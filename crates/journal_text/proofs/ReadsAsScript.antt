@@ -1,5 +1,6 @@
 -- The text of a right journal is read as the script of its accepted decisions.
-use Rattle.std.proofs.Common.{◌≡◌, ℕ, ◌<◌, ◌≤◌, ◌^◌, false, nat_lt, cond, List, [], ◌∷◌, length, map, Ok, Err, Some, codes, slice_get, sym, ap, ◌∙◌, subst, arith}
+use Rattle.std.proofs.Common.{◌≡◌, ℕ, ◌<◌, ◌≤◌, ◌^◌, false, nat_lt, cond, List, [], ◌∷◌, length}
+use Rattle.std.proofs.Common.{map, Ok, Err, Some, codes, slice_get, sym, ap, ◌∙◌, subst, arith}
 use Rattle.std.specs.List.{AllByRecursion, flat_map}
 use Rattle.std.proofs.lemmas.Bool.Decides.{nat_tests}
 use Rattle.sim_base.specs.Chain.{◌>>=◌}
@@ -25,23 +26,35 @@ use Rattle.journal_text.proofs.Rightly.{HasSmallFronts, few_calls, small_fronts}
 use Rattle.journal_text.proofs.Sections.{main_is_there}
 use Rattle.journal_text.proofs.Sizes.{said_length}
 
-read_of_text : (text : List ℕ) (t : Reading) → length text ≤ 1048576 → after_lines 1 opening (lines text) ≡ Ok t → script text ≡ Ok (script_read t)
+read_of_text : (text : List ℕ) (t : Reading) → length text ≤ 1048576 → after_lines 1 opening (lines text) ≡ Ok t
+    → script text ≡ Ok (script_read t)
 read_of_text text t short read =
     let fits : nat_lt 1048576 (length text) ≡ false = grind (arith, nat_tests) in
-    ap (λ b. cond b (Err TooLong) (after_lines 1 opening (lines text) >>= λ r. Ok (script_read r))) fits ∙ ap (λ x. x >>= λ r. Ok (script_read r)) read
+    ap (λ b. cond b (Err TooLong) (after_lines 1 opening (lines text) >>= λ r. Ok (script_read r))) fits
+    ∙ ap (λ x. x >>= λ r. Ok (script_read r)) read
 
-calls_by : (analysts : List (List ℕ)) (cs : List Call) → AreKnown analysts → AllByRecursion (IsCallOf (length analysts)) cs → AllByRecursion (IsCallBy analysts) cs
+calls_by : (analysts : List (List ℕ)) (cs : List Call) → AreKnown analysts
+    → AllByRecursion (IsCallOf (length analysts)) cs → AllByRecursion (IsCallBy analysts) cs
 calls_by analysts [] known h = tt
-calls_by analysts (c ∷ cs) known h =
-    (record { low = h.0.low; high = h.0.high; named = known.named c.caller h.0.low h.0.high; decision = h.0.decision }, calls_by analysts cs known h.1)
+calls_by analysts (c ∷ cs) known h = (
+  record {
+    low = h.0.low;
+    high = h.0.high;
+    named = known.named c.caller h.0.low h.0.high;
+    decision = h.0.decision;
+  },
+  calls_by analysts cs known h.1,
+)
 
-writable : (analysts : List (List ℕ)) (es : List Event) → AllByRecursion (IsCallBy analysts) (calls_of es) → AllByRecursion HasSmallFronts es → AllByRecursion (IsWritable analysts) es
+writable : (analysts : List (List ℕ)) (es : List Event) → AllByRecursion (IsCallBy analysts) (calls_of es)
+    → AllByRecursion HasSmallFronts es → AllByRecursion (IsWritable analysts) es
 writable analysts [] h small = tt
 writable analysts (raised f ∷ es) h small = (small.0, writable analysts es h small.1)
 writable analysts (asked c ∷ es) h small = ((h.0.named, h.0.decision, small.0), writable analysts es h.1 small.1)
 
 -- with main first
-of_main : (net : Net) (more : List (List ℕ)) (es : List Event) → AreKnown (codes "main" ∷ more) → length (codes "main" ∷ more) ≤ 16 → IsRight net es → 0 < net.horizon → net.horizon < 2 ^ 32
+of_main : (net : Net) (more : List (List ℕ)) (es : List Event) → AreKnown (codes "main" ∷ more)
+    → length (codes "main" ∷ more) ≤ 16 → IsRight net es → 0 < net.horizon → net.horizon < 2 ^ 32
     → AllByRecursion (IsCallOf (length (codes "main" ∷ more))) (calls_of es) → IsScriptOf net (codes "main" ∷ more) es
 of_main net more es known most right some_time small h =
     let analysts = codes "main" ∷ more in
@@ -51,9 +64,14 @@ of_main net more es known most right some_time small h =
     let r = events_read analysts 1 opening es most (main_is_there (codes "main") more) by (omega (arith, few)) in
     let text = flat_map line_text (said_lines analysts es) in
     let short : length text ≤ 1048576 = omega (arith, few, said_length analysts es known by) in
-    let read : script text ≡ Ok (script_read r.after) = read_of_text text r.after short (ap (after_lines 1 opening) (lines-text (said_lines analysts es) (said_words analysts es by)) ∙ r.read) in
-    let items : map (λ i. (analyst_name r.after.analysts i.analyst, i.act)) r.after.items ≡ map (λ i. (analyst_name r.after.analysts i.analyst, i.act)) r.new = ap (map (λ i. (analyst_name r.after.analysts i.analyst, i.act))) r.items_are in
-    let ds : decisions r.after.items ≡ script_of es = same_decisions r.after.analysts analysts r.after.items (accepted_of (calls_of es)) (items ∙ r.said) in
+    let read : script text ≡ Ok (script_read r.after) =
+    read_of_text text r.after short
+    (ap (after_lines 1 opening) (lines-text (said_lines analysts es) (said_words analysts es by)) ∙ r.read) in
+    let items : map (λ i. (analyst_name r.after.analysts i.analyst, i.act)) r.after.items
+    ≡ map (λ i. (analyst_name r.after.analysts i.analyst, i.act)) r.new =
+    ap (map (λ i. (analyst_name r.after.analysts i.analyst, i.act))) r.items_are in
+    let ds : decisions r.after.items ≡ script_of es =
+    same_decisions r.after.analysts analysts r.after.items (accepted_of (calls_of es)) (items ∙ r.said) in
     let law = journal_is_script net es right some_time in
     record {
       again = script_read r.after;
@@ -64,13 +82,17 @@ of_main net more es known most right some_time small h =
     }
 
 -- whichever is first
-of_first : (net : Net) (analysts : List (List ℕ)) (es : List Event) → slice_get analysts 0 ≡ Some (codes "main") → AreKnown analysts → length analysts ≤ 16 → IsRight net es → 0 < net.horizon → net.horizon < 2 ^ 32
+of_first : (net : Net) (analysts : List (List ℕ)) (es : List Event) → slice_get analysts 0 ≡ Some (codes "main")
+    → AreKnown analysts → length analysts ≤ 16 → IsRight net es → 0 < net.horizon → net.horizon < 2 ^ 32
     → AllByRecursion (IsCallOf (length analysts)) (calls_of es) → IsScriptOf net analysts es
 of_first net [] es first = absurd cc
 of_first net (a ∷ more) es first =
     let main : a ≡ codes "main" = cc in
-    subst (λ a. AreKnown (a ∷ more) → length (a ∷ more) ≤ 16 → IsRight net es → 0 < net.horizon → net.horizon < 2 ^ 32 → AllByRecursion (IsCallOf (length (a ∷ more))) (calls_of es) → IsScriptOf net (a ∷ more) es) (sym main) (of_main net more es)
+    subst (λ a. AreKnown (a ∷ more) → length (a ∷ more) ≤ 16 → IsRight net es → 0 < net.horizon → net.horizon < 2 ^ 32
+    → AllByRecursion (IsCallOf (length (a ∷ more))) (calls_of es) → IsScriptOf net (a ∷ more) es) (sym main)
+    (of_main net more es)
 
 pub journal_reads_as_script : (net : Net) → JournalReadsAsScript net
 journal_reads_as_script net s es h right some_time small calls =
-    of_first net s.analysts es h.first (are_known s.analysts h.distinct h.named) h.few_analysts right some_time small calls
+    of_first net s.analysts es h.first (are_known s.analysts h.distinct h.named) h.few_analysts right some_time small
+    calls

@@ -1,5 +1,7 @@
 -- The names of analysts while sections are read: each is known by then, or is the next.
-use Rattle.std.proofs.Common.{◌≡◌, ℕ, ◌+◌, ◌-◌, ◌<◌, ◌≤◌, ◌||◌, Bool, true, false, cond, nat_lt, zero, suc, List, [], ◌∷◌, ◌++◌, length, get_or, Option, Some, None, Result, Ok, refl, sym, ap, ◌∙◌, arith, length-append, append-nil}
+use Rattle.std.proofs.Common.{◌≡◌, ℕ, ◌+◌, ◌-◌, ◌<◌, ◌≤◌, ◌||◌, Bool, true, false, cond}
+use Rattle.std.proofs.Common.{nat_lt, zero, suc, List, [], ◌∷◌, ◌++◌, length, get_or, Option, Some}
+use Rattle.std.proofs.Common.{None, Result, Ok, refl, sym, ap, ◌∙◌, arith, length-append, append-nil}
 use Rattle.std.specs.List.{AllByRecursion, join_with_byte, list_any}
 use Rattle.std.specs.Str.{bytes_eq}
 use Rattle.std.proofs.Math.Seq.{get_or-append_seam}
@@ -47,58 +49,73 @@ less false false = omega arith
 
 -- a name more: no other is missing for that
 one_less : (names : List (List ℕ)) (name a : List ℕ) → lack (is_among a (names ++ name ∷ [])) ≤ lack (is_among a names)
-one_less names name a = rw (list_any-append (λ other. bytes_eq other a) names (name ∷ [])) (less (is_among a names) (bytes_eq name a || false))
+one_less names name a = rw (list_any-append (λ other. bytes_eq other a) names (name ∷ []))
+    (less (is_among a names) (bytes_eq name a || false))
 
-no_more_missing : (names : List (List ℕ)) (name : List ℕ) (analysts : List (List ℕ)) → missing (names ++ name ∷ []) analysts ≤ missing names analysts
+no_more_missing : (names : List (List ℕ)) (name : List ℕ) (analysts : List (List ℕ))
+    → missing (names ++ name ∷ []) analysts ≤ missing names analysts
 no_more_missing names name [] = omega arith
 no_more_missing names name (a ∷ more) = omega (arith, one_less names name a, no_more_missing names name more)
 
 same_bytes : (name : List ℕ) → bytes_eq name name ≡ true
 same_bytes name = (bytes_eq-Decides name name).1 refl
 
-now_among : (names : List (List ℕ)) (name : List ℕ) → is_among name names ≡ false → is_among name (names ++ name ∷ []) ≡ true
+now_among : (names : List (List ℕ)) (name : List ℕ) → is_among name names ≡ false
+    → is_among name (names ++ name ∷ []) ≡ true
 now_among names name h = list_any-append (λ other. bytes_eq other name) names (name ∷ []) ∙ rw (h, same_bytes name) refl
 
 -- a new name that is an analyst's: there is one less
-pub one_less_missing : (names : List (List ℕ)) (name : List ℕ) (analysts : List (List ℕ)) (i : ℕ) → i < length analysts → get_or analysts i [] ≡ name → is_among name names ≡ false
+pub one_less_missing : (names : List (List ℕ)) (name : List ℕ) (analysts : List (List ℕ)) (i : ℕ)
+    → i < length analysts → get_or analysts i [] ≡ name → is_among name names ≡ false
     → missing (names ++ name ∷ []) analysts + 1 ≤ missing names analysts
 one_less_missing names name [] i lt is new = absurd (omega arith)
 one_less_missing names name (a ∷ more) zero lt is new =
-    let gone : lack (is_among a (names ++ name ∷ [])) ≡ 0 = ap (λ x. lack (is_among x (names ++ name ∷ []))) is ∙ ap lack (now_among names name new) in
+    let gone : lack (is_among a (names ++ name ∷ [])) ≡ 0 = ap (λ x. lack (is_among x (names ++ name ∷ []))) is
+    ∙ ap lack (now_among names name new) in
     let was : lack (is_among a names) ≡ 1 = ap (λ x. lack (is_among x names)) is ∙ ap lack new in
     omega (arith, gone, was, no_more_missing names name more)
-one_less_missing names name (a ∷ more) (suc i) lt is new = omega (arith, one_less names name a, one_less_missing names name more i (omega arith) is new)
+one_less_missing names name (a ∷ more) (suc i) lt is new =
+    omega (arith, one_less names name a, one_less_missing names name more i (omega arith) is new)
 
 -- a name without a place is not among them
 pub not_among : (name : List ℕ) (names : List (List ℕ)) → place_of name names ≡ None → is_among name names ≡ false
-not_among name names none = list_any_none (λ other. bytes_eq other name) names (none_passes (λ other. bytes_eq other name) names none)
+not_among name names none = list_any_none (λ other. bytes_eq other name) names
+    (none_passes (λ other. bytes_eq other name) names none)
 
 -- main is not missing
-pub main_is_there : (main : List ℕ) (more : List (List ℕ)) → 1 + missing (main ∷ []) (main ∷ more) ≤ length (main ∷ more)
+pub main_is_there : (main : List ℕ) (more : List (List ℕ))
+    → 1 + missing (main ∷ []) (main ∷ more) ≤ length (main ∷ more)
 main_is_there main more =
     let there : lack (is_among main (main ∷ [])) ≡ 0 = rw (same_bytes main) refl in
     omega (arith, there, few_missing (main ∷ []) more)
 
 -- ---- analyst_name
-pub name_kept : (names more : List (List ℕ)) (a : ℕ) → 1 ≤ a → a ≤ length names → analyst_name (names ++ more) a ≡ analyst_name names a
+pub name_kept : (names more : List (List ℕ)) (a : ℕ) → 1 ≤ a → a ≤ length names
+    → analyst_name (names ++ more) a ≡ analyst_name names a
 name_kept names more a low high =
-    unwrap_or-slice_get (names ++ more) (a - 1) [] ∙ get_or_append_left names more [] (a - 1) (omega arith) ∙ sym (unwrap_or-slice_get names (a - 1) [])
+    unwrap_or-slice_get (names ++ more) (a - 1) [] ∙ get_or_append_left names more [] (a - 1) (omega arith)
+    ∙ sym (unwrap_or-slice_get names (a - 1) [])
 
 -- ---- after_line
-pub after_words : (line : ℕ) (r : Reading) (ws : List (List ℕ)) → AllByRecursion IsWord ws → after_line line r (join_with_byte 32 ws) ≡ (at_line line (saying ws) >>= after_saying line r)
+pub after_words : (line : ℕ) (r : Reading) (ws : List (List ℕ)) → AllByRecursion IsWord ws
+    → after_line line r (join_with_byte 32 ws) ≡ (at_line line (saying ws) >>= after_saying line r)
 unfolding after_line
 after_words line r ws h = ap (λ x. at_line line x >>= after_saying line r) (line_saying-join ws h)
 
-after_section : (line : ℕ) (r : Reading) (name : List ℕ) → IsNamed name → after_line line r (join_with_byte 32 (words_of_section name)) ≡ in_section line r name (place_of name r.analysts)
-after_section line r name h = after_words line r (words_of_section name) (section_words name h) ∙ ap (λ x. at_line line x >>= after_saying line r) (saying-section name h)
+after_section : (line : ℕ) (r : Reading) (name : List ℕ) → IsNamed name
+    → after_line line r (join_with_byte 32 (words_of_section name)) ≡ in_section line r name (place_of name r.analysts)
+after_section line r name h = after_words line r (words_of_section name) (section_words name h)
+    ∙ ap (λ x. at_line line x >>= after_saying line r) (saying-section name h)
 
 -- a line that is read, and the lines after it
-pub then : (line : ℕ) (r next : Reading) (l : List ℕ) (ls : List (List ℕ)) → after_line line r l ≡ Ok next → after_lines line r (l ∷ ls) ≡ after_lines (line + 1) next ls
+pub then : (line : ℕ) (r next : Reading) (l : List ℕ) (ls : List (List ℕ)) → after_line line r l ≡ Ok next
+    → after_lines line r (l ∷ ls) ≡ after_lines (line + 1) next ls
 unfolding after_lines
 then line r next l ls one = ap (λ x. x >>= λ next. after_lines (line + 1) next ls) one
 
 -- a section was read: its analyst is in force
-pub record IsInForce (analysts : List (List ℕ)) (r : Reading) (name : List ℕ) (given : Result Reading ScriptFault) : Type 0 where
+pub record IsInForce (analysts : List (List ℕ)) (r : Reading) (name : List ℕ) (given : Result Reading ScriptFault) :
+    Type 0 where
   pub next : Reading
   pub names : List (List ℕ)
   pub read : given ≡ Ok next
@@ -109,7 +126,8 @@ pub record IsInForce (analysts : List (List ℕ)) (r : Reading) (name : List ℕ
   pub name_is : analyst_name next.analysts next.current ≡ name
   pub fits : length next.analysts + missing next.analysts analysts ≤ length analysts
 
-of_place : (analysts : List (List ℕ)) (line : ℕ) (r : Reading) (name : List ℕ) (i : ℕ) → IsNamed name → i < length analysts → get_or analysts i [] ≡ name → length analysts ≤ 16
+of_place : (analysts : List (List ℕ)) (line : ℕ) (r : Reading) (name : List ℕ) (i : ℕ) → IsNamed name
+    → i < length analysts → get_or analysts i [] ≡ name → length analysts ≤ 16
     → length r.analysts + missing r.analysts analysts ≤ length analysts → (o : Option ℕ) → place_of name r.analysts ≡ o
     → IsInForce analysts r name (after_line line r (join_with_byte 32 (words_of_section name)))
 of_place analysts line r name i named lt is few fits (Some k) at =
@@ -123,13 +141,15 @@ of_place analysts line r name i named lt is few fits (Some k) at =
       items = refl;
       low = omega arith;
       high = omega (arith, within);
-      name_is = unwrap_or-slice_get r.analysts (k + 1 - 1) [] ∙ ap (λ n. get_or r.analysts n []) back ∙ (bytes_eq-Decides (get_or r.analysts k []) name).0 same;
+      name_is = unwrap_or-slice_get r.analysts (k + 1 - 1) [] ∙ ap (λ n. get_or r.analysts n []) back
+          ∙ (bytes_eq-Decides (get_or r.analysts k []) name).0 same;
       fits = fits;
     }
 of_place analysts line r name i named lt is few fits None at =
     let gone = one_less_missing r.analysts name analysts i lt is (not_among name r.analysts at) in
     let longer = length-append r.analysts (name ∷ []) in
-    let room : nat_lt (length r.analysts) 16 ≡ true = (let below : length r.analysts < 16 = omega (arith, gone, fits, few) in grind (arith, nat_tests)) in
+    let room : nat_lt (length r.analysts) 16 ≡ true =
+    (let below : length r.analysts < 16 = omega (arith, gone, fits, few) in grind (arith, nat_tests)) in
     let back : length r.analysts + 1 - 1 ≡ length r.analysts = omega arith in
     record {
       next = record { analysts = r.analysts ++ name ∷ []; current = length r.analysts + 1; items = r.items };
@@ -139,13 +159,17 @@ of_place analysts line r name i named lt is few fits None at =
       items = refl;
       low = omega arith;
       high = omega (arith, longer);
-      name_is = unwrap_or-slice_get (r.analysts ++ name ∷ []) (length r.analysts + 1 - 1) [] ∙ ap (λ n. get_or (r.analysts ++ name ∷ []) n []) back ∙ get_or-append_seam r.analysts name [] [];
+      name_is = unwrap_or-slice_get (r.analysts ++ name ∷ []) (length r.analysts + 1 - 1) []
+          ∙ ap (λ n. get_or (r.analysts ++ name ∷ []) n []) back ∙ get_or-append_seam r.analysts name [] [];
       fits = omega (arith, longer, gone, fits);
     }
 
 -- the section of an analyst is read
-pub section_read : (analysts : List (List ℕ)) (line : ℕ) (r : Reading) (a : ℕ) → 1 ≤ a → a ≤ length analysts → IsNamed (analyst_name analysts a) → length analysts ≤ 16
+pub section_read : (analysts : List (List ℕ)) (line : ℕ) (r : Reading) (a : ℕ) → 1 ≤ a → a ≤ length analysts
+    → IsNamed (analyst_name analysts a) → length analysts ≤ 16
     → length r.analysts + missing r.analysts analysts ≤ length analysts
-    → IsInForce analysts r (analyst_name analysts a) (after_line line r (join_with_byte 32 (words_of_section (analyst_name analysts a))))
+    → IsInForce analysts r (analyst_name analysts a)
+    (after_line line r (join_with_byte 32 (words_of_section (analyst_name analysts a))))
 section_read analysts line r a low high named few fits =
-    of_place analysts line r (analyst_name analysts a) (a - 1) named (omega arith) (sym (unwrap_or-slice_get analysts (a - 1) [])) few fits (place_of (analyst_name analysts a) r.analysts) refl
+    of_place analysts line r (analyst_name analysts a) (a - 1) named (omega arith)
+    (sym (unwrap_or-slice_get analysts (a - 1) [])) few fits (place_of (analyst_name analysts a) r.analysts) refl

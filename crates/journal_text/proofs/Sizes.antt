@@ -1,5 +1,6 @@
 -- How long the lines are that are no comments.
-use Rattle.std.proofs.Common.{◌≡◌, ⊎_elim, ℕ, ◌+◌, ◌*◌, ◌≤◌, ◌==◌, false, List, [], ◌∷◌, ◌++◌, length, refl, sym, ap, subst, arith, append-nil, length-append}
+use Rattle.std.proofs.Common.{◌≡◌, ⊎_elim, ℕ, ◌+◌, ◌*◌, ◌≤◌, ◌==◌, false, List, []}
+use Rattle.std.proofs.Common.{◌∷◌, ◌++◌, length, refl, sym, ap, subst, arith, append-nil, length-append}
 use Rattle.std.specs.List.{AllByRecursion, flat_map}
 use Rattle.std.proofs.lemmas.Bool.Decides.{nat_tests}
 use Rattle.decision_script.specs.declared.item.Act.TheVariants.{Decide}
@@ -18,24 +19,38 @@ use Rattle.journal_text.proofs.Reading.{IsCallBy}
 section_length : (name : List ℕ) → IsNamed name → length (line_text (words_of_section name)) ≤ 35
 section_length name h =
     let all = sections_length [] (name ∷ []) (h, refl, tt) in
-    let one : length (line_text (words_of_section name) ++ []) ≡ length (line_text (words_of_section name)) = ap length (append-nil (line_text (words_of_section name))) in
+    let one : length (line_text (words_of_section name) ++ []) ≡ length (line_text (words_of_section name)) =
+    ap length (append-nil (line_text (words_of_section name))) in
     omega (arith, all, one)
 
 -- a decision behind its section
 decided_length : (analysts : List (List ℕ)) (c : Call) → AreKnown analysts → IsCallBy analysts c
-    → length (line_text (words_of_section (analyst_name analysts c.caller))) + length (line_text (words_of_decision c.decision)) ≤ 172
+    → length (line_text (words_of_section (analyst_name analysts c.caller))) + length
+    (line_text (words_of_decision c.decision)) ≤ 172
 decided_length analysts c known h =
     let item : Item = record { line = 0; analyst = c.caller; act = Decide c.decision } in
     let is_item : IsItem (length analysts) item = record { low = h.low; high = h.high; act = h.decision } in
     let all = items_length analysts 0 (item ∷ []) known (is_item, tt) in
     let other : (c.caller == 0) ≡ false = (let low = h.low in grind (arith, nat_tests)) in
-    let lines : item_lines analysts 0 (item ∷ []) ≡ words_of_section (analyst_name analysts c.caller) ∷ words_of_decision c.decision ∷ [] = rw other refl in
-    let text : length (line_text (words_of_section (analyst_name analysts c.caller)) ++ (line_text (words_of_decision c.decision) ++ [])) ≤ 172
+    let lines : item_lines analysts 0 (item ∷ []) ≡ words_of_section
+    (analyst_name analysts c.caller) ∷ words_of_decision c.decision ∷ [] = rw other refl in
+    let text : length (line_text (words_of_section (analyst_name analysts c.caller))
+    ++ (line_text (words_of_decision c.decision) ++ [])) ≤ 172
     = subst (λ ls. length (flat_map line_text ls) ≤ 172) lines all in
-    let one : length (line_text (words_of_decision c.decision) ++ []) ≡ length (line_text (words_of_decision c.decision)) = ap length (append-nil (line_text (words_of_decision c.decision))) in
-    omega (arith, text, one, length-append (line_text (words_of_section (analyst_name analysts c.caller))) (line_text (words_of_decision c.decision) ++ []))
+    let one : length (line_text (words_of_decision c.decision) ++ [])
+    ≡ length (line_text (words_of_decision c.decision)) =
+    ap length (append-nil (line_text (words_of_decision c.decision))) in
+    omega (
+      arith,
+      text,
+      one,
+      length-append (line_text (words_of_section (analyst_name analysts c.caller)))
+          (line_text (words_of_decision c.decision) ++ []),
+    )
 
-pub said_length : (analysts : List (List ℕ)) (es : List Event) → AreKnown analysts → AllByRecursion (IsCallBy analysts) (calls_of es) → length (flat_map line_text (said_lines analysts es)) ≤ 172 * length (calls_of es)
+pub said_length : (analysts : List (List ℕ)) (es : List Event) → AreKnown analysts
+    → AllByRecursion (IsCallBy analysts) (calls_of es)
+    → length (flat_map line_text (said_lines analysts es)) ≤ 172 * length (calls_of es)
 said_length analysts [] known h = omega arith
 said_length analysts (raised f ∷ es) known h = said_length analysts es known h
 said_length analysts (asked c ∷ es) known h =
@@ -45,9 +60,17 @@ said_length analysts (asked c ∷ es) known h =
     let more = said_length analysts es known h.1 in
     ⊎_elim
     (λ (e : c.reply ≡ Accepted).
-    subst (λ x. length (section ++ flat_map line_text (if_decided x c.decision (said_lines analysts es))) ≤ 172 * length (calls_of (asked c ∷ es))) (sym e)
-    (omega (arith, more, decided_length analysts c known h.0, length-append section (decision ++ rest), length-append decision rest)))
+    subst (λ x. length (section ++ flat_map line_text (if_decided x c.decision (said_lines analysts es))) ≤ 172 *
+    length (calls_of (asked c ∷ es))) (sym e)
+    (omega (
+      arith,
+      more,
+      decided_length analysts c known h.0,
+      length-append section (decision ++ rest),
+      length-append decision rest,
+    )))
     (λ (e : IsRefused c.reply).
-    subst (λ ls. length (section ++ flat_map line_text ls) ≤ 172 * length (calls_of (asked c ∷ es))) (sym (not_decided c.reply e c.decision (said_lines analysts es)))
+    subst (λ ls. length (section ++ flat_map line_text ls) ≤ 172 * length (calls_of (asked c ∷ es)))
+    (sym (not_decided c.reply e c.decision (said_lines analysts es)))
     (omega (arith, more, section_length (analyst_name analysts c.caller) h.0.named, length-append section rest)))
     (kind_of c.reply)

@@ -48,8 +48,18 @@ four_calls_script =
 -- three looks: the clone was there, it was not, the station is unknown
 abbrev pub three_looks : List Looked
 three_looks =
-    record { analyst = 2; who = codes "base"; station = codes "desk"; glance = Some (record { front = 7; clones = 2; found = Some (record { handled = 3; shared = 2 }) }) }
-    ∷ record { analyst = 1; who = codes "fast"; station = codes "desk"; glance = Some (record { front = 0; clones = 1; found = None }) }
+    record {
+      analyst = 2;
+      who = codes "base";
+      station = codes "desk";
+      glance = Some (record { front = 7; clones = 2; found = Some (record { handled = 3; shared = 2 }) });
+    }
+    ∷ record {
+      analyst = 1;
+      who = codes "fast";
+      station = codes "desk";
+      glance = Some (record { front = 0; clones = 1; found = None });
+    }
     ∷ record { analyst = 2; who = codes "base"; station = codes "till"; glance = None } ∷ []
 
 abbrev pub looks_of_two : List ℕ

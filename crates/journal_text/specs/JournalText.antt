@@ -30,7 +30,8 @@ call_line reply d = codes "# refused " ++ refusal_text reply ++ codes ": " ++ de
 abbrev pub event_text : List (List ℕ) → Event → List ℕ
 event_text analysts (raised front) = codes "# front " ++ decimal front ++ codes "\n"
 event_text analysts (asked call) =
-    codes "analyst " ++ analyst_name analysts call.caller ++ codes "\n" ++ call_line call.reply call.decision ++ codes "\n"
+    codes "analyst " ++ analyst_name analysts call.caller ++ codes "\n" ++ call_line call.reply call.decision
+    ++ codes "\n"
 
 -- all events as they stood, of analysts of these names
 abbrev pub events_text : List (List ℕ) → List Event → List ℕ
@@ -44,7 +45,8 @@ found_text (Some found) = codes " handled=" ++ decimal found.handled ++ codes " 
 -- what a look showed: up to which front, and how many clones there were
 abbrev pub glance_text : Option Glance → List ℕ
 glance_text None = codes " unknown"
-glance_text (Some glance) = codes " front=" ++ decimal glance.front ++ codes " clones=" ++ decimal glance.clones ++ found_text glance.found
+glance_text (Some glance) = codes " front=" ++ decimal glance.front ++ codes " clones=" ++ decimal glance.clones
+    ++ found_text glance.found
 
 abbrev pub look_line : List (List ℕ) → Looked → List ℕ
 look_line analysts look =
@@ -53,7 +55,8 @@ look_line analysts look =
 
 -- how many looks there were, and a line for each
 abbrev pub looks_text : List (List ℕ) → List Looked → List ℕ
-looks_text analysts looks = codes "looks " ++ decimal (length looks) ++ codes "\n" ++ flat_map (look_line analysts) looks
+looks_text analysts looks = codes "looks " ++ decimal (length looks) ++ codes "\n"
+    ++ flat_map (look_line analysts) looks
 
 -- how many calls and fronts there are
 abbrev pub head_of : ℕ → ℕ → List ℕ

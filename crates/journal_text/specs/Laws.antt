@@ -47,5 +47,6 @@ pub record IsScriptOf (net : Net) (analysts : List (List ℕ)) (events : List Ev
 
 -- so it is of each right journal whose callers are analysts of a script
 abbrev pub JournalReadsAsScript : Net → Type 0
-JournalReadsAsScript net = (s : ScriptView) (events : List Event) → IsScript s → IsRight net events → 0 < net.horizon → net.horizon < 2 ^ 32
+JournalReadsAsScript net = (s : ScriptView) (events : List Event) → IsScript s → IsRight net events → 0 < net.horizon
+    → net.horizon < 2 ^ 32
     → AllByRecursion (IsCallOf (length s.analysts)) (calls_of events) → IsScriptOf net s.analysts events

@@ -3,7 +3,8 @@
 //! The journal, the looks and their texts stand in `specs/Examples.antt`. Each function's contract is a
 //! theorem; there is nothing to run.
 ghost use Rattle.std.specs.Prelude.{◌≡◌, ◌∷◌, [], codes};
-ghost use Rattle.journal_text.specs.Examples.{four_calls, four_calls_text, four_calls_script, three_looks, looks_of_two};
+ghost use Rattle.journal_text.specs.Examples.{four_calls, four_calls_text, four_calls_script};
+ghost use Rattle.journal_text.specs.Examples.{three_looks, looks_of_two};
 ghost use Rattle.journal_text.specs.JournalText.{journal_text, events_text, looks_text};
 ghost use Rattle.journal_text.specs.Laws.{without_comments};
 

@@ -3,7 +3,8 @@ ghost use Rattle.std.specs.Prelude.{◌≡◌, ◌++◌, ◌≤◌, [], length, 
 ghost use Rattle.std.specs.List.{All, flat_map};
 ghost use Rattle.decision_book.specs.Journal.{raised, asked};
 ghost use Rattle.decision_book.specs.Books.{journal_from, journal_of};
-ghost use Rattle.journal_text.specs.JournalText.{call_line, event_text, events_text, found_text, glance_text, head_of, look_line, looks_text, refusal_text, journal_text as text_of};
+ghost use Rattle.journal_text.specs.JournalText.{call_line, event_text, events_text, found_text, glance_text};
+ghost use Rattle.journal_text.specs.JournalText.{head_of, look_line, looks_text, refusal_text, journal_text as text_of};
 
 use crate::looked::Looked;
 use crate::pieces::{push, push_count, push_decision, push_name, push_number};

@@ -11,7 +11,8 @@ returns c =
     let events : List ℕ = events_text c.args.script.now.analysts (journal_of calls fronts) in
     let looks : List ℕ = looks_text c.args.script.now.analysts c.args.looks.now in
     let head : head_of (length calls) (length fronts) ≡ head_line (journal_of calls fronts) =
-    ap₂ head_of (ap length (sym (calls_of-journal_from 0 calls fronts))) (ap length (sym (fronts_of-journal_from 0 calls fronts))) in
+    ap₂ head_of (ap length (sym (calls_of-journal_from 0 calls fronts)))
+    (ap length (sym (fronts_of-journal_from 0 calls fronts))) in
     let first = c.in_ok-push_head.ensures.value ∙ ap₂ (λ xs h. xs ++ h) c.new-out.ensures.items head in
     let second = c.in_ok-push_events.ensures.value ∙ ap (λ xs. xs ++ events) first in
     c.in_ok-push_looks.ensures.value ∙ ap (λ xs. xs ++ looks) second

@@ -4,4 +4,5 @@ use Rattle.journal_text.specs.JournalText.{events_text}
 use Rattle.journal_text.proofs.text.push_fronts.Given as goal
 
 abbrev pub invariant-fronts : goal.invariant-fronts
-invariant-fronts l = l.out.items ++ events_text l.script.analysts (map raised (drop l.front-index l.fronts)) ≡ l.fn.out.items ++ events_text l.script.analysts (map raised l.fronts)
+invariant-fronts l = l.out.items ++ events_text l.script.analysts (map raised (drop l.front-index l.fronts))
+    ≡ l.fn.out.items ++ events_text l.script.analysts (map raised l.fronts)

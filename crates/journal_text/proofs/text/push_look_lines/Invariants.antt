@@ -4,4 +4,5 @@ use Rattle.journal_text.specs.JournalText.{look_line}
 use Rattle.journal_text.proofs.text.push_look_lines.Given as goal
 
 abbrev pub invariant-looks : goal.invariant-looks
-invariant-looks l = l.out.items ++ flat_map (look_line l.script.analysts) (drop l.look-index l.looks) ≡ l.fn.out.items ++ flat_map (look_line l.script.analysts) l.looks
+invariant-looks l = l.out.items ++ flat_map (look_line l.script.analysts) (drop l.look-index l.looks) ≡ l.fn.out.items
+    ++ flat_map (look_line l.script.analysts) l.looks
