@@ -1,5 +1,6 @@
 -- What one decision more does to what was asked.
-use Rattle.std.proofs.Common.{◌≡◌, ◌≢◌, ⊎_elim, ℕ, List, [], ◌∷◌, ◌++◌, length, true≢false, refl, sym, ap, ◌∙◌, subst, arith, length-append, Some, None}
+use Rattle.std.proofs.Common.{◌≡◌, ◌≢◌, ⊎_elim, ℕ, List, [], ◌∷◌, ◌++◌, length, true≢false}
+use Rattle.std.proofs.Common.{refl, sym, ap, ◌∙◌, subst, arith, length-append, Some, None}
 use Rattle.sim_base.specs.declared.decision.Decision.{Decision}
 use Rattle.decision_book.specs.declared.call.Call.{Call}
 use Rattle.decision_book.specs.declared.call.Reply.TheVariants.{Full}
@@ -14,11 +15,17 @@ in_append : (ps : List (ℕ × Call)) (p : ℕ × Call) → decisions_in (ps ++ 
 in_append [] p = refl
 in_append (q ∷ ps) p = ap (λ l. q.1.decision ∷ l) (in_append ps p)
 
-with_one : (ds : List Decision) (a : Account) (j : List Event) (c : Call) → AskedSo ds a → AskedSo (ds ++ c.decision ∷ []) (with_call a j c)
+with_one : (ds : List Decision) (a : Account) (j : List Event) (c : Call) → AskedSo ds a
+    → AskedSo (ds ++ c.decision ∷ []) (with_call a j c)
 with_one ds a j c s = record {
   all = λ e. in_append a.calls (length (calls_of j), c) ∙ ap (λ l. l ++ c.decision ∷ []) (s.all e);
   few = omega (arith, length-append a.calls ((length (calls_of j), c) ∷ []), length-append ds (c.decision ∷ []), s.few);
-  fewer = λ e. omega (arith, length-append a.calls ((length (calls_of j), c) ∷ []), length-append ds (c.decision ∷ []), s.fewer e);
+  fewer = λ e. omega (
+    arith,
+    length-append a.calls ((length (calls_of j), c) ∷ []),
+    length-append ds (c.decision ∷ []),
+    s.fewer e,
+  );
 }
 
 with_full : (ds : List Decision) (a : Account) (d : Decision) → AskedSo ds a → AskedSo (ds ++ d ∷ []) (full_account a)
@@ -28,11 +35,20 @@ with_full ds a d s = record {
   fewer = λ e. omega (arith, length-append ds (d ∷ []), s.few);
 }
 
-pub asked_more : (ds : List Decision) (old new : Passed) (d : Decision) (receipt : Receipt) (j : List Event) → AskedSo ds old.account → IsAsked old d receipt new j
+pub asked_more : (ds : List Decision) (old new : Passed) (d : Decision) (receipt : Receipt) (j : List Event)
+    → AskedSo ds old.account → IsAsked old d receipt new j
     → AskedSo (ds ++ d ∷ []) new.account × (new.desk ≡ old.desk) × (new.account.caller ≡ old.account.caller)
 asked_more ds old new d receipt j s a = ⊎_elim
-    (λ (h : (receipt.reply ≢ Full) × (receipt.entry ≡ Some (length (calls_of j))) × (new ≡ record old { seen = j ++ asked (call_of old.account.caller j d receipt.reply) ∷ []; account = with_call old.account j (call_of old.account.caller j d receipt.reply) })).
-    subst (λ (n : Passed). AskedSo (ds ++ d ∷ []) n.account × (n.desk ≡ old.desk) × (n.account.caller ≡ old.account.caller)) (sym h.2) (with_one ds old.account j (call_of old.account.caller j d receipt.reply) s, refl, refl))
-    (λ (h : (receipt.reply ≡ Full) × (receipt.entry ≡ None) × (length (calls_of j) ≡ 4096) × (new ≡ record old { seen = j; account = full_account old.account })).
-    subst (λ (n : Passed). AskedSo (ds ++ d ∷ []) n.account × (n.desk ≡ old.desk) × (n.account.caller ≡ old.account.caller)) (sym h.3) (with_full ds old.account d s, refl, refl))
+    (λ (h : (receipt.reply ≢ Full) × (receipt.entry ≡ Some (length (calls_of j)))
+    × (new ≡ record old {
+      seen = j ++ asked (call_of old.account.caller j d receipt.reply) ∷ [];
+      account = with_call old.account j (call_of old.account.caller j d receipt.reply);
+    })).
+    subst (λ (n : Passed). AskedSo (ds ++ d ∷ []) n.account × (n.desk ≡ old.desk)
+    × (n.account.caller ≡ old.account.caller)) (sym h.2)
+    (with_one ds old.account j (call_of old.account.caller j d receipt.reply) s, refl, refl))
+    (λ (h : (receipt.reply ≡ Full) × (receipt.entry ≡ None) × (length (calls_of j) ≡ 4096)
+    × (new ≡ record old { seen = j; account = full_account old.account })).
+    subst (λ (n : Passed). AskedSo (ds ++ d ∷ []) n.account × (n.desk ≡ old.desk)
+    × (n.account.caller ≡ old.account.caller)) (sym h.3) (with_full ds old.account d s, refl, refl))
     a.kept

@@ -1,5 +1,7 @@
 -- No decision is answered Full where no more are asked than a journal holds.
-use Rattle.std.proofs.Common.{◌≡◌, ◌≢◌, ℕ, zero, suc, ◌+◌, ◌<◌, ◌≤◌, Bool, true, false, true≢false, List, [], ◌∷◌, ◌++◌, length, nat_eq, if◌then◌else◌, refl, sym, ap, ◌∙◌, subst, arith, slice_index_or, map, Result, Ok, Err, IfOk, IfErr}
+use Rattle.std.proofs.Common.{◌≡◌, ◌≢◌, ℕ, zero, suc, ◌+◌, ◌<◌, ◌≤◌, Bool, true, false}
+use Rattle.std.proofs.Common.{true≢false, List, [], ◌∷◌, ◌++◌, length, nat_eq, if◌then◌else◌, refl, sym, ap}
+use Rattle.std.proofs.Common.{◌∙◌, subst, arith, slice_index_or, map, Result, Ok, Err, IfOk, IfErr}
 use Rattle.atomic_table.specs.Seated.{TableId}
 use Rattle.net_model.specs.Net.{Net}
 use Rattle.decision_book.specs.declared.call.Call.{Call}
@@ -23,7 +25,8 @@ abbrev sum_calls : ℕ → List Call → List Account → ℕ
 sum_calls n cs [] = 0
 sum_calls n cs (a ∷ others') = length (numbered a.caller n cs) + sum_calls n cs others'
 
-one_length : (b d : Bool) (p : ℕ × Call) (xs : List (ℕ × Call)) → b ≡ d → length (if b then p ∷ xs else xs) ≡ (if d then 1 else 0) + length xs
+one_length : (b d : Bool) (p : ℕ × Call) (xs : List (ℕ × Call)) → b ≡ d
+    → length (if b then p ∷ xs else xs) ≡ (if d then 1 else 0) + length xs
 one_length true true p xs e = omega arith
 one_length false false p xs e = omega arith
 one_length true false p xs e = absurd (true≢false e)
@@ -32,9 +35,16 @@ one_length false true p xs e = absurd (true≢false (sym e))
 eq_swap : (x y : ℕ) → nat_eq x y ≡ nat_eq y x
 eq_swap x y = grind arith
 
-sum_more : (n : ℕ) (c : Call) (cs : List Call) (others' : List Account) → sum_calls n (c ∷ cs) others' ≡ accounts_of c.caller others' + sum_calls (n + 1) cs others'
+sum_more : (n : ℕ) (c : Call) (cs : List Call) (others' : List Account)
+    → sum_calls n (c ∷ cs) others' ≡ accounts_of c.caller others' + sum_calls (n + 1) cs others'
 sum_more n c cs [] = refl
-sum_more n c cs (a ∷ others') = omega (arith, one_length (nat_eq c.caller a.caller) (nat_eq a.caller c.caller) (n, c) (numbered a.caller (n + 1) cs) (eq_swap c.caller a.caller), sum_more n c cs others')
+sum_more n c cs (a ∷ others') =
+    omega (
+      arith,
+      one_length (nat_eq c.caller a.caller) (nat_eq a.caller c.caller) (n, c)
+          (numbered a.caller (n + 1) cs) (eq_swap c.caller a.caller),
+      sum_more n c cs others',
+    )
 
 rest_empty : (b : Bool) (p : ℕ × Call) (xs : List (ℕ × Call)) → (if b then p ∷ xs else xs) ≡ [] → xs ≡ []
 rest_empty true p xs e = absurd cc
@@ -45,18 +55,23 @@ not_empty true p xs t e = absurd cc
 not_empty false p xs t e = true≢false (sym t)
 
 -- each call is counted where each caller has an account
-covered : (n : ℕ) (cs : List Call) (others' : List Account) → ((x : ℕ) → accounts_of x others' ≡ 0 → numbered x n cs ≡ []) → length cs ≤ sum_calls n cs others'
+covered : (n : ℕ) (cs : List Call) (others' : List Account)
+    → ((x : ℕ) → accounts_of x others' ≡ 0 → numbered x n cs ≡ []) → length cs ≤ sum_calls n cs others'
 covered n [] others' others = omega arith
 covered n (c ∷ cs) others' others =
-    let has : accounts_of c.caller others' ≢ 0 = λ e. not_empty (nat_eq c.caller c.caller) (n, c) (numbered c.caller (n + 1) cs) (grind arith) (others c.caller e) in
-    let more = covered (n + 1) cs others' (λ x e. rest_empty (nat_eq c.caller x) (n, c) (numbered x (n + 1) cs) (others x e)) in
+    let has : accounts_of c.caller others' ≢ 0 =
+    λ e. not_empty (nat_eq c.caller c.caller) (n, c) (numbered c.caller (n + 1) cs) (grind arith)
+    (others c.caller e) in
+    let more = covered (n + 1) cs others' (λ x e. rest_empty (nat_eq c.caller x) (n, c) (numbered x (n + 1) cs)
+    (others x e)) in
     omega (arith, sum_more n c cs others', has, more)
 
 abbrev total_calls : List Analyst → ℕ
 total_calls [] = 0
 total_calls (a ∷ others') = length a.pass.account.calls + total_calls others'
 
-sums_same : (events : List Event) (others' : List Analyst) → AreAccounts events (accounts_in others') → sum_calls 0 (calls_of events) (accounts_in others') ≡ total_calls others'
+sums_same : (events : List Event) (others' : List Analyst) → AreAccounts events (accounts_in others')
+    → sum_calls 0 (calls_of events) (accounts_in others') ≡ total_calls others'
 sums_same events [] all = refl
 sums_same events (a ∷ others') all = omega (arith, ap length all.0.calls, sums_same events others' all.1)
 
@@ -65,48 +80,69 @@ few_calls desk [] all = omega arith
 few_calls desk (a ∷ others') all = omega (arith, all.0.all.few, few_calls desk others' all.1)
 
 -- where all calls together are as many as a journal holds, none of these was answered Full
-asked_each : (desk : TableId) (events : List Event) (before : ℕ) (others' : List Analyst) → AllDone desk others' → AreAccounts events (accounts_in others')
-    → ((e : length (calls_of events) ≡ 4096) → 4096 ≤ before + total_calls others') → before + total_todo others' ≤ 4096 → AllAsked events others'
+asked_each : (desk : TableId) (events : List Event) (before : ℕ) (others' : List Analyst) → AllDone desk others'
+    → AreAccounts events (accounts_in others')
+    → ((e : length (calls_of events) ≡ 4096) → 4096 ≤ before + total_calls others')
+    → before + total_todo others' ≤ 4096 → AllAsked events others'
 asked_each desk events before [] all right whole few = tt
 asked_each desk events before (a ∷ others') all right whole few =
     let account = a.pass.account in
-    let not : account.full ≡ false = is_false account.full (λ full. absurd (omega (arith, whole (right.0.full full), few, all.0.all.fewer full, few_calls desk others' all.1))) in (
+    let not : account.full ≡ false =
+    is_false account.full (λ full.
+    absurd (omega (arith, whole (right.0.full full), few, all.0.all.fewer full, few_calls desk others' all.1))) in (
       ap decisions_in (sym right.0.calls) ∙ all.0.all.all not,
-      asked_each desk events (before + length a.todo.items) others' all.1 right.1 (λ e. omega (arith, whole e, all.0.all.few)) (omega (arith, few)),
+      asked_each desk events (before + length a.todo.items) others' all.1 right.1
+          (λ e. omega (arith, whole e, all.0.all.few)) (omega (arith, few)),
     )
   where
     is_false : (b : Bool) → ¬ (b ≡ true) → b ≡ false
     is_false true h = absurd (h refl)
     is_false false h = refl
 
-pub all_asked : (desk : TableId) (events : List Event) (others' : List Analyst) → AllDone desk others' → AreAccounts events (accounts_in others') → ((x : ℕ) → accounts_of x (accounts_in others') ≡ 0 → calls_by x events ≡ [])
+pub all_asked : (desk : TableId) (events : List Event) (others' : List Analyst) → AllDone desk others'
+    → AreAccounts events (accounts_in others')
+    → ((x : ℕ) → accounts_of x (accounts_in others') ≡ 0 → calls_by x events ≡ [])
     → total_todo others' ≤ 4096 → AllAsked events others'
 all_asked desk events others' all right others few =
-    asked_each desk events 0 others' all right (λ e. omega (arith, e, covered 0 (calls_of events) (accounts_in others') others, sums_same events others' right)) (omega (arith, few))
+    asked_each desk events 0 others' all right
+    (λ e. omega (
+      arith,
+      e,
+      covered 0 (calls_of events) (accounts_in others') others,
+      sums_same events others' right,
+    )) (omega (arith, few))
 
 -- the index form of a fact on each analyst
-pub all_done : (desk : TableId) (others' : List Analyst) → ((i : ℕ) (d : Analyst) → i < length others' → IsDone desk (slice_index_or others' i d)) → AllDone desk others'
+pub all_done : (desk : TableId) (others' : List Analyst)
+    → ((i : ℕ) (d : Analyst) → i < length others' → IsDone desk (slice_index_or others' i d)) → AllDone desk others'
 all_done desk [] each = tt
-all_done desk (a ∷ others') each = (each 0 a (omega arith), all_done desk others' (λ i d less. each (suc i) d (omega (arith, less))))
+all_done desk (a ∷ others') each =
+    (each 0 a (omega arith), all_done desk others' (λ i d less. each (suc i) d (omega (arith, less))))
 
 abbrev SameAt : List Analyst → List Analyst → Type 0
 SameAt old new = (i : ℕ) (d : Analyst) → i < length old → IsSame (slice_index_or old i d) (slice_index_or new i d)
 
 -- what was asked is what was to be asked before the run
-asked_before : (events : List Event) (old new : List Analyst) → length new ≡ length old → SameAt old new → AllAsked events new → AllAsked events old
+asked_before : (events : List Event) (old new : List Analyst) → length new ≡ length old → SameAt old new
+    → AllAsked events new → AllAsked events old
 asked_before events [] new len same all = tt
 asked_before events (a ∷ old) [] len same all = absurd (omega (arith, len))
 asked_before events (a ∷ old) (b ∷ new) len same all =
-    let s = same 0 a (omega arith) in
-    (ap (λ x. decisions_in (calls_by x events)) (sym s.1) ∙ (all.0 ∙ s.0), asked_before events old new (omega (arith, len)) (λ i d less. same (suc i) d (omega (arith, less))) all.1)
+    let s = same 0 a (omega arith) in (
+      ap (λ x. decisions_in (calls_by x events)) (sym s.1) ∙ (all.0 ∙ s.0),
+      asked_before events old new (omega (arith, len)) (λ i d less. same (suc i) d (omega (arith, less))) all.1,
+    )
 
-callers_before : (x : ℕ) (old new : List Analyst) → length new ≡ length old → SameAt old new → accounts_of x (accounts_in new) ≡ accounts_of x (accounts_in old)
+callers_before : (x : ℕ) (old new : List Analyst) → length new ≡ length old → SameAt old new
+    → accounts_of x (accounts_in new) ≡ accounts_of x (accounts_in old)
 callers_before x [] [] len same = refl
 callers_before x [] (b ∷ new) len same = absurd (omega (arith, len))
 callers_before x (a ∷ old) [] len same = absurd (omega (arith, len))
 callers_before x (a ∷ old) (b ∷ new) len same =
     let s = same 0 a (omega arith) in
-    ap (λ y. (if nat_eq y x then 1 else 0) + accounts_of x (accounts_in new)) s.1 ∙ ap (λ n. (if nat_eq a.pass.account.caller x then 1 else 0) + n) (callers_before x old new (omega (arith, len)) (λ i d less. same (suc i) d (omega (arith, less))))
+    ap (λ y. (if nat_eq y x then 1 else 0) + accounts_of x (accounts_in new)) s.1
+    ∙ ap (λ n. (if nat_eq a.pass.account.caller x then 1 else 0) + n)
+    (callers_before x old new (omega (arith, len)) (λ i d less. same (suc i) d (omega (arith, less))))
 
 todo_before : (old new : List Analyst) → length new ≡ length old → SameAt old new → total_todo new ≡ total_todo old
 todo_before [] [] len same = refl
@@ -114,11 +150,17 @@ todo_before [] (b ∷ new) len same = absurd (omega (arith, len))
 todo_before (a ∷ old) [] len same = absurd (omega (arith, len))
 todo_before (a ∷ old) (b ∷ new) len same =
     let s = same 0 a (omega arith) in
-    omega (arith, ap length s.0, todo_before old new (omega (arith, len)) (λ i d less. same (suc i) d (omega (arith, less))))
+    omega (
+      arith,
+      ap length s.0,
+      todo_before old new (omega (arith, len))
+          (λ i d less. same (suc i) d (omega (arith, less))),
+    )
 
 -- ---- a run that is closed
 -- the passes of analysts that have asked all are of the desk
-pub of_desk : (desk : TableId) (analysts : List Analyst) → AllDone desk analysts → (k : ℕ) (d : Passed) → k < length (map (λ a. a.pass) analysts)
+pub of_desk : (desk : TableId) (analysts : List Analyst) → AllDone desk analysts → (k : ℕ) (d : Passed)
+    → k < length (map (λ a. a.pass) analysts)
     → (slice_index_or (map (λ a. a.pass) analysts) k d).desk ≡ desk
 of_desk desk [] all k d less = absurd (omega (arith, less))
 of_desk desk (a ∷ more) all zero d less = all.0.desk_is
@@ -133,14 +175,18 @@ abbrev pub closing : Helmed → List Passed → Helmed
 closing helm passes = record helm { parts = 17; accounts = helm.accounts ++ map (λ p. p.account) passes }
 
 -- all that analysts had to ask is in the journal
-all_asked_in : (desk : TableId) (helm0 helm1 : Helmed) (new : List Analyst) (passes : List Passed) (book : BookView) → Steers helm0 helm1 → helm0.accounts ≡ []
-    → passes ≡ map (λ a. a.pass) new → IsClosed (closing helm1 passes) book → AllDone desk new → total_todo new ≤ 4096 → IsRight book.net book.events → GoesOn book.net book.events
+all_asked_in : (desk : TableId) (helm0 helm1 : Helmed) (new : List Analyst) (passes : List Passed) (book : BookView)
+    → Steers helm0 helm1 → helm0.accounts ≡ []
+    → passes ≡ map (λ a. a.pass) new → IsClosed (closing helm1 passes) book → AllDone desk new → total_todo new ≤ 4096
+    → IsRight book.net book.events → GoesOn book.net book.events
     → IsAllAsked helm0.net new book
 all_asked_in desk helm0 helm1 new passes book steers fresh are closed done few right goes =
     let own : helm1.accounts ++ map (λ p. p.account) passes ≡ accounts_in new =
-    ap (λ l. l ++ map (λ p. p.account) passes) (steers.accounts ∙ fresh) ∙ ap (λ l. map (λ p. p.account) l) are ∙ accounts_are new in
+    ap (λ l. l ++ map (λ p. p.account) passes) (steers.accounts ∙ fresh) ∙ ap (λ l. map (λ p. p.account) l) are
+    ∙ accounts_are new in
     let accounts : AreAccounts book.events (accounts_in new) = subst (AreAccounts book.events) own closed.accounts in
-    let none : (x : ℕ) → accounts_of x (accounts_in new) ≡ 0 → calls_by x book.events ≡ [] = λ x e. closed.others x (ap (accounts_of x) own ∙ e) in
+    let none : (x : ℕ) → accounts_of x (accounts_in new) ≡ 0 → calls_by x book.events ≡ [] =
+    λ x e. closed.others x (ap (accounts_of x) own ∙ e) in
     let net : book.net ≡ helm0.net = closed.net ∙ steers.net in
     record {
       net_is = net;
@@ -149,12 +195,17 @@ all_asked_in desk helm0 helm1 new passes book steers fresh are closed done few r
       others = none;
     }
 
-pub asked_in : (desk : TableId) (helm0 helm1 : Helmed) (old new : List Analyst) (passes : List Passed) (book : BookView) → Steers helm0 helm1 → helm0.accounts ≡ []
-    → passes ≡ map (λ a. a.pass) new → IsClosed (closing helm1 passes) book → IsRight book.net book.events → GoesOn book.net book.events
-    → length new ≡ length old → ((i : ℕ) (d : Analyst) → i < length old → IsDone desk (slice_index_or new i d)) → SameAt old new → total_todo old ≤ 4096
+pub asked_in : (desk : TableId) (helm0 helm1 : Helmed) (old new : List Analyst) (passes : List Passed)
+    (book : BookView) → Steers helm0 helm1 → helm0.accounts ≡ []
+    → passes ≡ map (λ a. a.pass) new → IsClosed (closing helm1 passes) book → IsRight book.net book.events
+    → GoesOn book.net book.events
+    → length new ≡ length old → ((i : ℕ) (d : Analyst) → i < length old → IsDone desk (slice_index_or new i d))
+    → SameAt old new → total_todo old ≤ 4096
     → IsAllAsked helm0.net old book
 asked_in desk helm0 helm1 old new passes book steers fresh are closed right goes len done same few =
-    let l = all_asked_in desk helm0 helm1 new passes book steers fresh are closed (all_done desk new (λ i d less. done i d (omega (arith, less, len)))) (omega (arith, few, todo_before old new len same)) right goes in
+    let l = all_asked_in desk helm0 helm1 new passes book steers fresh are closed
+    (all_done desk new (λ i d less. done i d (omega (arith, less, len))))
+    (omega (arith, few, todo_before old new len same)) right goes in
     record {
       net_is = l.net_is;
       legal = l.legal;
@@ -163,7 +214,8 @@ asked_in desk helm0 helm1 old new passes book steers fresh are closed right goes
     }
 
 -- a world that is at the horizon stands where the journal has led
-finished_at : (helm0 helm1 : Helmed) (passes : List Passed) (book : BookView) (world : WorldView) → Steers helm0 helm1 → IsClosed (closing helm1 passes) book → IsRight book.net book.events
+finished_at : (helm0 helm1 : Helmed) (passes : List Passed) (book : BookView) (world : WorldView) → Steers helm0 helm1
+    → IsClosed (closing helm1 passes) book → IsRight book.net book.events
     → InStep helm1 world → world.front ≡ world.net.horizon → IsFinished helm0.net book world
 finished_at helm0 helm1 passes book world steers closed right stands whole =
     let net : Net = helm0.net in
@@ -172,22 +224,29 @@ finished_at helm0 helm1 passes book world steers closed right stands whole =
     let of_net : world.net ≡ net = stands.net ∙ steers.net in
     let at : front_of helm1.helm ≡ net.horizon = sym stands.front ∙ whole ∙ ap (λ (n : Net). n.horizon) of_net in
     let before : (after net helm1.helm).front ≡ net.horizon = front_is net helm1.helm ∙ at in
-    let is_right : IsRight net (helm1.helm ++ map asked calls) = subst (λ es. IsRight net es) events (subst (λ (n : Net). IsRight n book.events) (closed.net ∙ steers.net) right) in
+    let is_right : IsRight net (helm1.helm ++ map asked calls) =
+    subst (λ es. IsRight net es) events
+    (subst (λ (n : Net). IsRight n book.events) (closed.net ∙ steers.net) right) in
     let same : (after net book.events).clones ≡ (after net helm1.helm).clones =
     ap (λ es. (after net es).clones) events ∙ closed_changes_nothing net helm1.helm calls before is_right in
-    let clones : world.clones ≡ (after net book.events).clones = stands.clones ∙ ap (λ (n : Net). (after n helm1.helm).clones) steers.net ∙ sym same in
+    let clones : world.clones ≡ (after net book.events).clones =
+    stands.clones ∙ ap (λ (n : Net). (after n helm1.helm).clones) steers.net ∙ sym same in
     let front : world.front ≡ net.horizon = whole ∙ ap (λ (n : Net). n.horizon) of_net in
     record {
       last = front_is net book.events ∙ ap front_of events ∙ front_calls net helm1.helm calls ∙ at;
       world_is = λ i. record { net = of_net i; clones = clones i; front = front i };
     }
 
-pub finished_if : (helm0 helm1 : Helmed) (passes : List Passed) (book : BookView) (r : Result WorldView StudyFault) → Steers helm0 helm1 → IsClosed (closing helm1 passes) book → IsRight book.net book.events
+pub finished_if : (helm0 helm1 : Helmed) (passes : List Passed) (book : BookView) (r : Result WorldView StudyFault)
+    → Steers helm0 helm1 → IsClosed (closing helm1 passes) book → IsRight book.net book.events
     → IfOk r (λ w. InStep helm1 w × (w.front ≡ w.net.horizon)) → IfOk r (λ w. IsFinished helm0.net book w)
-finished_if helm0 helm1 passes book (Ok world) steers closed right stands = finished_at helm0 helm1 passes book world steers closed right stands.0 stands.1
+finished_if helm0 helm1 passes book (Ok world) steers closed right stands =
+    finished_at helm0 helm1 passes book world steers closed right stands.0 stands.1
 finished_if helm0 helm1 passes book (Err e) steers closed right stands = tt
 
-pub stopped_if : (helm0 helm1 : Helmed) (passes : List Passed) (book : BookView) (r : Result WorldView StudyFault) → Steers helm0 helm1 → IsClosed (closing helm1 passes) book
+pub stopped_if : (helm0 helm1 : Helmed) (passes : List Passed) (book : BookView) (r : Result WorldView StudyFault)
+    → Steers helm0 helm1 → IsClosed (closing helm1 passes) book
     → IfErr r (λ e. StopsAt helm1 e) → IfErr r (λ e. IsStopped helm0.net book e)
 stopped_if helm0 helm1 passes book (Ok world) steers closed stops = tt
-stopped_if helm0 helm1 passes book (Err e) steers closed stops = record { helm = helm1; net_is = steers.net; only_calls = closed.only_calls; stops = stops }
+stopped_if helm0 helm1 passes book (Err e) steers closed stops =
+    record { helm = helm1; net_is = steers.net; only_calls = closed.only_calls; stops = stops }

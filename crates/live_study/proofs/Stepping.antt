@@ -30,13 +30,15 @@ front_stays s (c ∷ cs) = front_stays (after_event s (asked c)) cs
 -- calls raise no front
 pub front_calls : (net : Net) (h : List Event) (cs : List Call) → front_of (h ++ map asked cs) ≡ front_of h
 front_calls net h cs =
-    sym (front_is net (h ++ map asked cs)) ∙ ap (λ (s : Situation). s.front) (fold_append (opening net) h (map asked cs))
+    sym (front_is net (h ++ map asked cs))
+    ∙ ap (λ (s : Situation). s.front) (fold_append (opening net) h (map asked cs))
     ∙ front_stays (after net h) cs ∙ front_is net h
 
 -- what the world takes in a turn, as the helm's journal tells it
 pub record Takes (h : Helmed) (cs : List Call) : Type 0 where
   pub accepted : AreAccepted h.net (after h.net h.helm).clones (front_of h.helm) (accepted_of cs)
-  pub clones : (after h.net (h.helm ++ map asked cs)).clones ≡ clones_after_calls h.net (after h.net h.helm).clones (accepted_of cs)
+  pub clones : (after h.net (h.helm ++ map asked cs)).clones ≡ clones_after_calls h.net (after h.net h.helm).clones
+      (accepted_of cs)
 
 takes_turn : (h : Helmed) (turn : Turn) (new : Helmed) (cs : List Call) → IsNextTurn h turn new cs → Takes h cs
 takes_turn h turn new cs t =
@@ -51,7 +53,8 @@ takes_turn h turn new cs t =
     }
 
 -- what the turn gives is accepted by a world in step
-pub may_take : (h : Helmed) (w : WorldView) (turn : Turn) (new : Helmed) (cs : List Call) (fresh : List Call) → InStep h w
+pub may_take : (h : Helmed) (w : WorldView) (turn : Turn) (new : Helmed) (cs : List Call) (fresh : List Call)
+    → InStep h w
     → IsNextTurn h turn new cs → fresh ≡ turn.fresh.items → AreAccepted w.net w.clones w.front fresh
 may_take h w turn new cs fresh i t e =
     subst (λ l. AreAccepted w.net w.clones w.front l) (sym (e ∙ t.fresh))
@@ -62,12 +65,17 @@ may_take h w turn new cs fresh i t e =
 
 -- the helm after the turn
 abbrev raised_helm : Helmed → List Call → ℕ → Helmed
-raised_helm h cs front = record h { seen = (h.helm ++ map asked cs) ++ raised front ∷ []; helm = (h.helm ++ map asked cs) ++ raised front ∷ [] }
+raised_helm h cs front = record h {
+  seen = (h.helm ++ map asked cs) ++ raised front ∷ [];
+  helm = (h.helm ++ map asked cs) ++ raised front ∷ [];
+}
 
 -- and the window comes next
-pub goes_ahead : (h : Helmed) (w : WorldView) (turn : Turn) (new : Helmed) (cs : List Call) (fresh : List Call) (w2 : WorldView)
+pub goes_ahead : (h : Helmed) (w : WorldView) (turn : Turn) (new : Helmed) (cs : List Call) (fresh : List Call)
+    (w2 : WorldView)
     → InStep h w → IsNextTurn h turn new cs → fresh ≡ turn.fresh.items
-    → w2.net ≡ w.net → w2.front ≡ w.front → w2.clones ≡ clones_after_calls w.net w.clones fresh → IsAhead new w2 turn.front
+    → w2.net ≡ w.net → w2.front ≡ w.front → w2.clones ≡ clones_after_calls w.net w.clones fresh
+    → IsAhead new w2 turn.front
 goes_ahead h w turn new cs fresh w2 i t e net front clones =
     let j : List Event = h.helm ++ map asked cs in
     let of_net : w2.net ≡ h.net = net ∙ i.net in
@@ -94,25 +102,37 @@ goes_ahead h w turn new cs fresh w2 i t e net front clones =
     })
 
 -- after the window the world is in step
-pub in_step : (h : Helmed) (w w2 : WorldView) (bound : ℕ) → IsAhead h w bound → w2.net ≡ w.net → w2.clones ≡ w.clones → w2.front ≡ bound → InStep h w2
-in_step h w w2 bound a net clones front = record { net = net ∙ a.net; clones = clones ∙ a.clones; front = front ∙ a.bound_is }
+pub in_step : (h : Helmed) (w w2 : WorldView) (bound : ℕ) → IsAhead h w bound → w2.net ≡ w.net → w2.clones ≡ w.clones
+    → w2.front ≡ bound → InStep h w2
+in_step h w w2 bound a net clones front =
+    record { net = net ∙ a.net; clones = clones ∙ a.clones; front = front ∙ a.bound_is }
 
 -- ---- Steers
 pub steers_next : (h new : Helmed) (turn : Turn) (cs : List Call) → IsNextTurn h turn new cs → Steers h new
-steers_next h new turn cs t = subst (λ (n : Helmed). Steers h n) (sym t.new_is) (record { desk = refl; net = refl; parts = refl; made = refl; accounts = refl })
+steers_next h new turn cs t = subst (λ (n : Helmed). Steers h n) (sym t.new_is)
+    (record { desk = refl; net = refl; parts = refl; made = refl; accounts = refl })
 
 pub steers_missed : (h new : Helmed) (j : List Event) → new ≡ record h { seen = j } → Steers h new
-steers_missed h new j e = subst (λ (n : Helmed). Steers h n) (sym e) (record { desk = refl; net = refl; parts = refl; made = refl; accounts = refl })
+steers_missed h new j e = subst (λ (n : Helmed). Steers h n) (sym e)
+    (record { desk = refl; net = refl; parts = refl; made = refl; accounts = refl })
 
 pub steers_on : (a b c : Helmed) → Steers a b → Steers b c → Steers a c
-steers_on a b c s t = record { desk = t.desk ∙ s.desk; net = t.net ∙ s.net; parts = t.parts ∙ s.parts; made = t.made ∙ s.made; accounts = t.accounts ∙ s.accounts }
+steers_on a b c s t = record {
+  desk = t.desk ∙ s.desk;
+  net = t.net ∙ s.net;
+  parts = t.parts ∙ s.parts;
+  made = t.made
+      ∙ s.made;
+  accounts = t.accounts ∙ s.accounts;
+}
 
 pub steers_refl : (a : Helmed) → Steers a a
 steers_refl a = record { desk = refl; net = refl; parts = refl; made = refl; accounts = refl }
 
 -- ---- leasts_of
 -- a world in step has the least times that the helm asks for
-pub leasts_are : (h : Helmed) (w : WorldView) → InStep h w → leasts_of w.net w.clones w.front ≡ leasts_of h.net (after h.net h.helm).clones (front_of h.helm)
+pub leasts_are : (h : Helmed) (w : WorldView) → InStep h w
+    → leasts_of w.net w.clones w.front ≡ leasts_of h.net (after h.net h.helm).clones (front_of h.helm)
 leasts_are h w i =
     ap (λ (n : Net). leasts_of n w.clones w.front) i.net ∙ ap (λ l. leasts_of h.net l w.front) i.clones
     ∙ ap (leasts_of h.net (after h.net h.helm).clones) i.front

@@ -1,5 +1,6 @@
 -- The accepted calls of a turn are calls that a world takes at its front.
-use Rattle.std.proofs.Common.{◌≡◌, ⊎_elim, ℕ, ◌+◌, ◌==◌, refl, sym, ap, ◌∙◌, subst, fold, Bool, true, false, List, [], ◌∷◌, ◌++◌, map, Option, Some, None, option_map}
+use Rattle.std.proofs.Common.{◌≡◌, ⊎_elim, ℕ, ◌+◌, ◌==◌, refl, sym, ap, ◌∙◌, subst, fold, Bool}
+use Rattle.std.proofs.Common.{true, false, List, [], ◌∷◌, ◌++◌, map, Option, Some, None, option_map}
 use Rattle.std.specs.Prelude.{nat_le}
 use Rattle.sim_base.specs.Clones.{clone_at, place_of}
 use Rattle.sim_base.specs.Decisions.{subject}
@@ -55,7 +56,10 @@ taken_accepted : (s : Situation) (c : Call) (cs : List Call) → c.reply ≡ Acc
     → AreTaken (moved s c.decision) cs → AreTaken s (c ∷ cs)
 taken_accepted s c cs h is more =
     let then : after_event s (asked c) ≡ moved s c.decision =
-    ap (λ r. record s { clones = if_accepted r (clones_after s.net s.clones c.decision) s.clones; calls = s.calls + 1 }) h in
+    ap (λ r. record s {
+      clones = if_accepted r (clones_after s.net s.clones c.decision) s.clones;
+      calls = s.calls + 1;
+    }) h in
     let taken : if_taken c.reply c (accepted_of cs) ≡ c ∷ accepted_of cs = ap (λ r. if_taken r c (accepted_of cs)) h in
     record {
       accepted = subst (λ l. AreAccepted s.net s.clones s.front l) (sym taken)
@@ -85,12 +89,17 @@ taken_from net before (c ∷ cs) s is right =
     ⊎_elim
     (λ (h : c.reply ≡ Accepted).
     let now : after_event s (asked c) ≡ moved s c.decision =
-    ap (λ r. record s { clones = if_accepted r (clones_after s.net s.clones c.decision) s.clones; calls = s.calls + 1 }) h in
-    taken_accepted s c cs h (sym answer ∙ h) (taken_from net (before ++ asked c ∷ []) cs (moved s c.decision) (then ∙ now) right.1))
+    ap (λ r. record s {
+      clones = if_accepted r (clones_after s.net s.clones c.decision) s.clones;
+      calls = s.calls + 1;
+    }) h in
+    taken_accepted s c cs h (sym answer ∙ h)
+    (taken_from net (before ++ asked c ∷ []) cs (moved s c.decision) (then ∙ now) right.1))
     (λ (h : Passes c.reply).
     let now : after_event s (asked c) ≡ record s { calls = s.calls + 1 } =
     ap (λ l. record s { clones = l; calls = s.calls + 1 }) (h.1 (clones_after s.net s.clones c.decision) s.clones) in
-    taken_refused s c cs h (taken_from net (before ++ asked c ∷ []) cs (record s { calls = s.calls + 1 }) (then ∙ now) right.1))
+    taken_refused s c cs h (taken_from net (before ++ asked c ∷ []) cs (record s { calls = s.calls + 1 })
+    (then ∙ now) right.1))
     (kind_of c.reply)
 
 -- calls behind a right journal

@@ -50,4 +50,5 @@ AllDone desk (a ∷ others) = IsDone desk a × AllDone desk others
 -- each analyst's calls in the journal are its decisions, in order
 abbrev pub AllAsked : List Event → List Analyst → Type 0
 AllAsked events [] = Unit {0}
-AllAsked events (a ∷ others) = (decisions_in (calls_by a.pass.account.caller events) ≡ a.todo.items) × AllAsked events others
+AllAsked events (a ∷ others) = (decisions_in (calls_by a.pass.account.caller events) ≡ a.todo.items)
+    × AllAsked events others

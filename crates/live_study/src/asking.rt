@@ -42,7 +42,8 @@ pub(crate) fn ask_everyone<G: Gate, R: Threads + Wait + Sync>(
         16,
         &|_i: usize, analyst: &mut Analyst|
             requires { IsReady desk.now.table.shared.table_id analyst.old }
-            ensures { IsDone desk.entry.now.table.shared.table_id analyst.exit.now × IsSame analyst.entry.now analyst.exit.now }
+            ensures { IsDone desk.entry.now.table.shared.table_id analyst.exit.now
+                × IsSame analyst.entry.now analyst.exit.now }
         { ask_all(rt, desk, gate, analyst) },
     );
     analysts

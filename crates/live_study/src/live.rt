@@ -1,5 +1,6 @@
 //! Analysts beside the engine.
-ghost use Rattle.std.specs.Prelude.{◌≡◌, ℕ, ◌+◌, ◌<◌, ◌≤◌, ◌++◌, [], length, map, All, IfOk, IfErr, slice_index_or, vec_len, vec_capacity};
+ghost use Rattle.std.specs.Prelude.{◌≡◌, ℕ, ◌+◌, ◌<◌, ◌≤◌, ◌++◌, [], length};
+ghost use Rattle.std.specs.Prelude.{map, All, IfOk, IfErr, slice_index_or, vec_len, vec_capacity};
 ghost use Rattle.live_study.specs.Asking.{IsReady, IsDone, IsSame, total_todo};
 ghost use Rattle.live_study.specs.Engines.{InStep, Steers, StopsAt};
 ghost use Rattle.live_study.specs.Lives.{IsAllAsked, IsFinished, IsStopped};
@@ -60,7 +61,7 @@ fn side_by_side<C: Crew + Sync, G: Gate, R: Threads + Wait + Sync>(
 
 // The passes of analysts that have asked all, put into what was reserved for them.
 fn passes_of(reserved: Vec<Pass>, analysts: Vec<Analyst>) -> Vec<Pass>
-    requires room { vec_len reserved + length analysts.items ≤ vec_capacity reserved }
+    requires free { vec_len reserved + length analysts.items ≤ vec_capacity reserved }
     ensures passes { result.items ≡ reserved.items ++ map (λ a. a.pass) analysts.items }
 {
     let mut passes = reserved;
@@ -95,7 +96,7 @@ pub fn run_live<C: Crew + Sync, G: Gate, R: Threads + Wait + Sync>(
     requires ready { All (λ a. IsReady desk.table.shared.table_id a) analysts.items }
     requires few { total_todo analysts.items ≤ 4096 }
     requires empty { reserved.items ≡ [] }
-    requires room { length analysts.items ≤ vec_capacity reserved }
+    requires free { length analysts.items ≤ vec_capacity reserved }
     ensures asked { IsAllAsked helm.net analysts.items result.0 }
     ensures finished { IfOk result.1 (λ w. IsFinished helm.net result.0 w) }
     ensures stopped { IfErr result.1 (λ e. IsStopped helm.net result.0 e) }

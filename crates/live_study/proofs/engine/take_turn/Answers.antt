@@ -4,9 +4,13 @@ use Rattle.live_study.proofs.engine.take_turn.Goals as goal
 pub take-requires : goal.take-requires
 take-requires g c =
     let t = c.in_ok-turn.ensures.turn in
-    record { accepted = may_take _ c.args.world c.in_ok-turn.turn _ t.0 _ c.requires.stands t.1 c.as_slice-2.ensures.value }
+    record {
+      accepted = may_take _ c.args.world c.in_ok-turn.turn _ t.0 _ c.requires.stands t.1
+          c.as_slice-2.ensures.value;
+    }
 
 pub returns-clause-ahead : goal.returns-clause-ahead
 returns-clause-ahead g c =
     let t = c.in_ok-turn.ensures.turn in
-    goes_ahead _ c.args.world c.in_ok-turn.turn _ t.0 _ c.in_ok-world.world c.requires.stands t.1 c.as_slice-2.ensures.value c.in_ok-world.ensures.net c.in_ok-world.ensures.front c.in_ok-world.ensures.clones
+    goes_ahead _ c.args.world c.in_ok-turn.turn _ t.0 _ c.in_ok-world.world c.requires.stands t.1
+    c.as_slice-2.ensures.value c.in_ok-world.ensures.net c.in_ok-world.ensures.front c.in_ok-world.ensures.clones
