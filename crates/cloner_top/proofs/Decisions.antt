@@ -20,7 +20,7 @@ use Rattle.decision_book.specs.declared.call.Reply.TheVariants.{Accepted}
 use Rattle.decision_book.proofs.Scripts.{accepted_goes_on, refused_is_first, script_stands}
 use Rattle.cloner_top.specs.declared.stop.Stop.{Stop}
 use Rattle.cloner_top.specs.declared.stop.Stop.TheVariants.{Refused}
-use Rattle.cloner_top.proofs.Accepting.{none_asked}
+use Rattle.study_run.proofs.Accepting.{none_asked}
 use Rattle.study_run.specs.Accepted.{AllAccepted}
 use Rattle.cloner_top.specs.Deciding.{AcceptsAct, IsDecided, IsRefusal, RefusesAct, by_line, decision_lines}
 use Rattle.cloner_top.specs.Deciding.{journal_after, lines_onto, questions, questions_onto, scripted}

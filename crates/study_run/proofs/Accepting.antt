@@ -63,11 +63,11 @@ clones_more net cs [] call = refl
 clones_more net cs (c ∷ calls) call = clones_more net (clones_after net cs c.decision) calls call
 
 -- before all decisions
-none_asked : (net : Net) (events : List Event) → events ≡ [] → AllAccepted net events
+pub none_asked : (net : Net) (events : List Event) → events ≡ [] → AllAccepted net events
 none_asked net events e = subst (AllAccepted net) (sym e) (record { front = refl; accepted = tt; clones = refl })
 
 -- one decision more that is accepted
-asked_more : (net : Net) (events more : List Event) (caller : ℕ) (d : Decision)
+pub asked_more : (net : Net) (events more : List Event) (caller : ℕ) (d : Decision)
     → reply (after net events) d ≡ Accepted → more ≡ journal_with net events caller d
     → after net more ≡ next (after net events) d → AllAccepted net events → AllAccepted net more
 asked_more net events more caller d is same on all =

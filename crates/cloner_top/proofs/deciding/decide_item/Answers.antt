@@ -1,7 +1,7 @@
 use Rattle.std.proofs.Common.{ap, subst, sym}
 use Rattle.decision_book.specs.Books.{BookView}
 use Rattle.study_run.specs.Accepted.{AllAccepted}
-use Rattle.cloner_top.proofs.Accepting.{asked_more}
+use Rattle.study_run.proofs.Accepting.{asked_more}
 use Rattle.cloner_top.proofs.deciding.decide_item.Goals as goal
 
 pub returns-in-Accepted-clause-accepted : goal.returns-in-Accepted-clause-accepted
