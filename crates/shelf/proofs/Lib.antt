@@ -2,3 +2,4 @@ pub mod Prefixes
 pub mod Legals
 pub mod Adding
 pub mod Replacing
+pub mod Opening

@@ -30,6 +30,8 @@
 mod history;
 mod seat;
 mod stocker;
+#[cfg(test)]
+mod tests;
 mod version;
 
 pub use history::{History, Naming, Opened, Published};
