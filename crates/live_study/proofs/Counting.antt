@@ -1,7 +1,7 @@
 -- No decision is answered Full where no more are asked than a journal holds.
 use Rattle.std.proofs.Common.{◌≡◌, ◌≢◌, ℕ, zero, suc, ◌+◌, ◌<◌, ◌≤◌, Bool, true, false}
 use Rattle.std.proofs.Common.{true≢false, List, [], ◌∷◌, ◌++◌, length, nat_eq, if◌then◌else◌, refl, sym, ap}
-use Rattle.std.proofs.Common.{◌∙◌, subst, arith, slice_index_or, map, Result, Ok, Err, IfOk, IfErr}
+use Rattle.std.proofs.Common.{◌∙◌, subst, arith, slice_index_or, map, Result, Ok, Err, IfOk}
 use Rattle.atomic_table.specs.Seated.{TableId}
 use Rattle.net_model.specs.Net.{Net}
 use Rattle.decision_book.specs.declared.call.Call.{Call}
@@ -15,10 +15,11 @@ use Rattle.decision_desk.specs.Passes.{Helmed, IsClosed, Passed}
 use Rattle.decision_desk.proofs.Leasts.{front_is}
 use Rattle.world_core.specs.Worlds.{WorldView}
 use Rattle.study_run.specs.declared.fault.StudyFault.{StudyFault}
-use Rattle.live_study.specs.declared.analyst.Analyst.{Analyst}
-use Rattle.live_study.specs.Asking.{decisions_in, IsDone, IsSame, accounts_in, total_todo, AllDone, AllAsked}
-use Rattle.live_study.specs.Engines.{InStep, Steers, StopsAt}
-use Rattle.live_study.specs.Lives.{IsAllAsked, IsFinished, IsStopped}
+use Rattle.live_study.specs.Asking.{Seated, decided, decisions_in, IsDone, IsSame}
+use Rattle.live_study.specs.Asking.{accounts_in, total_todo, AllDone, AllAsked}
+use Rattle.live_study.specs.Engines.{InStep, Steers}
+use Rattle.live_study.specs.Lives.{IsAllAsked, IsFinished}
+use Rattle.live_study.proofs.Doing.{few_decided}
 use Rattle.live_study.proofs.Stepping.{front_calls}
 
 abbrev sum_calls : ℕ → List Call → List Account → ℕ
@@ -66,40 +67,48 @@ covered n (c ∷ cs) others' others =
     (others x e)) in
     omega (arith, sum_more n c cs others', has, more)
 
-abbrev total_calls : List Analyst → ℕ
+abbrev total_calls : List Seated → ℕ
 total_calls [] = 0
-total_calls (a ∷ others') = length a.pass.account.calls + total_calls others'
+total_calls (a ∷ others') = length a.0.pass.account.calls + total_calls others'
 
-sums_same : (events : List Event) (others' : List Analyst) → AreAccounts events (accounts_in others')
+sums_same : (events : List Event) (others' : List Seated) → AreAccounts events (accounts_in others')
     → sum_calls 0 (calls_of events) (accounts_in others') ≡ total_calls others'
 sums_same events [] all = refl
 sums_same events (a ∷ others') all = omega (arith, ap length all.0.calls, sums_same events others' all.1)
 
-few_calls : (desk : TableId) (others' : List Analyst) → AllDone desk others' → total_calls others' ≤ total_todo others'
+few_calls : (desk : TableId) (others' : List Seated) → AllDone desk others' → total_calls others' ≤ total_todo others'
 few_calls desk [] all = omega arith
-few_calls desk (a ∷ others') all = omega (arith, all.0.all.few, few_calls desk others' all.1)
+few_calls desk (a ∷ others') all =
+    omega (arith, all.0.all.few, few_decided a.0.todo.items, few_calls desk others' all.1)
 
 -- where all calls together are as many as a journal holds, none of these was answered Full
-asked_each : (desk : TableId) (events : List Event) (before : ℕ) (others' : List Analyst) → AllDone desk others'
+asked_each : (desk : TableId) (events : List Event) (before : ℕ) (others' : List Seated) → AllDone desk others'
     → AreAccounts events (accounts_in others')
     → ((e : length (calls_of events) ≡ 4096) → 4096 ≤ before + total_calls others')
     → before + total_todo others' ≤ 4096 → AllAsked events others'
 asked_each desk events before [] all right whole few = tt
 asked_each desk events before (a ∷ others') all right whole few =
-    let account = a.pass.account in
+    let account = a.0.pass.account in
     let not : account.full ≡ false =
     is_false account.full (λ full.
-    absurd (omega (arith, whole (right.0.full full), few, all.0.all.fewer full, few_calls desk others' all.1))) in (
+    absurd (omega (
+      arith,
+      whole (right.0.full full),
+      few,
+      all.0.all.fewer full,
+      few_decided a.0.todo.items,
+      few_calls desk others' all.1,
+    ))) in (
       ap decisions_in (sym right.0.calls) ∙ all.0.all.all not,
-      asked_each desk events (before + length a.todo.items) others' all.1 right.1
-          (λ e. omega (arith, whole e, all.0.all.few)) (omega (arith, few)),
+      asked_each desk events (before + length a.0.todo.items) others' all.1 right.1
+          (λ e. omega (arith, whole e, all.0.all.few, few_decided a.0.todo.items)) (omega (arith, few)),
     )
   where
     is_false : (b : Bool) → ¬ (b ≡ true) → b ≡ false
     is_false true h = absurd (h refl)
     is_false false h = refl
 
-pub all_asked : (desk : TableId) (events : List Event) (others' : List Analyst) → AllDone desk others'
+pub all_asked : (desk : TableId) (events : List Event) (others' : List Seated) → AllDone desk others'
     → AreAccounts events (accounts_in others')
     → ((x : ℕ) → accounts_of x (accounts_in others') ≡ 0 → calls_by x events ≡ [])
     → total_todo others' ≤ 4096 → AllAsked events others'
@@ -113,38 +122,38 @@ all_asked desk events others' all right others few =
     )) (omega (arith, few))
 
 -- the index form of a fact on each analyst
-pub all_done : (desk : TableId) (others' : List Analyst)
-    → ((i : ℕ) (d : Analyst) → i < length others' → IsDone desk (slice_index_or others' i d)) → AllDone desk others'
+pub all_done : (desk : TableId) (others' : List Seated)
+    → ((i : ℕ) (d : Seated) → i < length others' → IsDone desk (slice_index_or others' i d).0) → AllDone desk others'
 all_done desk [] each = tt
 all_done desk (a ∷ others') each =
     (each 0 a (omega arith), all_done desk others' (λ i d less. each (suc i) d (omega (arith, less))))
 
-abbrev SameAt : List Analyst → List Analyst → Type 0
-SameAt old new = (i : ℕ) (d : Analyst) → i < length old → IsSame (slice_index_or old i d) (slice_index_or new i d)
+abbrev SameAt : List Seated → List Seated → Type 0
+SameAt old new = (i : ℕ) (d : Seated) → i < length old → IsSame (slice_index_or old i d).0 (slice_index_or new i d).0
 
 -- what was asked is what was to be asked before the run
-asked_before : (events : List Event) (old new : List Analyst) → length new ≡ length old → SameAt old new
+asked_before : (events : List Event) (old new : List Seated) → length new ≡ length old → SameAt old new
     → AllAsked events new → AllAsked events old
 asked_before events [] new len same all = tt
 asked_before events (a ∷ old) [] len same all = absurd (omega (arith, len))
 asked_before events (a ∷ old) (b ∷ new) len same all =
     let s = same 0 a (omega arith) in (
-      ap (λ x. decisions_in (calls_by x events)) (sym s.1) ∙ (all.0 ∙ s.0),
+      ap (λ x. decisions_in (calls_by x events)) (sym s.caller) ∙ (all.0 ∙ ap decided s.todo),
       asked_before events old new (omega (arith, len)) (λ i d less. same (suc i) d (omega (arith, less))) all.1,
     )
 
-callers_before : (x : ℕ) (old new : List Analyst) → length new ≡ length old → SameAt old new
+callers_before : (x : ℕ) (old new : List Seated) → length new ≡ length old → SameAt old new
     → accounts_of x (accounts_in new) ≡ accounts_of x (accounts_in old)
 callers_before x [] [] len same = refl
 callers_before x [] (b ∷ new) len same = absurd (omega (arith, len))
 callers_before x (a ∷ old) [] len same = absurd (omega (arith, len))
 callers_before x (a ∷ old) (b ∷ new) len same =
     let s = same 0 a (omega arith) in
-    ap (λ y. (if nat_eq y x then 1 else 0) + accounts_of x (accounts_in new)) s.1
-    ∙ ap (λ n. (if nat_eq a.pass.account.caller x then 1 else 0) + n)
+    ap (λ y. (if nat_eq y x then 1 else 0) + accounts_of x (accounts_in new)) s.caller
+    ∙ ap (λ n. (if nat_eq a.0.pass.account.caller x then 1 else 0) + n)
     (callers_before x old new (omega (arith, len)) (λ i d less. same (suc i) d (omega (arith, less))))
 
-todo_before : (old new : List Analyst) → length new ≡ length old → SameAt old new → total_todo new ≡ total_todo old
+todo_before : (old new : List Seated) → length new ≡ length old → SameAt old new → total_todo new ≡ total_todo old
 todo_before [] [] len same = refl
 todo_before [] (b ∷ new) len same = absurd (omega (arith, len))
 todo_before (a ∷ old) [] len same = absurd (omega (arith, len))
@@ -152,33 +161,34 @@ todo_before (a ∷ old) (b ∷ new) len same =
     let s = same 0 a (omega arith) in
     omega (
       arith,
-      ap length s.0,
+      ap length s.todo,
       todo_before old new (omega (arith, len))
           (λ i d less. same (suc i) d (omega (arith, less))),
     )
 
 -- ---- a run that is closed
 -- the passes of analysts that have asked all are of the desk
-pub of_desk : (desk : TableId) (analysts : List Analyst) → AllDone desk analysts → (k : ℕ) (d : Passed)
-    → k < length (map (λ a. a.pass) analysts)
-    → (slice_index_or (map (λ a. a.pass) analysts) k d).desk ≡ desk
+pub of_desk : (desk : TableId) (analysts : List Seated) → AllDone desk analysts → (k : ℕ) (d : Passed)
+    → k < length (map (λ (a : Seated). a.0.pass) analysts)
+    → (slice_index_or (map (λ (a : Seated). a.0.pass) analysts) k d).desk ≡ desk
 of_desk desk [] all k d less = absurd (omega (arith, less))
 of_desk desk (a ∷ more) all zero d less = all.0.desk_is
 of_desk desk (a ∷ more) all (suc k) d less = of_desk desk more all.1 k d (omega (arith, less))
 
-accounts_are : (analysts : List Analyst) → map (λ p. p.account) (map (λ a. a.pass) analysts) ≡ accounts_in analysts
+pub accounts_are : (analysts : List Seated) → map (λ p. p.account) (map (λ (a : Seated). a.0.pass) analysts)
+    ≡ accounts_in analysts
 accounts_are [] = refl
-accounts_are (a ∷ more) = ap (λ l. a.pass.account ∷ l) (accounts_are more)
+accounts_are (a ∷ more) = ap (λ l. a.0.pass.account ∷ l) (accounts_are more)
 
 -- the helm, once all passes were handed back
 abbrev pub closing : Helmed → List Passed → Helmed
 closing helm passes = record helm { parts = 17; accounts = helm.accounts ++ map (λ p. p.account) passes }
 
 -- all that analysts had to ask is in the journal
-all_asked_in : (desk : TableId) (helm0 helm1 : Helmed) (new : List Analyst) (passes : List Passed) (book : BookView)
+all_asked_in : (desk : TableId) (helm0 helm1 : Helmed) (new : List Seated) (passes : List Passed) (book : BookView)
     → Steers helm0 helm1 → helm0.accounts ≡ []
-    → passes ≡ map (λ a. a.pass) new → IsClosed (closing helm1 passes) book → AllDone desk new → total_todo new ≤ 4096
-    → IsRight book.net book.events → GoesOn book.net book.events
+    → passes ≡ map (λ (a : Seated). a.0.pass) new → IsClosed (closing helm1 passes) book → AllDone desk new
+    → total_todo new ≤ 4096 → IsRight book.net book.events → GoesOn book.net book.events
     → IsAllAsked helm0.net new book
 all_asked_in desk helm0 helm1 new passes book steers fresh are closed done few right goes =
     let own : helm1.accounts ++ map (λ p. p.account) passes ≡ accounts_in new =
@@ -195,11 +205,11 @@ all_asked_in desk helm0 helm1 new passes book steers fresh are closed done few r
       others = none;
     }
 
-pub asked_in : (desk : TableId) (helm0 helm1 : Helmed) (old new : List Analyst) (passes : List Passed)
+pub asked_in : (desk : TableId) (helm0 helm1 : Helmed) (old new : List Seated) (passes : List Passed)
     (book : BookView) → Steers helm0 helm1 → helm0.accounts ≡ []
-    → passes ≡ map (λ a. a.pass) new → IsClosed (closing helm1 passes) book → IsRight book.net book.events
-    → GoesOn book.net book.events
-    → length new ≡ length old → ((i : ℕ) (d : Analyst) → i < length old → IsDone desk (slice_index_or new i d))
+    → passes ≡ map (λ (a : Seated). a.0.pass) new → IsClosed (closing helm1 passes) book
+    → IsRight book.net book.events → GoesOn book.net book.events
+    → length new ≡ length old → ((i : ℕ) (d : Seated) → i < length old → IsDone desk (slice_index_or new i d).0)
     → SameAt old new → total_todo old ≤ 4096
     → IsAllAsked helm0.net old book
 asked_in desk helm0 helm1 old new passes book steers fresh are closed right goes len done same few =
@@ -243,10 +253,3 @@ pub finished_if : (helm0 helm1 : Helmed) (passes : List Passed) (book : BookView
 finished_if helm0 helm1 passes book (Ok world) steers closed right stands =
     finished_at helm0 helm1 passes book world steers closed right stands.0 stands.1
 finished_if helm0 helm1 passes book (Err e) steers closed right stands = tt
-
-pub stopped_if : (helm0 helm1 : Helmed) (passes : List Passed) (book : BookView) (r : Result WorldView StudyFault)
-    → Steers helm0 helm1 → IsClosed (closing helm1 passes) book
-    → IfErr r (λ e. StopsAt helm1 e) → IfErr r (λ e. IsStopped helm0.net book e)
-stopped_if helm0 helm1 passes book (Ok world) steers closed stops = tt
-stopped_if helm0 helm1 passes book (Err e) steers closed stops =
-    record { helm = helm1; net_is = steers.net; only_calls = closed.only_calls; stops = stops }

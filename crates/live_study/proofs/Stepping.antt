@@ -1,26 +1,35 @@
 -- The world goes on as the helm's journal does.
-use Rattle.std.proofs.Common.{◌≡◌, ℕ, List, [], ◌∷◌, ◌++◌, map, refl, sym, ap, ◌∙◌, subst, fold, arith}
+use Rattle.std.proofs.Common.{◌≡◌, ◌⊎◌, inl, inr, ⊎_elim, ℕ, ◌<◌, ◌≤◌, Bool, not, List, [], ◌∷◌, ◌++◌, length, map}
+use Rattle.std.proofs.Common.{nat_lt, refl, sym, ap, ◌∙◌, subst, fold, arith}
+use Rattle.std.specs.List.{filter}
+use Rattle.std.proofs.lemmas.List.Filters.{length-filter_both}
+use Rattle.sim_base.specs.Clones.{Clone, clone_at}
 use Rattle.net_model.specs.Net.{Net}
-use Rattle.stations.specs.Runs.{next_front}
+use Rattle.net_model.specs.Rules.{IsNet}
+use Rattle.run_laws.specs.Queue.{In}
+use Rattle.run_laws.proofs.Fronts.{log_at_front}
+use Rattle.stations.specs.Runs.{log_at, next_front}
+use Rattle.stations.proofs.GoodLaws.{lawful-stations}
 use Rattle.decision_book.specs.declared.call.Call.{Call}
-use Rattle.decision_book.specs.Journal.{Event, Situation, raised, asked, after, after_event, opening}
+use Rattle.decision_book.specs.Journal.{Event, Situation, raised, asked, after, after_event, fronts_of, opening}
+use Rattle.decision_book.specs.Right.{EachAfter, IsRight, MayFollow}
 use Rattle.decision_book.specs.Scripts.{accepted_of}
 use Rattle.decision_book.proofs.JournalScripts.{fold_append, net_stays}
 use Rattle.decision_desk.specs.declared.helm.Turn.{Turn}
-use Rattle.decision_desk.specs.Accounts.{front_of}
-use Rattle.decision_desk.specs.Leasts.{leasts_of}
+use Rattle.decision_desk.specs.Accounts.{RisesFrom, front_from, front_of}
 use Rattle.decision_desk.specs.Passes.{Helmed, IsNextTurn}
-use Rattle.decision_desk.proofs.Journals.{front_raised}
+use Rattle.decision_desk.proofs.Journals.{front_asked, front_raised}
 use Rattle.decision_desk.proofs.Leasts.{front_is}
+use Rattle.world_core.specs.Overs.{NoneBeyond}
 use Rattle.world_core.specs.Taking.{AreAccepted, clones_after_calls}
 use Rattle.world_core.specs.Worlds.{WorldView}
-use Rattle.live_study.specs.Engines.{InStep, IsAhead, Steers}
+use Rattle.live_study.specs.Engines.{InStep, IsAhead}
 use Rattle.live_study.proofs.Taking.{taken_behind}
 
 net_of : (net : Net) (es : List Event) → (after net es).net ≡ net
 net_of net es = net_stays (opening net) es
 
-front_after : (net : Net) (j : List Event) (f : ℕ) → (after net (j ++ raised f ∷ [])).clones ≡ (after net j).clones
+pub front_after : (net : Net) (j : List Event) (f : ℕ) → (after net (j ++ raised f ∷ [])).clones ≡ (after net j).clones
 front_after net j f = ap (λ (s : Situation). s.clones) (fold_append (opening net) j (raised f ∷ []))
 
 front_stays : (s : Situation) (cs : List Call) → (fold after_event s (map asked cs)).front ≡ s.front
@@ -34,6 +43,70 @@ front_calls net h cs =
     ∙ ap (λ (s : Situation). s.front) (fold_append (opening net) h (map asked cs))
     ∙ front_stays (after net h) cs ∙ front_is net h
 
+-- ---- the fronts of a journal
+-- those of a right journal rise
+rises_behind : (net : Net) (before es : List Event) → EachAfter (MayFollow net) before es → RisesFrom (front_of before) es
+rises_behind net before [] right = tt
+rises_behind net before (raised f ∷ es) right =
+    let at = front_is net before in
+    let less = right.0.0 in (
+      omega (arith, less, at),
+      subst (λ g. RisesFrom g es) (front_raised before f) (rises_behind net (before ++ raised f ∷ []) es right.1),
+    )
+rises_behind net before (asked c ∷ es) right =
+    subst (λ g. RisesFrom g es) (front_asked before c) (rises_behind net (before ++ asked c ∷ []) es right.1)
+
+pub rises : (net : Net) (es : List Event) → IsRight net es → RisesFrom 0 es
+rises net es right = rises_behind net [] es right
+
+last_from : (g : ℕ) (es : List Event) → RisesFrom g es → g ≤ front_from g es
+last_from g [] r = omega arith
+last_from g (raised f ∷ es) r = omega (arith, r.0, last_from f es r.1)
+last_from g (asked c ∷ es) r = last_from g es r
+
+-- so none is later than the last
+pub no_later_from : (g : ℕ) (es : List Event) (f : ℕ) → RisesFrom g es → In f (fronts_of es) → f ≤ front_from g es
+no_later_from g [] f r there = absurd there
+no_later_from g (raised h ∷ es) f r there = ⊎_elim
+    (λ (e : f ≡ h). omega (arith, e, last_from h es r.1))
+    (λ (more : In f (fronts_of es)). no_later_from h es f r.1 more)
+    there
+no_later_from g (asked c ∷ es) f r there = no_later_from g es f r there
+
+-- with one more, each is one of those before or this one
+front_in : (es : List Event) (last f : ℕ) → In f (fronts_of (es ++ raised last ∷ [])) → In f (fronts_of es) ⊎ (f ≡ last)
+front_in [] last f there = ⊎_elim (λ (e : f ≡ last). inr e) (λ (none : In f []). absurd none) there
+front_in (raised h ∷ es) last f there = ⊎_elim
+    (λ (e : f ≡ h). inl (inl e))
+    (λ (more : In f (fronts_of (es ++ raised last ∷ []))). ⊎_elim
+    (λ (k : In f (fronts_of es)). inl (inr k))
+    (λ (k : f ≡ last). inr k)
+    (front_in es last f more))
+    there
+front_in (asked c ∷ es) last f there = front_in es last f there
+
+-- those before the last one are no later than the one before it
+pub before_last : (net : Net) (es : List Event) (last f : ℕ) → IsRight net es
+    → In f (fronts_of (es ++ raised last ∷ [])) → f < last → f ≤ front_of es
+before_last net es last f right there less = ⊎_elim
+    (λ (k : In f (fronts_of es)). no_later_from 0 es f (rises net es right) k)
+    (λ (k : f ≡ last). absurd (omega (arith, k, less)))
+    (front_in es last f there)
+
+-- ---- the limit
+few_filtered : {A : Type 0} (p : A → Bool) (xs : List A) → length (filter p xs) ≤ length xs
+few_filtered p xs = let both = length-filter_both p (λ x. not (p x)) (λ x. refl) xs in omega (arith, both)
+
+-- where no log is beyond the limit, none was at an earlier front
+pub none_earlier : (net : Net) (cs : List Clone) (f front : ℕ) → IsNet net → f ≤ front → NoneBeyond net cs front
+    → NoneBeyond net cs f
+none_earlier net cs f front valid early none s c low high there beyond =
+    let log = log_at net (clone_at cs c) s front in
+    let same = ap length (log_at_front (lawful-stations net valid) (clone_at cs c) s f front early) in
+    let few = few_filtered (λ e. nat_lt e.msg.key.time f) log in
+    none s c low high there (omega (arith, beyond, same, few))
+
+-- ---- a turn
 -- what the world takes in a turn, as the helm's journal tells it
 pub record Takes (h : Helmed) (cs : List Call) : Type 0 where
   pub accepted : AreAccepted h.net (after h.net h.helm).clones (front_of h.helm) (accepted_of cs)
@@ -63,20 +136,13 @@ may_take h w turn new cs fresh i t e =
     (subst (λ (n : Net). AreAccepted n (after h.net h.helm).clones (front_of h.helm) (accepted_of cs)) (sym i.net)
     (takes_turn h turn new cs t).accepted)))
 
--- the helm after the turn
-abbrev raised_helm : Helmed → List Call → ℕ → Helmed
-raised_helm h cs front = record h {
-  seen = (h.helm ++ map asked cs) ++ raised front ∷ [];
-  helm = (h.helm ++ map asked cs) ++ raised front ∷ [];
-}
-
 -- and the window comes next
 pub goes_ahead : (h : Helmed) (w : WorldView) (turn : Turn) (new : Helmed) (cs : List Call) (fresh : List Call)
     (w2 : WorldView)
     → InStep h w → IsNextTurn h turn new cs → fresh ≡ turn.fresh.items
     → w2.net ≡ w.net → w2.front ≡ w.front → w2.clones ≡ clones_after_calls w.net w.clones fresh
-    → IsAhead new w2 turn.front
-goes_ahead h w turn new cs fresh w2 i t e net front clones =
+    → IsNet w2.net → NoneBeyond w2.net w2.clones w2.front → IsAhead new w2 turn.front
+goes_ahead h w turn new cs fresh w2 i t e net front clones valid none =
     let j : List Event = h.helm ++ map asked cs in
     let of_net : w2.net ≡ h.net = net ∙ i.net in
     let of_front : w2.front ≡ front_of h.helm = front ∙ i.front in
@@ -99,40 +165,7 @@ goes_ahead h w turn new cs fresh w2 i t e net front clones =
       above = omega (arith, of_front, calls, above);
       within = omega (arith, next);
       early = omega (arith, within, horizon);
+      short = λ f there less.
+          let early = before_last h.net j turn.front f t.right there less in
+          none_earlier w2.net w2.clones f w2.front valid (omega (arith, early, of_front, calls)) none;
     })
-
--- after the window the world is in step
-pub in_step : (h : Helmed) (w w2 : WorldView) (bound : ℕ) → IsAhead h w bound → w2.net ≡ w.net → w2.clones ≡ w.clones
-    → w2.front ≡ bound → InStep h w2
-in_step h w w2 bound a net clones front =
-    record { net = net ∙ a.net; clones = clones ∙ a.clones; front = front ∙ a.bound_is }
-
--- ---- Steers
-pub steers_next : (h new : Helmed) (turn : Turn) (cs : List Call) → IsNextTurn h turn new cs → Steers h new
-steers_next h new turn cs t = subst (λ (n : Helmed). Steers h n) (sym t.new_is)
-    (record { desk = refl; net = refl; parts = refl; made = refl; accounts = refl })
-
-pub steers_missed : (h new : Helmed) (j : List Event) → new ≡ record h { seen = j } → Steers h new
-steers_missed h new j e = subst (λ (n : Helmed). Steers h n) (sym e)
-    (record { desk = refl; net = refl; parts = refl; made = refl; accounts = refl })
-
-pub steers_on : (a b c : Helmed) → Steers a b → Steers b c → Steers a c
-steers_on a b c s t = record {
-  desk = t.desk ∙ s.desk;
-  net = t.net ∙ s.net;
-  parts = t.parts ∙ s.parts;
-  made = t.made
-      ∙ s.made;
-  accounts = t.accounts ∙ s.accounts;
-}
-
-pub steers_refl : (a : Helmed) → Steers a a
-steers_refl a = record { desk = refl; net = refl; parts = refl; made = refl; accounts = refl }
-
--- ---- leasts_of
--- a world in step has the least times that the helm asks for
-pub leasts_are : (h : Helmed) (w : WorldView) → InStep h w
-    → leasts_of w.net w.clones w.front ≡ leasts_of h.net (after h.net h.helm).clones (front_of h.helm)
-leasts_are h w i =
-    ap (λ (n : Net). leasts_of n w.clones w.front) i.net ∙ ap (λ l. leasts_of h.net l w.front) i.clones
-    ∙ ap (leasts_of h.net (after h.net h.helm).clones) i.front

@@ -1,10 +1,14 @@
--- What analysts ask.
+-- What analysts ask, and what they keep of their looks.
 use Rattle.std.specs.Prelude.{◌≡◌, ℕ, ◌+◌, ◌<◌, ◌≤◌, List, [], ◌∷◌, length, true, false}
+use Rattle.std.specs.List.{flat_map}
 use Rattle.atomic_table.specs.Seated.{TableId}
 use Rattle.sim_base.specs.declared.decision.Decision.{Decision}
+use Rattle.decision_script.specs.declared.item.Act.{Act}
+use Rattle.decision_script.specs.Alone.{decisions_onto}
 use Rattle.decision_book.specs.declared.call.Call.{Call}
 use Rattle.decision_book.specs.Journal.{Event}
 use Rattle.decision_desk.specs.Accounts.{Account, calls_by}
+use Rattle.phys_proc.specs.Racks.{RackView}
 use Rattle.live_study.specs.declared.analyst.Analyst.{Analyst}
 
 -- the decisions of calls, each with its place in the journal
@@ -12,43 +16,57 @@ abbrev pub decisions_in : List (ℕ × Call) → List Decision
 decisions_in [] = []
 decisions_in (p ∷ ps) = p.1.decision ∷ decisions_in ps
 
+-- the decisions among acts, in order
+abbrev pub decided : List Act → List Decision
+decided acts = flat_map (λ act. decisions_onto act []) acts
+
 -- these decisions were asked: all are in the journal, or some was answered Full, and so is not
 pub record AskedSo (ds : List Decision) (a : Account) : Type 0 where
   pub all : a.full ≡ false → decisions_in a.calls ≡ ds
   pub few : length a.calls ≤ length ds
   pub fewer : a.full ≡ true → length a.calls < length ds
 
--- an analyst that has asked nothing yet, at this desk
-pub record IsReady (desk : TableId) (a : Analyst) : Type 0 where
+-- an analyst that has asked what is to be decided in these acts, at this desk
+pub record HasAsked (desk : TableId) (acts : List Act) (a : Analyst) : Type 0 where
   pub desk_is : a.pass.desk ≡ desk
-  pub none : AskedSo [] a.pass.account
+  pub all : AskedSo (decided acts) a.pass.account
 
--- an analyst that has asked all
-pub record IsDone (desk : TableId) (a : Analyst) : Type 0 where
-  pub desk_is : a.pass.desk ≡ desk
-  pub all : AskedSo a.todo.items a.pass.account
+-- one that has asked nothing yet
+abbrev pub IsReady : TableId → Analyst → Type 0
+IsReady desk a = HasAsked desk [] a
 
--- the same decisions, by the same caller
-abbrev pub IsSame : Analyst → Analyst → Type 0
-IsSame old new = (new.todo.items ≡ old.todo.items) × (new.pass.account.caller ≡ old.pass.account.caller)
+-- and one that has asked all
+abbrev pub IsDone : TableId → Analyst → Type 0
+IsDone desk a = HasAsked desk a.todo.items a
+
+-- what stays of an analyst: what it has to do, who it is, and its room for looks
+pub record IsSame (old new : Analyst) : Type 0 where
+  pub todo : new.todo.items ≡ old.todo.items
+  pub caller : new.pass.account.caller ≡ old.pass.account.caller
+  pub number : new.number ≡ old.number
+  pub room : new.looks.reserved ≡ old.looks.reserved
+
+-- an analyst and its seat, as contracts see them
+abbrev pub Seated : Type 0
+Seated = Analyst × List RackView
 
 -- the accounts of analysts, in order
-abbrev pub accounts_in : List Analyst → List Account
+abbrev pub accounts_in : List Seated → List Account
 accounts_in [] = []
-accounts_in (a ∷ others) = a.pass.account ∷ accounts_in others
+accounts_in (a ∷ others) = a.0.pass.account ∷ accounts_in others
 
--- how many decisions these analysts ask
-abbrev pub total_todo : List Analyst → ℕ
+-- how many acts these analysts have
+abbrev pub total_todo : List Seated → ℕ
 total_todo [] = 0
-total_todo (a ∷ others) = length a.todo.items + total_todo others
+total_todo (a ∷ others) = length a.0.todo.items + total_todo others
 
 -- each has asked all
-abbrev pub AllDone : TableId → List Analyst → Type 0
+abbrev pub AllDone : TableId → List Seated → Type 0
 AllDone desk [] = Unit {0}
-AllDone desk (a ∷ others) = IsDone desk a × AllDone desk others
+AllDone desk (a ∷ others) = IsDone desk a.0 × AllDone desk others
 
 -- each analyst's calls in the journal are its decisions, in order
-abbrev pub AllAsked : List Event → List Analyst → Type 0
+abbrev pub AllAsked : List Event → List Seated → Type 0
 AllAsked events [] = Unit {0}
-AllAsked events (a ∷ others) = (decisions_in (calls_by a.pass.account.caller events) ≡ a.todo.items)
-    × AllAsked events others
+AllAsked events (a ∷ others) =
+    (decisions_in (calls_by a.0.pass.account.caller events) ≡ decided a.0.todo.items) × AllAsked events others

@@ -1,10 +1,12 @@
 -- The engine's part: a world that goes on as the helm's journal does.
-use Rattle.std.specs.Prelude.{◌≡◌, ℕ, ◌<◌, ◌≤◌}
+use Rattle.std.specs.Prelude.{◌≡◌, ℕ, ◌<◌, ◌≤◌, List}
+use Rattle.net_model.specs.Net.{Net}
+use Rattle.run_laws.specs.Queue.{In}
 use Rattle.stations.specs.Runs.{next_front}
-use Rattle.decision_book.specs.Journal.{after}
+use Rattle.decision_book.specs.Journal.{Event, after, fronts_of}
 use Rattle.decision_desk.specs.Accounts.{front_of}
 use Rattle.decision_desk.specs.Passes.{Helmed}
-use Rattle.world_core.specs.Overs.{IsFirstBeyond}
+use Rattle.world_core.specs.Overs.{IsFirstBeyond, NoneBeyond}
 use Rattle.world_core.specs.Worlds.{WorldView}
 use Rattle.study_run.specs.declared.fault.StudyFault.{StudyFault}
 use Rattle.study_run.specs.declared.fault.StudyFault.TheVariants.{NoMemory, LimitMet}
@@ -15,7 +17,8 @@ pub record InStep (h : Helmed) (w : WorldView) : Type 0 where
   pub clones : w.clones ≡ (after h.net h.helm).clones
   pub front : w.front ≡ front_of h.helm
 
--- the helm has raised the front to this bound, and the world has taken what was accepted before: the window comes next
+-- the helm has raised the front to this bound, and the world has taken what was accepted before: the window comes next;
+-- at the fronts before it no log is beyond the limit
 pub record IsAhead (h : Helmed) (w : WorldView) (bound : ℕ) : Type 0 where
   pub net : w.net ≡ h.net
   pub clones : w.clones ≡ (after h.net h.helm).clones
@@ -23,6 +26,7 @@ pub record IsAhead (h : Helmed) (w : WorldView) (bound : ℕ) : Type 0 where
   pub above : w.front < bound
   pub within : bound ≤ next_front w.net w.clones w.front
   pub early : bound ≤ w.net.horizon
+  pub short : (f : ℕ) → In f (fronts_of h.helm) → f < bound → NoneBeyond w.net w.clones f
 
 -- what the engine leaves of its helm as it was
 pub record Steers (old new : Helmed) : Type 0 where
@@ -32,8 +36,13 @@ pub record Steers (old new : Helmed) : Type 0 where
   pub made : new.made ≡ old.made
   pub accounts : new.accounts ≡ old.accounts
 
--- why the engine stopped: out of memory needs no cause; a limit names the least station, and there the least clone,
--- with a log beyond the limit at the last front that the helm raised
-abbrev pub StopsAt : Helmed → StudyFault → Type 0
-StopsAt h NoMemory = Unit {0}
-StopsAt h (LimitMet station who) = IsFirstBeyond h.net (after h.net h.helm).clones (front_of h.helm) station who
+-- the limit is met at the last front of a journal: the station is the least that has a log beyond the limit there, and
+-- the clone the least of those; at no earlier front of the journal is a log beyond it
+pub record MeetsLimitLast (net : Net) (events : List Event) (station who : ℕ) : Type 0 where
+  pub first : IsFirstBeyond net (after net events).clones (front_of events) station who
+  pub none_before : (f : ℕ) → In f (fronts_of events) → f < front_of events → NoneBeyond net (after net events).clones f
+
+-- why the engine stopped, over its journal: out of memory needs no cause; a limit is met at the last front
+abbrev pub StopsAt : Net → List Event → StudyFault → Type 0
+StopsAt net events NoMemory = Unit {0}
+StopsAt net events (LimitMet station who) = MeetsLimitLast net events station who

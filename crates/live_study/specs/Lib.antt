@@ -1,3 +1,9 @@
 pub mod Asking
+pub mod Closing
 pub mod Engines
+pub mod Laws
+pub mod Looks
 pub mod Lives
+pub mod Opening
+pub mod Scripts
+pub mod Showing

@@ -1,24 +1,39 @@
 -- What a live run leaves.
-use Rattle.std.specs.Prelude.{◌≡◌, ℕ, List, []}
+use Rattle.std.specs.Prelude.{◌≡◌, ℕ, List, [], map}
+use Rattle.std.specs.List.{AllByRecursion, flat_map}
+use Rattle.sim_base.specs.Reserved.{ReservedView}
 use Rattle.net_model.specs.Net.{Net}
-use Rattle.decision_book.specs.Journal.{after}
+use Rattle.decision_book.specs.Journal.{Event, after}
 use Rattle.decision_book.specs.Books.{BookView}
-use Rattle.decision_desk.specs.Accounts.{OnlyCalls, accounts_of, calls_by}
+use Rattle.decision_desk.specs.Accounts.{accounts_of, calls_by}
 use Rattle.decision_desk.specs.Legal.{IsLegal}
-use Rattle.decision_desk.specs.Passes.{Helmed}
+use Rattle.journal_text.specs.declared.looked.Looked.{Looked}
 use Rattle.world_core.specs.Worlds.{WorldView}
 use Rattle.study_run.specs.declared.fault.StudyFault.{StudyFault}
-use Rattle.live_study.specs.Asking.{AllAsked, accounts_in}
+use Rattle.live_study.specs.Asking.{AllAsked, Seated, accounts_in}
 use Rattle.live_study.specs.Engines.{StopsAt}
-use Rattle.live_study.specs.declared.analyst.Analyst.{Analyst}
+use Rattle.live_study.specs.Looks.{IsTrueLook, NeverFall, asked_for}
 
 -- a journal in which all was asked: it is legal, each analyst's calls in it are its decisions, in order, and nobody
 -- else has calls
-pub record IsAllAsked (net : Net) (analysts : List Analyst) (book : BookView) : Type 0 where
+pub record IsAllAsked (net : Net) (seated : List Seated) (book : BookView) : Type 0 where
   pub net_is : book.net ≡ net
   pub legal : IsLegal net book.events
-  pub asked_all : AllAsked book.events analysts
-  pub others : (x : ℕ) → accounts_of x (accounts_in analysts) ≡ 0 → calls_by x book.events ≡ []
+  pub asked_all : AllAsked book.events seated
+  pub others : (x : ℕ) → accounts_of x (accounts_in seated) ≡ 0 → calls_by x book.events ≡ []
+
+-- what each analyst has looked at, in order
+abbrev pub looks_made : List (ReservedView Looked) → List (List (ℕ × List ℕ × List ℕ))
+looks_made looks = map (λ r. map asked_for r.items) looks
+
+-- the looks that analysts kept, one after the other
+abbrev pub kept : List (ReservedView Looked) → List Looked
+kept looks = flat_map (λ r. r.items) looks
+
+-- what these analysts saw is true of this journal, and no front of one of them falls
+pub record AreTold (net : Net) (events : List Event) (looks : List (ReservedView Looked)) : Type 0 where
+  pub true_ones : AllByRecursion (IsTrueLook net events) (kept looks)
+  pub rise : AllByRecursion (λ r. NeverFall r.items) looks
 
 -- a run that was finished: the last front of the journal is the horizon, and the world stands there with the clones
 -- that the journal leaves
@@ -26,9 +41,6 @@ pub record IsFinished (net : Net) (book : BookView) (world : WorldView) : Type 0
   pub last : (after net book.events).front ≡ net.horizon
   pub world_is : world ≡ record { net = net; clones = (after net book.events).clones; front = net.horizon }
 
--- a run that was stopped: calls alone follow the journal of the engine, at whose last front it stopped
-pub record IsStopped (net : Net) (book : BookView) (fault : StudyFault) : Type 0 where
-  pub helm : Helmed
-  pub net_is : helm.net ≡ net
-  pub only_calls : OnlyCalls helm.helm book.events
-  pub stops : StopsAt helm fault
+-- why a run was stopped, over its journal
+abbrev pub IsStopped : Net → BookView → StudyFault → Type 0
+IsStopped net book fault = StopsAt net book.events fault

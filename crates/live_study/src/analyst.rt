@@ -2,14 +2,17 @@
 ghost use Rattle.std.specs.Prelude.{◌≤◌, length};
 
 use decision_desk::Pass;
-use sim_base::Decision;
+use decision_script::Act;
+use journal_text::Looked;
+use sim_base::Reserved;
 
-/// An analyst: its number, its pass to the desk, and what it will decide, in order.
+/// An analyst: its number, its pass to the desk, what it will do, in order, and what it saw at its looks.
 #[derive(Drop)]
 pub struct Analyst {
     /// From 1, as the desk numbers its callers.
     pub number: u32,
     pub pass: Pass,
-    pub todo: Vec<Decision>,
+    pub todo: Vec<Act>,
+    pub looks: Reserved<Looked>,
     pub ghost few: { length todo.items ≤ 4096 },
 }

@@ -1,50 +1,167 @@
 //! What analysts do.
-ghost use Rattle.std.specs.Prelude.{◌≡◌, ◌<◌, All, ℕ, length, slice_index_or};
-ghost use Rattle.live_study.specs.Asking.{IsReady, IsDone, IsSame};
+ghost use Rattle.std.specs.Prelude.{◌≡◌, ◌++◌, ◌∷◌, ◌<◌, ◌≤◌, [], All, List, ℕ, length, slice_index_or};
+ghost use mathlib.Core.List.{IsPrefix};
+ghost use Rattle.atomic_table.specs.Seated.{TableId};
+ghost use Rattle.net_model.specs.Net.{Net};
+ghost use Rattle.decision_script.specs.declared.item.Act.{Act as OfAct};
+ghost use Rattle.decision_script.specs.declared.item.Act.TheVariants.{Decide, Look};
+ghost use Rattle.live_study.specs.Asking.{HasAsked, IsReady, IsDone, IsSame};
+ghost use Rattle.live_study.specs.Looks.{HasRacks, IsNoEarlier, IsRead};
+ghost use Rattle.live_study.specs.Showing.{HasLooked, HasRoom};
 
 use crate::analyst::Analyst;
 use crew_pool::Gate;
 use decision_desk::Desk;
+use decision_script::Act;
+use journal_text::Looked;
+use net_model::Model;
+use shelf::{Naming, Seat};
+use sim_base::{Decision, Name};
 use std::sync::Wait;
 use std::thread;
 use std::thread::Threads;
 
-/// An analyst asks all that it has to ask, in order.
-pub(crate) fn ask_all<G: Gate, R: Wait>(rt: &R, desk: &Desk, gate: &G, analyst: &mut Analyst)
-    requires { IsReady desk.now.table.shared.table_id analyst.old }
+// Asks a decision.
+fn ask<R: Wait>(rt: &R, desk: &Desk, analyst: &mut Analyst, d: Decision)
+    requires desk { analyst.old.pass.desk ≡ desk.now.table.shared.table_id }
+    ensures asked { (acts : List OfAct) → HasAsked desk.now.table.shared.table_id acts analyst.old →
+        HasAsked desk.now.table.shared.table_id (acts ++ Decide d ∷ []) analyst.new }
+    ensures same { IsSame analyst.old analyst.new }
+    ensures looks { analyst.new.looks ≡ analyst.old.looks }
+{
+    let _receipt = desk.decide(rt, &mut analyst.pass, d);
+}
+
+// Looks at a clone's station. Where the model has no such station, nothing is seen.
+fn see<J: Naming>(
+    model: &Model,
+    seat: &mut Seat<J>,
+    number: u32,
+    who: Name,
+    station: Name,
+) -> Looked
+    requires there { HasRacks model.now seat.old }
+    ensures begins { IsPrefix seat.old seat.new }
+    ensures there { HasRacks model.now seat.new }
+    ensures read { IsRead model.now seat.new result }
+    // no look that was made before was at a later front
+    ensures later { (l : _) → IsRead model.now seat.old l → IsNoEarlier l result }
+    ensures number { result.analyst ≡ number }
+    ensures who { result.who ≡ who }
+    ensures station { result.station ≡ station }
+{
+    let glance = match model.find(&station) {
+        Some(s) => Some(seat.look(s, &who)),
+        None => None,
+    };
+    Looked {
+        analyst: number,
+        who,
+        station,
+        glance,
+    }
+}
+
+// Looks, and keeps what was seen.
+fn look<J: Naming>(
+    model: &Model,
+    analyst: &mut Analyst,
+    seat: &mut Seat<J>,
+    who: Name,
+    station: Name,
+)
+    requires there { HasRacks model.now seat.old }
+    requires room { length analyst.old.looks.items < analyst.old.looks.reserved }
+    ensures looked { (acts : List OfAct) → HasLooked model.now acts (analyst.old, seat.old) →
+        HasLooked model.now (acts ++ Look who station ∷ []) (analyst.new, seat.new) }
+    ensures same { IsSame analyst.old analyst.new }
+    ensures pass { analyst.new.pass ≡ analyst.old.pass }
+{
+    let looked = see(model, seat, analyst.number, who, station);
+    let Ok(()) = analyst.looks.push(looked) else {
+        unreachable!()
+    };
+}
+
+// Does what an act says.
+fn act_once<J: Naming, R: Wait>(
+    rt: &R,
+    desk: &Desk,
+    model: &Model,
+    analyst: &mut Analyst,
+    seat: &mut Seat<J>,
+    act: Act,
+)
+    requires desk { analyst.old.pass.desk ≡ desk.now.table.shared.table_id }
+    requires there { HasRacks model.now seat.old }
+    requires room { length analyst.old.looks.items < analyst.old.looks.reserved }
+    ensures asked { (acts : List OfAct) → HasAsked desk.now.table.shared.table_id acts analyst.old →
+        HasAsked desk.now.table.shared.table_id (acts ++ act ∷ []) analyst.new }
+    ensures looked { (acts : List OfAct) → HasLooked model.now acts (analyst.old, seat.old) →
+        HasLooked model.now (acts ++ act ∷ []) (analyst.new, seat.new) }
+    ensures same { IsSame analyst.old analyst.new }
+{
+    match act {
+        Act::Decide(d) => ask(rt, desk, analyst, d),
+        Act::Look { who, station } => look(model, analyst, seat, who, station),
+    }
+}
+
+/// An analyst does all that it has to do, in order.
+pub(crate) fn act_all<J: Naming, G: Gate, R: Wait>(
+    rt: &R,
+    desk: &Desk,
+    gate: &G,
+    model: &Model,
+    analyst: &mut Analyst,
+    seat: &mut Seat<J>,
+)
+    requires ready { IsReady desk.now.table.shared.table_id analyst.old }
+    requires none { HasLooked model.now [] (analyst.old, seat.old) }
+    requires room { HasRoom analyst.old }
     ensures done { IsDone desk.now.table.shared.table_id analyst.new }
+    ensures looked { HasLooked model.now analyst.new.todo.items (analyst.new, seat.new) }
     ensures same { IsSame analyst.old analyst.new }
 {
     for k in 0..analyst.todo.len() {
         gate.before_call(rt, analyst.number, k as u32);
-        let d = analyst.todo[k];
-        let _receipt = desk.decide(rt, &mut analyst.pass, d);
+        let act = analyst.todo[k];
+        act_once(rt, desk, model, analyst, seat, act);
     }
 }
 
 /// All analysts' parts, each in a thread of its own.
-pub(crate) fn ask_everyone<G: Gate, R: Threads + Wait + Sync>(
+pub(crate) fn act_everyone<J: Naming + Send + Sync, G: Gate, R: Threads + Wait + Sync>(
     rt: &R,
     desk: &Desk,
     gate: &G,
-    mut analysts: Vec<Analyst>,
-) -> Vec<Analyst>
-    requires { All (λ a. IsReady desk.now.table.shared.table_id a) analysts.items }
-    ensures len { length result.items ≡ length analysts.items }
-    ensures done { (i : ℕ) (d : _) → i < length analysts.items →
-        IsDone desk.now.table.shared.table_id (slice_index_or result.items i d) }
-    ensures same { (i : ℕ) (d : _) → i < length analysts.items →
-        IsSame (slice_index_or analysts.items i d) (slice_index_or result.items i d) }
+    model: &Model,
+    mut seated: Vec<(Analyst, Seat<J>)>,
+) -> Vec<(Analyst, Seat<J>)>
+    requires { All (λ a. IsReady desk.now.table.shared.table_id a.0 × HasLooked model.now [] a × HasRoom a.0)
+        seated.items }
+    ensures len { length result.items ≡ length seated.items }
+    ensures done { (i : ℕ) (d : _) → i < length seated.items →
+        IsDone desk.now.table.shared.table_id (slice_index_or result.items i d).0 }
+    ensures looked { (i : ℕ) (d : _) → i < length seated.items →
+        HasLooked model.now (slice_index_or result.items i d).0.todo.items (slice_index_or result.items i d) }
+    ensures same { (i : ℕ) (d : _) → i < length seated.items →
+        IsSame (slice_index_or seated.items i d).0 (slice_index_or result.items i d).0 }
 {
     thread::for_each_mut(
         rt,
-        analysts.as_mut_slice(),
+        seated.as_mut_slice(),
         16,
-        &|_i: usize, analyst: &mut Analyst|
-            requires { IsReady desk.now.table.shared.table_id analyst.old }
-            ensures { IsDone desk.entry.now.table.shared.table_id analyst.exit.now
-                × IsSame analyst.entry.now analyst.exit.now }
-        { ask_all(rt, desk, gate, analyst) },
+        &|_i: usize, one: &mut (Analyst, Seat<J>)|
+            requires { IsReady desk.now.table.shared.table_id one.old.0 × HasLooked model.now [] one.old
+                × HasRoom one.old.0 }
+            ensures { IsDone desk.entry.now.table.shared.table_id one.exit.now.0
+                × HasLooked model.entry.now one.exit.now.0.todo.items one.exit.now
+                × IsSame one.entry.now.0 one.exit.now.0 }
+        {
+            let (analyst, seat) = one;
+            act_all(rt, desk, gate, model, analyst, seat)
+        },
     );
-    analysts
+    seated
 }

@@ -1,11 +1,14 @@
 //! The engine's part.
-ghost use Rattle.std.specs.Prelude.{◌≡◌, ◌<◌, ◌≤◌, length, IfOk, IfErr};
+ghost use Rattle.std.specs.Prelude.{◌≡◌, ◌-◌, ◌<◌, ◌≤◌, length, IfOk, IfErr, OnOk};
 ghost use Rattle.decision_desk.specs.Accounts.{front_of};
 ghost use Rattle.decision_desk.specs.Leasts.{leasts_of};
 ghost use Rattle.live_study.specs.Engines.{InStep, IsAhead, Steers, StopsAt};
+ghost use Rattle.live_study.specs.Looks.{AreAtFront};
+ghost use Rattle.live_study.specs.Showing.{AreShownOf, AreShownTo, Raises};
 
 use crew_pool::{Crew, Gate};
 use decision_desk::{Desk, Helm};
+use shelf::{Naming, Stocker};
 use sim_base::{NoMemory, Steps};
 use std::alloc::Global;
 use std::marker::Brand;
@@ -40,16 +43,71 @@ fn take_turn<R: Wait>(
     requires below { world.front < world.net.horizon }
     ensures steers { Steers helm.old helm.new }
     ensures ahead { IfOk result (λ r. IsAhead helm.new r.0 r.1) }
+    ensures raises { IfOk result (λ r. Raises helm.old helm.new r.1) }
     ensures same { IfOk result (λ r. r.0.front ≡ world.front) }
 {
     let leasts = leasts(alloc, &world)?;
     let turn = helm.next(rt, alloc, desk, leasts.as_slice())?;
     let world = world.take(alloc, turn.fresh.as_slice())?;
+    let _short = world.lists();
+    let _valid = world.model().lookahead();
     Ok((world, turn.front))
 }
 
+// Whether a station is looked at.
+fn is_watched(watched: &[bool], place: u32) -> bool {
+    match watched.get(place as usize) {
+        Some(is) => *is,
+        None => false,
+    }
+}
+
+// Publishes what readers are shown of a station, now.
+fn show_one<J: Naming, W: Wait + Drop>(
+    alloc: Global,
+    helm: &Helm,
+    world: &mut World,
+    stocker: &mut Stocker<J, W>,
+    station: u32,
+) -> Result<(), NoMemory>
+    requires low { 1 ≤ station }
+    requires high { station ≤ length world.old.net.sites }
+    requires net { world.old.net ≡ helm.now.net }
+    requires at { AreAtFront helm.now.net helm.now.helm world.old.front world.old.clones }
+    requires shown { AreShownTo helm.now world.old (station - 1) stocker.old.published }
+    ensures same { world.new ≡ world.old }
+    ensures shown { OnOk result (AreShownTo helm.now world.old station stocker.new.published) }
+{
+    let rack = world.rack(alloc, station)?;
+    stocker.publish(alloc, rack)
+}
+
+// Publishes the racks of the stations that are looked at, and at the horizon those of all.
+fn show<J: Naming, W: Wait + Drop>(
+    alloc: Global,
+    helm: &Helm,
+    world: &mut World,
+    stocker: &mut Stocker<J, W>,
+    watched: &[bool],
+) -> Result<(), NoMemory>
+    requires net { world.old.net ≡ helm.now.net }
+    requires at { AreAtFront helm.now.net helm.now.helm world.old.front world.old.clones }
+    requires shown { AreShownTo helm.now world.old 0 stocker.old.published }
+    ensures same { world.new ≡ world.old }
+    ensures shown { OnOk result (AreShownOf helm.now world.old stocker.new.published) }
+{
+    let last = world.front() == world.model().horizon();
+    let many = world.model().len();
+    for s in 0..many {
+        if last || is_watched(watched, s) {
+            show_one(alloc, helm, world, stocker, s + 1)?;
+        }
+    }
+    Ok(())
+}
+
 // A turn of the helm, and its window.
-fn go_on<C: Crew, G: Gate, L: Ledger, R: Threads + Wait + Sync>(
+fn take_window<C: Crew, G: Gate, L: Ledger, R: Threads + Wait + Sync>(
     rt: &R,
     alloc: Global,
     crew: &C,
@@ -64,8 +122,9 @@ fn go_on<C: Crew, G: Gate, L: Ledger, R: Threads + Wait + Sync>(
     requires below { world.front < world.net.horizon }
     ensures steers { Steers helm.old helm.new }
     ensures stands { IfOk result (λ w. InStep helm.new w) }
+    ensures raises { IfOk result (λ w. Raises helm.old helm.new w.front) }
     ensures rises { IfOk result (λ w. world.front < w.front) }
-    ensures stops { IfErr result (λ e. StopsAt helm.new e) }
+    ensures stops { IfErr result (λ e. StopsAt helm.new.net helm.new.helm e) }
 {
     let Ok((world, bound)) = take_turn(rt, alloc, desk, helm, world) else {
         return Err(StudyFault::NoMemory);
@@ -79,8 +138,38 @@ fn go_on<C: Crew, G: Gate, L: Ledger, R: Threads + Wait + Sync>(
     }
 }
 
+// A turn of the helm and its window, and then readers are shown what came of it.
+fn go_on<C: Crew, G: Gate, J: Naming, L: Ledger, W: Wait + Drop, R: Threads + Wait + Sync>(
+    rt: &R,
+    alloc: Global,
+    crew: &C,
+    gate: &G,
+    desk: &Desk,
+    helm: &mut Helm,
+    world: World,
+    stocker: &mut Stocker<J, W>,
+    watched: &[bool],
+    steps: &mut Steps<L>,
+) -> Result<World, StudyFault>
+    requires desk { helm.old.desk ≡ desk.now.table.shared.table_id }
+    requires stands { InStep helm.old world }
+    requires below { world.front < world.net.horizon }
+    requires shown { AreShownOf helm.old world stocker.old.published }
+    ensures steers { Steers helm.old helm.new }
+    ensures stands { IfOk result (λ w. InStep helm.new w) }
+    ensures rises { IfOk result (λ w. world.front < w.front) }
+    ensures shown { IfOk result (λ w. AreShownOf helm.new w stocker.new.published) }
+    ensures stops { IfErr result (λ e. StopsAt helm.new.net helm.new.helm e) }
+{
+    let mut world = take_window(rt, alloc, crew, gate, desk, helm, world, steps)?;
+    match show(alloc, helm, &mut world, stocker, watched) {
+        Ok(()) => Ok(world),
+        Err(NoMemory) => Err(StudyFault::NoMemory),
+    }
+}
+
 // The engine runs to the horizon, and hands its helm back in any case.
-fn drive<C: Crew, G: Gate, L: Ledger, R: Threads + Wait + Sync>(
+fn drive<C: Crew, G: Gate, J: Naming, L: Ledger, W: Wait + Drop, R: Threads + Wait + Sync>(
     rt: &R,
     alloc: Global,
     crew: &C,
@@ -88,16 +177,22 @@ fn drive<C: Crew, G: Gate, L: Ledger, R: Threads + Wait + Sync>(
     desk: &Desk,
     mut helm: Helm,
     mut world: World,
+    stocker: &mut Stocker<J, W>,
+    watched: &[bool],
     steps: &mut Steps<L>,
 ) -> (Helm, Result<World, StudyFault>)
     requires desk { helm.desk ≡ desk.now.table.shared.table_id }
     requires stands { InStep helm world }
+    requires shown { AreShownOf helm world stocker.old.published }
     ensures steers { Steers helm result.0 }
     ensures stands { IfOk result.1 (λ w. InStep result.0 w × (w.front ≡ w.net.horizon)) }
-    ensures stops { IfErr result.1 (λ e. StopsAt result.0 e) }
+    ensures shown { IfOk result.1 (λ w. AreShownOf result.0 w stocker.new.published) }
+    ensures stops { IfErr result.1 (λ e. StopsAt result.0.net result.0.helm e) }
 {
     'turns: while world.front() < world.model().horizon() {
-        world = match go_on(rt, alloc, crew, gate, desk, &mut helm, world, steps) {
+        world = match go_on(
+            rt, alloc, crew, gate, desk, &mut helm, world, stocker, watched, steps,
+        ) {
             Ok(world) => world,
             Err(fault) => return (helm, Err(fault)),
         };
@@ -106,7 +201,7 @@ fn drive<C: Crew, G: Gate, L: Ledger, R: Threads + Wait + Sync>(
 }
 
 // The same on the counter that the blank makes.
-fn drive_counted<C: Crew, G: Gate, L: Ledger, R: Threads + Wait + Sync>(
+fn drive_counted<C: Crew, G: Gate, J: Naming, L: Ledger, W: Wait + Drop, R: Threads + Wait + Sync>(
     rt: &R,
     alloc: Global,
     crew: &C,
@@ -114,23 +209,30 @@ fn drive_counted<C: Crew, G: Gate, L: Ledger, R: Threads + Wait + Sync>(
     desk: &Desk,
     helm: Helm,
     world: World,
+    stocker: &mut Stocker<J, W>,
+    watched: &[bool],
     blank: Blank,
 ) -> (Helm, Result<World, StudyFault>)
     requires desk { helm.desk ≡ desk.now.table.shared.table_id }
     requires stands { InStep helm world }
+    requires shown { AreShownOf helm world stocker.old.published }
     requires name { blank.name ≡ L.name }
     requires parts { blank.parts ≡ L.parts }
     requires some { 0 < L.parts }
     ensures steers { Steers helm result.0 }
     ensures stands { IfOk result.1 (λ w. InStep result.0 w × (w.front ≡ w.net.horizon)) }
-    ensures stops { IfErr result.1 (λ e. StopsAt result.0 e) }
+    ensures shown { IfOk result.1 (λ w. AreShownOf result.0 w stocker.new.published) }
+    ensures stops { IfErr result.1 (λ e. StopsAt result.0.net result.0.helm e) }
 {
     let mut steps = Steps::<L>::new(blank);
-    drive(rt, alloc, crew, gate, desk, helm, world, &mut steps)
+    drive(
+        rt, alloc, crew, gate, desk, helm, world, stocker, watched, &mut steps,
+    )
 }
 
-/// The engine runs to the horizon, and hands its helm back in any case. Nobody else sees its counter.
-pub(crate) fn drive_alone<C: Crew, G: Gate, R: Threads + Wait + Sync>(
+/// The engine runs to the horizon, publishes on its way, and hands helm and stocker back in any case. Nobody else sees
+/// its counter.
+pub(crate) fn drive_alone<C: Crew, G: Gate, J: Naming, W: Wait + Drop, R: Threads + Wait + Sync>(
     rt: &R,
     alloc: Global,
     crew: &C,
@@ -138,12 +240,28 @@ pub(crate) fn drive_alone<C: Crew, G: Gate, R: Threads + Wait + Sync>(
     desk: &Desk,
     helm: Helm,
     world: World,
-) -> (Helm, Result<World, StudyFault>)
+    mut stocker: Stocker<J, W>,
+    watched: &[bool],
+) -> (Helm, Stocker<J, W>, Result<World, StudyFault>)
     requires desk { helm.desk ≡ desk.now.table.shared.table_id }
     requires stands { InStep helm world }
+    requires shown { AreShownOf helm world stocker.published }
     ensures steers { Steers helm result.0 }
-    ensures stands { IfOk result.1 (λ w. InStep result.0 w × (w.front ≡ w.net.horizon)) }
-    ensures stops { IfErr result.1 (λ e. StopsAt result.0 e) }
+    ensures stands { IfOk result.2 (λ w. InStep result.0 w × (w.front ≡ w.net.horizon)) }
+    ensures shown { IfOk result.2 (λ w. AreShownOf result.0 w result.1.published) }
+    ensures stops { IfErr result.2 (λ e. StopsAt result.0.net result.0.helm e) }
 {
-    drive_counted::<C, G, Brand, R>(rt, alloc, crew, gate, desk, helm, world, Blank::new(1))
+    let (helm, world) = drive_counted::<C, G, J, Brand, W, R>(
+        rt,
+        alloc,
+        crew,
+        gate,
+        desk,
+        helm,
+        world,
+        &mut stocker,
+        watched,
+        Blank::new(1),
+    );
+    (helm, stocker, world)
 }

@@ -12,26 +12,46 @@
 //! ```
 //!
 //! In each turn the engine tells the desk the least times that are due, gets the next front and the calls that were
-//! accepted since its last turn, gives these to the world, and runs the window up to that front.
+//! accepted since its last turn, gives these to the world, and runs the window up to that front. Then it publishes the
+//! racks of the stations that are looked at, and at the horizon those of all; an analyst that looks reads the newest
+//! rack at its seat, and waits for nobody.
 //!
 //! ```text
-//! let (book, world) = run_live(&rt, alloc, &crew, &gate, desk, helm, world, analysts, reserved);
+//! let live = live_study(&rt, alloc, &crew, &gate, &model, &script, &mut steps)?;
+//! let text = journal_of(alloc, &script, &live)?;
 //! ```
 //!
-//! What it costs: a thread for each analyst and the engine's crew; a decision waits for its turn at the desk. However
-//! the engine ends, all analysts make all their calls, and all threads are joined. What follows takes no memory, so the
-//! journal is there in any case.
+//! What it costs: a thread for each analyst and the engine's crew; a decision waits for its turn at the desk; a rack of
+//! each station that is looked at in each window. However the engine ends, all analysts do all that they have to do,
+//! and all threads are joined. What follows takes no memory, so the journal is there in any case.
 //!
 //! The promises that it carries: **one legal journal, in which each analyst's decisions stand in order, each once, and
 //! no others**: none is answered Full, since no more are asked than a journal holds. Where the engine comes to the
-//! horizon, the world has the clones that this journal leaves. Where a log would get longer than the limit, the least
-//! station and there the least clone at the last front are named. That threads run side by side, no clause says.
+//! horizon, the world has the clones that this journal leaves, what clones share was counted once, and **what was seen
+//! at each look is true** of the clones that there were at its front of the journal; it stays true of those that the
+//! journal leaves, since nothing that comes behind a front changes a log before it (`laws`). Where a log would get
+//! longer than the limit, the least station and there the least clone at the last front are named. That threads run
+//! side by side, no clause says.
 #![tactic(auto)]
 
 pub mod analyst;
 mod asking;
+mod begin;
 mod engine;
+pub mod laws;
 mod live;
+pub mod prepared;
+pub mod room;
+pub mod run;
+mod study;
+#[cfg(test)]
+mod tests;
+mod text;
+mod work;
 
 pub use analyst::Analyst;
-pub use live::run_live;
+pub use prepared::Prepared;
+pub use room::Room;
+pub use run::LiveRun;
+pub use study::live_study;
+pub use text::journal_of;

@@ -1,15 +1,26 @@
 //! Analysts beside the engine.
-ghost use Rattle.std.specs.Prelude.{◌≡◌, ℕ, ◌+◌, ◌<◌, ◌≤◌, ◌++◌, [], length};
-ghost use Rattle.std.specs.Prelude.{map, All, IfOk, IfErr, slice_index_or, vec_len, vec_capacity};
+ghost use Rattle.std.specs.Prelude.{◌≡◌, ◌⊎◌, ℕ, ◌+◌, ◌<◌, ◌≤◌, [], ◌++◌, length, map, All};
+ghost use Rattle.std.specs.Prelude.{Ok, Err, IfOk, IfErr, true, slice_index_or, vec_len, vec_capacity};
+ghost use mathlib.Core.List.{IsPrefix};
+ghost use Rattle.shelf.specs.Racks.{AreLegal};
 ghost use Rattle.live_study.specs.Asking.{IsReady, IsDone, IsSame, total_todo};
+ghost use Rattle.live_study.specs.Closing.{AreReadyAll, HasRoomFor};
 ghost use Rattle.live_study.specs.Engines.{InStep, Steers, StopsAt};
-ghost use Rattle.live_study.specs.Lives.{IsAllAsked, IsFinished, IsStopped};
+ghost use Rattle.live_study.specs.Lives.{AreTold, IsAllAsked, IsFinished, IsStopped, looks_made};
+ghost use Rattle.live_study.specs.Looks.{AreCaughtUp, HasRacks, IsAt};
+ghost use Rattle.live_study.specs.Showing.{AllCaughtUp, AreShownOf, HasLooked, HasRoom, looks_to_make};
 
 use crate::analyst::Analyst;
-use crate::asking::ask_everyone;
+use crate::asking::act_everyone;
 use crate::engine::drive_alone;
+use crate::room::Room;
+use crate::run::LiveRun;
 use crew_pool::{Crew, Gate};
-use decision_desk::{Desk, Helm, LegalBook, Pass};
+use decision_desk::{Desk, Helm};
+use journal_text::Looked;
+use net_model::Model;
+use shelf::{Naming, Seat, Stocker, Told};
+use sim_base::Reserved;
 use std::alloc::Global;
 use std::sync::Wait;
 use std::thread;
@@ -18,93 +29,212 @@ use study_run::StudyFault;
 use world_core::World;
 
 // The engine beside all analysts. All threads are joined.
-fn side_by_side<C: Crew + Sync, G: Gate, R: Threads + Wait + Sync>(
+fn side_by_side<
+    C: Crew + Sync,
+    G: Gate,
+    J: Naming + Send + Sync,
+    W: Wait + Drop + Send,
+    R: Threads + Wait + Sync,
+>(
     rt: &R,
     alloc: Global,
     crew: &C,
     gate: &G,
+    model: &Model,
     desk: &Desk,
     helm: Helm,
     world: World,
-    analysts: Vec<Analyst>,
-) -> ((Helm, Result<World, StudyFault>), Vec<Analyst>)
+    stocker: Stocker<J, W>,
+    watched: &[bool],
+    seated: Vec<(Analyst, Seat<J>)>,
+) -> (
+    (Helm, Stocker<J, W>, Result<World, StudyFault>),
+    Vec<(Analyst, Seat<J>)>,
+)
     requires desk { helm.desk ≡ desk.now.table.shared.table_id }
     requires stands { InStep helm world }
-    requires ready { All (λ a. IsReady desk.now.table.shared.table_id a) analysts.items }
+    requires shown { AreShownOf helm world stocker.published }
+    requires ready { AreReadyAll desk.now.table.shared.table_id model.now seated.items }
     ensures steers { Steers helm result.0.0 }
-    ensures stands { IfOk result.0.1 (λ w. InStep result.0.0 w × (w.front ≡ w.net.horizon)) }
-    ensures stops { IfErr result.0.1 (λ e. StopsAt result.0.0 e) }
-    ensures len { length result.1.items ≡ length analysts.items }
-    ensures done { (i : ℕ) (d : _) → i < length analysts.items →
-        IsDone desk.now.table.shared.table_id (slice_index_or result.1.items i d) }
-    ensures same { (i : ℕ) (d : _) → i < length analysts.items →
-        IsSame (slice_index_or analysts.items i d) (slice_index_or result.1.items i d) }
+    ensures stands { IfOk result.0.2 (λ w. InStep result.0.0 w × (w.front ≡ w.net.horizon)) }
+    ensures shown { IfOk result.0.2 (λ w. AreShownOf result.0.0 w result.0.1.published) }
+    ensures stops { IfErr result.0.2 (λ e. StopsAt result.0.0.net result.0.0.helm e) }
+    ensures len { length result.1.items ≡ length seated.items }
+    ensures done { (i : ℕ) (d : _) → i < length seated.items →
+        IsDone desk.now.table.shared.table_id (slice_index_or result.1.items i d).0 }
+    ensures looked { (i : ℕ) (d : _) → i < length seated.items →
+        HasLooked model.now (slice_index_or result.1.items i d).0.todo.items (slice_index_or result.1.items i d) }
+    ensures same { (i : ℕ) (d : _) → i < length seated.items →
+        IsSame (slice_index_or seated.items i d).0 (slice_index_or result.1.items i d).0 }
 {
     thread::join(
         rt,
-        move || -> (Helm, Result<World, StudyFault>)
-            requires { (helm.desk ≡ desk.now.table.shared.table_id) × InStep helm world }
+        move || -> (Helm, Stocker<J, W>, Result<World, StudyFault>)
+            requires { (helm.desk ≡ desk.now.table.shared.table_id) × InStep helm world
+                × AreShownOf helm world stocker.published }
             ensures { Steers helm result.0
-                × IfOk result.1 (λ w. InStep result.0 w × (w.front ≡ w.net.horizon))
-                × IfErr result.1 (λ e. StopsAt result.0 e) }
-        { drive_alone(rt, alloc, crew, gate, desk, helm, world) },
-        move || -> Vec<Analyst>
-            requires { All (λ a. IsReady desk.now.table.shared.table_id a) analysts.items }
-            ensures { (length result.items ≡ length analysts.items)
-                × ((i : ℕ) (d : _) → i < length analysts.items →
-                IsDone desk.entry.now.table.shared.table_id (slice_index_or result.items i d))
-                × ((i : ℕ) (d : _) → i < length analysts.items →
-                IsSame (slice_index_or analysts.items i d) (slice_index_or result.items i d)) }
-        { ask_everyone(rt, desk, gate, analysts) },
+                × IfOk result.2 (λ w. InStep result.0 w × (w.front ≡ w.net.horizon))
+                × IfOk result.2 (λ w. AreShownOf result.0 w result.1.published)
+                × IfErr result.2 (λ e. StopsAt result.0.net result.0.helm e) }
+        { drive_alone(rt, alloc, crew, gate, desk, helm, world, stocker, watched) },
+        move || -> Vec<(Analyst, Seat<J>)>
+            requires { AreReadyAll desk.now.table.shared.table_id model.now seated.items }
+            ensures { (length result.items ≡ length seated.items)
+                × ((i : ℕ) (d : _) → i < length seated.items →
+                IsDone desk.entry.now.table.shared.table_id (slice_index_or result.items i d).0)
+                × ((i : ℕ) (d : _) → i < length seated.items →
+                HasLooked model.entry.now (slice_index_or result.items i d).0.todo.items
+                (slice_index_or result.items i d))
+                × ((i : ℕ) (d : _) → i < length seated.items →
+                IsSame (slice_index_or seated.items i d).0 (slice_index_or result.items i d).0) }
+        { act_everyone(rt, desk, gate, model, seated) },
     )
 }
 
-// The passes of analysts that have asked all, put into what was reserved for them.
-fn passes_of(reserved: Vec<Pass>, analysts: Vec<Analyst>) -> Vec<Pass>
-    requires free { vec_len reserved + length analysts.items ≤ vec_capacity reserved }
-    ensures passes { result.items ≡ reserved.items ++ map (λ a. a.pass) analysts.items }
+// A closing look at a station: whether its last rack is at the horizon.
+fn is_at_end<J: Naming>(model: &Model, seat: &mut Seat<J>, station: u32) -> bool
+    requires low { 1 ≤ station }
+    requires high { station ≤ length model.now.sites }
+    requires there { HasRacks model.now seat.old }
+    ensures begins { IsPrefix seat.old seat.new }
+    ensures legal { AreLegal seat.new }
+    ensures value { result ≡ true → IsAt model.now.horizon seat.new station }
 {
-    let mut passes = reserved;
-    for analyst in analysts {
+    let glance = seat.look(station, &model.station(station).name);
+    glance.front == model.horizon()
+}
+
+// A closing look at each station, from a seat that has learnt what was published: whether all are at the horizon.
+fn is_caught_up<J: Naming>(model: &Model, seat: &mut Seat<J>, told: Told<J>) -> bool
+    requires there { HasRacks model.now seat.old }
+    ensures value { result ≡ true → AreCaughtUp model.now told seat.old }
+{
+    seat.learn(told);
+    let mut all = true;
+    for s in 0..model.len() {
+        let at_end = is_at_end(model, seat, s + 1);
+        all = all && at_end;
+    }
+    all
+}
+
+// The same of a seat that is told here what was published.
+fn comes_to_end<J: Naming, W: Wait + Drop>(
+    model: &Model,
+    stocker: &mut Stocker<J, W>,
+    seat: &mut Seat<J>,
+) -> bool
+    requires there { HasRacks model.now seat.old }
+    ensures value { result ≡ true → AreCaughtUp model.now stocker.old.published seat.old }
+    ensures published { stocker.new.published ≡ stocker.old.published }
+{
+    match stocker.told() {
+        Some(told) => is_caught_up(model, seat, told),
+        None => false,
+    }
+}
+
+// The passes and the looks of analysts that have done all, put into what was reserved for them; and whether all seats
+// came to the horizon.
+fn gather<J: Naming, W: Wait + Drop>(
+    model: &Model,
+    stocker: &mut Stocker<J, W>,
+    seated: Vec<(Analyst, Seat<J>)>,
+    room: Room,
+) -> (Room, bool)
+    requires passes { vec_len room.passes + length seated.items ≤ vec_capacity room.passes }
+    requires looks { vec_len room.looks + length seated.items ≤ vec_capacity room.looks }
+    requires there { All (λ a. HasRacks model.now a.1) seated.items }
+    ensures passes { result.0.passes.items ≡ room.passes.items ++ map (λ a. a.0.pass) seated.items }
+    ensures looks { result.0.looks.items ≡ room.looks.items ++ map (λ a. a.0.looks) seated.items }
+    ensures caught_up { result.1 ≡ true → AllCaughtUp model.now stocker.old.published seated.items }
+{
+    let Room {
+        mut passes,
+        mut looks,
+    } = room;
+    let mut caught_up = true;
+    for one in seated {
+        let (analyst, mut seat) = one;
+        let comes = comes_to_end(model, stocker, &mut seat);
+        caught_up = caught_up && comes;
         let Analyst {
             number: _,
             pass,
             todo: _,
+            looks: seen,
         } = analyst;
         passes.push_reserved(pass);
+        looks.push_reserved(seen);
     }
-    passes
+    (Room { passes, looks }, caught_up)
+}
+
+// The run's result: a finished run is given up where a seat did not come to the horizon, which never happens.
+fn if_caught_up(caught_up: bool, run: Result<World, StudyFault>) -> Result<World, StudyFault>
+    ensures ok { IfOk result (λ w. (caught_up ≡ true) × (run ≡ Ok w)) }
+    ensures err { IfErr result (λ e. (e ≡ StudyFault.NoMemory) ⊎ (run ≡ Err e)) }
+{
+    match run {
+        Ok(world) => {
+            if caught_up {
+                Ok(world)
+            } else {
+                Err(StudyFault::NoMemory)
+            }
+        }
+        Err(fault) => Err(fault),
+    }
 }
 
 /// Runs the engine beside all analysts, and closes the desk. All threads are joined, however it ends; nothing is
-/// reserved behind that, so the book is there in any case.
-pub fn run_live<C: Crew + Sync, G: Gate, R: Threads + Wait + Sync>(
+/// reserved behind that, so the book and the looks are there in any case.
+pub(crate) fn run_live<
+    C: Crew + Sync,
+    G: Gate,
+    J: Naming + Send + Sync,
+    W: Wait + Drop + Send,
+    R: Threads + Wait + Sync,
+>(
     rt: &R,
     alloc: Global,
     crew: &C,
     gate: &G,
+    model: &Model,
     desk: Desk,
     helm: Helm,
     world: World,
-    analysts: Vec<Analyst>,
-    reserved: Vec<Pass>,
-) -> (LegalBook, Result<World, StudyFault>)
+    stocker: Stocker<J, W>,
+    watched: &[bool],
+    seated: Vec<(Analyst, Seat<J>)>,
+    room: Room,
+) -> LiveRun
     requires desk { helm.desk ≡ desk.table.shared.table_id }
-    requires parts { helm.parts + length analysts.items ≡ 17 }
+    requires net { helm.net ≡ model.now }
+    requires parts { helm.parts + length seated.items ≡ 17 }
     requires fresh { helm.accounts ≡ [] }
     requires stands { InStep helm world }
-    requires ready { All (λ a. IsReady desk.table.shared.table_id a) analysts.items }
-    requires few { total_todo analysts.items ≤ 4096 }
-    requires empty { reserved.items ≡ [] }
-    requires free { length analysts.items ≤ vec_capacity reserved }
-    ensures asked { IsAllAsked helm.net analysts.items result.0 }
-    ensures finished { IfOk result.1 (λ w. IsFinished helm.net result.0 w) }
-    ensures stopped { IfErr result.1 (λ e. IsStopped helm.net result.0 e) }
+    requires shown { AreShownOf helm world stocker.published }
+    requires ready { AreReadyAll desk.table.shared.table_id model.now seated.items }
+    requires few { total_todo seated.items ≤ 4096 }
+    requires room { HasRoomFor (length seated.items) room }
+    ensures asked { IsAllAsked helm.net seated.items result.book }
+    ensures made { looks_made result.looks.items ≡ looks_to_make seated.items }
+    ensures looked { IfOk result.run (λ w. AreTold helm.net result.book.events result.looks.items) }
+    ensures finished { IfOk result.run (λ w. IsFinished helm.net result.book w) }
+    ensures stopped { IfErr result.run (λ e. IsStopped helm.net result.book e) }
 {
-    let ((helm, world), analysts) = side_by_side(
-        rt, alloc, crew, gate, &desk, helm, world, analysts,
+    let ((helm, mut stocker, run), seated) = side_by_side(
+        rt, alloc, crew, gate, model, &desk, helm, world, stocker, watched, seated,
     );
-    let book = desk.close(passes_of(reserved, analysts), helm);
+    let (room, caught_up) = gather(model, &mut stocker, seated, room);
+    let Room { passes, looks } = room;
+    let book = desk.close(passes, helm);
     let _legal = book.book().front();
-    (book, world)
+    let _valid = model.lookahead();
+    LiveRun {
+        book,
+        looks,
+        run: if_caught_up(caught_up, run),
+    }
 }

@@ -1,3 +1,7 @@
+use Rattle.std.proofs.Common.{ap, subst}
+use Rattle.net_model.specs.Net.{Net}
+use Rattle.net_model.specs.Rules.{IsNet}
+use Rattle.decision_desk.specs.Passes.{Helmed}
 use Rattle.live_study.proofs.Stepping.{goes_ahead, may_take}
 use Rattle.live_study.proofs.engine.take_turn.Goals as goal
 
@@ -5,8 +9,7 @@ pub take-requires : goal.take-requires
 take-requires g c =
     let t = c.in_ok-turn.ensures.turn in
     record {
-      accepted = may_take _ c.args.world c.in_ok-turn.turn _ t.0 _ c.requires.stands t.1
-          c.as_slice-2.ensures.value;
+      accepted = may_take _ c.args.world c.in_ok-turn.turn _ t.0 _ c.requires.stands t.1 c.as_slice-2.ensures.value;
     }
 
 pub returns-clause-ahead : goal.returns-clause-ahead
@@ -14,3 +17,9 @@ returns-clause-ahead g c =
     let t = c.in_ok-turn.ensures.turn in
     goes_ahead _ c.args.world c.in_ok-turn.turn _ t.0 _ c.in_ok-world.world c.requires.stands t.1
     c.as_slice-2.ensures.value c.in_ok-world.ensures.net c.in_ok-world.ensures.front c.in_ok-world.ensures.clones
+    (subst (λ (n : Net). IsNet n) c.model.ensures.value c.lookahead-valid.ensures.valid) c.lists-short.ensures.short
+
+pub returns-clause-raises : goal.returns-clause-raises
+returns-clause-raises g c =
+    let t = c.in_ok-turn.ensures.turn in
+    record { calls = t.0; helm = ap (λ (h : Helmed). h.helm) t.1.new_is }

@@ -1,42 +1,88 @@
-use Rattle.std.proofs.Common.{◌≡◌, ◌∙◌, ◌++◌, ◌<◌, ap, map, length, subst, sym, arith, ℕ, slice_index_or}
+use Rattle.std.proofs.Common.{◌≡◌, ◌∙◌, ◌++◌, ◌<◌, ap, map, length, subst, sym, arith, ℕ, slice_index_or, IfOk}
+use Rattle.net_model.specs.Net.{Net}
+use Rattle.net_model.specs.Rules.{IsNet}
 use Rattle.decision_book.specs.Books.{BookView}
 use Rattle.decision_book.specs.Right.{IsRight}
 use Rattle.decision_desk.specs.Passes.{Passed}
-use Rattle.live_study.proofs.Counting.{all_done, asked_in, finished_if, of_desk, stopped_if}
+use Rattle.world_core.specs.Worlds.{WorldView}
+use Rattle.live_study.specs.Asking.{Seated}
+use Rattle.live_study.specs.Lives.{AreTold, IsFinished}
+use Rattle.live_study.proofs.Counting.{all_done, asked_in, finished_if, of_desk}
+use Rattle.live_study.proofs.Ending.{if_kept, if_stopped}
+use Rattle.live_study.proofs.Told.{all_looked, looks_of, made_all, told_if}
 use Rattle.live_study.proofs.live.run_live.Goals as goal
 
 pub close-book-requires-clause-passes : goal.close-book-requires-clause-passes
 close-book-requires-clause-passes g c k d less =
+    let desk = c.args.desk.table.shared.table_id in
     let new = c.side_by_side-helm.result.1.items in
-    let are : c.passes_of.result.items ≡ map (λ a. a.pass) new = c.passes_of.ensures.passes
-    ∙ ap (λ l. l ++ map (λ a. a.pass) new) c.requires.empty in
+    let are : c.gather-room.result.0.passes.items ≡ map (λ (a : Seated). a.0.pass) new =
+    c.gather-room.ensures.passes ∙ ap (λ l. l ++ map (λ (a : Seated). a.0.pass) new) c.requires.room.no_passes in
     let s = c.side_by_side-helm.ensures in
-    let done = all_done c.args.desk.table.shared.table_id new (λ i d less. s.done i d (omega (arith, less, s.len))) in
-    subst (λ l. (k : ℕ) (d : Passed) → k < length l → (slice_index_or l k d).desk ≡ c.args.desk.table.shared.table_id)
-    (sym are) (of_desk c.args.desk.table.shared.table_id new done) k d less
+    let done = all_done desk new (λ i d less. s.done i d (omega (arith, less, s.len))) in
+    subst (λ l. (k : ℕ) (d : Passed) → k < length l → (slice_index_or l k d).desk ≡ desk) (sym are)
+    (of_desk desk new done) k d less
 
 pub returns-clause-asked : goal.returns-clause-asked
 returns-clause-asked g c =
+    let desk = c.args.desk.table.shared.table_id in
     let new = c.side_by_side-helm.result.1.items in
-    let are : c.passes_of.result.items ≡ map (λ a. a.pass) new = c.passes_of.ensures.passes
-    ∙ ap (λ l. l ++ map (λ a. a.pass) new) c.requires.empty in
+    let are : c.gather-room.result.0.passes.items ≡ map (λ (a : Seated). a.0.pass) new =
+    c.gather-room.ensures.passes ∙ ap (λ l. l ++ map (λ (a : Seated). a.0.pass) new) c.requires.room.no_passes in
     let s = c.side_by_side-helm.ensures in
-    asked_in c.args.desk.table.shared.table_id c.args.helm c.side_by_side-helm.result.0.0 c.args.analysts.items new
-    c.passes_of.result.items c.close-book.result
-    s.steers c.requires.fresh are c.close-book.ensures.closed
+    asked_in desk c.args.helm c.side_by_side-helm.result.0.0 c.args.seated.items new
+    c.gather-room.result.0.passes.items c.close-book.result s.steers c.requires.fresh are c.close-book.ensures.closed
     (subst (λ (b : BookView). IsRight b.net b.events) c.book.ensures.value c.front-legal.ensures.right)
     c.book.ensures.goes_on s.len s.done s.same c.requires.few
+
+pub gather-room-requires-clause-there : goal.gather-room-requires-clause-there
+gather-room-requires-clause-there g c k d less =
+    let s = c.side_by_side-helm.ensures in
+    (s.looked k d (omega (arith, less, s.len))).there
+
+pub returns-clause-made : goal.returns-clause-made
+returns-clause-made g c =
+    let new = c.side_by_side-helm.result.1.items in
+    let s = c.side_by_side-helm.ensures in
+    let looks = c.gather-room.result.0.looks.items in
+    let are : looks ≡ looks_of new =
+    c.gather-room.ensures.looks ∙ ap (λ l. l ++ looks_of new) c.requires.room.no_looks in
+    made_all c.args.model.now c.args.seated.items new looks
+    (all_looked c.args.model.now new (λ i d less. s.looked i d (omega (arith, less, s.len)))) s.len s.same are
+
+pub returns-clause-looked : goal.returns-clause-looked
+returns-clause-looked g c =
+    let net = c.args.model.now in
+    let helm = c.side_by_side-helm.result.0.0 in
+    let new = c.side_by_side-helm.result.1.items in
+    let s = c.side_by_side-helm.ensures in
+    let looks = c.gather-room.result.0.looks.items in
+    let events = c.close-book.result.events in
+    let are : looks ≡ looks_of new =
+    c.gather-room.ensures.looks ∙ ap (λ l. l ++ looks_of new) c.requires.room.no_looks in
+    subst (λ (n : Net). IfOk c.if_caught_up.result (λ w. AreTold n events looks)) (sym c.requires.net)
+    (told_if net helm events c.side_by_side-helm.result.0.1.published new looks c.gather-room.result.1
+    c.side_by_side-helm.result.0.2 c.if_caught_up.result (s.steers.net ∙ c.requires.net)
+    c.close-book.ensures.closed.only_calls s.stands s.shown c.gather-room.ensures.caught_up
+    (all_looked net new (λ i d less. s.looked i d (omega (arith, less, s.len)))) are c.if_caught_up.ensures.ok)
 
 pub returns-clause-finished : goal.returns-clause-finished
 returns-clause-finished g c =
     let s = c.side_by_side-helm.ensures in
-    finished_if c.args.helm c.side_by_side-helm.result.0.0 c.passes_of.result.items c.close-book.result
-    c.side_by_side-helm.result.0.1
-    s.steers c.close-book.ensures.closed
-    (subst (λ (b : BookView). IsRight b.net b.events) c.book.ensures.value c.front-legal.ensures.right) s.stands
+    if_kept (λ (w : WorldView). IsFinished c.args.helm.net c.close-book.result w) c.gather-room.result.1
+    c.side_by_side-helm.result.0.2 c.if_caught_up.result c.if_caught_up.ensures.ok
+    (finished_if c.args.helm c.side_by_side-helm.result.0.0 c.gather-room.result.0.passes.items c.close-book.result
+    c.side_by_side-helm.result.0.2 s.steers c.close-book.ensures.closed
+    (subst (λ (b : BookView). IsRight b.net b.events) c.book.ensures.value c.front-legal.ensures.right) s.stands)
 
 pub returns-clause-stopped : goal.returns-clause-stopped
 returns-clause-stopped g c =
+    let net = c.args.helm.net in
+    let helm = c.side_by_side-helm.result.0.0 in
+    let book = c.close-book.result in
     let s = c.side_by_side-helm.ensures in
-    stopped_if c.args.helm c.side_by_side-helm.result.0.0 c.passes_of.result.items c.close-book.result
-    c.side_by_side-helm.result.0.1 s.steers c.close-book.ensures.closed s.stops
+    let closed = c.close-book.ensures.closed in
+    let right = subst (λ (b : BookView). IsRight b.net b.events) c.book.ensures.value c.front-legal.ensures.right in
+    if_stopped net helm.net helm.helm book.events c.side_by_side-helm.result.0.2 c.if_caught_up.result
+    (subst (λ (n : Net). IsNet n) (sym c.requires.net) c.lookahead-valid.ensures.valid) s.steers.net closed.only_calls
+    (subst (λ (n : Net). IsRight n book.events) (closed.net ∙ s.steers.net) right) c.if_caught_up.ensures.err s.stops

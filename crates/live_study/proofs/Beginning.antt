@@ -1,0 +1,105 @@
+-- The analysts of a script, what they have to do, and what is shown to them first.
+use Rattle.std.proofs.Common.{◌≡◌, ℕ, zero, suc, ◌+◌, ◌<◌, ◌≤◌, Bool, true, false, List, [], ◌∷◌, ◌++◌, length, map}
+use Rattle.std.proofs.Common.{take, get_or, nat_eq, if◌then◌else◌, Some, unwrap_or, slice_get, refl}
+use Rattle.std.proofs.Common.{sym, ap, ap₂, ◌∙◌, subst, arith, length-append, append-nil, add-one}
+use Rattle.std.specs.List.{AllByRecursion}
+use Rattle.std.proofs.lemmas.List.{map-append, take_more}
+use Rattle.std.proofs.lemmas.List.Concat.{flat_map-append}
+use Rattle.std.proofs.lemmas.Option.{unwrap_or-slice_get}
+use Rattle.sim_base.proofs.ListLaws.{all_push}
+use Rattle.decision_script.specs.declared.item.Act.{Act}
+use Rattle.decision_script.specs.declared.item.Item.{Item}
+use Rattle.phys_proc.specs.Racks.{RackView}
+use Rattle.world_core.specs.Worlds.{WorldView}
+use Rattle.live_study.specs.Asking.{Seated}
+use Rattle.live_study.specs.Opening.{IsFresh, IsOpening, IsRackNow, numbers_to}
+use Rattle.live_study.specs.Scripts.{acts_by, each_acts, own_act}
+
+pub at_item : (items : List Item) (i : ℕ) (item : Item) → slice_get items i ≡ Some item → get_or items i item ≡ item
+at_item items i item is = sym (unwrap_or-slice_get items i item) ∙ ap (λ o. unwrap_or o item) is
+
+-- one item more
+pub one_more : (a : ℕ) (items : List Item) (i : ℕ) (item : Item) (own : List Act) → i < length items
+    → get_or items i item ≡ item → own ≡ acts_by a (take i items)
+    → own ++ own_act a item ≡ acts_by a (take (i + 1) items)
+one_more a items i item own less is before =
+    let whole : take (i + 1) items ≡ take i items ++ item ∷ [] = take_more items i item less
+    ∙ ap (λ x. take i items ++ x ∷ []) is in
+    ap₂ (λ xs ys. xs ++ ys) before (sym (append-nil (own_act a item)))
+    ∙ sym (flat_map-append (own_act a) (take i items) (item ∷ [])) ∙ ap (acts_by a) (sym whole)
+
+-- 1 where it is
+abbrev pub one_if : Bool → ℕ
+one_if b = if b then 1 else 0
+
+own_length : (b : Bool) (act : Act) → length (if b then act ∷ [] else []) ≤ one_if b
+own_length true act = omega arith
+own_length false act = omega arith
+
+pub one_own : (a : ℕ) (item : Item) → length (own_act a item) ≤ one_if (nat_eq item.analyst a)
+one_own a item = own_length (nat_eq item.analyst a) item.act
+
+pub at_most_one : (b : Bool) → one_if b ≤ 1
+at_most_one true = omega arith
+at_most_one false = omega arith
+
+pub few_by : (a : ℕ) (items : List Item) → length (acts_by a items) ≤ length items
+few_by a [] = omega arith
+few_by a (i ∷ is) = omega (
+  arith,
+  one_own a i,
+  at_most_one (nat_eq i.analyst a),
+  few_by a is,
+  length-append (own_act a i) (acts_by a is),
+)
+
+-- ---- numbers_to, each_acts
+pub length-numbers_to : (n : ℕ) → length (numbers_to n) ≡ n
+length-numbers_to zero = refl
+length-numbers_to (suc n) = omega (arith, length-append (numbers_to n) ((n + 1) ∷ []), length-numbers_to n)
+
+pub length-each_acts : (items : List Item) (n : ℕ) → length (each_acts items n) ≡ n
+length-each_acts items zero = refl
+length-each_acts items (suc n) =
+    omega (arith, length-append (each_acts items n) (acts_by (n + 1) items ∷ []), length-each_acts items n)
+
+pub numbers_next : (n : ℕ) → numbers_to (n + 1) ≡ numbers_to n ++ (n + 1) ∷ []
+numbers_next n = ap numbers_to (add-one n)
+
+pub acts_next : (items : List Item) (n : ℕ)
+    → each_acts items (n + 1) ≡ each_acts items n ++ acts_by (n + 1) items ∷ []
+acts_next items n = ap (each_acts items) (add-one n)
+
+-- ---- one analyst more
+pub mapped_more : {A B : Type 0} (f : A → B) (xs zs : List A) (x : A) (ys : List B) → zs ≡ xs ++ x ∷ []
+    → map f xs ≡ ys → map f zs ≡ ys ++ f x ∷ []
+mapped_more f xs zs x ys e h = ap (map f) e ∙ map-append f xs (x ∷ []) ∙ ap (λ l. l ++ f x ∷ []) h
+
+pub fresh_more : (opening : List RackView) (xs zs : List Seated) (x : Seated) → zs ≡ xs ++ x ∷ []
+    → AllByRecursion (IsFresh opening) xs → IsFresh opening x → AllByRecursion (IsFresh opening) zs
+fresh_more opening xs zs x e all own =
+    subst (AllByRecursion (IsFresh opening)) (sym e) (all_push (IsFresh opening) xs x all own)
+
+-- ---- one rack more
+one_each-with : (n : ℕ) (racks : List RackView) (r : RackView)
+    → ((i : ℕ) (q : RackView) → slice_get racks i ≡ Some q → q.station ≡ n + i + 1)
+    → r.station ≡ n + length racks + 1 → (i : ℕ) (q : RackView) → slice_get (racks ++ r ∷ []) i ≡ Some q
+    → q.station ≡ n + i + 1
+one_each-with n [] r each own zero q e =
+    let same : r ≡ q = cc in omega (arith, own, ap (λ (x : RackView). x.station) same)
+one_each-with n [] r each own (suc i) q e = absurd (cc)
+one_each-with n (x ∷ xs) r each own zero q e = each zero q e
+one_each-with n (x ∷ xs) r each own (suc i) q e =
+    let later = one_each-with (n + 1) xs r (λ k p f. omega (arith, each (suc k) p f)) (omega (arith, own)) i q e in
+    omega (arith, later)
+
+-- a rack of the next station
+pub opening_more : (w : WorldView) (many : ℕ) (racks more : List RackView) (r : RackView) → more ≡ racks ++ r ∷ []
+    → IsOpening w many racks → IsRackNow w r → r.station ≡ many + 1 → IsOpening w (many + 1) more
+opening_more w many racks more r e h now own = subst (IsOpening w (many + 1)) (sym e) (record {
+  many_is = omega (arith, length-append racks (r ∷ []), h.many_is);
+  each = λ i q f.
+      let at = one_each-with 0 racks r (λ k p g. omega (arith, h.each k p g)) (omega (arith, own, h.many_is)) i q f in
+      omega (arith, at);
+  now = all_push (IsRackNow w) racks r h.now now;
+})

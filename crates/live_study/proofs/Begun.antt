@@ -1,0 +1,210 @@
+-- What a live run of a script begins with, and what its journal says of the script.
+use Rattle.std.proofs.Common.{◌≡◌, ◌⊎◌, inl, inr, ⊎_elim, ℕ, zero, suc, ◌+◌, ◌-◌, ◌<◌, ◌≤◌, Bool, true, false, List, []}
+use Rattle.std.proofs.Common.{◌∷◌, ◌++◌, length, map, get_or, nat_eq, nat_le}
+use Rattle.std.proofs.Common.{refl, sym, ap, ◌∙◌, subst, arith, length-append}
+use Rattle.std.proofs.lemmas.List.{get_or-map, get_or_append_left, length-map, map-append}
+use Rattle.std.proofs.Math.Seq.{get_or-append_seam}
+use Rattle.std.proofs.lemmas.Bool.{cases_lt}
+use Rattle.std.proofs.lemmas.Bool.Decides.{nat_tests}
+use Rattle.atomic_table.specs.Seated.{TableId}
+use Rattle.sim_base.specs.Clones.{base}
+use Rattle.decision_script.specs.declared.item.Act.{Act}
+use Rattle.net_model.specs.Net.{Net}
+use Rattle.decision_script.specs.declared.item.Item.{Item}
+use Rattle.decision_script.specs.Stating.{ScriptView}
+use Rattle.decision_book.specs.Books.{BookView}
+use Rattle.decision_book.specs.Journal.{Event}
+use Rattle.decision_desk.specs.Accounts.{Account, accounts_of, calls_by}
+use Rattle.decision_desk.specs.Passes.{Helmed, Passed, new_helm, new_pass, new_passes}
+use Rattle.world_core.specs.Worlds.{WorldView}
+use Rattle.live_study.specs.Asking.{AllAsked, AskedSo, IsReady, Seated}
+use Rattle.live_study.specs.Asking.{decided, decisions_in, total_todo}
+use Rattle.live_study.specs.Engines.{InStep}
+use Rattle.live_study.specs.Lives.{IsAllAsked}
+use Rattle.live_study.specs.Scripts.{IsJournalOf, acts_by, each_acts, own_act}
+use Rattle.live_study.proofs.Beginning.{at_most_one, length-each_acts, one_if, one_own}
+use Rattle.live_study.proofs.Counting.{accounts_are}
+
+-- ---- new_passes, each_acts
+pub length-new_passes : (desk : TableId) (net : Net) (n : ℕ) → length (new_passes desk net n) ≡ n
+length-new_passes desk net zero = refl
+length-new_passes desk net (suc n) =
+    omega (arith, length-append (new_passes desk net n) (new_pass desk net (n + 1) ∷ []), length-new_passes desk net n)
+
+new_passes-at : (desk : TableId) (net : Net) (n i : ℕ) (d : Passed) → i < n
+    → get_or (new_passes desk net n) i d ≡ new_pass desk net (i + 1)
+new_passes-at desk net zero i d less = absurd (omega (arith, less))
+new_passes-at desk net (suc n) i d less =
+    let len = length-new_passes desk net n in
+    ⊎_elim
+    (λ (h : i < n). get_or_append_left (new_passes desk net n) (new_pass desk net (n + 1) ∷ []) d i
+    (omega (arith, h, len)) ∙ new_passes-at desk net n i d h)
+    (λ (h : n ≤ i).
+    let last : i ≡ length (new_passes desk net n) = omega (arith, h, less, len) in
+    let same : n ≡ i = omega (arith, h, less) in
+    ap (λ k. get_or (new_passes desk net n ++ new_pass desk net (n + 1) ∷ []) k d) last
+    ∙ get_or-append_seam (new_passes desk net n) (new_pass desk net (n + 1)) [] d
+    ∙ ap (λ k. new_pass desk net (k + 1)) same)
+    (cases_lt i n)
+
+each_acts-at : (items : List Item) (n i : ℕ) (d : List Act) → i < n
+    → get_or (each_acts items n) i d ≡ acts_by (i + 1) items
+each_acts-at items zero i d less = absurd (omega (arith, less))
+each_acts-at items (suc n) i d less =
+    let len = length-each_acts items n in
+    ⊎_elim
+    (λ (h : i < n). get_or_append_left (each_acts items n) (acts_by (n + 1) items ∷ []) d i (omega (arith, h, len))
+    ∙ each_acts-at items n i d h)
+    (λ (h : n ≤ i).
+    let last : i ≡ length (each_acts items n) = omega (arith, h, less, len) in
+    let same : n ≡ i = omega (arith, h, less) in
+    ap (λ k. get_or (each_acts items n ++ acts_by (n + 1) items ∷ []) k d) last
+    ∙ get_or-append_seam (each_acts items n) (acts_by (n + 1) items) [] d ∙ ap (λ k. acts_by (k + 1) items) same)
+    (cases_lt i n)
+
+-- ---- total_todo
+abbrev total_of : List (List Act) → ℕ
+total_of [] = 0
+total_of (ds ∷ more) = length ds + total_of more
+
+total_of-push : (xs : List (List Act)) (ds : List Act) → total_of (xs ++ ds ∷ []) ≡ total_of xs + length ds
+total_of-push [] ds = omega arith
+total_of-push (x ∷ xs) ds = omega (arith, total_of-push xs ds)
+
+total_is : (analysts : List Seated) → total_todo analysts ≡ total_of (map (λ (a : Seated). a.0.todo.items) analysts)
+total_is [] = refl
+total_is (a ∷ more) = omega (arith, total_is more)
+
+either_of : (b c d : Bool) → (b ≡ true → d ≡ true) → (c ≡ true → d ≡ true) → (b ≡ true → c ≡ true → ⊥)
+    → one_if b + one_if c ≤ one_if d
+either_of true true d h k not = absurd (not refl refl)
+either_of true false true h k not = omega arith
+either_of true false false h k not = absurd (let bad = h refl in cc)
+either_of false true true h k not = omega arith
+either_of false true false h k not = absurd (let bad = k refl in cc)
+either_of false false d h k not = omega arith
+
+up_to_next : (k n : ℕ) → one_if (nat_le k n) + one_if (nat_eq k (n + 1)) ≤ one_if (nat_le k (n + 1))
+up_to_next k n = either_of (nat_le k n) (nat_eq k (n + 1)) (nat_le k (n + 1)) (λ h. grind (arith, nat_tests, h))
+    (λ h. grind (arith, nat_tests, h)) (λ h e. absurd (grind (arith, nat_tests, h, e)))
+
+none_decided : (n : ℕ) → total_of (each_acts [] n) ≡ 0
+none_decided zero = refl
+none_decided (suc n) = omega (arith, total_of-push (each_acts [] n) [], none_decided n)
+
+one_more_decided : (i : Item) (is : List Item) (n : ℕ)
+    → total_of (each_acts (i ∷ is) n) ≤ total_of (each_acts is n) + one_if (nat_le i.analyst n)
+one_more_decided i is zero = omega arith
+one_more_decided i is (suc n) =
+    let next : one_if (nat_le i.analyst n) + one_if (nat_eq i.analyst (n + 1)) ≤ one_if (nat_le i.analyst (n + 1)) =
+    up_to_next i.analyst n in
+    let whole : suc n ≡ n + 1 = omega arith in
+    subst (λ m. total_of (each_acts (i ∷ is) (suc n)) ≤ total_of (each_acts is (suc n)) + one_if (nat_le i.analyst m))
+    (sym whole)
+    (omega (
+      arith,
+      next,
+      one_more_decided i is n,
+      one_own (n + 1) i,
+      length-append (own_act (n + 1) i) (acts_by (n + 1) is),
+      total_of-push (each_acts (i ∷ is) n) (acts_by (n + 1) (i ∷ is)),
+      total_of-push (each_acts is n) (acts_by (n + 1) is),
+    ))
+
+few_decided : (items : List Item) (n : ℕ) → total_of (each_acts items n) ≤ length items
+few_decided [] n = omega (arith, none_decided n)
+few_decided (i ∷ is) n = omega (arith, one_more_decided i is n, at_most_one (nat_le i.analyst n), few_decided is n)
+
+-- all together ask no more than the script has items
+pub few_todo : (items : List Item) (analysts : List Seated) (n : ℕ)
+    → map (λ (a : Seated). a.0.todo.items) analysts ≡ each_acts items n → length items ≤ 4096
+    → total_todo analysts ≤ 4096
+few_todo items analysts n are few = let same = ap total_of are in
+    omega (arith, total_is analysts, same, few_decided items n, few)
+
+-- ---- what a run begins with
+pub many_analysts : (desk : TableId) (net : Net) (n : ℕ) (passes : List Passed) (analysts : List Seated)
+    → map (λ (a : Seated). a.0.pass) analysts ≡ passes → passes ≡ new_passes desk net n → length analysts ≡ n
+many_analysts desk net n passes analysts are new = sym (length-map analysts (λ (a : Seated). a.0.pass))
+    ∙ ap length (are ∙ new) ∙ length-new_passes desk net n
+
+ready_new : (desk : TableId) (net : Net) (x : ℕ) (p : Passed) → p ≡ new_pass desk net x
+    → (p.desk ≡ desk) × AskedSo [] p.account
+ready_new desk net x p is = subst (λ (q : Passed). (q.desk ≡ desk) × AskedSo [] q.account) (sym is)
+    (refl, record { all = λ e. refl; few = omega arith; fewer = λ e. absurd cc })
+
+pub all_ready : (desk : TableId) (net : Net) (n : ℕ) (passes : List Passed) (analysts : List Seated)
+    → map (λ (a : Seated). a.0.pass) analysts ≡ passes → passes ≡ new_passes desk net n
+    → (k : ℕ) (d : Seated) → k < length analysts → IsReady desk (get_or analysts k d).0
+all_ready desk net n passes analysts are new k d less =
+    let len = many_analysts desk net n passes analysts are new in
+    let own : (get_or analysts k d).0.pass ≡ new_pass desk net (k + 1) =
+    sym (get_or-map (λ (a : Seated). a.0.pass) analysts k d d.0.pass less)
+    ∙ ap (λ ps. get_or ps k d.0.pass) (are ∙ new) ∙ new_passes-at desk net n k d.0.pass
+    (omega (arith, less, len)) in
+    let r = ready_new desk net (k + 1) (get_or analysts k d).0.pass own in
+    record { desk_is = r.0; all = r.1 }
+
+pub begins_in_step : (desk : TableId) (net : Net) (n : ℕ) (h : Helmed) (w : WorldView) → h ≡ new_helm desk net n
+    → w ≡ record { net = net; clones = base ∷ []; front = 0 } → InStep h w
+begins_in_step desk net n h w is begins =
+    subst (λ (x : Helmed). InStep x w) (sym is)
+    (subst (λ (x : WorldView). InStep (new_helm desk net n) x) (sym begins)
+    (record { net = refl; clones = refl; front = refl }))
+
+-- ---- what the journal says of the script
+asked_at : (events : List Event) (analysts : List Seated) → AllAsked events analysts
+    → (k : ℕ) (p : Passed) (t : List Act) → k < length analysts
+    → decisions_in (calls_by (get_or (map (λ (a : Seated). a.0.pass) analysts) k p).account.caller events) ≡ decided
+    (get_or (map (λ (a : Seated). a.0.todo.items) analysts) k t)
+asked_at events [] all k p t less = absurd (omega (arith, less))
+asked_at events (a ∷ more) all zero p t less = all.0
+asked_at events (a ∷ more) all (suc k) p t less = asked_at events more all.1 k p t (omega (arith, less))
+
+accounts_of-append : (x : ℕ) (xs ys : List Account) → accounts_of x (xs ++ ys) ≡ accounts_of x xs + accounts_of x ys
+accounts_of-append x [] ys = omega arith
+accounts_of-append x (a ∷ xs) ys = omega (arith, accounts_of-append x xs ys)
+
+not_one : (b : Bool) → (b ≡ true → ⊥) → one_if b ≡ 0
+not_one true h = absurd (h refl)
+not_one false h = refl
+
+no_account : (desk : TableId) (net : Net) (n x : ℕ) → (x ≡ 0) ⊎ (n < x)
+    → accounts_of x (map (λ p. p.account) (new_passes desk net n)) ≡ 0
+no_account desk net zero x h = refl
+no_account desk net (suc n) x h =
+    let last : one_if (nat_eq (n + 1) x) ≡ 0 =
+    not_one (nat_eq (n + 1) x) (λ e. ⊎_elim (λ (z : x ≡ 0). absurd (grind (arith, nat_tests, e, z)))
+    (λ (z : suc n < x). absurd (grind (arith, nat_tests, e, z))) h) in
+    let before : (x ≡ 0) ⊎ (n < x) = ⊎_elim (λ (z : x ≡ 0). inl z) (λ (z : suc n < x). inr (omega (arith, z))) h in
+    ap (accounts_of x) (map-append (λ p. p.account) (new_passes desk net n) (new_pass desk net (n + 1) ∷ []))
+    ∙ accounts_of-append x (map (λ p. p.account) (new_passes desk net n)) ((new_pass desk net (n + 1)).account ∷ [])
+    ∙ omega (arith, last, no_account desk net n x before)
+
+pub journal_of_script : (desk : TableId) (net : Net) (s : ScriptView) (passes : List Passed) (analysts : List Seated)
+    (book : BookView) → map (λ (a : Seated). a.0.pass) analysts ≡ passes
+    → passes ≡ new_passes desk net (length s.analysts)
+    → map (λ (a : Seated). a.0.todo.items) analysts ≡ each_acts s.items (length s.analysts)
+    → IsAllAsked net analysts book → IsJournalOf net s book
+journal_of_script desk net s passes analysts book are new todo asked =
+    let n = length s.analysts in
+    let len = many_analysts desk net n passes analysts are new in
+    record {
+      net_is = asked.net_is;
+      legal = asked.legal;
+      asked_all = λ a low high.
+          let back : a - 1 + 1 ≡ a = omega (arith, low) in
+          let p : Passed = new_pass desk net 0 in
+          let below : a - 1 < n = omega (arith, low, high) in
+          let caller : (get_or (map (λ (x : Seated). x.0.pass) analysts) (a - 1) p).account.caller ≡ a =
+          ap (λ (q : Passed). q.account.caller) (ap (λ ps. get_or ps (a - 1) p) (are ∙ new)
+          ∙ new_passes-at desk net n (a - 1) p below) ∙ back in
+          let own : get_or (map (λ (x : Seated). x.0.todo.items) analysts) (a - 1) [] ≡ acts_by a s.items =
+          ap (λ ts. get_or ts (a - 1) []) todo ∙ each_acts-at s.items n (a - 1) [] below
+          ∙ ap (λ k. acts_by k s.items) back in
+          ap (λ x. decisions_in (calls_by x book.events)) (sym caller) ∙ asked_at book.events analysts asked.asked_all
+          (a - 1) p [] (omega (arith, below, len)) ∙ ap decided own;
+      others = λ x h. asked.others x
+          (ap (accounts_of x) (sym (accounts_are analysts) ∙ ap (map (λ p. p.account)) (are ∙ new))
+          ∙ no_account desk net n x h);
+    }

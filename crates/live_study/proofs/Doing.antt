@@ -1,0 +1,259 @@
+-- What one act more does to what was asked and looked at.
+use Rattle.std.proofs.Common.{◌≡◌, ℕ, ◌+◌, ◌<◌, ◌≤◌, List, [], ◌∷◌, ◌++◌, length, map, Option, Some}
+use Rattle.std.proofs.Common.{None, IfSome, IfNone, option_map, position, take, get_or, refl, sym, ap, ap₂, ◌∙◌, subst, arith, length-append, append-nil}
+use Rattle.std.specs.List.{AllByRecursion}
+use Rattle.std.proofs.lemmas.List.{length-map, map-append, take_more}
+use Rattle.std.proofs.lemmas.List.Concat.{flat_map-append}
+use mathlib.Core.List.{IsPrefix}
+use Rattle.atomic_table.specs.Seated.{TableId}
+use Rattle.sim_base.proofs.ListLaws.{all_push}
+use Rattle.sim_base.proofs.Placing.{all_weaker}
+use Rattle.sim_base.specs.declared.decision.Decision.{Decision}
+use Rattle.std.specs.Str.{bytes_eq}
+use Rattle.net_model.specs.Net.{Net, Site, number_of}
+use Rattle.decision_script.specs.declared.item.Act.{Act}
+use Rattle.decision_script.specs.declared.item.Act.TheVariants.{Decide, Look}
+use Rattle.decision_script.specs.Alone.{decisions_onto}
+use Rattle.decision_book.specs.Journal.{Event}
+use Rattle.decision_desk.specs.declared.pass.Receipt.{Receipt}
+use Rattle.decision_desk.specs.Passes.{Passed, IsAsked}
+use Rattle.phys_proc.specs.Racks.{RackView}
+use Rattle.phys_proc.specs.declared.rack.Glance.{Glance}
+use Rattle.shelf.specs.Racks.{AreLegal, IsGlance, latest}
+use Rattle.shelf.proofs.Legals.{front-later, has_later}
+use Rattle.shelf.proofs.Prefixes.{prefix_self, prefix_trans}
+use Rattle.journal_text.specs.declared.looked.Looked.{Looked}
+use Rattle.live_study.specs.declared.analyst.Analyst.{Analyst}
+use Rattle.live_study.specs.Asking.{AskedSo, HasAsked, IsSame, decided}
+use Rattle.live_study.specs.Looks.{HasRacks, IsNoEarlier, IsRead, NeverFall, WasRead, asked_for}
+use Rattle.live_study.specs.Scripts.{look_onto, looks_in}
+use Rattle.live_study.specs.Showing.{HasLooked}
+use Rattle.live_study.proofs.Askings.{asked_more}
+
+-- the acts so far, with the next
+pub acts_more : (acts : List Act) (k : ℕ) (act : Act) → k < length acts → act ≡ get_or acts k act
+    → take (k + 1) acts ≡ take k acts ++ act ∷ []
+acts_more acts k act less is = take_more acts k act less ∙ ap (λ a. take k acts ++ a ∷ []) (sym is)
+
+decided_more : (acts : List Act) (act : Act) → decided (acts ++ act ∷ []) ≡ decided acts ++ decisions_onto act []
+decided_more acts act =
+    flat_map-append (λ a. decisions_onto a []) acts (act ∷ [])
+    ∙ ap (λ xs. decided acts ++ xs) (append-nil (decisions_onto act []))
+
+looks_more : (x : ℕ) (acts : List Act) (act : Act) → looks_in x (acts ++ act ∷ []) ≡ looks_in x acts ++ look_onto x act
+looks_more x acts act =
+    flat_map-append (look_onto x) acts (act ∷ []) ∙ ap (λ xs. looks_in x acts ++ xs) (append-nil (look_onto x act))
+
+-- ---- decisions
+pub asked_next : (desk : TableId) (acts : List Act) (d : Decision) (old new : Analyst) (receipt : Receipt)
+    (j : List Event) → HasAsked desk acts old → IsAsked old.pass d receipt new.pass j
+    → HasAsked desk (acts ++ Decide d ∷ []) new
+asked_next desk acts d old new receipt j h a =
+    let r = asked_more (decided acts) old.pass new.pass d receipt j h.all a in
+    record {
+      desk_is = r.1 ∙ h.desk_is;
+      all = subst (λ ds. AskedSo ds new.pass.account) (sym (decided_more acts (Decide d))) r.0;
+    }
+
+pub asked_over : (desk : TableId) (acts : List Act) (who station : List ℕ) (old new : Analyst) → HasAsked desk acts old
+    → new.pass ≡ old.pass → HasAsked desk (acts ++ Look who station ∷ []) new
+asked_over desk acts who station old new h e =
+    let none : decided (acts ++ Look who station ∷ []) ≡ decided acts =
+    decided_more acts (Look who station) ∙ append-nil (decided acts) in
+    record {
+      desk_is = ap (λ (p : Passed). p.desk) e ∙ h.desk_is;
+      all = subst (λ (p : Passed). AskedSo (decided (acts ++ Look who station ∷ [])) p.account) (sym e)
+          (subst (λ ds. AskedSo ds old.pass.account) (sym none) h.all);
+    }
+
+-- ---- looks
+known_later : (n : Option ℕ) (most : ℕ) (who : List ℕ) (xs ys : List RackView) (o : Option Glance) → IsPrefix xs ys
+    → IfSome o (λ g. (s : ℕ) × (n ≡ Some s) × (s ≤ most) × WasRead xs s who g)
+    → IfSome o (λ g. (s : ℕ) × (n ≡ Some s) × (s ≤ most) × WasRead ys s who g)
+known_later n most who xs ys None p h = tt
+known_later n most who xs ys (Some g) p h = (
+  h.0,
+  h.1,
+  h.2,
+  record {
+    before = h.3.before;
+    begins = prefix_trans h.3.before xs ys h.3.begins p;
+    rack = h.3.rack;
+    last = h.3.last;
+    glance = h.3.glance;
+  },
+)
+
+-- what was read before is read later
+pub read_later : (net : Net) (xs ys : List RackView) (l : Looked) → IsPrefix xs ys → IsRead net xs l → IsRead net ys l
+read_later net xs ys l p r = record {
+  unknown = r.unknown;
+  known = known_later (number_of l.station net) (length net.sites) l.who xs ys l.glance p r.known;
+}
+
+-- a look that is no earlier than those before it
+never_fall-with : (ls : List Looked) (l : Looked) → NeverFall ls → AllByRecursion (λ k. IsNoEarlier k l) ls
+    → NeverFall (ls ++ l ∷ [])
+never_fall-with [] l rise later = (tt, tt)
+never_fall-with (k ∷ ls) l rise later =
+    (all_push (IsNoEarlier k) ls l rise.0 later.0, never_fall-with ls l rise.1 later.1)
+
+-- an analyst that decided has looked at what it had
+pub looked_over : (net : Net) (acts : List Act) (d : Decision) (old new : Analyst) (read : List RackView)
+    → HasLooked net acts (old, read) → new.looks ≡ old.looks → new.number ≡ old.number
+    → HasLooked net (acts ++ Decide d ∷ []) (new, read)
+looked_over net acts d old new read h e n =
+    let items : new.looks.items ≡ old.looks.items = ap (λ r. r.items) e in
+    record {
+      asked = ap (map asked_for) items ∙ h.asked ∙ ap (λ x. looks_in x acts) (sym n)
+          ∙ sym (looks_more new.number acts (Decide d) ∙ append-nil (looks_in new.number acts));
+      read = subst (λ ls. AllByRecursion (IsRead net read) ls) (sym items) h.read;
+      rise = subst NeverFall (sym items) h.rise;
+      there = h.there;
+    }
+
+asked_is : (l : Looked) (x : ℕ) (who station : List ℕ) → l.analyst ≡ x → l.who ≡ who → l.station ≡ station
+    → asked_for l ≡ (x, who, station)
+asked_is l x who station e f g = λ i. (e i, f i, g i)
+
+-- and one that looked has looked at one thing more
+pub looked_next : (net : Net) (acts : List Act) (who station : List ℕ) (old new : Analyst) (xs ys : List RackView)
+    (l : Looked) → HasLooked net acts (old, xs) → IsPrefix xs ys → HasRacks net ys → IsRead net ys l
+    → ((k : Looked) → IsRead net xs k → IsNoEarlier k l) → l.analyst ≡ old.number → l.who ≡ who → l.station ≡ station → new.looks.items ≡ old.looks.items ++ l ∷ []
+    → new.number ≡ old.number → HasLooked net (acts ++ Look who station ∷ []) (new, ys)
+looked_next net acts who station old new xs ys l h p there r later a w s items n = record {
+  asked = ap (map asked_for) items ∙ map-append asked_for old.looks.items (l ∷ [])
+      ∙ ap₂ (λ us v. us ++ v ∷ []) h.asked (asked_is l old.number who station a w s)
+      ∙ ap (λ x. looks_in x acts ++ (x, who, station) ∷ []) (sym n)
+      ∙ sym (looks_more new.number acts (Look who station));
+  read = subst (λ ls. AllByRecursion (IsRead net ys) ls) (sym items) (all_push (IsRead net ys) old.looks.items l
+      (all_weaker (IsRead net xs) (IsRead net ys) old.looks.items (λ k q. read_later net xs ys k p q) h.read) r);
+  rise = subst NeverFall (sym items) (never_fall-with old.looks.items l h.rise
+      (all_weaker (IsRead net xs) (λ k. IsNoEarlier k l) old.looks.items later h.read));
+  there = there;
+}
+
+-- no act asks for more than one look
+few_onto : (x : ℕ) (act : Act) → length (look_onto x act) ≤ 1
+few_onto x (Decide d) = omega arith
+few_onto x (Look who station) = omega arith
+
+few_looks : (x : ℕ) (acts : List Act) → length (looks_in x acts) ≤ length acts
+few_looks x [] = omega arith
+few_looks x (act ∷ acts) = omega (
+  arith,
+  few_onto x act,
+  few_looks x acts,
+  length-append (look_onto x act) (looks_in x acts),
+)
+
+-- nor for more than one decision
+few_decisions_onto : (act : Act) → length (decisions_onto act []) ≤ 1
+few_decisions_onto (Decide d) = omega arith
+few_decisions_onto (Look who station) = omega arith
+
+pub few_decided : (acts : List Act) → length (decided acts) ≤ length acts
+few_decided [] = omega arith
+few_decided (act ∷ acts) = omega (
+  arith,
+  few_decisions_onto act,
+  few_decided acts,
+  length-append (decisions_onto act []) (decided acts),
+)
+
+-- so there is room for a look more
+pub room_for_one : (net : Net) (acts : List Act) (a : Analyst) (read : List RackView) (most : ℕ)
+    → HasLooked net acts (a, read) → length acts < most → most ≤ a.looks.reserved
+    → length a.looks.items < a.looks.reserved
+room_for_one net acts a read most h less room =
+    let many : length a.looks.items ≡ length (looks_in a.number acts) =
+    sym (length-map a.looks.items asked_for) ∙ ap length h.asked in
+    omega (arith, many, few_looks a.number acts, less, room)
+
+-- ---- what stays
+pub same_on : (a b c : Analyst) → IsSame a b → IsSame b c → IsSame a c
+same_on a b c s t = record {
+  todo = t.todo ∙ s.todo;
+  caller = t.caller ∙ s.caller;
+  number = t.number ∙ s.number;
+  room = t.room ∙ s.room;
+}
+
+pub same_self : (a : Analyst) → IsSame a a
+same_self a = record { todo = refl; caller = refl; number = refl; room = refl }
+
+-- ---- one look
+-- stations are numbered from 1
+pub number_low : (name : List ℕ) (net : Net) (s : ℕ) → number_of name net ≡ Some s → 1 ≤ s
+number_low name net s e = of_place (position (λ (site : Site). bytes_eq site.name name) net.sites) e
+  where
+    of_place : (o : Option ℕ) → option_map (λ i. i + 1) o ≡ Some s → 1 ≤ s
+    of_place None e = absurd (cc)
+    of_place (Some i) e = let h : i + 1 ≡ s = cc in omega (arith, h)
+
+pub racks_later : (net : Net) (xs ys : List RackView) → IsPrefix xs ys → HasRacks net xs → HasRacks net ys
+racks_later net xs ys p h = λ s low high. has_later s xs ys p (h s low high)
+
+none_seen : (n : Option ℕ) (most : ℕ) (who : List ℕ) (read : List RackView) (o : Option Glance) → o ≡ None
+    → IfSome o (λ g. (s : ℕ) × (n ≡ Some s) × (s ≤ most) × WasRead read s who g)
+none_seen n most who read None e = tt
+none_seen n most who read (Some g) e = absurd (cc)
+
+-- where the model has no such station, nothing is seen
+pub seen_nowhere : (net : Net) (read : List RackView) (l : Looked) → l.glance ≡ None → number_of l.station net ≡ None
+    → IsRead net read l
+seen_nowhere net read l e n = record {
+  unknown = subst (λ o. IfNone o (number_of l.station net ≡ None)) (sym e) n;
+  known = none_seen (number_of l.station net) (length net.sites) l.who read l.glance e;
+}
+
+-- a glance of the last rack of the station
+pub seen_there : (net : Net) (read : List RackView) (l : Looked) (g : Glance) (s : ℕ) (r : RackView)
+    → l.glance ≡ Some g → number_of l.station net ≡ Some s → s ≤ length net.sites → latest s read ≡ Some r
+    → IsGlance r l.who g → IsRead net read l
+seen_there net read l g s r e n high last is = record {
+  unknown = subst (λ o. IfNone o (number_of l.station net ≡ None)) (sym e) tt;
+  known = subst (λ o. IfSome o (λ x. (t : ℕ) × (number_of l.station net ≡ Some t) × (t ≤ length net.sites)
+      × WasRead read t l.who x)) (sym e) (
+        s,
+        n,
+        high,
+        record { before = read; begins = prefix_self read; rack = r; last = last; glance = is },
+      );
+}
+
+-- ---- a look and those before it
+pub none_later : (k l : Looked) → l.glance ≡ None → IsNoEarlier k l
+none_later k l e = λ a s f g ef eg. absurd (cc)
+
+-- what was read before shows of its station nothing later than the last rack does
+known_earlier : (n : Option ℕ) (most : ℕ) (who : List ℕ) (ys : List RackView) (o : Option Glance) (f : Glance) (s : ℕ)
+    (r : RackView) → AreLegal ys → IfSome o (λ g. (t : ℕ) × (n ≡ Some t) × (t ≤ most) × WasRead ys t who g)
+    → o ≡ Some f → n ≡ Some s → latest s ys ≡ Some r → f.front ≤ r.front
+known_earlier n most who ys None f s r legal known e at last = absurd (cc)
+known_earlier n most who ys (Some g) f s r legal known e at last =
+    let same : g ≡ f = cc in
+    let own : known.0 ≡ s = some_same known.0 s (sym known.1 ∙ at) in
+    let was = known.3 in
+    let below : was.rack.front ≤ r.front =
+    front-later known.0 was.before ys was.rack r legal was.begins was.last
+    (subst (λ t. latest t ys ≡ Some r) (sym own) last) in
+    omega (arith, below, was.glance.front, ap (λ (x : Glance). x.front) same)
+  where
+    some_same : (x y : ℕ) → Some x ≡ Some y → x ≡ y
+    some_same x y e = cc
+
+-- a glance of the last rack is at no earlier front than what was read of the station before
+pub seen_later : (net : Net) (xs ys : List RackView) (k l : Looked) (g : Glance) (s : ℕ) (r : RackView)
+    → IsPrefix xs ys → AreLegal ys → IsRead net xs k → l.glance ≡ Some g → number_of l.station net ≡ Some s
+    → latest s ys ≡ Some r → IsGlance r l.who g → IsNoEarlier k l
+seen_later net xs ys k l g s r p legal read e n last is = λ a own f h ef eh.
+    let same : h ≡ g = some_same h g (sym eh ∙ e) in
+    let at : number_of k.station net ≡ Some s = ap (λ name. number_of name net) (sym own) ∙ n in
+    let early : f.front ≤ r.front =
+    known_earlier (number_of k.station net) (length net.sites) k.who ys k.glance f s r legal
+    (read_later net xs ys k p read).known ef at last in
+    omega (arith, early, is.front, ap (λ (x : Glance). x.front) same)
+  where
+    some_same : (x y : Glance) → Some x ≡ Some y → x ≡ y
+    some_same x y e = cc

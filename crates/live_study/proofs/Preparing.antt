@@ -1,0 +1,177 @@
+-- What was prepared is what a run of the analysts asks for.
+use Rattle.std.proofs.Common.{◌≡◌, ℕ, ◌+◌, ◌-◌, ◌<◌, ◌≤◌, List, [], ◌∷◌, length, map, Some, slice_get, get_or}
+use Rattle.std.proofs.Common.{inl, sym, ap, ◌∙◌, arith, subst}
+use Rattle.std.specs.List.{AllByRecursion}
+use Rattle.std.proofs.lemmas.Option.{get_or_from_slice_get, slice_get-get_or, slice_get_within}
+use Rattle.sim_base.specs.Reserved.{ReservedView}
+use Rattle.sim_base.proofs.Placing.{all_at, all_weaker}
+use Rattle.net_model.specs.Net.{Net}
+use Rattle.decision_script.specs.Stating.{ScriptView}
+use Rattle.decision_book.specs.Books.{BookView}
+use Rattle.decision_book.specs.Journal.{Event}
+use Rattle.decision_desk.specs.Passes.{Helmed}
+use Rattle.phys_proc.specs.Racks.{RackView}
+use Rattle.shelf.specs.Racks.{HasRack, MayOpen, latest}
+use Rattle.shelf.proofs.Legals.{latest-all, opens}
+use Rattle.journal_text.specs.declared.looked.Looked.{Looked}
+use Rattle.world_core.specs.Worlds.{WorldView}
+use Rattle.live_study.specs.declared.prepared.Prepared.{Prepared}
+use Rattle.live_study.specs.Asking.{IsReady, Seated, total_todo}
+use Rattle.live_study.specs.Closing.{HasRoomFor}
+use Rattle.live_study.specs.Lives.{AreTold, IsAllAsked, kept, looks_made}
+use Rattle.live_study.specs.Looks.{AreLooks, HasMadeLooks, HasRacks, IsRackOf, IsRead, NeverFall, asked_for}
+use Rattle.live_study.specs.Opening.{IsFresh, IsOpening, IsPrepared, IsRackNow, numbers_to}
+use Rattle.live_study.specs.Scripts.{IsJournalOf, each_acts}
+use Rattle.live_study.specs.Showing.{AreShownOf, HasLooked, HasRoom, looks_to_make}
+use Rattle.live_study.proofs.Begun.{all_ready, few_todo, journal_of_script, length-new_passes, many_analysts}
+use Rattle.live_study.proofs.Looking.{looks_of_script, made_of_script}
+
+-- ---- the opening racks
+-- a rack at a place of them is one of the world as it stands
+now_at : (w : WorldView) (many : ℕ) (racks : List RackView) (i : ℕ) (r : RackView) → IsOpening w many racks
+    → slice_get racks i ≡ Some r → IsRackNow w r
+now_at w many racks i r h e = subst (IsRackNow w) (get_or_from_slice_get racks i r r e)
+    (all_at (IsRackNow w) racks i r h.now (slice_get_within racks i r e))
+
+pub racks_may_open : (w : WorldView) (many : ℕ) (racks : List RackView) → IsOpening w many racks → MayOpen racks
+racks_may_open w many racks h = record {
+  each = h.each;
+  net = λ i j q r e f. (now_at w many racks j r h f).net ∙ sym (now_at w many racks i q h e).net;
+}
+
+-- each station has one
+each_has_rack : (w : WorldView) (many : ℕ) (racks : List RackView) → IsOpening w many racks → (s : ℕ) → 1 ≤ s
+    → s ≤ many → HasRack s racks
+each_has_rack w many racks h s low high =
+    let back : s - 1 + 1 ≡ s = omega (arith, low) in
+    let less : s - 1 < length racks = omega (arith, low, high, h.many_is) in
+    let first = slice_get_some racks (s - 1) less in (
+      first.0,
+      subst (λ n. latest n racks ≡ Some first.0) back
+          (sym ((opens racks h.each).each (s - 1) less) ∙ first.1),
+    )
+  where
+    slice_get_some : (racks : List RackView) (i : ℕ) → i < length racks
+        → (r : RackView) × (slice_get racks i ≡ Some r)
+    slice_get_some [] i less = absurd (omega (arith, less))
+    slice_get_some (r ∷ racks) i less =
+        (get_or (r ∷ racks) i r, slice_get-get_or (r ∷ racks) i r less)
+
+-- ---- the network, the world and the helm of what was prepared
+world_net : (net : Net) (many : ℕ) (p : Prepared) → IsPrepared net many p → p.world.net ≡ net
+world_net net many p h = ap (λ (w : WorldView). w.net) h.world
+
+pub helm_net : (net : Net) (many : ℕ) (p : Prepared) → IsPrepared net many p → p.helm.net ≡ net
+helm_net net many p h = ap (λ (x : Helmed). x.net) h.helm
+
+pub may_begin : (net : Net) (many : ℕ) (p : Prepared) → IsPrepared net many p → MayOpen p.racks.items
+may_begin net many p h = racks_may_open p.world (length net.sites) p.racks.items h.racks
+
+has_racks : (net : Net) (many : ℕ) (p : Prepared) → IsPrepared net many p → HasRacks net p.racks.items
+has_racks net many p h s low high = each_has_rack p.world (length net.sites) p.racks.items h.racks s low high
+
+-- a pass for each analyst
+pub many_passes : (net : Net) (many : ℕ) (p : Prepared) → IsPrepared net many p → length p.passes.items ≡ many
+many_passes net many p h = ap length h.passes ∙ length-new_passes p.desk.table.shared.table_id net many
+
+-- the opening racks are what is published first
+pub shown_first : (net : Net) (many : ℕ) (p : Prepared) (published : List RackView) → IsPrepared net many p
+    → published ≡ p.racks.items → AreShownOf p.helm p.world published
+shown_first net many p published h e = subst (AreShownOf p.helm p.world) (sym e) (record {
+  racks = all_weaker (IsRackNow p.world) (IsRackOf p.helm.net p.helm.helm) p.racks.items (λ r k. record {
+    net_is = k.net ∙ world_net net many p h ∙ sym (helm_net net many p h);
+    at = inl (
+      k.front ∙ ap (λ (w : WorldView). w.front) h.world,
+      k.clones ∙ ap (λ (w : WorldView). w.clones) h.world,
+    );
+  }) h.racks.now;
+  early = all_weaker (IsRackNow p.world) (λ (q : RackView). q.front ≤ p.world.front) p.racks.items
+      (λ r k. omega (arith, k.front)) h.racks.now;
+  there = subst (λ (n : Net). HasRacks n p.racks.items) (sym (world_net net many p h)) (has_racks net many p h);
+  last = λ at s low high.
+      let own : s ≤ length net.sites = subst (λ (n : Net). s ≤ length n.sites) (world_net net many p h) high in
+      let has = has_racks net many p h s low own in
+      (has.0, has.1, (latest-all (IsRackNow p.world) s p.racks.items has.0 h.racks.now has.1).0.front);
+})
+
+-- ---- the analysts
+pub all_parts : (net : Net) (many : ℕ) (p : Prepared) (seated : List Seated) → IsPrepared net many p → many ≤ 16
+    → map (λ (a : Seated). a.0.pass) seated ≡ p.passes.items → p.helm.parts + length seated ≡ 17
+all_parts net many p seated h few are =
+    let len = many_analysts p.desk.table.shared.table_id net many p.passes.items seated are h.passes in
+    let parts = ap (λ (x : Helmed). x.parts) h.helm in
+    omega (arith, parts, len, few)
+
+-- an analyst that has seen nothing has made no looks
+none_made : (net : Net) (a : Seated) (opening : List RackView) → IsFresh opening a → HasRacks net opening
+    → HasLooked net [] a × HasRoom a.0
+none_made net a opening f there = (
+  record {
+    asked = ap (map asked_for) f.quiet;
+    read = subst (AllByRecursion (IsRead net a.1)) (sym f.quiet) tt;
+    rise = subst NeverFall (sym f.quiet) tt;
+    there = subst (HasRacks net) (sym f.seat) there;
+  },
+  omega (arith, f.room),
+)
+
+pub each_ready : (net : Net) (many : ℕ) (p : Prepared) (seated : List Seated) → IsPrepared net many p
+    → map (λ (a : Seated). a.0.pass) seated ≡ p.passes.items → AllByRecursion (IsFresh p.racks.items) seated
+    → (k : ℕ) (d : Seated) → k < length seated
+    → IsReady p.desk.table.shared.table_id (get_or seated k d).0 × HasLooked net [] (get_or seated k d)
+    × HasRoom (get_or seated k d).0
+each_ready net many p seated h are fresh k d less =
+    let none = none_made net (get_or seated k d) p.racks.items
+    (all_at (IsFresh p.racks.items) seated k d fresh less) (has_racks net many p h) in (
+      all_ready p.desk.table.shared.table_id net many p.passes.items seated are h.passes k d less,
+      none.0,
+      none.1,
+    )
+
+-- what they have to do, by the number of passes and by that of analysts
+own_todo : (net : Net) (s : ScriptView) (p : Prepared) (seated : List Seated) → IsPrepared net (length s.analysts) p
+    → map (λ (a : Seated). a.0.todo.items) seated ≡ each_acts s.items (length p.passes.items)
+    → map (λ (a : Seated). a.0.todo.items) seated ≡ each_acts s.items (length s.analysts)
+own_todo net s p seated h todo = todo ∙ ap (each_acts s.items) (many_passes net (length s.analysts) p h)
+
+pub little_todo : (net : Net) (s : ScriptView) (p : Prepared) (seated : List Seated)
+    → IsPrepared net (length s.analysts) p → length s.items ≤ 4096
+    → map (λ (a : Seated). a.0.todo.items) seated ≡ each_acts s.items (length p.passes.items)
+    → total_todo seated ≤ 4096
+little_todo net s p seated h few todo =
+    few_todo s.items seated (length s.analysts) (own_todo net s p seated h todo) few
+
+pub enough_room : (net : Net) (many : ℕ) (p : Prepared) (seated : List Seated) → IsPrepared net many p
+    → map (λ (a : Seated). a.0.pass) seated ≡ p.passes.items → HasRoomFor (length seated) p.room
+enough_room net many p seated h are =
+    let len = many_analysts p.desk.table.shared.table_id net many p.passes.items seated are h.passes in
+    subst (λ n. HasRoomFor n p.room) (sym len) h.room
+
+-- ---- the journal
+pub journal_is : (net : Net) (s : ScriptView) (p : Prepared) (seated : List Seated) (book : BookView)
+    → IsPrepared net (length s.analysts) p → map (λ (a : Seated). a.0.pass) seated ≡ p.passes.items
+    → map (λ (a : Seated). a.0.todo.items) seated ≡ each_acts s.items (length p.passes.items)
+    → IsAllAsked p.helm.net seated book → IsJournalOf net s book
+journal_is net s p seated book h are todo asked =
+    journal_of_script p.desk.table.shared.table_id net s p.passes.items seated book are h.passes
+    (own_todo net s p seated h todo)
+    (subst (λ (n : Net). IsAllAsked n seated book) (helm_net net (length s.analysts) p h) asked)
+
+-- ---- the looks
+pub made_are : (net : Net) (s : ScriptView) (p : Prepared) (seated : List Seated) (looks : List (ReservedView Looked))
+    → IsPrepared net (length s.analysts) p
+    → map (λ (a : Seated). a.0.number) seated ≡ numbers_to (length p.passes.items)
+    → map (λ (a : Seated). a.0.todo.items) seated ≡ each_acts s.items (length p.passes.items)
+    → looks_made looks ≡ looks_to_make seated → HasMadeLooks s (kept looks)
+made_are net s p seated looks h numbers todo made =
+    made_of_script s (length p.passes.items) seated looks (many_passes net (length s.analysts) p h) numbers todo made
+
+pub looks_are : (net : Net) (s : ScriptView) (p : Prepared) (seated : List Seated) (events : List Event)
+    (looks : List (ReservedView Looked)) → IsPrepared net (length s.analysts) p
+    → map (λ (a : Seated). a.0.number) seated ≡ numbers_to (length p.passes.items)
+    → map (λ (a : Seated). a.0.todo.items) seated ≡ each_acts s.items (length p.passes.items)
+    → looks_made looks ≡ looks_to_make seated → AreTold p.helm.net events looks → AreLooks net s events (kept looks)
+looks_are net s p seated events looks h numbers todo made told =
+    let many = length s.analysts in
+    looks_of_script net s (length p.passes.items) events seated looks (many_passes net many p h) numbers todo made
+    (subst (λ (n : Net). AreTold n events looks) (helm_net net many p h) told)

@@ -1,0 +1,160 @@
+-- What is published shows fronts of the helm's journal.
+use Rattle.std.proofs.Common.{◌≡◌, ◌==◌, inl, inr, ⊎_elim, ℕ, ◌+◌, ◌-◌, ◌<◌, ◌≤◌, Bool, true, false, List, [], ◌∷◌}
+use Rattle.std.proofs.Common.{◌++◌, length, map, Result, Ok, Err, OnOk, sym, ap, ◌∙◌, subst, arith}
+use Rattle.std.proofs.Common.{append_assoc, append-nil}
+use Rattle.std.specs.List.{AllByRecursion}
+use Rattle.std.proofs.lemmas.Bool.{cases_lt}
+use Rattle.std.proofs.lemmas.Bool.Decides.{nat_tests}
+use Rattle.sim_base.specs.Clones.{Clone, base}
+use Rattle.sim_base.proofs.ListLaws.{all_push}
+use Rattle.sim_base.proofs.Placing.{all_weaker}
+use Rattle.net_model.specs.Net.{Net}
+use Rattle.decision_book.specs.Journal.{Event, raised, asked, after}
+use Rattle.decision_desk.specs.Accounts.{Begins}
+use Rattle.decision_desk.specs.Passes.{Helmed}
+use Rattle.phys_proc.specs.Racks.{RackView}
+use Rattle.shelf.specs.Racks.{HasRack, MayFollow, if_this, latest}
+use Rattle.shelf.proofs.Legals.{has_with, latest-with}
+use Rattle.world_core.specs.Worlds.{WorldView}
+use Rattle.live_study.specs.Engines.{InStep}
+use Rattle.live_study.specs.Looks.{AreAtFront, HasRacks, IsRackOf}
+use Rattle.live_study.specs.Showing.{AreShownOf, AreShownTo, Raises}
+use Rattle.live_study.proofs.Stepping.{front_after}
+
+-- ---- journals that go on
+pub begins_on : (xs ys zs : List Event) → Begins xs ys → Begins ys zs → Begins xs zs
+begins_on xs ys zs p q = (p.0 ++ q.0, q.1 ∙ ap (λ l. l ++ q.0) p.1 ∙ append_assoc xs p.0 q.0)
+
+pub at_later : (net : Net) (es fs : List Event) (front : ℕ) (clones : List Clone) → Begins es fs
+    → AreAtFront net es front clones → AreAtFront net fs front clones
+at_later net es fs front clones p h = ⊎_elim
+    (λ (z : (front ≡ 0) × (clones ≡ base ∷ [])). inl z)
+    (λ (z : (before : List Event) × Begins (before ++ raised front ∷ []) es × (clones ≡ (after net before).clones)).
+    inr (z.0, begins_on (z.0 ++ raised front ∷ []) es fs z.1 p, z.2))
+    h
+
+pub rack_later : (net : Net) (es fs : List Event) (r : RackView) → Begins es fs → IsRackOf net es r → IsRackOf net fs r
+rack_later net es fs r p h = record { net_is = h.net_is; at = at_later net es fs r.front r.clones p h.at }
+
+pub raises_begin : (old new : Helmed) (front : ℕ) → Raises old new front → Begins old.helm new.helm
+raises_begin old new front r =
+    (map asked r.calls ++ raised front ∷ [], r.helm ∙ append_assoc old.helm (map asked r.calls) (raised front ∷ []))
+
+-- the world stands at the front that the helm has raised
+pub at_raised : (old new : Helmed) (w : WorldView) → Raises old new w.front → InStep new w
+    → AreAtFront new.net new.helm w.front w.clones
+at_raised old new w r i =
+    let before : List Event = old.helm ++ map asked r.calls in
+    let clones : w.clones ≡ (after new.net before).clones =
+    i.clones ∙ ap (λ es. (after new.net es).clones) r.helm ∙ front_after new.net before w.front in
+    inr (before, ([], r.helm ∙ sym (append-nil (before ++ raised w.front ∷ []))), clones)
+
+-- ---- a round of racks
+pub round_begins : (old new : Helmed) (w v : WorldView) (published : List RackView) → AreShownOf old w published
+    → new.net ≡ old.net → Raises old new v.front → v.net ≡ w.net → w.front < v.front → AreShownTo new v 0 published
+round_begins old new w v published h net r same rises = record {
+  racks = all_weaker (IsRackOf old.net old.helm) (IsRackOf new.net new.helm) published
+      (λ q k. subst (λ (n : Net). IsRackOf n new.helm q) (sym net)
+      (rack_later old.net old.helm new.helm q (raises_begin old new v.front r) k))
+      h.racks;
+  early = all_weaker (λ (q : RackView). q.front ≤ w.front) (λ (q : RackView). q.front ≤ v.front) published
+      (λ q k. omega (arith, k, rises)) h.early;
+  below = all_weaker (λ (q : RackView). q.front ≤ w.front) (λ (q : RackView). 0 < q.station → q.front < v.front) published
+      (λ q k s. omega (arith, k, rises)) h.early;
+  there = subst (λ (n : Net). HasRacks n published) (sym same) h.there;
+  last = λ e s low high. absurd (omega (arith, low, high));
+}
+
+follows : (h : Helmed) (w : WorldView) (done : ℕ) (r : RackView) (published : List RackView)
+    → AllByRecursion (IsRackOf h.net h.helm) published
+    → AllByRecursion (λ (q : RackView). done < q.station → q.front < w.front) published
+    → r.net ≡ h.net → r.station ≡ done + 1 → r.front ≡ w.front → MayFollow published r
+follows h w done r [] racks below net station front = tt
+follows h w done r (q ∷ published) racks below net station front = (
+  record {
+    net = net ∙ sym racks.0.net_is;
+    later = λ same. let less : q.front < w.front = below.0 (omega (arith, same, station)) in omega (arith, less, front);
+  },
+  follows h w done r published racks.1 below.1 net station front,
+)
+
+-- the rack of the next station may be published
+pub may_publish : (h : Helmed) (w : WorldView) (done : ℕ) (r : RackView) (published : List RackView)
+    → AreShownTo h w done published → r.net ≡ h.net → r.station ≡ done + 1 → r.front ≡ w.front → MayFollow published r
+may_publish h w done r published shown net station front =
+    follows h w done r published shown.racks shown.below net station front
+
+is_last : (s : ℕ) (racks : List RackView) (r : RackView) (b : Bool) → (r.station == s) ≡ b
+    → latest s (racks ++ r ∷ []) ≡ if_this b r (latest s racks)
+is_last s racks r b e = latest-with s racks r ∙ ap (λ c. if_this c r (latest s racks)) e
+
+pub round_goes_on : (h : Helmed) (w : WorldView) (done : ℕ) (r : RackView) (published : List RackView)
+    → AreShownTo h w done published → AreAtFront h.net h.helm w.front w.clones → r.net ≡ h.net → r.clones ≡ w.clones
+    → r.station ≡ done + 1 → r.front ≡ w.front → AreShownTo h w (done + 1) (published ++ r ∷ [])
+round_goes_on h w done r published shown at net clones station front = record {
+  racks = all_push (IsRackOf h.net h.helm) published r shown.racks (record {
+    net_is = net;
+    at = subst (λ f. AreAtFront h.net h.helm f r.clones) (sym front)
+        (subst (λ cs. AreAtFront h.net h.helm w.front cs) (sym clones) at);
+  });
+  early = all_push (λ (q : RackView). q.front ≤ w.front) published r shown.early (omega (arith, front));
+  below = all_push (λ (q : RackView). done + 1 < q.station → q.front < w.front) published r
+      (all_weaker (λ (q : RackView). done < q.station → q.front < w.front)
+      (λ (q : RackView). done + 1 < q.station → q.front < w.front) published
+      (λ q k s. k (omega (arith, s))) shown.below)
+      (λ s. absurd (omega (arith, s, station)));
+  there = λ s low high. has_with s published r (shown.there s low high);
+  last = λ e s low high. ⊎_elim
+      (λ (k : s < done + 1).
+      let b = shown.last e s low (omega (arith, k)) in
+      let other : (r.station == s) ≡ false = grind (arith, nat_tests, k, station) in
+      (b.0, is_last s published r false other ∙ b.1, b.2))
+      (λ (k : done + 1 ≤ s).
+      let this : (r.station == s) ≡ true = grind (arith, nat_tests, k, high, station) in
+      (r, is_last s published r true this, front))
+      (cases_lt s (done + 1));
+}
+
+pub round_skips : (h : Helmed) (w : WorldView) (done : ℕ) (published : List RackView) → AreShownTo h w done published
+    → (w.front ≡ w.net.horizon → ⊥) → AreShownTo h w (done + 1) published
+round_skips h w done published shown not = record {
+  racks = shown.racks;
+  early = shown.early;
+  below = all_weaker (λ (q : RackView). done < q.station → q.front < w.front)
+      (λ (q : RackView). done + 1 < q.station → q.front < w.front) published
+      (λ q k s. k (omega (arith, s))) shown.below;
+  there = shown.there;
+  last = λ e. absurd (not e);
+}
+
+-- ---- the same, at the number of the station whose turn it is
+-- its rack may be published
+pub may_show : (h : Helmed) (w : WorldView) (station : ℕ) (r : RackView) (published : List RackView) → 1 ≤ station
+    → station ≤ length w.net.sites → AreShownTo h w (station - 1) published → w.net ≡ h.net → r.net ≡ w.net
+    → r.station ≡ station → r.front ≡ w.front → HasRack r.station published × MayFollow published r
+may_show h w station r published low high shown of net own front =
+    let next : r.station ≡ station - 1 + 1 = omega (arith, own, low) in (
+      subst (λ s. HasRack s published) (sym own) (shown.there station low high),
+      may_publish h w (station - 1) r published shown (net ∙ of) next front,
+    )
+
+-- and then it is shown
+pub shows_more : (h : Helmed) (w : WorldView) (station : ℕ) (r : RackView) (published : List RackView) → 1 ≤ station
+    → AreShownTo h w (station - 1) published → AreAtFront h.net h.helm w.front w.clones → w.net ≡ h.net
+    → r.net ≡ w.net → r.clones ≡ w.clones → r.station ≡ station → r.front ≡ w.front
+    → AreShownTo h w station (published ++ r ∷ [])
+shows_more h w station r published low shown at of net clones own front =
+    let back : station - 1 + 1 ≡ station = omega (arith, low) in
+    subst (λ n. AreShownTo h w n (published ++ r ∷ [])) back
+    (round_goes_on h w (station - 1) r published shown at (net ∙ of) clones (own ∙ sym back) front)
+
+-- where it was published
+pub shows_if : {E : Type 0} (h : Helmed) (w : WorldView) (station : ℕ) (r : RackView) (published new : List RackView)
+    (end : Result (Unit {0}) E) → 1 ≤ station → AreShownTo h w (station - 1) published
+    → AreAtFront h.net h.helm w.front w.clones → w.net ≡ h.net → r.net ≡ w.net → r.clones ≡ w.clones
+    → r.station ≡ station → r.front ≡ w.front → OnOk end (new ≡ published ++ r ∷ [])
+    → OnOk end (AreShownTo h w station new)
+shows_if h w station r published new (Ok u) low shown at of net clones own front is =
+    subst (λ racks. AreShownTo h w station racks) (sym is)
+    (shows_more h w station r published low shown at of net clones own front)
+shows_if h w station r published new (Err e) low shown at of net clones own front is = tt

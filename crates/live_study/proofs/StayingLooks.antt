@@ -1,0 +1,103 @@
+-- What a look tells stays true of the clones that a journal leaves.
+use Rattle.std.proofs.Common.{◌≡◌, ℕ, zero, suc, ◌<◌, List, [], ◌∷◌, length, map, take}
+use Rattle.std.proofs.Common.{Option, Some, None, IfSome, IfNone, position, refl, sym, ap, ap₂, ◌∙◌, subst, arith}
+use Rattle.std.proofs.lemmas.List.{length-take-le}
+use Rattle.std.specs.Str.{bytes_eq}
+use Rattle.sim_base.specs.Clones.{Clone, clone_at, place_of}
+use Rattle.sim_base.proofs.ListLaws.{position-map}
+use Rattle.net_model.specs.Net.{Net}
+use Rattle.net_model.specs.Rules.{IsNet}
+use Rattle.stations.specs.Runs.{log_at}
+use Rattle.phys_proc.specs.Racks.{IsSeen}
+use Rattle.phys_proc.specs.declared.rack.Found.{Found}
+use Rattle.decision_book.specs.Journal.{after}
+use Rattle.live_study.specs.Laws.{KeepLogs, LooksStayTrue}
+use Rattle.live_study.proofs.Staying.{inside, logs_stay}
+
+-- ---- the first of some clones
+clone_at-take : (n : ℕ) (clones : List Clone) (c : ℕ) → c < n → clone_at (take n clones) c ≡ clone_at clones c
+clone_at-take zero clones c l = absurd (omega (arith, l))
+clone_at-take (suc n) [] c l = refl
+clone_at-take (suc n) (x ∷ xs) zero l = refl
+clone_at-take (suc n) (x ∷ xs) (suc c) l = clone_at-take n xs c (omega (arith, l))
+
+-- clones of the same names at their places have the same names
+same_names : (xs ys : List Clone) → length ys ≡ length xs
+    → ((c : ℕ) → c < length xs → (clone_at ys c).name ≡ (clone_at xs c).name)
+    → map (λ (c : Clone). c.name) ys ≡ map (λ (c : Clone). c.name) xs
+same_names [] [] many same = refl
+same_names [] (y ∷ ys) many same = absurd (omega (arith, many))
+same_names (x ∷ xs) [] many same = absurd (omega (arith, many))
+same_names (x ∷ xs) (y ∷ ys) many same = ap₂ (λ n ns. n ∷ ns) (same 0 (omega arith))
+    (same_names xs ys (omega (arith, many)) (λ c l. same (suc c) (omega (arith, l))))
+
+-- so each name has the same place
+same_place : (name : List ℕ) (xs ys : List Clone)
+    → map (λ (c : Clone). c.name) ys ≡ map (λ (c : Clone). c.name) xs → place_of name ys ≡ place_of name xs
+same_place name xs ys same = sym (position-map (λ n. bytes_eq n name) (λ (c : Clone). c.name) ys)
+    ∙ ap (position (λ n. bytes_eq n name)) same ∙ position-map (λ n. bytes_eq n name) (λ (c : Clone). c.name) xs
+
+-- ---- clones that keep the logs of others
+module _ (net : Net) (front : ℕ) (old new : List Clone) (keep : KeepLogs net front old new) where
+  -- those that were there
+  abbrev first : List Clone
+  first = take (length old) new
+
+  first_many : length first ≡ length old
+  first_many = length-take-le (length old) new keep.many
+
+  first_place : (name : List ℕ) → place_of name first ≡ place_of name old
+  first_place name = same_place name old first (same_names old first first_many
+      (λ c l. ap (λ (k : Clone). k.name) (clone_at-take (length old) new c l) ∙ keep.names c l))
+
+  first_log : (c s : ℕ) → c < length old → log_at net (clone_at first c) s front ≡ log_at net (clone_at old c) s front
+  first_log c s l = ap (λ (k : Clone). log_at net k s front) (clone_at-take (length old) new c l) ∙ keep.logs c s l
+
+  -- a clone is seen there as it was
+  first_seen : (s c handled shared : ℕ) → c < length old → IsSeen net old s front c handled shared
+      → IsSeen net first s front c handled shared
+  first_seen s c handled shared there seen = record {
+    log = seen.log ∙ ap length (sym (first_log c s there));
+    class = seen.class;
+    is_class = λ d. (
+      λ h. (let was = (seen.is_class d).0 h in (
+        omega (arith, was.0, first_many),
+        first_log d s was.0 ∙ was.1 ∙ sym (first_log c s there),
+      )),
+      λ h. (let within : d < length old = omega (arith, h.0, first_many) in
+          (seen.is_class d).1 (within, sym (first_log d s within) ∙ h.1 ∙ first_log c s there)),
+    );
+    size = seen.size;
+  }
+
+  -- what a glance has found of these
+  abbrev FoundIn : List Clone → ℕ → List ℕ → Found → Type 0
+  FoundIn clones s who f = (c : ℕ) × (place_of who clones ≡ Some c) × IsSeen net clones s front c f.handled f.shared
+
+  first_found : (s : ℕ) (who : List ℕ) (o : Option Found) → IfSome o (FoundIn old s who)
+      → IfSome o (FoundIn first s who)
+  first_found s who None h = tt
+  first_found s who (Some f) h = (
+    h.0,
+    first_place who ∙ h.1,
+    first_seen s h.0 f.handled f.shared (inside who old h.0 h.1) h.2,
+  )
+
+  first_unknown : (who : List ℕ) (o : Option Found) → IfNone o (place_of who old ≡ None)
+      → IfNone o (place_of who first ≡ None)
+  first_unknown who None h = first_place who ∙ h
+  first_unknown who (Some f) h = tt
+
+pub looks_stay_true : (net : Net) → IsNet net → LooksStayTrue net
+looks_stay_true net valid events s who g right t =
+    let final = (after net events).clones in
+    let keep = logs_stay net valid events g.front t.clones right t.at in
+    let many : length t.clones ≡ g.clones = sym t.many in
+    record {
+      few = omega (arith, keep.many, many);
+      unknown = subst (λ (n : ℕ). IfNone g.found (place_of who (take n final) ≡ None)) many
+          (first_unknown net g.front t.clones final keep who g.found t.unknown);
+      found = subst (λ (n : ℕ). IfSome g.found (λ f. (c : ℕ) × (place_of who (take n final) ≡ Some c)
+          × IsSeen net (take n final) s g.front c f.handled f.shared)) many
+          (first_found net g.front t.clones final keep s who g.found t.found);
+    }

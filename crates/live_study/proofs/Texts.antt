@@ -1,0 +1,81 @@
+-- Who calls and looks in a live study: analysts of its script.
+use Rattle.std.proofs.Common.{◌≡◌, ◌⊎◌, inl, inr, ℕ, zero, suc, ◌+◌, ◌<◌, ◌≤◌, Bool, true, false, nat_eq, if◌then◌else◌}
+use Rattle.std.proofs.Common.{List, [], ◌∷◌, length, map, sym, subst, arith}
+use Rattle.std.specs.List.{All, AllByRecursion}
+use Rattle.std.proofs.lemmas.List.Elements.{All-from_recursion}
+use Rattle.sim_base.proofs.ListLaws.{all_append}
+use Rattle.decision_script.specs.declared.item.Act.{Act}
+use Rattle.decision_script.specs.declared.item.Act.TheVariants.{Decide, Look}
+use Rattle.decision_script.specs.declared.item.Item.{Item}
+use Rattle.decision_script.specs.Stating.{ScriptView}
+use Rattle.decision_book.specs.declared.call.Call.{Call}
+use Rattle.decision_desk.specs.Accounts.{numbered}
+use Rattle.journal_text.specs.declared.looked.Looked.{Looked}
+use Rattle.live_study.specs.Looks.{HasMadeLooks, asked_for}
+use Rattle.live_study.specs.Scripts.{acts_by, each_looks, looks_in}
+
+-- ---- callers
+-- a caller has the calls that it made
+not_none : (b : Bool) (p : ℕ × Call) (ps : List (ℕ × Call)) → b ≡ true → (if b then p ∷ ps else ps) ≡ [] → ⊥
+not_none true p ps t e = absurd cc
+not_none false p ps t e = absurd cc
+
+rest_none : (b : Bool) (p : ℕ × Call) (ps : List (ℕ × Call)) → (if b then p ∷ ps else ps) ≡ [] → ps ≡ []
+rest_none true p ps e = absurd cc
+rest_none false p ps e = e
+
+from_one : (x : ℕ) → (x ≡ 0 → ⊥) → 1 ≤ x
+from_one x h = omega arith
+
+up_to : (x many : ℕ) → (many < x → ⊥) → x ≤ many
+up_to x many h = omega arith
+
+-- where none but those from 1 to so many have calls, each caller is one of them
+callers_from : (many n : ℕ) (calls : List Call) → ((x : ℕ) → (x ≡ 0) ⊎ (many < x) → numbered x n calls ≡ [])
+    → AllByRecursion (λ (c : Call). (1 ≤ c.caller) × (c.caller ≤ many)) calls
+callers_from many n [] others = tt
+callers_from many n (c ∷ cs) others =
+    let own : (c.caller ≡ 0) ⊎ (many < c.caller) → ⊥ =
+    λ h. not_none (nat_eq c.caller c.caller) (n, c) (numbered c.caller (n + 1) cs) (grind arith)
+    (others c.caller h) in (
+      (from_one c.caller (λ h. own (inl h)), up_to c.caller many (λ h. own (inr h))),
+      callers_from many (n + 1) cs
+          (λ x h. rest_none (nat_eq c.caller x) (n, c) (numbered x (n + 1) cs) (others x h)),
+    )
+
+pub callers_within : (many : ℕ) (calls : List Call) → ((x : ℕ) → (x ≡ 0) ⊎ (many < x) → numbered x 0 calls ≡ [])
+    → All (λ (c : Call). (1 ≤ c.caller) × (c.caller ≤ many)) calls
+callers_within many calls others =
+    All-from_recursion (λ (c : Call). (1 ≤ c.caller) × (c.caller ≤ many)) calls (callers_from many 0 calls others)
+
+-- ---- lookers
+abbrev Asked : Type 0
+Asked = ℕ × List ℕ × List ℕ
+
+abbrev IsWithin : ℕ → Asked → Type 0
+IsWithin many t = (1 ≤ t.0) × (t.0 ≤ many)
+
+looks_within : (many a : ℕ) (acts : List Act) → 1 ≤ a → a ≤ many → AllByRecursion (IsWithin many) (looks_in a acts)
+looks_within many a [] low high = tt
+looks_within many a (Decide d ∷ acts) low high = looks_within many a acts low high
+looks_within many a (Look who station ∷ acts) low high = ((low, high), looks_within many a acts low high)
+
+each_within : (many : ℕ) (items : List Item) (n : ℕ) → n ≤ many → AllByRecursion (IsWithin many) (each_looks items n)
+each_within many items zero high = tt
+each_within many items (suc n) high =
+    all_append (IsWithin many) (each_looks items n) (looks_in (n + 1) (acts_by (n + 1) items))
+    (each_within many items n (omega (arith, high)))
+    (looks_within many (n + 1) (acts_by (n + 1) items) (omega arith) (omega (arith, high)))
+
+of_images : {A B : Type 0} (f : A → B) (P : B → Type 0) (xs : List A) → AllByRecursion P (map f xs)
+    → AllByRecursion (λ x. P (f x)) xs
+of_images f P [] all = tt
+of_images f P (x ∷ xs) all = (all.0, of_images f P xs all.1)
+
+pub lookers_within : (s : ScriptView) (looks : List Looked) → HasMadeLooks s looks
+    → All (λ (l : Looked). (1 ≤ l.analyst) × (l.analyst ≤ length s.analysts)) looks
+lookers_within s looks made =
+    let many = length s.analysts in
+    All-from_recursion (λ (l : Looked). (1 ≤ l.analyst) × (l.analyst ≤ many)) looks
+    (of_images asked_for (IsWithin many) looks
+    (subst (AllByRecursion (IsWithin many)) (sym made) (each_within many s.items many (omega arith))))

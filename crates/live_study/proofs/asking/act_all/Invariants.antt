@@ -1,0 +1,11 @@
+use Rattle.std.proofs.Common.{take}
+use Rattle.live_study.specs.Asking.{HasAsked, IsSame}
+use Rattle.live_study.specs.Showing.{HasLooked}
+use Rattle.live_study.proofs.asking.act_all.Given as goal
+
+abbrev pub invariant-loop-k : goal.invariant-loop-k
+invariant-loop-k g l = record {
+  asked : HasAsked l.desk.table.shared.table_id (take l.k l.analyst.todo.items) l.analyst;
+  looked : HasLooked l.model (take l.k l.analyst.todo.items) (l.analyst, l.seat);
+  same : IsSame l.fn.analyst l.analyst;
+}

@@ -1,0 +1,39 @@
+use Rattle.std.proofs.Common.{sym, subst, ◌∙◌}
+use Rattle.journal_text.specs.declared.looked.Looked.{Looked}
+use Rattle.live_study.specs.Looks.{HasRacks}
+use Rattle.live_study.proofs.Doing.{none_later, number_low, racks_later, seen_later}
+use Rattle.live_study.proofs.asking.see.Goals as goal
+use Rattle.live_study.proofs.asking.see.Goals.{in-Some, in-None}
+
+pub returns-clause-there : goal.returns-clause-there
+returns-clause-there g c =
+    let net = c.args.model.now in
+    elim c.match-find.branch [
+      | in-Some w ↦ subst (HasRacks net) (sym w.seat-is)
+          (racks_later net c.args.seat.now w.look.new.self w.look.ensures.begins c.requires.there)
+      | in-None w ↦ subst (HasRacks net) (sym w.seat-is) c.requires.there
+    ]
+
+pub returns-clause-later : goal.returns-clause-later
+returns-clause-later g c l read =
+    let net = c.args.model.now in
+    let seen : Looked = record {
+      analyst = c.args.number;
+      who = c.args.who;
+      station = c.args.station;
+      glance = c.match-find.glance;
+    } in
+    elim c.match-find.branch [
+      | in-Some w ↦ (let is = w.look.ensures.glance in
+          seen_later net c.args.seat.now w.look.new.self l seen w.look.result w.in-Some.s is.0 w.look.ensures.begins
+          w.look.ensures.legal read w.glance-is (sym c.find.ensures.value ∙ w.in-Some.is) is.1 is.2)
+      | in-None w ↦ none_later l seen w.glance-is
+    ]
+
+pub look-requires : goal.look-requires
+look-requires g c =
+    let s = c.in-Some.s in
+    record {
+      there = c.requires.there s
+          (number_low c.args.station c.args.model.now s (sym c.find.ensures.value ∙ c.in-Some.is)) c.in-Some.ensures.there;
+    }

@@ -1,0 +1,53 @@
+use Rattle.std.proofs.Common.{◌≡◌, ◌∙◌, ◌+◌, ◌-◌, ◌≤◌, ap, sym, subst, arith, length}
+use Rattle.std.proofs.lemmas.Bool.Decides.{nat_tests}
+use Rattle.net_model.specs.Net.{Net}
+use Rattle.live_study.specs.Showing.{AreShownTo}
+use Rattle.live_study.proofs.Publishing.{round_skips}
+use Rattle.live_study.proofs.engine.show.Goals as goal
+use Rattle.live_study.proofs.engine.show.Goals.{then-last+in_ok-show_one, else-last+else-is_watched}
+
+-- what holds of one value holds of one that is the same
+of_same : {A : Type 0} (a b : A) → a ≡ b → (P : A → Type 0) → P b → P a
+of_same a b e P p = subst P (sym e) p
+
+pub show_one-requires-clause-shown : goal.show_one-requires-clause-shown
+show_one-requires-clause-shown g c =
+    let helm = c.args.helm.now in
+    let racks = c.loop-s.stocker.published in
+    let s = c.loop-s.s in
+    let back : s ≡ s + 1 - 1 = omega arith in
+    subst (λ w. AreShownTo helm w (s + 1 - 1) racks) (sym c.loop-s.invariant.same)
+    (subst (λ n. AreShownTo helm c.args.world.now n racks) back c.loop-s.invariant.shown)
+
+pub loop-s-preserved : goal.loop-s-preserved
+loop-s-preserved g c =
+    let helm = c.args.helm.now in
+    let world = c.args.world.now in
+    let s = c.loop-s.s in
+    let i = c.loop-s.invariant in
+    let many = ap (λ (n : Net). length n.sites) c.model-2.ensures.value in
+    let within : s + 1 ≤ length world.net.sites = omega (arith, c.loop-s-test.true, c.len-many.ensures.value, many) in
+    elim c.if-last.branch [
+      | then-last+in_ok-show_one w ↦ record {
+        within = within;
+        same = w.world-is ∙ w.show_one.ensures.same ∙ i.same;
+        shown = of_same _ _ w.stocker-is (λ t. AreShownTo helm world (s + 1) t.published)
+            (of_same _ _ (sym i.same) (λ v. AreShownTo helm v (s + 1) w.show_one.new.stocker.published)
+            w.in_ok-show_one.ensures.shown);
+      }
+      | else-last+else-is_watched w ↦ record {
+        within = within;
+        same = w.world-is ∙ i.same;
+        shown = of_same _ _ w.stocker-is (λ t. AreShownTo helm world (s + 1) t.published)
+            (round_skips helm world s c.loop-s.stocker.published i.shown
+            (λ last. absurd (grind (
+              arith,
+              nat_tests,
+              last,
+              w.if-last.false,
+              c.front.ensures.value,
+              c.horizon.ensures.value,
+              ap (λ (n : Net). n.horizon) c.model.ensures.value,
+            ))));
+      }
+    ]

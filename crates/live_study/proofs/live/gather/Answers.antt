@@ -1,0 +1,80 @@
+use Rattle.std.proofs.Common.{◌∙◌, ap, arith, length, length-append, map, sym, subst, rules, true≢false}
+use Rattle.std.proofs.lemmas.Iterator.Adapters.{YieldsList-from_vec}
+use Rattle.std.proofs.lemmas.Iterator.Consumers.{YieldsList-turn}
+use Rattle.std.proofs.lemmas.List.{length-map}
+use Rattle.live_study.specs.Asking.{Seated}
+use Rattle.live_study.specs.Looks.{AreCaughtUp, HasRacks}
+use Rattle.live_study.proofs.Closing.{all_caught_more, with_image}
+use Rattle.live_study.proofs.live.gather.Goals as goal
+use Rattle.live_study.proofs.live.gather.Goals.{then-caught_up, else-caught_up}
+
+pub comes_to_end-comes-requires : goal.comes_to_end-comes-requires
+comes_to_end-comes-requires g c =
+    let step = YieldsList-turn (YieldsList-from_vec {s = c.into_iter-one-iterator.result} c.args.seated.items
+    (search rules) (search rules)) c.loop-one.yielded _ c.loop-one.yielded_by _ c.next.new.self c.in-Some.one
+    c.in-Some.is c.next.ensures.steps in
+    record {
+      there = subst (λ (a : Seated). HasRacks c.args.model.now a.1) (sym step.1)
+          (c.requires.there (length c.loop-one.yielded) c.in-Some.one step.0);
+    }
+
+pub push_reserved-requires : goal.push_reserved-requires
+push_reserved-requires g c =
+    let step = YieldsList-turn (YieldsList-from_vec {s = c.into_iter-one-iterator.result} c.args.seated.items
+    (search rules) (search rules)) c.loop-one.yielded _ c.loop-one.yielded_by _ c.next.new.self c.in-Some.one
+    c.in-Some.is c.next.ensures.steps in
+    let f = λ (a : Seated). a.0.pass in
+    let first = c.args.room.passes in
+    omega (
+      arith,
+      step.0,
+      ap length c.loop-one.invariant.passes,
+      length-append first.items (map f c.loop-one.yielded),
+      length-map c.loop-one.yielded f,
+      c.loop-one.passes.ok.0,
+      first.ok.0,
+      c.loop-one.invariant.for_passes,
+      c.requires.passes,
+    )
+
+pub push_reserved-requires-in-loop-one : goal.push_reserved-requires-in-loop-one
+push_reserved-requires-in-loop-one g c =
+    let step = YieldsList-turn (YieldsList-from_vec {s = c.into_iter-one-iterator.result} c.args.seated.items
+    (search rules) (search rules)) c.loop-one.yielded _ c.loop-one.yielded_by _ c.next.new.self c.in-Some.one
+    c.in-Some.is c.next.ensures.steps in
+    let f = λ (a : Seated). a.0.looks in
+    let first = c.args.room.looks in
+    omega (
+      arith,
+      step.0,
+      ap length c.loop-one.invariant.looks,
+      length-append first.items (map f c.loop-one.yielded),
+      length-map c.loop-one.yielded f,
+      c.loop-one.looks.ok.0,
+      first.ok.0,
+      c.loop-one.invariant.for_looks,
+      c.requires.looks,
+    )
+
+pub loop-one-preserved : goal.loop-one-preserved
+loop-one-preserved g c =
+    let net = c.args.model.now in
+    let one = c.in-Some.one in
+    let i = c.loop-one.invariant in
+    let e = c.comes_to_end-comes.ensures in
+    record {
+      passes = with_image (λ (a : Seated). a.0.pass) c.args.room.passes.items c.loop-one.passes.items
+          c.push_reserved.new.self.items c.loop-one.yielded one i.passes c.push_reserved.ensures.items;
+      looks = with_image (λ (a : Seated). a.0.looks) c.args.room.looks.items c.loop-one.looks.items
+          c.push_reserved-in-loop-one.new.self.items c.loop-one.yielded one i.looks
+          c.push_reserved-in-loop-one.ensures.items;
+      for_passes = c.push_reserved.ensures.capacity ∙ i.for_passes;
+      for_looks = c.push_reserved-in-loop-one.ensures.capacity ∙ i.for_looks;
+      published = e.published ∙ i.published;
+      caught_up = elim c.if-caught_up.branch [
+        | then-caught_up w ↦ λ all. all_caught_more net c.args.stocker.now.published c.loop-one.yielded one
+            (i.caught_up w.if-caught_up.true)
+            (subst (λ racks. AreCaughtUp net racks one.1) i.published (e.value (sym w.caught_up-is ∙ all)))
+        | else-caught_up w ↦ λ all. absurd (true≢false (sym all ∙ w.caught_up-is ∙ w.if-caught_up.false))
+      ];
+    }

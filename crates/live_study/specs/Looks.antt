@@ -1,0 +1,118 @@
+-- What analysts see at their looks, and that it is true.
+use Rattle.std.specs.Prelude.{◌≡◌, ◌⊎◌, ℕ, ◌≤◌, List, [], ◌∷◌, ◌++◌, length, map, take, Some, None, IfSome, IfNone}
+use Rattle.std.specs.List.{AllByRecursion}
+use mathlib.Core.List.{IsPrefix}
+use Rattle.sim_base.specs.Clones.{Clone, base, place_of}
+use Rattle.net_model.specs.Net.{Net, number_of}
+use Rattle.decision_script.specs.Stating.{ScriptView}
+use Rattle.decision_book.specs.Journal.{Event, raised, after}
+use Rattle.decision_desk.specs.Accounts.{Begins}
+use Rattle.phys_proc.specs.Racks.{RackView, IsSeen}
+use Rattle.phys_proc.specs.declared.rack.Glance.{Glance}
+use Rattle.shelf.specs.Racks.{AreLegal, HasRack, IsGlance, latest}
+use Rattle.journal_text.specs.declared.looked.Looked.{Looked}
+use Rattle.live_study.specs.Scripts.{each_looks}
+
+-- what was looked at
+abbrev pub asked_for : Looked → ℕ × List ℕ × List ℕ
+asked_for l = (l.analyst, l.who, l.station)
+
+-- ---- what a look is true of
+
+-- the clones when the front was raised to this one: the base clone alone at front 0, and else those that were there
+-- before the journal's line of that front
+abbrev pub AreAtFront : Net → List Event → ℕ → List Clone → Type 0
+AreAtFront net events front clones = ((front ≡ 0) × (clones ≡ base ∷ []))
+    ⊎ ((before : List Event) × Begins (before ++ raised front ∷ []) events × (clones ≡ (after net before).clones))
+
+-- a glance at a station is true: at its front of the journal there are so many clones; it finds the clone of the name
+-- exactly where there is one, and tells how many messages are in its log before the front, and of how many clones the
+-- log is the same
+pub record IsTrueGlance (net : Net) (events : List Event) (s : ℕ) (who : List ℕ) (g : Glance) : Type 0 where
+  pub clones : List Clone
+  pub at : AreAtFront net events g.front clones
+  pub many : g.clones ≡ length clones
+  pub unknown : IfNone g.found (place_of who clones ≡ None)
+  pub found : IfSome g.found (λ f. (c : ℕ) × (place_of who clones ≡ Some c) ×
+      IsSeen net clones s g.front c f.handled f.shared)
+
+-- what was seen at a look: nothing exactly where the network has no such station, and else a true glance
+pub record IsTrueLook (net : Net) (events : List Event) (l : Looked) : Type 0 where
+  pub unknown : IfNone l.glance (number_of l.station net ≡ None)
+  pub known : IfSome l.glance (λ g. (s : ℕ) × (number_of l.station net ≡ Some s) × IsTrueGlance net events s l.who g)
+
+-- of the clones that a journal leaves, a glance tells this: the first of them were there at its front; the clone of the
+-- name is one of these exactly where one was found, and its log before the front has so many messages and is that of so
+-- many of them
+pub record IsTrueOf (net : Net) (clones : List Clone) (s : ℕ) (who : List ℕ) (g : Glance) : Type 0 where
+  pub few : g.clones ≤ length clones
+  pub unknown : IfNone g.found (place_of who (take g.clones clones) ≡ None)
+  pub found : IfSome g.found (λ f. (c : ℕ) × (place_of who (take g.clones clones) ≡ Some c) ×
+      IsSeen net (take g.clones clones) s g.front c f.handled f.shared)
+
+-- a later look of the same analyst at the same station is at no earlier front
+abbrev pub IsNoEarlier : Looked → Looked → Type 0
+IsNoEarlier l later = later.analyst ≡ l.analyst → later.station ≡ l.station
+    → (f g : Glance) → l.glance ≡ Some f → later.glance ≡ Some g → f.front ≤ g.front
+
+-- no look is at an earlier front than one of the same analyst at the same station before it
+abbrev pub NeverFall : List Looked → Type 0
+NeverFall [] = Unit {0}
+NeverFall (l ∷ ls) = AllByRecursion (IsNoEarlier l) ls × NeverFall ls
+
+-- one look for each of the script, by analyst and then in the analyst's order
+abbrev pub HasMadeLooks : ScriptView → List Looked → Type 0
+HasMadeLooks s looks = map asked_for looks ≡ each_looks s.items (length s.analysts)
+
+-- the looks of a script over a journal: one for each look of the script, by analyst and then in the analyst's order;
+-- each of them is true, and no analyst's front at a station falls
+pub record AreLooks (net : Net) (s : ScriptView) (events : List Event) (looks : List Looked) : Type 0 where
+  pub made : HasMadeLooks s looks
+  pub true_ones : AllByRecursion (IsTrueLook net events) looks
+  pub rise : NeverFall looks
+
+-- ---- what a look has read
+
+-- a glance of the last rack of the station in a beginning of these racks
+pub record WasRead (read : List RackView) (s : ℕ) (who : List ℕ) (g : Glance) : Type 0 where
+  pub before : List RackView
+  pub begins : IsPrefix before read
+  pub rack : RackView
+  pub last : latest s before ≡ Some rack
+  pub glance : IsGlance rack who g
+
+-- a look that has read a beginning of these racks, or found no station to read of
+pub record IsRead (net : Net) (read : List RackView) (l : Looked) : Type 0 where
+  pub unknown : IfNone l.glance (number_of l.station net ≡ None)
+  pub known : IfSome l.glance (λ g. (s : ℕ) × (number_of l.station net ≡ Some s) × (s ≤ length net.sites)
+      × WasRead read s l.who g)
+
+-- each station has a rack
+abbrev pub HasRacks : Net → List RackView → Type 0
+HasRacks net racks = (s : ℕ) → 1 ≤ s → s ≤ length net.sites → HasRack s racks
+
+-- ---- what is published
+
+-- a rack of this network, at a front of the journal or at front 0
+pub record IsRackOf (net : Net) (events : List Event) (r : RackView) : Type 0 where
+  pub net_is : r.net ≡ net
+  pub at : AreAtFront net events r.front r.clones
+
+-- the last rack of the station is at this front
+abbrev pub IsAt : ℕ → List RackView → ℕ → Type 0
+IsAt front racks s = (r : RackView) × (latest s racks ≡ Some r) × (r.front ≡ front)
+
+-- the last rack of each station is at this front
+abbrev pub AreAllAt : Net → ℕ → List RackView → Type 0
+AreAllAt net front racks = (s : ℕ) → 1 ≤ s → s ≤ length net.sites → IsAt front racks s
+
+-- what a seat has read and what was published begin one legal list, in which the station's last rack is at this front
+pub record IsCaughtUp (front : ℕ) (published read : List RackView) (s : ℕ) : Type 0 where
+  pub all : List RackView
+  pub legal : AreLegal all
+  pub begins : IsPrefix read all
+  pub told : IsPrefix published all
+  pub last : IsAt front all s
+
+abbrev pub AreCaughtUp : Net → List RackView → List RackView → Type 0
+AreCaughtUp net published read = (s : ℕ) → 1 ≤ s → s ≤ length net.sites → IsCaughtUp net.horizon published read s

@@ -1,0 +1,115 @@
+//! The analysts of a script and what is shown to them, before the engine begins.
+ghost use Rattle.std.specs.Prelude.{◌≡◌, ℕ, ◌++◌, ◌∷◌, ◌<◌, ◌≤◌, [], length, map, All, IfOk, OnOk};
+ghost use Rattle.std.specs.List.{AllByRecursion};
+ghost use Rattle.live_study.specs.Opening.{IsFresh, IsOpening, numbers_to};
+ghost use Rattle.live_study.specs.Scripts.{acts_by, each_acts, own_act};
+
+use crate::analyst::Analyst;
+use decision_desk::Pass;
+use decision_script::{Act, Item, Script};
+use net_model::Model;
+use phys_proc::Rack;
+use shelf::{Naming, Seat};
+use sim_base::{NoMemory, Reserved};
+use std::alloc::Global;
+use world_core::World;
+
+// Appends the act of an item, where it is this analyst's.
+fn push_own(own: &mut Vec<Act>, item: &Item, a: u32) -> Result<(), NoMemory>
+    ensures value { OnOk result (own.new.items ≡ own.old.items ++ own_act a item.now) }
+{
+    if item.analyst == a {
+        own.extend_from_slice(&[item.act])?;
+    }
+    Ok(())
+}
+
+// The acts of an analyst, in order.
+fn acts_of(alloc: Global, script: &Script, a: u32) -> Result<Vec<Act>, NoMemory>
+    ensures value { IfOk result (λ v. v.items ≡ acts_by a script.now.items) }
+    ensures few { IfOk result (λ v. length v.items ≤ 4096) }
+{
+    let mut own = Vec::new(alloc);
+    for i in 0..script.len() {
+        push_own(&mut own, &script.item(i), a)?;
+    }
+    Ok(own)
+}
+
+/// The analysts of a script, one for each pass and each seat, with room for their looks.
+pub(crate) fn analysts_of<J: Naming>(
+    alloc: Global,
+    script: &Script,
+    passes: Vec<Pass>,
+    seats: Vec<Seat<J>>,
+) -> Result<Vec<(Analyst, Seat<J>)>, NoMemory>
+    requires few { length passes.items ≤ 16 }
+    ensures passes { IfOk result (λ v. map (λ a. a.0.pass) v.items ≡ passes.items) }
+    ensures numbers { IfOk result (λ v. map (λ a. a.0.number) v.items ≡ numbers_to (length passes.items)) }
+    ensures todo { IfOk result (λ v.
+        map (λ a. a.0.todo.items) v.items ≡ each_acts script.now.items (length passes.items)) }
+    ensures fresh { (opening : _) → All (λ s. s ≡ opening) seats.items →
+        IfOk result (λ v. AllByRecursion (IsFresh opening) v.items) }
+{
+    let mut seats = seats;
+    let mut seated = Vec::with_capacity(alloc, passes.len())?;
+    let mut number = 0;
+    for pass in passes {
+        let Some(seat) = seats.pop() else {
+            return Err(NoMemory);
+        };
+        number += 1;
+        let todo = acts_of(alloc, script, number)?;
+        let looks = Reserved::with_capacity(alloc, todo.len())?;
+        let analyst = Analyst {
+            number,
+            pass,
+            todo,
+            looks,
+        };
+        seated.push((analyst, seat))?;
+    }
+    Ok(seated)
+}
+
+/// A rack of each station, as the world opens.
+pub(crate) fn opening_racks(alloc: Global, world: &mut World) -> Result<Vec<Rack>, NoMemory>
+    ensures same { world.new ≡ world.old }
+    ensures opening { IfOk result (λ v. IsOpening world.old (length world.old.net.sites) v.items) }
+{
+    let many = world.model().len();
+    let mut racks = Vec::with_capacity(alloc, many as usize)?;
+    for s in 0..many {
+        racks.push(world.rack(alloc, s + 1)?)?;
+    }
+    Ok(racks)
+}
+
+// Marks the station of an act, where it is a look at one.
+fn mark(watched: &mut Vec<bool>, model: &Model, act: &Act) {
+    let Act::Look { who: _, station } = act else {
+        return;
+    };
+    let Some(s) = model.find(station) else {
+        return;
+    };
+    if let Some(is) = watched.get_mut((s as usize).saturating_sub(1)) {
+        *is = true;
+    }
+}
+
+/// Which stations are looked at. It only says what is worth showing before the horizon.
+pub(crate) fn watched_in(
+    alloc: Global,
+    model: &Model,
+    script: &Script,
+) -> Result<Vec<bool>, NoMemory> {
+    let mut watched = Vec::with_capacity(alloc, model.len() as usize)?;
+    for _s in 0..model.len() {
+        watched.push(false)?;
+    }
+    for i in 0..script.len() {
+        mark(&mut watched, model, &script.item(i).act);
+    }
+    Ok(watched)
+}

@@ -1,0 +1,11 @@
+//! The laws of live studies: the function's contract is a law, and there is nothing to run.
+ghost use Rattle.net_model.specs.Net.{Net};
+ghost use Rattle.net_model.specs.Rules.{IsNet};
+ghost use Rattle.live_study.specs.Laws.{LogsStay, LooksStayTrue};
+
+/// What comes behind a front changes no log before it: a later set or end has a time from the front on, and a later
+/// fork begins as its origin. So what a look tells is true of the clones that the journal leaves.
+pub fn looks_stay_true()
+    ensures logs { (net : Net) → IsNet net → LogsStay net }
+    ensures looks { (net : Net) → IsNet net → LooksStayTrue net }
+{}

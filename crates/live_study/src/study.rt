@@ -1,0 +1,140 @@
+//! The live study of a model and a script.
+ghost use Rattle.std.specs.Prelude.{◌≡◌, ◌+◌, length, IfOk, IfErr, OnErr};
+ghost use Rattle.world_core.specs.Worlds.{total_handled};
+ghost use Rattle.live_study.specs.Lives.{IsFinished, IsStopped, kept};
+ghost use Rattle.live_study.specs.Looks.{AreLooks, HasMadeLooks};
+ghost use Rattle.live_study.specs.Opening.{IsPrepared};
+ghost use Rattle.live_study.specs.Scripts.{IsJournalOf};
+
+use crate::begin::{analysts_of, opening_racks, watched_in};
+use crate::live::run_live;
+use crate::prepared::Prepared;
+use crate::room::Room;
+use crate::run::LiveRun;
+use crate::work::count_run;
+use crew_pool::{Crew, Gate};
+use decision_desk::Desk;
+use decision_script::Script;
+use net_model::Model;
+use shelf::{Naming, Opened, begin};
+use sim_base::{NoMemory, Steps};
+use std::alloc::Global;
+use std::marker::Brand;
+use std::sync::ledger::Ledger;
+use std::sync::{Arc, Wait};
+use std::thread::Threads;
+use world_core::World;
+
+// What the study of a model and a script begins with.
+fn prepare(alloc: Global, model: &Arc<Model>, script: &Script) -> Result<Prepared, NoMemory>
+    ensures value { IfOk result (λ p. IsPrepared model.now.value (length script.now.analysts) p) }
+{
+    let mut world = World::new(alloc, Arc::try_clone(model)?)?;
+    let racks = opening_racks(alloc, &mut world)?;
+    let watched = watched_in(alloc, model, script)?;
+    let (desk, passes, helm) = Desk::begin(alloc, Arc::try_clone(model)?, script.analysts())?;
+    let room = Room {
+        passes: Vec::with_capacity(alloc, passes.len())?,
+        looks: Vec::with_capacity(alloc, passes.len())?,
+    };
+    Ok(Prepared {
+        world,
+        racks,
+        watched,
+        desk,
+        helm,
+        passes,
+        room,
+    })
+}
+
+// The study, over a history of racks that gets its name here.
+fn run_prepared<
+    C: Crew + Sync,
+    G: Gate,
+    J: Naming + Send + Sync,
+    W: Wait + Drop + Send,
+    R: Threads + Wait + Sync,
+>(
+    rt: &R,
+    waits: W,
+    alloc: Global,
+    crew: &C,
+    gate: &G,
+    model: &Model,
+    script: &Script,
+    prepared: Prepared,
+    opened: Opened,
+) -> Result<LiveRun, NoMemory>
+    requires name { opened.seen.book ≡ J.book }
+    requires prepared { IsPrepared model.now (length script.now.analysts) prepared }
+    ensures journal { IfOk result (λ r. IsJournalOf model.now script.now r.book) }
+    ensures made { IfOk result (λ r. HasMadeLooks script.now (kept r.looks.items)) }
+    ensures looks { IfOk result (λ r. IfOk r.run (λ w.
+        AreLooks model.now script.now r.book.events (kept r.looks.items))) }
+    ensures finished { IfOk result (λ r. IfOk r.run (λ w. IsFinished model.now r.book w)) }
+    ensures stopped { IfOk result (λ r. IfErr r.run (λ e. IsStopped model.now r.book e)) }
+{
+    let Prepared {
+        world,
+        racks,
+        watched,
+        desk,
+        helm,
+        passes,
+        room,
+    } = prepared;
+    let _stations = model.len();
+    let (stocker, seats) = begin::<J, W>(waits, alloc, opened, racks, script.analysts())?;
+    let seated = analysts_of(alloc, script, passes, seats)?;
+    Ok(run_live(
+        rt,
+        alloc,
+        crew,
+        gate,
+        model,
+        desk,
+        helm,
+        world,
+        stocker,
+        watched.as_slice(),
+        seated,
+        room,
+    ))
+}
+
+/// Runs a live study: each analyst of the script decides and looks in a thread of its own, beside the engine. Out of
+/// memory before the threads start, there is no journal; from then on there is one.
+pub fn live_study<C: Crew + Sync, G: Gate, L: Ledger, R: Threads + Wait + Sync>(
+    rt: &R,
+    alloc: Global,
+    crew: &C,
+    gate: &G,
+    model: &Arc<Model>,
+    script: &Script,
+    steps: &mut Steps<L>,
+) -> Result<LiveRun, NoMemory>
+    // One legal journal, in which each analyst's decisions stand in order, and no others.
+    ensures journal { IfOk result (λ r. IsJournalOf model.now.value script.now r.book) }
+    // All looks of the script were made, in order.
+    ensures made { IfOk result (λ r. HasMadeLooks script.now (kept r.looks.items)) }
+    // At the horizon: what was seen at each of them is true of the journal's clones at a front.
+    ensures looks { IfOk result (λ r. IfOk r.run (λ w.
+        AreLooks model.now.value script.now r.book.events (kept r.looks.items))) }
+    // The engine came to the horizon, and its world has the journal's clones; or it met the limit at the last front.
+    ensures finished { IfOk result (λ r. IfOk r.run (λ w. IsFinished model.now.value r.book w)) }
+    ensures stopped { IfOk result (λ r. IfErr r.run (λ e. IsStopped model.now.value r.book e)) }
+    // At the horizon, what clones share was counted once; else nothing was.
+    ensures steps { IfOk result (λ r. IfOk r.run (λ w.
+        steps.new ≡ steps.old + total_handled model.now.value w.clones model.now.value.horizon)) }
+    ensures idle { IfOk result (λ r. IfErr r.run (λ e. steps.new ≡ steps.old)) }
+    ensures unchanged { OnErr result (steps.new ≡ steps.old) }
+{
+    let prepared = prepare(alloc, model, script)?;
+    let opened = Opened::new();
+    let live = run_prepared::<C, G, Brand, &R, R>(
+        rt, rt, alloc, crew, gate, model, script, prepared, opened,
+    )?;
+    count_run(&live.run, steps);
+    Ok(live)
+}

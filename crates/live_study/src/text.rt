@@ -1,0 +1,36 @@
+//! The text of a live study's journal.
+ghost use Rattle.std.specs.Prelude.{◌≡◌, ◌++◌, IfOk, OnOk};
+ghost use Rattle.net_model.specs.Net.{Net};
+ghost use Rattle.journal_text.specs.JournalText.{journal_text as text_of};
+ghost use Rattle.live_study.specs.Lives.{kept};
+ghost use Rattle.live_study.specs.Looks.{HasMadeLooks};
+ghost use Rattle.live_study.specs.Scripts.{IsJournalOf};
+
+use crate::run::LiveRun;
+use decision_script::Script;
+use journal_text::{Looked, journal_text};
+use sim_base::{NoMemory, Reserved};
+use std::alloc::Global;
+
+// The looks that analysts have kept, one after the other.
+fn looks_of(alloc: Global, looks: &[Reserved<Looked>]) -> Result<Vec<Looked>, NoMemory>
+    ensures value { IfOk result (λ v. v.items ≡ kept looks.now) }
+{
+    let mut all = Vec::new(alloc);
+    for own in looks {
+        all.extend_from_slice(own.as_slice())?;
+    }
+    Ok(all)
+}
+
+/// The text of the journal that a live study of a script leaves, with the looks of its analysts behind it.
+pub fn journal_of(alloc: Global, script: &Script, live: &LiveRun) -> Result<Vec<u8>, NoMemory>
+    requires journal { (net : Net) × IsJournalOf net script.now live.now.book }
+    requires made { HasMadeLooks script.now (kept live.now.looks.items) }
+    ensures value { IfOk result (λ text. text.items ≡
+        text_of script.now.analysts live.now.book.events (kept live.now.looks.items)) }
+{
+    let looks = looks_of(alloc, live.looks.as_slice())?;
+    let book = live.book.book();
+    journal_text(alloc, script, book.calls(), book.fronts(), looks.as_slice())
+}
