@@ -4,7 +4,8 @@
     tools/fuzz.py [--bin FILE] [--cases N] [--seed N] [--first N] [--keep DIR] [--plain FILE] [--stop N]
 
 Of each case: `run` against `solo` of each clone; 1 against 4 and 16 workers, where the program knows
-`--workers`; the report against counts out of the traces; the traces' order; the form of error lines,
+`--workers`; the report against counts out of the traces; `live` against its journal under `run`, what its
+analysts asked, and its looks against the traces; the traces' order; the form of error lines,
 and no output beside one; the refusal of the model, the script or a decision, or the clones, against
 the formats written once more. With --plain also the traces of the plain simulator of bench/. A case
 that fails is kept in a folder, with its model, its script and what was found. Status 1 where one failed.
@@ -21,6 +22,7 @@ import time
 from pathlib import Path
 
 from fuzz_cases import made_case
+from fuzz_live import Wrong, check_live
 from fuzz_model import expected_model
 from fuzz_script import expected
 
@@ -93,6 +95,15 @@ class Runner:
     def solo(self, clone):
         """`cloner solo` of a clone of the present case."""
         return self.started([self.program, "solo", self.model, self.script, "--clone", clone])
+
+    def live(self, *more):
+        """`cloner live` of the present case."""
+        return self.started([self.program, "live", self.model, self.script, *more])
+
+    def run_script(self, script):
+        """`cloner run` of the present model with another script."""
+        write(self.plainest, script)
+        return self.started([self.program, "run", self.model, self.plainest])
 
     def find_workers(self):
         """Notes which numbers of workers the program knows."""
@@ -225,6 +236,20 @@ def check_plain(runner, case, ended):
         raise Difference(f"the plain simulator differs: status {plain.status} {plain.err[:200]!r}")
 
 
+def check_lives(runner, case, ended):
+    """`live` of the present case: refused texts as by `run`, and else right by itself."""
+    for more in [[]] + [["--workers", number] for number in runner.workers[:1]]:
+        live = runner.live(*more)
+        if ended.status in (4, 5):
+            if live != ended:
+                raise Difference(f"`live` says {live.status} {live.err[:200]!r}")
+            continue
+        try:
+            check_live(live, case.script, runner.run_script, split, log_entries)
+        except Wrong as why:
+            raise Difference(f"`live` {' '.join(more)}: {why}") from None
+
+
 def check_case(runner, case):
     """All comparisons of the present case; gives the status of its run."""
     ended = runner.run()
@@ -234,6 +259,7 @@ def check_case(runner, case):
         other = runner.run("--workers", number)
         if other != ended:
             raise Difference(f"{number} workers: status {other.status} {other.err[:200]!r}; not as 1 worker")
+    check_lives(runner, case, ended)
     if ended.status:
         check_refused(runner, ended)
         return ended.status

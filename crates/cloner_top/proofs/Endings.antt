@@ -1,11 +1,10 @@
 -- How the steps of a study join to an ending, and endings to an answer.
 use Rattle.std.proofs.Common.{◌≡◌, ◌≤◌, ℕ, ◌+◌, inl, inr, refl, sym, ap}
-use Rattle.std.proofs.Common.{subst, ◌∙◌, arith, List, [], Option, Some, None, Ok}
+use Rattle.std.proofs.Common.{subst, ◌∙◌, arith, List, [], ◌∷◌, Option, Some, None, Ok}
 use Rattle.sim_outer.specs.Causes.{AreCounted, Rose}
 use Rattle.sim_outer.specs.Files.{Files}
 use Rattle.net_model.specs.Net.{Net}
 use Rattle.net_model.specs.Text.{model}
-use Rattle.decision_script.specs.Reading.{script}
 use Rattle.decision_script.specs.Stating.{ScriptView}
 use Rattle.decision_book.specs.Books.{BookView}
 use Rattle.decision_book.specs.Journal.{after}
@@ -13,26 +12,30 @@ use Rattle.command_words.specs.declared.request.WordsFault.{WordsFault}
 use Rattle.command_words.specs.declared.request.WordsFault.TheVariants as fault
 use Rattle.command_words.specs.Requests.{Asked, Source, made, named}
 use Rattle.cloner_top.specs.declared.reading.Text.TheVariants.{Model, Script}
+use Rattle.cloner_top.specs.declared.halt.Halt.{Halt}
+use Rattle.cloner_top.specs.declared.halt.Halt.TheVariants as halt
 use Rattle.cloner_top.specs.declared.refusal.Refusal.{Refusal}
 use Rattle.cloner_top.specs.declared.refusal.Refusal.TheVariants.{OutOfMemory, Usage, NoModel}
 use Rattle.cloner_top.specs.declared.refusal.Refusal.TheVariants.{NoScript, Stopped, CannotWrite}
 use Rattle.cloner_top.specs.declared.stop.Stop.{Stop}
 use Rattle.cloner_top.specs.declared.stop.Stop.TheVariants.{BadModel, BadScript, Refused, NoClone, LimitMet}
-use Rattle.cloner_top.specs.Answers.{Comes, IsAnswer, IsRefused, IsUnobeyed, Outside}
+use Rattle.cloner_top.specs.Answers.{Comes, IsAnswer, IsDisobeyed, IsRefused, IsUnobeyed, Outside}
 use Rattle.cloner_top.specs.Answers as answer
-use Rattle.cloner_top.specs.Deciding.{IsRefusal}
-use Rattle.cloner_top.specs.Endings.{Ending, MayCome, MayEnd, MaySimulate, StoppedFor, Wrote, overrun, stopped, written}
+use Rattle.cloner_top.specs.Deciding.{IsDecided, IsRefusal}
+use Rattle.cloner_top.specs.Endings.{DecidesFirst, Ending, MayCome, MayEnd, MaySimulate}
+use Rattle.cloner_top.specs.Endings.{StoppedFor, Wrote, overrun, stopped, written}
 use Rattle.cloner_top.specs.Endings as ends
-use Rattle.cloner_top.specs.Outsides.{ArePut, IsFailed, IsFinished, IsNotPut, IsTold, SinkView}
-use Rattle.cloner_top.specs.Plans.{HasModel, IsPlanned, IsUnplanned, StopsEarly}
+use Rattle.cloner_top.specs.Outsides.{ArePut, AreTold, IsFailed, IsFinished, IsHalted, IsNotPut, SinkView}
+use Rattle.cloner_top.specs.Plans.{HasModel, IsRead, IsUnreadStudy, StopsEarly}
 use Rattle.cloner_top.specs.Refusals.{Stops, line_of, status_of, words_refusal}
+use Rattle.cloner_top.specs.Stops.{stop_line, stop_status}
 use Rattle.cloner_top.specs.Texts.{AreTexts, IsBadModel, IsBadScript, IsNotRead, IsText}
 use Rattle.cloner_top.specs.Texts.{IsUnread, all_fetches, fetches_of, text_of}
 
--- ---- the plan of a study
+-- ---- the texts of a study
 
 pub no_model_text : (rose : Type 0) (source : Source) (files : Option Files) (r : Refusal)
-    → IsNotRead rose source Model files r → IsUnplanned rose source files r
+    → IsNotRead rose source Model files r → IsUnreadStudy rose source files r
 no_model_text rose source files OutOfMemory h = tt
 no_model_text rose source files Usage h = absurd h
 no_model_text rose source files NoModel h = h
@@ -48,7 +51,7 @@ unread_on a b c (made n) files le h = h
 
 pub no_script_text : (a b c : ℕ) (source : Source) (files more : Option Files) (r : Refusal) → a ≤ b → more ≡ files
     → HasModel source files
-    → IsNotRead (Rose b c) source Script more r → IsUnplanned (Rose a c) source files r
+    → IsNotRead (Rose b c) source Script more r → IsUnreadStudy (Rose a c) source files r
 no_script_text a b c source files more OutOfMemory le same has h = tt
 no_script_text a b c source files more Usage le same has h = absurd h
 no_script_text a b c source files more NoModel le same has h = absurd h
@@ -71,7 +74,7 @@ bad_model_stops source files m (NoClone name) text h = absurd h
 bad_model_stops source files m (LimitMet limit station clone) text h = absurd h
 
 pub no_model : (rose : Type 0) (source : Source) (files : Option Files) (m : List ℕ) (r : Refusal)
-    → IsText (text_of source Model files) m → Stops (IsBadModel m) r → IsUnplanned rose source files r
+    → IsText (text_of source Model files) m → Stops (IsBadModel m) r → IsUnreadStudy rose source files r
 no_model rose source files m OutOfMemory text h = tt
 no_model rose source files m Usage text h = absurd h
 no_model rose source files m NoModel text h = absurd h
@@ -95,7 +98,7 @@ bad_script_stops source files m s net (NoClone name) texts is h = absurd h
 bad_script_stops source files m s net (LimitMet limit station clone) texts is h = absurd h
 
 pub no_script : (rose : Type 0) (source : Source) (files : Option Files) (m s : List ℕ) (net : Net) (r : Refusal)
-    → AreTexts source files m s → model m ≡ Ok net → Stops (IsBadScript s) r → IsUnplanned rose source files r
+    → AreTexts source files m s → model m ≡ Ok net → Stops (IsBadScript s) r → IsUnreadStudy rose source files r
 no_script rose source files m s net OutOfMemory texts is h = tt
 no_script rose source files m s net Usage texts is h = absurd h
 no_script rose source files m s net NoModel texts is h = absurd h
@@ -103,32 +106,22 @@ no_script rose source files m s net NoScript texts is h = absurd h
 no_script rose source files m s net (Stopped stop) texts is h = bad_script_stops source files m s net stop texts is h
 no_script rose source files m s net CannotWrite texts is h = absurd h
 
-refusal_stops : (source : Source) (files : Option Files) (m s : List ℕ) (net : Net) (stated : ScriptView)
-    (stop : Stop) → AreTexts source files m s → model m ≡ Ok net → script s ≡ Ok stated
-    → IsRefusal net stated stop → StopsEarly source files stop
-refusal_stops source files m s net stated (Refused reply line) texts is_model is_script h =
-    record {
-      m = m;
-      s = s;
-      texts = texts;
-      may = λ a. ends.studied net stated (stopped (Refused reply line)) is_model
-          is_script (ends.refused reply line h);
-    }
-refusal_stops source files m s net stated (BadModel fault) texts is_model is_script h = absurd h
-refusal_stops source files m s net stated (BadScript fault) texts is_model is_script h = absurd h
-refusal_stops source files m s net stated (NoClone name) texts is_model is_script h = absurd h
-refusal_stops source files m s net stated (LimitMet limit station clone) texts is_model is_script h = absurd h
-
-pub no_decisions : (rose : Type 0) (source : Source) (files : Option Files) (m s : List ℕ) (net : Net)
-    (stated : ScriptView) (r : Refusal) → AreTexts source files m s → model m ≡ Ok net → script s ≡ Ok stated
-    → Stops (IsRefusal net stated) r → IsUnplanned rose source files r
-no_decisions rose source files m s net stated OutOfMemory texts is_model is_script h = tt
-no_decisions rose source files m s net stated Usage texts is_model is_script h = absurd h
-no_decisions rose source files m s net stated NoModel texts is_model is_script h = absurd h
-no_decisions rose source files m s net stated NoScript texts is_model is_script h = absurd h
-no_decisions rose source files m s net stated (Stopped stop) texts is_model is_script h =
-    refusal_stops source files m s net stated stop texts is_model is_script h
-no_decisions rose source files m s net stated CannotWrite texts is_model is_script h = absurd h
+-- a refused decision ends a study whose decisions are all made first
+pub refused_end : (a : Asked) (net : Net) (stated : ScriptView) (steps : ℕ) (out : SinkView) (r : Refusal)
+    → DecidesFirst a.mode → Stops (IsRefusal net stated) r → IsFailed (MayEnd a net stated) steps steps out out r
+refused_end a net stated steps out OutOfMemory first h = refl
+refused_end a net stated steps out Usage first h = absurd h
+refused_end a net stated steps out NoModel first h = absurd h
+refused_end a net stated steps out NoScript first h = absurd h
+refused_end a net stated steps out (Stopped stop) first h = (of_stop stop h, refl)
+  where
+    of_stop : (stop : Stop) → IsRefusal net stated stop → StoppedFor (MayEnd a net stated) steps steps [] stop
+    of_stop (Refused reply line) h = ends.at_once refl (ends.refused reply line first h) refl
+    of_stop (BadModel fault) h = absurd h
+    of_stop (BadScript fault) h = absurd h
+    of_stop (NoClone name) h = absurd h
+    of_stop (LimitMet limit station clone) h = absurd h
+refused_end a net stated steps out CannotWrite first h = absurd h
 
 -- ---- how often is fetched
 
@@ -153,9 +146,10 @@ module _ (P Q : Ending → Type 0) (on : (end : Ending) → P end → Q end) (ol
   wrote_on : (texts : List (List ℕ)) → Wrote P old_steps new_steps texts → Wrote Q old_steps new_steps texts
   wrote_on texts w = record { work = w.work; may = on (written texts w.work) w.may; steps = w.steps }
 
-  stopped_on : (stop : Stop) → StoppedFor P old_steps new_steps stop → StoppedFor Q old_steps new_steps stop
-  stopped_on stop (ends.at_once may same) = ends.at_once (on (stopped stop) may) same
-  stopped_on stop (ends.at_limit most may few) = ends.at_limit most (on (overrun stop most) may) few
+  stopped_on : (told : List (List ℕ)) (stop : Stop) → StoppedFor P old_steps new_steps told stop
+      → StoppedFor Q old_steps new_steps told stop
+  stopped_on told stop (ends.at_once none may same) = ends.at_once none (on (stopped stop) may) same
+  stopped_on told stop (ends.at_limit most may few) = ends.at_limit most (on (overrun told stop most) may) few
 
   pub finished_on : (old new : SinkView) → IsFinished P old_steps new_steps old new
       → IsFinished Q old_steps new_steps old new
@@ -167,19 +161,29 @@ module _ (P Q : Ending → Type 0) (on : (end : Ending) → P end → Q end) (ol
   failed_on old new Usage h = h
   failed_on old new NoModel h = h
   failed_on old new NoScript h = h
-  failed_on old new (Stopped stop) h = (stopped_on stop h.0, h.1)
+  failed_on old new (Stopped stop) h = (stopped_on [] stop h.0, h.1)
   failed_on old new CannotWrite h = record { texts = h.texts; wrote = wrote_on h.texts h.wrote; cut = h.cut }
 
--- what the simulation of a planned study comes to is what is asked
-pub comes : (files : Option Files) (a : Asked) (net : Net) (book : BookView) → IsPlanned a.source files net book
-    → (end : Ending) → MaySimulate a.mode a.source net (after book.net book.events).clones end → Comes files a end
-comes files a net book plan end may = record {
-  m = plan.m;
-  s = plan.s;
-  texts = plan.texts;
-  may = ends.studied net plan.stated end plan.is_model plan.is_script
-      (ends.decided end plan.decided.none (subst (λ cs. MaySimulate a.mode a.source net cs end)
-      (ap (λ n. (after n book.events).clones) plan.decided.net_is ∙ plan.decided.clones) may));
+  pub halted_on : (old new : SinkView) (h : Halt) → IsHalted P old_steps new_steps old new h
+      → IsHalted Q old_steps new_steps old new h
+  halted_on old new (halt.Refused r) h = failed_on old new r h
+  halted_on old new (halt.Overrun journal stop) h = (stopped_on (journal.items ∷ []) stop h.0, h.1)
+
+-- what the simulation of decided clones comes to ends the study
+pub decided_end : (a : Asked) (net : Net) (stated : ScriptView) (book : BookView) → IsDecided net stated book
+    → (end : Ending) → MaySimulate a.mode a.source net (after book.net book.events).clones end → MayEnd a net stated end
+decided_end a net stated book is end may =
+    ends.decided end is.none (subst (λ cs. MaySimulate a.mode a.source net cs end)
+    (ap (λ n. (after n book.events).clones) is.net_is ∙ is.clones) may)
+
+-- how the study of its texts ends is what is asked
+pub comes : (files : Option Files) (a : Asked) (net : Net) (stated : ScriptView) → IsRead a.source files net stated
+    → (end : Ending) → MayEnd a net stated end → Comes files a end
+comes files a net stated read end may = record {
+  m = read.m;
+  s = read.s;
+  texts = read.texts;
+  may = ends.studied net stated end read.is_model read.is_script may;
 }
 
 pub failed_is : (rose : Type 0) (files : Option Files) (a : Asked) (old_steps new_steps : ℕ) (old new : SinkView)
@@ -192,16 +196,23 @@ failed_is rose files a old_steps new_steps old new NoScript h = absurd h
 failed_is rose files a old_steps new_steps old new (Stopped stop) h = h
 failed_is rose files a old_steps new_steps old new CannotWrite h = h
 
--- a study that is not planned is not written
-pub unplanned_is : (rose : Type 0) (files : Option Files) (a : Asked) (steps : ℕ) (out : SinkView) (r : Refusal)
-    → IsUnplanned rose a.source files r → IsUnobeyed rose files a steps steps out out r
-unplanned_is rose files a steps out OutOfMemory h = refl
-unplanned_is rose files a steps out Usage h = h
-unplanned_is rose files a steps out NoModel h = (h, refl, refl)
-unplanned_is rose files a steps out NoScript h = (h.0, h.1, refl, refl)
-unplanned_is rose files a steps out (Stopped stop) h =
-    (ends.at_once (record { m = h.m; s = h.s; texts = h.texts; may = h.may a }) refl, refl)
-unplanned_is rose files a steps out CannotWrite h = absurd h
+pub halted_is : (rose : Type 0) (files : Option Files) (a : Asked) (old_steps new_steps : ℕ) (old new : SinkView)
+    (h : Halt) → IsHalted (Comes files a) old_steps new_steps old new h
+    → IsDisobeyed rose files a old_steps new_steps old new h
+halted_is rose files a old_steps new_steps old new (halt.Refused r) h =
+    failed_is rose files a old_steps new_steps old new r h
+halted_is rose files a old_steps new_steps old new (halt.Overrun journal stop) h = h
+
+-- a study that is not read is not written
+pub unread_is : (rose : Type 0) (files : Option Files) (a : Asked) (steps : ℕ) (out : SinkView) (r : Refusal)
+    → IsUnreadStudy rose a.source files r → IsUnobeyed rose files a steps steps out out r
+unread_is rose files a steps out OutOfMemory h = refl
+unread_is rose files a steps out Usage h = h
+unread_is rose files a steps out NoModel h = (h, refl, refl)
+unread_is rose files a steps out NoScript h = (h.0, h.1, refl, refl)
+unread_is rose files a steps out (Stopped stop) h =
+    (ends.at_once refl (record { m = h.m; s = h.s; texts = h.texts; may = h.may a }) refl, refl)
+unread_is rose files a steps out CannotWrite h = absurd h
 
 -- ---- texts that were put
 
@@ -219,7 +230,7 @@ module _ (P : Ending → Type 0) (old_steps new_steps work : ℕ) (texts : List 
   not_put CannotWrite h = record { texts = texts; wrote = record { work = work; may = may; steps = steps }; cut = h }
 
 pub stops_failed : (P : Ending → Type 0) (old_steps new_steps : ℕ) (out : SinkView) (r : Refusal)
-    → Stops (StoppedFor P old_steps new_steps) r → IsFailed P old_steps new_steps out out r
+    → Stops (StoppedFor P old_steps new_steps []) r → IsFailed P old_steps new_steps out out r
 stops_failed P old_steps new_steps out OutOfMemory h = refl
 stops_failed P old_steps new_steps out Usage h = h
 stops_failed P old_steps new_steps out NoModel h = h
@@ -230,14 +241,14 @@ stops_failed P old_steps new_steps out CannotWrite h = absurd h
 -- ---- answers
 
 module _ (words : Option Asked) (before after : Outside) where
-  by_fault : (f : WordsFault) → (f ≡ fault.Usage → words ≡ None) → IsRefused before after (words_refusal f)
+  by_fault : (f : WordsFault) → (f ≡ fault.Usage → words ≡ None) → IsRefused before after [] (words_refusal f)
       → after.inputs ≡ before.inputs → after.steps ≡ before.steps
       → IsAnswer words before after (status_of (words_refusal f))
   by_fault fault.NoMemory none refused inputs steps = answer.memory refused
   by_fault fault.Usage none refused inputs steps = answer.usage (none refl) refused inputs steps
 
   pub unread_words : (f : WordsFault) (status : ℕ) → (f ≡ fault.Usage → words ≡ None)
-      → IsRefused before after (words_refusal f) → after.inputs ≡ before.inputs → after.steps ≡ before.steps
+      → IsRefused before after [] (words_refusal f) → after.inputs ≡ before.inputs → after.steps ≡ before.steps
       → status ≡ status_of (words_refusal f) → IsAnswer words before after status
   unread_words f status none refused inputs steps is =
       subst (IsAnswer words before after) (sym is) (by_fault f none refused inputs steps)
@@ -245,16 +256,24 @@ module _ (words : Option Asked) (before after : Outside) where
   by_refusal : (a : Asked) (r : Refusal) → words ≡ Some a
       → IsUnobeyed (Rose before.inputs.faults after.inputs.faults) before.inputs.files a before.steps after.steps
       before.output after.output r
-      → IsTold (line_of r) before.errors after.errors → IsAnswer words before after (status_of r)
-  by_refusal a OutOfMemory is h told = answer.memory (record { output = h; told = told })
+      → AreTold (line_of r ∷ []) before.errors after.errors → IsAnswer words before after (status_of r)
+  by_refusal a OutOfMemory is h told = answer.memory (record { output = h; told_is = told })
   by_refusal a Usage is h told = absurd h
-  by_refusal a NoModel is h told = answer.no_model a is h.0 (record { output = h.1; told = told }) h.2
-  by_refusal a NoScript is h told = answer.no_script a is h.0 h.1 (record { output = h.2; told = told }) h.3
-  by_refusal a (Stopped stop) is h told = answer.stopped a is stop h.0 (record { output = h.1; told = told })
+  by_refusal a NoModel is h told = answer.no_model a is h.0 (record { output = h.1; told_is = told }) h.2
+  by_refusal a NoScript is h told = answer.no_script a is h.0 h.1 (record { output = h.2; told_is = told }) h.3
+  by_refusal a (Stopped stop) is h told = answer.stopped a is [] stop h.0 (record { output = h.1; told_is = told })
   by_refusal a CannotWrite is h told = answer.cut a is h told
 
   pub unobeyed : (a : Asked) (r : Refusal) (status : ℕ) → words ≡ Some a
       → IsUnobeyed (Rose before.inputs.faults after.inputs.faults) before.inputs.files a before.steps after.steps
       before.output after.output r
-      → IsTold (line_of r) before.errors after.errors → status ≡ status_of r → IsAnswer words before after status
+      → AreTold (line_of r ∷ []) before.errors after.errors → status ≡ status_of r → IsAnswer words before after status
   unobeyed a r status asks h told is = subst (IsAnswer words before after) (sym is) (by_refusal a r asks h told)
+
+  -- the limit of a live study, of which the journal is told
+  pub overrun_is : (a : Asked) (journal : List ℕ) (stop : Stop) (status : ℕ) → words ≡ Some a
+      → StoppedFor (Comes before.inputs.files a) before.steps after.steps (journal ∷ []) stop
+      → after.output ≡ before.output → AreTold (journal ∷ stop_line stop ∷ []) before.errors after.errors
+      → status ≡ stop_status stop → IsAnswer words before after status
+  overrun_is a journal stop status asks h output told is = subst (IsAnswer words before after) (sym is)
+      (answer.stopped a asks (journal ∷ []) stop h (record { output = output; told_is = told }))

@@ -1,6 +1,6 @@
 -- The facts of an answer.
 use Rattle.std.proofs.Common.{◌≡◌, ◌≢◌, ◌⊎◌, inl, inr, refl, sym, subst, ◌∙◌, ℕ}
-use Rattle.std.proofs.Common.{◌≤◌, ◌+◌, arith, List, [], ◌∷◌, Option, Some, None, Ok}
+use Rattle.std.proofs.Common.{◌≤◌, ◌+◌, arith, List, [], ◌∷◌, length, Option, Some, None, Ok}
 use Rattle.sim_base.specs.Clones.{Clone}
 use Rattle.sim_outer.specs.Causes.{Rose}
 use Rattle.sim_outer.specs.Files.{Files}
@@ -10,10 +10,11 @@ use Rattle.net_model.specs.Text.{model}
 use Rattle.decision_script.specs.Reading.{script}
 use Rattle.decision_script.specs.Stating.{ScriptView}
 use Rattle.command_words.specs.declared.request.Mode.{Mode}
-use Rattle.command_words.specs.declared.request.Mode.TheVariants.{All, One}
+use Rattle.command_words.specs.declared.request.Mode.TheVariants.{All, One, Live}
 use Rattle.command_words.specs.Requests.{Asked, Source, made, named}
 use Rattle.cloner_top.specs.declared.reading.Text.{Text}
 use Rattle.cloner_top.specs.declared.reading.Text.TheVariants.{Model, Script}
+use Rattle.cloner_top.specs.declared.refusal.Refusal.{Refusal}
 use Rattle.cloner_top.specs.declared.refusal.Refusal.TheVariants.{OutOfMemory, Usage, NoModel}
 use Rattle.cloner_top.specs.declared.refusal.Refusal.TheVariants.{NoScript, Stopped, CannotWrite}
 use Rattle.cloner_top.specs.declared.stop.Stop.{Stop}
@@ -21,12 +22,14 @@ use Rattle.cloner_top.specs.declared.stop.Stop.TheVariants.{BadModel, BadScript,
 use Rattle.cloner_top.specs.Answers.{Comes, InputsFailed, IsAnswer, Outside, cut, memory}
 use Rattle.cloner_top.specs.Answers.{no_model, no_script, stopped as stops, usage, written as writes}
 use Rattle.cloner_top.specs.Deciding.{clones_of}
-use Rattle.cloner_top.specs.Endings.{Ending, MayCome, MayEnd, MayRun, MayRunAlone, MaySimulate}
+use Rattle.cloner_top.specs.Endings.{Ending, MayCome, MayEnd, MayLive, MayRun, MayRunAlone, MaySimulate}
 use Rattle.cloner_top.specs.Endings.{StoppedFor, overrun, run_texts, study_texts, stopped, written}
 use Rattle.cloner_top.specs.Endings as ends
-use Rattle.cloner_top.specs.Outsides.{ArePut}
-use Rattle.cloner_top.specs.Facts.{Completes, IsCutFor, IsStoppedFor, IsStudy, IsToldFor, IsUnreadFor}
-use Rattle.cloner_top.specs.Facts.{IsWritten, Meets, Writes, WritesAll, WritesOne}
+use Rattle.cloner_top.specs.Outsides.{ArePut, AreTold}
+use Rattle.cloner_top.specs.Plans.{IsRead}
+use Rattle.cloner_top.specs.Refusals.{line_of, status_of}
+use Rattle.cloner_top.specs.Facts.{ArePreceded, Completes, IsCutFor, IsStoppedFor, IsStudy, IsToldFor, IsUnreadFor}
+use Rattle.cloner_top.specs.Facts.{IsWritten, Meets, Writes, WritesAll, WritesLive, WritesOne}
 use Rattle.cloner_top.specs.Stops.{stop_status}
 use Rattle.cloner_top.specs.Texts.{AreTexts, IsUnread}
 
@@ -37,7 +40,7 @@ module _ (words : Option Asked) (before after : Outside) where
   usage_cause _ (usage none refused inputs steps) two = none
   usage_cause _ (no_model a is unread refused steps) two = absurd (omega (arith, two))
   usage_cause _ (no_script a is has unread refused steps) two = absurd (omega (arith, two))
-  usage_cause _ (stops a is stop why refused) two = absurd (not_two stop two)
+  usage_cause _ (stops a is told stop why refused) two = absurd (not_two stop two)
     where
       not_two : (s : Stop) → stop_status s ≡ 2 → ⊥
       not_two (BadModel fault) h = omega (arith, h)
@@ -56,7 +59,7 @@ module _ (words : Option Asked) (before after : Outside) where
   formless _ (usage n refused inputs steps) none = inr refl
   formless _ (no_model a is unread refused steps) none = absurd (none_is a is none)
   formless _ (no_script a is has unread refused steps) none = absurd (none_is a is none)
-  formless _ (stops a is stop why refused) none = absurd (none_is a is none)
+  formless _ (stops a is told stop why refused) none = absurd (none_is a is none)
   formless _ (cut a is off told) none = absurd (none_is a is none)
 
 -- the status of a stop
@@ -81,7 +84,7 @@ module _ (words : Option Asked) (before after : Outside) where
   unread_cause _ (usage none refused inputs steps) three = absurd (omega (arith, three))
   unread_cause _ (no_model a is unread refused steps) three = record { a = a; asks = is; unread = inl unread }
   unread_cause _ (no_script a is has unread refused steps) three = record { a = a; asks = is; unread = inr unread }
-  unread_cause _ (stops a is stop why refused) three = absurd (let l = low stop in omega (arith, three, l))
+  unread_cause _ (stops a is told stop why refused) three = absurd (let l = low stop in omega (arith, three, l))
   unread_cause _ (cut a is off told) three = absurd (omega (arith, three))
 
   pub stop_cause : (status : ℕ) → IsAnswer words before after status → 4 ≤ status → status ≤ 7
@@ -91,7 +94,8 @@ module _ (words : Option Asked) (before after : Outside) where
   stop_cause _ (usage none refused inputs steps) l h = absurd (omega (arith, l))
   stop_cause _ (no_model a is unread refused steps) l h = absurd (omega (arith, l))
   stop_cause _ (no_script a is has unread refused steps) l h = absurd (omega (arith, l))
-  stop_cause _ (stops a is stop why refused) l h = record { a = a; asks = is; stop = stop; is = refl; stops = why }
+  stop_cause _ (stops a is told stop why refused) l h =
+      record { a = a; asks = is; told = told; stop = stop; is = refl; stops = why; told_is = refused.told_is }
   stop_cause _ (cut a is off told) l h = absurd (omega (arith, h))
 
   pub cut_cause : (status : ℕ) → IsAnswer words before after status → status ≡ 8 → IsCutFor words before after
@@ -100,7 +104,7 @@ module _ (words : Option Asked) (before after : Outside) where
   cut_cause _ (usage none refused inputs steps) eight = absurd (omega (arith, eight))
   cut_cause _ (no_model a is unread refused steps) eight = absurd (omega (arith, eight))
   cut_cause _ (no_script a is has unread refused steps) eight = absurd (omega (arith, eight))
-  cut_cause _ (stops a is stop why refused) eight = absurd (let h = high stop in omega (arith, eight, h))
+  cut_cause _ (stops a is told stop why refused) eight = absurd (let h = high stop in omega (arith, eight, h))
   cut_cause _ (cut a is off told) eight = record { a = a; asks = is; cut = off }
 
   pub kept : (status : ℕ) → IsAnswer words before after status → status ≢ 0 → status ≢ 8 → after.output ≡ before.output
@@ -109,46 +113,106 @@ module _ (words : Option Asked) (before after : Outside) where
   kept _ (usage none refused inputs steps) not_0 not_8 = refused.output
   kept _ (no_model a is unread refused steps) not_0 not_8 = refused.output
   kept _ (no_script a is has unread refused steps) not_0 not_8 = refused.output
-  kept _ (stops a is stop why refused) not_0 not_8 = refused.output
+  kept _ (stops a is told stop why refused) not_0 not_8 = refused.output
   kept _ (cut a is off told) not_0 not_8 = absurd (not_8 refl)
-
-  pub told_for : (status : ℕ) → IsAnswer words before after status → status ≢ 0 → IsToldFor before after status
-  told_for _ (writes a is finished fetches quiet) not_0 = absurd (not_0 refl)
-  told_for _ (memory refused) not_0 = record { refusal = OutOfMemory; is = refl; told = refused.told }
-  told_for _ (usage none refused inputs steps) not_0 = record { refusal = Usage; is = refl; told = refused.told }
-  told_for _ (no_model a is unread refused steps) not_0 = record { refusal = NoModel; is = refl; told = refused.told }
-  told_for _ (no_script a is has unread refused steps) not_0 =
-      record { refusal = NoScript; is = refl; told = refused.told }
-  told_for _ (stops a is stop why refused) not_0 = record { refusal = Stopped stop; is = refl; told = refused.told }
-  told_for _ (cut a is off told) not_0 = record { refusal = CannotWrite; is = refl; told = told }
 
 -- ---- only status 7 comes after work
 
-run_7 : (net : Net) (clones : List Clone) (texts : List (List ℕ)) (stop : Stop) (most : ℕ)
-    → MayRun net clones texts (overrun stop most) → stop_status stop ≡ 7
-run_7 net clones texts stop most (ends.over station who meets) = refl
+run_7 : (net : Net) (clones : List Clone) (texts told : List (List ℕ)) (stop : Stop) (most : ℕ)
+    → MayRun net clones texts (overrun told stop most) → stop_status stop ≡ 7
+run_7 net clones texts told stop most (ends.over station who meets) = refl
 
-alone_7 : (net : Net) (clones : List Clone) (name : List ℕ) (stop : Stop) (most : ℕ)
-    → MayRunAlone net clones name (overrun stop most) → stop_status stop ≡ 7
-alone_7 net clones name stop most (ends.beyond k station is meets) = refl
+alone_7 : (net : Net) (clones : List Clone) (name : List ℕ) (told : List (List ℕ)) (stop : Stop) (most : ℕ)
+    → MayRunAlone net clones name (overrun told stop most) → stop_status stop ≡ 7
+alone_7 net clones name told stop most (ends.beyond k station is meets) = refl
 
-simulation_7 : (mode : Mode) (source : Source) (net : Net) (clones : List Clone) (stop : Stop) (most : ℕ)
-    → MaySimulate mode source net clones (overrun stop most) → stop_status stop ≡ 7
-simulation_7 All source net clones stop most h = run_7 net clones (study_texts source net clones) stop most h
-simulation_7 (One name) source net clones stop most h = alone_7 net clones name stop most h
+live_7 : (net : Net) (s : ScriptView) (told : List (List ℕ)) (stop : Stop) (most : ℕ)
+    → MayLive net s (overrun told stop most) → stop_status stop ≡ 7
+live_7 net s told stop most (ends.over book looks station who journal all meets) = refl
 
-end_7 : (a : Asked) (net : Net) (s : ScriptView) (stop : Stop) (most : ℕ) → MayEnd a net s (overrun stop most)
-    → stop_status stop ≡ 7
-end_7 a net s stop most (ends.decided end none may) = simulation_7 a.mode a.source net (clones_of net s) stop most may
+simulation_7 : (mode : Mode) (source : Source) (net : Net) (clones : List Clone) (told : List (List ℕ)) (stop : Stop)
+    (most : ℕ) → MaySimulate mode source net clones (overrun told stop most) → stop_status stop ≡ 7
+simulation_7 All source net clones told stop most h = run_7 net clones (study_texts source net clones) told stop most h
+simulation_7 (One name) source net clones told stop most h = alone_7 net clones name told stop most h
+simulation_7 Live source net clones told stop most h = absurd h
 
-come_7 : (a : Asked) (m s : List ℕ) (stop : Stop) (most : ℕ) → MayCome a m s (overrun stop most) → stop_status stop ≡ 7
-come_7 a m s stop most (ends.studied net stated end is_model is_script may) = end_7 a net stated stop most may
+end_7 : (a : Asked) (net : Net) (s : ScriptView) (told : List (List ℕ)) (stop : Stop) (most : ℕ)
+    → MayEnd a net s (overrun told stop most) → stop_status stop ≡ 7
+end_7 a net s told stop most (ends.decided end none may) =
+    simulation_7 a.mode a.source net (clones_of net s) told stop most may
+end_7 a net s told stop most (ends.live end is may) = live_7 net s told stop most may
 
-idle_stop : (files : Option Files) (a : Asked) (old new : ℕ) (stop : Stop) → StoppedFor (Comes files a) old new stop
-    → stop_status stop ≤ 6 → new ≡ old
-idle_stop files a old new stop (ends.at_once may same) h = same
-idle_stop files a old new stop (ends.at_limit most may few) h =
-    absurd (let s = come_7 a may.m may.s stop most may.may in omega (arith, s, h))
+come_7 : (a : Asked) (m s : List ℕ) (told : List (List ℕ)) (stop : Stop) (most : ℕ)
+    → MayCome a m s (overrun told stop most) → stop_status stop ≡ 7
+come_7 a m s told stop most (ends.studied net stated end is_model is_script may) = end_7 a net stated told stop most may
+
+idle_stop : (files : Option Files) (a : Asked) (old new : ℕ) (told : List (List ℕ)) (stop : Stop)
+    → StoppedFor (Comes files a) old new told stop → stop_status stop ≤ 6 → new ≡ old
+idle_stop files a old new told stop (ends.at_once none may same) h = same
+idle_stop files a old new told stop (ends.at_limit most may few) h =
+    absurd (let s = come_7 a may.m may.s told stop most may.may in omega (arith, s, h))
+
+-- ---- what is told before the line
+
+run_told : (net : Net) (clones : List Clone) (texts told : List (List ℕ)) (stop : Stop) (most : ℕ)
+    → MayRun net clones texts (overrun told stop most) → told ≡ []
+run_told net clones texts told stop most (ends.over station who meets) = refl
+
+alone_told : (net : Net) (clones : List Clone) (name : List ℕ) (told : List (List ℕ)) (stop : Stop) (most : ℕ)
+    → MayRunAlone net clones name (overrun told stop most) → told ≡ []
+alone_told net clones name told stop most (ends.beyond k station is meets) = refl
+
+simulation_told : (mode : Mode) (source : Source) (net : Net) (clones : List Clone) (told : List (List ℕ)) (stop : Stop)
+    (most : ℕ) → MaySimulate mode source net clones (overrun told stop most) → told ≡ []
+simulation_told All source net clones told stop most h =
+    run_told net clones (study_texts source net clones) told stop most h
+simulation_told (One name) source net clones told stop most h = alone_told net clones name told stop most h
+simulation_told Live source net clones told stop most h = absurd h
+
+live_told : (net : Net) (s : ScriptView) (told : List (List ℕ)) (stop : Stop) (most : ℕ)
+    → MayLive net s (overrun told stop most) → length told ≡ 1
+live_told net s told stop most (ends.over book looks station who journal all meets) = refl
+
+end_told : (a : Asked) (net : Net) (s : ScriptView) (told : List (List ℕ)) (stop : Stop) (most : ℕ)
+    → MayEnd a net s (overrun told stop most) → (told ≡ []) ⊎ ((length told ≡ 1) × (a.mode ≡ Live))
+end_told a net s told stop most (ends.decided end none may) =
+    inl (simulation_told a.mode a.source net (clones_of net s) told stop most may)
+end_told a net s told stop most (ends.live end is may) = inr (live_told net s told stop most may, is)
+
+come_told : (a : Asked) (m s : List ℕ) (told : List (List ℕ)) (stop : Stop) (most : ℕ)
+    → MayCome a m s (overrun told stop most) → (told ≡ []) ⊎ ((length told ≡ 1) × (a.mode ≡ Live))
+come_told a m s told stop most (ends.studied net stated end is_model is_script may) =
+    end_told a net stated told stop most may
+
+preceded : (words : Option Asked) (files : Option Files) (a : Asked) (old new : ℕ) (told : List (List ℕ)) (stop : Stop)
+    → words ≡ Some a → StoppedFor (Comes files a) old new told stop → ArePreceded words (stop_status stop) told
+preceded words files a old new told stop is (ends.at_once none may same) = inl none
+preceded words files a old new told stop is (ends.at_limit most may few) =
+    by_kind (come_told a may.m may.s told stop most may.may)
+  where
+    by_kind : (told ≡ []) ⊎ ((length told ≡ 1) × (a.mode ≡ Live)) → ArePreceded words (stop_status stop) told
+    by_kind (inl none) = inl none
+    by_kind (inr one) = inr (come_7 a may.m may.s told stop most may.may, (one.0, (a, (is, one.1))))
+
+module _ (words : Option Asked) (before after : Outside) where
+  one_line : (r : Refusal) → AreTold (line_of r ∷ []) before.errors after.errors
+      → IsToldFor words before after (status_of r)
+  one_line r told = record { told = []; refusal = r; is = refl; preceded = inl refl; told_is = told }
+
+  pub told_for : (status : ℕ) → IsAnswer words before after status → status ≢ 0 → IsToldFor words before after status
+  told_for _ (writes a is finished fetches quiet) not_0 = absurd (not_0 refl)
+  told_for _ (memory refused) not_0 = one_line OutOfMemory refused.told_is
+  told_for _ (usage none refused inputs steps) not_0 = one_line Usage refused.told_is
+  told_for _ (no_model a is unread refused steps) not_0 = one_line NoModel refused.told_is
+  told_for _ (no_script a is has unread refused steps) not_0 = one_line NoScript refused.told_is
+  told_for _ (stops a is told stop why refused) not_0 = record {
+    told = told;
+    refusal = Stopped stop;
+    is = refl;
+    preceded = preceded words before.inputs.files a before.steps after.steps told stop is why;
+    told_is = refused.told_is;
+  }
+  told_for _ (cut a is off told) not_0 = one_line CannotWrite told
 
 module _ (words : Option Asked) (before after : Outside) where
   pub idle : (status : ℕ) → IsAnswer words before after status → 2 ≤ status → status ≤ 6 → after.steps ≡ before.steps
@@ -157,7 +221,7 @@ module _ (words : Option Asked) (before after : Outside) where
   idle _ (usage none refused inputs steps) l h = steps
   idle _ (no_model a is unread refused steps) l h = steps
   idle _ (no_script a is has unread refused steps) l h = steps
-  idle _ (stops a is stop why refused) l h = idle_stop before.inputs.files a before.steps after.steps stop why h
+  idle _ (stops a is told stop why refused) l h = idle_stop before.inputs.files a before.steps after.steps told stop why h
   idle _ (cut a is off told) l h = absurd (omega (arith, h))
 
 -- ---- what is written
@@ -187,6 +251,24 @@ writes_by before after a net s put work All (made n) study may are steps =
     writes_all before after a net s (λ k cs. report k cs ∷ []) put work study may are steps
 writes_by before after a net s put work (One name) source study may are steps =
     writes_one before after a net s name put work study may are steps
+writes_by before after a net s put work Live source study may are steps = absurd may
+
+writes_live : (before after : Outside) (a : Asked) (net : Net) (s : ScriptView) (put : List (List ℕ)) (work : ℕ)
+    → IsRead a.source before.inputs.files net s → MayLive net s (written put work)
+    → ArePut put before.output after.output → after.steps ≡ before.steps + work → WritesLive before after a
+writes_live before after a net s put work read (ends.finished book looks journal last seen within) are steps = record {
+  net = net;
+  stated = s;
+  read = read;
+  book = book;
+  looks = looks;
+  journal = journal;
+  ended = last;
+  seen = seen;
+  within = within;
+  put = are;
+  steps = steps;
+}
 
 writes_end : (before after : Outside) (a : Asked) (m s : List ℕ) (net : Net) (stated : ScriptView)
     (put : List (List ℕ)) (work : ℕ)
@@ -194,8 +276,14 @@ writes_end : (before after : Outside) (a : Asked) (m s : List ℕ) (net : Net) (
     → MayEnd a net stated (written put work)
     → ArePut put before.output after.output → after.steps ≡ before.steps + work → Writes a.mode a.source before after a
 writes_end before after a m s net stated put work texts is_model is_script (ends.decided end none may) are steps =
-    writes_by before after a net stated put work a.mode a.source
-    (record { m = m; s = s; texts = texts; is_model = is_model; is_script = is_script; accepted = none }) may are steps
+    writes_by before after a net stated put work a.mode a.source (record {
+      read = record { m = m; s = s; texts = texts; is_model = is_model; is_script = is_script };
+      accepted = none;
+    }) may are steps
+writes_end before after a m s net stated put work texts is_model is_script (ends.live end is may) are steps =
+    subst (λ mode. Writes mode a.source before after a) (sym is)
+    (writes_live before after a net stated put work
+    (record { m = m; s = s; texts = texts; is_model = is_model; is_script = is_script }) may are steps)
 
 writes_come : (before after : Outside) (a : Asked) (m s : List ℕ) (put : List (List ℕ)) (work : ℕ)
     → AreTexts a.source before.inputs.files m s → MayCome a m s (written put work)
@@ -218,17 +306,18 @@ module _ (words : Option Asked) (before after : Outside) where
   finished _ (usage none refused inputs steps) is_0 = absurd (omega (arith, is_0))
   finished _ (no_model a is unread refused steps) is_0 = absurd (omega (arith, is_0))
   finished _ (no_script a is has unread refused steps) is_0 = absurd (omega (arith, is_0))
-  finished _ (stops a is stop why refused) is_0 = absurd (let l = low stop in omega (arith, is_0, l))
+  finished _ (stops a is told stop why refused) is_0 = absurd (let l = low stop in omega (arith, is_0, l))
   finished _ (cut a is off told) is_0 = absurd (omega (arith, is_0))
 
 -- ---- an ending comes
 
 module _ (before after : Outside) where
-  comes_stopped : (a : Asked) (stop : Stop) → StoppedFor (Comes before.inputs.files a) before.steps after.steps stop
+  comes_stopped : (a : Asked) (told : List (List ℕ)) (stop : Stop)
+      → StoppedFor (Comes before.inputs.files a) before.steps after.steps told stop
       → (end : Ending) × (Comes before.inputs.files a end × Meets end (Rose before.output.faults after.output.faults)
       (stop_status stop))
-  comes_stopped a stop (ends.at_once may same) = (stopped stop, (may, refl))
-  comes_stopped a stop (ends.at_limit most may few) = (overrun stop most, (may, refl))
+  comes_stopped a told stop (ends.at_once none may same) = (stopped stop, (may, refl))
+  comes_stopped a told stop (ends.at_limit most may few) = (overrun told stop most, (may, refl))
 
   without : (a : Asked) (text : Text) (source : Source) → ¬ (InputsFailed before after)
       → IsUnread (InputsFailed before after) source text before.inputs.files
@@ -254,8 +343,8 @@ module _ (before after : Outside) where
   completes words _ (no_script a is has unread refused steps) =
       subst (λ w. Completes w before after 3) (sym is)
       (λ well. inr (inl (refl, inr (without a Script a.source well unread))))
-  completes words _ (stops a is stop why refused) =
-      subst (λ w. Completes w before after (stop_status stop)) (sym is) (λ well. inr (inr (comes_stopped a stop why)))
+  completes words _ (stops a is told stop why refused) =
+      subst (λ w. Completes w before after (stop_status stop)) (sym is) (λ well. inr (inr (comes_stopped a told stop why)))
   completes words _ (cut a is off told) =
       subst (λ w. Completes w before after 8) (sym is)
       (λ well. inr (inr (written off.texts off.wrote.work, (off.wrote.may, inr (refl, off.cut.failed)))))

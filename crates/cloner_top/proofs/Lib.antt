@@ -7,3 +7,5 @@ pub mod Runs
 pub mod Obeying
 pub mod RunPuts
 pub mod OwnScriptLaws
+pub mod LiveRuns
+pub mod JournalLaws

@@ -1,52 +1,95 @@
 -- From the plan of a study and its run to what the program answers.
 use Rattle.std.proofs.Common.{◌≡◌, ◌≤◌, ℕ, refl, sym, ap, subst, ◌∙◌, arith}
-use Rattle.std.proofs.Common.{Option, Some, None, Result, Ok, Err, IfErr, OnOk}
+use Rattle.std.proofs.Common.{[], ◌∷◌, Option, Some, None, Result, Ok, Err, IfErr, OnOk}
 use Rattle.sim_outer.specs.Causes.{AreCounted}
 use Rattle.sim_outer.specs.Files.{Files}
 use Rattle.net_model.specs.Net.{Net}
+use Rattle.decision_script.specs.Stating.{ScriptView}
 use Rattle.decision_book.specs.Books.{BookView}
 use Rattle.decision_book.specs.Journal.{after}
+use Rattle.command_words.specs.declared.request.Mode.TheVariants.{Live}
 use Rattle.command_words.specs.declared.request.WordsFault.{WordsFault}
 use Rattle.command_words.specs.declared.request.WordsFault.TheVariants as fault
 use Rattle.command_words.specs.Requests.{Asked}
 use Rattle.study_run.specs.Accepted.{AllAccepted}
+use Rattle.cloner_top.specs.declared.halt.Halt.{Halt}
 use Rattle.cloner_top.specs.declared.refusal.Refusal.{Refusal}
-use Rattle.cloner_top.specs.Answers.{Comes, IsAnswer, IsUnobeyed, Outside}
-use Rattle.cloner_top.specs.Endings.{MaySimulate}
+use Rattle.cloner_top.specs.Answers.{Comes, IsAnswer, IsDisobeyed, Outside}
+use Rattle.cloner_top.specs.Deciding.{IsDecided}
+use Rattle.cloner_top.specs.Endings.{Ending, MayEnd, MayLive, MaySimulate, live}
 use Rattle.cloner_top.specs.Facts.{AreFewFetches, fetches_for}
-use Rattle.cloner_top.specs.Outsides.{IsFailed, IsFinished, IsTold, SinkView}
-use Rattle.cloner_top.specs.Plans.{IsPlanned}
+use Rattle.cloner_top.specs.Outsides.{AreTold, IsFailed, IsFinished, IsHalted, SinkView}
+use Rattle.cloner_top.specs.Plans.{IsRead}
 use Rattle.cloner_top.specs.Refusals.{line_of, status_of, words_refusal}
 use Rattle.cloner_top.specs.Texts.{all_fetches}
-use Rattle.cloner_top.proofs.Endings.{comes, failed_is, failed_on, finished_on, unread_words}
+use Rattle.cloner_top.proofs.Endings.{comes, decided_end, failed_on, finished_on, halted_is, halted_on, unread_words}
 use Rattle.cloner_top.proofs.Runs.{on_err, on_ok}
 
-module _ (files : Option Files) (a : Asked) (net : Net) (book : BookView)
-    (plan : IsPlanned a.source files net book) where
-  -- the decisions in the book of a plan were all accepted in its network
-  pub plan_accepted : AllAccepted book.net book.events
-  plan_accepted = subst (λ n. AllAccepted n book.events) (sym plan.decided.net_is) plan.decided.accepted
+module _ (a : Asked) (net told : Net) (stated : ScriptView) (book : BookView) (is : IsDecided net stated book)
+    (same : told ≡ net) where
+  -- the book is of the network
+  pub plan_net : book.net ≡ told
+  plan_net = is.net_is ∙ sym same
 
-  -- what is written of a planned study is what is asked
-  pub obeyed : (old_steps new_steps : ℕ) (old new : SinkView) {T : Type 0} (r : Result T Refusal)
-      → OnOk r (IsFinished (MaySimulate a.mode a.source net (after book.net book.events).clones) old_steps new_steps
+  -- the decisions in the book were all accepted in its network
+  pub plan_accepted : AllAccepted book.net book.events
+  plan_accepted = subst (λ n. AllAccepted n book.events) (sym is.net_is) is.accepted
+
+  to_end : (end : Ending) → MaySimulate a.mode a.source told (after book.net book.events).clones end
+      → MayEnd a net stated end
+  to_end end may = decided_end a net stated book is end
+      (subst (λ n. MaySimulate a.mode a.source n (after book.net book.events).clones end) same may)
+
+  -- what is written of a planned study ends it
+  pub decided_put : (old_steps new_steps : ℕ) (old new : SinkView) {T : Type 0} (r : Result T Refusal)
+      → OnOk r (IsFinished (MaySimulate a.mode a.source told (after book.net book.events).clones) old_steps new_steps
       old new)
-      → OnOk r (IsFinished (Comes files a) old_steps new_steps old new)
-  obeyed old_steps new_steps old new r h =
-      on_ok r (finished_on (MaySimulate a.mode a.source net (after book.net book.events).clones) (Comes files a)
-      (comes files a net book plan)
+      → OnOk r (IsFinished (MayEnd a net stated) old_steps new_steps old new)
+  decided_put old_steps new_steps old new r h =
+      on_ok r (finished_on (MaySimulate a.mode a.source told (after book.net book.events).clones) (MayEnd a net stated)
+      to_end old_steps new_steps old new) h
+
+  -- and so does why nothing is
+  pub decided_not_put : (old_steps new_steps : ℕ) (old new : SinkView) {T : Type 0} (r : Result T Refusal)
+      → IfErr r (λ e. IsFailed (MaySimulate a.mode a.source told (after book.net book.events).clones) old_steps
+      new_steps old new e)
+      → IfErr r (λ e. IsFailed (MayEnd a net stated) old_steps new_steps old new e)
+  decided_not_put old_steps new_steps old new r h =
+      on_err r (failed_on (MaySimulate a.mode a.source told (after book.net book.events).clones) (MayEnd a net stated)
+      to_end old_steps new_steps old new) h
+
+-- what is written while analysts decide ends a live study
+module _ (a : Asked) (net : Net) (stated : ScriptView) (is : a.mode ≡ Live) (old_steps new_steps : ℕ)
+    (old new : SinkView) where
+  pub live_put : {T : Type 0} (r : Result T Halt) → OnOk r (IsFinished (MayLive net stated) old_steps new_steps old new)
+      → OnOk r (IsFinished (MayEnd a net stated) old_steps new_steps old new)
+  live_put r h = on_ok r (finished_on (MayLive net stated) (MayEnd a net stated) (λ end may. live end is may)
       old_steps new_steps old new) h
 
-  -- and why nothing is
-  pub not_obeyed : (rose : Type 0) (old_steps new_steps : ℕ) (old new : SinkView) {T : Type 0} (r : Result T Refusal)
-      → IfErr r (λ e. IsFailed (MaySimulate a.mode a.source net (after book.net book.events).clones) old_steps
-      new_steps old new e)
-      → IfErr r (λ e. IsUnobeyed rose files a old_steps new_steps old new e)
+  pub live_not_put : {T : Type 0} (r : Result T Halt)
+      → IfErr r (λ e. IsHalted (MayLive net stated) old_steps new_steps old new e)
+      → IfErr r (λ e. IsHalted (MayEnd a net stated) old_steps new_steps old new e)
+  live_not_put r h = on_err r (halted_on (MayLive net stated) (MayEnd a net stated) (λ end may. live end is may)
+      old_steps new_steps old new) h
+
+module _ (files : Option Files) (a : Asked) (net : Net) (stated : ScriptView)
+    (read : IsRead a.source files net stated) where
+  -- how the study of its texts ends is what is asked
+  pub obeyed : (old_steps new_steps : ℕ) (old new : SinkView) {T : Type 0} (r : Result T Halt)
+      → OnOk r (IsFinished (MayEnd a net stated) old_steps new_steps old new)
+      → OnOk r (IsFinished (Comes files a) old_steps new_steps old new)
+  obeyed old_steps new_steps old new r h =
+      on_ok r (finished_on (MayEnd a net stated) (Comes files a) (comes files a net stated read) old_steps new_steps
+      old new) h
+
+  -- and why nothing is written
+  pub not_obeyed : (rose : Type 0) (old_steps new_steps : ℕ) (old new : SinkView) {T : Type 0} (r : Result T Halt)
+      → IfErr r (λ e. IsHalted (MayEnd a net stated) old_steps new_steps old new e)
+      → IfErr r (λ e. IsDisobeyed rose files a old_steps new_steps old new e)
   not_obeyed rose old_steps new_steps old new r h =
-      on_err r (λ e failed. failed_is rose files a old_steps new_steps old new e
-      (failed_on (MaySimulate a.mode a.source net (after book.net book.events).clones) (Comes files a)
-      (comes files a net book plan)
-      old_steps new_steps old new e failed)) h
+      on_err r (λ e halts. halted_is rose files a old_steps new_steps old new e
+      (halted_on (MayEnd a net stated) (Comes files a) (comes files a net stated read) old_steps new_steps old new e
+      halts)) h
 
 -- what holds holds where a result is there
 pub if_ok : {T E : Type 0} {A : Type 0} (r : Result T E) → A → OnOk r A
@@ -62,13 +105,13 @@ module _ (words : Option Asked) (before after : Outside) where
   -- the words were not read, and one line tells why
   pub words_answer : (f : WordsFault) (r : Refusal) (status : ℕ) → (f ≡ fault.Usage → words ≡ None)
       → r ≡ words_refusal f → after.output ≡ before.output
-      → IsTold (line_of r) before.errors after.errors → after.inputs ≡ before.inputs → after.steps ≡ before.steps
+      → AreTold (line_of r ∷ []) before.errors after.errors → after.inputs ≡ before.inputs → after.steps ≡ before.steps
       → status ≡ status_of r
       → IsAnswer words before after status
   words_answer f r status none same output told inputs steps is =
       unread_words words before after f status none
-      (record { output = output; told = subst (λ x. IsTold (line_of x) before.errors after.errors) same told }) inputs
-      steps (is ∙ ap status_of same)
+      (record { output = output; told_is = subst (λ x. AreTold (line_of x ∷ []) before.errors after.errors) same told })
+      inputs steps (is ∙ ap status_of same)
 
   -- nothing was fetched
   pub no_fetches : after.inputs ≡ before.inputs → AreFewFetches words before after

@@ -14,12 +14,12 @@ use Rattle.stations.specs.Runs.{trace_of}
 use Rattle.trace_report.specs.Outputs.{clone_text}
 use Rattle.study_run.specs.Limits.{IsWithin, MeetsLimitAlone}
 use Rattle.study_run.specs.Work.{most_handled}
-use Rattle.command_words.specs.declared.request.Mode.TheVariants.{One}
+use Rattle.command_words.specs.declared.request.Mode.TheVariants.{One, Live}
 use Rattle.command_words.specs.Requests.{Source}
 use Rattle.cloner_top.specs.declared.stop.Stop.TheVariants.{NoClone}
 use Rattle.cloner_top.specs.Deciding.{by_line, clones_of, decision_lines, first_refused}
 use Rattle.cloner_top.specs.Endings.{Ending, MayEnd, MayRunAlone, beyond, decided, fits}
-use Rattle.cloner_top.specs.Endings.{limit_met, missing, overrun, refused, stopped, written}
+use Rattle.cloner_top.specs.Endings.{limit_met, live, missing, overrun, refused, stopped, written}
 use Rattle.cloner_top.specs.OwnScripts.{OwnScriptWritesTheSame}
 
 -- how the run of one clone may end, by the clone itself
@@ -28,7 +28,7 @@ data MayRunIt (net : Net) (name : List ℕ) : Option Clone → Ending → Type 0
   it_fits : (c : Clone) → IsWithin net c
       → MayRunIt net name (Some c) (written (clone_text net c ∷ []) (length (trace_of net c)))
   it_stops : (c : Clone) (station : ℕ) → MeetsLimitAlone net c station
-      → MayRunIt net name (Some c) (overrun (limit_met net station name) (most_handled net 1))
+      → MayRunIt net name (Some c) (overrun [] (limit_met net station name) (most_handled net 1))
 
 to_it : (net : Net) (name : List ℕ) (clones : List Clone) (end : Ending) → MayRunAlone net clones name end
     → MayRunIt net name (clone_named name clones) end
@@ -39,7 +39,7 @@ to_it net name clones _ (fits k is within) =
     (written (clone_text net (clone_at clones k) ∷ []) (length (trace_of net (clone_at clones k)))))
     (sym (clone_named-place name clones k is)) (it_fits (clone_at clones k) within)
 to_it net name clones _ (beyond k station is meets) =
-    subst (λ o. MayRunIt net name o (overrun (limit_met net station name) (most_handled net 1)))
+    subst (λ o. MayRunIt net name o (overrun [] (limit_met net station name) (most_handled net 1)))
     (sym (clone_named-place name clones k is)) (it_stops (clone_at clones k) station meets)
 
 of_none : (net : Net) (name : List ℕ) (clones : List Clone) (end : Ending) → place_of name clones ≡ None
@@ -65,8 +65,12 @@ none_of lines (Some r) h = absurd (cc)
 module _ (net : Net) (source : Source) (who : List ℕ) where
   run_of_end : (s : ScriptView) (end : Ending) → first_refused net s ≡ None
       → MayEnd (record { mode = One who; source = source }) net s end → MayRunAlone net (clones_of net s) who end
-  run_of_end s _ none (refused reply line is) = absurd (let e = sym none ∙ is in cc)
+  run_of_end s _ none (refused reply line first is) = absurd (let e = sym none ∙ is in cc)
   run_of_end s _ none (decided end n may) = may
+  run_of_end s _ none (live end is may) = absurd (not_live is)
+    where
+      not_live : One who ≡ Live → ⊥
+      not_live is = cc
 
 -- two scripts that leave the same clone of a name
 same_end : (net : Net) (source : Source) (who : List ℕ) (s t : ScriptView) (end : Ending) → first_refused net s ≡ None

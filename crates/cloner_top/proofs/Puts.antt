@@ -1,5 +1,5 @@
 -- Texts that are put one after the other.
-use Rattle.std.proofs.Common.{◌≡◌, ◌≤◌, ℕ, suc, ◌+◌, sym, ap, ap₂, ◌∙◌, subst, arith, min}
+use Rattle.std.proofs.Common.{◌≡◌, ◌≤◌, inl, inr, ℕ, zero, suc, ◌+◌, refl, sym, ap, ap₂, ◌∙◌, subst, arith, min}
 use Rattle.std.proofs.Common.{List, [], ◌∷◌, ◌++◌, append-nil, length, length-append, map, take, Option, Some, None}
 use Rattle.std.proofs.lemmas.List.{append_assoc, length-map, take-append-le, take_all}
 use Rattle.std.proofs.lemmas.List.Concat.{concat_is}
@@ -7,8 +7,10 @@ use Rattle.std.proofs.lemmas.List.Folds.{concat-append, flat_map-map}
 use Rattle.std.specs.List.{concat, flat_map}
 use Rattle.std.proofs.Math.Seq.{take-append-add}
 use Rattle.sim_outer.specs.Bytes.{Appended, PartAppended}
-use Rattle.sim_outer.specs.Causes.{AreCounted, Counted, Rose, counts_after}
-use Rattle.cloner_top.specs.Outsides.{AreCut, ArePut, SinkView}
+use Rattle.sim_outer.specs.Causes.{AreCounted, Counted, Rose, counts_after, next_count}
+use Rattle.cloner_top.specs.declared.refusal.Refusal.{Refusal}
+use Rattle.cloner_top.specs.declared.refusal.Refusal.TheVariants.{CannotWrite}
+use Rattle.cloner_top.specs.Outsides.{AreCut, ArePut, AreTold, IsNotPut, SinkView}
 
 appended_then : (a b : List ℕ) (old mid new : Option (List ℕ)) → Appended old a mid → Appended mid b new
     → Appended old (a ++ b) new
@@ -119,3 +121,63 @@ module _ {X : Type 0} (f : X → List ℕ) (xs : List X) (last : List ℕ) where
     few = let e = how_many in omega (arith, e, few);
     calls = calls;
   }
+
+-- ---- a text, and then others
+
+count_first : (n before : ℕ) → counts_after n (next_count before) ≡ next_count (counts_after n before)
+count_first zero before = refl
+count_first (suc n) before = ap next_count (count_first n before)
+
+counted_then : (n : ℕ) (old mid new : Option ℕ) → AreCounted 1 old mid → AreCounted n mid new
+    → AreCounted (suc n) old new
+counted_then n None mid new h k = let m : mid ≡ None = h in (rw m at k)
+counted_then n (Some o) mid new h k = (rw h at k) ∙ ap Some (count_first n o)
+
+module _ (first : List ℕ) (texts : List (List ℕ)) where
+  both_are : concat (first ∷ texts) ≡ concat (first ∷ []) ++ concat texts
+  both_are = concat-append (first ∷ []) texts
+
+  module _ (old mid new : SinkView) where
+    pub put_then : ArePut (first ∷ []) old mid → ArePut texts mid new → ArePut (first ∷ texts) old new
+    put_then h k = record {
+      bytes = subst (λ t. Appended old.bytes t new.bytes) (sym both_are)
+          (appended_then (concat (first ∷ [])) (concat texts) old.bytes mid.bytes new.bytes h.bytes k.bytes);
+      calls = counted_then (length texts) old.calls mid.calls new.calls h.calls k.calls;
+    }
+
+    pub cut_then : ArePut (first ∷ []) old mid → old.faults ≤ mid.faults → AreCut texts mid new
+        → AreCut (first ∷ texts) old new
+    cut_then h later k = record {
+      bytes = subst (λ t. PartAppended old.bytes t new.bytes) (sym both_are)
+          (part_second (concat (first ∷ [])) (concat texts) old.bytes mid.bytes new.bytes h.bytes k.bytes);
+      failed = let r = k.failed in omega (arith, r, later);
+      puts = suc k.puts;
+      some = omega arith;
+      few = let f = k.few in omega (arith, f);
+      calls = counted_then k.puts old.calls mid.calls new.calls h.calls k.calls;
+    }
+
+    pub told_then : ArePut (first ∷ []) old mid → old.faults ≤ mid.faults → AreTold texts mid new
+        → AreTold (first ∷ texts) old new
+    told_then h later (inl k) = inl (put_then h k)
+    told_then h later (inr k) = inr (cut_then h later k)
+
+  pub cut_first : (old new : SinkView) → AreCut (first ∷ []) old new → AreCut (first ∷ texts) old new
+  cut_first old new h = record {
+    bytes = subst (λ t. PartAppended old.bytes t new.bytes) (sym both_are)
+        (part_first (concat (first ∷ [])) (concat texts) old.bytes new.bytes h.bytes);
+    failed = h.failed;
+    puts = h.puts;
+    some = h.some;
+    few = let f = h.few in omega (arith, f);
+    calls = h.calls;
+  }
+
+  -- only the outside's fault keeps a text from being put, once it is there
+  pub first_cut : (old new : SinkView) (r : Refusal) → IsNotPut (first ∷ []) old new r → r ≡ CannotWrite
+      → AreCut (first ∷ texts) old new
+  first_cut old new r h is = cut_first old new (subst (IsNotPut (first ∷ []) old new) is h)
+
+  pub first_not_put : (old new : SinkView) (r : Refusal) → IsNotPut (first ∷ []) old new r → r ≡ CannotWrite
+      → IsNotPut (first ∷ texts) old new r
+  first_not_put old new r h is = subst (IsNotPut (first ∷ texts) old new) (sym is) (first_cut old new r h is)

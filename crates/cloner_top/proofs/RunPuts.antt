@@ -11,7 +11,7 @@ use Rattle.cloner_top.specs.declared.refusal.Refusal.{Refusal}
 use Rattle.cloner_top.specs.declared.refusal.Refusal.TheVariants.{CannotWrite}
 use Rattle.cloner_top.specs.Endings.{run_texts}
 use Rattle.cloner_top.specs.Outsides.{AreCut, ArePut, IsNotPut, SinkView}
-use Rattle.cloner_top.proofs.Puts.{cut_before, cut_last, put_more}
+use Rattle.cloner_top.proofs.Puts.{cut_before, cut_last, cut_then, put_more, put_then}
 use Rattle.cloner_top.proofs.Runs.{on_ok}
 
 -- the texts of a run by their parts
@@ -70,3 +70,25 @@ module _ (told net : Net) (those cs : List Clone) (same_net : told ≡ net) (sam
       (cut_before (clone_text net) cs (report net cs) old new
       (subst (λ t. PartAppended old.bytes t new.bytes) (same_texts told net those cs same_net same_clones) part)
       failed calls.calls calls.some calls.few calls.counted)
+
+-- a journal was put, and then the texts of a run
+module _ (journal : List ℕ) (told net : Net) (those cs : List Clone) (same_net : told ≡ net) (same_clones : those ≡ cs)
+    (old mid new : SinkView) {T : Type 0} (r : Result T Refusal) (put : ArePut (journal ∷ []) old mid) where
+  run_same : run_texts told those ≡ run_texts net cs
+  run_same = ap (λ (n : Net). run_texts n those) same_net ∙ ap (run_texts net) same_clones
+
+  pub journal_put : OnOk r (ArePut (run_texts told those) mid new) → OnOk r (ArePut (journal ∷ run_texts net cs) old new)
+  journal_put h = on_ok r (λ more. put_then journal (run_texts net cs) old mid new put
+      (subst (λ t. ArePut t mid new) run_same more)) h
+
+  -- or those were cut off
+  pub run_cut : old.faults ≤ mid.faults → IfErr r (λ e. IsNotPut (run_texts told those) mid new e)
+      → IfErr r (λ e. e ≡ CannotWrite) → IfErr r (λ e. IsNotPut (journal ∷ run_texts net cs) old new e)
+  run_cut later h cause = of_result r h cause
+    where
+      of_result : {T : Type 0} (r : Result T Refusal) → IfErr r (λ e. IsNotPut (run_texts told those) mid new e)
+          → IfErr r (λ e. e ≡ CannotWrite) → IfErr r (λ e. IsNotPut (journal ∷ run_texts net cs) old new e)
+      of_result (Ok t) h k = tt
+      of_result (Err e) h k = subst (λ x. IsNotPut (journal ∷ run_texts net cs) old new x) (sym k)
+          (cut_then journal (run_texts net cs) old mid new put later
+          (subst (λ t. AreCut t mid new) run_same (subst (λ x. IsNotPut (run_texts told those) mid new x) k h)))

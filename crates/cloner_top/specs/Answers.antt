@@ -1,15 +1,17 @@
 -- What the program answers: its status, with what became of the outside.
-use Rattle.std.specs.Prelude.{◌≡◌, ℕ, List, Option, Some, None, option_map}
+use Rattle.std.specs.Prelude.{◌≡◌, ℕ, List, [], ◌∷◌, ◌++◌, Option, Some, None, option_map}
 use Rattle.sim_outer.specs.Causes.{AreCounted, Rose}
 use Rattle.sim_outer.specs.Files.{Files}
 use Rattle.command_words.specs.Requests.{Asked, form}
 use Rattle.cloner_top.specs.declared.reading.Text.TheVariants.{Model, Script}
+use Rattle.cloner_top.specs.declared.halt.Halt.{Halt}
+use Rattle.cloner_top.specs.declared.halt.Halt.TheVariants.{Refused, Overrun}
 use Rattle.cloner_top.specs.declared.refusal.Refusal.{Refusal}
 use Rattle.cloner_top.specs.declared.refusal.Refusal.TheVariants.{OutOfMemory, Usage, NoModel}
 use Rattle.cloner_top.specs.declared.refusal.Refusal.TheVariants.{NoScript, Stopped, CannotWrite}
 use Rattle.cloner_top.specs.declared.stop.Stop.{Stop}
 use Rattle.cloner_top.specs.Endings.{Ending, MayCome, StoppedFor}
-use Rattle.cloner_top.specs.Outsides.{InputsView, IsCutOff, IsFailed, IsFinished, IsTold, SinkView}
+use Rattle.cloner_top.specs.Outsides.{AreTold, InputsView, IsCutOff, IsFailed, IsFinished, SinkView}
 use Rattle.cloner_top.specs.Plans.{HasModel}
 use Rattle.cloner_top.specs.Refusals.{line_of}
 use Rattle.cloner_top.specs.Stops.{stop_status}
@@ -33,10 +35,10 @@ pub record Comes (files : Option Files) (a : Asked) (end : Ending) : Type 0 wher
   pub texts : AreTexts a.source files m s
   pub may : MayCome a m s end
 
--- nothing is written, and one line tells why
-pub record IsRefused (before after : Outside) (refusal : Refusal) : Type 0 where
+-- nothing is written, and a line tells why, behind these texts
+pub record IsRefused (before after : Outside) (told : List (List ℕ)) (refusal : Refusal) : Type 0 where
   pub output : after.output ≡ before.output
-  pub told : IsTold (line_of refusal) before.errors after.errors
+  pub told_is : AreTold (told ++ line_of refusal ∷ []) before.errors after.errors
 
 -- the inputs had a fault
 abbrev pub InputsFailed : Outside → Outside → Type 0
@@ -50,25 +52,25 @@ pub data IsAnswer (words : Option Asked) (before after : Outside) : ℕ → Type
       → AreCounted (all_fetches a.source) before.inputs.calls after.inputs.calls → after.errors ≡ before.errors
       → IsAnswer words before after 0
   -- out of memory
-  memory : IsRefused before after OutOfMemory → IsAnswer words before after 1
+  memory : IsRefused before after [] OutOfMemory → IsAnswer words before after 1
   -- the command line has no known form; nothing is fetched
-  usage : words ≡ None → IsRefused before after Usage → after.inputs ≡ before.inputs → after.steps ≡ before.steps
+  usage : words ≡ None → IsRefused before after [] Usage → after.inputs ≡ before.inputs → after.steps ≡ before.steps
       → IsAnswer words before after 2
   -- the model's text was not read
   no_model : (a : Asked) → words ≡ Some a → IsUnread (InputsFailed before after) a.source Model before.inputs.files
-      → IsRefused before after NoModel → after.steps ≡ before.steps → IsAnswer words before after 3
+      → IsRefused before after [] NoModel → after.steps ≡ before.steps → IsAnswer words before after 3
   -- the script's text was not read
   no_script : (a : Asked) → words ≡ Some a → HasModel a.source before.inputs.files
       → IsUnread (InputsFailed before after) a.source Script before.inputs.files
-      → IsRefused before after NoScript → after.steps ≡ before.steps → IsAnswer words before after 3
-  -- the study stops
-  stopped : (a : Asked) → words ≡ Some a → (stop : Stop)
-      → StoppedFor (Comes before.inputs.files a) before.steps after.steps stop
-      → IsRefused before after (Stopped stop) → IsAnswer words before after (stop_status stop)
+      → IsRefused before after [] NoScript → after.steps ≡ before.steps → IsAnswer words before after 3
+  -- the study stops; at the limit of a live one, its journal is told before the line
+  stopped : (a : Asked) → words ≡ Some a → (told : List (List ℕ)) (stop : Stop)
+      → StoppedFor (Comes before.inputs.files a) before.steps after.steps told stop
+      → IsRefused before after told (Stopped stop) → IsAnswer words before after (stop_status stop)
   -- the output was cut off
   cut : (a : Asked) → words ≡ Some a
       → IsCutOff (Comes before.inputs.files a) before.steps after.steps before.output after.output
-      → IsTold (line_of CannotWrite) before.errors after.errors → IsAnswer words before after 8
+      → AreTold (line_of CannotWrite ∷ []) before.errors after.errors → IsAnswer words before after 8
 
 -- why what is asked was not written
 abbrev pub IsUnobeyed : Type 0 → Option Files → Asked → ℕ → ℕ → SinkView → SinkView → Refusal → Type 0
@@ -78,3 +80,10 @@ IsUnobeyed rose files a old_steps new_steps old new NoScript =
     HasModel a.source files × IsUnread rose a.source Script files × (new ≡ old) × (new_steps ≡ old_steps)
 IsUnobeyed rose files a old_steps new_steps old new refusal =
     IsFailed (Comes files a) old_steps new_steps old new refusal
+
+-- the same, with what is told before the line
+abbrev pub IsDisobeyed : Type 0 → Option Files → Asked → ℕ → ℕ → SinkView → SinkView → Halt → Type 0
+IsDisobeyed rose files a old_steps new_steps old new (Refused refusal) =
+    IsUnobeyed rose files a old_steps new_steps old new refusal
+IsDisobeyed rose files a old_steps new_steps old new (Overrun journal stop) =
+    StoppedFor (Comes files a) old_steps new_steps (journal.items ∷ []) stop × (new ≡ old)

@@ -8,24 +8,31 @@ use Rattle.decision_script.specs.Reading.{script}
 use Rattle.decision_script.specs.Stating.{ScriptView}
 use Rattle.decision_script.specs.declared.fault.ScriptFault.{ScriptFault}
 use Rattle.decision_book.specs.declared.call.Reply.{Reply}
+use Rattle.decision_book.specs.Books.{BookView}
+use Rattle.decision_book.specs.Journal.{after}
 use Rattle.stations.specs.Runs.{trace_of}
 use Rattle.world_core.specs.Worlds.{total_handled}
 use Rattle.trace_report.specs.Outputs.{clone_text, report}
 use Rattle.study_run.specs.Limits.{AreWithin, IsWithin, MeetsLimit, MeetsLimitAlone}
 use Rattle.study_run.specs.Work.{most_handled}
+use Rattle.journal_text.specs.declared.looked.Looked.{Looked}
+use Rattle.journal_text.specs.JournalText.{journal_text}
+use Rattle.live_study.specs.Engines.{MeetsLimitLast}
+use Rattle.live_study.specs.Looks.{AreLooks, HasMadeLooks}
+use Rattle.live_study.specs.Scripts.{IsJournalOf}
 use Rattle.command_words.specs.declared.request.Mode.{Mode}
-use Rattle.command_words.specs.declared.request.Mode.TheVariants.{All, One}
+use Rattle.command_words.specs.declared.request.Mode.TheVariants.{All, One, Live}
 use Rattle.command_words.specs.Requests.{Asked, Source, made, named}
 use Rattle.cloner_top.specs.declared.stop.Stop.{Stop}
 use Rattle.cloner_top.specs.declared.stop.Stop.TheVariants.{BadModel, BadScript, Refused, NoClone, LimitMet}
 use Rattle.cloner_top.specs.Deciding.{clones_of, first_refused}
 
 -- an ending: these texts are written, for which so many messages were handled; nothing is, for this cause, and none was
--- handled; or the limit is met, and at most so many were handled
+-- handled; or the limit is met, of which these texts are told before the line, and at most so many were handled
 pub data Ending : Type 0 where
   written : List (List ℕ) → ℕ → Ending
   stopped : Stop → Ending
-  overrun : Stop → ℕ → Ending
+  overrun : List (List ℕ) → Stop → ℕ → Ending
 
 abbrev pub limit_met : Net → ℕ → List ℕ → Stop
 limit_met net station clone = LimitMet net.limit (site_of net station).name clone
@@ -34,7 +41,7 @@ limit_met net station clone = LimitMet net.limit (site_of net station).name clon
 pub data MayRun (net : Net) (clones : List Clone) (texts : List (List ℕ)) : Ending → Type 0 where
   within : AreWithin net clones → MayRun net clones texts (written texts (total_handled net clones net.horizon))
   over : (station who : ℕ) → MeetsLimit net clones station who
-      → MayRun net clones texts (overrun (limit_met net station (clone_at clones who).name)
+      → MayRun net clones texts (overrun [] (limit_met net station (clone_at clones who).name)
       (most_handled net (length clones)))
 
 -- how a run of the clone of this name by itself may end
@@ -44,7 +51,7 @@ pub data MayRunAlone (net : Net) (clones : List Clone) (name : List ℕ) : Endin
       → MayRunAlone net clones name (written (clone_text net (clone_at clones k) ∷ [])
       (length (trace_of net (clone_at clones k))))
   beyond : (k station : ℕ) → place_of name clones ≡ Some k → MeetsLimitAlone net (clone_at clones k) station
-      → MayRunAlone net clones name (overrun (limit_met net station name) (most_handled net 1))
+      → MayRunAlone net clones name (overrun [] (limit_met net station name) (most_handled net 1))
 
 -- what a run of all clones writes: each one's trace text, in order of making, and then the report
 unfoldable pub run_texts : Net → List Clone → List (List ℕ)
@@ -59,13 +66,36 @@ study_texts (made n) net clones = report net clones ∷ []
 abbrev pub MaySimulate : Mode → Source → Net → List Clone → Ending → Type 0
 MaySimulate All source net clones end = MayRun net clones (study_texts source net clones) end
 MaySimulate (One name) source net clones end = MayRunAlone net clones name end
+MaySimulate Live source net clones end = ⊥
+
+-- how a live study of a script may end: some journal of its analysts, and what they saw, are the first text; then comes
+-- what a run of the clones that the journal leaves writes; or the limit is met at the journal's last front, and the
+-- journal is told
+pub data MayLive (net : Net) (s : ScriptView) : Ending → Type 0 where
+  finished : (book : BookView) (looks : List Looked) → IsJournalOf net s book
+      → (after net book.events).front ≡ net.horizon → AreLooks net s book.events looks
+      → AreWithin net (after net book.events).clones
+      → MayLive net s (written (journal_text s.analysts book.events looks ∷ run_texts net (after net book.events).clones)
+      (total_handled net (after net book.events).clones net.horizon))
+  over : (book : BookView) (looks : List Looked) (station who : ℕ) → IsJournalOf net s book → HasMadeLooks s looks
+      → MeetsLimitLast net book.events station who
+      → MayLive net s (overrun (journal_text s.analysts book.events looks ∷ [])
+      (limit_met net station (clone_at (after net book.events).clones who).name)
+      (most_handled net (length (after net book.events).clones)))
+
+-- all decisions are made before the simulation begins
+abbrev pub DecidesFirst : Mode → Type 0
+DecidesFirst All = Unit {0}
+DecidesFirst (One name) = Unit {0}
+DecidesFirst Live = ⊥
 
 -- how a script's study of a model may end
 pub data MayEnd (a : Asked) (net : Net) (s : ScriptView) : Ending → Type 0 where
-  refused : (reply : Reply) (line : ℕ) → first_refused net s ≡ Some (reply, line)
+  refused : (reply : Reply) (line : ℕ) → DecidesFirst a.mode → first_refused net s ≡ Some (reply, line)
       → MayEnd a net s (stopped (Refused reply line))
   decided : (end : Ending) → first_refused net s ≡ None → MaySimulate a.mode a.source net (clones_of net s) end
       → MayEnd a net s end
+  live : (end : Ending) → a.mode ≡ Live → MayLive net s end → MayEnd a net s end
 
 -- how the study of two texts may end
 pub data MayCome (a : Asked) (m s : List ℕ) : Ending → Type 0 where
@@ -82,7 +112,9 @@ pub record Wrote (P : Ending → Type 0) (old_steps new_steps : ℕ) (texts : Li
   pub may : P (written texts work)
   pub steps : new_steps ≡ old_steps + work
 
--- a stop of an ending for which this holds: before anything is handled, or at the limit
-pub data StoppedFor (P : Ending → Type 0) (old_steps new_steps : ℕ) (stop : Stop) : Type 0 where
-  at_once : P (stopped stop) → new_steps ≡ old_steps → StoppedFor P old_steps new_steps stop
-  at_limit : (most : ℕ) → P (overrun stop most) → new_steps ≤ old_steps + most → StoppedFor P old_steps new_steps stop
+-- a stop of an ending for which this holds, with what is told before its line: before anything is handled, or at the
+-- limit
+pub data StoppedFor (P : Ending → Type 0) (old_steps new_steps : ℕ) (told : List (List ℕ)) (stop : Stop) : Type 0 where
+  at_once : told ≡ [] → P (stopped stop) → new_steps ≡ old_steps → StoppedFor P old_steps new_steps told stop
+  at_limit : (most : ℕ) → P (overrun told stop most) → new_steps ≤ old_steps + most
+      → StoppedFor P old_steps new_steps told stop

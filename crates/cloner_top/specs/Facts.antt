@@ -1,18 +1,22 @@
 -- What an answer of the program says, one fact at a time.
-use Rattle.std.specs.Prelude.{◌≡◌, ◌⊎◌, ℕ, ◌+◌, ◌≤◌, List, [], ◌∷◌, length, Option, Some, None, Ok}
+use Rattle.std.specs.Prelude.{◌≡◌, ◌⊎◌, ℕ, ◌+◌, ◌≤◌, List, [], ◌∷◌, ◌++◌, length, Option, Some, None}
 use Rattle.sim_base.specs.Clones.{Clone, clone_at, place_of}
 use Rattle.sim_outer.specs.Causes.{AreCounted, Rose}
 use Rattle.sim_outer.specs.Files.{Files}
 use Rattle.net_model.specs.Net.{Net}
-use Rattle.net_model.specs.Text.{model}
-use Rattle.decision_script.specs.Reading.{script}
 use Rattle.decision_script.specs.Stating.{ScriptView}
+use Rattle.decision_book.specs.Books.{BookView}
+use Rattle.decision_book.specs.Journal.{after as after_events}
 use Rattle.stations.specs.Runs.{trace_of}
 use Rattle.world_core.specs.Worlds.{total_handled}
 use Rattle.trace_report.specs.Outputs.{clone_text, report}
 use Rattle.study_run.specs.Limits.{AreWithin, IsWithin}
+use Rattle.journal_text.specs.declared.looked.Looked.{Looked}
+use Rattle.journal_text.specs.JournalText.{journal_text}
+use Rattle.live_study.specs.Looks.{AreLooks}
+use Rattle.live_study.specs.Scripts.{IsJournalOf}
 use Rattle.command_words.specs.declared.request.Mode.{Mode}
-use Rattle.command_words.specs.declared.request.Mode.TheVariants.{All, One}
+use Rattle.command_words.specs.declared.request.Mode.TheVariants.{All, One, Live}
 use Rattle.command_words.specs.Requests.{Asked, Source, made, named}
 use Rattle.cloner_top.specs.declared.reading.Text.TheVariants.{Model, Script}
 use Rattle.cloner_top.specs.declared.refusal.Refusal.{Refusal}
@@ -20,18 +24,15 @@ use Rattle.cloner_top.specs.declared.stop.Stop.{Stop}
 use Rattle.cloner_top.specs.Answers.{Comes, InputsFailed, Outside}
 use Rattle.cloner_top.specs.Deciding.{clones_of, first_refused}
 use Rattle.cloner_top.specs.Endings.{Ending, StoppedFor, overrun, run_texts, stopped, written}
-use Rattle.cloner_top.specs.Outsides.{ArePut, IsCutOff, IsTold}
+use Rattle.cloner_top.specs.Outsides.{ArePut, AreTold, IsCutOff}
+use Rattle.cloner_top.specs.Plans.{IsRead}
 use Rattle.cloner_top.specs.Refusals.{line_of, status_of}
-use Rattle.cloner_top.specs.Stops.{stop_status}
-use Rattle.cloner_top.specs.Texts.{AreTexts, IsUnread, all_fetches}
+use Rattle.cloner_top.specs.Stops.{stop_line, stop_status}
+use Rattle.cloner_top.specs.Texts.{IsUnread, all_fetches}
 
 -- the study's two texts are a model and a script whose decisions are all accepted
 pub record IsStudy (files : Option Files) (a : Asked) (net : Net) (stated : ScriptView) : Type 0 where
-  pub m : List ℕ
-  pub s : List ℕ
-  pub texts : AreTexts a.source files m s
-  pub is_model : model m ≡ Ok net
-  pub is_script : script s ≡ Ok stated
+  pub read : IsRead a.source files net stated
   pub accepted : first_refused net stated ≡ None
 
 -- all clones were run, no log of any is beyond the limit, and these texts were put, each in one call; a step for each
@@ -55,11 +56,30 @@ pub record WritesOne (name : List ℕ) (before after : Outside) (a : Asked) : Ty
   pub put : ArePut (clone_text net (clone_at (clones_of net stated) place) ∷ []) before.output after.output
   pub steps : after.steps ≡ before.steps + length (trace_of net (clone_at (clones_of net stated) place))
 
--- what is written: `run` each clone's trace text and then the report, `gen` the report alone, `solo` one trace text
+-- analysts decided and looked while all clones were run: the journal is legal, each analyst's decisions stand in it in
+-- order and no others, it comes to the horizon, and what was seen at each look of the script is true; its text was put,
+-- and then what a run of the clones that it leaves writes
+pub record WritesLive (before after : Outside) (a : Asked) : Type 0 where
+  pub net : Net
+  pub stated : ScriptView
+  pub read : IsRead a.source before.inputs.files net stated
+  pub book : BookView
+  pub looks : List Looked
+  pub journal : IsJournalOf net stated book
+  pub ended : (after_events net book.events).front ≡ net.horizon
+  pub seen : AreLooks net stated book.events looks
+  pub within : AreWithin net (after_events net book.events).clones
+  pub put : ArePut (journal_text stated.analysts book.events looks ∷ run_texts net (after_events net book.events).clones)
+      before.output after.output
+  pub steps : after.steps ≡ before.steps + total_handled net (after_events net book.events).clones net.horizon
+
+-- what is written: `run` each clone's trace text and then the report, `live` the journal before them, `gen` the report
+-- alone, `solo` one trace text
 abbrev pub Writes : Mode → Source → Outside → Outside → Asked → Type 0
 Writes All (named model script) before after a = WritesAll run_texts before after a
 Writes All (made n) before after a = WritesAll (λ net clones. report net clones ∷ []) before after a
 Writes (One name) source before after a = WritesOne name before after a
+Writes Live source before after a = WritesLive before after a
 
 -- status 0: the whole output is written, and nothing told
 pub record IsWritten (words : Option Asked) (before after : Outside) : Type 0 where
@@ -76,13 +96,16 @@ pub record IsUnreadFor (words : Option Asked) (before after : Outside) : Type 0 
   pub unread : IsUnread (InputsFailed before after) a.source Model before.inputs.files
       ⊎ IsUnread (InputsFailed before after) a.source Script before.inputs.files
 
--- statuses 4 to 7: the study stops, and at most so many messages were handled as the limit allows
+-- statuses 4 to 7: the study stops, and at most so many messages were handled as the limit allows; a line is told, and
+-- before it the journal of a live study that met the limit
 pub record IsStoppedFor (words : Option Asked) (before after : Outside) (status : ℕ) : Type 0 where
   pub a : Asked
   pub asks : words ≡ Some a
+  pub told : List (List ℕ)
   pub stop : Stop
   pub is : status ≡ stop_status stop
-  pub stops : StoppedFor (Comes before.inputs.files a) before.steps after.steps stop
+  pub stops : StoppedFor (Comes before.inputs.files a) before.steps after.steps told stop
+  pub told_is : AreTold (told ++ stop_line stop ∷ []) before.errors after.errors
 
 -- status 8: a prefix of the output was written, and the output had a fault
 pub record IsCutFor (words : Option Asked) (before after : Outside) : Type 0 where
@@ -90,17 +113,24 @@ pub record IsCutFor (words : Option Asked) (before after : Outside) : Type 0 whe
   pub asks : words ≡ Some a
   pub cut : IsCutOff (Comes before.inputs.files a) before.steps after.steps before.output after.output
 
--- after any status but 0 one line tells why
-pub record IsToldFor (before after : Outside) (status : ℕ) : Type 0 where
+-- this many texts are told before the line: none, or one, at the limit of a live study
+abbrev pub ArePreceded : Option Asked → ℕ → List (List ℕ) → Type 0
+ArePreceded words status told = (told ≡ [])
+    ⊎ ((status ≡ 7) × ((length told ≡ 1) × ((a : Asked) × ((words ≡ Some a) × (a.mode ≡ Live)))))
+
+-- after any status but 0 a line tells why
+pub record IsToldFor (words : Option Asked) (before after : Outside) (status : ℕ) : Type 0 where
+  pub told : List (List ℕ)
   pub refusal : Refusal
   pub is : status ≡ status_of refusal
-  pub told : IsTold (line_of refusal) before.errors after.errors
+  pub preceded : ArePreceded words status told
+  pub told_is : AreTold (told ++ line_of refusal ∷ []) before.errors after.errors
 
 -- an ending comes, or the output's fault
 abbrev pub Meets : Ending → Type 0 → ℕ → Type 0
 Meets (written texts work) output_failed status = (status ≡ 0) ⊎ ((status ≡ 8) × output_failed)
 Meets (stopped stop) output_failed status = status ≡ stop_status stop
-Meets (overrun stop most) output_failed status = status ≡ stop_status stop
+Meets (overrun told stop most) output_failed status = status ≡ stop_status stop
 
 -- where the inputs have no fault a lawful ending comes, or out of memory; or the files are known, and one is not there
 abbrev pub Completes : Option Asked → Outside → Outside → ℕ → Type 0

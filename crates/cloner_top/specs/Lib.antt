@@ -3,8 +3,11 @@ pub mod Refusals
 pub mod Texts
 pub mod Deciding
 pub mod Endings
+pub mod LiveRuns
+pub mod RunTexts
 pub mod Plans
 pub mod Outsides
 pub mod Answers
 pub mod Facts
 pub mod OwnScripts
+pub mod Journals

@@ -1,9 +1,11 @@
 -- The outside of the program: what contracts see of inputs and sinks, and what becomes of them.
-use Rattle.std.specs.Prelude.{◌≡◌, ◌⊎◌, ℕ, ◌≤◌, List, Option, length}
+use Rattle.std.specs.Prelude.{◌≡◌, ◌⊎◌, ℕ, ◌≤◌, List, [], ◌∷◌, Option, length}
 use Rattle.std.specs.List.{concat}
 use Rattle.sim_outer.specs.Bytes.{Appended, PartAppended}
-use Rattle.sim_outer.specs.Causes.{AreCounted, Counted, Rose}
+use Rattle.sim_outer.specs.Causes.{AreCounted, Rose}
 use Rattle.sim_outer.specs.Files.{Files}
+use Rattle.cloner_top.specs.declared.halt.Halt.{Halt}
+use Rattle.cloner_top.specs.declared.halt.Halt.TheVariants.{Refused, Overrun}
 use Rattle.cloner_top.specs.declared.refusal.Refusal.{Refusal}
 use Rattle.cloner_top.specs.declared.refusal.Refusal.TheVariants.{OutOfMemory, Stopped, CannotWrite}
 use Rattle.cloner_top.specs.Endings.{Ending, StoppedFor, Wrote}
@@ -34,10 +36,9 @@ pub record AreCut (texts : List (List ℕ)) (old new : SinkView) : Type 0 where
   pub few : puts ≤ length texts
   pub calls : AreCounted puts old.calls new.calls
 
--- one line was told in one call: the sink took it, or failed and took a prefix of it
-pub record IsTold (line : List ℕ) (old new : SinkView) : Type 0 where
-  pub bytes : Appended old.bytes line new.bytes ⊎ (Rose old.faults new.faults × PartAppended old.bytes line new.bytes)
-  pub calls : Counted old.calls new.calls
+-- texts were told, each in one call: the sink took them all, or failed and took a prefix of them
+abbrev pub AreTold : List (List ℕ) → SinkView → SinkView → Type 0
+AreTold texts old new = ArePut texts old new ⊎ AreCut texts old new
 
 -- a study of which an ending is lawful was written
 pub record IsFinished (P : Ending → Type 0) (old_steps new_steps : ℕ) (old new : SinkView) : Type 0 where
@@ -51,12 +52,18 @@ pub record IsCutOff (P : Ending → Type 0) (old_steps new_steps : ℕ) (old new
   pub wrote : Wrote P old_steps new_steps texts
   pub cut : AreCut texts old new
 
--- why it was not written
+-- why it was not written, where nothing is told but a line
 abbrev pub IsFailed : (Ending → Type 0) → ℕ → ℕ → SinkView → SinkView → Refusal → Type 0
 IsFailed P old_steps new_steps old new OutOfMemory = new ≡ old
-IsFailed P old_steps new_steps old new (Stopped stop) = StoppedFor P old_steps new_steps stop × (new ≡ old)
+IsFailed P old_steps new_steps old new (Stopped stop) = StoppedFor P old_steps new_steps [] stop × (new ≡ old)
 IsFailed P old_steps new_steps old new CannotWrite = IsCutOff P old_steps new_steps old new
 IsFailed P old_steps new_steps old new refusal = ⊥
+
+-- why it was not written, and what is told before the line
+abbrev pub IsHalted : (Ending → Type 0) → ℕ → ℕ → SinkView → SinkView → Halt → Type 0
+IsHalted P old_steps new_steps old new (Refused refusal) = IsFailed P old_steps new_steps old new refusal
+IsHalted P old_steps new_steps old new (Overrun journal stop) =
+    StoppedFor P old_steps new_steps (journal.items ∷ []) stop × (new ≡ old)
 
 -- why texts were not put
 abbrev pub IsNotPut : List (List ℕ) → SinkView → SinkView → Refusal → Type 0

@@ -1,29 +1,25 @@
--- A study that is planned: its model was read, and the decisions of its script were all accepted.
+-- A study that is read: its texts are a model and a script; and one that is planned: its decisions were all accepted.
 use Rattle.std.specs.Prelude.{◌≡◌, ℕ, List, Option, Ok}
 use Rattle.sim_outer.specs.Files.{Files}
 use Rattle.net_model.specs.Net.{Net}
 use Rattle.net_model.specs.Text.{model}
 use Rattle.decision_script.specs.Reading.{script}
 use Rattle.decision_script.specs.Stating.{ScriptView}
-use Rattle.decision_book.specs.Books.{BookView}
 use Rattle.command_words.specs.Requests.{Asked, Source}
 use Rattle.cloner_top.specs.declared.reading.Text.TheVariants.{Model, Script}
 use Rattle.cloner_top.specs.declared.refusal.Refusal.{Refusal}
 use Rattle.cloner_top.specs.declared.refusal.Refusal.TheVariants.{OutOfMemory, NoModel, NoScript, Stopped}
 use Rattle.cloner_top.specs.declared.stop.Stop.{Stop}
-use Rattle.cloner_top.specs.Deciding.{IsDecided}
 use Rattle.cloner_top.specs.Endings.{MayCome, stopped}
 use Rattle.cloner_top.specs.Texts.{AreTexts, IsText, IsUnread, text_of}
 
--- the network and the book of a study's texts
-pub record IsPlanned (source : Source) (files : Option Files) (net : Net) (book : BookView) : Type 0 where
+-- the network and the script of a study's texts
+pub record IsRead (source : Source) (files : Option Files) (net : Net) (stated : ScriptView) : Type 0 where
   pub m : List ℕ
   pub s : List ℕ
-  pub stated : ScriptView
   pub texts : AreTexts source files m s
   pub is_model : model m ≡ Ok net
   pub is_script : script s ≡ Ok stated
-  pub decided : IsDecided net stated book
 
 -- the model's text is a model
 pub record HasModel (source : Source) (files : Option Files) : Type 0 where
@@ -39,10 +35,10 @@ pub record StopsEarly (source : Source) (files : Option Files) (stop : Stop) : T
   pub texts : AreTexts source files m s
   pub may : (a : Asked) → MayCome a m s (stopped stop)
 
--- why a study is not planned
-abbrev pub IsUnplanned : Type 0 → Source → Option Files → Refusal → Type 0
-IsUnplanned rose source files OutOfMemory = Unit {0}
-IsUnplanned rose source files NoModel = IsUnread rose source Model files
-IsUnplanned rose source files NoScript = HasModel source files × IsUnread rose source Script files
-IsUnplanned rose source files (Stopped stop) = StopsEarly source files stop
-IsUnplanned rose source files refusal = ⊥
+-- why a study is not read
+abbrev pub IsUnreadStudy : Type 0 → Source → Option Files → Refusal → Type 0
+IsUnreadStudy rose source files OutOfMemory = Unit {0}
+IsUnreadStudy rose source files NoModel = IsUnread rose source Model files
+IsUnreadStudy rose source files NoScript = HasModel source files × IsUnread rose source Script files
+IsUnreadStudy rose source files (Stopped stop) = StopsEarly source files stop
+IsUnreadStudy rose source files refusal = ⊥

@@ -1,4 +1,5 @@
 //! Laws of what the program answers.
+ghost use Rattle.cloner_top.specs.Journals.{JournalRunsTheSame};
 ghost use Rattle.cloner_top.specs.OwnScripts.{OwnScriptWritesTheSame};
 
 /// Where all decisions of a script are accepted, `solo` of a clone may end with the clone's own script exactly as with
@@ -6,4 +7,11 @@ ghost use Rattle.cloner_top.specs.OwnScripts.{OwnScriptWritesTheSame};
 #[tactic(auto, using(crate::proofs::OwnScriptLaws::own_script))]
 pub fn own_script_writes_the_same()
     ensures { OwnScriptWritesTheSame }
+{}
+
+/// The lines of a live study's journal, without comments, are a script, with which `run` may end by writing the traces
+/// and the report that the study wrote behind its journal.
+#[tactic(auto, using(crate::proofs::JournalLaws::journal_runs))]
+pub fn journal_runs_the_same()
+    ensures { JournalRunsTheSame }
 {}

@@ -23,7 +23,9 @@
 
 mod deciding;
 pub mod error_line;
+pub mod halt;
 pub mod laws;
+mod live;
 mod plan;
 pub mod program;
 mod putting;

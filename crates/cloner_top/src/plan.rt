@@ -1,9 +1,9 @@
-//! Plans a study: reads its model, and makes its decisions.
+//! Reads a study, and plans it: makes its decisions.
 ghost use Rattle.std.specs.Prelude.{◌≡◌, ◌≤◌, ℕ, IfErr, IfOk, OnOk};
 ghost use Rattle.sim_outer.specs.Causes.{AreCounted, Rose};
 ghost use Rattle.command_words.specs.Requests.{source_view};
 ghost use Rattle.cloner_top.specs.Deciding.{IsDecided, IsRefusal};
-ghost use Rattle.cloner_top.specs.Plans.{IsPlanned, IsUnplanned};
+ghost use Rattle.cloner_top.specs.Plans.{IsRead, IsUnreadStudy};
 ghost use Rattle.cloner_top.specs.Refusals.{Stops};
 ghost use Rattle.cloner_top.specs.Texts.{all_fetches};
 
@@ -18,6 +18,13 @@ use sim_outer::Inputs;
 use std::alloc::Global;
 use std::sync::Arc;
 
+/// A model and a script.
+#[derive(Drop)]
+pub(crate) struct Study {
+    pub(crate) model: Arc<Model>,
+    pub(crate) script: Script,
+}
+
 /// A model, and a book with the decisions that were accepted.
 #[derive(Drop)]
 pub(crate) struct Plan {
@@ -25,34 +32,34 @@ pub(crate) struct Plan {
     pub(crate) book: Book,
 }
 
-// The plan of a model and a script.
-fn decided_plan(alloc: Global, model: Model, script: &Script) -> Result<Plan, Refusal>
-    ensures model { IfOk result (λ plan. plan.model.value ≡ model) }
-    ensures decided { IfOk result (λ plan. IsDecided model script.now plan.book) }
-    ensures err { IfErr result (λ r. Stops (IsRefusal model script.now) r) }
+/// The plan of a study: all its decisions are made at front 0, before the simulation begins. Nothing is simulated.
+pub(crate) fn plan_study(alloc: Global, study: &Study) -> Result<Plan, Refusal>
+    ensures model { IfOk result (λ plan. plan.model.value ≡ study.now.model.value) }
+    ensures decided { IfOk result (λ plan. IsDecided study.now.model.value study.now.script plan.book) }
+    ensures err { IfErr result (λ r. Stops (IsRefusal study.now.model.value study.now.script) r) }
 {
-    let Ok(model) = Arc::new(alloc, model) else {
+    let Ok(model) = Arc::try_clone(&study.model) else {
         return Err(Refusal::OutOfMemory);
     };
-    let Ok(shared) = model.clone() else {
+    let Ok(shared) = Arc::try_clone(&study.model) else {
         return Err(Refusal::OutOfMemory);
     };
-    match decide_script(alloc, shared, script) {
+    match decide_script(alloc, shared, &study.script) {
         Ok(book) => Ok(Plan { model, book }),
         Err(refusal) => Err(refusal),
     }
 }
 
-/// The plan of a study, or why there is none. Nothing is simulated.
-pub(crate) fn plan_study<I: Inputs>(
+/// The model and the script of a study, or why there are none.
+pub(crate) fn read_study<I: Inputs>(
     alloc: Global,
     inputs: &mut I,
     source: &Source,
-) -> Result<Plan, Refusal>
-    ensures ok { IfOk result (λ plan. IsPlanned (source_view source.now) (I.files inputs.old) plan.model.value
-        plan.book) }
+) -> Result<Study, Refusal>
+    ensures ok { IfOk result (λ study. IsRead (source_view source.now) (I.files inputs.old) study.model.value
+        study.script) }
     ensures err { IfErr result (λ r.
-        IsUnplanned (Rose (I.faults inputs.old) (I.faults inputs.new)) (source_view source.now)
+        IsUnreadStudy (Rose (I.faults inputs.old) (I.faults inputs.new)) (source_view source.now)
         (I.files inputs.old) r) }
     ensures later { I.faults inputs.old ≤ I.faults inputs.new }
     ensures same { I.files inputs.new ≡ I.files inputs.old }
@@ -77,5 +84,8 @@ pub(crate) fn plan_study<I: Inputs>(
         Ok(script) => script,
         Err(refusal) => return Err(refusal),
     };
-    decided_plan(alloc, model, &script)
+    match Arc::new(alloc, model) {
+        Ok(model) => Ok(Study { model, script }),
+        Err(_) => Err(Refusal::OutOfMemory),
+    }
 }

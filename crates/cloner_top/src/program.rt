@@ -1,18 +1,24 @@
 //! The program.
-ghost use Rattle.std.specs.Prelude.{◌≡◌, ◌≢◌, ◌⊎◌, ◌≤◌, ℕ, IfErr, None, OnOk};
+ghost use Rattle.std.specs.Prelude.{◌≡◌, ◌≢◌, ◌⊎◌, ◌≤◌, ◌∷◌, [], ℕ, IfErr, None, MatchBool, OnOk};
 ghost use Rattle.sim_outer.specs.Causes.{AreCounted, Rose};
 ghost use Rattle.command_words.specs.Requests.{request_view, source_view};
-ghost use Rattle.cloner_top.specs.Answers.{Comes, IsAnswer, IsUnobeyed, asked_by};
+ghost use Rattle.cloner_top.specs.Answers.{Comes, IsAnswer, IsDisobeyed, asked_by};
+ghost use Rattle.cloner_top.specs.Endings.{DecidesFirst, MayEnd};
 ghost use Rattle.cloner_top.specs.Facts.{AreFewFetches, Completes, IsCutFor, IsStoppedFor};
 ghost use Rattle.cloner_top.specs.Facts.{IsToldFor, IsUnreadFor, IsWritten};
-ghost use Rattle.cloner_top.specs.Outsides.{IsFinished, IsTold};
+ghost use Rattle.cloner_top.specs.Outsides.{AreTold, IsFailed, IsFinished, IsHalted};
 ghost use Rattle.cloner_top.specs.Refusals.{line_of, status_of, words_refusal};
+ghost use Rattle.cloner_top.specs.Stops.{stop_line, stop_status};
 ghost use Rattle.cloner_top.specs.Texts.{all_fetches};
 
-use crate::plan::plan_study;
+use crate::halt::Halt;
+use crate::live::write_live;
+use crate::plan::{Study, plan_study, read_study};
+use crate::putting::put_text;
 use crate::refusal::Refusal;
 use crate::running::write_study;
-use command_words::{Request, WordsFault, read_words};
+use crate::stop::Stop;
+use command_words::{Mode, Request, WordsFault, read_words};
 use crew_pool::Gate;
 use sim_base::Steps;
 use sim_outer::{Inputs, Sink, Word};
@@ -21,7 +27,71 @@ use std::sync::Wait;
 use std::sync::ledger::Ledger;
 use std::thread::Threads;
 
-// Plans what is asked, runs it and writes it.
+// Makes the decisions of a study, runs it and writes it.
+fn decide_and_write<O: Sink, G: Gate, L: Ledger, R: Threads + Wait + Sync>(
+    rt: &R,
+    alloc: Global,
+    gate: &G,
+    request: &Request,
+    study: &Study,
+    out: &mut O,
+    steps: &mut Steps<L>,
+) -> Result<(), Refusal>
+    requires first { DecidesFirst request.now.mode }
+    ensures ok { OnOk result (IsFinished
+        (MayEnd (request_view request.now).asked study.now.model.value study.now.script) steps.old steps.new
+        (record { bytes = O.bytes out.old; faults = O.faults out.old; calls = O.calls out.old })
+        (record { bytes = O.bytes out.new; faults = O.faults out.new; calls = O.calls out.new })) }
+    ensures err { IfErr result (λ r. IsFailed
+        (MayEnd (request_view request.now).asked study.now.model.value study.now.script) steps.old steps.new
+        (record { bytes = O.bytes out.old; faults = O.faults out.old; calls = O.calls out.old })
+        (record { bytes = O.bytes out.new; faults = O.faults out.new; calls = O.calls out.new }) r) }
+{
+    match plan_study(alloc, study) {
+        Ok(plan) => write_study(rt, alloc, gate, request, &plan, out, steps),
+        Err(refusal) => Err(refusal),
+    }
+}
+
+// Whether all decisions are made before the simulation begins.
+fn decides_first(mode: &Mode) -> bool
+    ensures value { MatchBool result (DecidesFirst mode.now) (mode.now ≡ Mode.Live) }
+{
+    match mode {
+        Mode::All | Mode::One(_) => true,
+        Mode::Live => false,
+    }
+}
+
+// Runs a study that was read, and writes it: its decisions are made first, or while it runs.
+fn write_read<O: Sink, G: Gate, L: Ledger, R: Threads + Wait + Sync>(
+    rt: &R,
+    alloc: Global,
+    gate: &G,
+    request: &Request,
+    study: &Study,
+    out: &mut O,
+    steps: &mut Steps<L>,
+) -> Result<(), Halt>
+    ensures ok { OnOk result (IsFinished
+        (MayEnd (request_view request.now).asked study.now.model.value study.now.script) steps.old steps.new
+        (record { bytes = O.bytes out.old; faults = O.faults out.old; calls = O.calls out.old })
+        (record { bytes = O.bytes out.new; faults = O.faults out.new; calls = O.calls out.new })) }
+    ensures err { IfErr result (λ h. IsHalted
+        (MayEnd (request_view request.now).asked study.now.model.value study.now.script) steps.old steps.new
+        (record { bytes = O.bytes out.old; faults = O.faults out.old; calls = O.calls out.old })
+        (record { bytes = O.bytes out.new; faults = O.faults out.new; calls = O.calls out.new }) h) }
+{
+    if !decides_first(&request.mode) {
+        return write_live(rt, alloc, gate, request, study, out, steps);
+    }
+    match decide_and_write(rt, alloc, gate, request, study, out, steps) {
+        Ok(()) => Ok(()),
+        Err(refusal) => Err(Halt::Refused(refusal)),
+    }
+}
+
+// Reads what is asked, runs it and writes it.
 fn obey<I: Inputs, O: Sink, G: Gate, L: Ledger, R: Threads + Wait + Sync>(
     rt: &R,
     alloc: Global,
@@ -30,15 +100,15 @@ fn obey<I: Inputs, O: Sink, G: Gate, L: Ledger, R: Threads + Wait + Sync>(
     out: &mut O,
     gate: &G,
     steps: &mut Steps<L>,
-) -> Result<(), Refusal>
+) -> Result<(), Halt>
     ensures ok { OnOk result (IsFinished (Comes (I.files inputs.old) (request_view request.now).asked) steps.old
         steps.new
         (record { bytes = O.bytes out.old; faults = O.faults out.old; calls = O.calls out.old })
         (record { bytes = O.bytes out.new; faults = O.faults out.new; calls = O.calls out.new })) }
-    ensures err { IfErr result (λ r. IsUnobeyed (Rose (I.faults inputs.old) (I.faults inputs.new))
+    ensures err { IfErr result (λ h. IsDisobeyed (Rose (I.faults inputs.old) (I.faults inputs.new))
         (I.files inputs.old) (request_view request.now).asked steps.old steps.new
         (record { bytes = O.bytes out.old; faults = O.faults out.old; calls = O.calls out.old })
-        (record { bytes = O.bytes out.new; faults = O.faults out.new; calls = O.calls out.new }) r) }
+        (record { bytes = O.bytes out.new; faults = O.faults out.new; calls = O.calls out.new }) h) }
     ensures later { I.faults inputs.old ≤ I.faults inputs.new }
     ensures same { I.files inputs.new ≡ I.files inputs.old }
     ensures fetched { OnOk result (AreCounted (all_fetches (source_view request.now.source)) (I.calls inputs.old)
@@ -46,22 +116,38 @@ fn obey<I: Inputs, O: Sink, G: Gate, L: Ledger, R: Threads + Wait + Sync>(
     ensures few { (n : ℕ) × ((n ≤ all_fetches (source_view request.now.source))
         × AreCounted n (I.calls inputs.old) (I.calls inputs.new)) }
 {
-    match plan_study(alloc, inputs, &request.source) {
-        Ok(plan) => write_study(rt, alloc, gate, request, &plan, out, steps),
-        Err(refusal) => Err(refusal),
+    match read_study(alloc, inputs, &request.source) {
+        Ok(study) => write_read(rt, alloc, gate, request, &study, out, steps),
+        Err(refusal) => Err(Halt::Refused(refusal)),
     }
 }
 
 // Tells the error sink why. Its faults change nothing else.
 fn complain<E: Sink>(err: &mut E, refusal: &Refusal) -> u8
     ensures status { result ≡ status_of refusal.now }
-    ensures told { IsTold (line_of refusal.now)
+    ensures told { AreTold (line_of refusal.now ∷ [])
         (record { bytes = E.bytes err.old; faults = E.faults err.old; calls = E.calls err.old })
         (record { bytes = E.bytes err.new; faults = E.faults err.new; calls = E.calls err.new }) }
 {
     let line = refusal.line();
-    let _ = err.put(line.text().as_bytes());
+    let _ = put_text(err, line.text().as_bytes());
     refusal.status()
+}
+
+// Tells the error sink the journal of a live study that met the limit, and then why it stopped. Where the journal is
+// cut off, nothing follows it.
+fn complain_of_limit<E: Sink>(err: &mut E, journal: &[u8], stop: &Stop) -> u8
+    ensures status { result ≡ stop_status stop.now }
+    ensures told { AreTold (journal.now ∷ stop_line stop.now ∷ [])
+        (record { bytes = E.bytes err.old; faults = E.faults err.old; calls = E.calls err.old })
+        (record { bytes = E.bytes err.new; faults = E.faults err.new; calls = E.calls err.new }) }
+{
+    let line = stop.line();
+    let Ok(()) = put_text(err, journal) else {
+        return stop.status();
+    };
+    let _ = put_text(err, line.text().as_bytes());
+    stop.status()
 }
 
 // Why words are not read.
@@ -120,24 +206,26 @@ fn answer<I: Inputs, O: Sink, E: Sink, G: Gate, L: Ledger, R: Threads + Wait + S
     };
     match obey(rt, alloc, &request, inputs, out, gate, steps) {
         Ok(()) => 0,
-        Err(refusal) => complain(err, &refusal),
+        Err(Halt::Refused(refusal)) => complain(err, &refusal),
+        Err(Halt::Overrun { journal, stop }) => complain_of_limit(err, journal.as_slice(), &stop),
     }
 }
 
 /// All that the program does: the words of the command line to its status.
 ///
 /// `run MODEL SCRIPT` runs all clones that the script makes in one world, which they share, and writes the trace text
-/// of each and then the report; `gen NUMBER` does so with the model and the script made of the number, and writes the
-/// report alone; `solo MODEL SCRIPT --clone NAME` runs one clone by itself and writes its trace text. Each text is one
-/// put, and all memory is taken before the first. The status is 0 where all is written. Otherwise the error sink is
-/// told why in one line:
+/// of each and then the report; `live MODEL SCRIPT` has the analysts of the script decide and look while that world
+/// runs, and writes their journal before the rest; `gen NUMBER` runs the model and the script made of the number, and
+/// writes the report alone; `solo MODEL SCRIPT --clone NAME` runs one clone by itself and writes its trace text. Each
+/// text is one put, and all memory is taken before the first. The status is 0 where all is written. Otherwise the error
+/// sink is told why in one line; where the limit is met in a live study, its journal is told before the line:
 ///
 /// 1. memory was refused, at any place before the first put;
 /// 2. the command line has no known form;
 /// 3. a file was not read, which comes only where the inputs had a fault or have no such file;
 /// 4. the model's text is no model;
 /// 5. the script's text is no script;
-/// 6. a decision is refused, or there is no clone of the name;
+/// 6. a decision is refused, or there is no clone of the name; in a live study the journal shows what is refused;
 /// 7. a log would grow longer than the model's limit before the horizon;
 /// 8. the output was cut off, which comes only where it had a fault.
 ///
@@ -211,7 +299,7 @@ pub fn cloner<R: Threads + Wait + Sync, I: Inputs, O: Sink, E: Sink, G: Gate, L:
     // What stays as it was, what is told, and how much is done.
     ensures kept { result ≢ 0 → result ≢ 8 →
         (O.bytes out.new ≡ O.bytes out.old) × (O.calls out.new ≡ O.calls out.old) }
-    ensures told { result ≢ 0 → IsToldFor
+    ensures told { result ≢ 0 → IsToldFor (asked_by words.now)
         (record {
           inputs = record { files = I.files inputs.old; faults = I.faults inputs.old; calls = I.calls inputs.old };
           output = record { bytes = O.bytes out.old; faults = O.faults out.old; calls = O.calls out.old };

@@ -1,14 +1,15 @@
 //! Puts the texts of a study, each in one call, once all memory was taken.
-ghost use Rattle.std.specs.Prelude.{◌≡◌, ◌≤◌, ◌∷◌, [], length, IfErr, OnOk};
+ghost use Rattle.std.specs.Prelude.{◌≡◌, ◌≤◌, ◌∷◌, [], length, IfErr, IfOk, OnOk};
 ghost use Rattle.trace_report.specs.Outputs.{report};
 ghost use Rattle.rolling_text.specs.WorldTraces.{AreShort};
 ghost use Rattle.study_run.specs.Limits.{AreWithin};
 ghost use Rattle.cloner_top.specs.Endings.{run_texts};
-ghost use Rattle.cloner_top.specs.Outsides.{AreCut, ArePut, IsNotPut};
+ghost use Rattle.cloner_top.specs.Outsides.{AreCut, ArePut, AreTold, IsNotPut};
+ghost use Rattle.cloner_top.specs.RunTexts.{IsReadyRun};
 
 use crate::refusal::Refusal;
 use net_model::Model;
-use rolling_text::{WorldTraces, prepare, put_texts};
+use rolling_text::{Texts, WorldTraces, prepare, put_texts};
 use sim_base::NoMemory;
 use sim_outer::Sink;
 use std::alloc::Global;
@@ -24,6 +25,10 @@ pub(crate) fn put_text<O: Sink>(out: &mut O, text: &[u8]) -> Result<(), Refusal>
         (record { bytes = O.bytes out.old; faults = O.faults out.old; calls = O.calls out.old })
         (record { bytes = O.bytes out.new; faults = O.faults out.new; calls = O.calls out.new }) r) }
     ensures cause { IfErr result (λ r. r ≡ Refusal.CannotWrite) }
+    ensures told { AreTold (text.now ∷ [])
+        (record { bytes = O.bytes out.old; faults = O.faults out.old; calls = O.calls out.old })
+        (record { bytes = O.bytes out.new; faults = O.faults out.new; calls = O.calls out.new }) }
+    ensures later { O.faults out.old ≤ O.faults out.new }
 {
     match out.put(text) {
         Ok(()) => Ok(()),
@@ -55,6 +60,55 @@ pub(crate) fn put_report<O: Sink>(
     }
 }
 
+// All that the texts of a run need, once all memory was taken.
+#[derive(Drop)]
+struct RunTexts<'a> {
+    traces: WorldTraces<'a>,
+    texts: Texts,
+    report: Vec<u8>,
+}
+
+// Takes all memory that the texts of a world at the horizon need.
+fn prepare_run<'a>(alloc: Global, model: &Model, world: &'a World) -> Result<RunTexts<'a>, NoMemory>
+    requires net { world.now.net ≡ model.now }
+    requires ended { world.now.front ≡ model.now.horizon }
+    requires few { length world.now.clones ≤ 256 }
+    requires within { AreWithin model.now world.now.clones }
+    requires short { AreShort world.now.clones }
+    ensures ready { IfOk result (λ run. IsReadyRun model.now world.now.clones run) }
+{
+    let traces = WorldTraces::new(alloc, world)?;
+    let texts = prepare(alloc, &traces)?;
+    let report = report_of(alloc, model, world)?;
+    Ok(RunTexts {
+        traces,
+        texts,
+        report,
+    })
+}
+
+// Puts the trace text of each clone, and then the report.
+fn put_prepared<O: Sink>(run: RunTexts, out: &mut O) -> Result<(), Refusal>
+    requires ready { IsReadyRun run.traces.net run.traces.clones run }
+    ensures ok { OnOk result (ArePut (run_texts run.entry.traces.net run.entry.traces.clones)
+        (record { bytes = O.bytes out.old; faults = O.faults out.old; calls = O.calls out.old })
+        (record { bytes = O.bytes out.new; faults = O.faults out.new; calls = O.calls out.new })) }
+    ensures err { IfErr result (λ r. IsNotPut (run_texts run.entry.traces.net run.entry.traces.clones)
+        (record { bytes = O.bytes out.old; faults = O.faults out.old; calls = O.calls out.old })
+        (record { bytes = O.bytes out.new; faults = O.faults out.new; calls = O.calls out.new }) r) }
+    ensures cause { IfErr result (λ r. r ≡ Refusal.CannotWrite) }
+{
+    let RunTexts {
+        mut traces,
+        texts,
+        report,
+    } = run;
+    match put_texts(&mut traces, texts, out) {
+        Ok(()) => put_text(out, report.as_slice()),
+        Err(_) => Err(Refusal::CannotWrite),
+    }
+}
+
 /// Puts the trace text of each clone of a world at the horizon, and then its report.
 pub(crate) fn put_run<O: Sink>(
     alloc: Global,
@@ -74,17 +128,38 @@ pub(crate) fn put_run<O: Sink>(
         (record { bytes = O.bytes out.old; faults = O.faults out.old; calls = O.calls out.old })
         (record { bytes = O.bytes out.new; faults = O.faults out.new; calls = O.calls out.new }) r) }
 {
-    let Ok(mut traces) = WorldTraces::new(alloc, world) else {
-        return Err(Refusal::OutOfMemory);
+    match prepare_run(alloc, model, world) {
+        Ok(run) => put_prepared(run, out),
+        Err(NoMemory) => Err(Refusal::OutOfMemory),
+    }
+}
+
+/// Puts this text, and then those of a run.
+pub(crate) fn put_live<O: Sink>(
+    alloc: Global,
+    model: &Model,
+    world: &World,
+    journal: &[u8],
+    out: &mut O,
+) -> Result<(), Refusal>
+    requires net { world.now.net ≡ model.now }
+    requires ended { world.now.front ≡ model.now.horizon }
+    requires few { length world.now.clones ≤ 256 }
+    requires within { AreWithin model.now world.now.clones }
+    requires short { AreShort world.now.clones }
+    ensures ok { OnOk result (ArePut (journal.now ∷ run_texts model.now world.now.clones)
+        (record { bytes = O.bytes out.old; faults = O.faults out.old; calls = O.calls out.old })
+        (record { bytes = O.bytes out.new; faults = O.faults out.new; calls = O.calls out.new })) }
+    ensures err { IfErr result (λ r. IsNotPut (journal.now ∷ run_texts model.now world.now.clones)
+        (record { bytes = O.bytes out.old; faults = O.faults out.old; calls = O.calls out.old })
+        (record { bytes = O.bytes out.new; faults = O.faults out.new; calls = O.calls out.new }) r) }
+{
+    let run = match prepare_run(alloc, model, world) {
+        Ok(run) => run,
+        Err(NoMemory) => return Err(Refusal::OutOfMemory),
     };
-    let Ok(texts) = prepare(alloc, &traces) else {
-        return Err(Refusal::OutOfMemory);
-    };
-    let Ok(report) = report_of(alloc, model, world) else {
-        return Err(Refusal::OutOfMemory);
-    };
-    match put_texts(&mut traces, texts, out) {
-        Ok(()) => put_text(out, report.as_slice()),
-        Err(_) => Err(Refusal::CannotWrite),
+    match put_text(out, journal) {
+        Ok(()) => put_prepared(run, out),
+        Err(refusal) => Err(refusal),
     }
 }

@@ -6,7 +6,8 @@ ghost use Rattle.world_core.specs.Worlds.{total_handled};
 ghost use Rattle.study_run.specs.Limits.{AreWithin};
 ghost use Rattle.study_run.specs.Accepted.{AllAccepted};
 ghost use Rattle.command_words.specs.Requests.{source_view};
-ghost use Rattle.cloner_top.specs.Endings.{MayRun, MayRunAlone, MaySimulate, StoppedFor, limit_met, run_texts};
+ghost use Rattle.cloner_top.specs.Endings.{DecidesFirst, MayRun, MayRunAlone, MaySimulate};
+ghost use Rattle.cloner_top.specs.Endings.{StoppedFor, limit_met, run_texts};
 ghost use Rattle.cloner_top.specs.Outsides.{IsFailed, IsFinished};
 ghost use Rattle.cloner_top.specs.Refusals.{Stops};
 ghost use Rattle.trace_report.specs.Outputs.{report};
@@ -27,7 +28,7 @@ use std::thread::Threads;
 use study_run::{StudyCrew, StudyFault, run_study, text_alone};
 use world_core::World;
 
-fn stop_at(model: &Model, station: u32, clone: Name) -> Stop
+pub(crate) fn stop_at(model: &Model, station: u32, clone: Name) -> Stop
     requires first { 1 ≤ station }
     requires last { station ≤ length model.now.sites }
     ensures { result ≡ limit_met model.now station clone }
@@ -60,7 +61,7 @@ fn run_world<G: Gate, L: Ledger, R: Threads + Wait + Sync>(
         steps.new ≡ steps.old + total_handled plan.now.model.value w.clones plan.now.model.value.horizon) }
     ensures err { IfErr result (λ r. (texts : List (List ℕ))
         → Stops (StoppedFor (MayRun plan.now.model.value (after plan.now.book.net plan.now.book.events).clones texts)
-        steps.old steps.new) r) }
+        steps.old steps.new []) r) }
 {
     let lists = plan.book.lists();
     let crew = StudyCrew {
@@ -188,6 +189,7 @@ pub(crate) fn write_study<O: Sink, G: Gate, L: Ledger, R: Threads + Wait + Sync>
     out: &mut O,
     steps: &mut Steps<L>,
 ) -> Result<(), Refusal>
+    requires first { DecidesFirst request.now.mode }
     requires net { plan.now.book.net ≡ plan.now.model.value }
     requires accepted { AllAccepted plan.now.book.net plan.now.book.events }
     ensures ok { OnOk result (IsFinished
@@ -205,5 +207,6 @@ pub(crate) fn write_study<O: Sink, G: Gate, L: Ledger, R: Threads + Wait + Sync>
         (Mode::All, Source::Named { .. }) => write_run(rt, alloc, gate, request, plan, out, steps),
         (Mode::All, Source::Made(_)) => write_report(rt, alloc, gate, request, plan, out, steps),
         (Mode::One(name), _) => write_alone(alloc, &name, plan, out, steps),
+        (Mode::Live, _) => unreachable!(),
     }
 }

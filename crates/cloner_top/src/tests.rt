@@ -4,6 +4,7 @@ ghost use Rattle.std.specs.Prelude.{◌≡◌, ◌<◌};
 mod branches;
 mod failures;
 mod kinds;
+mod live;
 mod many;
 mod models;
 mod refusals;

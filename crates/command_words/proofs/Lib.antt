@@ -1,3 +1,8 @@
+pub mod Bridge
+pub mod ClapRows
+pub mod ClapSteps
 pub mod Digits
+pub mod Forms
 pub mod Parse
-pub mod Rules
+pub mod Sources
+pub mod WordShapes

@@ -1,6 +1,6 @@
 -- What the parse of the command comes to.
 use Rattle.std.proofs.Common.{◌≡◌, inl, inr, ℕ, Bool, true, false, List, [], ◌∷◌}
-use Rattle.std.proofs.Common.{map, refl, ap, Some, None, option_map, codes, slice_get, cond}
+use Rattle.std.proofs.Common.{map, refl, ap, Some, None, option_map, codes, slice_get, cond, Option}
 use Rattle.std.specs.Prelude.{find, option_and_then}
 use Rattle.std.specs.Str.{bytes_eq}
 use Rattle.std.specs.Borrow.{Bor}
@@ -14,26 +14,32 @@ use Rattle.clap.specs.declared.parser.matches.ArgMatches.{ArgMatches}
 use Rattle.clap.specs.declared.parser.matches.Found.{Found}
 use Rattle.clap.proofs.OnLiterals.{clap_on_literals}
 use Rattle.command_words.specs.Application.{cloner}
-use Rattle.command_words.specs.Values.{Values, values_of, unless_fault}
+use Rattle.command_words.specs.Clap.{clap_values, unless_fault}
+use Rattle.command_words.specs.Values.{Values, positionals_of}
 
+-- clap says of the command what it finds in all words
 pub simple : is_simple cloner ≡ true
 unfolding clap_on_literals
 simple = refl
 
+-- and when it refuses them
 pub simple_and_free : is_simple_and_free cloner ≡ true
 unfolding clap_on_literals
 simple_and_free = refl
 
-pub refused : (kinds : Kinds) (e : Error) (g : Values) → HasKind kinds e → (kind_of e ≡ OutOfMemory → ⊥)
+-- clap refuses words only where they have a fault, or out of memory
+pub refused : (kinds : Kinds) (e : Error) (g : Option Values) → HasKind kinds e → (kind_of e ≡ OutOfMemory → ⊥)
     → None ≡ unless_fault kinds g
 refused [] e g (inl memory) other = absurd (other memory)
 refused [] e g (inr among) other = absurd among
 refused (k ∷ ks) e g h other = refl
 
+-- a first value behind a reference
 first_text : (xs : List (Bor (List ℕ))) → slice_get (texts xs) 0 ≡ option_map (λ s. s.now) (slice_get xs 0)
 first_text [] = refl
 first_text (x ∷ xs) = refl
 
+-- the first value of a row
 first_in : (es : List Entry) (id : List ℕ)
     → first_of id (map row_of es) ≡ option_and_then (λ a. option_map (λ s. s.now) (slice_get a.vals.items 0))
     (option_map (λ e. e.1) (find (λ e. bytes_eq e.0.now id) es))
@@ -50,24 +56,26 @@ first_in (e ∷ es) id = one (bytes_eq e.0.now id) (first_in es id)
     one true again = first_text e.1.vals.items
     one false again = again
 
+-- the value that clap gives is that of the row
 first_is : (f : Found) (id : List ℕ) → first_of id (rows_of f) ≡ first_value f id
 first_is f id = first_in f.entries.items id
 
+-- where clap refuses the words, it finds no values
 pub refused_words : (words : List (List ℕ)) (e : Error) → HasKind (fault_of cloner words) e
-    → (kind_of e ≡ OutOfMemory → ⊥) → None ≡ values_of words
-unfolding values_of
+    → (kind_of e ≡ OutOfMemory → ⊥) → None ≡ clap_values words
+unfolding clap_values
 refused_words words e h other = refused (fault_of cloner words) e _ h other
 
+-- where it takes them, it finds what it gives
 pub read_words : (words : List (List ℕ)) (m : ArgMatches) → fault_of cloner words ≡ []
     → rows_of (found_of m) ≡ matches_of cloner words
     → Some (record {
-      mode = first_value (found_of m) (codes "mode");
-      first = first_value (found_of m) (codes "first");
-      second = first_value (found_of m) (codes "second");
       workers = first_value (found_of m) (codes "workers");
       clone = first_value (found_of m) (codes "clone");
-    }) ≡ values_of words
-unfolding values_of
+      positionals = positionals_of (first_value (found_of m) (codes "mode"))
+          (first_value (found_of m) (codes "first")) (first_value (found_of m) (codes "second"));
+    }) ≡ clap_values words
+unfolding clap_values
 read_words words m none rows =
     rw (
       none,

@@ -1,5 +1,9 @@
 pub mod Application
+pub mod Clap
+pub mod Examples
 pub mod Numbers
 pub mod Requests
+pub mod Rules
 pub mod Usage
 pub mod Values
+pub mod Views

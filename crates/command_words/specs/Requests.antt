@@ -1,15 +1,16 @@
 -- What the words of a command line ask for.
-use Rattle.std.specs.Prelude.{◌&&◌, ℕ, Bool, true, false, codes, if◌then◌else◌, List}
+use Rattle.std.specs.Prelude.{◌≡◌, ◌&&◌, ℕ, Bool, true, false, codes, if◌then◌else◌, List}
 use Rattle.std.specs.Prelude.{[], ◌∷◌, Option, Some, None, option_map, option_and_then}
 use Rattle.std.specs.Str.{bytes_eq}
 use Rattle.sim_base.specs.Names.{is_name}
 use Rattle.command_words.specs.declared.request.Mode.{Mode}
-use Rattle.command_words.specs.declared.request.Mode.TheVariants.{All, One}
+use Rattle.command_words.specs.declared.request.Mode.TheVariants.{All, One, Live}
 use Rattle.command_words.specs.declared.request.Request.{Request}
 use Rattle.command_words.specs.declared.request.Source.{Source as Texts}
 use Rattle.command_words.specs.declared.request.Source.TheVariants.{Named, Made}
 use Rattle.command_words.specs.Numbers.{number_to}
-use Rattle.command_words.specs.Values.{Values, values_of}
+use Rattle.command_words.specs.Rules.{values}
+use Rattle.command_words.specs.Values.{Values}
 
 -- where the model and the script come from: two files by their names, or a number that they are made of
 pub data Source : Type 0 where
@@ -43,51 +44,58 @@ abbrev pub workers_of : Option (List ℕ) → Option ℕ
 workers_of None = Some 1
 workers_of (Some word) = number_to 16 word
 
--- all clones of these texts
-abbrev pub all_of : Source → ℕ → RequestView
-all_of source workers = record { asked = record { mode = All; source = source }; workers = workers }
+-- a study of these texts
+abbrev pub study_of : Mode → Source → ℕ → RequestView
+study_of mode source workers = record { asked = record { mode = mode; source = source }; workers = workers }
 
--- `run MODEL SCRIPT [--workers N]`
-abbrev pub run_form : List ℕ → List ℕ → Option (List ℕ) → Option (List ℕ) → Option RequestView
-run_form model script workers (Some clone) = None
-run_form model script workers None =
-    if is_text model && is_text script then option_map (all_of (named model script)) (workers_of workers) else None
+-- `run MODEL SCRIPT [--workers N]` and `live MODEL SCRIPT [--workers N]`
+abbrev pub study_form : Mode → List ℕ → List ℕ → Option (List ℕ) → Option (List ℕ) → Option RequestView
+study_form mode model script workers (Some clone) = None
+study_form mode model script workers None =
+    if is_text model && is_text script
+    then option_map (study_of mode (named model script)) (workers_of workers)
+    else None
 
 -- `solo MODEL SCRIPT --clone NAME`
 abbrev pub solo_form : List ℕ → List ℕ → Option (List ℕ) → Option (List ℕ) → Option RequestView
 solo_form model script None (Some clone) =
     if (is_text model && is_text script) && is_name clone
-    then Some (record { asked = record { mode = One clone; source = named model script }; workers = 1 })
+    then Some (study_of (One clone) (named model script) 1)
     else None
 solo_form model script _ _ = None
 
 -- `gen NUMBER [--workers N]`
 abbrev pub gen_form : List ℕ → Option (List ℕ) → Option (List ℕ) → Option RequestView
 gen_form number workers (Some clone) = None
-gen_form number workers None = option_and_then (λ n. option_map (all_of (made n)) (workers_of workers))
+gen_form number workers None = option_and_then (λ n. option_map (study_of All (made n)) (workers_of workers))
     (number_to 999999 number)
 
 -- the modes of two positionals more; a later mode of two names is one `else if` more
 abbrev pub of_two : List ℕ → List ℕ → List ℕ → Option (List ℕ) → Option (List ℕ) → Option RequestView
 of_two mode model script workers clone =
-    if bytes_eq mode (codes "run") then run_form model script workers clone
+    if bytes_eq mode (codes "run") then study_form All model script workers clone
     else if bytes_eq mode (codes "solo") then solo_form model script workers clone
+    else if bytes_eq mode (codes "live") then study_form Live model script workers clone
     else None
 
 -- the modes of one positional more
 abbrev pub of_one : List ℕ → List ℕ → Option (List ℕ) → Option (List ℕ) → Option RequestView
 of_one mode number workers clone = if bytes_eq mode (codes "gen") then gen_form number workers clone else None
 
--- by how many positionals follow the mode
-abbrev pub by_count : Option (List ℕ) → Option (List ℕ) → Option (List ℕ) → Option (List ℕ) → Option (List ℕ)
-    → Option RequestView
-by_count (Some mode) (Some first) (Some second) workers clone = of_two mode first second workers clone
-by_count (Some mode) (Some first) None workers clone = of_one mode first workers clone
-by_count _ _ _ workers clone = None
+-- the first positional is the mode, and the mode says how many follow
+abbrev pub by_positionals : List (List ℕ) → Option (List ℕ) → Option (List ℕ) → Option RequestView
+by_positionals (mode ∷ model ∷ script ∷ []) workers clone = of_two mode model script workers clone
+by_positionals (mode ∷ number ∷ []) workers clone = of_one mode number workers clone
+by_positionals _ workers clone = None
 
 abbrev pub form_of : Values → Option RequestView
-form_of v = by_count v.mode v.first v.second v.workers v.clone
+form_of v = by_positionals v.positionals v.workers v.clone
 
 -- what the words ask for, None where the command line has no known form
 abbrev pub form : List (List ℕ) → Option RequestView
-form words = option_and_then form_of (values_of words)
+form words = option_and_then form_of (values words)
+
+-- where analysts decide, the texts are two files by their names
+abbrev pub LiveIsNamed : Type 0
+LiveIsNamed = (words : List (List ℕ)) (r : RequestView) → form words ≡ Some r → r.asked.mode ≡ Live
+    → (model : List ℕ) × (script : List ℕ) × (r.asked.source ≡ named model script)

@@ -1,7 +1,12 @@
 //! The values that a command line gives.
-ghost use Rattle.std.specs.Prelude.{◌≡◌, ◌↔◌, IfOk, IsTrue, option_map};
+ghost use Rattle.std.specs.Prelude.{◌≡◌, ◌↔◌, IfOk, IsTrue, true, option_map, option_and_then};
+ghost use Rattle.std.specs.List.{list_all};
+ghost use Rattle.std.specs.Str.{is_utf8};
 ghost use Rattle.clap.specs.Words.{kind_of};
-ghost use Rattle.command_words.specs.Values.{values_of, values_view};
+ghost use Rattle.command_words.specs.Clap.{up_to_three};
+ghost use Rattle.command_words.specs.Requests.{form, form_of};
+ghost use Rattle.command_words.specs.Rules.{values};
+ghost use Rattle.command_words.specs.Views.{values_view};
 
 use crate::command::command;
 use clap::Error;
@@ -25,13 +30,35 @@ fn is_memory(error: &Error) -> bool
     error.kind() == ErrorKind::OutOfMemory
 }
 
-/// The values that the words give, None where they break a rule of options and positionals.
+// A word is a text: its bytes are UTF-8.
+fn note_text(word: &Word)
+    ensures text { is_utf8 word.now ≡ true }
+{
+    let _bytes = word.text().as_bytes();
+}
+
+// All words are. Nothing is done; what is known of each is said of all.
+fn note_texts(words: &[Word])
+    ensures texts { list_all is_utf8 words.now ≡ true }
+{
+    for word in words {
+        note_text(word);
+    }
+}
+
+/// The values that the words give, None where they break a rule or there are more than three positionals.
 pub(crate) fn given_words<'a>(
     alloc: Global,
     words: &'a [Word],
 ) -> Result<Option<Given<'a>>, AllocError>
-    ensures value { IfOk result (λ g. option_map values_view g ≡ values_of words.entry.now) }
+    // the library finds the values of the rules
+    ensures value { IfOk result (λ g. option_map values_view g ≡ option_and_then up_to_three
+        (values words.entry.now)) }
+
+    // they ask for what the words ask for
+    ensures asks { IfOk result (λ g. option_and_then (λ v. form_of (values_view v)) g ≡ form words.entry.now) }
 {
+    note_texts(words);
     let matches = match command(alloc)?.try_get_matches_from(words) {
         Ok(matches) => matches,
         Err(error) => {

@@ -1,10 +1,11 @@
 //! The words of the command line, read with `clap`.
 //!
-//! A planner says which study is to be run in one of three ways; options stand anywhere before a word `--`:
+//! A planner says which study is to be run in one of four ways; options stand anywhere before a word `--`:
 //!
 //! ```text
 //! cloner run MODEL SCRIPT [--workers N]     all clones of a script
 //! cloner solo MODEL SCRIPT --clone NAME     one clone by itself
+//! cloner live MODEL SCRIPT [--workers N]    all clones of a script, while analysts decide
 //! cloner gen NUMBER [--workers N]           a made workload, all its clones
 //! ```
 //!
@@ -22,7 +23,9 @@
 #![tactic(auto)]
 
 mod command;
+pub mod examples;
 mod given;
+pub mod laws;
 mod number;
 pub mod reading;
 pub mod request;

@@ -1,8 +1,8 @@
 //! The reading of a command line.
 ghost use Rattle.std.specs.Prelude.{◌≡◌, ◌⊎◌, ◌≤◌, IfOk, IfSome, None, Err, option_map};
 ghost use Rattle.command_words.specs.Requests.{form, form_of, is_text as is_text_of, of_one, of_two};
-ghost use Rattle.command_words.specs.Requests.{gen_form, run_form, solo_form, request_view, workers_of as workers_in};
-ghost use Rattle.command_words.specs.Values.{values_view};
+ghost use Rattle.command_words.specs.Requests.{gen_form, solo_form, study_form, request_view, workers_of as workers_in};
+ghost use Rattle.command_words.specs.Views.{values_view};
 
 use crate::given::{Given, given_words};
 use crate::number::number_to;
@@ -31,14 +31,15 @@ fn workers_of(word: Option<&str>) -> Option<u32>
     }
 }
 
-// `run MODEL SCRIPT [--workers N]`
-fn run_request<'a>(
+// `run MODEL SCRIPT [--workers N]` and `live MODEL SCRIPT [--workers N]`
+fn study_request<'a>(
+    mode: Mode,
     model: &'a str,
     script: &'a str,
     workers: Option<&str>,
     clone: Option<&str>,
 ) -> Option<Request<'a>>
-    ensures value { option_map request_view result ≡ run_form model.entry.now script.entry.now
+    ensures value { option_map request_view result ≡ study_form mode model.entry.now script.entry.now
         (option_map (λ s. s.now) workers.entry) (option_map (λ s. s.now) clone.entry) }
 {
     if clone.is_some() || !is_text(model) || !is_text(script) {
@@ -46,7 +47,7 @@ fn run_request<'a>(
     }
     let workers = workers_of(workers)?;
     Some(Request {
-        mode: Mode::All,
+        mode,
         source: Source::Named { model, script },
         workers,
     })
@@ -104,9 +105,11 @@ fn request_of_two<'a>(
         (option_map (λ s. s.now) workers.entry) (option_map (λ s. s.now) clone.entry) }
 {
     if mode == "run" {
-        run_request(model, script, workers, clone)
+        study_request(Mode::All, model, script, workers, clone)
     } else if mode == "solo" {
         solo_request(model, script, workers, clone)
+    } else if mode == "live" {
+        study_request(Mode::Live, model, script, workers, clone)
     } else {
         None
     }
@@ -139,8 +142,8 @@ fn request_of<'a>(given: &Given<'a>) -> Option<Request<'a>>
     }
 }
 
-/// What the words ask for: `run MODEL SCRIPT [--workers N]`, `solo MODEL SCRIPT --clone NAME` or
-/// `gen NUMBER [--workers N]`. Words of no other form give `Usage`; reading takes memory, and may be refused it.
+/// What the words ask for: `run MODEL SCRIPT [--workers N]`, `solo MODEL SCRIPT --clone NAME`,
+/// `live MODEL SCRIPT [--workers N]` or `gen NUMBER [--workers N]`. Words of no other form give `Usage`; reading takes memory, and may be refused it.
 pub fn read_words<'a>(alloc: Global, words: &'a [Word]) -> Result<Request<'a>, WordsFault>
     // what is given is what the words ask for
     ensures value { IfOk result (λ r. form words.entry.now ≡ Some (request_view r)) }

@@ -17,6 +17,8 @@ pub enum Mode {
     All,
     /// The one of this name, by itself.
     One(Name),
+    /// All of them, while analysts decide.
+    Live,
 }
 
 /// Where the model and the script come from.

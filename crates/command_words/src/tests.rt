@@ -20,6 +20,7 @@ fn words_of(alloc: Global, line: &str) -> Result<Vec<Word>, NoMemory> {
 enum Asks {
     Run(u32),
     Solo,
+    Live(u32),
     Gen(u32, u32),
     Usage,
     Memory,
@@ -31,6 +32,7 @@ fn asked_by(alloc: Global, line: &str) -> Result<Asks, NoMemory> {
         Ok(request) => match (request.mode, request.source) {
             (Mode::All, Source::Named { .. }) => Asks::Run(request.workers),
             (Mode::One(_), _) => Asks::Solo,
+            (Mode::Live, _) => Asks::Live(request.workers),
             (Mode::All, Source::Made(number)) => Asks::Gen(number, request.workers),
         },
         Err(WordsFault::Usage) => Asks::Usage,
@@ -76,6 +78,11 @@ const ROWS: &[Row] = &[
         asks: Asks::Solo,
     },
     Row {
+        shows: "live",
+        words: "live m s --workers 4",
+        asks: Asks::Live(4),
+    },
+    Row {
         shows: "gen",
         words: "gen 999999 --workers=2",
         asks: Asks::Gen(999_999, 2),
@@ -118,6 +125,11 @@ const ROWS: &[Row] = &[
     Row {
         shows: "solo has no workers",
         words: "solo m s --clone fast --workers 2",
+        asks: Asks::Usage,
+    },
+    Row {
+        shows: "live has no clone",
+        words: "live m s --clone x",
         asks: Asks::Usage,
     },
     Row {

@@ -6,7 +6,7 @@ use std::process::Abort;
 use std::test::Fail;
 
 const USAGE: &str =
-    "usage: cloner run MODEL SCRIPT [--workers N], solo MODEL SCRIPT --clone NAME, gen NUMBER [--workers N]\n";
+    "usage: cloner run MODEL SCRIPT [--workers N], solo MODEL SCRIPT --clone NAME, live MODEL SCRIPT [--workers N], gen NUMBER [--workers N]\n";
 
 const NO_FORM: &[&[&str]] = &[
     &[],

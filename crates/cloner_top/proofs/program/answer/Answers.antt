@@ -1,7 +1,7 @@
 use Rattle.std.proofs.Common.{ap, refl, Err, option_map}
 use Rattle.command_words.specs.Requests.{RequestView, request_view}
 use Rattle.cloner_top.specs.Answers.{written}
-use Rattle.cloner_top.proofs.Endings.{unobeyed}
+use Rattle.cloner_top.proofs.Endings.{overrun_is, unobeyed}
 use Rattle.cloner_top.proofs.Obeying.{no_fetches, words_answer}
 use Rattle.cloner_top.proofs.program.answer.Goals as goal
 
@@ -20,8 +20,17 @@ returns-in-Ok-obey-clause-answer g c =
     (ap (option_map (λ (r : RequestView). r.asked)) c.in-Ok.ensures.value) c.in-Ok-obey.ensures.ok
     c.in-Ok-obey.ensures.fetched refl
 
-pub returns-in-Err-obey-clause-answer : goal.returns-in-Err-obey-clause-answer
-returns-in-Err-obey-clause-answer g c =
+pub returns-in-Err-Refused-clause-answer : goal.returns-in-Err-Refused-clause-answer
+returns-in-Err-Refused-clause-answer g c =
     unobeyed _ _ _ (request_view c.in-Ok.request).asked _ _
-    (ap (option_map (λ (r : RequestView). r.asked)) c.in-Ok.ensures.value) c.in-Err-obey.ensures.err
-    c.complain-in-Err-obey.ensures.told c.complain-in-Err-obey.ensures.status
+    (ap (option_map (λ (r : RequestView). r.asked)) c.in-Ok.ensures.value)
+    (rw c.in-Err-Refused.field-0-is at c.in-Err-Refused.ensures.err)
+    c.complain-in-Err-Refused.ensures.told c.complain-in-Err-Refused.ensures.status
+
+pub returns-in-Err-Overrun-clause-answer : goal.returns-in-Err-Overrun-clause-answer
+returns-in-Err-Overrun-clause-answer g c =
+    let halts = rw c.in-Err-Overrun.field-0-is at c.in-Err-Overrun.ensures.err in
+    overrun_is _ _ _ (request_view c.in-Ok.request).asked _ _ _
+    (ap (option_map (λ (r : RequestView). r.asked)) c.in-Ok.ensures.value) halts.0 halts.1
+    (rw c.as_slice.ensures.value at c.complain_of_limit.ensures.told)
+    c.complain_of_limit.ensures.status

@@ -7,7 +7,7 @@ use Rattle.cloner_top.proofs.running.write_alone.Goals as goal
 
 pub returns-in_default-clause-err : goal.returns-in_default-clause-err
 returns-in_default-clause-err g c = (
-  at_once (missing (ap (place_of c.args.name.now) (sym c.lists-lists.ensures.value)
+  at_once refl (missing (ap (place_of c.args.name.now) (sym c.lists-lists.ensures.value)
       ∙ sym c.in_default.ensures.value)) refl,
   refl,
 )

@@ -1,9 +1,8 @@
 use Rattle.std.proofs.Common.{◌≤◌, arith}
 use Rattle.command_words.specs.Requests.{source_view}
 use Rattle.cloner_top.specs.Texts.{all_fetches}
-use Rattle.cloner_top.proofs.Endings.{both_texts, fetched_twice, no_decisions, no_model, no_script}
-use Rattle.cloner_top.proofs.Runs.{on_err}
-use Rattle.cloner_top.proofs.plan.plan_study.Goals as goal
+use Rattle.cloner_top.proofs.Endings.{both_texts, fetched_twice, no_model, no_script}
+use Rattle.cloner_top.proofs.plan.read_study.Goals as goal
 
 pub returns-in-Err-model_of-clause-err : goal.returns-in-Err-model_of-clause-err
 returns-in-Err-model_of-clause-err g c =
@@ -32,12 +31,13 @@ returns-in-Err-script_of-clause-few g c =
       (most, fetched_twice _ _ _ _ c.fetch_text.ensures.counted c.fetch_text-2.ensures.counted),
     )
 
-pub returns-clause-err : goal.returns-clause-err
-returns-clause-err g c =
-    on_err _ (λ r. no_decisions _ _ _ _ _ _ _ r
-    (both_texts _ _ _ _ _ c.in-Ok.ensures.ok c.fetch_text.ensures.same c.in-Ok-fetch_text.ensures.ok)
-    (rw c.as_slice.ensures.value at c.in-Ok-model_of.ensures.ok)
-    (rw c.as_slice-2.ensures.value at c.in-Ok-script_of.ensures.ok)) c.decided_plan.ensures.err
+pub returns-in-Ok-new-clause-few : goal.returns-in-Ok-new-clause-few
+returns-in-Ok-new-clause-few g c =
+    let most : all_fetches (source_view c.args.source.now) ≤ all_fetches (source_view c.args.source.now) =
+    omega arith in (
+      all_fetches (source_view c.args.source.now),
+      (most, fetched_twice _ _ _ _ c.fetch_text.ensures.counted c.fetch_text-2.ensures.counted),
+    )
 
 pub returns-clause-few : goal.returns-clause-few
 returns-clause-few g c =

@@ -1,0 +1,154 @@
+-- What a live study leaves, for its texts.
+use Rattle.std.proofs.Common.{◌≡◌, ◌≤◌, ℕ, ◌+◌, refl, sym, ap, ap₂, subst, ◌∙◌, arith, List, [], ◌∷◌, length}
+use Rattle.std.proofs.Common.{Result, Ok, Err, IfOk, IfErr}
+use Rattle.sim_base.specs.Clones.{clone_at}
+use Rattle.net_model.specs.Net.{Net}
+use Rattle.decision_script.specs.Stating.{ScriptView}
+use Rattle.decision_book.specs.Journal.{after}
+use Rattle.decision_book.specs.Plans.{ArePlanned}
+use Rattle.world_core.specs.Overs.{NoneBeyond}
+use Rattle.world_core.specs.Worlds.{WorldView, total_handled}
+use Rattle.study_run.specs.declared.fault.StudyFault.{StudyFault}
+use Rattle.study_run.specs.declared.fault.StudyFault.TheVariants.{NoMemory, LimitMet}
+use Rattle.study_run.specs.Limits.{AreWithin}
+use Rattle.study_run.specs.Work.{most_handled}
+use Rattle.study_run.proofs.Meeting.{none_within}
+use Rattle.rolling_text.specs.WorldTraces.{AreShort}
+use Rattle.journal_text.specs.JournalText.{journal_text}
+use Rattle.live_study.specs.Lives.{IsFinished, IsStopped, kept}
+use Rattle.live_study.specs.Looks.{AreLooks}
+use Rattle.live_study.specs.declared.run.LiveRun.{LiveRun}
+use Rattle.cloner_top.specs.declared.halt.Halt.{Halt}
+use Rattle.cloner_top.specs.declared.halt.Halt.TheVariants as halt
+use Rattle.cloner_top.specs.declared.refusal.Refusal.{Refusal}
+use Rattle.cloner_top.specs.declared.refusal.Refusal.TheVariants.{OutOfMemory, Usage, NoModel}
+use Rattle.cloner_top.specs.declared.refusal.Refusal.TheVariants.{NoScript, Stopped, CannotWrite}
+use Rattle.cloner_top.specs.Endings.{MayLive, StoppedFor, at_limit, finished, limit_met, over, run_texts, written}
+use Rattle.cloner_top.specs.LiveRuns.{HaltsFor, HasRun, IsLiveWorld, IsOverrun, IsPlaced, StopsLive}
+use Rattle.cloner_top.specs.Outsides.{ArePut, IsFailed, IsFinished as IsDone, IsHalted, IsNotPut, SinkView}
+use Rattle.cloner_top.proofs.Endings.{all_put, not_put}
+use Rattle.cloner_top.proofs.Runs.{short_planned}
+
+-- what holds of a result that is there
+of_ok : {T E : Type 0} (P : T → Type 0) (r : Result T E) (t : T) → r ≡ Ok t → IfOk r P → P t
+of_ok {T} {E} P r t is h = subst (λ (q : Result T E). IfOk q P) is h
+
+of_err : {T E : Type 0} (P : E → Type 0) (r : Result T E) (e : E) → r ≡ Err e → IfErr r P → P e
+of_err {T} {E} P r e is h = subst (λ (q : Result T E). IfErr q P) is h
+
+module _ (net : Net) (s : ScriptView) (old_steps new_steps : ℕ) (live : LiveRun) (text : List ℕ)
+    (ran : HasRun net s old_steps new_steps live text) where
+  -- the station and the clone of a limit are there
+  pub placed : (told : Net) → told ≡ net → IfErr live.run (λ e. IsPlaced told live.book.events e)
+  placed told same = subst (λ (n : Net). IfErr live.run (λ e. IsPlaced n live.book.events e)) (sym same)
+      (on_each live.run ran.stopped)
+    where
+      one : (e : StudyFault) → IsStopped net live.book e → IsPlaced net live.book.events e
+      one NoMemory h = tt
+      one (LimitMet station who) h = (h.first.low, h.first.high, h.first.clone)
+
+      on_each : {T : Type 0} (r : Result T StudyFault) → IfErr r (λ e. IsStopped net live.book e)
+          → IfErr r (λ e. IsPlaced net live.book.events e)
+      on_each (Ok t) h = tt
+      on_each (Err e) h = one e h
+
+  -- the world at the horizon, with the text
+  module _ (w : WorldView) (is : live.run ≡ Ok w) where
+    ends : IsFinished net live.book w
+    ends = of_ok (IsFinished net live.book) live.run w is ran.finished
+
+    clones_are : w.clones ≡ (after net live.book.events).clones
+    clones_are = ap (λ (v : WorldView). v.clones) ends.world_is
+
+    net_is : w.net ≡ net
+    net_is = ap (λ (v : WorldView). v.net) ends.world_is
+
+    front_is : w.front ≡ net.horizon
+    front_is = ap (λ (v : WorldView). v.front) ends.world_is
+
+    pub live_world : (t : List ℕ) → t ≡ text → length w.clones ≤ 256 → NoneBeyond w.net w.clones w.front
+        → ArePlanned live.book.net (after live.book.net live.book.events).clones
+        → IsLiveWorld net s old_steps new_steps w t
+    live_world t same few none planned =
+        let within = none_within net w.clones
+        (subst (λ f. NoneBeyond net w.clones f) front_is
+        (subst (λ (n : Net). NoneBeyond n w.clones w.front) net_is none)) in
+        let all : ArePlanned net (after net live.book.events).clones =
+        subst (λ (n : Net). ArePlanned n (after n live.book.events).clones) ran.journal.net_is planned in
+        record {
+          net_is = net_is;
+          ended = front_is;
+          few = few;
+          within = within;
+          short = subst AreShort (sym clones_are) (short_planned net (after net live.book.events).clones all);
+          may = subst (λ x. MayLive net s (written (x ∷ run_texts net w.clones)
+              (total_handled net w.clones net.horizon))) (sym (same ∙ ran.text_is))
+              (subst (λ cs. MayLive net s (written
+              (journal_text s.analysts live.book.events (kept live.looks.items) ∷ run_texts net cs)
+              (total_handled net cs net.horizon))) (sym clones_are)
+              (finished live.book (kept live.looks.items) ran.journal ends.last (of_ok (λ v. AreLooks net s live.book.events (kept live.looks.items)) live.run w is ran.looks)
+              (subst (λ cs. AreWithin net cs) clones_are within)));
+          steps = of_ok (λ (v : WorldView). new_steps ≡ old_steps + total_handled net v.clones net.horizon) live.run w is
+              ran.steps;
+        }
+
+  -- the same of what is handed on
+  pub live_ok : {X : Type 0} (world : X → WorldView) (told : X → List ℕ) (r : Result X Halt)
+      → IfOk r (λ x. (live.run ≡ Ok (world x)) × (told x ≡ text)) → IfOk r (λ x. length (world x).clones ≤ 256)
+      → IfOk r (λ x. NoneBeyond (world x).net (world x).clones (world x).front)
+      → IfOk r (λ x. ArePlanned live.book.net (after live.book.net live.book.events).clones)
+      → IfOk r (λ x. IsLiveWorld net s old_steps new_steps (world x) (told x))
+  live_ok world told (Ok x) is few none planned = live_world (world x) is.0 (told x) is.1 few none planned
+  live_ok world told (Err h) is few none planned = tt
+
+  -- why there is none
+  pub live_stops : (told : Net) → told ≡ net → (h : Halt)
+      → ((e : StudyFault) × ((live.run ≡ Err e) × HaltsFor told live.book.events text e h))
+      → StopsLive net s old_steps new_steps h
+  live_stops told same h why =
+      by_fault why.0 h (of_err (IsStopped net live.book) live.run why.0 why.1.0 ran.stopped)
+      (of_err (λ e. new_steps ≡ old_steps) live.run why.0 why.1.0 ran.idle)
+      (subst (λ (n : Net). HaltsFor n live.book.events text why.0 h) same why.1.1)
+    where
+      told_limit : (station who : ℕ) (h : Halt) → IsStopped net live.book (LimitMet station who)
+          → new_steps ≡ old_steps → IsOverrun text (limit_met net station (clone_at (after net live.book.events).clones who).name) h → StopsLive net s old_steps new_steps h
+      told_limit station who (halt.Refused refusal) stopped idle is = absurd is
+      told_limit station who (halt.Overrun journal stop) stopped idle is =
+          subst (λ x. StoppedFor (MayLive net s) old_steps new_steps (x ∷ []) stop) (sym (is.0 ∙ ran.text_is))
+          (subst (λ x. StoppedFor (MayLive net s) old_steps new_steps
+          (journal_text s.analysts live.book.events (kept live.looks.items) ∷ []) x) (sym is.1)
+          (at_limit (most_handled net (length (after net live.book.events).clones))
+          (over live.book (kept live.looks.items) station who ran.journal ran.made stopped) (omega (arith, idle))))
+
+      by_fault : (e : StudyFault) (h : Halt) → IsStopped net live.book e → new_steps ≡ old_steps
+          → HaltsFor net live.book.events text e h → StopsLive net s old_steps new_steps h
+      by_fault NoMemory h stopped idle is = subst (StopsLive net s old_steps new_steps) (sym is) tt
+      by_fault (LimitMet station who) h stopped idle is = told_limit station who h stopped idle is
+
+-- a live study without texts is not written
+pub stops_halted : (net : Net) (s : ScriptView) (old_steps new_steps : ℕ) (out : SinkView) (h : Halt)
+    → StopsLive net s old_steps new_steps h → IsHalted (MayLive net s) old_steps new_steps out out h
+stops_halted net s old_steps new_steps out (halt.Overrun journal stop) h = (h, refl)
+stops_halted net s old_steps new_steps out (halt.Refused OutOfMemory) h = refl
+stops_halted net s old_steps new_steps out (halt.Refused Usage) h = absurd h
+stops_halted net s old_steps new_steps out (halt.Refused NoModel) h = absurd h
+stops_halted net s old_steps new_steps out (halt.Refused NoScript) h = absurd h
+stops_halted net s old_steps new_steps out (halt.Refused (Stopped stop)) h = absurd h
+stops_halted net s old_steps new_steps out (halt.Refused CannotWrite) h = absurd h
+
+-- the texts of a live study were put, or not
+module _ (net told : Net) (s : ScriptView) (old_steps new_steps : ℕ) (w : WorldView) (text put : List ℕ)
+    (is : IsLiveWorld net s old_steps new_steps w text) (same_net : told ≡ net) (same_text : put ≡ text)
+    (old new : SinkView) where
+  texts_same : put ∷ run_texts told w.clones ≡ text ∷ run_texts net w.clones
+  texts_same = ap₂ (λ t (n : Net). t ∷ run_texts n w.clones) same_text same_net
+
+  pub live_finished : ArePut (put ∷ run_texts told w.clones) old new
+      → IsDone (MayLive net s) old_steps new_steps old new
+  live_finished are = all_put (MayLive net s) old_steps new_steps (total_handled net w.clones net.horizon)
+      (text ∷ run_texts net w.clones) is.may is.steps old new (subst (λ t. ArePut t old new) texts_same are)
+
+  pub live_unfinished : (r : Refusal) → IsNotPut (put ∷ run_texts told w.clones) old new r
+      → IsFailed (MayLive net s) old_steps new_steps old new r
+  live_unfinished r are = not_put (MayLive net s) old_steps new_steps (total_handled net w.clones net.horizon)
+      (text ∷ run_texts net w.clones) is.may is.steps old new r (subst (λ t. IsNotPut t old new r) texts_same are)

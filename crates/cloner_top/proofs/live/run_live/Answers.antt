@@ -1,0 +1,12 @@
+use Rattle.cloner_top.proofs.LiveRuns.{live_ok, live_stops}
+use Rattle.cloner_top.proofs.Runs.{on_err}
+use Rattle.cloner_top.proofs.live.run_live.Goals as goal
+
+pub returns-in-Ok-clause-ok : goal.returns-in-Ok-clause-ok
+returns-in-Ok-clause-ok g c =
+    live_ok _ _ _ _ _ _ c.in-Ok.ensures.ran _ _ _ c.ended.ensures.ok c.ended.ensures.few c.ended.ensures.within
+    c.ended.ensures.planned
+
+pub returns-in-Ok-clause-err : goal.returns-in-Ok-clause-err
+returns-in-Ok-clause-err g c =
+    on_err _ (live_stops _ _ _ _ _ _ c.in-Ok.ensures.ran _ c.deref.ensures) c.ended.ensures.err

@@ -1,0 +1,67 @@
+-- What a live study leaves, for its texts.
+use Rattle.std.specs.Prelude.{◌≡◌, ℕ, ◌+◌, ◌<◌, ◌≤◌, List, [], ◌∷◌, length, IfOk, IfErr}
+use Rattle.sim_base.specs.Clones.{clone_at}
+use Rattle.net_model.specs.Net.{Net}
+use Rattle.decision_script.specs.Stating.{ScriptView}
+use Rattle.decision_book.specs.Journal.{Event, after}
+use Rattle.world_core.specs.Worlds.{WorldView, total_handled}
+use Rattle.study_run.specs.Limits.{AreWithin}
+use Rattle.study_run.specs.declared.fault.StudyFault.{StudyFault}
+use Rattle.study_run.specs.declared.fault.StudyFault.TheVariants.{NoMemory, LimitMet}
+use Rattle.rolling_text.specs.WorldTraces.{AreShort}
+use Rattle.journal_text.specs.JournalText.{journal_text}
+use Rattle.live_study.specs.Lives.{IsFinished, IsStopped, kept}
+use Rattle.live_study.specs.Looks.{AreLooks, HasMadeLooks}
+use Rattle.live_study.specs.Scripts.{IsJournalOf}
+use Rattle.live_study.specs.declared.run.LiveRun.{LiveRun}
+use Rattle.cloner_top.specs.declared.halt.Halt.{Halt}
+use Rattle.cloner_top.specs.declared.halt.Halt.TheVariants.{Refused, Overrun}
+use Rattle.cloner_top.specs.declared.refusal.Refusal.TheVariants.{OutOfMemory}
+use Rattle.cloner_top.specs.declared.stop.Stop.{Stop}
+use Rattle.cloner_top.specs.Endings.{MayLive, StoppedFor, limit_met, run_texts, written}
+
+-- a live study of a script was run, and this is the text of its journal
+pub record HasRun (net : Net) (s : ScriptView) (old_steps new_steps : ℕ) (live : LiveRun) (text : List ℕ) : Type 0 where
+  pub journal : IsJournalOf net s live.book
+  pub made : HasMadeLooks s (kept live.looks.items)
+  pub looks : IfOk live.run (λ w. AreLooks net s live.book.events (kept live.looks.items))
+  pub finished : IfOk live.run (λ w. IsFinished net live.book w)
+  pub stopped : IfErr live.run (λ e. IsStopped net live.book e)
+  pub steps : IfOk live.run (λ w. new_steps ≡ old_steps + total_handled net w.clones net.horizon)
+  pub idle : IfErr live.run (λ e. new_steps ≡ old_steps)
+  pub text_is : text ≡ journal_text s.analysts live.book.events (kept live.looks.items)
+
+-- the station and the clone of a limit are there
+abbrev pub IsPlaced : Net → List Event → StudyFault → Type 0
+IsPlaced net events NoMemory = Unit {0}
+IsPlaced net events (LimitMet station who) =
+    (1 ≤ station) × (station ≤ length net.sites) × (who < length (after net events).clones)
+
+-- it halts with this text and this stop
+abbrev pub IsOverrun : List ℕ → Stop → Halt → Type 0
+IsOverrun text stop (Refused refusal) = ⊥
+IsOverrun text stop (Overrun journal is) = (journal.items ≡ text) × (is ≡ stop)
+
+-- how it halts where the run did
+abbrev pub HaltsFor : Net → List Event → List ℕ → StudyFault → Halt → Type 0
+HaltsFor net events text NoMemory halt = halt ≡ Refused OutOfMemory
+HaltsFor net events text (LimitMet station who) halt =
+    IsOverrun text (limit_met net station (clone_at (after net events).clones who).name) halt
+
+-- the world of a live study at the horizon, and the text of its journal
+pub record IsLiveWorld (net : Net) (s : ScriptView) (old_steps new_steps : ℕ) (world : WorldView) (text : List ℕ) :
+    Type 0 where
+  pub net_is : world.net ≡ net
+  pub ended : world.front ≡ net.horizon
+  pub few : length world.clones ≤ 256
+  pub within : AreWithin net world.clones
+  pub short : AreShort world.clones
+  pub may : MayLive net s (written (text ∷ run_texts net world.clones) (total_handled net world.clones net.horizon))
+  pub steps : new_steps ≡ old_steps + total_handled net world.clones net.horizon
+
+-- why there is none: out of memory needs no cause; else the limit is met, and the journal is told
+abbrev pub StopsLive : Net → ScriptView → ℕ → ℕ → Halt → Type 0
+StopsLive net s old_steps new_steps (Refused OutOfMemory) = Unit {0}
+StopsLive net s old_steps new_steps (Refused refusal) = ⊥
+StopsLive net s old_steps new_steps (Overrun journal stop) =
+    StoppedFor (MayLive net s) old_steps new_steps (journal.items ∷ []) stop

@@ -1,0 +1,121 @@
+//! Runs a study while its analysts decide and look, and puts its texts.
+ghost use Rattle.std.specs.Prelude.{◌≡◌, ◌≤◌, Ok, Err, length, IfErr, IfOk, OnOk};
+ghost use Rattle.decision_book.specs.Journal.{after};
+ghost use Rattle.decision_book.specs.Plans.{ArePlanned};
+ghost use Rattle.world_core.specs.Overs.{NoneBeyond};
+ghost use Rattle.cloner_top.specs.Endings.{MayLive};
+ghost use Rattle.cloner_top.specs.LiveRuns.{HaltsFor, HasRun, IsLiveWorld, IsPlaced, StopsLive};
+ghost use Rattle.cloner_top.specs.Outsides.{IsFinished, IsHalted};
+
+use crate::halt::Halt;
+use crate::plan::Study;
+use crate::putting::put_live;
+use crate::refusal::Refusal;
+use crate::running::stop_at;
+use command_words::Request;
+use crew_pool::{Gate, Workers};
+use live_study::{LiveRun, journal_of, live_study};
+use net_model::Model;
+use sim_base::{NoMemory, Steps};
+use sim_outer::Sink;
+use std::alloc::Global;
+use std::sync::Wait;
+use std::sync::ledger::Ledger;
+use std::thread::Threads;
+use study_run::{StudyCrew, StudyFault};
+use world_core::World;
+
+// The world at the horizon with the text of the journal, or why there is none.
+fn ended(model: &Model, live: LiveRun, journal: Vec<u8>) -> Result<(World, Vec<u8>), Halt>
+    requires net { live.book.net ≡ model.now }
+    requires there { IfErr live.run (λ e. IsPlaced model.now live.book.events e) }
+    ensures ok { IfOk result (λ r. (live.run ≡ Ok r.0) × (r.1.items ≡ journal.items)) }
+    ensures few { IfOk result (λ r. length r.0.clones ≤ 256) }
+    ensures within { IfOk result (λ r. NoneBeyond r.0.net r.0.clones r.0.front) }
+    ensures planned { IfOk result (λ r. ArePlanned live.book.net (after live.book.net live.book.events).clones) }
+    ensures err { IfErr result (λ h. (e : _) × ((live.run ≡ Err e)
+        × HaltsFor model.now live.book.events journal.items e h)) }
+{
+    let LiveRun {
+        book,
+        looks: _,
+        run,
+    } = live;
+    match run {
+        Ok(world) => {
+            let (_few, _planned) = (world.lists(), book.book().lists());
+            Ok((world, journal))
+        }
+        Err(StudyFault::NoMemory) => Err(Halt::Refused(Refusal::OutOfMemory)),
+        Err(StudyFault::LimitMet { station, who }) => {
+            let stop = stop_at(model, station, book.book().lists().name(who));
+            Err(Halt::Overrun { journal, stop })
+        }
+    }
+}
+
+// The study, and the text of its journal.
+fn journaled<G: Gate, L: Ledger, R: Threads + Wait + Sync>(
+    rt: &R,
+    alloc: Global,
+    gate: &G,
+    request: &Request,
+    study: &Study,
+    steps: &mut Steps<L>,
+) -> Result<(LiveRun, Vec<u8>), NoMemory>
+    ensures ran { IfOk result (λ r. HasRun study.now.model.value study.now.script steps.old steps.new r.0 r.1.items) }
+{
+    let crew = StudyCrew {
+        workers: Workers {
+            count: request.workers,
+        },
+    };
+    let live = live_study(rt, alloc, &crew, gate, &study.model, &study.script, steps)?;
+    let journal = journal_of(alloc, &study.script, &live)?;
+    Ok((live, journal))
+}
+
+// The study to its end: the world at the horizon, and the text of its journal.
+fn run_live<G: Gate, L: Ledger, R: Threads + Wait + Sync>(
+    rt: &R,
+    alloc: Global,
+    gate: &G,
+    request: &Request,
+    study: &Study,
+    steps: &mut Steps<L>,
+) -> Result<(World, Vec<u8>), Halt>
+    ensures ok { IfOk result (λ r. IsLiveWorld study.now.model.value study.now.script steps.old steps.new r.0 r.1.items) }
+    ensures err { IfErr result (λ h. StopsLive study.now.model.value study.now.script steps.old steps.new h) }
+{
+    match journaled(rt, alloc, gate, request, study, steps) {
+        Ok((live, journal)) => ended(&study.model, live, journal),
+        Err(NoMemory) => Err(Halt::Refused(Refusal::OutOfMemory)),
+    }
+}
+
+/// Runs a study while its analysts decide and look, and writes its journal, the traces of all clones and the report.
+pub(crate) fn write_live<O: Sink, G: Gate, L: Ledger, R: Threads + Wait + Sync>(
+    rt: &R,
+    alloc: Global,
+    gate: &G,
+    request: &Request,
+    study: &Study,
+    out: &mut O,
+    steps: &mut Steps<L>,
+) -> Result<(), Halt>
+    ensures ok { OnOk result (IsFinished (MayLive study.now.model.value study.now.script) steps.old steps.new
+        (record { bytes = O.bytes out.old; faults = O.faults out.old; calls = O.calls out.old })
+        (record { bytes = O.bytes out.new; faults = O.faults out.new; calls = O.calls out.new })) }
+    ensures err { IfErr result (λ h. IsHalted (MayLive study.now.model.value study.now.script) steps.old steps.new
+        (record { bytes = O.bytes out.old; faults = O.faults out.old; calls = O.calls out.old })
+        (record { bytes = O.bytes out.new; faults = O.faults out.new; calls = O.calls out.new }) h) }
+{
+    let (world, journal) = match run_live(rt, alloc, gate, request, study, steps) {
+        Ok(ran) => ran,
+        Err(halt) => return Err(halt),
+    };
+    match put_live(alloc, &study.model, &world, journal.as_slice(), out) {
+        Ok(()) => Ok(()),
+        Err(refusal) => Err(Halt::Refused(refusal)),
+    }
+}

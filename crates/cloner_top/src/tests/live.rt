@@ -1,0 +1,360 @@
+//! Live studies: analysts who decide and look while the engine runs.
+use super::{GOOD, Outcome, both, ended, models, texts};
+use crew_pool::{Gate, NoGate};
+use sim_base::NoMemory;
+use std::alloc::Global;
+use std::process::Abort;
+use std::sync::Wait;
+use std::sync::atomic::{AtomicU64, Ordering};
+use std::test::Fail;
+use std::thread;
+use std::thread::Threads;
+
+/// `live` of them.
+const LIVE: &[&str] = &["live", "m", "s"];
+
+/// How long a gate waits for the other side.
+const TURNS: u32 = 1_000_000;
+
+/// The journal of one desk without decisions and looks.
+const QUIET_JOURNAL: &str = "journal 0 7
+# front 5
+# front 7
+# front 10
+# front 13
+# front 15
+# front 17
+# front 20
+looks 0
+";
+
+/// Where a piece stands in a text.
+fn place_of(text: &[u8], piece: &[u8]) -> Option<usize> {
+    for at in 0..text.len() {
+        if text[at..].starts_with(piece) {
+            return Some(at);
+        }
+    }
+    None
+}
+
+/// How often a piece stands in a text.
+fn count_of(text: &[u8], piece: &[u8]) -> u32 {
+    let mut count: u32 = 0;
+    for at in 0..text.len() {
+        if text[at..].starts_with(piece) {
+            count = count.saturating_add(1);
+        }
+    }
+    count
+}
+
+/// Whether a piece stands in a text.
+fn has(text: &[u8], piece: &str) -> bool {
+    place_of(text, piece.as_bytes()).is_some()
+}
+
+/// How `live` of one desk ends.
+fn live<G: Gate, R: Threads + Wait + Sync>(
+    rt: &R,
+    alloc: Global,
+    gate: &G,
+    workers: &str,
+    script: &str,
+) -> Result<Outcome, NoMemory> {
+    let words = ["live", "m", "s", "--workers", workers];
+    ended(rt, alloc, gate, &words, models::ONE_DESK, script, &GOOD)
+}
+
+/// Without decisions and looks the journal can't vary, and what follows is the plain run.
+#[test]
+fn nobody_decides(rt: HostRuntime) -> Result<(), Fail> {
+    let alloc = rt.alloc();
+    let whole = both(alloc, QUIET_JOURNAL, texts::BASE)?;
+    for workers in ["1", "4", "16"] {
+        let live = live(&rt, alloc, &NoGate, workers, "")?;
+        let output = live.output.as_slice();
+        assert!(rt; live.status == 0 && live.errors.is_empty(), "{}", workers);
+        assert!(rt; output.starts_with(whole.as_slice()), "{}", workers);
+        assert!(rt;
+            output.ends_with(texts::BASE_REPORT.as_bytes()),
+            "{}",
+            workers
+        );
+        assert!(rt;
+            output.len() == whole.len() + texts::BASE_REPORT.len(),
+            "{}",
+            workers
+        );
+    }
+    Ok(())
+}
+
+/// Two analysts of three looks each.
+const SIX_LOOKS: &str = "look base gate
+look base desk
+look base till
+analyst ben
+look base gate
+look fast desk
+look base out
+";
+
+/// Fronts up to the one at which the limit is met, six looks, and then the line.
+#[test]
+fn limit_met_beside_lookers(rt: HostRuntime) -> Result<(), Fail> {
+    let alloc = rt.alloc();
+    let ended = ended(&rt, alloc, &NoGate, LIVE, models::LIMIT_3, SIX_LOOKS, &GOOD)?;
+    let errors = ended.errors.as_slice();
+    let head = "journal 0 5\n# front 5\n# front 7\n# front 10\n# front 13\n# front 15\nlooks 6\n";
+    assert!(rt; ended.status == 7 && ended.output.is_empty());
+    assert!(rt; errors.starts_with(head.as_bytes()));
+    assert!(rt; count_of(errors, b"\nlook ") == 6);
+    assert!(rt; has(errors, "look main base till unknown\n"));
+    assert!(rt; has(errors, "look ben fast desk front=") && has(errors, " absent\n"));
+    assert!(rt; errors.ends_with(b"cloner: limit 3 met at station desk in clone base\n"));
+    Ok(())
+}
+
+/// Where the error sink fails on the journal, the line does not follow; the status is the same.
+#[test]
+fn journal_is_cut_off(rt: HostRuntime) -> Result<(), Fail> {
+    let outside = super::Outside {
+        error: &[(1, 12)],
+        ..GOOD
+    };
+    let ended = ended(
+        &rt,
+        rt.alloc(),
+        &NoGate,
+        LIVE,
+        models::LIMIT_3,
+        "",
+        &outside,
+    )?;
+    assert!(rt; ended.is(7, &[], "journal 0 5\n"));
+    Ok(())
+}
+
+/// Each put of a live study fails in turn.
+#[test]
+fn live_output_is_cut_off(rt: HostRuntime) -> Result<(), Fail> {
+    let alloc = rt.alloc();
+    let pieces = [QUIET_JOURNAL, texts::BASE, texts::BASE_REPORT];
+    let mut before = Vec::new(alloc);
+    for put in 1..=3u32 {
+        let Some(piece) = pieces.get(put.saturating_sub(1) as usize) else {
+            break;
+        };
+        let fails = [(put, 1)];
+        let outside = super::Outside {
+            put: &fails,
+            ..GOOD
+        };
+        let ended = ended(&rt, alloc, &NoGate, LIVE, models::ONE_DESK, "", &outside)?;
+        let mut part = Vec::from_slice(alloc, before.as_slice())?;
+        part.extend_from_slice(piece.as_bytes().get(..1).unwrap_or(&[]))?;
+        assert!(rt;
+            ended.is(8, part.as_slice(), "cloner: cannot write\n"),
+            "{}",
+            put
+        );
+        before.extend_from_slice(piece.as_bytes())?;
+    }
+    Ok(())
+}
+
+/// Waits for a count that is not 0, and says whether it came.
+fn comes(count: &AtomicU64, least: u64) -> bool {
+    for _turn in 0..TURNS {
+        if count.load(Ordering::SeqCst) >= least {
+            return true;
+        }
+        thread::yield_now();
+    }
+    false
+}
+
+/// Holds the first task until the first analyst's second call, and that call until the first task has begun.
+#[derive(Drop)]
+struct CallsBesideTasks {
+    tasks: AtomicU64,
+    calls: AtomicU64,
+    missed: AtomicU64,
+}
+
+impl Gate for CallsBesideTasks {
+    fn before<R: Wait>(&self, _rt: &R, _worker: u32, _task: u32) {
+        if self.tasks.fetch_add(1, Ordering::SeqCst) == 0 && !comes(&self.calls, 1) {
+            self.missed.store(1, Ordering::SeqCst);
+        }
+    }
+
+    fn before_call<R: Wait>(&self, _rt: &R, analyst: u32, k: u32) {
+        if analyst == 1 && k == 1 {
+            self.calls.fetch_add(1, Ordering::SeqCst);
+            if !comes(&self.tasks, 1) {
+                self.missed.store(1, Ordering::SeqCst);
+            }
+        }
+    }
+}
+
+/// The fork is accepted, and the set, asked while the first window runs, is late or closed.
+#[test]
+fn calls_during_run(rt: HostRuntime) -> Result<(), Fail> {
+    let script = "fork x from base\nset base at 0 desk room 5\n";
+    let gate = CallsBesideTasks {
+        tasks: AtomicU64::new(0),
+        calls: AtomicU64::new(0),
+        missed: AtomicU64::new(0),
+    };
+    let live = live(&rt, rt.alloc(), &gate, "1", script)?;
+    let output = live.output.as_slice();
+    assert!(rt; live.status == 0 && gate.missed.load(Ordering::SeqCst) == 0);
+    assert!(rt; gate.calls.load(Ordering::SeqCst) == 1);
+    assert!(rt; has(output, "analyst main\nfork x from base\n"));
+    let first = place_of(output, b"# front 5\n").unwrap_or(output.len());
+    let late = place_of(output, b"# refused 11 front ").unwrap_or(0);
+    let closed = place_of(output, b"# refused 2: set").unwrap_or(0);
+    assert!(rt; first < late || first < closed);
+    Ok(())
+}
+
+/// Holds a look until the fourth task of the run has begun.
+#[derive(Drop)]
+struct LooksBesideTasks {
+    tasks: AtomicU64,
+    looks: AtomicU64,
+    missed: AtomicU64,
+}
+
+impl Gate for LooksBesideTasks {
+    fn before<R: Wait>(&self, _rt: &R, _worker: u32, _task: u32) {
+        self.tasks.fetch_add(1, Ordering::SeqCst);
+    }
+
+    fn before_call<R: Wait>(&self, _rt: &R, _analyst: u32, _k: u32) {
+        self.looks.fetch_add(1, Ordering::SeqCst);
+        if !comes(&self.tasks, 4) {
+            self.missed.store(1, Ordering::SeqCst);
+        }
+    }
+}
+
+/// The fourth task is of the second window, so the racks of the first were published before the look.
+#[test]
+fn looks_during_run(rt: HostRuntime) -> Result<(), Fail> {
+    let gate = LooksBesideTasks {
+        tasks: AtomicU64::new(0),
+        looks: AtomicU64::new(0),
+        missed: AtomicU64::new(0),
+    };
+    let live = live(&rt, rt.alloc(), &gate, "1", "look base gate\n")?;
+    let output = live.output.as_slice();
+    assert!(rt; live.status == 0 && gate.missed.load(Ordering::SeqCst) == 0);
+    assert!(rt; gate.looks.load(Ordering::SeqCst) == 1);
+    assert!(rt; has(output, "look main base gate front=") && !has(output, "front=0 "));
+    Ok(())
+}
+
+/// Four analysts, whose decisions come as they come.
+const FOUR: &str = "fork a from base
+set a at 8 desk service 2 2
+analyst ben
+fork b from base
+set b at 12 desk room 0
+analyst cyd
+fork c from a
+set c at 15 desk servers 2
+analyst dan
+fork d from b
+end d at 18
+";
+
+/// The calls and fronts of a journal without looks, and what is written behind it.
+fn parted(output: &[u8]) -> Option<(&[u8], &[u8])> {
+    let head = place_of(output, b"\n")?;
+    let looks = place_of(output, b"\nlooks 0\n")?;
+    let events = output.get(head.saturating_add(1)..looks.saturating_add(1))?;
+    let behind = output.get(looks.saturating_add(9)..)?;
+    Some((events, behind))
+}
+
+/// Whether `run` with the journal of a live study writes what the study wrote.
+fn is_repeated<R: Threads + Wait + Sync>(
+    rt: &R,
+    alloc: Global,
+    workers: &str,
+) -> Result<bool, NoMemory> {
+    let live = live(rt, alloc, &NoGate, workers, FOUR)?;
+    let Some((events, behind)) = parted(live.output.as_slice()) else {
+        return Ok(false);
+    };
+    let Ok(script) = std::str::from_utf8(events) else {
+        return Ok(false);
+    };
+    let words = ["run", "m", "s"];
+    let again = ended(rt, alloc, &NoGate, &words, models::ONE_DESK, script, &GOOD)?;
+    Ok(live.status == 0 && again.is(0, behind, ""))
+}
+
+#[test]
+fn journals_are_repeated(rt: HostRuntime) -> Result<(), Fail> {
+    for _time in 0..25u32 {
+        for workers in ["1", "4"] {
+            assert!(rt; is_repeated(&rt, rt.alloc(), workers)?, "{}", workers);
+        }
+    }
+    Ok(())
+}
+
+/// Sixteen analysts of so many lines each; the first is the one before any name.
+fn sixteen(alloc: Global, lines: u32) -> Result<String, NoMemory> {
+    let mut text = String::new(alloc);
+    for analyst in 1..=16u32 {
+        if analyst > 1 {
+            text.push_str("analyst a")?;
+            text.push_str(itoa::Buffer::new().format(analyst))?;
+            text.push_str("\n")?;
+        }
+        for _line in 0..lines {
+            text.push_str("set base at 19 desk room 5\n")?;
+        }
+    }
+    Ok(text)
+}
+
+/// As many decisions as a journal holds: none is missing.
+#[test]
+fn full_journal(rt: HostRuntime) -> Result<(), Fail> {
+    let script = sixteen(rt.alloc(), 256)?;
+    for workers in ["1", "4", "16"] {
+        let live = live(&rt, rt.alloc(), &NoGate, workers, script.as_str())?;
+        let output = live.output.as_slice();
+        assert!(rt; live.status == 0, "{}", workers);
+        assert!(rt; output.starts_with(b"journal 4096 7\n"), "{}", workers);
+        assert!(rt; count_of(output, b"\nanalyst a16\n") == 256, "{}", workers);
+    }
+    Ok(())
+}
+
+/// The clinic's three analysts: one of them looks, and every fork and set stands in the journal.
+#[test]
+fn clinic_live(rt: HostRuntime) -> Result<(), Fail> {
+    let words = ["live", "m", "s", "--workers", "2"];
+    let ended = ended(
+        &rt,
+        rt.alloc(),
+        &NoGate,
+        &words,
+        models::CLINIC,
+        texts::CLINIC_SCRIPT,
+        &GOOD,
+    )?;
+    let output = ended.output.as_slice();
+    assert!(rt; ended.status == 0 && ended.errors.is_empty());
+    assert!(rt; output.starts_with(b"journal 14 "));
+    assert!(rt; has(output, "\nlooks 1\nlook ada night doctor front="));
+    Ok(())
+}

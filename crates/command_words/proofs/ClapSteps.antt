@@ -1,0 +1,309 @@
+-- One word of a command line, as clap's walk takes it.
+use Rattle.std.proofs.Common.{◌≡◌, ◌∙◌, ◌&&◌, ℕ, Bool, true, false, cond, List, [], ◌∷◌, ◌++◌, refl, ap}
+use Rattle.std.proofs.Common.{codes, fold}
+use Rattle.std.proofs.Common.{Option, Some, None, bytes_eq, slice_get, chars}
+use Rattle.std.proofs.Common.{◌==◌}
+use Rattle.std.specs.List.{before_first}
+use Rattle.std.specs.Option.{option_map_or}
+use Rattle.std.proofs.lemmas.Bool.{and_right}
+use Rattle.clap.specs.Lexer.{long_of, short_of}
+use Rattle.clap.specs.Kinds.{Kinds, or_else}
+use Rattle.clap.specs.Faults.{bundle_fault, flags_fault, other_fault, settle_fault, turn_fault, walk_fault}
+use Rattle.clap.specs.Simple.{Shape, built}
+use Rattle.clap.specs.Walk.{Held, Row, Text, Waiting, Walk, has_row, idle, option, positional}
+use Rattle.clap.specs.Walk.{settled, settled_rows, walked, with_values, without}
+use Rattle.clap.specs.declared.error.kind.ErrorKind.{ErrorKind}
+use Rattle.clap.specs.declared.error.kind.ErrorKind.TheVariants as kind
+use Rattle.clap.specs.declared.builder.value_parser.Reading.TheVariants.{AsWritten}
+use Rattle.clap.specs.declared.parser.matches.ValueSource.TheVariants.{CommandLine}
+use Rattle.command_words.specs.Application.{cloner}
+use Rattle.command_words.specs.Clap.{unless_fault, values_in}
+use Rattle.command_words.specs.Rules.{OptionName, workers, clone}
+use Rattle.command_words.specs.Values.{Values}
+
+-- the command, built
+abbrev pub shape : Shape
+shape = (built cloner).top
+
+-- what the walk holds
+abbrev pub held : List Row → Option (Text × List Text) → Held
+held rows pending = record { rows = rows; pending = pending; skip = 0 }
+
+-- clap's walk between two words
+abbrev pub at : List Row → Option (Text × List Text) → Waiting → ℕ → Bool → Walk
+at rows pending waiting position ended = record {
+  held = held rows pending;
+  waiting = waiting;
+  position = position;
+  is_trailing = ended;
+  stopped = None;
+}
+
+-- what it holds after the words
+abbrev pub end_of : Walk → List Text → Held
+end_of w words = (fold (walked shape.rules []) w words).held
+
+-- what clap finds, from where its walk stands
+abbrev pub found : Walk → List Text → Option Values
+found w words = unless_fault (or_else (walk_fault shape [] w words) (settle_fault shape.rules false (end_of w words)))
+    (Some (values_in (settled shape.rules (end_of w words)).rows))
+
+-- the fault of what is pending, and the rows with it
+abbrev pub pending_fault : List Row → Option (Text × List Text) → Kinds
+pending_fault rows pending = settle_fault shape.rules false (held rows pending)
+
+abbrev pub rows_with : List Row → Option (Text × List Text) → List Row
+rows_with rows pending = settled_rows shape.rules pending rows
+
+-- the rows after a use of an option or a positional
+abbrev pub used : Text → Text → List Row → List Row
+used id value rows = with_values id AsWritten CommandLine (value ∷ []) (without id rows)
+
+-- ---- found
+
+-- two steps, one after the other
+two_faults : (a b c : Kinds) (v : Option Values)
+    → unless_fault (or_else (or_else a b) c) v ≡ unless_fault a (unless_fault (or_else b c) v)
+two_faults [] b c v = refl
+two_faults (k ∷ ks) b c v = refl
+
+-- a word, and then the others
+found-cons : (w : Walk) (word : Text) (rest : List Text) → found w (word ∷ rest)
+    ≡ unless_fault (turn_fault shape [] w word) (found (walked shape.rules [] w word) rest)
+unfolding walk_fault
+found-cons w word rest = two_faults (turn_fault shape [] w word) _ _ _
+
+-- a word that clap takes
+pub found-taken : (w v : Walk) (word : Text) (rest : List Text) → turn_fault shape [] w word ≡ []
+    → walked shape.rules [] w word ≡ v → found w (word ∷ rest) ≡ found v rest
+found-taken w v word rest none walks =
+    found-cons w word rest ∙ ap (λ k. unless_fault k (found (walked shape.rules [] w word) rest)) none
+    ∙ ap (λ x. found x rest) walks
+
+-- a word that it refuses
+pub found-refused : (w : Walk) (word : Text) (rest : List Text) (k : ErrorKind) (ks : Kinds)
+    → turn_fault shape [] w word ≡ k ∷ ks → found w (word ∷ rest) ≡ None
+found-refused w word rest k ks some =
+    found-cons w word rest ∙ ap (λ x. unless_fault x (found (walked shape.rules [] w word) rest)) some
+
+-- ---- `--`
+
+-- it has no fault of its own
+pub fault_at_end : (rows : List Row) (p : Option (Text × List Text)) (waiting : Waiting) (position : ℕ)
+    → turn_fault shape [] (at rows p waiting position false) (codes "--") ≡ []
+fault_at_end rows p idle position = refl
+fault_at_end rows p (option id) position = refl
+fault_at_end rows p positional position = refl
+
+-- from here on all words are positionals
+pub walk_at_end : (rows : List Row) (p : Option (Text × List Text)) (waiting : Waiting) (position : ℕ)
+    → walked shape.rules [] (at rows p waiting position false) (codes "--") ≡ at rows p waiting position true
+unfolding walked
+walk_at_end rows p idle position = refl
+walk_at_end rows p (option id) position = refl
+walk_at_end rows p positional position = refl
+
+-- ---- `--NAME`
+
+-- NAME
+abbrev pub id_of : OptionName → Text
+id_of workers = codes "workers"
+id_of clone = codes "clone"
+
+-- 45 is `-`, 61 is `=`
+abbrev pub long : OptionName → Text
+long name = 45 ∷ 45 ∷ id_of name
+
+-- what was pending before may fail
+pub fault_of_name : (name : OptionName) (rows : List Row) (p : Option (Text × List Text)) (waiting : Waiting)
+    (position : ℕ) → turn_fault shape [] (at rows p waiting position false) (long name)
+    ≡ or_else (pending_fault rows p) []
+fault_of_name workers rows p idle position = refl
+fault_of_name workers rows p (option id) position = refl
+fault_of_name workers rows p positional position = refl
+fault_of_name clone rows p idle position = refl
+fault_of_name clone rows p (option id) position = refl
+fault_of_name clone rows p positional position = refl
+
+-- the option waits for its value
+pub walk_of_name : (name : OptionName) (rows : List Row) (p : Option (Text × List Text)) (position : ℕ)
+    → walked shape.rules [] (at rows p idle position false) (long name)
+    ≡ at (rows_with rows p) (Some (id_of name, [])) (option (id_of name)) position false
+unfolding walked
+walk_of_name workers rows p position = refl
+walk_of_name clone rows p position = refl
+
+-- ---- `--NAME=V`
+
+-- the option has a value already
+abbrev pub repeated : Text → List Row → Kinds
+repeated id rows = cond (has_row id rows && true) (kind.ArgumentConflict ∷ []) []
+
+-- what was pending may fail, or the option has a value already
+pub fault_of_value : (name : OptionName) (v : Text) (rows : List Row) (p : Option (Text × List Text))
+    (waiting : Waiting) (position : ℕ)
+    → turn_fault shape [] (at rows p waiting position false) (long name ++ (61 ∷ v))
+    ≡ or_else (or_else (pending_fault rows p) (or_else (repeated (id_of name) (rows_with rows p)) [])) []
+fault_of_value workers v rows p idle position = refl
+fault_of_value workers v rows p (option id) position = refl
+fault_of_value workers v rows p positional position = refl
+fault_of_value clone v rows p idle position = refl
+fault_of_value clone v rows p (option id) position = refl
+fault_of_value clone v rows p positional position = refl
+
+-- the option is used
+pub walk_of_value : (name : OptionName) (v : Text) (rows : List Row) (p : Option (Text × List Text)) (position : ℕ)
+    → walked shape.rules [] (at rows p idle position false) (long name ++ (61 ∷ v))
+    ≡ at (used (id_of name) v (rows_with rows p)) None idle position false
+unfolding walked
+walk_of_value workers v rows p position = refl
+walk_of_value clone v rows p position = refl
+
+-- ---- a word that is no flag
+
+-- clap takes the word for no flag
+pub record IsPlain (word : Text) : Type 0 where
+  pub no_end : bytes_eq word (codes "--") ≡ false
+  pub no_long : long_of word ≡ None
+  pub no_short : short_of word ≡ None
+
+-- as the value that an option waits for
+pub fault_of_next : (name : OptionName) (word : Text) (rows : List Row) (position : ℕ) → IsPlain word
+    → turn_fault shape [] (at rows (Some (id_of name, [])) (option (id_of name)) position false) word ≡ []
+fault_of_next workers word rows position plain = rw (plain.no_end, plain.no_long, plain.no_short) refl
+fault_of_next clone word rows position plain = rw (plain.no_end, plain.no_long, plain.no_short) refl
+
+-- it is pending with the option
+pub walk_of_next : (name : OptionName) (word : Text) (rows : List Row) (position : ℕ) → IsPlain word
+    → walked shape.rules [] (at rows (Some (id_of name, [])) (option (id_of name)) position false) word
+    ≡ at rows (Some (id_of name, word ∷ [])) idle position false
+unfolding walked
+walk_of_next workers word rows position plain = rw (plain.no_end, plain.no_long, plain.no_short) refl
+walk_of_next clone word rows position plain = rw (plain.no_end, plain.no_long, plain.no_short) refl
+
+-- as a positional: the first, the second or the third
+pub data Place : Type 0 where
+  mode : Place
+  first : Place
+  second : Place
+
+-- its name
+abbrev pub name_of : Place → Text
+name_of mode = codes "mode"
+name_of first = codes "first"
+name_of second = codes "second"
+
+-- its number
+abbrev pub place_of : Place → ℕ
+place_of mode = 1
+place_of first = 2
+place_of second = 3
+
+-- the number after it
+abbrev pub next_of : Place → ℕ
+next_of mode = 2
+next_of first = 3
+next_of second = 4
+
+-- no positional takes several words
+not_several : (id : Text) (p : Option (Text × List Text))
+    → (option_map_or (λ q. bytes_eq q.0 id) p false && false) ≡ false
+not_several id p = and_right (option_map_or (λ q. bytes_eq q.0 id) p false) false refl
+
+-- what was pending before may fail
+pub fault_of_plain : (k : Place) (word : Text) (rows : List Row) (p : Option (Text × List Text)) → IsPlain word
+    → turn_fault shape [] (at rows p idle (place_of k) false) word ≡ pending_fault rows p
+fault_of_plain mode word rows p plain =
+    rw (plain.no_end, plain.no_long, plain.no_short, not_several (codes "mode") p) refl
+fault_of_plain first word rows p plain =
+    rw (plain.no_end, plain.no_long, plain.no_short, not_several (codes "first") p) refl
+fault_of_plain second word rows p plain =
+    rw (plain.no_end, plain.no_long, plain.no_short, not_several (codes "second") p) refl
+
+-- the word is pending
+pub walk_of_plain : (k : Place) (word : Text) (rows : List Row) (p : Option (Text × List Text)) → IsPlain word
+    → walked shape.rules [] (at rows p idle (place_of k) false) word
+    ≡ at (rows_with rows p) (Some (name_of k, word ∷ [])) idle (next_of k) false
+unfolding walked
+walk_of_plain mode word rows p plain =
+    rw (plain.no_end, plain.no_long, plain.no_short, not_several (codes "mode") p) refl
+walk_of_plain first word rows p plain =
+    rw (plain.no_end, plain.no_long, plain.no_short, not_several (codes "first") p) refl
+walk_of_plain second word rows p plain =
+    rw (plain.no_end, plain.no_long, plain.no_short, not_several (codes "second") p) refl
+
+-- there is no fourth
+pub fault_of_fourth : (word : Text) (rows : List Row) (p : Option (Text × List Text)) → IsPlain word
+    → turn_fault shape [] (at rows p idle 4 false) word ≡ kind.UnknownArgument ∷ []
+fault_of_fourth word rows p plain = rw (plain.no_end, plain.no_long, plain.no_short) refl
+
+-- ---- behind `--`
+
+-- what was pending before may fail
+pub fault_behind : (k : Place) (word : Text) (rows : List Row) (p : Option (Text × List Text)) (waiting : Waiting)
+    → turn_fault shape [] (at rows p waiting (place_of k) true) word ≡ pending_fault rows p
+fault_behind mode word rows p waiting = rw (not_several (codes "mode") p) refl
+fault_behind first word rows p waiting = rw (not_several (codes "first") p) refl
+fault_behind second word rows p waiting = rw (not_several (codes "second") p) refl
+
+-- the word is pending
+pub walk_behind : (k : Place) (word : Text) (rows : List Row) (p : Option (Text × List Text)) (waiting : Waiting)
+    → walked shape.rules [] (at rows p waiting (place_of k) true) word
+    ≡ at (rows_with rows p) (Some (name_of k, word ∷ [])) idle (next_of k) true
+unfolding walked
+walk_behind mode word rows p waiting = rw (not_several (codes "mode") p) refl
+walk_behind first word rows p waiting = rw (not_several (codes "first") p) refl
+walk_behind second word rows p waiting = rw (not_several (codes "second") p) refl
+
+-- there is no fourth
+pub fault_of_fourth_behind : (word : Text) (rows : List Row) (p : Option (Text × List Text)) (waiting : Waiting)
+    → turn_fault shape [] (at rows p waiting 4 true) word ≡ kind.UnknownArgument ∷ []
+fault_of_fourth_behind word rows p waiting = refl
+
+-- ---- a flag that there is not
+
+-- clap refuses the word wherever an option may stand
+abbrev pub IsRefused : Text → Type 0
+IsRefused word = (rows : List Row) (p : Option (Text × List Text)) (waiting : Waiting) (position : ℕ)
+    → turn_fault shape [] (at rows p waiting position false) word ≡ kind.UnknownArgument ∷ []
+
+-- NAME in NAME or NAME=V
+abbrev pub long_name : Text → Text
+long_name text = before_first (λ x. x == 61) text
+
+-- `--` before another name
+pub refused_long : (x : ℕ) (text : Text) → bytes_eq (codes "workers") (long_name (x ∷ text)) ≡ false
+    → bytes_eq (codes "clone") (long_name (x ∷ text)) ≡ false → IsRefused (45 ∷ 45 ∷ x ∷ text)
+refused_long x text no_workers no_clone rows p idle position = rw (no_workers, no_clone) refl
+refused_long x text no_workers no_clone rows p (option id) position = rw (no_workers, no_clone) refl
+refused_long x text no_workers no_clone rows p positional position = rw (no_workers, no_clone) refl
+
+-- no option is one character
+no_bundle : (x c : ℕ) (text : Text) (h : Held) → h.skip ≡ 0 → slice_get (chars (x ∷ text)) 0 ≡ Some c
+    → bundle_fault shape.rules false (x ∷ text) h ≡ kind.UnknownArgument ∷ []
+unfolding flags_fault
+no_bundle x c text h none begins = rw (none, begins) refl
+
+-- so a word after one dash is refused
+short_word_fault : (x c : ℕ) (text : Text) (h : Held) → h.skip ≡ 0 → (x == 45) ≡ false
+    → slice_get (chars (x ∷ text)) 0 ≡ Some c
+    → other_fault shape None (45 ∷ x ∷ text) h ≡ kind.UnknownArgument ∷ []
+short_word_fault x c text h none no_dash begins =
+    let no_end : bytes_eq (45 ∷ x ∷ text) (codes "--") ≡ false = rw no_dash refl in
+    let no_long : long_of (45 ∷ x ∷ text) ≡ None = rw no_dash refl in
+    let flags : short_of (45 ∷ x ∷ text) ≡ Some (x ∷ text) = rw no_dash refl in
+    rw (no_end, no_long, flags) (no_bundle x c text h none begins)
+
+-- a first fault is the fault
+refused_by : (a b : Kinds) (k : ErrorKind) → a ≡ k ∷ [] → or_else a b ≡ k ∷ []
+refused_by a b k e = ap (λ x. or_else x b) e
+
+-- one dash before anything else
+pub refused_short : (x c : ℕ) (text : Text) → (x == 45) ≡ false → slice_get (chars (x ∷ text)) 0 ≡ Some c
+    → IsRefused (45 ∷ x ∷ text)
+refused_short x c text no_dash begins rows p idle position =
+    refused_by _ _ kind.UnknownArgument (short_word_fault x c text (held rows p) refl no_dash begins)
+refused_short x c text no_dash begins rows p (option id) position =
+    refused_by _ _ kind.UnknownArgument (short_word_fault x c text (held rows p) refl no_dash begins)
+refused_short x c text no_dash begins rows p positional position =
+    refused_by _ _ kind.UnknownArgument (short_word_fault x c text (held rows p) refl no_dash begins)

@@ -1,0 +1,98 @@
+-- Where the texts of a request come from.
+use Rattle.std.proofs.Common.{◌≡◌, ◌&&◌, ℕ, Bool, true, false, cond, List, [], ◌∷◌, codes, refl, subst, IfSome}
+use Rattle.std.proofs.Common.{Option, Some, None, bytes_eq, option_map, option_and_then}
+use Rattle.sim_base.specs.Names.{is_name}
+use Rattle.command_words.specs.declared.request.Mode.{Mode}
+use Rattle.command_words.specs.declared.request.Mode.TheVariants.{All, One, Live}
+use Rattle.command_words.specs.Numbers.{number_to}
+use Rattle.command_words.specs.Requests.{LiveIsNamed, RequestView, by_positionals, form_of, gen_form}
+use Rattle.command_words.specs.Requests.{is_text, made, named, of_one, of_two, solo_form, study_form, study_of}
+use Rattle.command_words.specs.Requests.{workers_of}
+use Rattle.command_words.specs.Rules.{values}
+use Rattle.command_words.specs.Values.{Values}
+
+-- in mode Live they are two files by their names
+abbrev IsNamedIfLive : RequestView → Type 0
+IsNamedIfLive r = r.asked.mode ≡ Live → (model : List ℕ) × (script : List ℕ) × (r.asked.source ≡ named model script)
+
+-- what may be asked, likewise
+abbrev AreNamedIfLive : Option RequestView → Type 0
+AreNamedIfLive asked = IfSome asked IsNamedIfLive
+
+-- by either way
+either : (b : Bool) (x y : Option RequestView) → AreNamedIfLive x → AreNamedIfLive y → AreNamedIfLive (cond b x y)
+either true x y h k = h
+either false x y h k = k
+
+-- ---- a study of two files, or of a number by all clones
+
+-- two files have names
+of_files : (mode : Mode) (model script : List ℕ) (workers : Option ℕ)
+    → AreNamedIfLive (option_map (study_of mode (named model script)) workers)
+of_files mode model script None = tt
+of_files mode model script (Some n) = λ _. (model, script, refl)
+
+-- a number is run by all clones
+of_number : (number : ℕ) (workers : Option ℕ) → AreNamedIfLive (option_map (study_of All (made number)) workers)
+of_number number None = tt
+of_number number (Some n) = λ e. absurd cc
+
+-- ---- the forms
+
+-- `run` and `live`
+study : (mode : Mode) (model script : List ℕ) (workers clone : Option (List ℕ))
+    → AreNamedIfLive (study_form mode model script workers clone)
+study mode model script workers (Some clone) = tt
+study mode model script workers None =
+    either (is_text model && is_text script) (option_map (study_of mode (named model script)) (workers_of workers)) None
+    (of_files mode model script (workers_of workers)) tt
+
+-- `solo`
+solo : (model script : List ℕ) (workers clone : Option (List ℕ))
+    → AreNamedIfLive (solo_form model script workers clone)
+solo model script None (Some clone) =
+    either ((is_text model && is_text script) && is_name clone) (Some (study_of (One clone) (named model script) 1)) None
+    (λ _. (model, script, refl)) tt
+solo model script None None = tt
+solo model script (Some workers) clone = tt
+
+-- `gen` of a number that was read
+gen_by : (number workers : Option ℕ)
+    → AreNamedIfLive (option_and_then (λ n. option_map (study_of All (made n)) workers) number)
+gen_by None workers = tt
+gen_by (Some n) workers = of_number n workers
+
+-- `gen`
+gen : (number : List ℕ) (workers clone : Option (List ℕ)) → AreNamedIfLive (gen_form number workers clone)
+gen number workers (Some clone) = tt
+gen number workers None = gen_by (number_to 999999 number) (workers_of workers)
+
+-- the modes of two positionals more
+two : (mode model script : List ℕ) (workers clone : Option (List ℕ))
+    → AreNamedIfLive (of_two mode model script workers clone)
+two mode model script workers clone =
+    either (bytes_eq mode (codes "run")) _ _ (study All model script workers clone)
+    (either (bytes_eq mode (codes "solo")) _ _ (solo model script workers clone)
+    (either (bytes_eq mode (codes "live")) _ None (study Live model script workers clone) tt))
+
+-- the mode of one positional more
+one : (mode number : List ℕ) (workers clone : Option (List ℕ)) → AreNamedIfLive (of_one mode number workers clone)
+one mode number workers clone = either (bytes_eq mode (codes "gen")) _ None (gen number workers clone) tt
+
+-- any positionals
+positionals : (words : List (List ℕ)) (workers clone : Option (List ℕ))
+    → AreNamedIfLive (by_positionals words workers clone)
+positionals [] workers clone = tt
+positionals (mode ∷ []) workers clone = tt
+positionals (mode ∷ number ∷ []) workers clone = one mode number workers clone
+positionals (mode ∷ model ∷ script ∷ []) workers clone = two mode model script workers clone
+positionals (mode ∷ model ∷ script ∷ word ∷ words) workers clone = tt
+
+-- any values
+found : (v : Option Values) → AreNamedIfLive (option_and_then form_of v)
+found None = tt
+found (Some v) = positionals v.positionals v.workers v.clone
+
+-- any words
+pub live_is_named : LiveIsNamed
+live_is_named words r e = subst AreNamedIfLive e (found (values words))

@@ -1,0 +1,187 @@
+-- What a word is by the rules, and what clap takes it for.
+use Rattle.std.proofs.Common.{◌≡◌, ◌⊎◌, inl, inr, ◌∙◌, ◌==◌, ℕ, ◌<◌, ◌≤◌, Bool, true, false, cond, List, []}
+use Rattle.std.proofs.Common.{◌∷◌, ◌++◌}
+use Rattle.std.proofs.Common.{length, get_or, drop, codes, refl, sym, ap, ap₂, ⊎_elim, nat_eq, eqb-true}
+use Rattle.std.proofs.Common.{Some, None, IsUtf8, bytes_eq, slice_get, chars, option_and_then}
+use Rattle.std.proofs.Common.{encode_utf8_all}
+use Rattle.std.proofs.Common.{true≢false, subst, ◌&&◌, arith}
+use Rattle.std.specs.List.{after_first, position_or_len, starts_with}
+use Rattle.std.specs.Str.{all_scalars}
+use Rattle.std.proofs.lemmas.Bool.{both_ways, cases_Bool, cases_lt, false_from_ne_true}
+use Rattle.std.proofs.lemmas.Bool.Decides.{Decides-eqb}
+use Rattle.std.proofs.lemmas.List.{take_all}
+use Rattle.std.proofs.lemmas.List.Sums.{passes_at_first, split_at_first}
+use Rattle.std.proofs.lemmas.Slice.Eq.{bytes_eq-Decides, starts_is}
+use Rattle.std.proofs.lemmas.Str.{IsUtf8-past_char, chars-encodes, encode_ascii}
+use Rattle.clap.specs.Lexer.{long_of_rest, short_of_rest, strip_byte}
+use Rattle.clap.specs.Walk.{Text}
+use Rattle.command_words.specs.Rules.{Dashed, OptionName, clone, dashed, ending, is_dashed, named, unknown}
+use Rattle.command_words.specs.Rules.{valued, workers}
+use Rattle.command_words.proofs.ClapSteps.{IsPlain, IsRefused, id_of, long, long_name, refused_long, refused_short}
+
+-- ---- words that do not begin with `-`, and `-` itself
+
+-- a word of one byte has no `--`
+one_byte_long : (t : Bool) → option_and_then long_of_rest (option_and_then (strip_byte 45) (cond t (Some []) None))
+    ≡ None
+one_byte_long true = refl
+one_byte_long false = refl
+
+-- nor anything behind a dash
+one_byte_short : (t : Bool) → option_and_then short_of_rest (cond t (Some []) None) ≡ None
+one_byte_short true = refl
+one_byte_short false = refl
+
+-- nor is it `--`
+one_byte_end : (t : Bool) → (t && false) ≡ false
+one_byte_end true = refl
+one_byte_end false = refl
+
+-- clap takes such words for no flag
+pub plain : (word : Text) → is_dashed word ≡ false → IsPlain word
+plain [] h = record { no_end = refl; no_long = refl; no_short = refl }
+plain (b ∷ []) h = record {
+  no_end = one_byte_end (b == 45);
+  no_long = one_byte_long (b == 45);
+  no_short = one_byte_short (b == 45);
+}
+plain (b ∷ c ∷ rest) h = record { no_end = rw h refl; no_long = rw h refl; no_short = rw h refl }
+
+-- ---- the name in `--NAME` and `--NAME=V`
+
+-- 61 is `=`
+abbrev is_equals : ℕ → Bool
+is_equals x = x == 61
+
+-- a word with this name is the name, or goes on with `=`
+names : (text name : Text) → long_name text ≡ name → (text ≡ name) ⊎ (text ≡ name ++ (61 ∷ after_first is_equals text))
+names text name e = ⊎_elim
+    (λ (lt : position_or_len is_equals text < length text). inr (split_at_first is_equals text 0 lt
+    ∙ ap₂ (λ a x. a ++ (x ∷ after_first is_equals text)) e
+    (eqb-true (get_or text (position_or_len is_equals text) 0) 61 (passes_at_first is_equals text 0 lt))))
+    (λ (ge : length text ≤ position_or_len is_equals text).
+    inl (sym (take_all (position_or_len is_equals text) text ge) ∙ e))
+    (cases_lt (position_or_len is_equals text) (length text))
+
+-- `--NAME=V` begins with `--NAME=`
+starts : (name : OptionName) (word v : Text) → word ≡ long name ++ (61 ∷ v)
+    → starts_with nat_eq word (long name ++ (61 ∷ [])) ≡ true
+starts workers word v e = (starts_is Decides-eqb word (codes "--workers=") _ refl).1 v e
+starts clone word v e = (starts_is Decides-eqb word (codes "--clone=") _ refl).1 v e
+
+-- what begins with `--NAME=` is `--NAME=V`
+starts_back : (name : OptionName) (word : Text) → starts_with nat_eq word (long name ++ (61 ∷ [])) ≡ true
+    → word ≡ (long name ++ (61 ∷ [])) ++ drop (length (long name ++ (61 ∷ []))) word
+starts_back workers word e = (starts_is Decides-eqb word (codes "--workers=") _ refl).0 e
+starts_back clone word e = (starts_is Decides-eqb word (codes "--clone=") _ refl).0 e
+
+-- ---- what a word with a dash says
+
+-- a word that is neither has another name
+other_name : (name : OptionName) (text : Text) → bytes_eq (45 ∷ 45 ∷ text) (long name) ≡ false
+    → starts_with nat_eq (45 ∷ 45 ∷ text) (long name ++ (61 ∷ [])) ≡ false
+    → bytes_eq (id_of name) (long_name text) ≡ false
+other_name name text no_name no_value = false_from_ne_true (bytes_eq (id_of name) (long_name text)) (λ h.
+    ⊎_elim
+    (λ (e : text ≡ id_of name). both_ways (bytes_eq (45 ∷ 45 ∷ text) (long name)) no_name
+    ((bytes_eq-Decides (45 ∷ 45 ∷ text) (long name)).1 (ap (λ t. 45 ∷ 45 ∷ t) e)))
+    (λ (e : text ≡ id_of name ++ (61 ∷ after_first is_equals text)).
+    both_ways (starts_with nat_eq (45 ∷ 45 ∷ text) (long name ++ (61 ∷ []))) no_value
+    (starts name (45 ∷ 45 ∷ text) (after_first is_equals text) (ap (λ t. 45 ∷ 45 ∷ t) e)))
+    (names text (id_of name) (sym ((bytes_eq-Decides (id_of name) (long_name text)).0 h))))
+
+-- a text that is not empty begins with a character
+begins : (x : ℕ) (text : Text) → IsUtf8 (x ∷ text) → (c : ℕ) × (slice_get (chars (x ∷ text)) 0 ≡ Some c)
+begins x text u = by u.0 u.1.0 u.1.1
+  where
+    by : (cs : List ℕ) → all_scalars cs ≡ true → encode_utf8_all cs ≡ x ∷ text
+        → (c : ℕ) × (slice_get (chars (x ∷ text)) 0 ≡ Some c)
+    by [] s e = absurd cc
+    by (c ∷ cs) s e = (c, ap (λ t. slice_get t 0) (ap chars (sym e) ∙ chars-encodes (c ∷ cs) s))
+
+-- the word has none of the known forms
+record IsOther (word : Text) : Type 0 where
+  no_end : bytes_eq word (codes "--") ≡ false
+  no_workers : bytes_eq word (codes "--workers") ≡ false
+  no_clone : bytes_eq word (codes "--clone") ≡ false
+  no_workers_value : starts_with nat_eq word (codes "--workers=") ≡ false
+  no_clone_value : starts_with nat_eq word (codes "--clone=") ≡ false
+
+-- then clap refuses it
+refused : (word : Text) → IsUtf8 word → is_dashed word ≡ true → IsOther word → IsRefused word
+refused [] u h o = absurd cc
+refused (b ∷ []) u h o = absurd cc
+refused (b ∷ c ∷ text) u h o = dashes b c text (eqb-true b 45 h) u o
+  where
+    two_dashes : (text : Text) → IsOther (45 ∷ 45 ∷ text) → IsRefused (45 ∷ 45 ∷ text)
+    two_dashes [] o = absurd (true≢false o.no_end)
+    two_dashes (x ∷ text) o = refused_long x text
+        (other_name workers (x ∷ text) o.no_workers o.no_workers_value)
+        (other_name clone (x ∷ text) o.no_clone o.no_clone_value)
+
+    second : (c : ℕ) (text : Text) → (c ≡ 45) ⊎ ((c == 45) ≡ false) → IsUtf8 (45 ∷ c ∷ text) → IsOther (45 ∷ c ∷ text)
+        → IsRefused (45 ∷ c ∷ text)
+    second c text (inl e) u o = subst (λ x. IsRefused (45 ∷ x ∷ text)) (sym e)
+        (two_dashes text (subst (λ x. IsOther (45 ∷ x ∷ text)) e o))
+    second c text (inr e) u o =
+        let first = begins c text (IsUtf8-past_char (45 ∷ c ∷ text) (c ∷ text) 45 u
+        (ap (λ t. t ++ (c ∷ text)) (sym (encode_ascii 45 (omega arith))))) in
+        refused_short c first.0 text e first.1
+
+    is_dash : (c : ℕ) → (c ≡ 45) ⊎ ((c == 45) ≡ false)
+    is_dash c = ⊎_elim (λ (t : (c == 45) ≡ true). inl (eqb-true c 45 t)) (λ (f : (c == 45) ≡ false). inr f)
+        (cases_Bool (c == 45))
+
+    dashes : (b c : ℕ) (text : Text) → b ≡ 45 → IsUtf8 (b ∷ c ∷ text) → IsOther (b ∷ c ∷ text)
+        → IsRefused (b ∷ c ∷ text)
+    dashes b c text e u o = subst (λ x. IsRefused (x ∷ c ∷ text)) (sym e)
+        (second c text (is_dash c) (subst (λ x. IsUtf8 (x ∷ c ∷ text)) e u) (subst (λ x. IsOther (x ∷ c ∷ text)) e o))
+
+-- what clap makes of it
+abbrev pub Says : Dashed → Text → Type 0
+Says ending word = word ≡ codes "--"
+Says (named name) word = word ≡ long name
+Says (valued name v) word = word ≡ long name ++ (61 ∷ v)
+Says unknown word = IsRefused word
+
+-- what the rules say of it is what clap makes of it
+pub says : (word : Text) → IsUtf8 word → is_dashed word ≡ true → Says (dashed word) word
+says word u h = at_end (bytes_eq word (codes "--")) refl
+  where
+    at_clone_value : (t : Bool) → bytes_eq word (codes "--") ≡ false → bytes_eq word (codes "--workers") ≡ false
+        → bytes_eq word (codes "--clone") ≡ false → starts_with nat_eq word (codes "--workers=") ≡ false
+        → starts_with nat_eq word (codes "--clone=") ≡ t
+        → Says (cond t (valued clone (drop 8 word)) unknown) word
+    at_clone_value true a b c d e = starts_back clone word e
+    at_clone_value false a b c d e = refused word u h
+        (record { no_end = a; no_workers = b; no_clone = c; no_workers_value = d; no_clone_value = e })
+
+    at_value : (t : Bool) → bytes_eq word (codes "--") ≡ false → bytes_eq word (codes "--workers") ≡ false
+        → bytes_eq word (codes "--clone") ≡ false → starts_with nat_eq word (codes "--workers=") ≡ t
+        → Says (cond t (valued workers (drop 10 word)) (cond (starts_with nat_eq word (codes "--clone="))
+        (valued clone (drop 8 word)) unknown)) word
+    at_value true a b c d = starts_back workers word d
+    at_value false a b c d = at_clone_value (starts_with nat_eq word (codes "--clone=")) a b c d refl
+
+    at_clone : (t : Bool) → bytes_eq word (codes "--") ≡ false → bytes_eq word (codes "--workers") ≡ false
+        → bytes_eq word (codes "--clone") ≡ t
+        → Says (cond t (named clone)
+        (cond (starts_with nat_eq word (codes "--workers=")) (valued workers (drop 10 word))
+        (cond (starts_with nat_eq word (codes "--clone=")) (valued clone (drop 8 word)) unknown))) word
+    at_clone true a b c = (bytes_eq-Decides word (codes "--clone")).0 c
+    at_clone false a b c = at_value (starts_with nat_eq word (codes "--workers=")) a b c refl
+
+    at_workers : (t : Bool) → bytes_eq word (codes "--") ≡ false → bytes_eq word (codes "--workers") ≡ t
+        → Says (cond t (named workers) (cond (bytes_eq word (codes "--clone")) (named clone)
+        (cond (starts_with nat_eq word (codes "--workers=")) (valued workers (drop 10 word))
+        (cond (starts_with nat_eq word (codes "--clone=")) (valued clone (drop 8 word)) unknown)))) word
+    at_workers true a b = (bytes_eq-Decides word (codes "--workers")).0 b
+    at_workers false a b = at_clone (bytes_eq word (codes "--clone")) a b refl
+
+    at_end : (t : Bool) → bytes_eq word (codes "--") ≡ t
+        → Says (cond t ending (cond (bytes_eq word (codes "--workers")) (named workers)
+        (cond (bytes_eq word (codes "--clone")) (named clone)
+        (cond (starts_with nat_eq word (codes "--workers=")) (valued workers (drop 10 word))
+        (cond (starts_with nat_eq word (codes "--clone=")) (valued clone (drop 8 word)) unknown))))) word
+    at_end true a = (bytes_eq-Decides word (codes "--")).0 a
+    at_end false a = at_workers (bytes_eq word (codes "--workers")) a refl

@@ -1,0 +1,7 @@
+use Rattle.std.proofs.Common.{refl}
+use Rattle.command_words.specs.Rules.{values}
+use Rattle.command_words.proofs.examples.places_of_options.Goals as goal
+
+pub returns : goal.returns
+unfolding values
+returns c = refl

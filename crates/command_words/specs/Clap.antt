@@ -1,0 +1,34 @@
+-- What the library `clap` finds in the words, by its own meaning, and that these are the values of the rules.
+use Rattle.std.specs.Prelude.{◌≡◌, ℕ, true, codes, nat_le, if◌then◌else◌, List, [], ◌∷◌, length, Option, Some, None}
+use Rattle.std.specs.Prelude.{option_and_then}
+use Rattle.std.specs.List.{list_all}
+use Rattle.std.specs.Str.{is_utf8}
+use Rattle.clap.specs.Words.{Row, Kinds, fault_of, matches_of, first_of}
+use Rattle.command_words.specs.Application.{cloner}
+use Rattle.command_words.specs.Rules.{values}
+use Rattle.command_words.specs.Values.{Values, positionals_of}
+
+abbrev pub values_in : List Row → Values
+values_in rows = record {
+  workers = first_of (codes "workers") rows;
+  clone = first_of (codes "clone") rows;
+  positionals = positionals_of (first_of (codes "mode") rows) (first_of (codes "first") rows)
+      (first_of (codes "second") rows);
+}
+
+abbrev pub unless_fault : Kinds → Option Values → Option Values
+unless_fault [] found = found
+unless_fault (k ∷ ks) found = None
+
+-- the values that clap finds for its command, None where it refuses the words
+unfoldable pub clap_values : List (List ℕ) → Option Values
+clap_values words = unless_fault (fault_of cloner words) (Some (values_in (matches_of cloner words)))
+
+-- clap's command has three positionals
+abbrev pub up_to_three : Values → Option Values
+up_to_three v = if nat_le (length v.positionals) 3 then Some v else None
+
+-- clap finds the values of the rules, in each list of texts; more than three positionals it refuses
+abbrev pub ClapFindsTheValues : Type 0
+ClapFindsTheValues = (words : List (List ℕ)) → list_all is_utf8 words ≡ true
+    → clap_values words ≡ option_and_then up_to_three (values words)

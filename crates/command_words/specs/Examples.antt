@@ -1,0 +1,155 @@
+-- Worked examples: command lines, and what they ask for.
+use Rattle.std.specs.Prelude.{◌≡◌, ◌==◌, ℕ, codes, List, [], ◌∷◌, map, Option, Some, None}
+use Rattle.std.specs.List.{slice_split}
+use Rattle.command_words.specs.declared.request.Mode.TheVariants.{All, One, Live}
+use Rattle.command_words.specs.Requests.{RequestView, form, named, made}
+
+-- the words of a line, which one space parts
+abbrev pub words_of : List ℕ → List (List ℕ)
+words_of line = slice_split (λ b. b == 32) line
+
+pub record Example : Type 0 where
+  pub words : List (List ℕ)
+  pub asks : Option RequestView
+
+abbrev pub line : List ℕ → Option RequestView → Example
+line text asks = record { words = words_of text; asks = asks }
+
+-- each line asks for what is said beside it
+abbrev pub AreRight : List Example → Type 0
+AreRight examples = map (λ e. form e.words) examples ≡ map (λ e. e.asks) examples
+
+-- all clones of the texts m and s, by so many workers
+abbrev pub run_by : ℕ → Option RequestView
+run_by workers = Some (record {
+  asked = record { mode = All; source = named (codes "m") (codes "s") };
+  workers = workers;
+})
+
+-- the clone `fast` of the texts m and s
+abbrev pub solo_fast : Option RequestView
+solo_fast = Some (record {
+  asked = record { mode = One (codes "fast"); source = named (codes "m") (codes "s") };
+  workers = 1;
+})
+
+-- all clones of the texts m and s, while analysts decide, by so many workers
+abbrev pub live_by : ℕ → Option RequestView
+live_by workers = Some (record {
+  asked = record { mode = Live; source = named (codes "m") (codes "s") };
+  workers = workers;
+})
+
+-- what is made of a number, by so many workers
+abbrev pub gen_by : ℕ → ℕ → Option RequestView
+gen_by number workers = Some (record { asked = record { mode = All; source = made number }; workers = workers })
+
+-- all clones of two texts with odd names, by one worker
+abbrev pub run_texts : List ℕ → List ℕ → Option RequestView
+run_texts model script = Some (record { asked = record { mode = All; source = named model script }; workers = 1 })
+
+-- the modes; without --workers there is one worker
+abbrev pub modes : List Example
+modes =
+    line (codes "run m s") (run_by 1)
+    ∷ line (codes "solo m s --clone fast") solo_fast
+    ∷ line (codes "live m s") (live_by 1)
+    ∷ line (codes "gen 7") (gen_by 7 1)
+    ∷ line (codes "walk m s") None
+    ∷ line (codes "--help") None
+    ∷ []
+
+-- an option's value is the next word, or stands in the same word
+abbrev pub option_values : List Example
+option_values =
+    line (codes "run m s --workers 4") (run_by 4)
+    ∷ line (codes "run m s --workers=4") (run_by 4)
+    ∷ line (codes "solo m s --clone=fast") solo_fast
+    ∷ line (codes "live m s --workers 4") (live_by 4)
+    -- no value, or an empty one
+    ∷ line (codes "run m s --workers") None
+    ∷ line (codes "run m s --workers=") None
+    -- a word with a dash is no value
+    ∷ line (codes "run m --workers -- s") None
+    ∷ line (codes "run m s --workers -4") None
+    ∷ line (codes "solo m s --clone --clone fast") None
+    ∷ []
+
+-- options stand anywhere before `--`
+abbrev pub option_places : List Example
+option_places =
+    line (codes "--workers 4 run m s") (run_by 4)
+    ∷ line (codes "run --workers=4 m s") (run_by 4)
+    ∷ line (codes "run m --workers 4 s") (run_by 4)
+    ∷ line (codes "--clone fast solo m s") solo_fast
+    ∷ line (codes "gen --workers 16 999999") (gen_by 999999 16)
+    ∷ []
+
+-- each option stands at most once, by its whole name, and there are no others
+abbrev pub option_names : List Example
+option_names =
+    line (codes "run m s --workers 4 --workers 4") None
+    ∷ line (codes "run --workers=4 m s --workers 2") None
+    ∷ line (codes "solo m s --clone fast --clone=fast") None
+    ∷ line (codes "run m s --work 4") None
+    ∷ line (codes "run m s --workersx=4") None
+    ∷ line (codes "run m s --until 4") None
+    ∷ line (codes "run m s -w 4") None
+    ∷ []
+
+-- behind `--` each word is a positional, and before it none that begins with a dash, but for a dash alone
+abbrev pub dashes : List Example
+dashes =
+    line (codes "-- run m s") (run_by 1)
+    ∷ line (codes "--workers=2 run -- m s") (run_by 2)
+    ∷ line (codes "run m s --") (run_by 1)
+    ∷ line (codes "run -- m s --workers 4") None
+    ∷ line (codes "run m -") (run_texts (codes "m") (codes "-"))
+    ∷ line (codes "run -m s") None
+    ∷ line (codes "run -- -m --workers") (run_texts (codes "-m") (codes "--workers"))
+    ∷ line (codes "run -- m --") (run_texts (codes "m") (codes "--"))
+    ∷ []
+
+-- the positionals are in number exactly, and none is empty
+abbrev pub positionals : List Example
+positionals =
+    record { words = []; asks = None }
+    ∷ line (codes "run m") None
+    ∷ line (codes "run m s x") None
+    ∷ line (codes "live m") None
+    ∷ line (codes "live m s t") None
+    ∷ line (codes "gen") None
+    ∷ line (codes "gen 7 8") None
+    ∷ line (codes "run  s") None
+    ∷ line (codes "solo m  --clone fast") None
+    ∷ line (codes " m s") None
+    ∷ []
+
+-- which option belongs to which mode
+abbrev pub options_of_modes : List Example
+options_of_modes =
+    line (codes "run m s --clone base") None
+    ∷ line (codes "live m s --clone x") None
+    ∷ line (codes "gen 7 --clone fast") None
+    ∷ line (codes "solo m s --clone fast --workers 4") None
+    ∷ line (codes "solo m s") None
+    -- what is no name
+    ∷ line (codes "solo m s --clone Fast") None
+    ∷ line (codes "solo m s --clone -") None
+    ∷ []
+
+-- workers are 1 to 16 and numbers 1 to 999999, in decimal without leading zero or sign
+abbrev pub numbers : List Example
+numbers =
+    line (codes "run m s --workers 0") None
+    ∷ line (codes "run m s --workers 1") (run_by 1)
+    ∷ line (codes "run m s --workers 16") (run_by 16)
+    ∷ line (codes "run m s --workers 17") None
+    ∷ line (codes "run m s --workers 04") None
+    ∷ line (codes "run m s --workers +1") None
+    ∷ line (codes "run m s --workers=-1") None
+    ∷ line (codes "gen 0") None
+    ∷ line (codes "gen 1000000") None
+    ∷ line (codes "gen 07") None
+    ∷ line (codes "gen +7") None
+    ∷ []

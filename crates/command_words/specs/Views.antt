@@ -1,0 +1,12 @@
+-- What contracts see of the values that were read.
+use Rattle.std.specs.Prelude.{option_map}
+use Rattle.command_words.specs.declared.given.Given.{Given}
+use Rattle.command_words.specs.Values.{Values, positionals_of}
+
+abbrev pub values_view : Given → Values
+values_view g = record {
+  workers = option_map (λ s. s.now) g.workers;
+  clone = option_map (λ s. s.now) g.clone;
+  positionals = positionals_of (option_map (λ s. s.now) g.mode) (option_map (λ s. s.now) g.first)
+      (option_map (λ s. s.now) g.second);
+}
