@@ -11,10 +11,10 @@ use std::alloc::Global;
 pub const BLOCK: usize = 64;
 
 /// Adds an entry behind those of the blocks: to the last one, or to a new one where that is full.
-pub fn push(blocks: &mut Vec<Run>, entry: Entry) -> Result<(), NoMemory>
+pub fn push(blocks: &mut Vec<Run>, entry: &Entry) -> Result<(), NoMemory>
     requires blocks { AreBlocks blocks.old.items }
     ensures blocks { AreBlocks blocks.new.items }
-    ensures ok { OnOk result (all_of blocks.new.items ≡ all_of blocks.old.items ++ entry ∷ []) }
+    ensures ok { OnOk result (all_of blocks.new.items ≡ all_of blocks.old.items ++ entry.now ∷ []) }
     ensures err { OnErr result (all_of blocks.new.items ≡ all_of blocks.old.items) }
 {
     let count = blocks.len();

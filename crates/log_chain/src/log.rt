@@ -63,7 +63,7 @@ impl Log {
         if self.shared + self.more as u64 == MOST {
             return Err(NoMemory);
         }
-        blocks::push(&mut self.blocks, entry)?;
+        blocks::push(&mut self.blocks, &entry)?;
         self.more += 1;
         Ok(())
     }

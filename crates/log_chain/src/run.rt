@@ -40,11 +40,11 @@ impl Run {
     }
 
     /// Adds an entry at the end.
-    pub fn push(&mut self, entry: Entry) -> Result<(), NoMemory>
-        ensures ok { OnOk result (self.new ≡ self.old ++ entry ∷ []) }
+    pub fn push(&mut self, entry: &Entry) -> Result<(), NoMemory>
+        ensures ok { OnOk result (self.new ≡ self.old ++ entry.now ∷ []) }
         ensures err { OnErr result (self.new ≡ self.old) }
     {
-        match pack(&entry) {
+        match pack(entry) {
             Some(packed) => {
                 self.packed.push(packed)?;
                 Ok(())
@@ -54,15 +54,15 @@ impl Run {
     }
 
     // the entry goes to the side list, and its place there to its own place
-    fn push_wide(&mut self, entry: Entry) -> Result<(), NoMemory>
-        ensures ok { OnOk result (self.new ≡ self.old ++ entry ∷ []) }
+    fn push_wide(&mut self, entry: &Entry) -> Result<(), NoMemory>
+        ensures ok { OnOk result (self.new ≡ self.old ++ entry.now ∷ []) }
         ensures err { OnErr result (self.new ≡ self.old) }
     {
         let place = self.wide.len();
         if place >= 1 << 32 {
             return Err(NoMemory);
         }
-        self.wide.push(entry)?;
+        self.wide.push(*entry)?;
         self.packed.push(in_side_list(place as u32))?;
         Ok(())
     }
@@ -76,7 +76,7 @@ impl Run {
             return Ok(());
         }
         for packed in other.packed.as_slice() {
-            self.push(unpack(packed, other.wide.as_slice()))?;
+            self.push(&unpack(packed, other.wide.as_slice()))?;
         }
         Ok(())
     }

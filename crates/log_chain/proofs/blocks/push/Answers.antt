@@ -14,7 +14,7 @@ returns-then-len-lt-BLOCK-clause-blocks c =
     let small : length c.index_mut.result.now < 64 =
     omega (arith, ap length same, c.len.ensures.value, c.if-len-lt-BLOCK.true) in
     blocks_push_last blocks.items last c.push.new.self c.requires.blocks long
-    (pushed_length c.push.result c.index_mut.result.now c.push.new.self c.args.entry c.push.ensures.ok
+    (pushed_length c.push.result c.index_mut.result.now c.push.new.self c.args.entry.now c.push.ensures.ok
     c.push.ensures.err small)
 
 pub returns-then-len-lt-BLOCK-clause-ok : goal.returns-then-len-lt-BLOCK-clause-ok
@@ -23,15 +23,15 @@ returns-then-len-lt-BLOCK-clause-ok c =
     let last = c.len-count.result - 1 in
     let long : length blocks.items ≡ last + 1 = omega (arith, c.len-count.ensures, blocks.ok.0) in
     on_ok c.push.result c.push.ensures.ok
-    (all_push_last blocks.items last c.index_mut.result.now c.push.new.self c.args.entry long c.index_mut.ensures.value)
+    (all_push_last blocks.items last c.index_mut.result.now c.push.new.self c.args.entry.now long c.index_mut.ensures.value)
 
 pub returns-clause-blocks : goal.returns-clause-blocks
 returns-clause-blocks c =
     let blocks = c.args.blocks.now in
-    let new : c.push-2.new.self ≡ c.args.entry ∷ [] = c.in_ok-push.ensures.ok
-    ∙ ap (λ l. l ++ c.args.entry ∷ []) c.in_ok-block.ensures.value in
+    let new : c.push-2.new.self ≡ c.args.entry.now ∷ [] = c.in_ok-push.ensures.ok
+    ∙ ap (λ l. l ++ c.args.entry.now ∷ []) c.in_ok-block.ensures.value in
     rw c.in_ok-push-2.ensures.items
-    (blocks_push_new blocks.items c.push-2.new.self c.args.entry c.requires.blocks new (λ i l long here.
+    (blocks_push_new blocks.items c.push-2.new.self c.args.entry.now c.requires.blocks new (λ i l long here.
     elim c.else-count-gt0.branch [
       | else-count-gt0-via-then-count-gt0+else-len-lt-BLOCK w ↦
           let last = same_element blocks.items i (c.len-count.result - 1) l w.index.result.now
