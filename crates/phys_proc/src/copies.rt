@@ -153,6 +153,13 @@ impl Copies {
         Ok(all)
     }
 
+    /// A time that nothing of the copies is pending before.
+    pub fn earliest(&self) -> u64
+        ensures late { AreLate result self.now }
+    {
+        self.least
+    }
+
     /// Whether nothing is pending before the bound.
     pub fn is_idle(&self, bound: u64) -> bool
         ensures late { IsTrue result → AreLate bound self.now }

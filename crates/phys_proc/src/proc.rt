@@ -5,7 +5,7 @@ ghost use Rattle.clone_sets.specs.Sets.{has, one, with, empty, size};
 ghost use Rattle.net_model.specs.Net.{Net};
 ghost use Rattle.stations.specs.Runs.{simulation};
 ghost use Rattle.run_laws.specs.Copies.{first_copy, IsForked, IsStepped, AreOver, GainTogether, Stands};
-ghost use Rattle.phys_proc.specs.Own.{given, forked, but_pending, pending_of, IsCopy};
+ghost use Rattle.phys_proc.specs.Own.{given, forked, but_pending, pending_of, IsCopy, AreLate};
 ghost use Rattle.phys_proc.specs.Gone.{ends_in};
 ghost use Rattle.phys_proc.specs.Procs.{IsProc, AreShared};
 ghost use Rattle.phys_proc.specs.Racks.{seen};
@@ -274,6 +274,13 @@ impl Proc {
         ensures shared { AreShared self.now.living self.now.copies }
     {
         self.living
+    }
+
+    /// A time that nothing of the copies is pending before.
+    pub fn earliest(&self) -> u64
+        ensures late { AreLate result self.now.copies }
+    {
+        self.copies.earliest()
     }
 
     /// How many messages were handled, each once for all clones of a copy.

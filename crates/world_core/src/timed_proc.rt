@@ -39,20 +39,6 @@ impl std::marker::Model for TimedProc {
     ghost invariant = { λ t. AreLate t.least t.proc.copies };
 }
 
-// The least time that is pending, or the greatest number where nothing is.
-fn earliest(net: &Model, proc: &Proc) -> u64
-    requires proc { IsProc net.now proc.now }
-    ensures late { AreLate result proc.now.copies }
-{
-    let mut least = u64::MAX;
-    for copy in proc.copies() {
-        if let Some(time) = copy.least() {
-            least = least.min(time);
-        }
-    }
-    least
-}
-
 /// The lesser of two times, where there is one.
 pub(crate) fn earlier(a: Option<u64>, b: Option<u64>) -> Option<u64>
     ensures value { result ≡ earlier' a b }
@@ -74,12 +60,11 @@ impl TimedProc {
         TimedProc { proc, least: 0 }
     }
 
-    /// The copies, with the least time that is pending.
-    pub fn of(net: &Model, proc: Proc) -> TimedProc
-        requires proc { IsProc net.now proc }
+    /// The copies, with the time that they know of.
+    pub fn of(proc: Proc) -> TimedProc
         ensures same { result ≡ proc }
     {
-        let least = earliest(net, &proc);
+        let least = proc.earliest();
         TimedProc { proc, least }
     }
 

@@ -158,7 +158,7 @@ fn step_place<L: Ledger>(
         handled,
     } = flow;
     let last = procs.len();
-    procs.push(TimedProc::of(work.model, done))?;
+    procs.push(TimedProc::of(done))?;
     procs.swap(i, last);
     Ok(Part {
         sent,
