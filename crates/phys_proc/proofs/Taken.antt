@@ -18,9 +18,10 @@ use Rattle.clone_sets.proofs.CountLaws.{set_has_clone}
 use Rattle.run_laws.specs.Queue.{In}
 use Rattle.run_laws.specs.Fronts.{earlier}
 use Rattle.run_laws.proofs.Queue.{all_in}
+use Rattle.run_laws.proofs.Parts.{all_part_of}
 use Rattle.run_laws.proofs.Lists.{in_cons_if, cons_if_new, in_append, append_old, append_new}
-use Rattle.phys_proc.specs.Own.{StationCopy, Marked, takes_at, taken_at}
-use Rattle.phys_proc.specs.Procs.{IsTakenBy, IsLeastTime, IsLeastOf, IsLeast}
+use Rattle.phys_proc.specs.Own.{StationCopy, Marked, IsLate, takes_at, taken_at}
+use Rattle.phys_proc.specs.Procs.{IsTakenBy, IsLeastTime, IsLeastOf, IsLeast, IsWithCopy}
 use Rattle.phys_proc.specs.Gone.{ends_in, is_gone}
 use Rattle.phys_proc.proofs.Gone.{gone_is, ends_soon}
 use Rattle.phys_proc.proofs.Parted.{kept_of}
@@ -334,7 +335,7 @@ module _ (ends : ℕ → ℕ) (xs all : List StationCopy) (x : StationCopy) (who
     )
   ]
 
-  pub least_more : (t u : Option ℕ) → IsLeast ends xs t → IsLeastTime (AnyTakes ends x.set x.pending) u
+  least_more : (t u : Option ℕ) → IsLeast ends xs t → IsLeastTime (AnyTakes ends x.set x.pending) u
       → IsLeast ends all (earlier t u)
   least_more t u a b = least_both (λ m. (c : ℕ) × IsTakenBy ends xs c m) (AnyTakes ends x.set x.pending)
       (λ m. (c : ℕ) × IsTakenBy ends all c m) t u
@@ -342,6 +343,22 @@ module _ (ends : ℕ → ℕ) (xs all : List StationCopy) (x : StationCopy) (who
       (λ m h. (h.0, by_last h.0 m h.1 h.2))
       (λ m h. elim (by_one_of h.0 m h.1) [ inl p ↦ inl (h.0, p) | inr q ↦ inr (h.0, q.0, q.1) ])
       a b
+
+  -- the least so far stays where nothing of the copy is pending earlier
+  least_stays : (time : ℕ) → IsLeast ends xs (Some time) → IsLate time x → IsLeast ends all (Some time)
+  least_stays time h late = (
+    (h.0.0, (h.0.1.0, still_by h.0.1.0 h.0.0 h.0.1.1), h.0.2),
+    λ m t. elim (by_one_of t.0 m t.1) [
+      | inl p ↦ h.1 m (t.0, p)
+      | inr q ↦ all_in (λ (m : Msg). time ≤ m.key.time) (taken_at ends t.0 x.pending) m
+          (all_part_of (takes_at ends) t.0 (λ (m : Msg). time ≤ m.key.time) x.pending late) q.1
+    ],
+  )
+
+  pub least_with : (before t : Option ℕ) → IsWithCopy ends x before t → IsLeast ends xs before → IsLeast ends all t
+  least_with before t (inl w) h = subst (IsLeast ends all) (sym (w.3 ∙ w.1))
+      (least_stays w.0 (subst (IsLeast ends xs) w.1 h) w.2)
+  least_with before t (inr w) h = subst (IsLeast ends all) (sym w.2) (least_more before w.0 h w.1)
 
   pub least_of_more : (c : ℕ) (t u : Option ℕ) → IsLeastOf ends xs c t
       → IsLeastTime (λ m. (has x.set c ≡ true) × In m (taken_at ends c x.pending)) u

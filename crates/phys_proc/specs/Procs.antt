@@ -1,5 +1,5 @@
 -- All copies of a station.
-use Rattle.std.specs.Prelude.{◌≡◌, ◌≢◌, ℕ, ◌≤◌, List, length, Option, Some, None}
+use Rattle.std.specs.Prelude.{◌≡◌, ◌≢◌, ◌⊎◌, ℕ, ◌≤◌, List, length, Option, Some, None}
 use Rattle.std.specs.List.{AllByRecursion}
 use Rattle.sim_base.specs.declared.message.Msg.{Msg}
 use Rattle.clone_sets.specs.Sets.{has, empty}
@@ -7,8 +7,9 @@ use Rattle.clone_sets.specs.declared.set.CloneSet.{CloneSet}
 use Rattle.net_model.specs.Net.{Net}
 use Rattle.net_model.specs.Rules.{IsNet}
 use Rattle.run_laws.specs.Queue.{In}
+use Rattle.run_laws.specs.Fronts.{earlier}
 use Rattle.run_laws.specs.Copies.{Carries, Disjoint}
-use Rattle.phys_proc.specs.Own.{StationCopy, IsCopy, all_clones, handled_alone, taken_at}
+use Rattle.phys_proc.specs.Own.{StationCopy, IsCopy, IsLate, all_clones, handled_alone, taken_at}
 
 -- what contracts see of the copies of a station: the station's number, the living clones, how many messages were
 -- handled, once for all clones of a copy, and the copies
@@ -55,3 +56,11 @@ IsLeastOf ends copies c t = IsLeastTime (IsTakenBy ends copies c) t
 -- the least time that any clone takes
 abbrev pub IsLeast : (ℕ → ℕ) → List StationCopy → Option ℕ → Type 0
 IsLeast ends copies t = IsLeastTime (λ m. (c : ℕ) × IsTakenBy ends copies c m) t
+
+-- the lesser of a time that was found before, and the least time that any clone takes of the copy; the time before
+-- stays where nothing of the copy is pending earlier
+abbrev pub IsWithCopy : (ℕ → ℕ) → StationCopy → Option ℕ → Option ℕ → Type 0
+IsWithCopy ends a before t =
+    ((time : ℕ) × (before ≡ Some time) × IsLate time a × (t ≡ before))
+    ⊎ ((here : Option ℕ) × IsLeastTime (λ m. (c : ℕ) × Carries has a c × In m (taken_at ends c a.pending)) here ×
+    (t ≡ earlier before here))

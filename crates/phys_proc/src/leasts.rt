@@ -6,10 +6,11 @@ ghost use Rattle.clone_sets.specs.Sets.{has};
 ghost use Rattle.run_laws.specs.Queue.{In};
 ghost use Rattle.run_laws.specs.Fronts.{earlier as earlier'};
 ghost use Rattle.phys_proc.specs.Own.{taken_at};
-ghost use Rattle.phys_proc.specs.Procs.{IsProc, IsLeastTime, IsLeastOf, IsLeast};
+ghost use Rattle.phys_proc.specs.Procs.{IsProc, IsLeastTime, IsLeastOf, IsLeast, IsWithCopy};
 ghost use Rattle.phys_proc.specs.Gone.{ends_in};
 
 use crate::clone_ends::CloneEnds;
+use crate::copies::earliest;
 use crate::copy::PhysCopy;
 use crate::proc::Proc;
 use clone_sets::CloneSet;
@@ -66,6 +67,19 @@ pub(crate) fn least_of_copy(copy: &PhysCopy, ends: &CloneEnds, horizon: u64) -> 
     None
 }
 
+// The lesser of a time that was found before, and the least time that any of its clones takes of the copy.
+fn with_copy(copy: &PhysCopy, ends: &CloneEnds, horizon: u64, before: Option<u64>) -> Option<u64>
+    requires sorted { SortedMarked msg_cmp copy.now.pending }
+    ensures least { IsWithCopy (ends_in horizon ends.now) copy.now before result }
+{
+    if let Some(time) = before {
+        if time <= earliest(copy) {
+            return before;
+        }
+    }
+    earlier(before, least_of_copy(copy, ends, horizon))
+}
+
 impl Proc {
     /// The least time at which something is due to the clone, below its end; None exactly where nothing is.
     pub fn least_of(&self, model: &Model, ends: &CloneEnds, c: u32) -> Option<u64>
@@ -88,7 +102,7 @@ impl Proc {
     {
         let mut least = None;
         for copy in self.copies() {
-            least = earlier(least, least_of_copy(copy, ends, model.horizon()));
+            least = with_copy(copy, ends, model.horizon(), least);
         }
         least
     }

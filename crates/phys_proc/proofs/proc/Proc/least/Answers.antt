@@ -1,8 +1,8 @@
-use Rattle.std.proofs.Common.{◌+◌, ◌<◌, arith, sym, ap, subst, ◌∙◌, take, length, get_or}
+use Rattle.std.proofs.Common.{◌+◌, ◌<◌, arith, subst, ◌∙◌, ap, take, length, get_or}
 use Rattle.std.proofs.lemmas.List.{take_all}
 use Rattle.phys_proc.specs.Gone.{ends_in}
 use Rattle.phys_proc.specs.Procs.{IsLeast}
-use Rattle.phys_proc.proofs.Taken.{take_one, least_more}
+use Rattle.phys_proc.proofs.Taken.{take_one, least_with}
 use Rattle.phys_proc.proofs.proc.Proc.least.Goals as goal
 
 pub loop-copy-preserved : goal.loop-copy-preserved
@@ -14,9 +14,8 @@ loop-copy-preserved c =
     let same = c.copies-copy-items.ensures.value in
     let l : i < length xs = subst (λ k. i < length k) same c.loop-copy-test.true in
     let whole = take_one xs i x l (c.copy-item.is ∙ ap (λ k. get_or k i x) same) in
-    subst (IsLeast (ends_in net.horizon c.args.ends.now) (take (i + 1) xs)) (sym c.earlier-least.ensures.value)
-    (least_more (ends_in net.horizon c.args.ends.now) (take i xs) (take (i + 1) xs) x whole c.loop-copy.least
-    c.least_of_copy.result c.loop-copy.invariant (rw (← c.horizon.ensures.value) c.least_of_copy.ensures.least))
+    least_with (ends_in net.horizon c.args.ends.now) (take i xs) (take (i + 1) xs) x whole c.loop-copy.least
+    c.with_copy-least.result (rw (← c.horizon.ensures.value) c.with_copy-least.ensures.least) c.loop-copy.invariant
 
 pub returns : goal.returns
 returns c =
