@@ -1,24 +1,26 @@
 -- What is given to a copy.
 use Rattle.std.proofs.Common.{◌≡◌, ℕ, zero, suc, ◌+◌, ◌<◌, arith, length, slice_set, get_or, ◌==◌, ◌&&◌, Bool}
 use Rattle.std.proofs.Common.{true, false, cond, List, [], ◌∷◌, refl, sym, ap, ◌∙◌, eqb-true, map, nat_lt}
+use Rattle.std.proofs.Common.{not, inl, inr, ap₂, eq-eqb}
 use Rattle.std.specs.List.{AllByRecursion, AllZip}
 use Rattle.sim_base.specs.Order.{msg_cmp}
 use Rattle.sim_base.specs.Pending.{insert_marked}
 use Rattle.sim_base.specs.declared.message.Msg.{Msg}
 use Rattle.sim_base.proofs.OrderLaws.{msg_total}
 use Rattle.sim_base.proofs.OrderEqual.{msg_same}
-use Rattle.clone_sets.specs.Sets.{has, union, meet, empty}
+use Rattle.sim_base.proofs.Placing.{all_weaker}
+use Rattle.clone_sets.specs.Sets.{has, union, meet, minus, empty}
 use Rattle.clone_sets.specs.declared.set.CloneSet.{CloneSet}
-use Rattle.clone_sets.proofs.SetLaws.{has-meet, has-empty}
+use Rattle.clone_sets.proofs.SetLaws.{has-meet, has-minus, has-empty, empty_from_none}
 use Rattle.net_model.specs.Net.{Net}
 use Rattle.stations.specs.Runs.{simulation}
 use Rattle.sim_base.specs.Marked.{SortedMarked}
-use Rattle.run_laws.specs.Copies.{IsGiven, takes}
+use Rattle.run_laws.specs.Copies.{IsGiven, Carries, Disjoint, takes}
 use Rattle.run_laws.specs.Queue.{insert}
 use Rattle.run_laws.specs.Handlers.{IsOrder}
 use Rattle.run_laws.proofs.Parts.{part-insert, sorted_insert_marked}
 use Rattle.run_laws.proofs.CopyViews.{takes_join}
-use Rattle.std.proofs.lemmas.Bool.{eqb-false, false≢true}
+use Rattle.std.proofs.lemmas.Bool.{cases_Bool, eqb-false, false≢true}
 use Rattle.phys_proc.specs.Own.{StationCopy, AreMarks, IsCopy, taken_at, given}
 use Rattle.phys_proc.proofs.Sends.{all_inserted, marks_inserted, marks_join}
 use Rattle.phys_proc.proofs.Onward.{sets_join}
@@ -138,3 +140,67 @@ pub length-changed : (f : StationCopy → StationCopy) (i : ℕ) (xs : List Stat
 length-changed f zero xs = refl
 length-changed f (suc i) [] = refl
 length-changed f (suc i) (x ∷ xs) = ap suc (length-changed f i xs)
+
+-- ---- until each clone of the set was met
+
+-- the clones of k that none of the first i copies stands for
+abbrev pub rest_after : CloneSet → List StationCopy → ℕ → CloneSet
+rest_after k xs zero = k
+rest_after k [] (suc i) = k
+rest_after k (x ∷ xs) (suc i) = rest_after (minus k x.set) xs i
+
+pub rest_more : (f : StationCopy → StationCopy) (k : CloneSet) (xs : List StationCopy) (i : ℕ) (d : StationCopy)
+    → i < length xs → minus (rest_after k xs i) (get_or (changed f i xs) i d).set ≡ rest_after k xs (i + 1)
+rest_more f k xs i d l = by_suc k xs i l ∙ ap (rest_after k xs) (next i)
+  where
+    next : (i : ℕ) → suc i ≡ i + 1
+    next i = omega arith
+
+    by_suc : (k : CloneSet) (xs : List StationCopy) (i : ℕ) → i < length xs
+        → minus (rest_after k xs i) (get_or (changed f i xs) i d).set ≡ rest_after k xs (suc i)
+    by_suc k [] i l = absurd (omega arith)
+    by_suc k (x ∷ xs) zero l = refl
+    by_suc k (x ∷ xs) (suc i) l = by_suc (minus k x.set) xs i (omega arith)
+
+module _ (m : Msg) (k : CloneSet) where
+  -- the message is for none of its clones
+  not_given : (a : StationCopy) → ((c : ℕ) → has k c ≡ true → ¬ (Carries has a c)) → given m k a ≡ a
+  not_given a apart =
+      let none = empty_from_none (meet a.set k)
+      (λ c. has-meet a.set k c ∙ no_one c (has a.set c) (has k c) refl refl) in
+      ap (λ b. record a { pending = cond b a.pending (insert_marked union msg_cmp m (meet a.set k) a.pending) })
+      (eq-eqb (meet a.set k) empty none)
+    where
+      no_one : (c : ℕ) (x y : Bool) → has a.set c ≡ x → has k c ≡ y → (x && y) ≡ false
+      no_one c false y e f = refl
+      no_one c true false e f = refl
+      no_one c true true e f = absurd (apart c f e)
+
+  none_given : (xs : List StationCopy) → ((c : ℕ) → has k c ≡ true → AllByRecursion (λ b. ¬ (Carries has b c)) xs)
+      → xs ≡ map (given m k) xs
+  none_given [] h = refl
+  none_given (x ∷ xs) h = ap₂ (λ y ys. y ∷ ys) (sym (not_given x (λ c i. (h c i).0)))
+      (none_given xs (λ c i. (h c i).1))
+
+  -- the copies behind those that stand for all its clones are unchanged
+  pub given_to_all : (rest : CloneSet) (xs : List StationCopy) (i : ℕ) → Disjoint has xs
+      → rest_after rest xs i ≡ empty
+      → ((c : ℕ) → has k c ≡ true → has rest c ≡ false → AllByRecursion (λ b. ¬ (Carries has b c)) xs)
+      → changed (given m k) i xs ≡ map (given m k) xs
+  given_to_all rest xs zero d e h = none_given xs (λ c i. h c i (ap (λ s. has s c) e ∙ has-empty c))
+  given_to_all rest [] (suc i) d e h = refl
+  given_to_all rest (x ∷ xs) (suc i) d e h = ap (λ t. given m k x ∷ t)
+      (given_to_all (minus rest x.set) xs i d.1 e apart)
+    where
+      not_left : (x y : Bool) → y ≡ false → (x && not y) ≡ false → x ≡ false
+      not_left false y o e = refl
+      not_left true false o e = absurd (false≢true (sym e))
+      not_left true true o e = absurd (false≢true (sym o))
+
+      apart : (c : ℕ) → has k c ≡ true → has (minus rest x.set) c ≡ false
+          → AllByRecursion (λ b. ¬ (Carries has b c)) xs
+      apart c y n = elim (cases_Bool (has x.set c)) [
+        | inl t ↦ all_weaker (λ b. (c : ℕ) → Carries has x c → ¬ (Carries has b c)) (λ b. ¬ (Carries has b c)) xs
+            (λ b f. f c t) d.0
+        | inr o ↦ (h c y (not_left (has rest c) (has x.set c) o (sym (has-minus rest x.set c) ∙ n))).1
+      ]

@@ -2,6 +2,8 @@
 ghost use Rattle.std.specs.Prelude.{◌≡◌, ◌<◌, ◌≤◌, ◌∷◌, ◌++◌, [], OnOk, IfOk, IfErr, IsTrue, map};
 ghost use Rattle.sim_base.specs.Marked.{SortedMarked};
 ghost use Rattle.sim_base.specs.Order.{msg_cmp};
+ghost use Rattle.clone_sets.specs.Sets.{has};
+ghost use Rattle.run_laws.specs.Copies.{Disjoint};
 ghost use Rattle.phys_proc.specs.Racks.{seen};
 ghost use Rattle.phys_proc.specs.Own.{given, forked, but_pending, IsLate, AreLate};
 
@@ -54,12 +56,20 @@ fn give(copy: &mut PhysCopy, msg: Msg, set: CloneSet) -> Result<(), NoMemory>
     Ok(())
 }
 
-// Gives a message to those clones of the copies that are in the set.
+// Gives a message to those clones of the copies that are in the set. No clone is in two copies, so none is looked at
+// behind the last that shares clones with the set.
 fn deliver(copies: &mut Vec<PhysCopy>, msg: Msg, set: CloneSet) -> Result<(), NoMemory>
+    requires disjoint { Disjoint has copies.old.items }
     ensures given { OnOk result (copies.new.items ≡ map (given msg set) copies.old.items) }
     ensures same { map but_pending copies.new.items ≡ map but_pending copies.old.items }
 {
+    // those that no copy so far stands for
+    let mut rest = set;
     for i in 0..copies.len() {
+        if rest.is_empty() {
+            return Ok(());
+        }
+        rest = rest.minus(copies[i].set);
         give(&mut copies[i], msg, set)?;
     }
     Ok(())
@@ -124,6 +134,7 @@ impl Copies {
 
     /// Gives a message to those clones of the copies that are in the set.
     pub fn deliver(&mut self, msg: Msg, set: CloneSet) -> Result<(), NoMemory>
+        requires disjoint { Disjoint has self.old }
         ensures given { OnOk result (self.new ≡ map (given msg set) self.old) }
         ensures same { map but_pending self.new ≡ map but_pending self.old }
     {

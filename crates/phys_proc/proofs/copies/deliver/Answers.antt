@@ -1,6 +1,8 @@
-use Rattle.std.proofs.Common.{arith, ap, ap₂, ◌∙◌, get_or, slice_set, length}
-use Rattle.phys_proc.specs.Own.{given, but_pending}
-use Rattle.phys_proc.proofs.Given.{changed_more, changed_all, length-changed}
+use Rattle.std.proofs.Common.{arith, sym, ap, ap₂, ◌∙◌, get_or, slice_set, length, eqb-true}
+use Rattle.std.proofs.lemmas.Bool.{false≢true}
+use Rattle.clone_sets.specs.Sets.{minus, empty}
+use Rattle.phys_proc.specs.Own.{StationCopy, given, but_pending}
+use Rattle.phys_proc.proofs.Given.{changed_more, changed_all, length-changed, rest_more, given_to_all}
 use Rattle.phys_proc.proofs.Shares.{same_set}
 use Rattle.phys_proc.proofs.copies.deliver.Goals as goal
 
@@ -25,7 +27,17 @@ loop-i-preserved c =
             length-changed (given c.args.msg c.args.set) c.loop-i.i c.args.copies.now.items,
           ))
           (c.in_ok-give.ensures.same ∙ ap but_pending c.index_mut.ensures.value) ∙ c.loop-i.invariant.same;
+      rest = c.minus-rest.ensures.value ∙ ap₂ minus c.loop-i.invariant.rest (ap (λ (u : StationCopy). u.set)
+          (c.behind-copies.view_is ∙ (c.index.ensures ∙ ap (λ l. get_or l c.loop-i.i c.index.result.now) h)))
+          ∙ rest_more f c.args.set c.args.copies.now.items c.loop-i.i c.index.result.now
+          (omega (arith, c.loop-i-test.true, c.loop-i.auto.i-end, c.len-i-end.ensures, c.args.copies.now.ok.0));
     }
+
+pub returns-then-is_empty-clause-given : goal.returns-then-is_empty-clause-given
+returns-then-is_empty-clause-given c = c.loop-i.invariant.given
+    ∙ given_to_all c.args.msg c.args.set c.args.set c.args.copies.now.items c.loop-i.i c.requires.disjoint
+    (sym c.loop-i.invariant.rest ∙ eqb-true c.loop-i.rest empty (sym c.if-is_empty.ensures.value))
+    (λ n y o. absurd (false≢true (sym o ∙ y)))
 
 pub returns-clause-given : goal.returns-clause-given
 returns-clause-given c = c.loop-i.invariant.given
