@@ -1,8 +1,7 @@
 -- A step of all copies of a station, copy after copy.
-use Rattle.std.proofs.Common.{◌≡◌, ℕ, zero, suc, ◌+◌, ◌*◌, ◌-◌, ◌<◌, ◌≤◌, List, [], ◌∷◌, ◌++◌, inl, inr, refl, sym, ap}
-use Rattle.std.proofs.Common.{◌∙◌, subst, arith, append_assoc, append-nil, map, take, length, get_or}
+use Rattle.std.proofs.Common.{◌≡◌, ℕ, ◌+◌, ◌*◌, ◌-◌, ◌≤◌, List, [], ◌∷◌, ◌++◌, inl, inr, refl, sym, ap}
+use Rattle.std.proofs.Common.{◌∙◌, subst, arith, append_assoc, append-nil, length}
 use Rattle.std.specs.List.{AllByRecursion}
-use Rattle.std.proofs.lemmas.List.{map-id}
 use Rattle.std.proofs.lemmas.Bool.{cases_Bool, false≢true}
 use Rattle.std.proofs.Math.Nat.{add-mul, mul-le-mul_left}
 use Rattle.sim_base.specs.declared.message.Msg.{Msg}
@@ -31,19 +30,6 @@ use Rattle.phys_proc.proofs.Onward.{sets_join, good_state, all_both, onward_star
 all_behind : {X : Type 0} (P : X → Type 0) (ys zs : List X) → AllByRecursion P (ys ++ zs) → AllByRecursion P zs
 all_behind P [] zs f = f
 all_behind P (y ∷ ys) zs f = all_behind P ys zs f.1
-
--- the copy that a walk over all has come to
-pub walked : (all ys : List StationCopy) (x : StationCopy) → map (λ y. y) ys ≡ take (length ys) all
-    → length ys < length all → x ≡ get_or all (length ys) x → (zs : List StationCopy) × (all ≡ ys ++ x ∷ zs)
-walked all ys x far l e =
-    let h = split_at all (length ys) x l e in
-    (h.0, h.1 ∙ ap (λ k. k ++ x ∷ h.0) (sym far ∙ map-id ys))
-  where
-    split_at : (all : List StationCopy) (n : ℕ) (x : StationCopy) → n < length all → x ≡ get_or all n x
-        → (zs : List StationCopy) × (all ≡ take n all ++ x ∷ zs)
-    split_at [] n x l e = absurd (omega (arith, l))
-    split_at (y ∷ all) zero x l e = (all, ap (λ z. z ∷ all) (sym e))
-    split_at (y ∷ all) (suc n) x l e = let h = split_at all n x (omega (arith, l)) e in (h.0, ap (λ k. y ∷ k) h.1)
 
 -- what holds of all holds of it
 pub holds_at : {X : Type 0} (P : X → Type 0) (ys zs : List X) (x : X) → AllByRecursion P (ys ++ x ∷ zs) → P x

@@ -57,6 +57,12 @@ pub late_put : (t u w : ℕ) (xs : List StationCopy) (x : StationCopy) → w ≡
 late_put t u w xs x e f g = all_both (IsLate w) xs (x ∷ []) (are_late_before w t xs (omega (arith, e)) f)
     (late_before w u x (omega (arith, e)) g, tt)
 
+-- two lists in one
+pub late_joined : (t u w : ℕ) (xs ys : List StationCopy) → w ≡ min t u → AreLate u xs → AreLate t ys
+    → AreLate w (xs ++ ys)
+late_joined t u w xs ys e f g = all_both (IsLate w) xs ys (are_late_before w u xs (omega (arith, e)) f)
+    (are_late_before w t ys (omega (arith, e)) g)
+
 -- one message more
 late_given : (t : ℕ) (m : Msg) (k : CloneSet) (a : StationCopy) → t ≤ m.key.time → IsLate t a → IsLate t (given m k a)
 late_given t m k a l f = by_test (meet a.set k == empty)

@@ -12,3 +12,5 @@ pub mod Late
 pub mod Shares
 pub mod Taken
 pub mod Seeing
+pub mod Finishing
+pub mod Standing

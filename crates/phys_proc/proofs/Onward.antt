@@ -22,9 +22,8 @@ use Rattle.run_laws.specs.Copies.{Ends, laid_aside}
 use Rattle.run_laws.proofs.Ends.{ends_done, ends_over, ends_handle, ends_same, ends_split}
 use Rattle.phys_proc.proofs.Counting.{few_more, few_apart, shared_more, shared_apart, alone-append}
 use Rattle.std.proofs.Math.Nat.{add-mul}
-use Rattle.std.proofs.lemmas.Nat.{mul-le}
 use Rattle.phys_proc.specs.Own.{StationCopy, Marked, handled_alone, may_handle, takes_at, IsCopy}
-use Rattle.phys_proc.specs.Own.{IsSame, NextDue, NothingDue, IsHandled, Advanced, half}
+use Rattle.phys_proc.specs.Own.{IsSame, NextDue, NothingDue, IsHandled, Advanced, Onward, half}
 use Rattle.phys_proc.proofs.Parted.{copy_same, narrowed_same, copy_half, narrowed_half}
 
 pub sets_join : JoinsMarks has union
@@ -69,18 +68,11 @@ module _ (net : Net) (s : ℕ) (ends : ℕ → ℕ) (bound : ℕ) where
   abbrev pub Comes : StationCopy → List StationCopy → Marked → Marked → CloneSet → CloneSet → ℕ → Type 0
   Comes = Ends (simulation net) has ends s bound
 
-  -- so far the copy has come, in so many steps: what comes of it now comes of the first
-  pub record Onward (first copy : StationCopy) (start sent : Marked) (steps0 steps : ℕ) : Type 0 where
-    pub fits : IsCopy net s copy
-    pub set : copy.set ≡ first.set
-    pub taken : ℕ
-    pub log : length copy.log ≡ length first.log + taken
-    pub counted : steps ≡ steps0 + taken
-    pub next : (results : List StationCopy) (after : Marked) (over over_after : CloneSet) (n : ℕ)
-        → Comes copy results sent after over over_after n → Comes first results start after over over_after (n + taken)
+  abbrev pub On : StationCopy → StationCopy → Marked → Marked → ℕ → ℕ → Type 0
+  On = Onward net s ends bound
 
   pub onward_start : (first : StationCopy) (start : Marked) (steps : ℕ) → IsCopy net s first
-      → Onward first first start start steps steps
+      → On first first start start steps steps
   onward_start first start steps f =
       record {
         fits = f;
@@ -97,7 +89,7 @@ module _ (net : Net) (s : ℕ) (ends : ℕ → ℕ) (bound : ℕ) where
 
   -- messages were passed over
   abbrev pub onward_same : (first copy new : StationCopy) (start sent : Marked) (steps0 steps : ℕ)
-      → Onward first copy start sent steps0 steps → IsSame ends copy new → Onward first new start sent steps0 steps
+      → On first copy start sent steps0 steps → IsSame ends copy new → On first new start sent steps0 steps
   onward_same first copy new start sent steps0 steps o h = record {
     fits = copy_same ends net s copy new o.fits h;
     set = h.set ∙ o.set;
@@ -110,9 +102,9 @@ module _ (net : Net) (s : ℕ) (ends : ℕ → ℕ) (bound : ℕ) where
   }
 
   module _ (first copy new : StationCopy) (start sent : Marked) (steps0 steps : ℕ)
-      (o : Onward first copy start sent steps0 steps) (m : Msg) (takers : CloneSet)
+      (o : On first copy start sent steps0 steps) (m : Msg) (takers : CloneSet)
       (d : NextDue ends bound copy new m takers) where
-    abbrev pub onward_new : Onward first new start sent steps0 steps
+    abbrev pub onward_new : On first new start sent steps0 steps
     onward_new = onward_same first copy new start sent steps0 steps o d.same
 
     -- who takes the message
@@ -137,7 +129,7 @@ module _ (net : Net) (s : ℕ) (ends : ℕ → ℕ) (bound : ℕ) where
 
     -- all take it
     pub came_on : (next : StationCopy) (after : Marked) (steps1 : ℕ) → takers ≡ new.set → length new.log < net.limit
-        → IsHandled net s new next sent after → steps1 ≡ steps + 1 → Onward first next start after steps0 steps1
+        → IsHandled net s new next sent after → steps1 ≡ steps + 1 → On first next start after steps0 steps1
     came_on next after steps1 e room handled tick =
         let x = handled m d.marks d.rest d.pending in
         let n0 = onward_new in
@@ -213,15 +205,7 @@ module _ (net : Net) (s : ℕ) (ends : ℕ → ℕ) (bound : ℕ) where
     parts_size = let h = size_parts new.set takers in let m = ap size takers_meet in let e = ap size onward_new.set in
         omega (arith, h, m, e)
 
-    -- the first clones may handle what was handled, and what the copy's may handle still
-    pub still_few : o.taken + may_handle net.limit new ≤ may_handle net.limit first
-    still_few =
-        let h = few_apart (size first.set) (length first.log) (length new.log) o.taken net.limit clones_some new_log
-        onward_new.fits.short (size first.set) 0 (may_handle net.limit new) 0 (omega arith)
-        (let e = ap (λ k. size k * (net.limit - length new.log)) onward_new.set in omega (arith, e))
-        (omega arith) in
-        omega (arith, h)
-
+    -- the halves together may handle what the copy may
     pub parts_few : may_handle net.limit (half new takers) + may_handle net.limit (half new (minus new.set takers))
         ≡ may_handle net.limit new
     parts_few =
@@ -230,15 +214,6 @@ module _ (net : Net) (s : ℕ) (ends : ℕ → ℕ) (bound : ℕ) where
         let e = ap (λ n. n * (net.limit - length new.log)) h in
         let k = ap (λ k. size k * (net.limit - length new.log)) onward_new.set in
         omega (arith, d, e, k)
-
-    pub one_more_few : takers ≡ new.set → length new.log < net.limit → o.taken + 1 ≤ may_handle net.limit first
-    one_more_few e room =
-        let h = still_few in
-        let s = clones_some in
-        let k = ap size onward_new.set in
-        let r : 1 ≤ net.limit - length new.log = omega (arith, room) in
-        let m = mul-le 1 1 (size new.set) (net.limit - length new.log) (omega (arith, s, k)) r in
-        omega (arith, h, m)
 
     -- what that makes of the first copy
     pub answer_over : (done0 done1 : List StationCopy) (over0 over1 over2 : CloneSet) → done1 ≡ done0 → over1 ≡ over0
@@ -327,7 +302,7 @@ module _ (net : Net) (s : ℕ) (ends : ℕ → ℕ) (bound : ℕ) where
 
   -- nothing is left before the bound
   pub came_to_rest : (first copy new : StationCopy) (start sent : Marked) (steps0 steps : ℕ)
-      (o : Onward first copy start sent steps0 steps) → NothingDue ends bound copy new → (over : CloneSet)
+      (o : On first copy start sent steps0 steps) → NothingDue ends bound copy new → (over : CloneSet)
       → Comes first (new ∷ []) start sent over over (0 + o.taken) × IsCopy net s new
   came_to_rest first copy new start sent steps0 steps o d over =
       let n = onward_same first copy new start sent steps0 steps o d.same in (
@@ -338,7 +313,7 @@ module _ (net : Net) (s : ℕ) (ends : ℕ → ℕ) (bound : ℕ) where
       )
 
   pub answer_rest : (first copy new : StationCopy) (start sent : Marked) (steps0 steps : ℕ)
-      (o : Onward first copy start sent steps0 steps) (d : NothingDue ends bound copy new)
+      (o : On first copy start sent steps0 steps) (d : NothingDue ends bound copy new)
       (done0 done1 done2 : List StationCopy) (over0 over1 : CloneSet) →
       done1 ≡ done0 → over1 ≡ over0 → done2 ≡ done1 ++ new ∷ []
       → Advanced net s ends bound first done0 done2 start sent over0 over1 steps0 steps
@@ -359,12 +334,52 @@ module _ (net : Net) (s : ℕ) (ends : ℕ → ℕ) (bound : ℕ) where
             omega (arith, k, e);
       }
     where
-      n : Onward first new start sent steps0 steps
+      n : On first new start sent steps0 steps
       n = onward_same first copy new start sent steps0 steps o d.same
 
       clones_some : 0 < size first.set
       clones_some = subst (λ k. 0 < size k) n.set
           (size_some new.set (some_set new.set n.fits.inhabited.0 n.fits.inhabited.1))
+
+  module _ (first copy : StationCopy) (start sent : Marked) (steps0 steps : ℕ)
+      (o : On first copy start sent steps0 steps) where
+    first_some : 0 < size first.set
+    first_some = subst (λ k. 0 < size k) o.set
+        (size_some copy.set (some_set copy.set o.fits.inhabited.0 o.fits.inhabited.1))
+
+    -- what comes of the copy from here on comes of the first
+    pub answer_on : (done0 done1 : List StationCopy) (after : Marked) (over0 over1 : CloneSet) (steps1 : ℕ)
+        → Advanced net s ends bound copy done0 done1 sent after over0 over1 steps steps1
+        → Advanced net s ends bound first done0 done1 start after over0 over1 steps0 steps1
+    answer_on done0 done1 after over0 over1 steps1 a = record {
+      results = a.results;
+      gained = a.gained + o.taken;
+      done = a.done;
+      steps = let c0 = o.counted in let c1 = a.steps in omega (arith, c0, c1);
+      comes = o.next a.results after over0 over1 a.gained a.comes;
+      fits = a.fits;
+      few =
+          let h = few_apart (size first.set) (length first.log) (length copy.log) o.taken net.limit first_some o.log
+          o.fits.short (size first.set) 0 a.gained 0 (omega arith)
+          (let f = a.few in let e = ap (λ k. size k * (net.limit - length copy.log)) o.set in omega (arith, f, e))
+          (omega arith) in
+          omega (arith, h);
+      shared = λ none.
+          let k = shared_more (size first.set) (length first.log) (length copy.log) o.taken net.limit first_some o.log
+          o.fits.short in
+          let e = ap (λ k. size k * length copy.log) o.set in
+          let f = a.shared none in
+          omega (arith, k, e, f);
+    }
+
+    -- what was handled, and what may be handled still
+    pub left_few : o.taken + may_handle net.limit copy ≤ may_handle net.limit first
+    left_few =
+        let h = few_apart (size first.set) (length first.log) (length copy.log) o.taken net.limit first_some o.log
+        o.fits.short (size first.set) 0 (may_handle net.limit copy) 0 (omega arith)
+        (let e = ap (λ k. size k * (net.limit - length copy.log)) o.set in omega (arith, e))
+        (omega arith) in
+        omega (arith, h)
 
 pub fewer_left : (limit a b c : ℕ) → b ≡ a + 1 → a ≡ c → a < limit → limit - b < limit - c
 fewer_left limit a b c e f l = omega (arith, e, f)

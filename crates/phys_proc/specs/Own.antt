@@ -122,6 +122,18 @@ IsHandled net s old new before after = (m : Msg) (k : CloneSet) (q : Marked) →
     (new ≡ handled_by (simulation net) union s old m q) × (after ≡ before ++ laid_aside (simulation net) s old m) ×
     IsCopy net s new
 
+-- so far a copy has come, in so many steps: what comes of it now comes of the first
+pub record Onward (net : Net) (s : ℕ) (ends : ℕ → ℕ) (bound : ℕ) (first copy : StationCopy) (start sent : Marked)
+    (steps0 steps : ℕ) : Type 0 where
+  pub fits : IsCopy net s copy
+  pub set : copy.set ≡ first.set
+  pub taken : ℕ
+  pub log : length copy.log ≡ length first.log + taken
+  pub counted : steps ≡ steps0 + taken
+  pub next : (results : List StationCopy) (after : Marked) (over over_after : CloneSet) (n : ℕ) →
+      Ends (simulation net) has ends s bound copy results sent after over over_after n →
+      Ends (simulation net) has ends s bound first results start after over over_after (n + taken)
+
 -- what came of a copy at the bound
 pub record Advanced (net : Net) (s : ℕ) (ends : ℕ → ℕ) (bound : ℕ) (r : StationCopy) (done0 done1 : List StationCopy)
     (sent0 sent1 : Marked) (over0 over1 : CloneSet) (steps0 steps1 : ℕ) : Type 0 where

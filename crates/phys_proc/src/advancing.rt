@@ -1,7 +1,8 @@
 //! What comes of one copy up to a bound.
-ghost use Rattle.std.specs.Prelude.{◌≡◌, [], ◌+◌, ◌^◌, ◌≤◌, OnOk};
+ghost use Rattle.std.specs.Prelude.{◌≡◌, [], ◌+◌, ◌^◌, ◌≤◌, OnOk, IfOk};
 ghost use Rattle.clone_sets.specs.Sets.{empty};
-ghost use Rattle.phys_proc.specs.Own.{IsCopy, Advanced, may_handle};
+ghost use Rattle.phys_proc.specs.Own.{IsCopy, Advanced, Onward, may_handle};
+ghost use Rattle.phys_proc.specs.Stops.{IsStop};
 ghost use Rattle.phys_proc.specs.Gone.{ends_in};
 
 use crate::clone_ends::CloneEnds;
@@ -42,11 +43,63 @@ impl Stage {
     }
 }
 
-/// Steps a copy to the bound, in place; where its clones part it becomes several, or they go over the limit.
+/// Why a copy goes no further as it is.
+#[derive(Clone, Copy, Debug, PartialEq, Eq)]
+pub(crate) enum Stop {
+    /// Nothing is due before the bound.
+    Settled,
+    /// The logs of its clones would get longer than the limit.
+    Full,
+    /// These of its clones take the next message, and the others do not.
+    Parts(CloneSet),
+}
+
+/// Handles what all clones of a copy take before the bound, in place, and says why it goes no further.
 /// `out` is a buffer for what one message sends.
-pub(crate) fn advance<L: Ledger>(
+pub(crate) fn go_on<L: Ledger>(
+    copy: &mut PhysCopy,
+    model: &Model,
+    station: u32,
+    ends: &CloneEnds,
+    bound: u64,
+    out: &mut ArrayVec<Msg, 16>,
+    stage: &mut Stage,
+    steps: &mut Steps<L>,
+) -> Result<Stop, NoMemory>
+    requires fits { IsCopy model.now station copy.old }
+    requires early { bound ≤ model.now.horizon }
+    requires few { stage.old.handled + may_handle model.now.limit copy.old ≤ 2 ^ 32 }
+    ensures onward { OnOk result (Onward model.now station (ends_in model.now.horizon ends.now) bound copy.old copy.new
+        stage.old.sent.items stage.new.sent.items steps.old steps.new) }
+    ensures stop { IfOk result (λ stop. IsStop model.now.limit (ends_in model.now.horizon ends.now) bound copy.new
+        stop) }
+    ensures done { OnOk result (stage.new.done ≡ stage.old.done) }
+    ensures over { OnOk result (stage.new.over ≡ stage.old.over) }
+    ensures handled { OnOk result (stage.new.handled + steps.old ≡ stage.old.handled + steps.new) }
+{
+    loop {
+        let Some(due) = next_due(copy, ends, bound, model.horizon()) else {
+            return Ok(Stop::Settled);
+        };
+        let takers = due.1;
+        if takers == copy.set() {
+            if copy.log().len() >= model.limit() {
+                return Ok(Stop::Full);
+            }
+            stage.handled += 1;
+            handle_least(copy, model, station, out, &mut stage.sent, steps)?;
+        } else {
+            return Ok(Stop::Parts(takers));
+        }
+    }
+}
+
+/// What comes of a copy that goes no further as it is: where its clones part it becomes several, or they go over the
+/// limit.
+pub(crate) fn finish<L: Ledger>(
     alloc: Global,
-    first: PhysCopy,
+    copy: PhysCopy,
+    stop: Stop,
     model: &Model,
     station: u32,
     ends: &CloneEnds,
@@ -55,36 +108,34 @@ pub(crate) fn advance<L: Ledger>(
     stage: &mut Stage,
     steps: &mut Steps<L>,
 ) -> Result<(), NoMemory>
-    requires fits { IsCopy model.now station first }
+    requires fits { IsCopy model.now station copy }
+    requires stop { IsStop model.now.limit (ends_in model.now.horizon ends.now) bound copy stop }
     requires early { bound ≤ model.now.horizon }
-    requires few { stage.old.handled + may_handle model.now.limit first ≤ 2 ^ 32 }
-    ensures comes { OnOk result (Advanced model.now station (ends_in model.now.horizon ends.now) bound first
+    requires few { stage.old.handled + may_handle model.now.limit copy ≤ 2 ^ 32 }
+    ensures comes { OnOk result (Advanced model.now station (ends_in model.now.horizon ends.now) bound copy
         stage.old.done stage.new.done stage.old.sent.items stage.new.sent.items stage.old.over stage.new.over
         steps.old steps.new) }
     ensures handled { OnOk result (stage.new.handled + steps.old ≡ stage.old.handled + steps.new) }
 {
-    let mut copy = first;
-    loop {
-        let Some(due) = next_due(&mut copy, ends, bound, model.horizon()) else {
+    match stop {
+        Stop::Settled => {
             let least = earliest(&copy);
             stage.done.put(copy, least)?;
-            return Ok(());
-        };
-        let takers = due.1;
-        if takers == copy.set {
-            if copy.log.len() >= model.limit() {
-                stage.over = stage.over.union(copy.set);
-                return Ok(());
-            }
-            stage.handled += 1;
-            handle_least(&mut copy, model, station, out, &mut stage.sent, steps)?;
-        } else {
-            let (some, others) = copy.halves(alloc, takers)?;
-            advance(alloc, some, model, station, ends, bound, out, stage, steps)?;
-            advance(
-                alloc, others, model, station, ends, bound, out, stage, steps,
+        }
+        Stop::Full => {
+            stage.over = stage.over.union(copy.set);
+        }
+        Stop::Parts(takers) => {
+            let (mut some, mut others) = copy.halves(alloc, takers)?;
+            let first = go_on(&mut some, model, station, ends, bound, out, stage, steps)?;
+            finish(
+                alloc, some, first, model, station, ends, bound, out, stage, steps,
             )?;
-            return Ok(());
+            let second = go_on(&mut others, model, station, ends, bound, out, stage, steps)?;
+            finish(
+                alloc, others, second, model, station, ends, bound, out, stage, steps,
+            )?;
         }
     }
+    Ok(())
 }

@@ -1,5 +1,5 @@
 //! A list of copies, and a time that nothing of them is pending before.
-ghost use Rattle.std.specs.Prelude.{◌≡◌, ◌<◌, ◌≤◌, ◌∷◌, ◌++◌, [], OnOk, IfOk, IfErr, IsTrue, map};
+ghost use Rattle.std.specs.Prelude.{◌≡◌, ◌<◌, ◌≤◌, ◌∷◌, ◌++◌, [], OnOk, IfOk, IsTrue, map};
 ghost use Rattle.sim_base.specs.Marked.{SortedMarked};
 ghost use Rattle.sim_base.specs.Order.{msg_cmp};
 ghost use Rattle.clone_sets.specs.Sets.{has};
@@ -132,6 +132,18 @@ impl Copies {
         Ok(())
     }
 
+    /// Puts copies before these, of which nothing is pending before `least`.
+    pub fn put_before(&mut self, copies: Vec<PhysCopy>, least: u64) -> Result<(), NoMemory>
+        requires late { AreLate least copies.items }
+        ensures all { OnOk result (self.new ≡ copies.items ++ self.old) }
+    {
+        let mut copies = copies;
+        copies.append(&mut self.copies)?;
+        self.copies = copies;
+        self.least = self.least.min(least);
+        Ok(())
+    }
+
     /// Gives a message to those clones of the copies that are in the set.
     pub fn deliver(&mut self, msg: Msg, set: CloneSet) -> Result<(), NoMemory>
         requires disjoint { Disjoint has self.old }
@@ -184,28 +196,6 @@ impl Copies {
     {
         let Copies { copies, least: _ } = self;
         copies
-    }
-
-    /// The only copy, and no copies, in the memory that there is; else all copies again.
-    pub fn only(self) -> Result<(PhysCopy, Copies), Copies>
-        ensures one { IfOk result (λ p. self ≡ p.0 ∷ []) }
-        ensures rest { IfOk result (λ p. p.1 ≡ []) }
-        ensures same { IfErr result (λ p. p ≡ self) }
-    {
-        let Copies { mut copies, least } = self;
-        if copies.len() == 1 {
-            let Some(copy) = copies.pop() else {
-                unreachable!()
-            };
-            return Ok((
-                copy,
-                Copies {
-                    copies,
-                    least: u64::MAX,
-                },
-            ));
-        }
-        Err(Copies { copies, least })
     }
 
     /// The copies.

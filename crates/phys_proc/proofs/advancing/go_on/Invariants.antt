@@ -1,15 +1,11 @@
 use Rattle.std.proofs.Common.{◌≡◌, ◌+◌, ◌-◌, length}
-use Rattle.clone_sets.specs.Sets.{size}
 use Rattle.phys_proc.specs.Gone.{ends_in}
-use Rattle.phys_proc.proofs.Onward.{Onward}
-use Rattle.phys_proc.proofs.advancing.+advance.Given as goal
-
-abbrev pub decreases-advance : goal.decreases-advance
-decreases-advance g l = size l.first.set
+use Rattle.phys_proc.specs.Own.{Onward}
+use Rattle.phys_proc.proofs.advancing.go_on.Given as goal
 
 abbrev pub invariant-loop-due : goal.invariant-loop-due
 invariant-loop-due g l = record {
-  onward : Onward l.model l.station (ends_in l.model.horizon l.ends) l.bound l.fn.first l.copy l.fn.stage.sent.items
+  onward : Onward l.model l.station (ends_in l.model.horizon l.ends) l.bound l.fn.copy l.copy l.fn.stage.sent.items
       l.stage.sent.items l.fn.steps l.steps;
   done : l.stage.done ≡ l.fn.stage.done;
   over : l.stage.over ≡ l.fn.stage.over;

@@ -1,0 +1,269 @@
+-- Copies that are stepped where they stand, and what comes of those that are taken out.
+use Rattle.std.proofs.Common.{◌≡◌, ℕ, zero, suc, ◌+◌, ◌^◌, ◌<◌, ◌≤◌, List, [], ◌∷◌, ◌++◌, inl, inr, refl, sym, ap}
+use Rattle.std.proofs.Common.{ap₂, ◌∙◌, subst, arith, append_assoc, append-nil, take, drop, length, get_or, slice_set}
+use Rattle.std.specs.List.{AllByRecursion, remove}
+use Rattle.std.proofs.lemmas.List.{drop_more, drop-set-lt, take_more_set, take-set, take_all, length-set}
+use Rattle.std.proofs.lemmas.List.{get_or-set_same}
+use Rattle.std.proofs.lemmas.List.Edits.{length-remove}
+use Rattle.std.proofs.Math.ListN.{drop_of_length-le}
+use Rattle.clone_sets.specs.Sets.{has, empty}
+use Rattle.clone_sets.specs.declared.set.CloneSet.{CloneSet}
+use Rattle.net_model.specs.Net.{Net}
+use Rattle.net_model.specs.Rules.{IsNet}
+use Rattle.run_laws.specs.Queue.{In}
+use Rattle.run_laws.specs.Copies.{Disjoint, Carries}
+use Rattle.run_laws.proofs.Queue.{all_in, all_from}
+use Rattle.run_laws.proofs.Lists.{in_append, append_old, append_new}
+use Rattle.run_laws.proofs.Ends.{disjoint_append}
+use Rattle.phys_proc.specs.Own.{StationCopy, Marked, IsCopy, Advanced, Onward, Stepping, NothingDue}
+use Rattle.phys_proc.specs.Own.{all_sizes, may_handle}
+use Rattle.phys_proc.proofs.Counting.{alone-append}
+use Rattle.phys_proc.proofs.Shares.{few_next}
+use Rattle.phys_proc.proofs.AllCopies.{holds_at, stepping_start, stepping_more}
+use Rattle.phys_proc.proofs.Onward.{answer_rest, answer_on}
+
+-- ---- lists of which one place changes
+
+-- behind the place all is as it was
+behind_set : (cs : List StationCopy) (i : ℕ) (y : StationCopy) → drop (i + 1) (slice_set cs i y) ≡ drop (i + 1) cs
+behind_set cs i y = drop-set-lt (i + 1) cs i y (omega arith)
+
+-- what is read at a place is what was set there
+pub set_there : (cs : List StationCopy) (i : ℕ) (x y : StationCopy) → i < length cs → x ≡ get_or (slice_set cs i y) i x
+    → x ≡ y
+set_there cs i x y l e = e ∙ get_or-set_same cs i y x l
+
+-- the copy at a place begins what is left
+at_place : (cs : List StationCopy) (i : ℕ) (x : StationCopy) → i < length cs → x ≡ get_or cs i x
+    → drop i cs ≡ x ∷ drop (i + 1) cs
+at_place cs i x l e = drop_more cs i x l ∙ ap (λ y. y ∷ drop (i + 1) cs) (sym e)
+
+-- a list of which the rest is another: its front, and the rest
+cut_take : (cs zs : List StationCopy) (i : ℕ) → i ≤ length cs → take i (take i cs ++ zs) ≡ take i cs
+cut_take cs zs zero l = refl
+cut_take [] zs (suc i) l = absurd (omega (arith, l))
+cut_take (x ∷ cs) zs (suc i) l = ap (λ k. x ∷ k) (cut_take cs zs i (omega (arith, l)))
+
+cut_drop : (cs zs : List StationCopy) (i : ℕ) → i ≤ length cs → drop i (take i cs ++ zs) ≡ zs
+cut_drop cs zs zero l = refl
+cut_drop [] zs (suc i) l = absurd (omega (arith, l))
+cut_drop (x ∷ cs) zs (suc i) l = cut_drop cs zs i (omega (arith, l))
+
+-- the list without the copy at a place, which was set before
+module _ (cs after : List StationCopy) (i : ℕ) (y : StationCopy) (there : i < length cs)
+    (is : after ≡ remove (slice_set cs i y) i) where
+  without : after ≡ take i cs ++ drop (i + 1) cs
+  without = is ∙ (ap (λ n. take i (slice_set cs i y) ++ drop n (slice_set cs i y)) next
+      ∙ ap₂ (λ a b. a ++ b) (take-set cs i y) (behind_set cs i y))
+    where
+      next : suc i ≡ i + 1
+      next = omega arith
+
+  pub without_take : take i after ≡ take i cs
+  without_take = ap (take i) without ∙ cut_take cs (drop (i + 1) cs) i (omega (arith, there))
+
+  without_drop : drop i after ≡ drop (i + 1) cs
+  without_drop = ap (drop i) without ∙ cut_drop cs (drop (i + 1) cs) i (omega (arith, there))
+
+  pub without_shorter : length after + 1 ≡ length cs
+  without_shorter =
+      let e = ap length is in
+      let n = length-set cs i y in
+      let h = length-remove (slice_set cs i y) i (omega (arith, there, n)) in
+      omega (arith, e, n, h)
+
+-- ---- copies that are done, in another order
+
+-- three lists, of which the last two change places, have the same elements
+turned_in : (a m b : List StationCopy) (z : StationCopy) → In z ((a ++ b) ++ m) → In z ((a ++ m) ++ b)
+turned_in a m b z i = elim (in_append (a ++ b) m z i) [
+  | inl j ↦ elim (in_append a b z j) [
+    | inl k ↦ append_old (a ++ m) b z (append_old a m z k)
+    | inr k ↦ append_new (a ++ m) b z k
+  ]
+  | inr j ↦ append_old (a ++ m) b z (append_new a m z j)
+]
+
+-- of disjoint copies those in front are disjoint, and those behind, and these from those
+disjoint_first : (xs ys : List StationCopy) → Disjoint has (xs ++ ys) → Disjoint has xs
+disjoint_first [] ys d = tt
+disjoint_first (x ∷ xs) ys d = (
+  all_from (λ b. (c : ℕ) → Carries has x c → ¬ (Carries has b c)) xs (λ b i.
+      all_in (λ b. (c : ℕ) → Carries has x c → ¬ (Carries has b c)) (xs ++ ys) b d.0 (append_old xs ys b i)),
+  disjoint_first xs ys d.1,
+)
+
+disjoint_last : (xs ys : List StationCopy) → Disjoint has (xs ++ ys) → Disjoint has ys
+disjoint_last [] ys d = d
+disjoint_last (x ∷ xs) ys d = disjoint_last xs ys d.1
+
+disjoint_apart : (xs ys : List StationCopy) → Disjoint has (xs ++ ys) → (a b : StationCopy) (c : ℕ) → In a xs → In b ys
+    → Carries has a c → Carries has b c → ⊥
+disjoint_apart [] ys d a b c i j k l = absurd i
+disjoint_apart (x ∷ xs) ys d a b c (inl e) j k l = all_in (λ b. (c : ℕ) → Carries has x c → ¬ (Carries has b c))
+    (xs ++ ys) b d.0 (append_new xs ys b j) c (subst (λ u. Carries has u c) e k) l
+disjoint_apart (x ∷ xs) ys d a b c (inr i) j k l = disjoint_apart xs ys d.1 a b c i j k l
+
+disjoint_turned : (a m b : List StationCopy) → Disjoint has ((a ++ m) ++ b) → Disjoint has ((a ++ b) ++ m)
+disjoint_turned a m b d =
+    let am = disjoint_first (a ++ m) b d in
+    disjoint_append has (a ++ b) m
+    (disjoint_append has a b (disjoint_first a m am) (disjoint_last (a ++ m) b d)
+    (λ x y c i j. disjoint_apart (a ++ m) b d x y c (append_old a m x i) j))
+    (disjoint_last a m am)
+    (λ x y c i j k l. elim (in_append a b x i) [
+      | inl u ↦ disjoint_apart a m am x y c u j k l
+      | inr u ↦ disjoint_apart (a ++ m) b d y x c (append_new a m y j) u l k
+    ])
+
+module _ (net : Net) (s : ℕ) (ends : ℕ → ℕ) (bound : ℕ) where
+  -- nothing that a step says depends on the order of what is done
+  stepping_turned : (old a m b : List StationCopy) (sent : Marked) (over : CloneSet) (steps0 steps : ℕ)
+      → Stepping net s ends bound old ((a ++ m) ++ b) sent over steps0 steps
+      → Stepping net s ends bound old ((a ++ b) ++ m) sent over steps0 steps
+  stepping_turned old a m b sent over steps0 steps f =
+      let back : (z : StationCopy) → In z ((a ++ b) ++ m) → In z ((a ++ m) ++ b) = turned_in a m b in
+      let far = f.far in
+      record {
+        far = record {
+          inhabited = λ z i. far.inhabited z (back z i);
+          from = λ z i. far.from z (back z i);
+          carried = λ z c i k. elim (far.carried z c i k) [
+            | inl x ↦ inl (x.0, turned_in a b m x.0 x.1, x.2)
+            | inr x ↦ inr x
+          ];
+          ran = λ z y c i j. far.ran z y c i (back y j);
+          short = λ z i. far.short z (back z i);
+          too_long = far.too_long;
+          parted = λ z y w c d i j k. far.parted z y w c d i (back y j) (back w k);
+          disjoint = disjoint_turned a m b far.disjoint;
+          idle = far.idle;
+        };
+        count = f.count;
+        gained = f.gained;
+        counted = f.counted;
+        fits = all_from (IsCopy net s) ((a ++ b) ++ m)
+            (λ z i. all_in (IsCopy net s) ((a ++ m) ++ b) z f.fits (back z i));
+        few = f.few;
+        shared = λ none.
+            let h = f.shared none in
+            let k0 = alone-append (a ++ m) b in
+            let k1 = alone-append a m in
+            let k2 = alone-append (a ++ b) m in
+            let k3 = alone-append a b in
+            omega (arith, h, k0, k1, k2, k3);
+      }
+
+  -- copies that were done before stay
+  advanced_behind : (front : List StationCopy) (r : StationCopy) (done0 done1 : List StationCopy) (sent0 sent1 : Marked)
+      (over0 over1 : CloneSet) (steps0 steps1 : ℕ)
+      → Advanced net s ends bound r done0 done1 sent0 sent1 over0 over1 steps0 steps1
+      → Advanced net s ends bound r (front ++ done0) (front ++ done1) sent0 sent1 over0 over1 steps0 steps1
+  advanced_behind front r done0 done1 sent0 sent1 over0 over1 steps0 steps1 a = record {
+    results = a.results;
+    gained = a.gained;
+    done = ap (λ k. front ++ k) a.done ∙ sym (append_assoc front done0 a.results);
+    steps = a.steps;
+    comes = a.comes;
+    fits = a.fits;
+    few = a.few;
+    shared = a.shared;
+  }
+
+-- ---- as the loop goes on
+
+-- the copies before a place are done, and so are those that came of copies that were taken out
+pub record Standing (net : Net) (s : ℕ) (ends : ℕ → ℕ) (bound : ℕ) (all : List StationCopy) (i : ℕ)
+    (cs more : List StationCopy) (sent : Marked) (over : CloneSet) (steps0 steps : ℕ) : Type 0 where
+  pub passed : List StationCopy
+  pub whole : all ≡ passed ++ drop i cs
+  pub far : Stepping net s ends bound passed (take i cs ++ more) sent over steps0 steps
+
+module _ (net : Net) (valid : IsNet net) (s : ℕ) (ends : ℕ → ℕ) (bound : ℕ) where
+  -- at first none is done
+  pub standing_start : (all more : List StationCopy) (sent : Marked) (over : CloneSet) (steps : ℕ) → more ≡ []
+      → sent ≡ [] → over ≡ empty → Standing net s ends bound all 0 all more sent over steps steps
+  standing_start all more sent over steps e f g = record {
+    passed = [];
+    whole = refl;
+    far = subst (λ k. Stepping net s ends bound [] k sent over steps steps) (sym e)
+        (subst (λ k. Stepping net s ends bound [] [] k over steps steps) (sym f)
+        (subst (λ k. Stepping net s ends bound [] [] [] k steps steps) (sym g)
+        (stepping_start net valid s ends bound steps)));
+  }
+
+  -- a copy that the loop comes to
+  module _ (all cs more : List StationCopy) (i : ℕ) (sent : Marked) (over : CloneSet) (steps0 steps : ℕ)
+      (h : Standing net s ends bound all i cs more sent over steps0 steps) (there : i < length cs)
+      (x : StationCopy) (is : x ≡ get_or cs i x) where
+    abbrev left : List StationCopy
+    left = drop (i + 1) cs
+
+    whole_is : all ≡ h.passed ++ x ∷ left
+    whole_is = h.whole ∙ ap (λ k. h.passed ++ k) (at_place cs i x there is)
+
+    next_whole : all ≡ (h.passed ++ x ∷ []) ++ left
+    next_whole = whole_is ∙ sym (append_assoc h.passed (x ∷ []) left)
+
+    -- it is a copy of the station, whose clones may handle no more than there is a number for
+    pub standing_fits : AllByRecursion (IsCopy net s) all → IsCopy net s x
+    standing_fits f = holds_at (IsCopy net s) h.passed left x (subst (AllByRecursion (IsCopy net s)) whole_is f)
+
+    pub standing_few : all_sizes all ≤ 256 → (handled : ℕ) → handled + steps0 ≡ steps
+        → handled + may_handle net.limit x ≤ 2 ^ 32
+    standing_few few handled e =
+        let sizes = ap all_sizes whole_is in
+        let f = h.far.few in
+        let k = h.far.counted in
+        few_next net.limit handled h.passed left x (omega (arith, few, sizes)) valid.short (omega (arith, f, k, e))
+
+    -- it stays where it stands
+    pub standing_next : Disjoint has all → (y : StationCopy) (after more1 : List StationCopy) (next : Marked)
+        (over1 : CloneSet) (steps1 : ℕ) → Onward net s ends bound x y sent next steps steps1 → NothingDue ends bound y y
+        → after ≡ slice_set cs i y → more1 ≡ more → over1 ≡ over
+        → Standing net s ends bound all (i + 1) after more1 next over1 steps0 steps1
+    standing_next dis y after more1 next over1 steps1 o d e f g =
+        let a = answer_rest net s ends bound x y y sent next steps steps1 o d (take i cs ++ more) (take i cs ++ more)
+        ((take i cs ++ more) ++ y ∷ []) over over refl refl refl in
+        let st = stepping_turned net s ends bound (h.passed ++ x ∷ []) (take i cs) more (y ∷ []) next over steps0 steps1
+        (stepping_more net valid s ends bound h.passed left x (take i cs ++ more) ((take i cs ++ more) ++ y ∷ []) sent
+        next over over steps0 steps steps1 (subst (Disjoint has) whole_is dis) h.far a) in
+        record {
+          passed = h.passed ++ x ∷ [];
+          whole = next_whole
+              ∙ ap (λ k. (h.passed ++ x ∷ []) ++ k) (sym (ap (drop (i + 1)) e ∙ behind_set cs i y));
+          far = subst (λ k. Stepping net s ends bound (h.passed ++ x ∷ []) k next over1 steps0 steps1)
+              (ap₂ (λ a m. a ++ m) (sym (ap (take (i + 1)) e ∙ take_more_set cs i y there)) (sym f))
+              (subst (λ k. Stepping net s ends bound (h.passed ++ x ∷ []) ((take i cs ++ y ∷ []) ++ more) next k steps0
+              steps1) (sym g) st);
+        }
+
+    -- it is taken out, and what comes of it is put with the others
+    pub standing_out : Disjoint has all → (y : StationCopy) (after more1 more2 : List StationCopy) (mid next : Marked)
+        (over1 over2 : CloneSet) (steps1 steps2 : ℕ) → Onward net s ends bound x y sent mid steps steps1
+        → Advanced net s ends bound y more1 more2 mid next over1 over2 steps1 steps2
+        → after ≡ remove (slice_set cs i y) i → more1 ≡ more → over1 ≡ over
+        → Standing net s ends bound all i after more2 next over2 steps0 steps2
+    standing_out dis y after more1 more2 mid next over1 over2 steps1 steps2 o a e f g =
+        let a0 = subst (λ k. Advanced net s ends bound y k more2 mid next over over2 steps1 steps2) f
+        (subst (λ k. Advanced net s ends bound y more1 more2 mid next k over2 steps1 steps2) g a) in
+        let a1 = answer_on net s ends bound x y sent mid steps steps1 o more more2 next over over2 steps2 a0 in
+        let a2 = advanced_behind net s ends bound (take i cs) x more more2 sent next over over2 steps steps2 a1 in
+        let st = stepping_more net valid s ends bound h.passed left x (take i cs ++ more) (take i cs ++ more2) sent next
+        over over2 steps0 steps steps2 (subst (Disjoint has) whole_is dis) h.far a2 in
+        record {
+          passed = h.passed ++ x ∷ [];
+          whole = next_whole
+              ∙ ap (λ k. (h.passed ++ x ∷ []) ++ k) (sym (without_drop cs after i y there e));
+          far = subst (λ k. Stepping net s ends bound (h.passed ++ x ∷ []) (k ++ more2) next over2 steps0 steps2)
+              (sym (without_take cs after i y there e)) st;
+        }
+
+  -- all are done
+  pub standing_end : (all cs more : List StationCopy) (i : ℕ) (sent : Marked) (over : CloneSet) (steps0 steps : ℕ)
+      → Standing net s ends bound all i cs more sent over steps0 steps → length cs ≤ i
+      → Stepping net s ends bound all (cs ++ more) sent over steps0 steps
+  standing_end all cs more i sent over steps0 steps h end =
+      subst (λ k. Stepping net s ends bound k (cs ++ more) sent over steps0 steps)
+      (sym (h.whole ∙ ap (λ k. h.passed ++ k) (drop_of_length-le cs {i = i} end) ∙ append-nil h.passed))
+      (subst (λ k. Stepping net s ends bound h.passed (k ++ more) sent over steps0 steps) (take_all i cs end) h.far)

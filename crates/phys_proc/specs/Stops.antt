@@ -1,0 +1,26 @@
+-- Why a copy goes no further as it is.
+use Rattle.std.specs.Prelude.{◌≡◌, ◌≢◌, ℕ, ◌≤◌, length}
+use Rattle.sim_base.specs.declared.message.Msg.{Msg}
+use Rattle.clone_sets.specs.declared.set.CloneSet.{CloneSet}
+use Rattle.phys_proc.specs.Own.{StationCopy, NextDue, NothingDue}
+use Rattle.phys_proc.specs.declared.advancing.Stop.{Stop}
+use Rattle.phys_proc.specs.declared.advancing.Stop.TheVariants.{Settled, Full, Parts}
+
+-- all its clones take a next message, and the log has no place for it
+pub record IsFull (limit : ℕ) (ends : ℕ → ℕ) (bound : ℕ) (a : StationCopy) : Type 0 where
+  pub msg : Msg
+  pub takers : CloneSet
+  pub due : NextDue ends bound a a msg takers
+  pub all : takers ≡ a.set
+  pub full : limit ≤ length a.log
+
+-- some of its clones take a next message, and some do not
+pub record IsParting (ends : ℕ → ℕ) (bound : ℕ) (a : StationCopy) (takers : CloneSet) : Type 0 where
+  pub msg : Msg
+  pub due : NextDue ends bound a a msg takers
+  pub differ : takers ≢ a.set
+
+abbrev pub IsStop : ℕ → (ℕ → ℕ) → ℕ → StationCopy → Stop → Type 0
+IsStop limit ends bound a Settled = NothingDue ends bound a a
+IsStop limit ends bound a Full = IsFull limit ends bound a
+IsStop limit ends bound a (Parts takers) = IsParting ends bound a takers
