@@ -47,20 +47,26 @@ impl<'a> Fault<'a> {
     }
 }
 
+/// Each of the two fetches fails, in each mode that has them.
 #[test]
 fn fetches_fail(rt: HostRuntime) -> Result<(), Fail> {
-    for (fetch, errors) in [([1u32], NO_MODEL), ([2u32], NO_SCRIPT)] {
-        let fault = Fault {
-            shows: "a fetch fails",
-            outside: Outside {
+    let solo: &[&str] = &["solo", "m", "s", "--clone", "base"];
+    let live: &[&str] = &["live", "m", "s"];
+    for words in [RUN, solo, live] {
+        for (fetch, errors) in [([1u32], NO_MODEL), ([2u32], NO_SCRIPT)] {
+            let outside = Outside {
                 fetch: &fetch,
                 ..GOOD
-            },
-            status: 3,
-            size: 0,
-            errors,
-        };
-        assert!(rt; fault.holds(&rt, rt.alloc()), "{} {}", fault.shows, errors);
+            };
+            let model = models::ONE_DESK;
+            let ended = ended(&rt, rt.alloc(), &NoGate, words, model, FAST, &outside)?;
+            assert!(rt;
+                ended.is(3, &[], errors),
+                "{} words, {}",
+                words.len(),
+                errors
+            );
+        }
     }
     Ok(())
 }

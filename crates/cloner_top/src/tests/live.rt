@@ -136,30 +136,48 @@ fn journal_is_cut_off(rt: HostRuntime) -> Result<(), Fail> {
     Ok(())
 }
 
-/// Each put of a live study fails in turn.
+/// Whether `live` of one desk leaves what it has to where put `put`, of a piece behind these bytes, fails after so many;
+/// once more with an error sink that fails too.
+fn put_fails<R: Threads + Wait + Sync>(
+    rt: &R,
+    alloc: Global,
+    put: u32,
+    before: &[u8],
+    piece: &[u8],
+    taken: usize,
+) -> Result<bool, NoMemory> {
+    let mut part = Vec::from_slice(alloc, before)?;
+    part.extend_from_slice(piece.get(..taken).unwrap_or(&[]))?;
+    let mut holds = true;
+    for (fails, line) in [
+        (&[] as &[(u32, usize)], "cloner: cannot write\n"),
+        (&[(1, 6)], "cloner"),
+    ] {
+        let outside = super::Outside {
+            put: &[(put, taken)],
+            error: fails,
+            ..GOOD
+        };
+        let ended = ended(rt, alloc, &NoGate, LIVE, models::ONE_DESK, "", &outside)?;
+        holds = holds && ended.is(8, part.as_slice(), line);
+    }
+    Ok(holds)
+}
+
+/// Each put of a live study fails in turn: the journal, the trace and the report.
 #[test]
 fn live_output_is_cut_off(rt: HostRuntime) -> Result<(), Fail> {
     let alloc = rt.alloc();
-    let pieces = [QUIET_JOURNAL, texts::BASE, texts::BASE_REPORT];
     let mut before = Vec::new(alloc);
-    for put in 1..=3u32 {
-        let Some(piece) = pieces.get(put.saturating_sub(1) as usize) else {
-            break;
-        };
-        let fails = [(put, 1)];
-        let outside = super::Outside {
-            put: &fails,
-            ..GOOD
-        };
-        let ended = ended(&rt, alloc, &NoGate, LIVE, models::ONE_DESK, "", &outside)?;
-        let mut part = Vec::from_slice(alloc, before.as_slice())?;
-        part.extend_from_slice(piece.as_bytes().get(..1).unwrap_or(&[]))?;
-        assert!(rt;
-            ended.is(8, part.as_slice(), "cloner: cannot write\n"),
-            "{}",
-            put
-        );
-        before.extend_from_slice(piece.as_bytes())?;
+    let mut put: u32 = 0;
+    for text in [QUIET_JOURNAL, texts::BASE, texts::BASE_REPORT] {
+        let piece = text.as_bytes();
+        put = put.saturating_add(1);
+        for taken in [0, 1, piece.len().saturating_sub(1), piece.len()] {
+            let holds = put_fails(&rt, alloc, put, before.as_slice(), piece, taken)?;
+            assert!(rt; holds, "{} after {}", put, taken);
+        }
+        before.extend_from_slice(piece)?;
     }
     Ok(())
 }
@@ -255,6 +273,50 @@ fn looks_during_run(rt: HostRuntime) -> Result<(), Fail> {
     assert!(rt; live.status == 0 && gate.missed.load(Ordering::SeqCst) == 0);
     assert!(rt; gate.looks.load(Ordering::SeqCst) == 1);
     assert!(rt; has(output, "look main base gate front=") && !has(output, "front=0 "));
+    Ok(())
+}
+
+/// Holds the first task of the second window until a second worker has begun a task.
+#[derive(Drop)]
+struct WorkersMeet {
+    tasks: AtomicU64,
+    // who has begun a task of that window, a bit for each
+    workers: AtomicU64,
+    missed: AtomicU64,
+}
+
+impl Gate for WorkersMeet {
+    fn before<R: Wait>(&self, _rt: &R, worker: u32, _task: u32) {
+        let before = self.tasks.fetch_add(1, Ordering::SeqCst);
+        if before >= 2 {
+            self.workers.fetch_or(1 << (worker % 64), Ordering::SeqCst);
+        }
+        if before == 2 && !comes(&self.workers, 0b11) {
+            self.missed.store(1, Ordering::SeqCst);
+        }
+    }
+
+    fn before_call<R: Wait>(&self, _rt: &R, _analyst: u32, _k: u32) {}
+}
+
+/// The first window of two stations is stepped by the caller, and is busy enough that the second is not.
+#[test]
+fn workers_meet(rt: HostRuntime) -> Result<(), Fail> {
+    for mode in ["run", "live"] {
+        let gate = WorkersMeet {
+            tasks: AtomicU64::new(0),
+            workers: AtomicU64::new(0),
+            missed: AtomicU64::new(0),
+        };
+        let words = [mode, "m", "s", "--workers", "2"];
+        let ended = ended(&rt, rt.alloc(), &gate, &words, models::BUSY, "", &GOOD)?;
+        assert!(rt;
+            ended.status == 0 && gate.workers.load(Ordering::SeqCst) == 0b11,
+            "{}",
+            mode
+        );
+        assert!(rt; gate.missed.load(Ordering::SeqCst) == 0, "{}", mode);
+    }
     Ok(())
 }
 

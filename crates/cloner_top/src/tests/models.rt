@@ -325,6 +325,20 @@ by = "turn"
 link = [{ to = "spin", delay = 1 }]
 "#;
 
+/// Two stations and windows of 600 messages: more than one thread steps them.
+pub const BUSY: &str = r#"lookahead = 600
+horizon = 3000
+[[station]]
+name = "gate"
+kind = "source"
+every = [1, 1]
+jobs = 3000
+link = [{ to = "out", delay = 600 }]
+[[station]]
+name = "out"
+kind = "sink"
+"#;
+
 /// A sink that nothing reaches.
 pub const ONLY_OUT: &str = r#"lookahead = 1
 horizon = 1
