@@ -1,5 +1,5 @@
 -- How many bytes of the text before stay, by the lengths of what follows.
-use Rattle.std.proofs.Common.{◌≡◌, ℕ, suc, subst, ◌+◌, ◌-◌, ◌<◌, ◌≤◌, sym, ◌∙◌, ap}
+use Rattle.std.proofs.Common.{◌≡◌, ℕ, zero, suc, subst, ◌+◌, ◌-◌, ◌<◌, ◌≤◌, refl, sym, ◌∙◌, ap}
 use Rattle.std.proofs.Common.{arith, List, ◌++◌, not, nat_lt, Bool, true, length, take, length-append}
 use Rattle.std.specs.List.{flat_map}
 use Rattle.std.proofs.lemmas.Grind.{flat_map-append, common_steps}
@@ -23,7 +23,7 @@ use Rattle.stations.specs.Good.{IsGood, sender_of, number_of, next_number}
 use Rattle.stations.proofs.GoodLaws.{lawful-stations, stations-to_stations, fresh-stations}
 use Rattle.trace_report.specs.TraceText.{entry_line}
 use Rattle.rolling_text.specs.Sharing.{same_plan}
-use Rattle.rolling_text.specs.Texts.{body, body_before, rest, shared_at, IsJoined}
+use Rattle.rolling_text.specs.Texts.{body, body_before, rest, shared_at, parting_at, dropped_at, IsJoined}
 use Rattle.world_core.specs.Worlds.{AreInNet}
 use Rattle.rolling_text.proofs.SamePlans.{tells_plans}
 
@@ -89,11 +89,11 @@ module _ (net : Net) (valid : IsNet net) (c d : Clone)
 
 -- ---- the first clone keeps nothing
 
-pub first_joined : (net : Net) (cs : List Clone) (c : ℕ) → c ≡ 0 → IsJoined net cs c (record { bytes = 0; time = 0 })
+first_joined : (net : Net) (cs : List Clone) (c : ℕ) → c ≡ 0 → IsJoined net cs c (record { bytes = 0; time = 0 })
 first_joined net cs c e = subst (λ k. IsJoined net cs k (record { bytes = 0; time = 0 })) (sym e)
     (record { within = omega arith; joins = sym (rest_from_0 net (clone_at cs 0)) })
 
-pub first_len : (net : Net) (cs : List Clone) (c n : ℕ) → c ≡ 0 → n ≡ length (rest net (clone_at cs 0) 0)
+first_len : (net : Net) (cs : List Clone) (c n : ℕ) → c ≡ 0 → n ≡ length (rest net (clone_at cs 0) 0)
     → n ≡ length (body net (clone_at cs c))
 first_len net cs c n e h = h ∙ ap length (rest_from_0 net (clone_at cs 0))
     ∙ ap (λ k. length (body net (clone_at cs k))) (sym e)
@@ -115,14 +115,14 @@ module _ (net : Net) (valid : IsNet net) (cs : List Clone) (in_net : AreInNet ne
   there_old = omega (arith, there)
 
   -- what is taken off the length of the lines before is within it
-  pub next_fits : length (rest net old time) ≤ length (body_before net cs c)
+  next_fits : length (rest net old time) ≤ length (body_before net cs c)
   next_fits =
       let a = rest_short net valid old (clone_at cs c) (in_net.ends (c - 1) there_old) (in_net.ends c there)
       (in_net.plans (c - 1) there_old) (in_net.plans c there) in
       let b = ap length before_is in
       omega (arith, a, b)
 
-  pub next_joined : (bytes : ℕ) → bytes + length (rest net old time) ≡ length (body_before net cs c)
+  next_joined : (bytes : ℕ) → bytes + length (rest net old time) ≡ length (body_before net cs c)
       → IsJoined net cs c (record { bytes = bytes; time = time })
   next_joined bytes e =
       let h = kept_bytes net valid old (clone_at cs c) (in_net.ends (c - 1) there_old) (in_net.ends c there)
@@ -134,7 +134,7 @@ module _ (net : Net) (valid : IsNet net) (cs : List Clone) (in_net : AreInNet ne
             (sym before_is);
       }
 
-  pub next_len : (bytes n : ℕ) → bytes + length (rest net old time) ≡ length (body_before net cs c) →
+  next_len : (bytes n : ℕ) → bytes + length (rest net old time) ≡ length (body_before net cs c) →
       n ≡ bytes + length (rest net (clone_at cs c) time) → n ≡ length (body net (clone_at cs c))
   next_len bytes n e f =
       let j = next_joined bytes e in
@@ -142,3 +142,55 @@ module _ (net : Net) (valid : IsNet net) (cs : List Clone) (in_net : AreInNet ne
       let b = length-append (take bytes (body_before net cs c)) (rest net (clone_at cs c) time) in
       let d : length (take bytes (body_before net cs c)) ≡ bytes = let w = j.within in grind (arith, common_steps, w) in
       omega (arith, a, b, d, f)
+
+-- ---- each clone keeps what it shares with the one before it, if there is one
+
+module _ (net : Net) (cs : List Clone) where
+  -- where its own lines begin, for the first and for every other
+  pub parting_none : (c n : ℕ) → c ≡ 0 → n ≡ 0 → n ≡ parting_at net cs c
+  parting_none c n e z = z ∙ ap (parting_at net cs) (sym e)
+
+  pub parting_some : (c n : ℕ) → 1 ≤ c → n ≡ shared_at net cs c → n ≡ parting_at net cs c
+  parting_some zero n l e = absurd (omega (arith, l))
+  parting_some (suc c) n l e = e
+
+  -- what follows in a clone's lines from where the next one parts is what the next one drops
+  pub dropped_next : (c after next : ℕ) → after ≡ length (rest net (clone_at cs c) next)
+      → next ≡ parting_at net cs (c + 1) → after ≡ dropped_at net cs (c + 1)
+  dropped_next c after next e n =
+      let up : c + 1 ≡ suc c = omega arith in
+      let down : c ≡ suc c - 1 = omega arith in
+      e ∙ ap (λ t. length (rest net (clone_at cs c) t)) (n ∙ ap (parting_at net cs) up)
+      ∙ ap (λ k. length (rest net (clone_at cs k) (shared_at net cs (suc c)))) down ∙ sym (ap (dropped_at net cs) up)
+
+  module _ (valid : IsNet net) (in_net : AreInNet net cs) (len dropped time : ℕ) where
+    -- what is dropped of the lines before is within them
+    pub dropped_within : (c : ℕ) → c < length cs → len ≡ length (body_before net cs c) → dropped ≡ dropped_at net cs c
+        → dropped ≤ len
+    dropped_within zero there l d = omega (arith, d)
+    dropped_within (suc c) there l d =
+        let h = next_fits net valid cs in_net (suc c) (omega arith) there in
+        omega (arith, h, l, d)
+
+    -- the bytes before that are kept
+    pub joined_at : (c bytes : ℕ) → c < length cs → len ≡ length (body_before net cs c)
+        → time ≡ parting_at net cs c → dropped ≡ dropped_at net cs c → bytes + dropped ≡ len
+        → IsJoined net cs c (record { bytes = bytes; time = time })
+    joined_at zero bytes there l t d e =
+        let none : 0 ≡ bytes = omega (arith, l, e) in
+        subst (λ b. IsJoined net cs 0 (record { bytes = b; time = time })) none
+        (subst (λ u. IsJoined net cs 0 (record { bytes = 0; time = u })) (sym t) (first_joined net cs 0 refl))
+    joined_at (suc c) bytes there l t d e =
+        subst (λ u. IsJoined net cs (suc c) (record { bytes = bytes; time = u })) (sym t)
+        (next_joined net valid cs in_net (suc c) (omega arith) there bytes (omega (arith, l, d, e)))
+
+    -- and those and its own lines are all of a clone's lines
+    pub len_at : (c bytes here new : ℕ) → c < length cs → len ≡ length (body_before net cs c)
+        → time ≡ parting_at net cs c → dropped ≡ dropped_at net cs c → bytes + dropped ≡ len
+        → here ≡ length (rest net (clone_at cs c) time) → new ≡ bytes + here → new ≡ length (body net (clone_at cs c))
+    len_at zero bytes here new there l t d e h n =
+        let r = h ∙ ap (λ u. length (rest net (clone_at cs 0) u)) t in
+        first_len net cs 0 new refl (omega (arith, l, e, n, r))
+    len_at (suc c) bytes here new there l t d e h n =
+        next_len net valid cs in_net (suc c) (omega arith) there bytes new (omega (arith, l, d, e))
+        (n ∙ ap (λ k. bytes + k) (h ∙ ap (λ u. length (rest net (clone_at cs (suc c)) u)) t))

@@ -1,7 +1,8 @@
 -- The logs of a world at the horizon: their keys fit words, they rise, and merged or measured they are a clone's rest.
-use Rattle.std.proofs.Common.{◌≡◌, ℕ, suc, ◌+◌, ◌<◌, ◌≤◌, Bool, true, false, if◌then◌else◌, List, [], ◌∷◌}
+use Rattle.std.proofs.Common.{◌≡◌, ℕ, suc, ◌+◌, ◌<◌, ◌≤◌, Bool, true, false, not, nat_lt, if◌then◌else◌, List, [], ◌∷◌}
 use Rattle.std.proofs.Common.{◌++◌, refl, sym, ap, ap₂, ◌∙◌, subst, arith, length, sum_by, length-append, append_assoc}
 use Rattle.std.specs.List.{filter, flat_map}
+use Rattle.std.proofs.lemmas.Bool.{ltb-true, ltb-false}
 use Rattle.std.proofs.lemmas.List.Concat.{flat_map-cons}
 use Rattle.sim_base.specs.Clones.{Clone, clone_at}
 use Rattle.sim_base.specs.declared.entry.Entry.{Entry}
@@ -42,6 +43,27 @@ from_short t es = filter_short _ es
             → length (if b then e ∷ filter keep es else filter keep es) ≤ suc (length es)
         by true h = omega (arith, h)
         by false h = omega (arith, h)
+
+-- from a later time on, what comes from an earlier one on has all
+pub later_of_rest : (early late : ℕ) (es : List (Entry Msg Line)) → early ≤ late
+    → from_time late (from_time early es) ≡ from_time late es
+later_of_rest early late [] l = refl
+later_of_rest early late (e ∷ es) l =
+    by (nat_lt e.msg.key.time early) refl (nat_lt e.msg.key.time late) refl (later_of_rest early late es l)
+  where
+    by : (a : Bool) → nat_lt e.msg.key.time early ≡ a → (b : Bool) → nat_lt e.msg.key.time late ≡ b
+        → from_time late (from_time early es) ≡ from_time late es
+        → from_time late (if not a then e ∷ from_time early es else from_time early es)
+        ≡ (if not b then e ∷ from_time late es else from_time late es)
+    by false p true q h = ap (λ b. if not b then e ∷ from_time late (from_time early es) else from_time late
+        (from_time early es)) q ∙ h
+    by false p false q h = ap (λ b. if not b then e ∷ from_time late (from_time early es) else from_time late
+        (from_time early es)) q ∙ ap (λ k. e ∷ k) h
+    by true p true q h = h
+    by true p false q h =
+        let early_is = ltb-true e.msg.key.time early p in
+        let late_is = ltb-false e.msg.key.time late q in
+        absurd (omega (arith, l, early_is, late_is))
 
 -- one line more is written
 module _ {E : Type 0} (line : E → List ℕ) (e : E) (left : List E) where

@@ -15,21 +15,22 @@ get_push (y ∷ ys) k zero x e = inl e
 get_push (y ∷ ys) k (suc i) x e =
     elim (get_push ys k i x e) [ inl h ↦ inl h | inr h ↦ let a = h.0 in inr (omega (arith, a), h.1) ]
 
-pub plan_push : (net : Net) (cs : List Clone) (c reserved next len : ℕ) (ks : List Keep) (k : Keep)
+pub plan_push : (net : Net) (cs : List Clone) (c reserved next len : ℕ) (ks all : List Keep) (k : Keep)
     → ArePlannedTo net cs c reserved ks → IsJoined net cs c k → len ≡ length (body net (clone_at cs c)) →
-    reserved ≤ next → 32 + len + 256 ≤ next → ArePlannedTo net cs (c + 1) next (ks ++ k ∷ [])
-plan_push net cs c reserved next len ks k h j e l fits = record {
-  many = let a = h.many in let b = length-append ks (k ∷ []) in omega (arith, a, b);
-  each = λ i x g. elim (get_push ks k i x g) [
-    | inl a ↦ let q = h.each i x a in let f = q.fits in
-        record { within = q.within; joins = q.joins; fits = omega (arith, f, l) }
-    | inr a ↦
-        let at : i ≡ c = a.0 ∙ h.many in
-        let here : IsKept net cs next c k =
-        record { within = j.within; joins = j.joins; fits = omega (arith, e, fits) } in
-        subst (λ n. IsKept net cs next n x) (sym at) (subst (λ y. IsKept net cs next c y) a.1 here)
-  ];
-}
+    reserved ≤ next → 32 + len + 256 ≤ next → all ≡ ks ++ k ∷ [] → ArePlannedTo net cs (c + 1) next all
+plan_push net cs c reserved next len ks all k h j e l fits grown = subst (ArePlannedTo net cs (c + 1) next) (sym grown)
+    (record {
+      many = let a = h.many in let b = length-append ks (k ∷ []) in omega (arith, a, b);
+      each = λ i x g. elim (get_push ks k i x g) [
+        | inl a ↦ let q = h.each i x a in let f = q.fits in
+            record { within = q.within; joins = q.joins; fits = omega (arith, f, l) }
+        | inr a ↦
+            let at : i ≡ c = a.0 ∙ h.many in
+            let here : IsKept net cs next c k =
+            record { within = j.within; joins = j.joins; fits = omega (arith, e, fits) } in
+            subst (λ n. IsKept net cs next n x) (sym at) (subst (λ y. IsKept net cs next c y) a.1 here)
+      ];
+    })
 
 pub plan_none : (net : Net) (cs : List Clone) (reserved : ℕ) → ArePlannedTo net cs 0 reserved []
 plan_none net cs reserved = record { many = refl; each = λ i x g. let h : ⊥ = cc in absurd h }

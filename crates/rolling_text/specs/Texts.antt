@@ -27,6 +27,16 @@ body_before net cs (suc c) = body net (clone_at cs c)
 abbrev pub shared_at : Net → List Clone → ℕ → ℕ
 shared_at net cs c = shared_to (simulation net) same_plan (clone_at cs (c - 1)) (clone_at cs c)
 
+-- from which time on a clone's lines are its own: all of them, where there is no clone before it
+abbrev pub parting_at : Net → List Clone → ℕ → ℕ
+parting_at net cs zero = 0
+parting_at net cs (suc c) = shared_at net cs (suc c)
+
+-- how much of the lines of the clone before it follows there
+abbrev pub dropped_at : Net → List Clone → ℕ → ℕ
+dropped_at net cs zero = 0
+dropped_at net cs (suc c) = length (rest net (clone_at cs (suc c - 1)) (shared_at net cs (suc c)))
+
 -- so many bytes of the clone before are kept, and then come the lines from a time on
 pub record IsJoined (net : Net) (cs : List Clone) (c : ℕ) (k : Keep) : Type 0 where
   pub within : k.bytes ≤ length (body_before net cs c)

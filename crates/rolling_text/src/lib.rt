@@ -17,8 +17,8 @@
 //! put_texts(&mut traces, texts, out)?;                   // one put for each clone
 //! ```
 //!
-//! `prepare` computes by lengths alone how much of each text the next one keeps, and how long the longest is: two
-//! walks along what is not shared, in which nothing is written. The name line stands at the end of the 32 bytes before
+//! `prepare` computes by lengths alone how much of each text the next one keeps, and how long the longest is: one
+//! walk along what is not shared, in which nothing is written. The name line stands at the end of the 32 bytes before
 //! the lines, so that each text is one slice, whatever its name. A line that is not shared costs its entry from the
 //! stations' logs, merged by key, and its bytes.
 //!

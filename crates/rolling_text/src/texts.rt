@@ -1,9 +1,6 @@
 //! How much of each text the next one keeps, and the memory for all.
-ghost use Rattle.std.specs.Prelude.{◌≡◌, ◌+◌, ◌^◌, ◌<◌, ◌≤◌, length, IfOk};
-ghost use Rattle.sim_base.specs.Clones.{clone_at};
-ghost use Rattle.net_model.specs.Rules.{IsNet};
-ghost use Rattle.rolling_text.specs.Texts.{ArePlanned, IsJoined, IsReady, body, body_before};
-ghost use Rattle.world_core.specs.Worlds.{AreInNet};
+ghost use Rattle.std.specs.Prelude.{◌≡◌, ◌<◌, ◌≤◌, length, IfOk};
+ghost use Rattle.rolling_text.specs.Texts.{ArePlanned, IsReady, parting_at};
 
 use crate::page::Page;
 use crate::traces::Traces;
@@ -29,24 +26,15 @@ pub struct Texts {
     pub(crate) page: Page,
 }
 
-// What is kept of the lines of the clone before, which are so long, and how long this clone's lines are.
-fn keep_of<T: Traces>(traces: &T, c: u32, before: usize) -> (Keep, usize)
-    requires valid { IsNet (T.net traces.now) }
-    requires clones { AreInNet (T.net traces.now) (T.clones traces.now) }
+// From which time on the lines of a clone differ from those of the one before it: all of them, where there is none.
+fn parts_at<T: Traces>(traces: &T, c: u32) -> u64
     requires there { c < length (T.clones traces.now) }
-    requires before { before ≡ length (body_before (T.net traces.now) (T.clones traces.now) c) }
-    requires small { before ≤ 2 ^ 48 }
-    ensures joined { IsJoined (T.net traces.now) (T.clones traces.now) c result.0 }
-    ensures len { result.1 ≡ length (body (T.net traces.now) (clone_at (T.clones traces.now) c)) }
-    ensures grown { result.1 ≤ before + 2 ^ 40 }
+    ensures value { result ≡ parting_at (T.net traces.now) (T.clones traces.now) c }
 {
     if c == 0 {
-        return (Keep { bytes: 0, time: 0 }, traces.rest_len(0, 0));
+        return 0;
     }
-    let time = traces.shared_to(c);
-    let bytes = before - traces.rest_len(c - 1, time);
-    let len = bytes + traces.rest_len(c, time);
-    (Keep { bytes, time }, len)
+    traces.shared_to(c)
 }
 
 // What is kept for each clone, and how many bytes the longest text needs.
@@ -58,11 +46,19 @@ fn plan<T: Traces>(alloc: Global, traces: &T) -> Result<(Vec<Keep>, usize), NoMe
     let mut keeps = Vec::with_capacity(alloc, clones as usize)?;
     let mut len = 0usize;
     let mut most = 0usize;
+    // where a clone's own lines begin, and how much of the text before comes behind that
+    let mut time = 0;
+    let mut dropped = 0usize;
     for c in 0..clones {
-        let (keep, now) = keep_of(traces, c, len);
-        keeps.push(keep)?;
-        len = now;
-        most = most.max(now);
+        // one walk gives both: how long a clone's own lines are, and what the next one drops of them, if there is one
+        let next = parts_at(traces, (c + 1).min(clones - 1));
+        let (rest, after) = traces.rest_lens(c, time, next);
+        let bytes = len - dropped;
+        keeps.push(Keep { bytes, time })?;
+        len = bytes + rest;
+        most = most.max(len);
+        time = next;
+        dropped = after;
     }
     Ok((keeps, MARGIN + most + PAST))
 }

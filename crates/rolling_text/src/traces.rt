@@ -32,11 +32,13 @@ pub trait Traces {
         requires there { c < length (clones self.now) }
         ensures value { result ≡ shared_at (net self.now) (clones self.now) c };
 
-    /// How long the lines of a clone from a time on are. It writes nothing.
-    fn rest_len(&self, c: u32, time: u64) -> usize
+    /// How long the lines of a clone from each of two times on are. It writes nothing.
+    fn rest_lens(&self, c: u32, first: u64, second: u64) -> (usize, usize)
         requires there { c < length (clones self.now) }
-        ensures value { result ≡ length (rest (net self.now) (clone_at (clones self.now) c) time) }
-        ensures short { result ≤ 2 ^ 40 };
+        ensures first { result.0 ≡ length (rest (net self.now) (clone_at (clones self.now) c) first) }
+        ensures second { result.1 ≡ length (rest (net self.now) (clone_at (clones self.now) c) second) }
+        ensures first_short { result.0 ≤ 2 ^ 40 }
+        ensures second_short { result.1 ≤ 2 ^ 40 };
 
     /// Writes the lines of a clone from a time on at a place, and returns the place behind. It takes no memory.
     ///

@@ -1,5 +1,5 @@
 //! The traces of all clones of a world, out of the logs of its stations.
-ghost use Rattle.std.specs.Prelude.{◌≡◌, ◌+◌, ◌*◌, ◌<◌, ◌≤◌, ◌++◌, length, sum_by, take, IfOk};
+ghost use Rattle.std.specs.Prelude.{◌≡◌, ◌+◌, ◌*◌, ◌^◌, ◌<◌, ◌≤◌, ◌++◌, length, sum_by, take, IfOk};
 ghost use Rattle.std.specs.List.{flat_map};
 ghost use Rattle.sim_base.specs.Clones.{clone_at};
 ghost use Rattle.stations.specs.Runs.{simulation, trace_of};
@@ -7,6 +7,7 @@ ghost use Rattle.run_laws.specs.SharedTexts.{from_on};
 ghost use Rattle.log_chain.specs.Times.{RiseByTime, from_time};
 ghost use Rattle.trace_report.specs.Slots.{AreNames};
 ghost use Rattle.trace_report.specs.TraceText.{entry_line};
+ghost use Rattle.rolling_text.specs.Texts.{rest};
 ghost use Rattle.rolling_text.specs.WorldTraces.{AreShort, IsOver};
 
 use crate::parting::parting;
@@ -56,20 +57,28 @@ impl<'a> WorldTraces<'a> {
     }
 }
 
-// How long the lines of a log from a time on are.
-fn log_len(model: &Model, names: &Names, log: &Log, time: u64) -> usize
+// How long the lines of a log from a time on are, and from a later one on.
+fn log_lens(model: &Model, names: &Names, log: &Log, early: u64, late: u64) -> (usize, usize)
     requires names { AreNames model.now names.now }
     requires rises { RiseByTime log.now }
     requires short { length log.now ≤ 65536 }
-    ensures value { result ≡ sum_by (λ e. length (entry_line model.now e)) (from_time time log.now) }
-    ensures short { result ≤ 256 * 65536 }
+    requires order { early ≤ late }
+    ensures all { result.0 ≡ sum_by (λ e. length (entry_line model.now e)) (from_time early log.now) }
+    ensures end { result.1 ≡ sum_by (λ e. length (entry_line model.now e)) (from_time late log.now) }
+    ensures all_short { result.0 ≤ 256 * 65536 }
+    ensures end_short { result.1 ≤ 256 * 65536 }
 {
-    let mut len = 0;
-    let mut walk = log.walk_from_time(time);
+    let mut all = 0;
+    let mut end = 0;
+    let mut walk = log.walk_from_time(early);
     while let Some(entry) = walk.next() {
-        len += line_len(model, names, &entry);
+        let len = line_len(model, names, &entry);
+        all += len;
+        if entry.msg.key.time >= late {
+            end += len;
+        }
     }
-    len
+    (all, end)
 }
 
 // Gives a cursor what the logs of a clone have from a time on.
@@ -86,6 +95,28 @@ fn gather<'a>(cursor: &mut Cursor<'a>, world: &'a World, c: u32, time: u64)
         let log = world.log(c, s + 1);
         cursor.add(log.walk_from_time(time));
     }
+}
+
+// How long the lines of a clone from a time on are, and from a later one on.
+fn clone_lens(world: &World, names: &Names, c: u32, early: u64, late: u64) -> (usize, usize)
+    requires names { AreNames world.now.net names.now }
+    requires over { IsOver world.now }
+    requires there { c < length world.now.clones }
+    requires order { early ≤ late }
+    ensures all { result.0 ≡ length (rest world.now.net (clone_at world.now.clones c) early) }
+    ensures end { result.1 ≡ length (rest world.now.net (clone_at world.now.clones c) late) }
+    ensures all_short { result.0 ≤ 2 ^ 40 }
+    ensures end_short { result.1 ≤ 2 ^ 40 }
+{
+    let model = world.model();
+    let mut all = 0;
+    let mut end = 0;
+    for s in 0..model.len() {
+        let (here, later) = log_lens(model, names, world.log(c, s + 1), early, late);
+        all += here;
+        end += later;
+    }
+    (all, end)
 }
 
 // Writes the lines of the entries that a cursor has left.
@@ -131,13 +162,12 @@ impl<'a> Traces for WorldTraces<'a> {
         parting(lists.list(c - 1), lists.list(c), first.min(second))
     }
 
-    fn rest_len(&self, c: u32, time: u64) -> usize {
-        let model = self.world.model();
-        let mut len = 0;
-        for s in 0..model.len() {
-            len += log_len(model, &self.names, self.world.log(c, s + 1), time);
+    fn rest_lens(&self, c: u32, first: u64, second: u64) -> (usize, usize) {
+        if first <= second {
+            return clone_lens(self.world, &self.names, c, first, second);
         }
-        len
+        let (all, end) = clone_lens(self.world, &self.names, c, second, first);
+        (end, all)
     }
 
     fn write_rest(&mut self, c: u32, time: u64, bytes: &mut [u8], at: usize) -> usize {
