@@ -11,7 +11,7 @@ use Rattle.sim_base.proofs.OrderEqual.{msg_same}
 use Rattle.sim_base.proofs.Placing.{all_weaker}
 use Rattle.clone_sets.specs.Sets.{has, union, meet, minus, empty}
 use Rattle.clone_sets.specs.declared.set.CloneSet.{CloneSet}
-use Rattle.clone_sets.proofs.SetLaws.{has-meet, has-minus, has-empty, empty_from_none}
+use Rattle.clone_sets.proofs.SetLaws.{has-meet, has-minus, has-empty, empty_from_none, same_members}
 use Rattle.net_model.specs.Net.{Net}
 use Rattle.stations.specs.Runs.{simulation}
 use Rattle.sim_base.specs.Marked.{SortedMarked}
@@ -204,3 +204,79 @@ module _ (m : Msg) (k : CloneSet) where
             (λ b f. f c t) d.0
         | inr o ↦ (h c y (not_left (has rest c) (has x.set c) o (sym (has-minus rest x.set c) ∙ n))).1
       ]
+
+-- ---- with one copy first
+
+module _ (m : Msg) (k : CloneSet) where
+  -- with whom of the set a copy shares clones is all that counts
+  same_given : (k1 k2 : CloneSet) (a : StationCopy) → meet a.set k1 ≡ meet a.set k2 → given m k1 a ≡ given m k2 a
+  same_given k1 k2 a e = ap (λ s. record a {
+    pending = cond (s == empty) a.pending (insert_marked union msg_cmp m s a.pending);
+  }) e
+
+  -- the clones of another copy may be left out
+  without_others : (a b : StationCopy) → ((c : ℕ) → Carries has b c → ¬ (Carries has a c))
+      → meet b.set (minus k a.set) ≡ meet b.set k
+  without_others a b apart = same_members (meet b.set (minus k a.set)) (meet b.set k) (λ c.
+      has-meet b.set (minus k a.set) c ∙ ap (λ x. has b.set c && x) (has-minus k a.set c)
+      ∙ left_out (has b.set c) (has k c) (has a.set c) (λ i. off (has a.set c) (apart c i)) ∙ sym (has-meet b.set k c))
+    where
+      off : (x : Bool) → ¬ (x ≡ true) → x ≡ false
+      off false n = refl
+      off true n = absurd (n refl)
+
+      left_out : (x y z : Bool) → (x ≡ true → z ≡ false) → (x && (y && not z)) ≡ (x && y)
+      left_out false y z h = refl
+      left_out true false z h = refl
+      left_out true true z h = ap not (h refl)
+
+  -- the copy at place i gets it first, and all copies get it for the other clones
+  given_from : (xs : List StationCopy) (i : ℕ) (d : StationCopy) → i < length xs → Disjoint has xs
+      → map (given m (minus k (get_or xs i d).set)) (slice_set xs i (given m k (get_or xs i d))) ≡ map (given m k) xs
+  given_from [] i d l p = absurd (omega arith)
+  given_from (x ∷ xs) zero d l p = ap₂ (λ y ys. y ∷ ys)
+      (not_given m (minus k x.set) (given m k x) (λ c i n. absurd (false≢true (sym (others c i) ∙ n)))) (behind xs p.0)
+    where
+      second : (y z : Bool) → (y && not z) ≡ true → z ≡ false
+      second true false h = refl
+      second true true h = absurd (false≢true h)
+      second false z h = absurd (false≢true h)
+
+      others : (c : ℕ) → has (minus k x.set) c ≡ true → has x.set c ≡ false
+      others c i = second (has k c) (has x.set c) (sym (has-minus k x.set c) ∙ i)
+
+      behind : (ys : List StationCopy) → AllByRecursion (λ b. (c : ℕ) → Carries has x c → ¬ (Carries has b c)) ys
+          → map (given m (minus k x.set)) ys ≡ map (given m k) ys
+      behind [] h = refl
+      behind (y ∷ ys) h = ap₂ (λ u us. u ∷ us)
+          (same_given (minus k x.set) k y (without_others x y (λ c i j. h.0 c j i))) (behind ys h.1)
+  given_from (x ∷ xs) (suc i) d l p = ap₂ (λ y ys. y ∷ ys)
+      (same_given (minus k (get_or xs i d).set) k x (without_others (get_or xs i d) x (holds xs i (omega arith) p.0)))
+      (given_from xs i d (omega arith) p.1)
+    where
+      holds : (ys : List StationCopy) (j : ℕ) → j < length ys
+          → AllByRecursion (λ b. (c : ℕ) → Carries has x c → ¬ (Carries has b c)) ys
+          → (c : ℕ) → Carries has x c → ¬ (Carries has (get_or ys j d) c)
+      holds [] j l h = absurd (omega arith)
+      holds (y ∷ ys) zero l h = h.0
+      holds (y ∷ ys) (suc j) l h = holds ys j (omega arith) h.1
+
+  same_at : (xs : List StationCopy) (i : ℕ) (d1 d2 : StationCopy) → i < length xs → get_or xs i d1 ≡ get_or xs i d2
+  same_at [] i d1 d2 l = absurd (omega arith)
+  same_at (x ∷ xs) zero d1 d2 l = refl
+  same_at (x ∷ xs) (suc i) d1 d2 l = same_at xs i d1 d2 (omega arith)
+
+  pub given_first : (xs : List StationCopy) (i : ℕ) (d1 d2 : StationCopy) (rest : CloneSet) (a : StationCopy)
+      → i < length xs → Disjoint has xs → rest ≡ minus k (get_or xs i d1).set → a ≡ given m k (get_or xs i d2)
+      → map (given m rest) (slice_set xs i a) ≡ map (given m k) xs
+  given_first xs i d1 d2 rest a l p e f =
+      ap₂ (λ s u. map (given m s) (slice_set xs i u)) (e ∙ ap (λ (u : StationCopy). minus k u.set) (same_at xs i d1 d2 l)) f
+      ∙ given_from xs i d2 l p
+
+  -- it stands for all of them
+  pub given_alone : (xs : List StationCopy) (i : ℕ) (d1 d2 : StationCopy) (rest : CloneSet) (a : StationCopy)
+      → i < length xs → Disjoint has xs → rest ≡ minus k (get_or xs i d1).set → a ≡ given m k (get_or xs i d2)
+      → rest ≡ empty → slice_set xs i a ≡ map (given m k) xs
+  given_alone xs i d1 d2 rest a l p e f none =
+      none_given m empty (slice_set xs i a) (λ c n. absurd (false≢true (sym (has-empty c) ∙ n)))
+      ∙ (ap (λ s. map (given m s) (slice_set xs i a)) (sym none) ∙ given_first xs i d1 d2 rest a l p e f)

@@ -53,6 +53,11 @@ alone_map : (xs : List StationCopy) → handled_alone (map but_pending xs) ≡ h
 alone_map [] = refl
 alone_map (x ∷ xs) = ap (λ n. size x.set * length x.log + n) (alone_map xs)
 
+-- what is pending does not matter for which clones are where
+pub disjoint_same : (xs ys : List StationCopy) → map but_pending ys ≡ map but_pending xs → Disjoint has xs
+    → Disjoint has ys
+disjoint_same xs ys e d = disjoint_back ys (subst (Disjoint has) (sym e) (disjoint_map xs d))
+
 pub shares_same : (s handled : ℕ) (living : CloneSet) (xs ys : List StationCopy)
     → map but_pending ys ≡ map but_pending xs
     → KeepsShares (record { station = s; living = living; handled = handled; copies = xs }) →
@@ -62,7 +67,7 @@ shares_same s handled living xs ys e k = record {
     inhabited = all_back (λ a. a.set ≢ empty) (λ a h. h) ys
         (subst (AllByRecursion (λ a. a.set ≢ empty)) (sym e)
         (all_map (λ a. a.set ≢ empty) (λ a h. h) xs k.shares.inhabited));
-    disjoint = disjoint_back ys (subst (Disjoint has) (sym e) (disjoint_map xs k.shares.disjoint));
+    disjoint = disjoint_same xs ys e k.shares.disjoint;
     together = sym (clones_map ys) ∙ (ap all_clones e ∙ (clones_map xs ∙ k.shares.together));
   };
   once = let a = alone_map xs in let b = alone_map ys in let c = ap handled_alone e in let h = k.once in

@@ -57,8 +57,8 @@ fn give(copy: &mut PhysCopy, msg: Msg, set: CloneSet) -> Result<(), NoMemory>
 }
 
 // Gives a message to those clones of the copies that are in the set. No clone is in two copies, so none is looked at
-// behind the last that shares clones with the set.
-fn deliver(copies: &mut Vec<PhysCopy>, msg: Msg, set: CloneSet) -> Result<(), NoMemory>
+// behind the last that shares clones with the set. Returns its place.
+fn deliver(copies: &mut Vec<PhysCopy>, msg: Msg, set: CloneSet) -> Result<usize, NoMemory>
     requires disjoint { Disjoint has copies.old.items }
     ensures given { OnOk result (copies.new.items ≡ map (given msg set) copies.old.items) }
     ensures same { map but_pending copies.new.items ≡ map but_pending copies.old.items }
@@ -67,12 +67,35 @@ fn deliver(copies: &mut Vec<PhysCopy>, msg: Msg, set: CloneSet) -> Result<(), No
     let mut rest = set;
     for i in 0..copies.len() {
         if rest.is_empty() {
-            return Ok(());
+            return Ok(i.saturating_sub(1));
         }
         rest = rest.minus(copies[i].set);
         give(&mut copies[i], msg, set)?;
     }
-    Ok(())
+    Ok(copies.len().saturating_sub(1))
+}
+
+// The same, where the copy at `guess` gets it first.
+fn deliver_from(
+    copies: &mut Vec<PhysCopy>,
+    msg: Msg,
+    set: CloneSet,
+    guess: usize,
+) -> Result<usize, NoMemory>
+    requires disjoint { Disjoint has copies.old.items }
+    ensures given { OnOk result (copies.new.items ≡ map (given msg set) copies.old.items) }
+    ensures same { map but_pending copies.new.items ≡ map but_pending copies.old.items }
+{
+    if guess >= copies.len() {
+        return deliver(copies, msg, set);
+    }
+    let rest = set.minus(copies[guess].set);
+    give(&mut copies[guess], msg, set)?;
+    if rest.is_empty() {
+        return Ok(guess);
+    }
+    let place = deliver(copies, msg, rest)?;
+    Ok(place)
 }
 
 // Puts the clone `new` beside the clone `old`, if the copy has that one.
@@ -144,8 +167,9 @@ impl Copies {
         Ok(())
     }
 
-    /// Gives a message to those clones of the copies that are in the set.
-    pub fn deliver(&mut self, msg: Msg, set: CloneSet) -> Result<(), NoMemory>
+    /// Gives a message to those clones of the copies that are in the set. The search for them begins at a place, and
+    /// gives the place where it ended.
+    pub fn deliver(&mut self, msg: Msg, set: CloneSet, guess: usize) -> Result<usize, NoMemory>
         requires disjoint { Disjoint has self.old }
         ensures given { OnOk result (self.new ≡ map (given msg set) self.old) }
         ensures same { map but_pending self.new ≡ map but_pending self.old }
@@ -153,9 +177,9 @@ impl Copies {
         let least = self.least.min(msg.key.time);
         // also where memory is refused
         self.least = 0;
-        deliver(&mut self.copies, msg, set)?;
+        let place = deliver_from(&mut self.copies, msg, set, guess)?;
         self.least = least;
-        Ok(())
+        Ok(place)
     }
 
     /// Puts the clone `new` beside the clone `old`.

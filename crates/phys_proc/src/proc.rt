@@ -32,6 +32,8 @@ pub struct Proc {
     living: CloneSet,
     handled: u64,
     copies: Copies,
+    // for each clone a guess where its copy stands, at which a search begins
+    places: Vec<u8>,
 }
 
 impl std::marker::Model for Proc {
@@ -101,6 +103,26 @@ fn opening(alloc: Global, model: &Model, station: u32) -> Result<Copies, NoMemor
     Ok(copies)
 }
 
+// Where the copy of the first of these clones may stand.
+fn guess_of(places: &[u8], set: CloneSet) -> usize {
+    let Some(who) = set.first() else {
+        return 0;
+    };
+    match places.get(who as usize) {
+        Some(place) => *place as usize,
+        None => 0,
+    }
+}
+
+// Notes where the copy of the first of these clones stands.
+fn note_place(places: &mut Vec<u8>, set: CloneSet, place: usize) {
+    if let Some(who) = set.first() {
+        if let Some(noted) = places.get_mut(who as usize) {
+            *noted = place.min(255) as u8;
+        }
+    }
+}
+
 impl Proc {
     /// What a station opens with: one copy, for the first clone.
     pub fn new(alloc: Global, model: &Model, station: u32) -> Result<Proc, NoMemory>
@@ -114,11 +136,13 @@ impl Proc {
     {
         let _horizon = model.horizon();
         let copies = opening(alloc, model, station)?;
+        let places = Vec::from_array(alloc, [0; 256])?;
         Ok(Proc {
             station,
             living: CloneSet::one(0),
             handled: 0,
             copies,
+            places,
         })
     }
 
@@ -153,6 +177,7 @@ impl Proc {
             living,
             handled,
             copies,
+            places,
         } = self;
         let _clones = living.len();
         let Stage {
@@ -175,6 +200,7 @@ impl Proc {
                 living,
                 handled: handled + more,
                 copies: done,
+                places,
             },
             sent,
             over,
@@ -191,6 +217,7 @@ impl Proc {
             living: CloneSet::empty(),
             handled: 0,
             copies: Copies::none(alloc),
+            places: Vec::new(alloc),
         }
     }
 
@@ -206,7 +233,9 @@ impl Proc {
         ensures living { self.new.living ≡ self.old.living }
         ensures handled { self.new.handled ≡ self.old.handled }
     {
-        self.copies.deliver(msg, set)?;
+        let guess = guess_of(self.places.as_slice(), set);
+        let place = self.copies.deliver(msg, set, guess)?;
+        note_place(&mut self.places, set, place);
         Ok(())
     }
 

@@ -53,13 +53,6 @@ pub(crate) fn earlier(a: Option<u64>, b: Option<u64>) -> Option<u64>
 }
 
 impl TimedProc {
-    /// The copies, of which something may be pending at any time.
-    pub fn untimed(proc: Proc) -> TimedProc
-        ensures same { result ≡ proc }
-    {
-        TimedProc { proc, least: 0 }
-    }
-
     /// The copies, with the time that they know of.
     pub fn of(proc: Proc) -> TimedProc
         ensures same { result ≡ proc }

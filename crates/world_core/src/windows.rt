@@ -219,7 +219,7 @@ fn take_apart(
             over: _,
             handled: _,
         } = flow;
-        procs.push(TimedProc::untimed(done))?;
+        procs.push(TimedProc::of(done))?;
         sent = joined(sent, out)?;
     }
     Ok((procs, sent))

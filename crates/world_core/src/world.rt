@@ -63,7 +63,7 @@ fn open_all(alloc: Global, model: &Model) -> Result<Vec<TimedProc>, NoMemory>
     let mut procs = Vec::new(alloc);
     for s in 0..model.len() {
         let proc = Proc::new(alloc, model, s + 1)?;
-        procs.push(TimedProc::untimed(proc))?;
+        procs.push(TimedProc::of(proc))?;
     }
     Ok(procs)
 }

@@ -8,11 +8,11 @@ use Rattle.phys_proc.proofs.proc.Proc.deliver.Goals as goal
 
 pub invariant_of-self : goal.invariant_of-self
 invariant_of-self c = let i = c.self.inside in
-    shares_same i.station i.handled i.living i.copies c.deliver.new.self c.in_err-deliver.ensures.same c.self.invariant
+    shares_same i.station i.handled i.living i.copies c.deliver.new.self c.in_err-place.ensures.same c.self.invariant
 
 pub invariant_of-self-2 : goal.invariant_of-self-2
 invariant_of-self-2 c = let i = c.self.inside in
-    shares_same i.station i.handled i.living i.copies c.deliver.new.self c.in_ok-deliver.ensures.same c.self.invariant
+    shares_same i.station i.handled i.living i.copies c.deliver.new.self c.in_ok-place.ensures.same c.self.invariant
 
 pub returns-clause-proc : goal.returns-clause-proc
 returns-clause-proc c = λ net f.
@@ -21,7 +21,7 @@ returns-clause-proc c = λ net f.
       valid = h.valid;
       low = h.low;
       high = h.high;
-      copies = subst (AllByRecursion (IsCopy net c.self.inside.station)) (sym c.in_ok-deliver.ensures.given)
+      copies = subst (AllByRecursion (IsCopy net c.self.inside.station)) (sym c.in_ok-place.ensures.given)
           (all_fit net (λ k. 0) c.args.msg c.args.set c.self.inside.station c.self.inside.copies
           (c.requires.target ∙ sym (ap (λ (u : ProcView). u.station) c.self.view_is)) h.copies);
     }

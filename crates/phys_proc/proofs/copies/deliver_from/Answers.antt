@@ -1,0 +1,59 @@
+use Rattle.std.proofs.Common.{arith, sym, ap, ◌∙◌, slice_set, eqb-true}
+use Rattle.clone_sets.specs.Sets.{minus, empty}
+use Rattle.phys_proc.specs.Own.{StationCopy, given, but_pending}
+use Rattle.phys_proc.proofs.Given.{given_alone, given_first}
+use Rattle.phys_proc.proofs.Shares.{disjoint_same, same_set}
+use Rattle.phys_proc.proofs.copies.deliver_from.Goals as goal
+
+pub returns-in_err-give-clause-same : goal.returns-in_err-give-clause-same
+returns-in_err-give-clause-same c =
+    same_set c.args.guess c.args.copies.now.items c.give.new.copy c.index_mut.result.now
+    (omega (arith, c.if-guess-len.false, c.len.ensures, c.args.copies.now.ok.0))
+    (c.in_err-give.ensures.same ∙ ap but_pending c.index_mut.ensures.value)
+
+pub returns-then-is_empty-clause-given : goal.returns-then-is_empty-clause-given
+returns-then-is_empty-clause-given c =
+    given_alone c.args.msg c.args.set c.args.copies.now.items c.args.guess c.index.result.now c.index_mut.result.now
+    c.minus-rest.result c.give.new.copy
+    (omega (arith, c.if-guess-len.false, c.len.ensures, c.args.copies.now.ok.0))
+    c.requires.disjoint
+    (c.minus-rest.ensures.value ∙ ap (λ (u : StationCopy). minus c.args.set u.set)
+    (c.behind-copies.view_is ∙ c.index.ensures))
+    (c.in_ok-give.ensures.given ∙ ap (given c.args.msg c.args.set) c.index_mut.ensures.value)
+    (eqb-true c.minus-rest.result empty (sym c.if-is_empty.ensures.value))
+
+pub returns-then-is_empty-clause-same : goal.returns-then-is_empty-clause-same
+returns-then-is_empty-clause-same c =
+    same_set c.args.guess c.args.copies.now.items c.give.new.copy c.index_mut.result.now
+    (omega (arith, c.if-guess-len.false, c.len.ensures, c.args.copies.now.ok.0))
+    (c.in_ok-give.ensures.same ∙ ap but_pending c.index_mut.ensures.value)
+
+pub deliver-requires-2 : goal.deliver-requires-2
+deliver-requires-2 c = record {
+  disjoint = disjoint_same c.args.copies.now.items (slice_set c.args.copies.now.items c.args.guess c.give.new.copy)
+      (same_set c.args.guess c.args.copies.now.items c.give.new.copy c.index_mut.result.now
+      (omega (arith, c.if-guess-len.false, c.len.ensures, c.args.copies.now.ok.0))
+      (c.in_ok-give.ensures.same ∙ ap but_pending c.index_mut.ensures.value)) c.requires.disjoint;
+}
+
+pub returns-in_err-place-clause-same : goal.returns-in_err-place-clause-same
+returns-in_err-place-clause-same c = c.in_err-place.ensures.same
+    ∙ same_set c.args.guess c.args.copies.now.items c.give.new.copy c.index_mut.result.now
+    (omega (arith, c.if-guess-len.false, c.len.ensures, c.args.copies.now.ok.0))
+    (c.in_ok-give.ensures.same ∙ ap but_pending c.index_mut.ensures.value)
+
+pub returns-clause-given : goal.returns-clause-given
+returns-clause-given c = c.in_ok-place.ensures.given
+    ∙ given_first c.args.msg c.args.set c.args.copies.now.items c.args.guess c.index.result.now c.index_mut.result.now
+    c.minus-rest.result c.give.new.copy
+    (omega (arith, c.if-guess-len.false, c.len.ensures, c.args.copies.now.ok.0))
+    c.requires.disjoint
+    (c.minus-rest.ensures.value ∙ ap (λ (u : StationCopy). minus c.args.set u.set)
+    (c.behind-copies.view_is ∙ c.index.ensures))
+    (c.in_ok-give.ensures.given ∙ ap (given c.args.msg c.args.set) c.index_mut.ensures.value)
+
+pub returns-clause-same : goal.returns-clause-same
+returns-clause-same c = c.in_ok-place.ensures.same
+    ∙ same_set c.args.guess c.args.copies.now.items c.give.new.copy c.index_mut.result.now
+    (omega (arith, c.if-guess-len.false, c.len.ensures, c.args.copies.now.ok.0))
+    (c.in_ok-give.ensures.same ∙ ap but_pending c.index_mut.ensures.value)
