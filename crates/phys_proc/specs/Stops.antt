@@ -20,7 +20,8 @@ pub record IsParting (ends : ℕ → ℕ) (bound : ℕ) (a : StationCopy) (taker
   pub due : NextDue ends bound a a msg takers
   pub differ : takers ≢ a.set
 
-abbrev pub IsStop : ℕ → (ℕ → ℕ) → ℕ → StationCopy → Stop → Type 0
-IsStop limit ends bound a Settled = NothingDue ends bound a a
-IsStop limit ends bound a Full = IsFull limit ends bound a
-IsStop limit ends bound a (Parts takers) = IsParting ends bound a takers
+-- where some take it, they are these
+abbrev pub IsStop : ℕ → (ℕ → ℕ) → ℕ → StationCopy → CloneSet → Stop → Type 0
+IsStop limit ends bound a takers Settled = NothingDue ends bound a a
+IsStop limit ends bound a takers Full = IsFull limit ends bound a
+IsStop limit ends bound a takers Parts = IsParting ends bound a takers

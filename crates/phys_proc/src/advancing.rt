@@ -24,6 +24,8 @@ pub(crate) struct Stage {
     pub over: CloneSet,
     /// How many messages were handled.
     pub handled: u64,
+    /// Where the clones of a copy part, those that take its next message.
+    pub takers: CloneSet,
 }
 
 impl Stage {
@@ -39,6 +41,7 @@ impl Stage {
             sent: Vec::new(alloc),
             over: CloneSet::empty(),
             handled: 0,
+            takers: CloneSet::empty(),
         }
     }
 }
@@ -50,8 +53,9 @@ pub(crate) enum Stop {
     Settled,
     /// The logs of its clones would get longer than the limit.
     Full,
-    /// These of its clones take the next message, and the others do not.
-    Parts(CloneSet),
+    /// Some of its clones take the next message, and the others do not. Who takes it is said in the stage, since a
+    /// large answer would be moved for each copy.
+    Parts,
 }
 
 /// Handles what all clones of a copy take before the bound, in place, and says why it goes no further.
@@ -72,7 +76,7 @@ pub(crate) fn go_on<L: Ledger>(
     ensures onward { OnOk result (Onward model.now station (ends_in model.now.horizon ends.now) bound copy.old copy.new
         stage.old.sent.items stage.new.sent.items steps.old steps.new) }
     ensures stop { IfOk result (λ stop. IsStop model.now.limit (ends_in model.now.horizon ends.now) bound copy.new
-        stop) }
+        stage.new.takers stop) }
     ensures done { OnOk result (stage.new.done ≡ stage.old.done) }
     ensures over { OnOk result (stage.new.over ≡ stage.old.over) }
     ensures handled { OnOk result (stage.new.handled + steps.old ≡ stage.old.handled + steps.new) }
@@ -89,7 +93,8 @@ pub(crate) fn go_on<L: Ledger>(
             stage.handled += 1;
             handle_least(copy, model, station, out, &mut stage.sent, steps)?;
         } else {
-            return Ok(Stop::Parts(takers));
+            stage.takers = takers;
+            return Ok(Stop::Parts);
         }
     }
 }
@@ -109,7 +114,7 @@ pub(crate) fn finish<L: Ledger>(
     steps: &mut Steps<L>,
 ) -> Result<(), NoMemory>
     requires fits { IsCopy model.now station copy }
-    requires stop { IsStop model.now.limit (ends_in model.now.horizon ends.now) bound copy stop }
+    requires stop { IsStop model.now.limit (ends_in model.now.horizon ends.now) bound copy stage.old.takers stop }
     requires early { bound ≤ model.now.horizon }
     requires few { stage.old.handled + may_handle model.now.limit copy ≤ 2 ^ 32 }
     ensures comes { OnOk result (Advanced model.now station (ends_in model.now.horizon ends.now) bound copy
@@ -125,8 +130,8 @@ pub(crate) fn finish<L: Ledger>(
         Stop::Full => {
             stage.over = stage.over.union(copy.set);
         }
-        Stop::Parts(takers) => {
-            let (mut some, mut others) = copy.halves(alloc, takers)?;
+        Stop::Parts => {
+            let (mut some, mut others) = copy.halves(alloc, stage.takers)?;
             let first = go_on(&mut some, model, station, ends, bound, out, stage, steps)?;
             finish(
                 alloc, some, first, model, station, ends, bound, out, stage, steps,

@@ -1,6 +1,6 @@
 //! One copy of a station.
 ghost use Rattle.std.specs.Prelude.{◌≡◌, ℕ, ◌<◌, ◌≤◌, List, ◌∷◌, length};
-ghost use Rattle.std.specs.Prelude.{IfOk, IfSome, IfNone, OnOk, ◌+◌, option_map, slice_get};
+ghost use Rattle.std.specs.Prelude.{IfOk, IfSome, IfNone, OnOk, ◌+◌};
 ghost use Rattle.clone_sets.specs.Sets.{has, minus};
 ghost use Rattle.clone_sets.specs.declared.set.CloneSet.{CloneSet as CloneSet'};
 ghost use Rattle.sim_base.specs.declared.message.Msg.{Msg as Msg'};
@@ -126,13 +126,6 @@ impl PhysCopy {
         ensures value { result.now ≡ self.now.log }
     {
         &self.log
-    }
-
-    /// The least time of what is pending, None exactly where nothing is.
-    pub fn least(&self) -> Option<u64>
-        ensures value { result ≡ option_map (λ x. x.0.key.time) (slice_get self.now.pending 0) }
-    {
-        self.pending.least_time()
     }
 
     /// The copy for some of its clones, and for the others, which keep the list of what is pending.

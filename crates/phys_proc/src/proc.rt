@@ -185,6 +185,7 @@ impl Proc {
             sent,
             over,
             handled: more,
+            takers: _,
         } = step_copies(alloc, copies, model, station, ends, bound, steps)?;
         if !over.is_empty() {
             return Ok(Flow {

@@ -35,7 +35,7 @@ fn step_one<L: Ledger>(
     ensures onward { OnOk result (Onward model.now station (ends_in model.now.horizon ends.now) bound copy.old copy.new
         stage.old.sent.items stage.new.sent.items steps.old steps.new) }
     ensures stop { IfOk result (λ stop. IsStop model.now.limit (ends_in model.now.horizon ends.now) bound copy.new
-        stop) }
+        stage.new.takers stop) }
     ensures done { OnOk result (stage.new.done ≡ stage.old.done) }
     ensures over { OnOk result (stage.new.over ≡ stage.old.over) }
     ensures handled { OnOk result (stage.new.handled + steps.old ≡ stage.old.handled + steps.new) }

@@ -6,7 +6,7 @@ ghost use Rattle.net_model.specs.Net.{Net};
 ghost use Rattle.stations.specs.Runs.{simulation};
 ghost use Rattle.run_laws.specs.Fronts.{earlier as earlier'};
 ghost use Rattle.run_laws.specs.Copies.{IsForked, Stands};
-ghost use Rattle.phys_proc.specs.Own.{given, forked, AreLate};
+ghost use Rattle.phys_proc.specs.Own.{given, AreLate};
 ghost use Rattle.phys_proc.specs.Gone.{ends_in};
 ghost use Rattle.phys_proc.specs.Procs.{IsProc, IsLeastOf, AreShared};
 ghost use Rattle.phys_proc.specs.Racks.{seen};

@@ -23,13 +23,13 @@ returns-in-Full-clause-comes g t c = of_full c.args.model.now c.args.station
 pub go_on-requires-clause-fits : goal.go_on-requires-clause-fits
 go_on-requires-clause-fits g t c = some_fits c.args.model.now c.args.station
     (ends_in c.args.model.now.horizon c.args.ends.now) c.args.bound c.args.copy c.args.stage.now.sent.items
-    c.args.steps.now c.requires.fits c.in-Parts.takers (rw c.in-Parts.is at c.requires.stop)
+    c.args.steps.now c.requires.fits c.args.stage.now.takers (rw c.in-Parts.is at c.requires.stop)
     c.in_ok-some-in-Parts.some c.in_ok-some-in-Parts.ensures.first
 
 pub go_on-requires-clause-few : goal.go_on-requires-clause-few
 go_on-requires-clause-few g t c =
     let both = both_few c.args.model.now c.args.station (ends_in c.args.model.now.horizon c.args.ends.now)
-    c.args.bound c.args.copy c.args.stage.now.sent.items c.args.steps.now c.requires.fits c.in-Parts.takers
+    c.args.bound c.args.copy c.args.stage.now.sent.items c.args.steps.now c.requires.fits c.args.stage.now.takers
     (rw c.in-Parts.is at c.requires.stop) c.in_ok-some-in-Parts.some c.in_ok-some-in-Parts.others
     c.in_ok-some-in-Parts.ensures.first c.in_ok-some-in-Parts.ensures.second in
     let few = c.requires.few in
@@ -44,10 +44,10 @@ finish-requires g t c =
     let first = c.in_ok-first-in-Parts.ensures in
     let o = first.onward in
     let fall : size a1.set < size c.args.copy.set = some_smaller net c.args.station ends c.args.bound c.args.copy
-    c.args.stage.now.sent.items c.args.steps.now c.requires.fits c.in-Parts.takers
+    c.args.stage.now.sent.items c.args.steps.now c.requires.fits c.args.stage.now.takers
     (rw c.in-Parts.is at c.requires.stop) a a1 c.in_ok-some-in-Parts.ensures.first o.set in
     let both = both_few net c.args.station ends c.args.bound c.args.copy c.args.stage.now.sent.items c.args.steps.now
-    c.requires.fits c.in-Parts.takers (rw c.in-Parts.is at c.requires.stop) a c.in_ok-some-in-Parts.others
+    c.requires.fits c.args.stage.now.takers (rw c.in-Parts.is at c.requires.stop) a c.in_ok-some-in-Parts.others
     c.in_ok-some-in-Parts.ensures.first c.in_ok-some-in-Parts.ensures.second in
     let left = left_few net c.args.station ends c.args.bound a a1 c.args.stage.now.sent.items
     c.go_on.new.stage.sent.items c.args.steps.now c.go_on.new.steps o in
@@ -64,7 +64,7 @@ finish-requires g t c =
 pub go_on-requires-in-Parts-clause-fits : goal.go_on-requires-in-Parts-clause-fits
 go_on-requires-in-Parts-clause-fits g t c = others_fit c.args.model.now c.args.station
     (ends_in c.args.model.now.horizon c.args.ends.now) c.args.bound c.args.copy c.args.stage.now.sent.items
-    c.args.steps.now c.requires.fits c.in-Parts.takers (rw c.in-Parts.is at c.requires.stop)
+    c.args.steps.now c.requires.fits c.args.stage.now.takers (rw c.in-Parts.is at c.requires.stop)
     c.in_ok-some-in-Parts.others c.in_ok-some-in-Parts.ensures.second
 
 pub go_on-requires-in-Parts-clause-few : goal.go_on-requires-in-Parts-clause-few
@@ -74,7 +74,7 @@ go_on-requires-in-Parts-clause-few g t c =
     let first = c.in_ok-first-in-Parts.ensures in
     let o = first.onward in
     let both = both_few net c.args.station ends c.args.bound c.args.copy c.args.stage.now.sent.items c.args.steps.now
-    c.requires.fits c.in-Parts.takers (rw c.in-Parts.is at c.requires.stop) c.in_ok-some-in-Parts.some
+    c.requires.fits c.args.stage.now.takers (rw c.in-Parts.is at c.requires.stop) c.in_ok-some-in-Parts.some
     c.in_ok-some-in-Parts.others c.in_ok-some-in-Parts.ensures.first c.in_ok-some-in-Parts.ensures.second in
     let left = left_few net c.args.station ends c.args.bound c.in_ok-some-in-Parts.some c.go_on.new.copy
     c.args.stage.now.sent.items c.go_on.new.stage.sent.items c.args.steps.now c.go_on.new.steps o in
@@ -97,10 +97,10 @@ finish-requires-in-Parts g t c =
     let second = c.in_ok-second-in-Parts.ensures in
     let o = second.onward in
     let fall : size b1.set < size c.args.copy.set = others_smaller net c.args.station ends c.args.bound c.args.copy
-    c.args.stage.now.sent.items c.args.steps.now c.requires.fits c.in-Parts.takers
+    c.args.stage.now.sent.items c.args.steps.now c.requires.fits c.args.stage.now.takers
     (rw c.in-Parts.is at c.requires.stop) b b1 c.in_ok-some-in-Parts.ensures.second o.set in
     let both = both_few net c.args.station ends c.args.bound c.args.copy c.args.stage.now.sent.items c.args.steps.now
-    c.requires.fits c.in-Parts.takers (rw c.in-Parts.is at c.requires.stop) c.in_ok-some-in-Parts.some b
+    c.requires.fits c.args.stage.now.takers (rw c.in-Parts.is at c.requires.stop) c.in_ok-some-in-Parts.some b
     c.in_ok-some-in-Parts.ensures.first c.in_ok-some-in-Parts.ensures.second in
     let left = left_few net c.args.station ends c.args.bound c.in_ok-some-in-Parts.some c.go_on.new.copy
     c.args.stage.now.sent.items c.go_on.new.stage.sent.items c.args.steps.now c.go_on.new.steps first.onward in
@@ -129,7 +129,7 @@ returns-in_ok-finish-in-Parts-2-clause-comes g t c =
     let last = c.finish-in-Parts.new in
     of_parts c.args.model.now c.args.station
     (ends_in c.args.model.now.horizon c.args.ends.now) c.args.bound c.args.copy c.args.stage.now.sent.items
-    c.args.steps.now c.requires.fits c.in-Parts.takers (rw c.in-Parts.is at c.requires.stop)
+    c.args.steps.now c.requires.fits c.args.stage.now.takers (rw c.in-Parts.is at c.requires.stop)
     c.in_ok-some-in-Parts.some c.go_on.new.copy c.in_ok-some-in-Parts.others c.go_on-in-Parts.new.copy
     c.args.stage.now.done c.go_on.new.stage.done c.finish.new.stage.done c.go_on-in-Parts.new.stage.done
     last.stage.done c.go_on.new.stage.sent.items c.finish.new.stage.sent.items

@@ -85,7 +85,7 @@ finish-requires g c =
     let is = ap (may_handle net.limit) same in
     record {
       fits = subst (IsCopy net c.args.station) (sym same) one.onward.fits;
-      stop = subst (λ (u : StationCopy). IsStop net.limit ends c.args.bound u c.in_ok-stop.stop) (sym same) one.stop;
+      stop = subst (λ (u : StationCopy). IsStop net.limit ends c.args.bound u c.step_one.new.stage.takers c.in_ok-stop.stop) (sym same) one.stop;
       early = c.requires.early;
       few = omega (arith, few, left, counted, handled, is);
     }
