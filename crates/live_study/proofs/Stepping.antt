@@ -24,6 +24,7 @@ use Rattle.world_core.specs.Overs.{NoneBeyond}
 use Rattle.world_core.specs.Taking.{AreAccepted, clones_after_calls}
 use Rattle.world_core.specs.Worlds.{WorldView}
 use Rattle.live_study.specs.Engines.{InStep, IsAhead}
+use Rattle.live_study.specs.Showing.{Raises}
 use Rattle.live_study.proofs.Taking.{taken_behind}
 
 net_of : (net : Net) (es : List Event) → (after net es).net ≡ net
@@ -169,3 +170,7 @@ goes_ahead h w turn new cs fresh w2 i t e net front clones valid none =
           let early = before_last h.net j turn.front f t.right there less in
           none_earlier w2.net w2.clones f w2.front valid (omega (arith, early, of_front, calls)) none;
     })
+
+-- the front is raised behind calls
+pub raises_next : (h new : Helmed) (turn : Turn) (cs : List Call) → IsNextTurn h turn new cs → Raises h new turn.front
+raises_next h new turn cs t = record { calls = cs; helm = ap (λ (n : Helmed). n.helm) t.new_is }

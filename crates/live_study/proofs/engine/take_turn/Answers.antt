@@ -1,8 +1,7 @@
-use Rattle.std.proofs.Common.{ap, subst}
+use Rattle.std.proofs.Common.{subst}
 use Rattle.net_model.specs.Net.{Net}
 use Rattle.net_model.specs.Rules.{IsNet}
-use Rattle.decision_desk.specs.Passes.{Helmed}
-use Rattle.live_study.proofs.Stepping.{goes_ahead, may_take}
+use Rattle.live_study.proofs.Stepping.{goes_ahead, may_take, raises_next}
 use Rattle.live_study.proofs.engine.take_turn.Goals as goal
 
 pub take-requires : goal.take-requires
@@ -22,4 +21,4 @@ returns-clause-ahead g c =
 pub returns-clause-raises : goal.returns-clause-raises
 returns-clause-raises g c =
     let t = c.in_ok-turn.ensures.turn in
-    record { calls = t.0; helm = ap (λ (h : Helmed). h.helm) t.1.new_is }
+    raises_next _ _ c.in_ok-turn.turn t.0 t.1

@@ -1,4 +1,5 @@
-use Rattle.std.proofs.Common.{◌∙◌, ap, arith, length, length-append, map, sym, subst, rules, true≢false}
+use Rattle.std.proofs.Common.{◌≡◌, ◌∙◌, ℕ, ap, arith, length, length-append, map, sym, subst, rules, true≢false}
+use Rattle.std.specs.Prelude.{vec_capacity}
 use Rattle.std.proofs.lemmas.Iterator.Adapters.{YieldsList-from_vec}
 use Rattle.std.proofs.lemmas.Iterator.Consumers.{YieldsList-turn}
 use Rattle.std.proofs.lemmas.List.{length-map}
@@ -7,6 +8,10 @@ use Rattle.live_study.specs.Looks.{AreCaughtUp, HasRacks}
 use Rattle.live_study.proofs.Closing.{all_caught_more, with_image}
 use Rattle.live_study.proofs.live.gather.Goals as goal
 use Rattle.live_study.proofs.live.gather.Goals.{then-caught_up, else-caught_up}
+
+-- a number that stays the same twice
+stays : (new old first : ℕ) → new ≡ old → old ≡ first → new ≡ first
+stays new old first e i = e ∙ i
 
 pub comes_to_end-comes-requires : goal.comes_to_end-comes-requires
 comes_to_end-comes-requires g c =
@@ -68,8 +73,10 @@ loop-one-preserved g c =
       looks = with_image (λ (a : Seated). a.0.looks) c.args.room.looks.items c.loop-one.looks.items
           c.push_reserved-in-loop-one.new.self.items c.loop-one.yielded one i.looks
           c.push_reserved-in-loop-one.ensures.items;
-      for_passes = c.push_reserved.ensures.capacity ∙ i.for_passes;
-      for_looks = c.push_reserved-in-loop-one.ensures.capacity ∙ i.for_looks;
+      for_passes = stays (vec_capacity c.push_reserved.new.self) (vec_capacity c.loop-one.passes)
+          (vec_capacity c.args.room.passes) c.push_reserved.ensures.capacity i.for_passes;
+      for_looks = stays (vec_capacity c.push_reserved-in-loop-one.new.self) (vec_capacity c.loop-one.looks)
+          (vec_capacity c.args.room.looks) c.push_reserved-in-loop-one.ensures.capacity i.for_looks;
       published = e.published ∙ i.published;
       caught_up = elim c.if-caught_up.branch [
         | then-caught_up w ↦ λ all. all_caught_more net c.args.stocker.now.published c.loop-one.yielded one
