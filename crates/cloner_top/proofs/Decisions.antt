@@ -163,6 +163,7 @@ pub record IsAt (net : Net) (is : List Item) (i : ℕ) (book : BookView) : Type 
   pub none : first_refusal net (decisions (take i is)) ≡ None
   pub accepted : AllAccepted book.net book.events
 
+-- a book of the network in which nothing has been asked has come to the first item
 pub begins : (net : Net) (is : List Item) (book : BookView) → book ≡ record { net = net; events = [] }
     → IsAt net is 0 book
 begins net is book e = record {

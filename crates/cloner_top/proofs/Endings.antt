@@ -34,6 +34,7 @@ use Rattle.cloner_top.specs.Texts.{IsUnread, all_fetches, fetches_of, text_of}
 
 -- ---- the texts of a study
 
+-- why the model's text was not read is why the study is not read
 pub no_model_text : (rose : Type 0) (source : Source) (files : Option Files) (r : Refusal)
     → IsNotRead rose source Model files r → IsUnreadStudy rose source files r
 no_model_text rose source files OutOfMemory h = tt
@@ -49,6 +50,7 @@ unread_on a b c (named m s) files le (inl rose) = inl (omega (arith, rose, le))
 unread_on a b c (named m s) files le (inr lacks) = inr lacks
 unread_on a b c (made n) files le h = h
 
+-- where the model's text is a model, why the script's text was not read is why the study is not read
 pub no_script_text : (a b c : ℕ) (source : Source) (files more : Option Files) (r : Refusal) → a ≤ b → more ≡ files
     → HasModel source files
     → IsNotRead (Rose b c) source Script more r → IsUnreadStudy (Rose a c) source files r
@@ -73,6 +75,7 @@ bad_model_stops source files m (Refused reply line) text h = absurd h
 bad_model_stops source files m (NoClone name) text h = absurd h
 bad_model_stops source files m (LimitMet limit station clone) text h = absurd h
 
+-- memory that was refused, or a rule that the model's text breaks, is why the study is not read
 pub no_model : (rose : Type 0) (source : Source) (files : Option Files) (m : List ℕ) (r : Refusal)
     → IsText (text_of source Model files) m → Stops (IsBadModel m) r → IsUnreadStudy rose source files r
 no_model rose source files m OutOfMemory text h = tt
@@ -97,6 +100,7 @@ bad_script_stops source files m s net (Refused reply line) texts is h = absurd h
 bad_script_stops source files m s net (NoClone name) texts is h = absurd h
 bad_script_stops source files m s net (LimitMet limit station clone) texts is h = absurd h
 
+-- where the model is one, memory that was refused, or a rule that the script breaks, is why it is not read
 pub no_script : (rose : Type 0) (source : Source) (files : Option Files) (m s : List ℕ) (net : Net) (r : Refusal)
     → AreTexts source files m s → model m ≡ Ok net → Stops (IsBadScript s) r → IsUnreadStudy rose source files r
 no_script rose source files m s net OutOfMemory texts is h = tt
@@ -132,10 +136,12 @@ twice (made n) (Some x) b c h k = (rw h at k)
 twice (named m s) None b c h k = let e : b ≡ None = h in (rw e at k)
 twice (named m s) (Some x) b c h k = (rw h at k)
 
+-- calls counted for one text of a study, and then for the other, are counted for both
 pub fetched_twice : (source : Source) (a b c : Option ℕ) → AreCounted (fetches_of source) a b
     → AreCounted (fetches_of source) b c → AreCounted (all_fetches source) a c
 fetched_twice = twice
 
+-- one text takes no more fetches than both
 pub fetched_once : (source : Source) → fetches_of source ≤ all_fetches source
 fetched_once (named m s) = omega arith
 fetched_once (made n) = omega arith
@@ -186,6 +192,7 @@ comes files a net stated read end may = record {
   may = ends.studied net stated end read.is_model read.is_script may;
 }
 
+-- why the study was not written is why what is asked was not written
 pub failed_is : (rose : Type 0) (files : Option Files) (a : Asked) (old_steps new_steps : ℕ) (old new : SinkView)
     (r : Refusal)
     → IsFailed (Comes files a) old_steps new_steps old new r → IsUnobeyed rose files a old_steps new_steps old new r
@@ -196,6 +203,7 @@ failed_is rose files a old_steps new_steps old new NoScript h = absurd h
 failed_is rose files a old_steps new_steps old new (Stopped stop) h = h
 failed_is rose files a old_steps new_steps old new CannotWrite h = h
 
+-- the same, with what is told before the line
 pub halted_is : (rose : Type 0) (files : Option Files) (a : Asked) (old_steps new_steps : ℕ) (old new : SinkView)
     (h : Halt) → IsHalted (Comes files a) old_steps new_steps old new h
     → IsDisobeyed rose files a old_steps new_steps old new h
@@ -229,6 +237,7 @@ module _ (P : Ending → Type 0) (old_steps new_steps work : ℕ) (texts : List 
   not_put (Stopped stop) h = absurd h
   not_put CannotWrite h = record { texts = texts; wrote = record { work = work; may = may; steps = steps }; cut = h }
 
+-- memory that was refused, or a stop with nothing told before its line, is why nothing was written
 pub stops_failed : (P : Ending → Type 0) (old_steps new_steps : ℕ) (out : SinkView) (r : Refusal)
     → Stops (StoppedFor P old_steps new_steps []) r → IsFailed P old_steps new_steps out out r
 stops_failed P old_steps new_steps out OutOfMemory h = refl

@@ -74,6 +74,7 @@ calls_are many n (c ∷ calls) callers each = (
 
 -- ---- the law
 
+-- within the limit, `run` of a journal read as a script may end by writing the texts of the clones that it leaves
 pub journal_runs : JournalRunsTheSame
 journal_runs net s book model text valid stated journal short =
     let many = length s.analysts in

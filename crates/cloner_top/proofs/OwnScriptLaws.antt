@@ -83,6 +83,7 @@ same_end net source who s t end none_s none_t same h =
     (subst (λ o. MayRunIt net who o end) same
     (to_it net who (clones_of net s) end (run_of_end net source who s end none_s h))))
 
+-- where all decisions are accepted, `solo` of a clone may end with its own script as with the whole one
 pub own_script : OwnScriptWritesTheSame
 own_script net s who source end none =
     let own = own_script_suffices net who s

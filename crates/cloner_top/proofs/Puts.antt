@@ -48,6 +48,7 @@ one (Some o) new h = h
 
 -- ---- one text
 
+-- a text that was appended in one call was put
 pub put_one : (text : List ℕ) (old new : SinkView) → Appended old.bytes text new.bytes → Counted old.calls new.calls
     → ArePut (text ∷ []) old new
 put_one text old new bytes calls = record {
@@ -55,6 +56,7 @@ put_one text old new bytes calls = record {
   calls = one old.calls new.calls calls;
 }
 
+-- a text of which a prefix was appended, in a call that failed, was cut off
 pub cut_one : (text : List ℕ) (old new : SinkView) → PartAppended old.bytes text new.bytes
     → Rose old.faults new.faults → Counted old.calls new.calls → AreCut (text ∷ []) old new
 cut_one text old new bytes failed calls = record {

@@ -30,10 +30,12 @@ short_planned net cs planned = of_each cs planned.each
     of_each (c ∷ cs) each zero l = let s = each.0.short in omega (arith, s)
     of_each (c ∷ cs) each (suc k) l = of_each cs each.1 k (omega (arith, l))
 
+-- what follows from what is said where a result is Ok is said there too
 pub on_ok : {T E : Type 0} {A B : Type 0} (r : Result T E) → (A → B) → OnOk r A → OnOk r B
 on_ok (Ok t) f h = f h
 on_ok (Err e) f h = tt
 
+-- what follows from what is said of a result's error is said of it too
 pub on_err : {T E : Type 0} {P Q : E → Type 0} (r : Result T E) → ((e : E) → P e → Q e) → IfErr r P → IfErr r Q
 on_err (Ok t) f h = tt
 on_err (Err e) f h = f e h
@@ -128,6 +130,7 @@ module _ (net told : Net) (cs those : List Clone) (name : List ℕ) (k old_steps
 
 -- ---- as it is asked for
 
+-- an error that says why a simulation was not written says so for an equal mode and an equal source
 pub by_mode : (mode its : Mode) (source that : Source) (net : Net) (cs : List Clone) (old_steps new_steps : ℕ)
     (old new : SinkView) {T : Type 0} (r : Result T Refusal) → mode ≡ its → source ≡ that
     → IfErr r (λ e. IsFailed (MaySimulate its that net cs) old_steps new_steps old new e)

@@ -28,6 +28,7 @@ abbrev pub questions : List Item → List Question
 questions [] = []
 questions (i ∷ is) = questions_onto i.analyst i.act (questions is)
 
+-- the line of a decision, before other lines; the line of a look is left out
 abbrev pub lines_onto : ℕ → Act → List ℕ → List ℕ
 lines_onto line (Decide d) ls = line ∷ ls
 lines_onto line (Look who station) ls = ls

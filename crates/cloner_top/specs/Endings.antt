@@ -34,6 +34,7 @@ pub data Ending : Type 0 where
   stopped : Stop → Ending
   overrun : List (List ℕ) → Stop → ℕ → Ending
 
+-- the stop where the limit is met: the limit, the name of the station of this number, and the clone's name
 abbrev pub limit_met : Net → ℕ → List ℕ → Stop
 limit_met net station clone = LimitMet net.limit (site_of net station).name clone
 

@@ -9,6 +9,7 @@ use Rattle.cloner_top.specs.declared.refusal.Refusal.TheVariants.{NoScript, Stop
 use Rattle.cloner_top.specs.declared.stop.Stop.{Stop}
 use Rattle.cloner_top.specs.Stops.{stop_line, stop_status}
 
+-- the status for each cause
 abbrev pub status_of : Refusal → ℕ
 status_of OutOfMemory = 1
 status_of Usage = 2

@@ -9,6 +9,7 @@ use Rattle.decision_book.specs.Numbers.{reply_number}
 use Rattle.cloner_top.specs.declared.stop.Stop.{Stop}
 use Rattle.cloner_top.specs.declared.stop.Stop.TheVariants.{BadModel, BadScript, Refused, NoClone, LimitMet}
 
+-- the status for each stop
 abbrev pub stop_status : Stop → ℕ
 stop_status (BadModel fault) = 4
 stop_status (BadScript fault) = 5
@@ -16,6 +17,7 @@ stop_status (Refused reply line) = 6
 stop_status (NoClone name) = 6
 stop_status (LimitMet limit station clone) = 7
 
+-- what a line says of a key, nothing where there is none
 abbrev pub key_part : Option (List ℕ) → List ℕ
 key_part None = []
 key_part (Some key) = codes " key " ++ key
@@ -39,9 +41,11 @@ decision_line reply line =
     codes "cloner: decision: refusal " ++ decimal (reply_number reply) ++ codes " at line " ++ decimal line
     ++ codes "\n"
 
+-- the name that no clone has
 abbrev pub no_clone_line : List ℕ → List ℕ
 no_clone_line name = codes "cloner: no clone " ++ name ++ codes "\n"
 
+-- the limit that was met, the station and the clone
 abbrev pub limit_line : ℕ → List ℕ → List ℕ → List ℕ
 limit_line limit station clone =
     codes "cloner: limit " ++ decimal limit ++ codes " met at station " ++ station ++ codes " in clone " ++ clone

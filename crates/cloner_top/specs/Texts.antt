@@ -22,6 +22,7 @@ pub data Known : Type 0 where
   absent : Known
   bytes : List ℕ → Known
 
+-- a file that is known: absent, or its bytes as far as a fetch gives them
 abbrev pub known_file : Option (List ℕ) → Known
 known_file None = absent
 known_file (Some file) = bytes (prefix_of file)
@@ -62,11 +63,12 @@ abbrev pub IsUnread : Type 0 → Source → Text → Option Files → Type 0
 IsUnread rose (named model script) text files = rose ⊎ Lacks files (name_of text model script)
 IsUnread rose (made n) text files = ⊥
 
--- how many fetches one text takes, and both
+-- how many fetches one text takes
 abbrev pub fetches_of : Source → ℕ
 fetches_of (named model script) = 1
 fetches_of (made n) = 0
 
+-- and how many both take
 abbrev pub all_fetches : Source → ℕ
 all_fetches (named model script) = 2
 all_fetches (made n) = 0
@@ -83,11 +85,12 @@ IsNotRead rose source Model files NoModel = IsUnread rose source Model files
 IsNotRead rose source Script files NoScript = IsUnread rose source Script files
 IsNotRead rose source text files refusal = ⊥
 
--- the rule that a text breaks
+-- the rule of models that a text breaks
 abbrev pub IsBadModel : List ℕ → Stop → Type 0
 IsBadModel text (BadModel fault) = model text ≡ Err fault
 IsBadModel text stop = ⊥
 
+-- and the rule of scripts
 abbrev pub IsBadScript : List ℕ → Stop → Type 0
 IsBadScript text (BadScript fault) = script text ≡ Err fault
 IsBadScript text stop = ⊥

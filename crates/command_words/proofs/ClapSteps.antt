@@ -48,10 +48,11 @@ abbrev pub found : Walk → List Text → Option Values
 found w words = unless_fault (or_else (walk_fault shape [] w words) (settle_fault shape.rules false (end_of w words)))
     (Some (values_in (settled shape.rules (end_of w words)).rows))
 
--- the fault of what is pending, and the rows with it
+-- the fault of what is pending
 abbrev pub pending_fault : List Row → Option (Text × List Text) → Kinds
 pending_fault rows pending = settle_fault shape.rules false (held rows pending)
 
+-- the rows with what is pending
 abbrev pub rows_with : List Row → Option (Text × List Text) → List Row
 rows_with rows pending = settled_rows shape.rules pending rows
 

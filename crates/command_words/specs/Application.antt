@@ -9,12 +9,15 @@ use Rattle.clap.specs.declared.builder.ArgAction.TheVariants.{Set}
 abbrev pub option : List ℕ → Rule
 option name = record (new_rule name) { long = Some name; action = Some Set }
 
+-- a value without a name, which is known by its place
 abbrev pub positional : List ℕ → Rule
 positional name = new_rule name
 
+-- the command without options and positionals: its name is not among the words, and there is no help
 abbrev pub bare : App
 bare = on_top (λ s. record s { no_binary_name = true; disable_help_flag = true }) (new_app (codes "cloner"))
 
+-- the command with its two options and its three positionals
 abbrev pub cloner : App
 cloner =
     with_rule (with_rule (with_rule (with_rule (with_rule bare (option (codes "workers"))) (option (codes "clone")))

@@ -8,6 +8,7 @@ use Rattle.command_words.specs.Application.{cloner}
 use Rattle.command_words.specs.Rules.{values}
 use Rattle.command_words.specs.Values.{Values, positionals_of}
 
+-- the values of the options and positionals in clap's rows
 abbrev pub values_in : List Row → Values
 values_in rows = record {
   workers = first_of (codes "workers") rows;
@@ -16,6 +17,7 @@ values_in rows = record {
       (first_of (codes "second") rows);
 }
 
+-- what was found, None where there is a fault
 abbrev pub unless_fault : Kinds → Option Values → Option Values
 unless_fault [] found = found
 unless_fault (k ∷ ks) found = None

@@ -8,10 +8,12 @@ use Rattle.command_words.specs.Requests.{RequestView, form, named, made}
 abbrev pub words_of : List ℕ → List (List ℕ)
 words_of line = slice_split (λ b. b == 32) line
 
+-- the words of a command line, and what they ask for, None where it has no known form
 pub record Example : Type 0 where
   pub words : List (List ℕ)
   pub asks : Option RequestView
 
+-- the example of a line as it is typed
 abbrev pub line : List ℕ → Option RequestView → Example
 line text asks = record { words = words_of text; asks = asks }
 

@@ -27,10 +27,12 @@ pub record RequestView : Type 0 where
   pub asked : Asked
   pub workers : ℕ
 
+-- where a request's texts come from, as plain data
 abbrev pub source_view : Texts → Source
 source_view (Named model script) = named model.now script.now
 source_view (Made number) = made number
 
+-- a request as plain data
 abbrev pub request_view : Request → RequestView
 request_view r = record { asked = record { mode = r.mode; source = source_view r.source }; workers = r.workers }
 
@@ -88,6 +90,7 @@ by_positionals (mode ∷ model ∷ script ∷ []) workers clone = of_two mode mo
 by_positionals (mode ∷ number ∷ []) workers clone = of_one mode number workers clone
 by_positionals _ workers clone = None
 
+-- what the values ask for, None where they have no known form
 abbrev pub form_of : Values → Option RequestView
 form_of v = by_positionals v.positionals v.workers v.clone
 

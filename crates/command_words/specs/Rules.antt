@@ -27,6 +27,7 @@ pub data Dashed : Type 0 where
   -- anything else; names aren't abbreviated
   unknown : Dashed
 
+-- what such a word says: `--`, or an option with or without its value in the word, and else unknown
 abbrev pub dashed : List ℕ → Dashed
 dashed word =
     if bytes_eq word (codes "--") then ending
@@ -63,6 +64,7 @@ read (word ∷ rest) None v =
 read (word ∷ rest) (Some due) v =
     if is_dashed word then None else option_and_then (read rest None) (with_value due word v)
 
+-- no option is there, and no positional
 abbrev pub no_values : Values
 no_values = record { workers = None; clone = None; positionals = [] }
 

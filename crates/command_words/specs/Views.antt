@@ -3,6 +3,7 @@ use Rattle.std.specs.Prelude.{option_map}
 use Rattle.command_words.specs.declared.given.Given.{Given}
 use Rattle.command_words.specs.Values.{Values, positionals_of}
 
+-- the values that were read, as plain data
 abbrev pub values_view : Given → Values
 values_view g = record {
   workers = option_map (λ s. s.now) g.workers;

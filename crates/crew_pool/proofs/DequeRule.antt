@@ -32,12 +32,14 @@ use Rattle.crew_pool.specs.Deque.{KnowsDealt, EachKnowsDealt, NumbersOnce, Takes
 
 -- ---- occurrences
 
+-- how often x stands in two lists together is the sum of how often it stands in each
 pub occurrences-append : (x : ℕ) (xs ys : List ℕ) → occurrences x (xs ++ ys) ≡ occurrences x xs + occurrences x ys
 occurrences-append x [] ys = omega arith
 occurrences-append x (y ∷ xs) ys = omega (arith, occurrences-append x xs ys)
 
 -- ---- one_if_below
 
+-- below n + 1 counts what counts below n, and n itself
 pub one_if_below-next : (x n : ℕ) → one_if_below x (n + 1) ≡ one_if_below x n + one_if_same x n
 one_if_below-next x n = grind arith
 
@@ -111,6 +113,7 @@ EachKnowsDealt-idle x n (u ∷ us) each none =
 
 -- ---- NumbersOnce
 
+-- the rule holds at first, of an empty deque and one seat that has every part and has taken nothing
 pub NumbersOnce-begins : NumbersOnce [] (seat_view 1024 0 [] ∷ [])
 NumbersOnce-begins = (0, refl, (λ x. grind arith), each)
   where
@@ -120,6 +123,7 @@ NumbersOnce-begins = (0, refl, (λ x. grind arith), each)
         ((λ none. absurd (omega (arith, none))), λ _. refl)
     each (suc j) v e = absurd (some-ne-none v (sym e))
 
+-- the rule stays when a seat with a part takes one number, which then joins those that it has taken
 pub NumbersOnce-takes : (port : ℕ) (v : SeatView) → 0 < v.parts → Takes NumbersOnce port v 1 (TakesNumbers v)
 NumbersOnce-takes port v part (x ∷ []) queue views _ _ h at =
     let w : SeatView = seat_view v.parts v.dealt (v.taken ++ x ∷ []) in
@@ -172,6 +176,7 @@ NumbersOnce-deals-dealt port v every queue views h at =
     next : (x n k : ℕ) → k ≡ n → one_if_below x (n + 1) ≡ one_if_below x n + one_if_same x k
     next x n k e = grind (arith, e)
 
+-- the rule stays when a seat with every part, which has taken nothing, deals the next number
 pub NumbersOnce-deals : (port : ℕ) (v : SeatView) (i : ℕ) → v ≡ seat_view 1024 i []
     → Pushes NumbersOnce port v (i ∷ []) (λ w. w ≡ seat_view v.parts (v.dealt + 1) v.taken)
 NumbersOnce-deals port v i e =
@@ -179,6 +184,7 @@ NumbersOnce-deals port v i e =
     subst (λ (k : ℕ). Pushes NumbersOnce port v (k ∷ []) (λ w. w ≡ seat_view v.parts (v.dealt + 1) v.taken)) n
     (NumbersOnce-deals-dealt port v (ap (λ (u : SeatView). u.parts) e))
 
+-- and when a seat of two parts or more gives one part to a new seat, which has taken nothing
 pub NumbersOnce-forks : (port : ℕ) (v : SeatView) → 1 < v.parts
     → Forks NumbersOnce port v (seat_view (v.parts - 1) v.dealt v.taken) (seat_view 1 v.dealt [])
 NumbersOnce-forks port v two queue views h at =
@@ -199,6 +205,7 @@ NumbersOnce-forks port v two queue views h at =
       EachKnowsDealt-push h.0 vs r ((λ none. refl), λ _. known) (EachKnowsDealt-set h.0 views port l left h.3),
     )
 
+-- and when a seat with a part takes over the parts and numbers of another, which is left with none
 pub NumbersOnce-merges : (port : ℕ) (v : SeatView) (other : ℕ) (u : SeatView) → 0 < v.parts
     → Merges NumbersOnce port v other u (seat_view (v.parts + u.parts) v.dealt (v.taken ++ u.taken)) (seat_view 0 0 [])
 NumbersOnce-merges port v other u part queue views h at two at' =
@@ -221,6 +228,7 @@ NumbersOnce-merges port v other u part queue views h at two at' =
           (EachKnowsDealt-set h.0 views port b both h.3),
     )
 
+-- where the deque is empty, a seat with every part has taken each number that was dealt, once
 pub NumbersOnce-finds : (port : ℕ) (v : SeatView) → Finds NumbersOnce port v (IsComplete v)
 NumbersOnce-finds port v views h at every x =
     let w : SeatView = seat_view 0 0 [] in

@@ -25,10 +25,12 @@ use Rattle.crew_pool.specs.Deque.{seat_view, occurrences, one_if_same, numbers, 
 
 -- ---- numbers
 
+-- the numbers of pairs with one more at the end are theirs, and then the number of that one
 pub numbers-push : {X : Type 0} (ps : List (ℕ × X)) (p : ℕ × X) → numbers (ps ++ p ∷ []) ≡ numbers ps ++ p.0 ∷ []
 numbers-push [] p = refl
 numbers-push (q ∷ qs) p = ap (λ l. q.0 ∷ l) (numbers-push qs p)
 
+-- the numbers of two lists together are those of the first, and then those of the second
 pub numbers-append : {X : Type 0} (ps qs : List (ℕ × X)) → numbers (ps ++ qs) ≡ numbers ps ++ numbers qs
 numbers-append [] qs = refl
 numbers-append (p ∷ ps) qs = ap (λ l. p.0 ∷ l) (numbers-append ps qs)
@@ -55,11 +57,13 @@ numbers-merged v u dealt ps qs rs e own more =
 
 -- ---- EachPair
 
+-- where each pair is as asked, and one more is, so is each of the pairs with that one at the end
 pub EachPair-push : {X : Type 0} (asks : ℕ → X → Type 0) (ps : List (ℕ × X)) (p : ℕ × X)
     → asks p.0 p.1 → EachPair asks ps → EachPair asks (ps ++ p ∷ [])
 EachPair-push asks [] p one all = (one, tt)
 EachPair-push asks (q ∷ qs) p one all = (all.0, EachPair-push asks qs p one all.1)
 
+-- and so is each pair of two such lists together
 pub EachPair-append : {X : Type 0} (asks : ℕ → X → Type 0) (ps qs : List (ℕ × X))
     → EachPair asks ps → EachPair asks qs → EachPair asks (ps ++ qs)
 EachPair-append asks [] qs all more = more

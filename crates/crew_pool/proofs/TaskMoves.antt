@@ -36,9 +36,11 @@ use Rattle.crew_pool.proofs.Pairs.{numbers-push, EachPair-push}
 
 -- ---- TasksOnce
 
+-- of any items the rule holds at first, where the deque is empty and one seat has every part
 pub TasksOnce-begins : {X : Type 0} (items : List X) → TasksOnce items [] (seat_view 1024 0 [] ∷ [])
 TasksOnce-begins items = (NumbersOnce-begins, tt)
 
+-- the rule stays when a seat with a part takes one task, which has the item of its number
 pub TasksOnce-takes : {X : Type 0} (items : List X) (port : ℕ) (v : SeatView) → 0 < v.parts
     → Takes (TasksOnce items) port v 1 (TakesTasks items v)
 TasksOnce-takes items port v part (x ∷ []) rest views less most h at =
@@ -47,6 +49,7 @@ TasksOnce-takes items port v part (x ∷ []) rest views less most h at =
 TasksOnce-takes items port v part [] rest views less most h at = absurd (omega (arith, less))
 TasksOnce-takes items port v part (x ∷ y ∷ ys) rest views less most h at = absurd (omega (arith, most))
 
+-- and when a seat with every part, which has taken nothing, deals the next number with its item
 pub TasksOnce-deals : {X : Type 0} (items : List X) (port : ℕ) (v : SeatView) (i : ℕ) (x : X)
     → v ≡ seat_view 1024 i [] → IsItemAt items i x
     → Pushes (TasksOnce items) port v ((i, x) ∷ []) (λ w. w ≡ seat_view v.parts (v.dealt + 1) v.taken)
@@ -60,16 +63,19 @@ TasksOnce-deals items port v i x e is tasks views h at =
       r.2,
     )
 
+-- and when a seat of two parts or more gives one part to a new seat
 pub TasksOnce-forks : {X : Type 0} (items : List X) (port : ℕ) (v : SeatView) → 1 < v.parts
     → Forks (TasksOnce items) port v (seat_view (v.parts - 1) v.dealt v.taken) (seat_view 1 v.dealt [])
 TasksOnce-forks items port v two tasks views h at = (NumbersOnce-forks port v two (numbers tasks) views h.0 at, h.1)
 
+-- and when a seat with a part takes over the parts and numbers of another
 pub TasksOnce-merges : {X : Type 0} (items : List X) (port : ℕ) (v : SeatView) (other : ℕ) (u : SeatView) → 0 < v.parts
     → Merges (TasksOnce items) port v other u (seat_view (v.parts + u.parts) v.dealt (v.taken ++ u.taken))
     (seat_view 0 0 [])
 TasksOnce-merges items port v other u part tasks views h at two at' =
     (NumbersOnce-merges port v other u part (numbers tasks) views h.0 at two at', h.1)
 
+-- where no task is left, a seat with every part has taken each number that was dealt, once
 pub TasksOnce-finds : {X : Type 0} (items : List X) (port : ℕ) (v : SeatView)
     → Finds (TasksOnce items) port v (IsComplete v)
 TasksOnce-finds items port v views h at = NumbersOnce-finds port v views h.0 at

@@ -27,6 +27,7 @@ use Rattle.journal_text.specs.Laws.{without_comments}
 abbrev pub end_line : List ℕ → List ℕ
 end_line l = l ++ 10 ∷ []
 
+-- each byte is printed: from 32 to 126
 abbrev pub IsPrinted : List ℕ → Type 0
 IsPrinted l = list_all is_printed l ≡ true
 
@@ -53,6 +54,7 @@ event_lines analysts (raised front) = (codes "# front " ++ decimal front) ∷ []
 event_lines analysts (asked call) =
     (codes "analyst " ++ analyst_name analysts call.caller) ∷ call_line call.reply call.decision ∷ []
 
+-- the text of events is their lines, each with its line feed
 pub text_in_lines : (analysts : List (List ℕ)) (es : List Event)
     → events_text analysts es ≡ flat_map end_line (flat_map (event_lines analysts) es)
 text_in_lines analysts [] = refl
@@ -84,12 +86,14 @@ abbrev pub if_decided : Reply → Decision → List (List (List ℕ)) → List (
 if_decided Accepted d lines = words_of_decision d ∷ lines
 if_decided refusal d lines = lines
 
+-- the words of the lines that events say: a section for each call, and its decision if it was accepted
 abbrev pub said_lines : List (List ℕ) → List Event → List (List (List ℕ))
 said_lines analysts [] = []
 said_lines analysts (raised front ∷ es) = said_lines analysts es
 said_lines analysts (asked c ∷ es) = words_of_section (analyst_name analysts c.caller) ∷ if_decided c.reply c.decision
     (said_lines analysts es)
 
+-- a call that was refused says no line of a decision
 pub not_decided : (r : Reply) → IsRefused r → (d : Decision) (lines : List (List (List ℕ)))
     → if_decided r d lines ≡ lines
 not_decided Accepted h d lines =
@@ -173,6 +177,7 @@ abbrev pub IsWritable : List (List ℕ) → Event → Type 0
 IsWritable analysts (raised front) = front < 2 ^ 32
 IsWritable analysts (asked c) = IsNamed (analyst_name analysts c.caller) × IsDecision c.decision × HasSmallFront c.reply
 
+-- each line of such events is printed
 pub printed_lines : (analysts : List (List ℕ)) (es : List Event) → AllByRecursion (IsWritable analysts) es
     → AllByRecursion IsPrinted (flat_map (event_lines analysts) es)
 printed_lines analysts [] h = tt

@@ -92,6 +92,7 @@ of_first net (a ∷ more) es first =
     → AllByRecursion (IsCallOf (length (a ∷ more))) (calls_of es) → IsScriptOf net (a ∷ more) es) (sym main)
     (of_main net more es)
 
+-- a right journal whose callers are analysts of a script reads, without comments, as a script
 pub journal_reads_as_script : (net : Net) → JournalReadsAsScript net
 journal_reads_as_script net s es h right some_time small calls =
     of_first net s.analysts es h.first (are_known s.analysts h.distinct h.named) h.few_analysts right some_time small

@@ -157,6 +157,7 @@ small_from net before (asked c ∷ es) s is low small right =
       small_from net (before ++ asked c ∷ []) es (after_event s (asked c)) then low small right.1,
     )
 
+-- in a right journal of a network whose horizon fits 32 bits, so do the fronts of each event
 pub small_fronts : (net : Net) (es : List Event) → IsRight net es → net.horizon < 2 ^ 32
     → AllByRecursion HasSmallFronts es
 small_fronts net es right small = small_from net [] es (opening net) refl (omega arith) small right

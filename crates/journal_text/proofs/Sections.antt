@@ -34,6 +34,7 @@ abbrev pub missing : List (List ℕ) → List (List ℕ) → ℕ
 missing names [] = 0
 missing names (a ∷ more) = lack (is_among a names) + missing names more
 
+-- there are no more analysts without a section than analysts
 pub few_missing : (names analysts : List (List ℕ)) → missing names analysts ≤ length analysts
 few_missing names [] = omega arith
 few_missing names (a ∷ more) = let one = at_most (is_among a names) in omega (arith, one, few_missing names more)

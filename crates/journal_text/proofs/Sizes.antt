@@ -48,6 +48,7 @@ decided_length analysts c known h =
           (line_text (words_of_decision c.decision) ++ []),
     )
 
+-- what events say takes no more than 172 bytes for each call
 pub said_length : (analysts : List (List ℕ)) (es : List Event) → AreKnown analysts
     → AllByRecursion (IsCallBy analysts) (calls_of es)
     → length (flat_map line_text (said_lines analysts es)) ≤ 172 * length (calls_of es)

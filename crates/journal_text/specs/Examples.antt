@@ -15,6 +15,7 @@ four_calls =
     ∷ raised 12 ∷ raised 15 ∷ raised 17 ∷ raised 20
     ∷ call 1 7 (branch (codes "x")) Closed ∷ []
 
+-- the text of the journal of these calls, without looks
 abbrev pub four_calls_text : List ℕ
 four_calls_text =
     codes "journal 4 7\n"
@@ -62,6 +63,7 @@ three_looks =
     }
     ∷ record { analyst = 2; who = codes "base"; station = codes "till"; glance = None } ∷ []
 
+-- the text of these looks, where the analysts are main and ben
 abbrev pub looks_of_two : List ℕ
 looks_of_two =
     codes "looks 3\n"

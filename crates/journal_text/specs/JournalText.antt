@@ -48,6 +48,7 @@ glance_text None = codes " unknown"
 glance_text (Some glance) = codes " front=" ++ decimal glance.front ++ codes " clones=" ++ decimal glance.clones
     ++ found_text glance.found
 
+-- the line of a look: who looked, at which clone and station, and what it showed
 abbrev pub look_line : List (List ℕ) → Looked → List ℕ
 look_line analysts look =
     codes "look " ++ analyst_name analysts look.analyst ++ codes " " ++ look.who ++ codes " " ++ look.station
@@ -62,6 +63,7 @@ looks_text analysts looks = codes "looks " ++ decimal (length looks) ++ codes "\
 abbrev pub head_of : ℕ → ℕ → List ℕ
 head_of calls fronts = codes "journal " ++ decimal calls ++ codes " " ++ decimal fronts ++ codes "\n"
 
+-- the same of these events
 abbrev pub head_line : List Event → List ℕ
 head_line events = head_of (length (calls_of events)) (length (fronts_of events))
 

@@ -35,6 +35,7 @@ with_full ds a d s = record {
   fewer = λ e. omega (arith, length-append ds (d ∷ []), s.few);
 }
 
+-- a pass that asks one decision more has asked that too, at the same desk and for the same caller
 pub asked_more : (ds : List Decision) (old new : Passed) (d : Decision) (receipt : Receipt) (j : List Event)
     → AskedSo ds old.account → IsAsked old d receipt new j
     → AskedSo (ds ++ d ∷ []) new.account × (new.desk ≡ old.desk) × (new.account.caller ≡ old.account.caller)

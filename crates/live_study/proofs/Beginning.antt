@@ -15,6 +15,7 @@ use Rattle.live_study.specs.Asking.{Seated}
 use Rattle.live_study.specs.Opening.{IsFresh, IsOpening, IsRackNow, numbers_to}
 use Rattle.live_study.specs.Scripts.{acts_by, each_acts, own_act}
 
+-- an item that stands at a place is the one that is read there
 pub at_item : (items : List Item) (i : ℕ) (item : Item) → slice_get items i ≡ Some item → get_or items i item ≡ item
 at_item items i item is = sym (unwrap_or-slice_get items i item) ∙ ap (λ o. unwrap_or o item) is
 
@@ -36,13 +37,16 @@ own_length : (b : Bool) (act : Act) → length (if b then act ∷ [] else []) �
 own_length true act = omega arith
 own_length false act = omega arith
 
+-- an item gives an analyst one act at most, and none where it is another's
 pub one_own : (a : ℕ) (item : Item) → length (own_act a item) ≤ one_if (nat_eq item.analyst a)
 one_own a item = own_length (nat_eq item.analyst a) item.act
 
+-- what is 1 where something is so, and else 0, is at most 1
 pub at_most_one : (b : Bool) → one_if b ≤ 1
 at_most_one true = omega arith
 at_most_one false = omega arith
 
+-- an analyst has no more acts than there are items
 pub few_by : (a : ℕ) (items : List Item) → length (acts_by a items) ≤ length items
 few_by a [] = omega arith
 few_by a (i ∷ is) = omega (
@@ -58,14 +62,17 @@ pub length-numbers_to : (n : ℕ) → length (numbers_to n) ≡ n
 length-numbers_to zero = refl
 length-numbers_to (suc n) = omega (arith, length-append (numbers_to n) ((n + 1) ∷ []), length-numbers_to n)
 
+-- there are as many lists of acts as analysts
 pub length-each_acts : (items : List Item) (n : ℕ) → length (each_acts items n) ≡ n
 length-each_acts items zero = refl
 length-each_acts items (suc n) =
     omega (arith, length-append (each_acts items n) (acts_by (n + 1) items ∷ []), length-each_acts items n)
 
+-- the numbers up to the next are those so far and the next
 pub numbers_next : (n : ℕ) → numbers_to (n + 1) ≡ numbers_to n ++ (n + 1) ∷ []
 numbers_next n = ap numbers_to (add-one n)
 
+-- the acts of one analyst more are those so far and that analyst's
 pub acts_next : (items : List Item) (n : ℕ)
     → each_acts items (n + 1) ≡ each_acts items n ++ acts_by (n + 1) items ∷ []
 acts_next items n = ap (each_acts items) (add-one n)
@@ -75,6 +82,7 @@ pub mapped_more : {A B : Type 0} (f : A → B) (xs zs : List A) (x : A) (ys : Li
     → map f xs ≡ ys → map f zs ≡ ys ++ f x ∷ []
 mapped_more f xs zs x ys e h = ap (map f) e ∙ map-append f xs (x ∷ []) ∙ ap (λ l. l ++ f x ∷ []) h
 
+-- fresh analysts with one more that is fresh are all fresh
 pub fresh_more : (opening : List RackView) (xs zs : List Seated) (x : Seated) → zs ≡ xs ++ x ∷ []
     → AllByRecursion (IsFresh opening) xs → IsFresh opening x → AllByRecursion (IsFresh opening) zs
 fresh_more opening xs zs x e all own =

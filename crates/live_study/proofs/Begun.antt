@@ -133,6 +133,7 @@ ready_new : (desk : TableId) (net : Net) (x : ℕ) (p : Passed) → p ≡ new_pa
 ready_new desk net x p is = subst (λ (q : Passed). (q.desk ≡ desk) × AskedSo [] q.account) (sym is)
     (refl, record { all = λ e. refl; few = omega arith; fewer = λ e. absurd cc })
 
+-- analysts with new passes of a desk have asked nothing there yet
 pub all_ready : (desk : TableId) (net : Net) (n : ℕ) (passes : List Passed) (analysts : List Seated)
     → map (λ (a : Seated). a.0.pass) analysts ≡ passes → passes ≡ new_passes desk net n
     → (k : ℕ) (d : Seated) → k < length analysts → IsReady desk (get_or analysts k d).0
@@ -145,6 +146,7 @@ all_ready desk net n passes analysts are new k d less =
     let r = ready_new desk net (k + 1) (get_or analysts k d).0.pass own in
     record { desk_is = r.0; all = r.1 }
 
+-- a new helm and a world of the base clone at front 0 are in step
 pub begins_in_step : (desk : TableId) (net : Net) (n : ℕ) (h : Helmed) (w : WorldView) → h ≡ new_helm desk net n
     → w ≡ record { net = net; clones = base ∷ []; front = 0 } → InStep h w
 begins_in_step desk net n h w is begins =
@@ -181,6 +183,7 @@ no_account desk net (suc n) x h =
     ∙ accounts_of-append x (map (λ p. p.account) (new_passes desk net n)) ((new_pass desk net (n + 1)).account ∷ [])
     ∙ omega (arith, last, no_account desk net n x before)
 
+-- where analysts with new passes have asked all acts of the script, the journal is one of the script
 pub journal_of_script : (desk : TableId) (net : Net) (s : ScriptView) (passes : List Passed) (analysts : List Seated)
     (book : BookView) → map (λ (a : Seated). a.0.pass) analysts ≡ passes
     → passes ≡ new_passes desk net (length s.analysts)

@@ -108,6 +108,7 @@ asked_each desk events before (a ∷ others') all right whole few =
     is_false true h = absurd (h refl)
     is_false false h = refl
 
+-- where all have asked all, few enough for a journal, each one's calls in it are that one's decisions
 pub all_asked : (desk : TableId) (events : List Event) (others' : List Seated) → AllDone desk others'
     → AreAccounts events (accounts_in others')
     → ((x : ℕ) → accounts_of x (accounts_in others') ≡ 0 → calls_by x events ≡ [])
@@ -175,6 +176,7 @@ of_desk desk [] all k d less = absurd (omega (arith, less))
 of_desk desk (a ∷ more) all zero d less = all.0.desk_is
 of_desk desk (a ∷ more) all (suc k) d less = of_desk desk more all.1 k d (omega (arith, less))
 
+-- the accounts of the analysts' passes are the accounts of the analysts
 pub accounts_are : (analysts : List Seated) → map (λ p. p.account) (map (λ (a : Seated). a.0.pass) analysts)
     ≡ accounts_in analysts
 accounts_are [] = refl
@@ -205,6 +207,7 @@ all_asked_in desk helm0 helm1 new passes book steers fresh are closed done few r
       others = none;
     }
 
+-- and so is all that they had to ask as they stood before the run
 pub asked_in : (desk : TableId) (helm0 helm1 : Helmed) (old new : List Seated) (passes : List Passed)
     (book : BookView) → Steers helm0 helm1 → helm0.accounts ≡ []
     → passes ≡ map (λ (a : Seated). a.0.pass) new → IsClosed (closing helm1 passes) book
@@ -247,6 +250,7 @@ finished_at helm0 helm1 passes book world steers closed right stands whole =
       world_is = λ i. record { net = of_net i; clones = clones i; front = front i };
     }
 
+-- so a run that hands back a world at the horizon, in step with its helm, is finished
 pub finished_if : (helm0 helm1 : Helmed) (passes : List Passed) (book : BookView) (r : Result WorldView StudyFault)
     → Steers helm0 helm1 → IsClosed (closing helm1 passes) book → IsRight book.net book.events
     → IfOk r (λ w. InStep helm1 w × (w.front ≡ w.net.horizon)) → IfOk r (λ w. IsFinished helm0.net book w)

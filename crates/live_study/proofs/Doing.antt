@@ -55,6 +55,7 @@ asked_next desk acts d old new receipt j h a =
       all = subst (λ ds. AskedSo ds new.pass.account) (sym (decided_more acts (Decide d))) r.0;
     }
 
+-- an analyst that looked, its pass as it was, has asked what it had to ask
 pub asked_over : (desk : TableId) (acts : List Act) (who station : List ℕ) (old new : Analyst) → HasAsked desk acts old
     → new.pass ≡ old.pass → HasAsked desk (acts ++ Look who station ∷ []) new
 asked_over desk acts who station old new h e =
@@ -152,6 +153,7 @@ few_decisions_onto : (act : Act) → length (decisions_onto act []) ≤ 1
 few_decisions_onto (Decide d) = omega arith
 few_decisions_onto (Look who station) = omega arith
 
+-- so there are no more decisions than acts
 pub few_decided : (acts : List Act) → length (decided acts) ≤ length acts
 few_decided [] = omega arith
 few_decided (act ∷ acts) = omega (
@@ -179,6 +181,7 @@ same_on a b c s t = record {
   room = t.room ∙ s.room;
 }
 
+-- an analyst is the same as itself
 pub same_self : (a : Analyst) → IsSame a a
 same_self a = record { todo = refl; caller = refl; number = refl; room = refl }
 
@@ -191,6 +194,7 @@ number_low name net s e = of_place (position (λ (site : Site). bytes_eq site.na
     of_place None e = absurd (cc)
     of_place (Some i) e = let h : i + 1 ≡ s = cc in omega (arith, h)
 
+-- where each station has a rack in a beginning of a list, each has one in the list
 pub racks_later : (net : Net) (xs ys : List RackView) → IsPrefix xs ys → HasRacks net xs → HasRacks net ys
 racks_later net xs ys p h = λ s low high. has_later s xs ys p (h s low high)
 

@@ -33,6 +33,7 @@ now_at : (w : WorldView) (many : ℕ) (racks : List RackView) (i : ℕ) (r : Rac
 now_at w many racks i r h e = subst (IsRackNow w) (get_or_from_slice_get racks i r r e)
     (all_at (IsRackNow w) racks i r h.now (slice_get_within racks i r e))
 
+-- the opening racks of a world are such as a shelf may open with
 pub racks_may_open : (w : WorldView) (many : ℕ) (racks : List RackView) → IsOpening w many racks → MayOpen racks
 racks_may_open w many racks h = record {
   each = h.each;
@@ -61,9 +62,11 @@ each_has_rack w many racks h s low high =
 world_net : (net : Net) (many : ℕ) (p : Prepared) → IsPrepared net many p → p.world.net ≡ net
 world_net net many p h = ap (λ (w : WorldView). w.net) h.world
 
+-- the helm that was prepared is of this network
 pub helm_net : (net : Net) (many : ℕ) (p : Prepared) → IsPrepared net many p → p.helm.net ≡ net
 helm_net net many p h = ap (λ (x : Helmed). x.net) h.helm
 
+-- the racks that were prepared are such as a shelf may open with
 pub may_begin : (net : Net) (many : ℕ) (p : Prepared) → IsPrepared net many p → MayOpen p.racks.items
 may_begin net many p h = racks_may_open p.world (length net.sites) p.racks.items h.racks
 
@@ -115,6 +118,7 @@ none_made net a opening f there = (
   omega (arith, f.room),
 )
 
+-- so each analyst has asked nothing and made no looks yet, and has room for all its looks
 pub each_ready : (net : Net) (many : ℕ) (p : Prepared) (seated : List Seated) → IsPrepared net many p
     → map (λ (a : Seated). a.0.pass) seated ≡ p.passes.items → AllByRecursion (IsFresh p.racks.items) seated
     → (k : ℕ) (d : Seated) → k < length seated
@@ -134,6 +138,7 @@ own_todo : (net : Net) (s : ScriptView) (p : Prepared) (seated : List Seated) �
     → map (λ (a : Seated). a.0.todo.items) seated ≡ each_acts s.items (length s.analysts)
 own_todo net s p seated h todo = todo ∙ ap (each_acts s.items) (many_passes net (length s.analysts) p h)
 
+-- analysts of a script of at most 4096 items have at most 4096 acts together
 pub little_todo : (net : Net) (s : ScriptView) (p : Prepared) (seated : List Seated)
     → IsPrepared net (length s.analysts) p → length s.items ≤ 4096
     → map (λ (a : Seated). a.0.todo.items) seated ≡ each_acts s.items (length p.passes.items)
@@ -141,6 +146,7 @@ pub little_todo : (net : Net) (s : ScriptView) (p : Prepared) (seated : List Sea
 little_todo net s p seated h few todo =
     few_todo s.items seated (length s.analysts) (own_todo net s p seated h todo) few
 
+-- what was prepared has room for what these analysts leave
 pub enough_room : (net : Net) (many : ℕ) (p : Prepared) (seated : List Seated) → IsPrepared net many p
     → map (λ (a : Seated). a.0.pass) seated ≡ p.passes.items → HasRoomFor (length seated) p.room
 enough_room net many p seated h are =
@@ -166,6 +172,7 @@ pub made_are : (net : Net) (s : ScriptView) (p : Prepared) (seated : List Seated
 made_are net s p seated looks h numbers todo made =
     made_of_script s (length p.passes.items) seated looks (many_passes net (length s.analysts) p h) numbers todo made
 
+-- looks that are made as the script asks, and told truly, are the looks of the script over the journal
 pub looks_are : (net : Net) (s : ScriptView) (p : Prepared) (seated : List Seated) (events : List Event)
     (looks : List (ReservedView Looked)) → IsPrepared net (length s.analysts) p
     → map (λ (a : Seated). a.0.number) seated ≡ numbers_to (length p.passes.items)

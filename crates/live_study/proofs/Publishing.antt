@@ -25,6 +25,7 @@ use Rattle.live_study.proofs.Stepping.{front_after}
 pub begins_on : (xs ys zs : List Event) → Begins xs ys → Begins ys zs → Begins xs zs
 begins_on xs ys zs p q = (p.0 ++ q.0, q.1 ∙ ap (λ l. l ++ q.0) p.1 ∙ append_assoc xs p.0 q.0)
 
+-- the clones at a front of a journal are those at that front of a journal that goes on from it
 pub at_later : (net : Net) (es fs : List Event) (front : ℕ) (clones : List Clone) → Begins es fs
     → AreAtFront net es front clones → AreAtFront net fs front clones
 at_later net es fs front clones p h = ⊎_elim
@@ -33,9 +34,11 @@ at_later net es fs front clones p h = ⊎_elim
     inr (z.0, begins_on (z.0 ++ raised front ∷ []) es fs z.1 p, z.2))
     h
 
+-- a rack of a journal is one of a journal that goes on from it
 pub rack_later : (net : Net) (es fs : List Event) (r : RackView) → Begins es fs → IsRackOf net es r → IsRackOf net fs r
 rack_later net es fs r p h = record { net_is = h.net_is; at = at_later net es fs r.front r.clones p h.at }
 
+-- the journal of a helm that raised its front goes on from the one that it had
 pub raises_begin : (old new : Helmed) (front : ℕ) → Raises old new front → Begins old.helm new.helm
 raises_begin old new front r =
     (map asked r.calls ++ raised front ∷ [], r.helm ∙ append_assoc old.helm (map asked r.calls) (raised front ∷ []))
@@ -88,6 +91,7 @@ is_last : (s : ℕ) (racks : List RackView) (r : RackView) (b : Bool) → (r.sta
     → latest s (racks ++ r ∷ []) ≡ if_this b r (latest s racks)
 is_last s racks r b e = latest-with s racks r ∙ ap (λ c. if_this c r (latest s racks)) e
 
+-- with the rack of the next station published, one station more had its turn
 pub round_goes_on : (h : Helmed) (w : WorldView) (done : ℕ) (r : RackView) (published : List RackView)
     → AreShownTo h w done published → AreAtFront h.net h.helm w.front w.clones → r.net ≡ h.net → r.clones ≡ w.clones
     → r.station ≡ done + 1 → r.front ≡ w.front → AreShownTo h w (done + 1) (published ++ r ∷ [])
@@ -115,6 +119,7 @@ round_goes_on h w done r published shown at net clones station front = record {
       (cases_lt s (done + 1));
 }
 
+-- before the horizon a station may have its turn without a rack
 pub round_skips : (h : Helmed) (w : WorldView) (done : ℕ) (published : List RackView) → AreShownTo h w done published
     → (w.front ≡ w.net.horizon → ⊥) → AreShownTo h w (done + 1) published
 round_skips h w done published shown not = record {

@@ -184,6 +184,7 @@ keep_logs-behind net valid before more front right =
     (keep_logs-after net valid front (before ++ raised front ∷ []) more s is (omega arith)
     (each_later (MayFollow net) [] (before ++ raised front ∷ []) more right))
 
+-- over a valid network, what comes behind a front of a journal changes no log before it
 pub logs_stay : (net : Net) → IsNet net → LogsStay net
 logs_stay net valid events front clones right at = ⊎_elim
     (λ (h : (front ≡ 0) × (clones ≡ base ∷ [])).

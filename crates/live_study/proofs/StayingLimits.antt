@@ -63,6 +63,7 @@ keep_logs-calls net valid h cs right front early =
     (keep_logs-after net valid front h (map asked cs) (after net h) refl (omega (arith, early, front_is net h))
     (each_later (MayFollow net) [] h (map asked cs) right))
 
+-- a limit that is met at the last front of a journal is met there with calls behind it
 pub met_stays : (net : Net) → IsNet net → (h : List Event) (cs : List Call) → IsRight net (h ++ map asked cs)
     → (station who : ℕ) → MeetsLimitLast net h station who → MeetsLimitLast net (h ++ map asked cs) station who
 met_stays net valid h cs right station who met =

@@ -88,6 +88,7 @@ module _ (net : Net) (front : ℕ) (old new : List Clone) (keep : KeepLogs net f
   first_unknown who None h = first_place who ∙ h
   first_unknown who (Some f) h = tt
 
+-- over a valid network, what a true glance tells is true of the clones that the journal leaves
 pub looks_stay_true : (net : Net) → IsNet net → LooksStayTrue net
 looks_stay_true net valid events s who g right t =
     let final = (after net events).clones in

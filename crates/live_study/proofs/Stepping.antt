@@ -30,6 +30,7 @@ use Rattle.live_study.proofs.Taking.{taken_behind}
 net_of : (net : Net) (es : List Event) → (after net es).net ≡ net
 net_of net es = net_stays (opening net) es
 
+-- to raise a front changes no clones
 pub front_after : (net : Net) (j : List Event) (f : ℕ) → (after net (j ++ raised f ∷ [])).clones ≡ (after net j).clones
 front_after net j f = ap (λ (s : Situation). s.clones) (fold_append (opening net) j (raised f ∷ []))
 
@@ -57,6 +58,7 @@ rises_behind net before (raised f ∷ es) right =
 rises_behind net before (asked c ∷ es) right =
     subst (λ g. RisesFrom g es) (front_asked before c) (rises_behind net (before ++ asked c ∷ []) es right.1)
 
+-- the fronts of a right journal rise, all of them above 0
 pub rises : (net : Net) (es : List Event) → IsRight net es → RisesFrom 0 es
 rises net es right = rises_behind net [] es right
 

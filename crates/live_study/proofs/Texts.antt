@@ -43,6 +43,7 @@ callers_from many n (c ∷ cs) others =
           (λ x h. rest_none (nat_eq c.caller x) (n, c) (numbered x (n + 1) cs) (others x h)),
     )
 
+-- so where none but those from 1 to so many have calls, each call is of one of these
 pub callers_within : (many : ℕ) (calls : List Call) → ((x : ℕ) → (x ≡ 0) ⊎ (many < x) → numbered x 0 calls ≡ [])
     → All (λ (c : Call). (1 ≤ c.caller) × (c.caller ≤ many)) calls
 callers_within many calls others =
@@ -72,6 +73,7 @@ of_images : {A B : Type 0} (f : A → B) (P : B → Type 0) (xs : List A) → Al
 of_images f P [] all = tt
 of_images f P (x ∷ xs) all = (all.0, of_images f P xs all.1)
 
+-- each look that was made for a script is by one of its analysts
 pub lookers_within : (s : ScriptView) (looks : List Looked) → HasMadeLooks s looks
     → All (λ (l : Looked). (1 ≤ l.analyst) × (l.analyst ≤ length s.analysts)) looks
 lookers_within s looks made =

@@ -21,6 +21,7 @@ use Rattle.live_study.specs.Scripts.{looks_in}
 use Rattle.live_study.specs.Showing.{AllCaughtUp, AreShownOf, HasLooked, looks_to_make}
 use Rattle.live_study.proofs.Truth.{true_look}
 
+-- the looks that each analyst has kept
 abbrev pub looks_of : List Seated → List (ReservedView Looked)
 looks_of seated = map (λ (a : Seated). a.0.looks) seated
 

@@ -8,6 +8,7 @@ sum_more f s =
     let up : s + 1 ≡ suc s = omega arith in
     ap (station_sum f) up ∙ ap (λ n. station_sum f s + f n) (sym up)
 
+-- a count up to a station, with what the next station adds, is the count up to the next
 pub counted_more : (f : ℕ → ℕ) (old s before handled after : ℕ) → before ≡ old + station_sum f s → handled ≡ f (s + 1)
     → after ≡ before + handled → after ≡ old + station_sum f (s + 1)
 counted_more f old s before handled after is own then = omega (arith, is, own, then, sum_more f s)

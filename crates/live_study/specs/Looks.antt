@@ -114,5 +114,6 @@ pub record IsCaughtUp (front : ℕ) (published read : List RackView) (s : ℕ) :
   pub told : IsPrefix published all
   pub last : IsAt front all s
 
+-- and so at the horizon for each station
 abbrev pub AreCaughtUp : Net → List RackView → List RackView → Type 0
 AreCaughtUp net published read = (s : ℕ) → 1 ≤ s → s ≤ length net.sites → IsCaughtUp net.horizon published read s

@@ -85,6 +85,7 @@ clones_between count =
     clones_of_plans count
     ++ record { name = plan_name (count + 1); plans = last_decisions count ((count + 1) / 2); end = None } ∷ []
 
+-- and how things stand there, after one call more
 abbrev pub between : ℕ → ℕ → ℕ → Situation
 between n others count = with_clones n others (clones_between count) (2 * count + 1)
 

@@ -6,6 +6,7 @@ use Rattle.net_model.specs.declared.station.Link.{Link}
 use Rattle.net_model.specs.Net.{Net, Site}
 use Rattle.made_study.specs.Numbers.{longest_gap, longest_service, ward_name, ward_servers, wards}
 
+-- a link to a station, with this delay and the weight 1
 abbrev pub link_to : ℕ → ℕ → Link
 link_to station delay = record { to = station; delay = delay; weight = 1 }
 
@@ -13,9 +14,11 @@ link_to station delay = record { to = station; delay = delay; weight = 1 }
 abbrev pub way : ℕ → Link
 way i = record { to = i + 2; delay = 2; weight = i }
 
+-- the source of at most 5000 patients, who come up to the longest gap apart and go to the triage
 abbrev pub door : ℕ → Site
 door n = record { name = codes "door"; kind = Source 1 (longest_gap n) 5000 1; stream = 1; links = link_to 2 2 ∷ [] }
 
+-- the router that sends each patient to one of so many wards, drawn by the weights of the ways
 abbrev pub triage : ℕ → Site
 triage count = record {
   name = codes "triage";
@@ -33,9 +36,11 @@ ward count i = record {
   links = link_to (count + 3) 3 ∷ [];
 }
 
+-- the delay between the wards and the exit
 abbrev pub walk : ℕ → Site
 walk count = record { name = codes "walk"; kind = Delay 0 4; stream = count + 3; links = link_to (count + 4) 2 ∷ [] }
 
+-- the sink behind it
 abbrev pub exit : ℕ → Site
 exit count = record { name = codes "exit"; kind = Sink; stream = count + 4; links = [] }
 

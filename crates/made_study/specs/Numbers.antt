@@ -21,5 +21,6 @@ ward_servers i = 1 + i % 3
 abbrev pub longest_service : ℕ → ℕ
 longest_service i = 3 + 2 * i
 
+-- what the ward of this number is called
 abbrev pub ward_name : ℕ → List ℕ
 ward_name i = codes "ward" ++ decimal i

@@ -9,6 +9,7 @@ use Rattle.decision_script.specs.declared.item.Item.{Item}
 use Rattle.decision_script.specs.Stating.{ScriptView}
 use Rattle.made_study.specs.Numbers.{PLANS, ward_name}
 
+-- what the plan of this number is called
 abbrev pub plan_name : ℕ → List ℕ
 plan_name j = codes "plan" ++ decimal j
 
@@ -16,6 +17,7 @@ plan_name j = codes "plan" ++ decimal j
 abbrev pub parent : ℕ → List ℕ
 parent j = if j == 1 then codes "base" else plan_name (j / 2)
 
+-- the fork that makes a plan
 abbrev pub fork_of_plan : ℕ → Decision
 fork_of_plan j = Fork (plan_name j) (parent j)
 

@@ -29,6 +29,7 @@ ascii (b ∷ bs) h =
 ascii_tree : (text : List ℕ) → list_all (λ b. nat_lt b 128) text ≡ true → tree text ≡ parse_document text
 ascii_tree text h = rw (is_utf8-from_IsUtf8 text (IsUtf8-from_ascii text (ascii text h))) refl
 
+-- the model that a text states, where it is parsed without the test that it is UTF-8
 abbrev pub model_parsed : List ℕ → Result Net ModelFault
 model_parsed text = if nat_lt MOST_BYTES (length text) then Err TooLong else model_of_tree (parse_document text)
 

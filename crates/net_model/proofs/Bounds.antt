@@ -16,6 +16,7 @@ use Rattle.net_model.specs.Reading.{span, span_of_two, span_of_list, span_of, sp
 use Rattle.net_model.specs.Rules.{IsRange}
 use Rattle.net_model.specs.declared.limits.TheConstants.{MOST_TIME}
 
+-- values that give equal Ok results are equal
 pub Ok-injective : {A : Type 0} (x y : A) → ◌≡◌ {A = Result A ModelFault} (Ok x) (Ok y) → x ≡ y
 Ok-injective {A} x y h = ap value h
   where
@@ -23,23 +24,27 @@ Ok-injective {A} x y h = ap value h
     value (Ok z) = z
     value (Err e) = x
 
+-- a fault is not an Ok result
 pub Err-not-Ok : {A : Type 0} (e : ModelFault) (y : A) → ◌≡◌ {A = Result A ModelFault} (Err e) (Ok y) → ⊥
 Err-not-Ok e y h = cc
 
--- a test that ends well passed, and a test that refuses did not
+-- a result that is a fault where a test fails, and is Ok, passed the test, with the value that stands there
 pub if-Ok : {A : Type 0} (b : Bool) (x y : A) (e : ModelFault)
     → ◌≡◌ {A = Result A ModelFault} (if b then Ok x else Err e) (Ok y) → (b ≡ true) × (x ≡ y)
 if-Ok true x y e h = (refl, Ok-injective x y h)
 if-Ok false x y e h = absurd (Err-not-Ok e y h)
 
+-- a result that is a fault where a test passes, and is Ok, failed the test, and is what stands for that
 pub if-Err : {A : Type 0} (b : Bool) (r : Result A ModelFault) (y : A) (e : ModelFault)
     → ◌≡◌ {A = Result A ModelFault} (if b then Err e else r) (Ok y) → (b ≡ false) × (r ≡ Ok y)
 if-Err true r y e h = absurd (Err-not-Ok e y h)
 if-Err false r y e h = (refl, h)
 
+-- where the test for at most passes, the first number is at most the second
 pub le_of : (a b : ℕ) → nat_le a b ≡ true → a ≤ b
 le_of a b h = grind (arith, nat_tests)
 
+-- where the test for less fails, the second number is at most the first
 pub le_of_not : (a b : ℕ) → nat_lt a b ≡ false → b ≤ a
 le_of_not a b h = grind (arith, nat_tests)
 
@@ -73,11 +78,12 @@ usual_found place field low high usual None n a b h = let same = Ok-injective us
     (subst (λ k. low ≤ k) same a, subst (λ k. k ≤ high) same b)
 usual_found place field low high usual (Some d) n a b h = integer_bounds place field low high d n h
 
--- an integer that has to be there, and one with a default
+-- an integer that has to be there is in its range
 pub required_bounds : (place : ℕ) (field : Field) (low high : ℕ) (t : Data) (n : ℕ)
     → integer_at place field low high None t ≡ Ok n → (low ≤ n) × (n ≤ high)
 required_bounds place field low high t n h = required_found place field low high (get (key_of field) t) n h
 
+-- so is one with a default, where the default is in the range
 pub usual_bounds : (place : ℕ) (field : Field) (low high usual : ℕ) (t : Data) (n : ℕ) → low ≤ usual → usual ≤ high
     → integer_at place field low high (Some usual) t ≡ Ok n → (low ≤ n) × (n ≤ high)
 usual_bounds place field low high usual t n a b h =
@@ -119,6 +125,7 @@ value_is place field low (boolean b) s h = absurd (Err-not-Ok (WrongType place f
 value_is place field low (datetime t) s h = absurd (Err-not-Ok (WrongType place field) s h)
 value_is place field low (table ms) s h = absurd (Err-not-Ok (WrongType place field) s h)
 
+-- the times of a range that a key states are in order, not below the lower bound and not above MOST_TIME
 pub span_bounds : (place : ℕ) (field : Field) (low : ℕ) (t : Data) (s : Span) → span_at place field low t ≡ Ok s
     → IsRange low s.lo s.hi
 span_bounds place field low t s h =

@@ -307,6 +307,7 @@ no_names : IsDistinct bytes_eq []
 unfolding IsDistinct
 no_names = tt
 
+-- stations below number 1000 that are read keep to the rules, have new and distinct names, one for each table
 pub drafts_hold : (format : ℕ) (earlier : List DraftSite) (place : ℕ) (ds : List Data) (drafts : List DraftSite)
     → place + length ds ≤ 1000 → drafts_of format earlier place ds ≡ Ok drafts
     → AreDrafts format earlier drafts (length ds)

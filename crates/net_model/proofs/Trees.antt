@@ -17,9 +17,11 @@ use Rattle.net_model.specs.declared.field.Field.{Field}
 use Rattle.net_model.specs.Reading.{list_of, all_tables, tables_of}
 use Rattle.net_model.specs.Text.{tree}
 
+-- the tree of a UTF-8 text is what the parser finds
 pub tree_of_parsed : (text : List ℕ) (ms : Members) → IsUtf8 text → parse_document text ≡ Some ms → tree text ≡ Some ms
 tree_of_parsed text ms u p = rw (is_utf8-from_IsUtf8 text u) p
 
+-- a text in which the parser finds nothing where it is UTF-8 has no tree
 pub no_tree : (text : List ℕ) → (IsUtf8 text → parse_document text ≡ None) → tree text ≡ None
 no_tree text p =
     elim (cases_Bool (is_utf8 text)) [
@@ -27,6 +29,7 @@ no_tree text p =
       | inr is ↦ rw is
     ]
 
+-- the items of an array are the views of its values, in order
 pub listed : (vs : List Value) → list_of (items_view vs) ≡ map view vs
 listed [] = refl
 listed (v ∷ vs) = ap (λ ds. view v ∷ ds) (listed vs)
@@ -41,6 +44,7 @@ array_of (boolean b) ds h = absurd (cc)
 array_of (datetime t) ds h = absurd (cc)
 array_of (table ms) ds h = absurd (cc)
 
+-- the elements of an array are read where all of them are tables, and else its type is wrong
 pub tables_listed : (place : ℕ) (field : Field) (d : Data) (vs : List Value) → Some (items_view vs) ≡ as_array d
     → tables_of place field d ≡ (if list_all (λ v. is_some (as_table (view v))) vs then Ok (map view vs) else Err
     (WrongType place field))
@@ -49,11 +53,12 @@ tables_listed place field d vs h =
     ∙ (ap (all_tables place field) (listed vs)
     ∙ rw (list_all-map (λ d. is_some (as_table d)) view vs) refl)
 
--- the elements of an array, all of them tables, or not
+-- where all elements of an array are tables, they are read
 pub tables_there : (place : ℕ) (field : Field) (d : Data) (vs : List Value) → Some (items_view vs) ≡ as_array d
     → list_all (λ v. is_some (as_table (view v))) vs ≡ true → Ok (map view vs) ≡ tables_of place field d
 tables_there place field d vs h all = sym (tables_listed place field d vs h ∙ rw all refl)
 
+-- where one of them is no table, the array has the wrong type
 pub tables_refused : (place : ℕ) (field : Field) (d : Data) (vs : List Value) → Some (items_view vs) ≡ as_array d
     → list_all (λ v. is_some (as_table (view v))) vs ≡ false → Err (WrongType place field) ≡ tables_of place field d
 tables_refused place field d vs h all = sym (tables_listed place field d vs h ∙ rw all refl)

@@ -25,10 +25,12 @@ abbrev pub after : {A : Type 0} → List A → Result (List A) ModelFault → Re
 after done (Ok rest) = Ok (done ++ rest)
 after done (Err e) = Err e
 
+-- behind nothing, the rest is as it is read
 pub after_none : {A : Type 0} (r : Result (List A) ModelFault) → after [] r ≡ r
 after_none (Ok rest) = refl
 after_none (Err e) = refl
 
+-- where no rest is left, what is there is all
 pub after_all : {A : Type 0} (done : List A) → after done (Ok []) ≡ Ok done
 after_all done = ap Ok (append-nil done)
 
@@ -58,10 +60,12 @@ list_any-map : {X Y : Type 0} (p : Y → Bool) (f : X → Y) (xs : List X)
 list_any-map p f [] = refl
 list_any-map p f (x ∷ xs) = rw (list_any-map p f xs) refl
 
+-- a name is taken among drafts as plain data where a draft has it
 pub has_name_drafts : (name : List ℕ) (drafts : List Draft)
     → has_name name (map as_draft drafts) ≡ list_any (λ draft. bytes_eq draft.name name) drafts
 has_name_drafts name drafts = list_any-map (λ draft. bytes_eq draft.name name) as_draft drafts
 
+-- the first draft of a name has the same place among drafts as plain data
 pub position_drafts : (name : List ℕ) (drafts : List Draft)
     → position (λ draft. bytes_eq draft.name name) (map as_draft drafts) ≡ position
     (λ draft. bytes_eq draft.name name) drafts
@@ -88,6 +92,7 @@ sites_step lookahead all drafts done new i draft station whole lt is read push s
     ∙ ap (λ sites. after sites (sites_of lookahead all (i + 1 + 1) (map as_draft (drop (i + 1) drafts))))
     (sym (ap (map as_site) push ∙ map-append as_site done (station ∷ [])))))
 
+-- a station that is refused where it is resolved gives its fault to the whole
 pub sites_refused : (lookahead : ℕ) (all : List DraftSite) (drafts : List Draft) (done : List Station) (i : ℕ)
     (draft : Draft) (e : ModelFault) (whole : Result (List Site) ModelFault)
     → i < length drafts → draft ≡ get_or drafts i draft
@@ -122,6 +127,7 @@ drafts_step format tables done new i table draft whole lt is read push so_far =
     ∙ ap (λ drafts. after drafts (drafts_of format drafts (i + 1 + 1) (map view (drop (i + 1) tables))))
     (sym (ap (map as_draft) push ∙ map-append as_draft done (draft ∷ [])))))
 
+-- a station that is refused where it is read gives its fault to the whole
 pub drafts_refused : (format : ℕ) (tables : List Value) (done : List Draft) (i : ℕ) (table : Value) (e : ModelFault)
     (whole : Result (List DraftSite) ModelFault)
     → i < length tables → table ≡ get_or tables i table
@@ -143,6 +149,7 @@ kind_read drafts i draft lt is =
     ap (λ o. unwrap_or (option_map (λ d. d.kind) o) Sink) (slice_get-map as_draft drafts i
     ∙ ap (option_map as_draft) (slice_get_read drafts (length drafts) i draft refl lt is)) ∙ ap (λ d. d.kind) is
 
+-- a link is resolved to the first station that has the name of its receiver
 pub resolved_there : (lookahead : ℕ) (drafts : List Draft) (place : ℕ) (link : NamedLink) (i : ℕ) (draft : Draft)
     → Some i ≡ position (λ d. bytes_eq d.name link.to) drafts → i < length drafts → draft ≡ get_or drafts i draft
     → link_to lookahead place link i (get_or drafts i draft).kind ≡ link_of_named lookahead
@@ -151,6 +158,7 @@ resolved_there lookahead drafts place link i draft h lt is =
     sym (ap (link_along lookahead (map as_draft drafts) place link) (position_drafts link.to drafts ∙ sym h)
     ∙ ap (link_to lookahead place link i) (kind_read drafts i draft lt is))
 
+-- a link to a name that no station has is refused as one to an unknown station
 pub resolved_nowhere : (lookahead : ℕ) (drafts : List Draft) (place : ℕ) (link : NamedLink)
     → None ≡ position (λ d. bytes_eq d.name link.to) drafts
     → Err (UnknownStation place) ≡ link_of_named lookahead (map as_draft drafts) place link

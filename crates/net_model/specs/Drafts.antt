@@ -23,6 +23,7 @@ pub record DraftSite : Type 0 where
   pub stream : ℕ
   pub links : List NamedLink
 
+-- a draft as plain data
 abbrev pub as_draft : Draft → DraftSite
 as_draft d = record { name = d.name; kind = d.kind; stream = d.stream; links = d.links.items }
 
@@ -30,6 +31,7 @@ as_draft d = record { name = d.name; kind = d.kind; stream = d.stream; links = d
 abbrev pub no_analyst : ℕ → List ℕ → Result (List ℕ) ModelFault
 no_analyst place name = if bytes_eq name (codes "analyst") then Err (BadName place) else Ok name
 
+-- one of these stations has the name
 abbrev pub has_name : List ℕ → List DraftSite → Bool
 has_name name drafts = list_any (λ draft. bytes_eq draft.name name) drafts
 
@@ -37,6 +39,7 @@ has_name name drafts = list_any (λ draft. bytes_eq draft.name name) drafts
 abbrev pub new_name : ℕ → List DraftSite → List ℕ → Result (List ℕ) ModelFault
 new_name place earlier name = if has_name name earlier then Err (NameTwice place) else Ok name
 
+-- the name that a station states, which is neither `analyst` nor that of an earlier station
 abbrev pub station_name_at : ℕ → List DraftSite → Data → Result (List ℕ) ModelFault
 station_name_at place earlier d = name_at place Name d >>= no_analyst place >>= new_name place earlier
 

@@ -6,6 +6,7 @@ use Rattle.net_model.specs.declared.fault.ModelFault.TheVariants.{BadName, NameT
 use Rattle.net_model.specs.declared.fault.ModelFault.TheVariants.{ShortDelay, NoWayOut, TooMany, NoMemory, IntoSource}
 use Rattle.net_model.specs.Fields.{key_of}
 
+-- the number of each fault
 abbrev pub fault_number : ModelFault → ℕ
 fault_number TooLong = 1
 fault_number NotToml = 2

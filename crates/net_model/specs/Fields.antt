@@ -5,6 +5,7 @@ use Rattle.net_model.specs.declared.field.Field.TheVariants.{Format, Lookahead, 
 use Rattle.net_model.specs.declared.field.Field.TheVariants.{Kind, Stream, Every, Jobs, Class, Servers, Room, Service}
 use Rattle.net_model.specs.declared.field.Field.TheVariants.{Order, Hold, By, Link, To, Delay, Weight}
 
+-- each key as it is written
 abbrev pub key_of : Field → List ℕ
 key_of Format = codes "format"
 key_of Lookahead = codes "lookahead"

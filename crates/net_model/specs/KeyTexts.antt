@@ -5,12 +5,15 @@ use Rattle.std.specs.List.{list_all}
 use Rattle.std.proofs.Common.{arith, take-append-drop, length-take-le}
 use Rattle.sim_base.specs.Names.{is_name_byte}
 
+-- a byte as it is shown: itself where a key may have it, and else `?`
 abbrev pub shown : ℕ → ℕ
 shown b = if is_name_byte b then b else 63
 
+-- what is shown of a key
 abbrev pub key_text : List ℕ → List ℕ
 key_text key = map shown (take 32 key)
 
+-- a byte that a key may have, or `?`
 abbrev pub is_shown : ℕ → Bool
 is_shown b = is_name_byte b || (b == 63)
 
@@ -21,6 +24,7 @@ pub record IsKeyText (bytes : List ℕ) (len : ℕ) : Type 0 where
   pub zeros : drop len bytes ≡ replicate (32 - len) 0
   pub shown : list_all is_shown (take len bytes) ≡ true
 
+-- a key text's bytes are the shown ones with zeros behind them, and the shown ones are as many as its length
 pub key_text_back : (bytes : List ℕ) (len : ℕ) → IsKeyText bytes len
     → (take len bytes ++ replicate (32 - length (take len bytes)) 0 ≡ bytes) × (length (take len bytes) ≡ len)
 key_text_back bytes len h =

@@ -18,6 +18,7 @@ use Rattle.net_model.specs.declared.keys.KindWord.TheVariants.{Sink as SinkWord}
 use Rattle.net_model.specs.Fields.{key_of}
 use Rattle.net_model.specs.KeyTexts.{key_text}
 
+-- the key is one of the fields
 abbrev pub is_known : List Field → List ℕ → Bool
 is_known fields key = list_any (λ field. bytes_eq key (key_of field)) fields
 
@@ -32,6 +33,7 @@ least_unknown fields no_members = None
 least_unknown fields (member key d ms) = if is_known fields key then least_unknown fields ms else Some
     (lesser_key key (least_unknown fields ms))
 
+-- no unknown key was found; one that was found is refused
 abbrev pub none_unknown : ℕ → Option (List ℕ) → Result (Unit {0}) ModelFault
 none_unknown place None = Ok tt
 none_unknown place (Some key) = Err (UnknownKey place (key_text key))
@@ -41,6 +43,7 @@ abbrev pub only_known : ℕ → List Field → Data → Result (Unit {0}) ModelF
 only_known place fields (table ms) = none_unknown place (least_unknown fields ms)
 only_known place fields _ = Ok tt
 
+-- the keys of the top
 abbrev pub top_keys : List Field
 top_keys = Format ∷ Lookahead ∷ Horizon ∷ Seed ∷ Limit ∷ Station ∷ []
 
@@ -56,5 +59,6 @@ station_keys format DelayWord = Name ∷ Kind ∷ Stream ∷ Hold ∷ Link ∷ [
 station_keys format RouterWord = Name ∷ Kind ∷ Stream ∷ By ∷ Link ∷ []
 station_keys format SinkWord = Name ∷ Kind ∷ Stream ∷ []
 
+-- the keys of a link
 abbrev pub link_keys : List Field
 link_keys = To ∷ Delay ∷ Weight ∷ []

@@ -24,6 +24,7 @@ abbrev pub known_word : {A : Type 0} → ℕ → Field → Option A → Result A
 known_word place field (Some word) = Ok word
 known_word place field None = Err (OutOfRange place field)
 
+-- the kind that a word names, None where it names none
 abbrev pub kind_word : List ℕ → Option KindWord
 kind_word text =
     if bytes_eq text (codes "source") then Some SourceWord
@@ -32,6 +33,7 @@ kind_word text =
     else (if bytes_eq text (codes "router") then Some RouterWord
     else (if bytes_eq text (codes "sink") then Some SinkWord else None))))
 
+-- the word for its kind that a station states
 abbrev pub kind_word_at : ℕ → Data → Result KindWord ModelFault
 kind_word_at place d = text_at place KindField d >>= (λ text. known_word place KindField (kind_word text))
 
@@ -44,10 +46,12 @@ abbrev pub order_word : List ℕ → Option Bool
 order_word text = if bytes_eq text (codes "arrival") then Some false else
     (if bytes_eq text (codes "class") then Some true else None)
 
+-- the order that a value states where one is found; by arrival where none is
 abbrev pub found_order : ℕ → Option Data → Result Bool ModelFault
 found_order place None = Ok false
 found_order place (Some d) = text_of place Order d >>= (λ text. known_word place Order (order_word text))
 
+-- the order that a server states; by arrival in format 1
 abbrev pub order_at : ℕ → ℕ → Data → Result Bool ModelFault
 order_at format place d = if format == 1 then Ok false else found_order place (get (key_of Order) d)
 
@@ -56,6 +60,7 @@ abbrev pub by_word : List ℕ → Option Bool
 by_word text = if bytes_eq text (codes "weights") then Some false else
     (if bytes_eq text (codes "turn") then Some true else None)
 
+-- a source: the range of its intervals, how many jobs it makes, and their class
 abbrev pub source_of : ℕ → ℕ → Data → Result Kind ModelFault
 source_of format place d =
     span_at place Every 1 d >>= (λ every.
@@ -63,6 +68,7 @@ source_of format place d =
     class_at format place d >>= (λ class.
     Ok (Source every.lo every.hi jobs class))))
 
+-- a server: its servers, its room, the range of its services, and its order
 abbrev pub server_of : ℕ → ℕ → Data → Result Kind ModelFault
 server_of format place d =
     integer_at place Servers 1 MOST_SERVERS None d >>= (λ servers.
@@ -71,12 +77,15 @@ server_of format place d =
     order_at format place d >>= (λ by_class.
     Ok (Server servers room service.lo service.hi by_class)))))
 
+-- a delay: the range of its times
 abbrev pub delay_of : ℕ → Data → Result Kind ModelFault
 delay_of place d = span_at place Hold 0 d >>= (λ hold. Ok (Delay hold.lo hold.hi))
 
+-- a router: whether it goes by turn
 abbrev pub router_of : ℕ → Data → Result Kind ModelFault
 router_of place d = text_at place By d >>= (λ text. known_word place By (by_word text) >>= (λ turn. Ok (Router turn)))
 
+-- a station of the kind that its word names, with what its kind states
 abbrev pub kind_of : ℕ → ℕ → KindWord → Data → Result Kind ModelFault
 kind_of format place SourceWord d = source_of format place d
 kind_of format place ServerWord d = server_of format place d

@@ -13,6 +13,7 @@ use Rattle.net_model.specs.Keys.{only_known, link_keys}
 use Rattle.net_model.specs.Reading.{integer_at, name_at, tables_of}
 use Rattle.net_model.specs.declared.limits.TheConstants.{MOST_TIME, MOST_WEIGHT, MOST_LINKS}
 
+-- a link: the name of its receiver, its delay, and its weight, 1 where it states none
 abbrev pub link_of : ℕ → Data → Result NamedLink ModelFault
 link_of place d =
     only_known place link_keys d >>= (λ _.
@@ -26,6 +27,7 @@ abbrev pub each_link : ℕ → List Data → Result (List NamedLink) ModelFault
 each_link place [] = Ok []
 each_link place (d ∷ ds) = link_of place d >>= (λ link. each_link place ds >>= (λ links. Ok (link ∷ links)))
 
+-- no more links than a station may have
 abbrev pub few_enough : ℕ → List Data → Result (List Data) ModelFault
 few_enough place ds = if nat_lt MOST_LINKS (length ds) then Err (TooMany place) else Ok ds
 

@@ -31,13 +31,16 @@ site_at net (suc i) = slice_get net.sites i
 abbrev pub no_site : Site
 no_site = record { name = []; kind = Sink; stream = 0; links = [] }
 
+-- the station of a number, or what stands for it where it is not there
 abbrev pub site_of : Net → ℕ → Site
 site_of net s = unwrap_or (site_at net s) no_site
 
+-- a station of this kind makes jobs
 abbrev pub is_source : Kind → Bool
 is_source (Source lo hi jobs class) = true
 is_source _ = false
 
+-- jobs leave the network at a station of this kind
 abbrev pub is_sink : Kind → Bool
 is_sink Sink = true
 is_sink _ = false

@@ -23,14 +23,17 @@ link_to lookahead place link i kind =
     else (if nat_lt link.delay lookahead then Err (ShortDelay place)
     else Ok (record { to = i + 1; delay = link.delay; weight = link.weight }))
 
+-- a link to the station at the place that was found, refused where none was
 abbrev pub link_along : ℕ → List DraftSite → ℕ → NamedLink → Option ℕ → Result Link ModelFault
 link_along lookahead drafts place link None = Err (UnknownStation place)
 link_along lookahead drafts place link (Some i) = link_to lookahead place link i (kind_after i drafts)
 
+-- a link to the first station that has the name of its receiver
 abbrev pub link_of_named : ℕ → List DraftSite → ℕ → NamedLink → Result Link ModelFault
 link_of_named lookahead drafts place link =
     link_along lookahead drafts place link (position (λ draft. bytes_eq draft.name link.to) drafts)
 
+-- each link of a station in turn
 abbrev pub links_of_named : ℕ → List DraftSite → ℕ → List NamedLink → Result (List Link) ModelFault
 links_of_named lookahead drafts place [] = Ok []
 links_of_named lookahead drafts place (link ∷ links) =
@@ -42,6 +45,7 @@ links_of_named lookahead drafts place (link ∷ links) =
 abbrev pub with_way_out : ℕ → Kind → List Link → Result (List Link) ModelFault
 with_way_out place kind links = if is_sink kind || not (length links == 0) then Ok links else Err (NoWayOut place)
 
+-- a station with its links resolved, of which one is needed unless it is a sink
 abbrev pub site_of_draft : ℕ → List DraftSite → ℕ → DraftSite → Result Site ModelFault
 site_of_draft lookahead drafts place draft =
     links_of_named lookahead drafts place draft.links >>= with_way_out place draft.kind >>= (λ links.

@@ -29,6 +29,7 @@ pub record IsServer (servers room lo hi : ℕ) : Type 0 where
   pub small : room ≤ MOST_ROOM
   pub service : IsRange 1 lo hi
 
+-- what a station does keeps to the rules of its kind
 abbrev pub IsKind : Kind → Type 0
 IsKind (Source lo hi jobs class) = IsSource lo hi jobs class
 IsKind (Server servers room lo hi by_class) = IsServer servers room lo hi

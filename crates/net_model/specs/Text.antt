@@ -22,6 +22,7 @@ tree text = if is_utf8 text then parse_document text else None
 abbrev pub sites_of_tables : Top → List Data → Result (List Site) ModelFault
 sites_of_tables top ds = drafts_of top.format [] 1 ds >>= (λ drafts. sites_of top.lookahead drafts 1 drafts)
 
+-- the network of a top and its stations
 abbrev pub with_sites : Top → List Site → Net
 with_sites top sites = record {
   format = top.format;
@@ -41,6 +42,7 @@ model_of root =
     sites_of_tables top ds >>= (λ sites.
     Ok (with_sites top sites)))))
 
+-- the model that a tree states, refused where there is no tree
 abbrev pub model_of_tree : Option Members → Result Net ModelFault
 model_of_tree None = Err NotToml
 model_of_tree (Some ms) = model_of (table ms)

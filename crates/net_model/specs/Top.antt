@@ -25,5 +25,6 @@ abbrev pub in_number : List Data → Result (List Data) ModelFault
 in_number ds = if length ds == 0 then Err (OutOfRange 0 Station) else
     (if nat_lt MOST_STATIONS (length ds) then Err (TooMany 0) else Ok ds)
 
+-- the tables of the stations
 abbrev pub stations_at : Data → Result (List Data) ModelFault
 stations_at root = value_at 0 Station root >>= tables_of 0 Station >>= in_number

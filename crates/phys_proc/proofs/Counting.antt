@@ -55,6 +55,7 @@ in_some (x ∷ xs) c h = elim (or_cases (has x.set c) (has (all_clones xs) c) (s
     or_cases true b e = inl refl
     or_cases false b e = inr e
 
+-- and the clones of each copy are among those of all
 pub some_in : (xs : List StationCopy) (a : StationCopy) (c : ℕ) → In a xs → Carries has a c
     → has (all_clones xs) c ≡ true
 some_in [] a c i h = absurd i
@@ -80,16 +81,19 @@ size_all (x ∷ xs) d =
     all_in (λ b. (c : ℕ) → Carries has x c → ¬ (Carries has b c)) xs k.0 d.0 k.1 c i k.2) in
     omega (arith, h, s)
 
+-- the clones of two lists of copies are as many as those of both added up
 pub all_sizes-append : (xs ys : List StationCopy) → all_sizes (xs ++ ys) ≡ all_sizes xs + all_sizes ys
 all_sizes-append [] ys = omega arith
 all_sizes-append (x ∷ xs) ys = let h = all_sizes-append xs ys in omega (arith, h)
 
 -- ---- handled alone
 
+-- what two lists of copies would have handled alone is that of both added up
 pub alone-append : (xs ys : List StationCopy) → handled_alone (xs ++ ys) ≡ handled_alone xs + handled_alone ys
 alone-append [] ys = omega arith
 alone-append (x ∷ xs) ys = let h = alone-append xs ys in omega (arith, h)
 
+-- where no log is longer than the limit, what is handled alone is at most the limit for each clone
 pub alone_short : (limit : ℕ) (xs : List StationCopy) → AllByRecursion (λ a. length a.log ≤ limit) xs
     → handled_alone xs ≤ all_sizes xs * limit
 alone_short limit [] f = omega arith

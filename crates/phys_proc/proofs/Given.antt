@@ -114,6 +114,7 @@ changed f zero xs = xs
 changed f (suc i) [] = []
 changed f (suc i) (x ∷ xs) = f x ∷ changed f i xs
 
+-- with the next element changed in its place, one more of the first is changed
 pub changed_more : (f : StationCopy → StationCopy) (i : ℕ) (xs : List StationCopy) (d : StationCopy) → i < length xs
     → slice_set (changed f i xs) i (f (get_or (changed f i xs) i d)) ≡ changed f (i + 1) xs
 changed_more f i xs d l = by_suc f i xs d l ∙ ap (λ n. changed f n xs) (next i)
@@ -127,6 +128,7 @@ changed_more f i xs d l = by_suc f i xs d l ∙ ap (λ n. changed f n xs) (next 
     by_suc f zero (x ∷ xs) d l = refl
     by_suc f (suc i) (x ∷ xs) d l = ap (λ t. f x ∷ t) (by_suc f i xs d (omega arith))
 
+-- where as many are changed as there are, all are
 pub changed_all : (f : StationCopy → StationCopy) (i : ℕ) (xs : List StationCopy) → i ≡ length xs
     → changed f i xs ≡ map f xs
 changed_all f i xs e = ap (λ n. changed f n xs) e ∙ whole xs
@@ -135,6 +137,7 @@ changed_all f i xs e = ap (λ n. changed f n xs) e ∙ whole xs
     whole [] = refl
     whole (x ∷ xs) = ap (λ t. f x ∷ t) (whole xs)
 
+-- the list stays as long as it was
 pub length-changed : (f : StationCopy → StationCopy) (i : ℕ) (xs : List StationCopy)
     → length (changed f i xs) ≡ length xs
 length-changed f zero xs = refl
@@ -149,6 +152,7 @@ rest_after k xs zero = k
 rest_after k [] (suc i) = k
 rest_after k (x ∷ xs) (suc i) = rest_after (minus k x.set) xs i
 
+-- the clones that are left, without those of the next copy, are those left after one copy more
 pub rest_more : (f : StationCopy → StationCopy) (k : CloneSet) (xs : List StationCopy) (i : ℕ) (d : StationCopy)
     → i < length xs → minus (rest_after k xs i) (get_or (changed f i xs) i d).set ≡ rest_after k xs (i + 1)
 rest_more f k xs i d l = by_suc k xs i l ∙ ap (rest_after k xs) (next i)

@@ -66,6 +66,7 @@ pub ends_more : (horizon : ℕ) (es all : List (ℕ × ℕ)) (clone at c : ℕ) 
     → ends_in horizon all c ≡ cond (clone == c) (min at (ends_in horizon es c)) (ends_in horizon es c)
 ends_more horizon es all clone at c e = ap (λ l. ends_in horizon l c) e ∙ push_end horizon es (clone, at) c
 
+-- with an end more, of a number that a clone may have, the ends are still those of such numbers
 pub are_more : (es all : List (ℕ × ℕ)) (clone at : ℕ) → all ≡ es ++ (clone, at) ∷ [] → clone < 256 → AreClones es
     → AreClones all
 are_more es all clone at e l f = subst AreClones (sym e) (both es f)

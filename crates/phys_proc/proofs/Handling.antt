@@ -27,10 +27,12 @@ use Rattle.run_laws.specs.World as world
 use Rattle.phys_proc.specs.Own.{StationCopy, Marked, AreMarks, IsCopy, IsHandled, kept_on, sent_on}
 use Rattle.phys_proc.proofs.Sends.{all_inserted_all, marks_inserted_all, marks_join, whole_marks}
 
+-- the first of some messages, or the one that is given for it where there are none
 abbrev pub head_msg : Marked → Msg → Msg
 head_msg [] d = d
 head_msg (x ∷ xs) d = x.0
 
+-- the messages behind the first
 abbrev pub tail_of : Marked → Marked
 tail_of [] = []
 tail_of (x ∷ xs) = xs

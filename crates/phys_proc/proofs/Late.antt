@@ -28,6 +28,7 @@ from_time a t e sorted = of_pending a.pending e sorted
           (λ y l. let m = msg-timed x.0 y.0 l in omega (arith, h, m)) s.0,
     )
 
+-- where nothing is pending, nothing is pending before any time
 pub from_none : (a : StationCopy) (t : ℕ) → None ≡ first_time a.pending → IsLate t a
 from_none a t e = of_pending a.pending e
   where
@@ -40,9 +41,11 @@ pub late_before : (t u : ℕ) (a : StationCopy) → t ≤ u → IsLate u a → I
 late_before t u a l f = all_weaker (λ y. u ≤ y.0.key.time) (λ y. t ≤ y.0.key.time) a.pending
     (λ y h. omega (arith, l, h)) f
 
+-- and so for a list of copies
 pub are_late_before : (t u : ℕ) (xs : List StationCopy) → t ≤ u → AreLate u xs → AreLate t xs
 are_late_before t u xs l f = all_weaker (IsLate u) (IsLate t) xs (λ a h. late_before t u a l h) f
 
+-- nothing is pending before time 0
 pub late_zero : (xs : List StationCopy) → AreLate 0 xs
 late_zero [] = tt
 late_zero (x ∷ xs) = (none_before x.pending, late_zero xs)
@@ -72,6 +75,7 @@ late_given t m k a l f = by_test (meet a.set k == empty)
     by_test true = f
     by_test false = all_inserted (λ z. t ≤ z.key.time) (meet a.set k) m a.pending l f
 
+-- with a message more, copies have nothing pending before its time or the time so far, whichever is less
 pub all_late_given : (t u : ℕ) (m : Msg) (k : CloneSet) (xs : List StationCopy) → u ≡ min t m.key.time → AreLate t xs
     → AreLate u (map (given m k) xs)
 all_late_given t u m k [] e f = tt

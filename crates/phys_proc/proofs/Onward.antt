@@ -26,6 +26,7 @@ use Rattle.phys_proc.specs.Own.{StationCopy, Marked, handled_alone, may_handle, 
 use Rattle.phys_proc.specs.Own.{IsSame, NextDue, NothingDue, IsHandled, Advanced, Onward, half}
 use Rattle.phys_proc.proofs.Parted.{copy_same, narrowed_same, copy_half, narrowed_half}
 
+-- the union of two sets has the clones of both
 pub sets_join : JoinsMarks has union
 sets_join = record { joined = λ a b c. has-union a b c }
 
@@ -44,6 +45,7 @@ good_state net s a f =
       fits = good_kind a.state.handled a.state.kind f.fits.kind;
     }
 
+-- what is said of all of each of two lists is said of all of both
 pub all_both : {X : Type 0} (P : X → Type 0) (xs ys : List X) → AllByRecursion P xs → AllByRecursion P ys
     → AllByRecursion P (xs ++ ys)
 all_both P [] ys f g = g
@@ -381,5 +383,6 @@ module _ (net : Net) (s : ℕ) (ends : ℕ → ℕ) (bound : ℕ) where
         (omega arith) in
         omega (arith, h)
 
+-- below the limit, one more handled leaves fewer to handle
 pub fewer_left : (limit a b c : ℕ) → b ≡ a + 1 → a ≡ c → a < limit → limit - b < limit - c
 fewer_left limit a b c e f l = omega (arith, e, f)

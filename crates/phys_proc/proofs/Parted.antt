@@ -117,11 +117,13 @@ abbrev tail_of : Marked → Marked
 tail_of [] = []
 tail_of (x ∷ xs) = xs
 
+-- a list that has a first has as its first what is read at place 0
 pub first_is : (q : Marked) (x y : Msg × CloneSet) (rest : Marked) → Some x ≡ slice_get q 0 → q ≡ y ∷ rest
     → q ≡ x ∷ rest
 first_is [] x y rest e f = absurd (cc)
 first_is (z ∷ zs) x y rest e f = let h : z ≡ x = cc in let t : zs ≡ rest = ap tail_of f in λ i. h i ∷ t i
 
+-- a list with nothing at place 0 is empty
 pub none_of : (q : Marked) → None ≡ slice_get q 0 → q ≡ []
 none_of [] e = refl
 none_of (y ∷ ys) e = absurd (cc)

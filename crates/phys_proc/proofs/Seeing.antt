@@ -14,6 +14,7 @@ use Rattle.phys_proc.specs.Own.{StationCopy}
 use Rattle.phys_proc.proofs.Taken.{take_one}
 use Rattle.phys_proc.specs.Racks.{SeenCopy, seen, ShowsClones, IsSeen}
 
+-- what is read at a place of a list is in it
 pub in_at : (xs : List SeenCopy) (i : ℕ) (x : SeenCopy) → i < length xs → x ≡ get_or xs i x → In x xs
 in_at [] i x l e = absurd (omega arith)
 in_at (y ∷ ys) zero x l e = inl e
@@ -82,6 +83,7 @@ seen_push : (xs : List StationCopy) (x : StationCopy) → map seen (xs ++ x ∷ 
 seen_push [] x = refl
 seen_push (y ∷ ys) x = ap (λ t. seen y ∷ t) (seen_push ys x)
 
+-- what is seen of one copy more is what was seen so far and what is seen of that copy
 pub seen_more : (xs : List StationCopy) (i : ℕ) (x : StationCopy) → i < length xs → x ≡ get_or xs i x
     → map seen (take (i + 1) xs) ≡ map seen (take i xs) ++ seen x ∷ []
 seen_more xs i x l e = ap (map seen) (take_one xs i x l e) ∙ seen_push (take i xs) x

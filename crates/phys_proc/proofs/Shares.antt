@@ -58,6 +58,7 @@ pub disjoint_same : (xs ys : List StationCopy) → map but_pending ys ≡ map bu
     → Disjoint has ys
 disjoint_same xs ys e d = disjoint_back ys (subst (Disjoint has) (sym e) (disjoint_map xs d))
 
+-- nor does it matter for how they share out the living clones and what was handled
 pub shares_same : (s handled : ℕ) (living : CloneSet) (xs ys : List StationCopy)
     → map but_pending ys ≡ map but_pending xs
     → KeepsShares (record { station = s; living = living; handled = handled; copies = xs }) →
@@ -119,6 +120,7 @@ pub few_clones : (living : CloneSet) (copies : List StationCopy) → AreShared l
 few_clones living copies h l = let e = size_all copies h.disjoint in let t = ap size h.together in
     omega (arith, e, t, l)
 
+-- the copies together have as many clones as there are living
 pub sizes_are : (living : CloneSet) (copies : List StationCopy) → AreShared living copies
     → all_sizes copies ≡ size living
 sizes_are living copies h = size_all copies h.disjoint ∙ ap size h.together

@@ -67,6 +67,7 @@ NoneWith k q = (c : ℕ) → has k c ≡ true → (x : Msg × CloneSet) → In x
 not_met : (k : CloneSet) (x : Msg × CloneSet) → met x.1 k ≡ None → (c : ℕ) → has k c ≡ true → has x.1 c ≡ true → ⊥
 not_met k x e c i j = false≢true (sym (met_none x.1 k e c) ∙ (ap (λ b. b && has k c) j ∙ i))
 
+-- the first message of the cut by a set is the first whose marks meet the set
 pub first_with : (k : CloneSet) (q : Marked) (p : Msg × CloneSet) → SortedMarked msg_cmp q
     → Some p ≡ slice_get (cut_by met k q) 0 → IsFirstWith k q p.0 p.1
 first_with k [] p s e = absurd (cc)
@@ -98,6 +99,7 @@ first_with k (x ∷ xs) p s e = by_met (met x.1 k) refl e (λ f. first_with k xs
           ];
         })
 
+-- where the cut by a set is empty, no message has marks of the set
 pub none_with : (k : CloneSet) (q : Marked) → None ≡ slice_get (cut_by met k q) 0 → NoneWith k q
 none_with k [] e = λ c i x m t. m
 none_with k (x ∷ xs) e = by_met (met x.1 k) refl e (λ f. none_with k xs f)
@@ -135,6 +137,7 @@ least_one ends c end q p e s first soon =
           (both_true (has k.0 c) (nat_lt z.key.time (ends c)) k.2).0,
     )
 
+-- it takes nothing, if that comes at its end or later
 pub least_ended : (ends : ℕ → ℕ) (c end : ℕ) (q : Marked) (p : Msg × CloneSet) → end ≡ ends c → SortedMarked msg_cmp q
     → Some p ≡ slice_get (cut_by met (one c) q) 0 → end ≤ p.0.key.time → (z : Msg) → ¬ (In z (taken_at ends c q))
 least_ended ends c end q p e s first late z i =
@@ -145,6 +148,7 @@ least_ended ends c end q p e s first late z i =
     let b = ltb-true z.key.time (ends c) t.1 in
     absurd (omega (arith, l, b, late, e))
 
+-- nor does it where no message is marked with it
 pub least_unmarked : (ends : ℕ → ℕ) (c : ℕ) (q : Marked) → None ≡ slice_get (cut_by met (one c) q) 0 → (z : Msg)
     → ¬ (In z (taken_at ends c q))
 least_unmarked ends c q none z i =
@@ -168,6 +172,7 @@ pub record OthersNone (ends : ℕ → ℕ) (set alive : CloneSet) (q : Marked) :
   pub within : (c : ℕ) → has alive c ≡ true → has set c ≡ true
   pub none : (c : ℕ) → has set c ≡ true → has alive c ≡ false → (m : Msg) → ¬ (In m (taken_at ends c q))
 
+-- of the whole set there are no others that might take anything
 pub others_start : (ends : ℕ → ℕ) (set : CloneSet) (q : Marked) → OthersNone ends set set q
 others_start ends set q = record { within = λ c i. i; none = λ c i n m t. false≢true (sym n ∙ i) }
 
@@ -281,6 +286,7 @@ module _ (horizon : ℕ) (es : List (ℕ × ℕ)) (set alive : CloneSet) (q : Ma
 min_cases : (t u : ℕ) → (min t u ≡ t) ⊎ (min t u ≡ u)
 min_cases t u = grind arith
 
+-- where a message is of one class just if it is of one of two others, its least time is the earlier of theirs
 pub least_both : (P Q R : Msg → Type 0) (t u : Option ℕ) → ((m : Msg) → P m → R m) → ((m : Msg) → Q m → R m)
     → ((m : Msg) → R m → P m ⊎ Q m) → IsLeastTime P t → IsLeastTime Q u → IsLeastTime R (earlier t u)
 least_both P Q R None None f g e a b = λ m r. elim (e m r) [ inl p ↦ a m p | inr q ↦ b m q ]
@@ -383,6 +389,7 @@ take_one xs i x l e = ap (λ n. take n xs) (plus_one i) ∙ by_suc xs i l e
     by_suc (y ∷ ys) zero l e = ap (λ z. z ∷ []) (sym e)
     by_suc (y ∷ ys) (suc i) l e = ap (λ t. y ∷ t) (by_suc ys i (omega arith) e)
 
+-- what holds of all copies holds of the one that is read at a place
 pub holds_in : (P : StationCopy → Type 0) (xs : List StationCopy) (i : ℕ) (x : StationCopy) → AllByRecursion P xs
     → i < length xs → x ≡ get_or xs i x → P x
 holds_in P [] i x f l e = absurd (omega arith)

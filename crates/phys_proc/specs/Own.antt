@@ -22,6 +22,7 @@ use Rattle.run_laws.specs.Copies.{Copy, insert_marked_all, handled_by, laid_asid
 abbrev pub StationCopy : Type 0
 StationCopy = Copy StateView Msg Line CloneSet
 
+-- messages, each with its marks
 abbrev pub Marked : Type 0
 Marked = List (Msg × CloneSet)
 
@@ -29,6 +30,7 @@ Marked = List (Msg × CloneSet)
 abbrev pub takes_at : (ℕ → ℕ) → Msg → CloneSet → ℕ → Bool
 takes_at ends m k c = has k c && nat_lt m.key.time (ends c)
 
+-- the messages among these that the clone takes
 abbrev pub taken_at : (ℕ → ℕ) → ℕ → Marked → List Msg
 taken_at ends c xs = part (takes_at ends) c xs
 
@@ -55,6 +57,7 @@ pub record IsCopy (net : Net) (s : ℕ) (a : StationCopy) : Type 0 where
 abbrev pub IsLate : ℕ → StationCopy → Type 0
 IsLate t a = AllByRecursion (λ x. t ≤ x.0.key.time) a.pending
 
+-- and so for each of some copies
 abbrev pub AreLate : ℕ → List StationCopy → Type 0
 AreLate t copies = AllByRecursion (IsLate t) copies
 
@@ -105,10 +108,11 @@ pub record NothingDue (ends : ℕ → ℕ) (bound : ℕ) (a b : StationCopy) : T
   pub same : IsSame ends a b
   pub settled : (c : ℕ) → has a.set c ≡ true → AllByRecursion (λ m. bound ≤ m.key.time) (taken_at ends c b.pending)
 
--- what is sent to itself becomes pending, the rest is laid aside
+-- what a station sends to itself becomes pending to these clones
 abbrev pub kept_on : ℕ → CloneSet → List Msg → Marked → Marked
 kept_on s set sends q = insert_marked_all union msg_cmp (to_it (λ (m : Msg). m.to) s sends) set q
 
+-- and the rest is laid aside, behind what was laid aside before
 abbrev pub sent_on : ℕ → CloneSet → List Msg → Marked → Marked
 sent_on s set sends sent = sent ++ map (λ x. (x, set)) (to_others (λ (m : Msg). m.to) s sends)
 

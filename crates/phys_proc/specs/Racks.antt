@@ -16,6 +16,7 @@ pub record SeenCopy : Type 0 where
   pub set : CloneSet
   pub log : List (Entry Msg Line)
 
+-- what a reader sees of a copy
 abbrev pub seen : StationCopy → SeenCopy
 seen a = record { set = a.set; log = a.log }
 

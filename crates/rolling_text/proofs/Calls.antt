@@ -3,6 +3,7 @@ use Rattle.std.proofs.Common.{◌≡◌, ℕ, suc, ◌+◌, ◌≤◌, refl, sym
 use Rattle.sim_outer.specs.Causes.{counts_after, AreCounted, Counted}
 use Rattle.rolling_text.specs.Counting.{AreCountedTo}
 
+-- after no calls the count is what it was
 pub none_counted : (old : Option ℕ) → AreCounted 0 old old
 none_counted None = refl
 none_counted (Some b) = refl

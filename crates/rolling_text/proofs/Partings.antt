@@ -83,6 +83,7 @@ module _ (least most : ℕ) (ps qs : List Planned) (i : ℕ) (d e : Planned) (in
       ap (λ t. parting same_plan t (drop (i + 1) ps) (drop (i + 1) qs)) (n ∙ ap (min least) b)
       ∙ sym (other_more same_plan least ps qs i d e in_ps in_qs (sym told_apart ∙ h)) ∙ so_far
 
+-- where one list alone is left, one place more of it, with its time taken in, leaves the result as it is
 pub list_next : (least most new : ℕ) (ps : List Planned) (i : ℕ) (d : Planned) → i < length ps
     → new ≡ min least (get_or ps i d).at →
     parting same_plan least (drop i ps) [] ≡ parting same_plan most ps []

@@ -15,6 +15,7 @@ get_push (y ∷ ys) k zero x e = inl e
 get_push (y ∷ ys) k (suc i) x e =
     elim (get_push ys k i x e) [ inl h ↦ inl h | inr h ↦ let a = h.0 in inr (omega (arith, a), h.1) ]
 
+-- with the next clone's lines joined, and enough reserved for them, one clone more is planned
 pub plan_push : (net : Net) (cs : List Clone) (c reserved next len : ℕ) (ks all : List Keep) (k : Keep)
     → ArePlannedTo net cs c reserved ks → IsJoined net cs c k → len ≡ length (body net (clone_at cs c)) →
     reserved ≤ next → 32 + len + 256 ≤ next → all ≡ ks ++ k ∷ [] → ArePlannedTo net cs (c + 1) next all
@@ -32,6 +33,7 @@ plan_push net cs c reserved next len ks all k h j e l fits grown = subst (ArePla
       ];
     })
 
+-- nothing needs to be kept for no clones
 pub plan_none : (net : Net) (cs : List Clone) (reserved : ℕ) → ArePlannedTo net cs 0 reserved []
 plan_none net cs reserved = record { many = refl; each = λ i x g. let h : ⊥ = cc in absurd h }
 

@@ -35,6 +35,7 @@ change_equal a b e = ap (λ (m : Msg). told a m.payload)
 change_itself : (a : Change) → is_eq (change_cmp a a) ≡ true
 change_itself a = ap is_eq (tied_itself msg_total (set_message 0 (of_change a)))
 
+-- decisions that are the same are equal
 pub same_plan-equal : (p q : Planned) → same_plan p q ≡ true → p ≡ q
 same_plan-equal p q e =
     let h = and_parts (p.at == q.at && p.station == q.station) (is_eq (change_cmp p.change q.change)) e in
@@ -49,8 +50,10 @@ same_plan-itself p = and_from (p.at == p.at && p.station == p.station) (is_eq (c
     (and_from (p.at == p.at) (p.station == p.station) (eq-eqb p.at p.at refl) (eq-eqb p.station p.station refl))
     (change_itself p.change)
 
+-- two decisions are the same exactly where they are equal
 pub same_plan-Decides : (p q : Planned) → Decides (same_plan p q) (p ≡ q)
 same_plan-Decides p q = (same_plan-equal p q, λ e. subst (λ r. same_plan p r ≡ true) e (same_plan-itself p))
 
+-- decisions that are the same are no two different ones, and each decision comes at its time
 pub tells_plans : (net : Net) → TellsPlans (simulation net) same_plan
 tells_plans net = record { sound = same_plan-equal; at = λ k p. refl }

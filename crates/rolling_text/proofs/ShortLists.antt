@@ -66,6 +66,7 @@ none_of_base : (k : ℕ) → length (clone_at (base ∷ []) k).plans ≤ 0
 none_of_base zero = omega arith
 none_of_base (suc k) = omega arith
 
+-- after at most 2^21 calls each clone has at most 2^21 decisions
 pub short_after_calls : (net : Net) (calls : List Call) → length calls ≤ 2 ^ 21
     → AreShort (clones_after_calls net (base ∷ []) calls)
 short_after_calls net calls l k there = let h = calls_within net calls 0 (base ∷ []) none_of_base k in

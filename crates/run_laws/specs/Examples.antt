@@ -19,9 +19,11 @@ pub record Ball : Type 0 where
   pub number : ℕ
   pub to : ℕ
 
+-- a ball, by its time, its number and the station that it goes to
 abbrev pub ball : ℕ → ℕ → ℕ → Ball
 ball time number to = record { time = time; number = number; to = to }
 
+-- balls by time, then by number, then by station
 abbrev pub ball_cmp : Ball → Ball → Ordering
 ball_cmp a b = ordering_then (nat_cmp a.time b.time) (ordering_then (nat_cmp a.number b.number) (nat_cmp a.to b.to))
 
@@ -32,6 +34,7 @@ thrown_back s b =
     else if nat_lt b.number 10 then ball (b.time + 1) (b.number + 10) s ∷ []
     else []
 
+-- the game as a simulation: the first ball comes to station 1 at time 2, and all ends at 12
 abbrev pub game : Simulation ℕ Ball ℕ
 game = record {
   order = ball_cmp;
@@ -54,9 +57,11 @@ AnyState s caught = ⊤
 abbrev pub caught : ℕ → ℕ → ℕ → ℕ → Entry Ball ℕ
 caught time number to count = record { msg = ball time number to; line = count }
 
+-- the trace of the base clone: one ball alone, to and fro
 abbrev pub base_trace : List (Entry Ball ℕ)
 base_trace = caught 2 0 1 1 ∷ caught 5 0 2 1 ∷ caught 8 0 1 2 ∷ caught 11 0 2 2 ∷ []
 
+-- the decision that throws in a ball at a time and a station
 abbrev pub throw_in : ℕ → ℕ → Planned
 throw_in time station = record { at = time; station = station; change = record { param = Room; a = 0; b = 0 } }
 
@@ -64,6 +69,7 @@ throw_in time station = record { at = time; station = station; change = record {
 abbrev pub busy : Clone
 busy = record { name = codes "busy"; plans = throw_in 6 1 ∷ throw_in 5 1 ∷ []; end = None }
 
+-- and its trace
 abbrev pub busy_trace : List (Entry Ball ℕ)
 busy_trace =
     caught 2 0 1 1 ∷ caught 5 0 2 1 ∷ caught 5 2 1 2 ∷ caught 6 1 1 3 ∷ caught 6 12 1 4 ∷ caught 7 11 1 5
@@ -73,6 +79,7 @@ busy_trace =
 abbrev pub brief : Clone
 brief = record { name = codes "brief"; plans = throw_in 7 1 ∷ []; end = Some 8 }
 
+-- and its trace
 abbrev pub brief_trace : List (Entry Ball ℕ)
 brief_trace = caught 2 0 1 1 ∷ caught 5 0 2 1 ∷ caught 7 1 1 2 ∷ []
 
@@ -80,9 +87,11 @@ brief_trace = caught 2 0 1 1 ∷ caught 5 0 2 1 ∷ caught 7 1 1 2 ∷ []
 abbrev pub last_minute : Clone
 last_minute = record { name = codes "last-minute"; plans = throw_in 12 1 ∷ throw_in 11 1 ∷ []; end = None }
 
+-- and its trace
 abbrev pub last_minute_trace : List (Entry Ball ℕ)
 last_minute_trace = caught 2 0 1 1 ∷ caught 5 0 2 1 ∷ caught 8 0 1 2 ∷ caught 11 0 2 2 ∷ caught 11 2 1 3 ∷ []
 
+-- the base clone, busy and brief
 abbrev pub all_three : List Clone
 all_three = base ∷ busy ∷ brief ∷ []
 
@@ -94,6 +103,7 @@ with_twin = forked all_three (codes "twin") 1
 abbrev pub merged_trace : Clone → List (Entry Ball ℕ)
 merged_trace c = merge_of_logs game (λ b. 0) (λ b. b.number) c 12 2
 
+-- whether two entries have the same time, number, station and count
 abbrev pub same_catch : Entry Ball ℕ → Entry Ball ℕ → Bool
 same_catch e f = ((e.msg.time == f.msg.time && e.msg.number == f.msg.number) && e.msg.to == f.msg.to) && e.line ==
     f.line

@@ -12,10 +12,11 @@ use Rattle.shelf.specs.Rules.{IsKept, Adds}
 use Rattle.shelf.proofs.Prefixes.{prefix_whole}
 use Rattle.shelf.proofs.Legals.{legal_with}
 
--- what a rule shows of the history, and what its callers trade: nothing
+-- what a rule shows of the history: nothing
 abbrev pub shown : List RackView → List RackView
 shown racks = []
 
+-- and what its callers trade: nothing
 abbrev pub moved : List RackView → List RackView → ℕ → Type 0
 moved xs ys n = Unit {0}
 

@@ -164,6 +164,7 @@ all_at : {A : Type 0} (P : A → Type 0) (xs : List A)
 all_at P [] f = tt
 all_at P (x ∷ xs) f = (f 0 x (omega arith) refl, all_at P xs (λ i y l e. f (suc i) y (omega (arith, l)) e))
 
+-- racks of which each station has one, in order, are what readers are shown after them
 pub opens : (racks : List RackView) → OneEach racks → AreShown racks racks
 opens racks each = record {
   each = λ i l. let h = opens_at 0 racks (λ i r e. let h = each i r e in omega (arith, h)) i l in

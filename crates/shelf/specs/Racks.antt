@@ -22,6 +22,7 @@ abbrev pub AreLegal : List RackView → Type 0
 AreLegal [] = Unit {0}
 AreLegal (q ∷ racks) = AllByRecursion (λ r. MayComeAfter r q) racks × AreLegal racks
 
+-- a later rack that was found, or else this one, where it counts
 abbrev pub or_this : Option RackView → Bool → RackView → Option RackView
 or_this (Some later) b r = Some later
 or_this None true r = Some r

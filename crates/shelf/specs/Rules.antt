@@ -9,6 +9,7 @@ pub record IsKept (cells : List Cell) (racks : List RackView) : Type 0 where
   pub words : cells ≡ (length racks, true) ∷ (0, true) ∷ []
   pub legal : AreLegal racks
 
+-- the head of a history that is kept in this book: its word of key 0, which is tracked
 abbrev pub head_of : Book → Named
 head_of b = record { tracked = true; key = 0; book = b }
 

@@ -11,6 +11,7 @@ use Rattle.sim_base.specs.contracts.message.MsgOrd.TheImpl as of_msg
 use Rattle.sim_base.specs.contracts.message.PayloadOrd.TheImpl as of_payload
 use Rattle.sim_base.specs.contracts.message.ParamOrd.TheImpl as of_param
 
+-- the derived order of two parameters is that of their places
 pub param_at : (a b : Param) → of_param.cmp-value.it a b ≡ nat_cmp (param_index a) (param_index b)
 param_at Every Every = refl
 param_at Every Service = refl
@@ -49,6 +50,7 @@ param_at Weight Servers = refl
 param_at Weight Room = refl
 param_at Weight Weight = refl
 
+-- the derived order of two payloads is the defined one
 pub payload_at : (a b : Payload) → of_payload.cmp-value.it a b ≡ payload_cmp a b
 payload_at Tick Tick = refl
 payload_at Tick (Job b) = refl
@@ -68,9 +70,11 @@ payload_at (Set a) (Done b) = refl
 payload_at (Set a) (Set b) = ap (λ o. ordering_then o (ordering_then (nat_cmp a.a b.a) (nat_cmp a.b b.b)))
     (param_at a.param b.param)
 
+-- the derived order of two messages is the defined one
 pub derived_at : (a b : Msg) → of_msg.cmp-value.it a b ≡ msg_cmp a b
 derived_at a b = ap (λ o. ordering_then (key_cmp a.key b.key) (ordering_then (nat_cmp a.to b.to) o))
     (payload_at a.payload b.payload)
 
+-- so the two orders of messages are one
 pub derived : of_msg.cmp-value.it ≡ msg_cmp
 derived = λ i a b. derived_at a b i

@@ -11,12 +11,14 @@ use Rattle.std.specs.Str.{IsAscii, IsUtf8}
 use Rattle.std.proofs.lemmas.Str.{IsUtf8-from_ascii}
 use Rattle.sim_base.specs.Padding.{IsPadded}
 
+-- a name has at most 16 bytes
 pub short_name : (text : List ℕ) → is_name text ≡ true → length text ≤ 16
 short_name [] h = omega arith
 short_name (b ∷ bs) h =
     let (front, short) = and_parts (is_lower b && list_all is_name_byte bs) (nat_le (length bs) 15) h in
     grind (arith, nat_tests)
 
+-- a name with zeros behind it, 16 bytes in all, is padded
 pub padded_name : (text : List ℕ) → is_name text ≡ true
     → IsPadded (text ++ drop (length text) (replicate 16 0)) (length text)
 padded_name text h =

@@ -9,6 +9,7 @@ use Rattle.sim_base.specs.declared.message.Payload.{Payload}
 use Rattle.sim_base.specs.declared.message.Payload.TheVariants.{Tick, Job, Done, Set}
 use Rattle.sim_base.specs.Order.{key_cmp, payload_cmp, payload_index, param_index, msg_cmp}
 
+-- the order of keys is total
 pub key_total : IsTotalOrder key_cmp
 key_total = then_total (on_total (λ (k : Key). k.time) nat_cmp_total)
     (then_total (on_total (λ (k : Key). k.sender) nat_cmp_total) (on_total (λ (k : Key). k.number) nat_cmp_total))
@@ -61,6 +62,7 @@ same_order (Set a) (Job b) = refl
 same_order (Set a) (Done b) = refl
 same_order (Set a) (Set b) = refl
 
+-- the order of payloads is total
 pub payload_total : IsTotalOrder payload_cmp
 payload_total = record {
   antisymm = λ p q. rw (← same_order p q, ← same_order q p) (by_numbers_total.antisymm p q);
@@ -68,6 +70,7 @@ payload_total = record {
   congr = λ p q r. rw (← same_order p q, ← same_order p r, ← same_order q r) (by_numbers_total.congr p q r);
 }
 
+-- the order of messages is total
 pub msg_total : IsTotalOrder msg_cmp
 msg_total = then_total (on_total (λ (m : Msg). m.key) key_total)
     (then_total (on_total (λ (m : Msg). m.to) nat_cmp_total) (on_total (λ (m : Msg). m.payload) payload_total))

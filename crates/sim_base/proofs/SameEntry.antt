@@ -48,6 +48,7 @@ line_itself (Server b w d l) =
 line_itself (Passed p) = eq-eqb p p refl
 line_itself (Sink g y) = and_from (g == g) (y == y) (eq-eqb g g refl) (eq-eqb y y refl)
 
+-- two entries are the same exactly where they are equal
 pub same_entry-Decides : (x y : Entry Msg Line) → Decides (same_entry x y) (x ≡ y)
 same_entry-Decides x y = (
   (λ e.

@@ -111,10 +111,11 @@ module _ {M K : Type 0} (meet : K → K → Option K) (by : K) where
   cut_end so_far rest all none e = sym (append-nil so_far) ∙ ap (λ bs. so_far ++ cut_by meet by (of_blocks bs))
       (sym (nil_from_length rest none)) ∙ e
 
--- whether a list is empty
+-- a list whose length is 0 is empty
 pub empty_if : {X : Type 0} (xs : List X) → true ≡ (length xs == 0) → xs ≡ []
 empty_if xs e = nil_from_length xs (eqb-true (length xs) 0 (sym e))
 
+-- and where its length is not 0 it has an element
 pub filled_if : {X : Type 0} (xs : List X) → false ≡ (length xs == 0) → 0 < length xs
 filled_if xs e = let some = eqb-false (length xs) 0 (sym e) in omega arith
 

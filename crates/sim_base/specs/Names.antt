@@ -2,12 +2,15 @@
 use Rattle.std.specs.Prelude.{◌&&◌, ◌||◌, ◌==◌, ℕ, Bool, false, nat_le, List, [], ◌∷◌, length}
 use Rattle.std.specs.List.{list_all}
 
+-- whether a byte is one of a to z
 abbrev pub is_lower : ℕ → Bool
 is_lower b = nat_le 97 b && nat_le b 122
 
+-- whether it is a digit
 abbrev pub is_digit : ℕ → Bool
 is_digit b = nat_le 48 b && nat_le b 57
 
+-- whether it may stand in a name: a to z, digits and _
 abbrev pub is_name_byte : ℕ → Bool
 is_name_byte b = (is_lower b || is_digit b) || (b == 95)
 

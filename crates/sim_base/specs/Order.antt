@@ -11,14 +11,17 @@ use Rattle.sim_base.specs.declared.message.Param.TheVariants.{Every, Service, Ho
 use Rattle.sim_base.specs.declared.message.Payload.{Payload}
 use Rattle.sim_base.specs.declared.message.Payload.TheVariants.{Tick, Job, Done, Set}
 
+-- keys by time, then by sender, then by number
 abbrev pub key_cmp : Key → Key → Ordering
 key_cmp a b = ordering_then (nat_cmp a.time b.time)
     (ordering_then (nat_cmp a.sender b.sender) (nat_cmp a.number b.number))
 
+-- jobs by source, then by count, then by time of birth
 abbrev pub job_cmp : JobOf → JobOf → Ordering
 job_cmp a b = ordering_then (nat_cmp a.source b.source)
     (ordering_then (nat_cmp a.count b.count) (nat_cmp a.born b.born))
 
+-- the place of a parameter among all of them
 abbrev pub param_index : Param → ℕ
 param_index Every = 0
 param_index Service = 1
@@ -27,21 +30,25 @@ param_index Servers = 3
 param_index Room = 4
 param_index Weight = 5
 
+-- changes by parameter, then by first value, then by second value
 abbrev pub change_cmp : Change → Change → Ordering
 change_cmp a b = ordering_then (nat_cmp (param_index a.param) (param_index b.param))
     (ordering_then (nat_cmp a.a b.a) (nat_cmp a.b b.b))
 
+-- the place of a kind of payload among all kinds
 abbrev pub payload_index : Payload → ℕ
 payload_index Tick = 0
 payload_index (Job j) = 1
 payload_index (Done j) = 2
 payload_index (Set c) = 3
 
+-- payloads by kind, and those of one kind by their job or change
 abbrev pub payload_cmp : Payload → Payload → Ordering
 payload_cmp (Job a) (Job b) = job_cmp a b
 payload_cmp (Done a) (Done b) = job_cmp a b
 payload_cmp (Set a) (Set b) = change_cmp a b
 payload_cmp p q = nat_cmp (payload_index p) (payload_index q)
 
+-- messages by key, then by receiver, then by payload
 abbrev pub msg_cmp : Msg → Msg → Ordering
 msg_cmp a b = ordering_then (key_cmp a.key b.key) (ordering_then (nat_cmp a.to b.to) (payload_cmp a.payload b.payload))

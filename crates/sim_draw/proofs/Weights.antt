@@ -7,6 +7,7 @@ use Rattle.std.proofs.lemmas.List.Sums.{sum_by-cons}
 use Rattle.std.specs.List.{AllByRecursion}
 use Rattle.sim_draw.specs.Drawing.{index_of, IsFirstAbove}
 
+-- the sum of one weight or more, each 1 or more, is above 0
 pub heavy_sum : (ws : List ℕ) → 1 ≤ length ws → AllByRecursion (λ w. 1 ≤ w) ws → 0 < sum ws
 heavy_sum [] some heavy = absurd (omega arith)
 heavy_sum (w ∷ ws) some heavy = let one : 1 ≤ w = heavy.0 in omega (arith, sum_by-cons (λ (x : ℕ). x) w ws)

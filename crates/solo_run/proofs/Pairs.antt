@@ -13,6 +13,7 @@ at_place Less join m y ys rest after is = refl
 at_place Equal join m y ys rest after is = refl
 at_place Greater join m y ys rest after is = ap (λ t. y.0 ∷ t) is
 
+-- a message inserted among pairs is inserted among their messages
 pub messages_insert : (join : Unit {0} → Unit {0} → Unit {0}) (m : Msg) (ys : List (Msg × Unit {0}))
     → messages_of (insert_marked join msg_cmp m tt ys) ≡ insert msg_cmp m (messages_of ys)
 messages_insert join m [] = refl

@@ -5,6 +5,7 @@ use Rattle.sim_base.specs.declared.entry.Entry.{Entry}
 use Rattle.sim_base.specs.declared.entry.Line.{Line}
 use Rattle.run_laws.specs.World.{log_of}
 
+-- the station that a message is for
 abbrev pub receiver : Msg → ℕ
 receiver m = m.to
 

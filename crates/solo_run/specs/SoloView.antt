@@ -15,6 +15,7 @@ use Rattle.stations.specs.Handling.{StateView}
 use Rattle.stations.specs.Opening.{setup}
 use Rattle.solo_run.specs.Limit.{receiver, first_beyond}
 
+-- what contracts see of a one-thread run: the states, the pending messages with empty marks, and the trace
 pub record SoloView : Type 0 where
   pub states : List StateView
   pub pending : List (Msg × Unit {0})
@@ -29,6 +30,7 @@ abbrev pub state_of : Net → List StateView → ℕ → StateView
 state_of net states zero = (setup net zero).state
 state_of net states (suc i) = unwrap_or (slice_get states i) (setup net (suc i)).state
 
+-- the pending messages without their marks
 abbrev pub messages_of : List (Msg × Unit {0}) → List Msg
 messages_of pending = map (λ p. p.0) pending
 
@@ -47,6 +49,7 @@ pub record IsStateAfter (net : Net) (trace : List (Entry Msg Line)) (i : ℕ) (s
   pub within : st.handled ≤ net.limit
   pub log : st.handled ≡ length (log_of receiver (i + 1) trace)
 
+-- a message is for a station of the network
 abbrev pub IsForStation : Net → Msg → Type 0
 IsForStation net m = (1 ≤ m.to) × (m.to ≤ length net.sites)
 

@@ -43,6 +43,7 @@ pub record IsFull (net : Net) (i : ℕ) (states : List StateView) (old_steps new
   pub keeps : kept ≡ net.limit
   pub steps : new_steps ≡ old_steps
 
+-- why a step of the station at place i fails: out of memory needs no cause, and at the limit it is full
 abbrev pub StopsAt : Net → ℕ → List StateView → ℕ → ℕ → SoloFault → Type 0
 StopsAt net i states old_steps new_steps NoMemory = Unit {0}
 StopsAt net i states old_steps new_steps (Limit station kept) = IsFull net i states old_steps new_steps station kept

@@ -23,10 +23,12 @@ pub accepted-parts : (site : Site) (c : Change) → is_accepted site c ≡ true 
 accepted-parts site c accepted =
     both (has_parameter site.kind c.param) (is_in_range (length site.links) c.param c.a c.b) site c refl refl accepted
 
+-- a number that was found within two bounds is from the low one to the high one
 pub within-bounds : (low high n : ℕ) → is_within low high n ≡ true → (low ≤ n) × (n ≤ high)
 within-bounds low high n h = let parts = and_parts (nat_le low n) (nat_le n high) h in
     (leb-true low n parts.0, leb-true n high parts.1)
 
+-- and what was found to be a range of times is one
 pub range-bounds : (low lo hi : ℕ) → is_range low lo hi ≡ true → IsRange low lo hi
 range-bounds low lo hi h =
     let parts = and_parts (nat_le low lo && nat_le lo hi) (nat_le hi 1000000) h in
@@ -67,6 +69,7 @@ router-accepts site c is accepted =
     let bounds = weight_in_range (length site.links) c.a c.b (rw weight at parts.1) in
     record { first = bounds.0; last = bounds.1; heavy = bounds.2; light = bounds.3 }
 
+-- a room that was found to be 4096 at most is so
 pub room-bound : (room : ℕ) → nat_le room 4096 ≡ true → room ≤ 4096
 room-bound room h = leb-true room 4096 h
 

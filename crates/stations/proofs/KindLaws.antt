@@ -19,6 +19,7 @@ use Rattle.stations.proofs.RouterLaws.{router_on-good}
 use Rattle.stations.proofs.ServerLaws.{server_on-good}
 use Rattle.stations.proofs.SinkLaws.{sink_on-fits}
 
+-- a state that fits is good, whatever its kind
 pub good_kind : (handled : ℕ) (s : KindState) → FitsKind handled s → GoodKind handled s
 good_kind handled (Source s) f = f
 good_kind handled (Server s) f = f

@@ -18,7 +18,7 @@ use Rattle.stations.specs.Sends.{AreSends}
 use Rattle.stations.proofs.Places.{all_at}
 use Rattle.stations.proofs.KindLaws.{good_kind, kind_on-good, kind_on-fits}
 
--- a station that is there meets the rules, and its number is in range
+-- a station that is there meets the rules
 pub site_valid : (net : Net) (s : ℕ) (site : Site) → IsNet net → site_at net s ≡ Some site → IsSite net site
 site_valid net zero site valid is = absurd (cc)
 site_valid net (suc i) site valid is = all_at (IsSite net) net.sites i site valid.sites is
@@ -28,10 +28,12 @@ below_length [] i x is = absurd (cc)
 below_length (y ∷ ys) zero x is = omega arith
 below_length (y ∷ ys) (suc i) x is = (let rest = below_length ys i x is in omega arith)
 
+-- the number of a station that is there is from 1 to that of the last
 pub number_in : (net : Net) (s : ℕ) (site : Site) → site_at net s ≡ Some site → (1 ≤ s) × (s ≤ length net.sites)
 number_in net zero site is = absurd (cc)
 number_in net (suc i) site is = (omega arith, (let rest = below_length net.sites i site is in omega arith))
 
+-- a station that is found at a number is the station of that number
 pub site_is : (net : Net) (s : ℕ) (site : Site) → site_at net s ≡ Some site → site_of net s ≡ site
 site_is net s site is = ap (λ o. unwrap_or o no_site) is
 
@@ -42,6 +44,7 @@ links_parts net [] all = (tt, tt, tt)
 links_parts net (l ∷ ls) all = let rest = links_parts net ls all.1 in
     ((all.0.heavy, rest.0), (all.0.light, rest.1), (all.0.small, rest.2))
 
+-- jobs may go over the links of a station that meets the rules and has a link
 pub are_links : (net : Net) (site : Site) → IsSite net site → 1 ≤ length site.links → AreLinks site.links
 are_links net site valid some =
     let parts = links_parts net site.links valid.links in
@@ -90,6 +93,7 @@ pub record HandlesWell (net : Net) (st : StateView) (m : Msg) : Type 0 where
   pub handled : (handle net st m).state.handled ≡ st.handled + 1
   pub station : (handle net st m).state.sender.station ≡ st.sender.station
 
+-- so it is for each station of the network whose state fits, and each message before time 2 ^ 31
 pub handles-well : (net : Net) (st : StateView) (m : Msg) → IsNet net → FitsState st → SuitsNet net st
     → m.key.time < 2 ^ 31 → HandlesWell net st m
 unfolding handle

@@ -50,6 +50,7 @@ opening-fits net site (kind.Router turn) valid is =
     }
 opening-fits net site kind.Sink valid is = record { got = omega arith; stay = omega arith }
 
+-- and it is of this kind
 pub opening-kind : (site : Site) (k : Kind) → IsOfKind site k (opening_kind site k)
 opening-kind site (kind.Source lo hi jobs class) = tt
 opening-kind site (kind.Server servers room lo hi by_class) = tt
@@ -57,6 +58,7 @@ opening-kind site (kind.Delay lo hi) = tt
 opening-kind site (kind.Router turn) = length-map site.links (λ (l : Link). l.weight)
 opening-kind site kind.Sink = tt
 
+-- a station that opens sends one message at most, as stations send, and draws one word at most
 pub first_tick_grown : (net : Net) (site : Site) (k : Kind) (o : Outgoing) → IsNet net → IsSite net site
     → site.kind ≡ k → 1 ≤ o.sender.station → o.sender.station ≤ length net.sites
     → Grown net 0 1 o (first_tick (opening_kind site k) o)
@@ -140,6 +142,7 @@ pub record IsFirst (s next : ℕ) (m : Msg) : Type 0 where
 some_is : {X : Type 0} {x y : X} → Some x ≡ Some y → x ≡ y
 some_is is = cc
 
+-- the message that a station opens with is from it and to it, and its number is used up
 pub first_tick-first : (k : KindState) (sender : Sender) (m : Msg)
     → slice_get (first_tick k (outgoing sender [])).sends 0 ≡ Some m
     → IsFirst sender.station (first_tick k (outgoing sender [])).sender.next m

@@ -20,9 +20,11 @@ has_parameter (Delay lo hi) Hold = true
 has_parameter (Router turn) Weight = not turn
 has_parameter _ _ = false
 
+-- whether n is from low to high
 abbrev pub is_within : ℕ → ℕ → ℕ → Bool
 is_within low high n = nat_le low n && nat_le n high
 
+-- whether the times from lo to hi are a range: no less than low, in order, and no more than a time may be
 abbrev pub is_range : ℕ → ℕ → ℕ → Bool
 is_range low lo hi = (nat_le low lo && nat_le lo hi) && nat_le hi MOST_TIME
 
@@ -42,5 +44,6 @@ accepts site c =
     else if not (is_in_range (length site.links) c.param c.a c.b) then Err OutOfRange
     else Ok tt
 
+-- whether a station takes a change
 abbrev pub is_accepted : Site → Change → Bool
 is_accepted site c = is_ok (accepts site c)

@@ -32,9 +32,11 @@ at time receiver sender number payload line =
       line = line;
     }
 
+-- the sender number of the analysts
 abbrev pub analyst : ℕ
 analyst = 0
 
+-- what a source sends itself
 abbrev pub tick : Payload
 tick = Tick
 
@@ -42,12 +44,15 @@ tick = Tick
 abbrev pub job : ℕ → ℕ → ℕ → Payload
 job source count born = Job (record { source = source; count = count; born = born })
 
+-- the same of the job whose service ends
 abbrev pub done : ℕ → ℕ → ℕ → Payload
 done source count born = Done (record { source = source; count = count; born = born })
 
+-- parameter and its two values
 abbrev pub set : Param → ℕ → ℕ → Payload
 set param a b = Set (record { param = param; a = a; b = b })
 
+-- sent, of a source
 abbrev pub source : ℕ → Line
 source sent = Source sent
 
@@ -55,6 +60,7 @@ source sent = Source sent
 abbrev pub server : ℕ → ℕ → ℕ → ℕ → Line
 server busy wait done lost = Server busy wait done lost
 
+-- passed, of a delay or router
 abbrev pub passed : ℕ → Line
 passed n = Passed n
 
@@ -62,9 +68,11 @@ passed n = Passed n
 abbrev pub sink : ℕ → ℕ → Line
 sink got stay = Sink got stay
 
+-- a link to a station, with this delay and the weight 1
 abbrev pub link : ℕ → ℕ → Link
 link to delay = record { to = to; delay = delay; weight = 1 }
 
+-- time, station, parameter and its two values
 abbrev pub set_at : ℕ → ℕ → Param → ℕ → ℕ → Planned
 set_at time station param a b = record { at = time; station = station; change = record { param = param; a = a; b = b } }
 

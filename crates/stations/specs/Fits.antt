@@ -68,6 +68,7 @@ pub record FitsSink (handled : ℕ) (s : SinkState) : Type 0 where
   pub got : s.got ≤ handled
   pub stay : s.stay ≤ 2 ^ 31 * handled
 
+-- what a state of each kind keeps, after so many messages were handled
 abbrev pub FitsKind : ℕ → KindState → Type 0
 FitsKind handled (Source s) = FitsSource handled s
 FitsKind handled (Server s) = FitsServer handled s
@@ -92,10 +93,12 @@ pub record FitsState (st : StateView) : Type 0 where
   pub sender : FitsSender st.handled st.sender
   pub kind : FitsKind st.handled st.kind
 
+-- whether a kind is that of a server
 abbrev pub is_server : Kind → Bool
 is_server (kind.Server servers room lo hi by_class) = true
 is_server _ = false
 
+-- and whether it is that of a router
 abbrev pub is_router : Kind → Bool
 is_router (kind.Router turn) = true
 is_router _ = false

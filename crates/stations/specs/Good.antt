@@ -15,8 +15,10 @@ pub record IsGood (net : Net) (s : ℕ) (st : StateView) : Type 0 where
 abbrev pub next_number : StateView → ℕ
 next_number st = st.sender.next
 
+-- the sender of a message
 abbrev pub sender_of : Msg → ℕ
 sender_of m = m.key.sender
 
+-- and the number that it has from its sender
 abbrev pub number_of : Msg → ℕ
 number_of m = m.key.number

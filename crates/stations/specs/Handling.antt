@@ -38,6 +38,7 @@ line_of (Delay s) = line.Passed s.passed
 line_of (Router s) = line.Passed s.passed
 line_of (Sink s) = line.Sink s.got s.stay
 
+-- what was handled, as a reaction tells it: the state with this count of messages, the sends, the counts
 abbrev pub handled_as : ℕ → Reaction KindState → Handled StateView Msg Line
 handled_as count r = record {
   state = record { sender = r.out.sender; handled = count; kind = r.state };

@@ -26,6 +26,7 @@ abbrev pub first_tick : KindState → Outgoing → Outgoing
 first_tick (Source s) o = next_tick 0 s o
 first_tick _ o = o
 
+-- an opening with this state, and with the first message that was sent, if there is one
 abbrev pub opening_of : KindState → Outgoing → OpeningOf StateView Msg
 opening_of first_state o = record {
   state = record { sender = o.sender; handled = 0; kind = first_state };
@@ -46,5 +47,6 @@ opening seed s site =
       sends = [];
     }))
 
+-- the opening of the station of this number in a network
 abbrev pub setup : Net → ℕ → OpeningOf StateView Msg
 setup net s = opening net.seed s (site_of net s)

@@ -21,6 +21,7 @@ abbrev pub router_set : Site → Change → RouterState → RouterState
 router_set site c s = if is_accepted site c then record s
     { weights = record { items = slice_set s.weights.items (c.a - 1) c.b } } else s
 
+-- what a router does at a message: a job is passed on, a change is made, and all else is nothing to it
 abbrev pub router_on : Site → ℕ → Payload → RouterState → Outgoing → Reaction RouterState
 router_on site now (Job j) s o = reaction (record s { passed = s.passed + 1 }) (router_job site now j s o)
 router_on site now (Set c) s o = reaction (router_set site c s) o

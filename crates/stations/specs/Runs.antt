@@ -27,6 +27,7 @@ set_message k p = record {
   payload = Set p.change;
 }
 
+-- a network as a simulation: the order of messages, the stations and how they handle, and the bounds
 abbrev pub simulation : Net → Simulation StateView Msg Line
 simulation net = record {
   order = msg_cmp;
@@ -76,12 +77,14 @@ AreFronts net cs front fs = fronts.AreFronts (simulation net) cs front fs
 abbrev pub IsBeyond : Net → ℕ → ℕ → Clone → Type 0
 IsBeyond net s front c = sharing.IsBeyond (simulation net) s front c
 
--- the number of copies of a station at a front, and of messages handled once and alone
+-- the number of copies of a station at a front
 abbrev pub copies : Net → List Clone → ℕ → ℕ → ℕ
 copies net cs s front = sharing.copies (simulation net) same_entry cs s front
 
+-- the number of messages that its copies handled before the front, each once
 abbrev pub handled : Net → List Clone → ℕ → ℕ → ℕ
 handled net cs s front = sharing.handled (simulation net) same_entry cs s front
 
+-- and the number that would be handled there if each clone were run alone
 abbrev pub alone : Net → List Clone → ℕ → ℕ → ℕ
 alone net cs s front = sharing.alone (simulation net) cs s front

@@ -13,6 +13,7 @@ pub record Outgoing : Type 0 where
   pub sender : Sender
   pub sends : List Msg
 
+-- the same, of its parts
 abbrev pub outgoing : Sender → List Msg → Outgoing
 outgoing sender sends = record { sender = sender; sends = sends }
 
@@ -60,6 +61,7 @@ link_by links weights o = slice_get links (pick_of weights o.sender.draws)
 abbrev pub route_by : List Link → List ℕ → ℕ → JobOf → Outgoing → Outgoing
 route_by links weights time job o = send_over (link_by links weights o) time job (after_pick weights o)
 
+-- the weights of the links, in order
 abbrev pub weights_of : List Link → List ℕ
 weights_of links = map (λ (l : Link). l.weight) links
 
@@ -72,8 +74,10 @@ pub record Reaction (S : Type 0) : Type 0 where
   pub state : S
   pub out : Outgoing
 
+-- the same, of its parts
 abbrev pub reaction : {S : Type 0} → S → Outgoing → Reaction S
 reaction state out = record { state = state; out = out }
 
+-- a reaction with f applied to its state
 abbrev pub reaction_as : {S T : Type 0} → (S → T) → Reaction S → Reaction T
 reaction_as f r = record { state = f r.state; out = r.out }

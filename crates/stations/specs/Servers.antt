@@ -78,10 +78,12 @@ server_change net site now Servers a b s o =
     start_times (a - s.busy) net site now (reaction (record s { servers = a }) o)
 server_change net site now _ a b s o = reaction s o
 
+-- a change that the server takes is made, and any other is not
 abbrev pub server_set : Net → Site → ℕ → Change → ServerState → Outgoing → Reaction ServerState
 server_set net site now c s o =
     if is_accepted site c then server_change net site now c.param c.a c.b s o else reaction s o
 
+-- what a server does at a message: a job comes, a service ends, a change is made, and a tick is nothing to it
 abbrev pub server_on : Net → Site → ℕ → Payload → ServerState → Outgoing → Reaction ServerState
 server_on net site now (Job j) s o = server_job now j s o
 server_on net site now (Done j) s o = server_done net site now j s o

@@ -24,6 +24,7 @@ source_ticks site now s o =
 abbrev pub source_set : Site → Change → SourceState → SourceState
 source_set site c s = if is_accepted site c then record s { lo = c.a; hi = c.b } else s
 
+-- what a source does at a message: a tick makes a job, a change is made, and all else is nothing to it
 abbrev pub source_on : Site → ℕ → Payload → SourceState → Outgoing → Reaction SourceState
 source_on site now Tick s o = source_ticks site now s o
 source_on site now (Set c) s o = reaction (source_set site c s) o

@@ -120,5 +120,6 @@ accepted_on net before (asked call ∷ es) h none each all =
     subst (AllAccepted net) (append_assoc before (asked call ∷ []) es)
     (accepted_on net (before ++ asked call ∷ []) es h.1 none each.1 more)
 
+-- a right journal without fronts, where every call was accepted, is one that a world may take
 pub accepted_is_taken : AcceptedIsTaken
 accepted_is_taken net events right none each = accepted_on net [] events right none each (none_asked net [] refl)

@@ -112,9 +112,11 @@ module _ (limit : ℕ) where
       ∙ (beyond_append limit [] f.done (f.entry ∷ f.rest) none
       ∙ (beyond_here limit f.done f.entry f.rest here ∙ ap Some f.is_for))
 
+-- a log is the first that is full exactly where the walk over the trace finds its station
 pub full_is_found : FullIsFound
 full_is_found limit es s = (found_at limit es s, λ some. full_at limit [] es s (λ t. omega arith) some)
 
+-- in a trace one station's log is the first that is full
 pub full_is_one : FullIsOne
 full_is_one limit es s t a b =
     let first = found_at limit es s a in
@@ -122,15 +124,18 @@ full_is_one limit es s t a b =
     let same : Some s ≡ Some t = sym first ∙ second in
     cc
 
+-- and in the end it is longer than the limit
 pub full_is_longer : FullIsLonger
 full_is_longer limit es s f = longer limit [] es s (found_at limit es s f)
 
+-- the walk finds nothing exactly where all logs are within the limit
 pub within_is_not_full : WithinIsNotFull
 within_is_not_full limit es = (
   λ h. none_found limit es (first_beyond limit [] es) refl h,
   λ none. within limit [] es (λ s. omega arith) none,
 )
 
+-- where the limit is met in a clone's run, not all of its logs are within it
 pub not_both_alone : NotWithinAndMetAlone
 not_both_alone net c s h m =
     let long = longer net.limit [] (trace_of net c) s (found_at net.limit (trace_of net c) s m.first) in

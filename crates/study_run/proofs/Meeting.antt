@@ -166,6 +166,7 @@ first_is_one net cs bound s c t d a b = elim (cases_lt s t) [
 
 -- ---- the laws
 
+-- the limit is met at one station and in one clone
 pub meeting_is_one : MeetingIsOne
 meeting_is_one net cs s c t d m k = elim (cases_lt m.bound k.bound) [
   | inl less ↦ let first = m.first in
@@ -179,6 +180,7 @@ meeting_is_one net cs s c t d m k = elim (cases_lt m.bound k.bound) [
   ]
 ]
 
+-- it is not met where all logs are within it
 pub not_both : NotWithinAndMet
 not_both net valid cs s c h m = not_within net valid cs s c h m
 
@@ -188,6 +190,7 @@ either : (net : Net) → IsNet net → (cs : List Clone) (o : Option (ℕ × ℕ
 either net valid cs None e = inl (none_within net cs (within_horizon net cs valid e))
 either net valid cs (Some (s, c)) e = inr (s, (c, (e, found_met net valid cs s c e)))
 
+-- all logs are within the limit, or it is met
 pub within_or_met : WithinOrMet
 within_or_met net valid cs = elim (either net valid cs (first_over_of net cs) refl) [
   | inl within ↦ inl within
@@ -208,6 +211,7 @@ met_found net valid cs s c m = elim (either net valid cs (first_over_of net cs) 
       e ∙ ap Some pairs
 ]
 
+-- it is met exactly where the search through the windows finds it
 pub meeting_is_found : MeetingIsFound
 meeting_is_found net valid cs s c = (met_found net valid cs s c, found_met net valid cs s c)
 
@@ -217,6 +221,7 @@ within_found : (net : Net) → IsNet net → (cs : List Clone) (o : Option (ℕ 
 within_found net valid cs None e h = refl
 within_found net valid cs (Some (s, c)) e h = absurd (not_within net valid cs s c h (found_met net valid cs s c e))
 
+-- the search finds nothing exactly where all logs are within the limit
 pub within_is_not_found : WithinIsNotFound
 within_is_not_found net valid cs = (
   within_found net valid cs (first_over_of net cs) refl,

@@ -160,6 +160,7 @@ pub record HasCome (net : Net) (cs : List Clone) (front : ℕ) : Type 0 where
   pub enough : net.horizon ≤ left + front
   pub same : first_over net cs left front ≡ first_over_of net cs
 
+-- so it is at front 0
 pub comes_first : (net : Net) (cs : List Clone) (front : ℕ) → front ≡ 0 → HasCome net cs front
 comes_first net cs front e = record {
   left = net.horizon;

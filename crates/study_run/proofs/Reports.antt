@@ -92,9 +92,11 @@ module _ (net : Net) (cs : List Clone) where
       let m = suc-mul n (length cs * net.limit) in
       omega (arith, h, one, m)
 
+-- what the report says was handled in all is what was handled once at the stations together
 pub total_is_of_report : TotalIsOfReport
 total_is_of_report net cs = total_to net cs (length net.sites)
 
+-- and where all logs are within the limit, that is no more than the limit allows
 pub total_is_few : TotalIsFew
 total_is_few net cs within = total_few net cs within (length net.sites) (omega arith)
 

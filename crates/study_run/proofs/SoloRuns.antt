@@ -35,6 +35,7 @@ planned_at net [] c h = tt
 planned_at net (k ∷ ks) zero h = for_stations net k.plans h.0.plans
 planned_at net (k ∷ ks) (suc c) h = planned_at net ks c h.1
 
+-- the decisions of each of the planned clones are for stations
 pub plans_at : (net : Net) (cs : List Clone) (c : ℕ) (plans : List Planned) → ArePlanned net cs
     → plans ≡ (clone_at cs c).plans → AreForStations (simulation net) plans
 plans_at net cs c plans h e = subst (AreForStations (simulation net)) (sym e) (planned_at net cs c h.each)

@@ -23,6 +23,7 @@ pub record StopsAlone (net : Net) (clones : List Clone) (c old_steps new_steps s
   pub is_it : who ≡ c
   pub few : IsFew net 1 old_steps new_steps
 
+-- the same for one clone: out of memory needs no cause, and at the limit its run ends so
 abbrev pub IsFaultAlone : Net → List Clone → ℕ → ℕ → ℕ → StudyFault → Type 0
 IsFaultAlone net clones c old_steps new_steps NoMemory = Unit {0}
 IsFaultAlone net clones c old_steps new_steps (LimitMet station who) =

@@ -9,6 +9,7 @@ use Rattle.sim_base.specs.declared.message.Msg.{Msg}
 use Rattle.run_laws.specs.Merges.{pick, merge_at, merge}
 use Rattle.trace_cursor.specs.Words.{by_key, merge_onto}
 
+-- an entry of a log of the network
 abbrev pub E : Type 0
 E = Entry Msg Line
 

@@ -81,6 +81,7 @@ greater_word p q e f a b l k h = elim (less_word p q e f a b l (omega arith) h) 
 
 -- ---- AllFit
 
+-- where the keys of all lists fit words, those of the list at a place do
 pub fit_at : (ls : List (List E)) (i : ℕ) → AllFit ls → FitWords (get_or ls i [])
 fit_at [] i h = tt
 fit_at (l ∷ ls) zero h = h.0
@@ -230,6 +231,7 @@ more_other [] l (suc j) n = refl
 more_other (x ∷ xs) l zero n = refl
 more_other (x ∷ xs) l (suc j) n = more_other xs l j (λ e. n (omega (arith, e)))
 
+-- with a list more at the end there is one list more
 pub more_long : (ls : List (List E)) (l : List E) → length (ls ++ l ∷ []) ≡ length ls + 1
 more_long [] l = refl
 more_long (x ∷ xs) l = let h = more_long xs l in omega (arith, h)

@@ -5,6 +5,7 @@ use Rattle.sim_base.specs.declared.entry.Line.{Line}
 use Rattle.sim_base.specs.declared.message.Msg.{Msg}
 use Rattle.trace_cursor.specs.Words.{word_of, AllFit}
 
+-- what contracts see of a cursor
 pub record CursorView : Type 0 where
   -- the entries that are left, in the order of their keys
   pub left : List (Entry Msg Line)

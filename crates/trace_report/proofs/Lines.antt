@@ -4,6 +4,7 @@ use Rattle.std.proofs.Common.{drop, ap, ◌∙◌, sym, arith, length-append, ta
 use Rattle.std.specs.List.{flat_map}
 use Rattle.std.proofs.lemmas.Grind.{flat_map-append}
 
+-- the lines of the first elements are no longer together than those of all
 pub lines_within : {X A : Type 0} (line : X → List A) (xs : List X) (i : ℕ)
     → length (flat_map line (take i xs)) ≤ length (flat_map line xs)
 lines_within line xs i =

@@ -10,12 +10,15 @@ use Rattle.sim_base.specs.declared.message.Payload.TheVariants.{Tick, Job, Done}
 use Rattle.net_model.specs.declared.station.Kind.TheVariants.{Source as SourceKind, Sink as SinkKind}
 use Rattle.net_model.specs.Net.{Net}
 
+-- the number of the station that jobs come from
 abbrev pub gate : ℕ
 gate = 1
 
+-- the number of the station that serves them
 abbrev pub desk : ℕ
 desk = 2
 
+-- the number of the station where they leave
 abbrev pub out : ℕ
 out = 3
 
@@ -35,6 +38,7 @@ at time receiver sender number payload line =
 abbrev pub job : ℕ → ℕ → ℕ → Payload
 job source count born = Job (record { source = source; count = count; born = born })
 
+-- the end of the service of a job, by its source, its count and its time of birth
 abbrev pub done : ℕ → ℕ → ℕ → Payload
 done source count born = Done (record { source = source; count = count; born = born })
 
@@ -50,6 +54,7 @@ entries =
     ∷ at 13 desk desk 2 (done gate 1 6) (Server 0 0 2 0)
     ∷ at 15 out desk 3 (job gate 1 6) (Sink 2 17) ∷ []
 
+-- the text of their trace, as that of the base clone
 abbrev pub entries_text : List ℕ
 entries_text =
     codes "clone base\n"
@@ -62,6 +67,7 @@ entries_text =
     ++ codes "13 desk desk 2 done gate.1 busy=0 wait=0 done=2 lost=0\n"
     ++ codes "15 out desk 3 job gate.1 got=2 stay=17\n"
 
+-- the figures of a station in one clone, where it handled so many messages
 abbrev pub of_one : ℕ → Figures
 of_one n = record { copies = 1; handled = n; alone = n }
 
@@ -69,6 +75,7 @@ of_one n = record { copies = 1; handled = n; alone = n }
 abbrev pub figures_alone : List Figures
 figures_alone = of_one 2 ∷ of_one 4 ∷ of_one 2 ∷ []
 
+-- and the report with these figures
 abbrev pub alone_text : List ℕ
 alone_text =
     codes "report\n"
@@ -84,6 +91,7 @@ figures_of_two =
     ∷ record { copies = 2; handled = 8; alone = 9 }
     ∷ record { copies = 2; handled = 3; alone = 4 } ∷ []
 
+-- and the report with these figures
 abbrev pub text_of_two : List ℕ
 text_of_two =
     codes "report\n"

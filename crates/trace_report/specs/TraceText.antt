@@ -19,6 +19,7 @@ use Rattle.net_model.specs.Net.{Net, Site, site_at, site_of, class_of_kind}
 abbrev pub line_of : List (List ℕ) → List ℕ
 line_of words = join_with_byte 32 words ++ codes "\n"
 
+-- the name of a station, or that of the analyst where there is no station
 abbrev pub name_or_analyst : Option Site → List ℕ
 name_or_analyst None = codes "analyst"
 name_or_analyst (Some site) = site.name
@@ -35,6 +36,7 @@ class_text net source = if net.format == 2 then codes ":" ++ decimal (class_of_k
 abbrev pub job_text : Net → JobOf → List ℕ
 job_text net job = station_name net job.source ++ codes "." ++ decimal job.count ++ class_text net job.source
 
+-- the one value of a change, or both of its values
 abbrev pub values_text : Change → List ℕ
 values_text change = if param_values change.param == 2 then decimal change.a ++ codes " "
     ++ decimal change.b else decimal change.a

@@ -52,6 +52,7 @@ pub record IsOpen (net : Net) (cs : List Clone) (front : ℕ) (d : Decision) : T
   pub open_end : (clone_at cs clone).end ≡ None
   pub rest : first_row (rows (situation net cs front) clone d) ≡ Accepted
 
+-- and so it is for each decision that is accepted
 pub is_open : (net : Net) (cs : List Clone) (front : ℕ) (d : Decision) → IsAccepted net cs front d
     → IsOpen net cs front d
 is_open net cs front d h =
@@ -80,6 +81,7 @@ pub record MayFork (cs : List Clone) (new : List ℕ) : Type 0 where
   pub unused : place_of new cs ≡ None
   pub few : length cs < MOST_CLONES
 
+-- and so it is for each fork that no row refuses
 pub may_fork : (net : Net) (cs : List Clone) (front c : ℕ) (new old : List ℕ)
     → first_row (rows (situation net cs front) c (Fork new old)) ≡ Accepted → MayFork cs new
 may_fork net cs front c new old h =
@@ -105,6 +107,7 @@ pub record MaySet (net : Net) (cs : List Clone) (front c at : ℕ) (station : Li
   pub early : at < net.horizon
   pub short : length (clone_at cs c).plans < MOST_DECISIONS
 
+-- and so it is for each set that no row refuses
 pub may_set : (net : Net) (cs : List Clone) (front c at : ℕ) (who station : List ℕ) (change : Change)
     → first_row (rows (situation net cs front) c (Set who at station change)) ≡ Accepted
     → MaySet net cs front c at station

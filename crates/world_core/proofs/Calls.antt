@@ -14,6 +14,7 @@ pub next_accepted : (net : Net) (cs : List Clone) (front i : ℕ) (calls : List 
     (drop (i + 1) calls)
 next_accepted net cs front i calls call got h = subst (AreAccepted net cs front) (drop-at calls i call got) h
 
+-- the clones after the next call and then those behind it are the clones after all that are left
 pub next_clones : (net : Net) (cs : List Clone) (i : ℕ) (calls : List Call) (call : Call)
     → slice_get calls i ≡ Some call →
     clones_after_calls net (clones_after net cs call.decision) (drop (i + 1) calls) ≡ clones_after_calls net cs

@@ -11,12 +11,13 @@ use Rattle.phys_proc.specs.Procs.{ProcView, IsProc}
 use Rattle.world_core.specs.Windows.{AllDelivered, AreNumbered, IsDeliveredTo, sent_to, given_all}
 use Rattle.world_core.proofs.Places.{at_got, there_at, one_got}
 
--- the list with another element at a place
+-- a list with another element at a place has it there
 pub set_same : {X : Type 0} (xs : List X) (i : ℕ) (x : X) → i < length xs → slice_get (slice_set xs i x) i ≡ Some x
 set_same [] i x l = absurd (omega (arith, l))
 set_same (y ∷ ys) zero x l = refl
 set_same (y ∷ ys) (suc i) x l = set_same ys i x (omega (arith, l))
 
+-- and elsewhere what stood there
 pub set_other : {X : Type 0} (xs : List X) (i j : ℕ) (x : X) → (i ≡ j → ⊥)
     → slice_get (slice_set xs j x) i ≡ slice_get xs i
 set_other [] i j x n = refl
@@ -25,6 +26,7 @@ set_other (y ∷ ys) zero (suc j) x n = refl
 set_other (y ∷ ys) (suc i) zero x n = refl
 set_other (y ∷ ys) (suc i) (suc j) x n = set_other ys i j x (λ e. n (ap suc e))
 
+-- two elements are equal where the options that hold them are
 pub of_some : {X : Type 0} (x y : X) → Some x ≡ Some y → x ≡ y
 of_some x y e = cc
 
@@ -90,6 +92,7 @@ still_numbered ms olds news h d = λ i q got.
     let p = there_at olds i q (let k = d.count in omega (arith, l, k)) in
     (d.each i (get_or olds i q) q p got).station ∙ h i (get_or olds i q) p
 
+-- where there are no messages, every station stays as it was
 pub none_delivered : (procs : List ProcView) → AllDelivered [] procs procs
 none_delivered procs = record {
   count = refl;

@@ -34,14 +34,16 @@ use Rattle.phys_proc.proofs.Onward.{sets_join}
 use Rattle.world_core.specs.Worlds.{StandsAt, WorldStands, copies_at}
 use Rattle.world_core.proofs.Places.{at_got}
 
+-- the time of a message
 abbrev pub time_of : Msg → ℕ
 time_of m = m.key.time
 
--- two texts of one thing
+-- a least time as copies have it is one as the laws have it
 pub by_law : (P : Msg → Type 0) (t : Option ℕ) → IsLeastTime P t → IsLeastBy time_of P t
 by_law P None h = h
 by_law P (Some t) h = h
 
+-- and one as the laws have it is one as copies have it
 pub by_words : (P : Msg → Type 0) (t : Option ℕ) → IsLeastBy time_of P t → IsLeastTime P t
 by_words P None h = h
 by_words P (Some t) h = h

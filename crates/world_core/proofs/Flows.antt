@@ -8,6 +8,7 @@ use Rattle.phys_proc.specs.Procs.{ProcView, IsProc}
 use Rattle.phys_proc.specs.declared.proc.Flow.{Flow}
 use Rattle.world_core.specs.Windows.{IsFlow}
 
+-- what a step gives for a station is what the task of its place answers
 pub is_flow : (net : Net) (ends : ℕ → ℕ) (bound i : ℕ) (old : ProcView) (flow : Flow) → old.station ≡ i + 1 →
     (flow.over ≡ empty → IsStepped (simulation net) has ends old.station bound old.copies flow.done.copies
     flow.sent.items) →

@@ -14,9 +14,11 @@ pub record ForkedTo (old new n : ℕ) (olds news : List ProcView) : Type 0 where
       → HasForked old new p q
   pub others : (i : ℕ) → n ≤ i → slice_get news i ≡ slice_get olds i
 
+-- before the first of them all stations are as they were
 pub forked_none : (old new : ℕ) (procs : List ProcView) → ForkedTo old new 0 procs procs
 forked_none old new procs = record { count = refl; each = λ i p q l. absurd (omega (arith, l)); others = λ i l. refl }
 
+-- with the next station forked, one station more is
 pub forked_next : (old new n : ℕ) (olds news : List ProcView) (was now : ProcView) → ForkedTo old new n olds news
     → n < length olds → was ≡ get_or news n was → HasForked old new was now →
     ForkedTo old new (n + 1) olds (slice_set news n now)
@@ -38,6 +40,7 @@ forked_next old new n olds news was now h l is fork = record {
     below : (i : ℕ) → i < n + 1 → (i ≡ n → ⊥) → i < n
     below i less ne = grind (arith, less)
 
+-- where as many are forked as there are, all are
 pub forked_all : (old new n : ℕ) (olds news : List ProcView) → length olds ≤ n → ForkedTo old new n olds news
     → AllForked old new olds news
 forked_all old new n olds news l h = record {

@@ -49,6 +49,7 @@ got_last [] x (suc i) e = absurd (omega (arith, e))
 got_last (y ∷ ys) x zero e = absurd (omega (arith, e))
 got_last (y ∷ ys) x (suc i) e = got_last ys x i (omega (arith, e))
 
+-- the first over the limit stays the first with an answer more
 pub first_kept : (flows : List Flow) (f : Flow) (i who : ℕ) → IsFirstOver flows i who
     → IsFirstOver (flows ++ f ∷ []) i who
 first_kept flows f i who h = record {
@@ -61,6 +62,7 @@ first_kept flows f i who h = record {
   ];
 }
 
+-- where none was over the limit, an answer that is over it is the first
 pub first_new : (flows : List Flow) (f : Flow) (i who : ℕ) → length flows ≡ i → NoneOver flows → IsFirst f.over who
     → IsFirstOver (flows ++ f ∷ []) i who
 first_new flows f i who many none first = record {
@@ -73,6 +75,7 @@ first_new flows f i who many none first = record {
   ];
 }
 
+-- where none was over the limit, and an answer more is not, none is
 pub none_new : (flows : List Flow) (f : Flow) → NoneOver flows → f.over ≡ empty → NoneOver (flows ++ f ∷ [])
 none_new flows f none over = λ i g got. elim (push_got flows f g i got) [
   | inl e ↦ none i g e

@@ -46,6 +46,7 @@ no_plans : (net : Net) (c : ℕ) → AreForStations (simulation net) (clone_at (
 no_plans net zero = tt
 no_plans net (suc c) = tt
 
+-- stations as they open for the first clone stand for the base clone at front 0
 pub world_begins : (net : Net) (procs : List ProcView) → IsNet net → length procs ≡ length net.sites
     → AreFirst net procs → WorldStands net (base ∷ []) [] 0 procs
 world_begins net procs valid count first = record {

@@ -3,17 +3,20 @@ use Rattle.std.proofs.Common.{◌≡◌, ℕ, zero, suc, ◌+◌, ◌<◌, List,
 use Rattle.std.proofs.Common.{inr, Some, refl, ap, ◌∙◌, sym, arith, length, map, get_or, slice_get, take}
 use Rattle.run_laws.specs.Queue.{In}
 
+-- an element that is read at a place within a list stands there
 pub got_at : {X : Type 0} (xs : List X) (i : ℕ) (x : X) → i < length xs → x ≡ get_or xs i x → slice_get xs i ≡ Some x
 got_at [] i x l e = absurd (omega arith)
 got_at (y ∷ ys) zero x l e = ap Some (sym e)
 got_at (y ∷ ys) (suc i) x l e = got_at ys i x (omega arith) e
 
+-- a place at which an element stands is within the list, and the element is read there
 pub at_got : {X : Type 0} (xs : List X) (i : ℕ) (x d : X) → slice_get xs i ≡ Some x
     → (i < length xs) × (get_or xs i d ≡ x)
 at_got [] i x d e = absurd (cc)
 at_got (y ∷ ys) zero x d e = let h : y ≡ x = cc in (omega arith, h)
 at_got (y ∷ ys) (suc i) x d e = let h = at_got ys i x d e in let l = h.0 in (omega arith, h.1)
 
+-- at one place stands one element
 pub one_got : {X : Type 0} (xs : List X) (i j : ℕ) (x y : X) → i ≡ j → slice_get xs i ≡ Some x
     → slice_get xs j ≡ Some y → x ≡ y
 one_got {X} xs i j x y e f g = of_some (sym f ∙ ap (slice_get xs) e ∙ g)
@@ -21,6 +24,7 @@ one_got {X} xs i j x y e f g = of_some (sym f ∙ ap (slice_get xs) e ∙ g)
     of_some : Some x ≡ Some y → x ≡ y
     of_some h = cc
 
+-- at a place within a list stands what is read there
 pub there_at : {X : Type 0} (xs : List X) (i : ℕ) (d : X) → i < length xs → slice_get xs i ≡ Some (get_or xs i d)
 there_at [] i d l = absurd (omega (arith, l))
 there_at (y ∷ ys) zero d l = refl
@@ -36,6 +40,7 @@ got_map {X} {Y} f (x ∷ xs) zero y e = (x, refl, of_some e)
     of_some h = cc
 got_map f (x ∷ xs) (suc i) y e = got_map f xs i y e
 
+-- and the image of an element stands at the same place
 pub map_got : {X Y : Type 0} (f : X → Y) (xs : List X) (i : ℕ) (x : X) → slice_get xs i ≡ Some x
     → slice_get (map f xs) i ≡ Some (f x)
 map_got f [] i x e = absurd (cc)
@@ -69,6 +74,7 @@ take_next {X} xs i x l e = ap (λ n. take n xs) (plus_one i) ∙ by_suc xs i l e
     by_suc (y ∷ ys) zero l e = ap (λ z. z ∷ []) (sym e)
     by_suc (y ∷ ys) (suc i) l e = ap (λ zs. y ∷ zs) (by_suc ys i (omega (arith, l)) e)
 
+-- an element that is read at a place within a list is in it
 pub in_place : {X : Type 0} (xs : List X) (i : ℕ) (x : X) → i < length xs → x ≡ get_or xs i x → In x xs
 in_place [] i x l e = absurd (omega (arith, l))
 in_place (y ∷ ys) zero x l e = inl e

@@ -36,15 +36,17 @@ use Rattle.world_core.specs.Windows.{AllDelivered, AreNumbered, given_all}
 use Rattle.world_core.specs.Forking.{AllForked, LivesAtAll, LivesNowhere}
 use Rattle.world_core.proofs.Places.{at_got, there_at}
 
+-- the stations of a world stand in the order of their numbers
 pub are_numbered : (net : Net) (cs : List Clone) (ended : List (ℕ × ℕ)) (front : ℕ) (procs : List ProcView)
     → WorldStands net cs ended front procs → AreNumbered procs
 are_numbered net cs ended front procs world = λ i p got. (world.each i p got).number
 
--- a clone lives at every station, and a number that no clone has nowhere
+-- a clone lives at every station
 pub lives : (net : Net) (cs : List Clone) (ended : List (ℕ × ℕ)) (front : ℕ) (procs : List ProcView)
     → WorldStands net cs ended front procs → (c : ℕ) → c < length cs → LivesAtAll c procs
 lives net cs ended front procs world c l = λ i p got. (world.each i p got).living c ∙ lt-ltb c (length cs) l
 
+-- and the number that the next clone would get lives at none
 pub lives_not : (net : Net) (cs : List Clone) (ended : List (ℕ × ℕ)) (front : ℕ) (procs : List ProcView)
     → WorldStands net cs ended front procs → LivesNowhere (length cs) procs
 lives_not net cs ended front procs world = λ i p got. (world.each i p got).living (length cs) ∙ not_below

@@ -65,10 +65,11 @@ abbrev pub given_all : Marked → List StationCopy → List StationCopy
 given_all [] xs = xs
 given_all (x ∷ ms) xs = given_all ms (map (given x.0 x.1) xs)
 
--- what came of the copies at place i, and what they sent
+-- what came of the copies at place i
 abbrev pub done_at : List Flow → ℕ → List StationCopy
 done_at flows i = unwrap_or (option_map (λ f. f.done.copies) (slice_get flows i)) []
 
+-- and what they sent
 abbrev pub sent_at : List Flow → ℕ → Marked
 sent_at flows i = unwrap_or (option_map (λ f. f.sent.items) (slice_get flows i)) []
 

@@ -12,6 +12,7 @@ use Rattle.stations.specs.Changes.{accepts}
 use Rattle.stations.specs.Handling.{handle, line_of}
 use Rattle.stations.specs.Opening.{setup}
 
+-- a change of a parameter to these values
 abbrev pub to : Param → ℕ → ℕ → Change
 to param a b = record { param = param; a = a; b = b }
 
@@ -19,17 +20,21 @@ to param a b = record { param = param; a = a; b = b }
 abbrev pub answers : Net → ℕ → List Change → List (Result (Unit {0}) ChangeFault)
 answers net s changes = map (accepts (site_of net s)) changes
 
+-- changes at a server: its own parameters, in range and out of range, and one of another kind
 abbrev pub server_changes : List Change
 server_changes = to Service 1 1000000 ∷ to Service 0 4 ∷ to Service 5 4 ∷ to Servers 16 0 ∷ to Servers 17 0 ∷ to Room
     0 0 ∷ to Room 4097 0 ∷ to Every 1 1 ∷ []
 
+-- and its answer to each
 abbrev pub server_answers : List (Result (Unit {0}) ChangeFault)
 server_answers = Ok tt ∷ Err OutOfRange ∷ Err OutOfRange ∷ Ok tt ∷ Err OutOfRange ∷ Ok tt ∷ Err OutOfRange ∷ Err
     WrongParameter ∷ []
 
+-- changes at a delay: its time, in range and out of range, and a parameter of another kind
 abbrev pub delay_changes : List Change
 delay_changes = to Hold 0 0 ∷ to Hold 0 1000001 ∷ to Weight 1 1 ∷ []
 
+-- and its answer to each
 abbrev pub delay_answers : List (Result (Unit {0}) ChangeFault)
 delay_answers = Ok tt ∷ Err OutOfRange ∷ Err WrongParameter ∷ []
 
@@ -37,12 +42,15 @@ delay_answers = Ok tt ∷ Err OutOfRange ∷ Err WrongParameter ∷ []
 abbrev pub weight_changes : List Change
 weight_changes = to Weight 2 1000 ∷ to Weight 3 1 ∷ to Weight 0 1 ∷ to Weight 1 1001 ∷ []
 
+-- the answers where the router goes by weights
 abbrev pub weight_answers : List (Result (Unit {0}) ChangeFault)
 weight_answers = Ok tt ∷ Err OutOfRange ∷ Err OutOfRange ∷ Err OutOfRange ∷ []
 
+-- and where it goes by turn, and so has no weights to change
 abbrev pub turn_answers : List (Result (Unit {0}) ChangeFault)
 turn_answers = Err WrongParameter ∷ Err WrongParameter ∷ Err WrongParameter ∷ Err WrongParameter ∷ []
 
+-- a message to station s at time 5, from the analyst
 abbrev pub message : ℕ → Payload → Msg
 message s payload = record { key = record { time = 5; sender = 0; number = 0 }; to = s; payload = payload }
 

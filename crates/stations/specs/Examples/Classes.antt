@@ -7,18 +7,23 @@ use Rattle.net_model.specs.declared.station.Kind.TheVariants.{Source, Server, Si
 use Rattle.net_model.specs.Net.{Net}
 use Rattle.stations.specs.Examples.{at, tick, job, done, source, server, sink, link}
 
+-- the number of the source of class 2
 abbrev pub low : ℕ
 low = 1
 
+-- and of the source of class 1, whose jobs go first where the desk serves by class
 abbrev pub high : ℕ
 high = 2
 
+-- the number of the server
 abbrev pub desk : ℕ
 desk = 3
 
+-- and of the sink
 abbrev pub out : ℕ
 out = 4
 
+-- two jobs of class 2, one every 3, and one of class 1 at 7; one server, which serves for 4, by class or not
 abbrev pub two_classes : Bool → Net
 two_classes by_class = record {
   format = 2;
@@ -45,6 +50,7 @@ until_nine =
     ∷ at 9 desk desk 0 (done low 0 3) (server 1 1 1 0)
     ∷ at 11 out desk 1 (job low 0 3) (sink 1 8) ∷ []
 
+-- by class, the job of class 1 is served before the one that came before it
 abbrev pub by_class_trace : List (Entry Msg Line)
 by_class_trace =
     until_nine
@@ -53,6 +59,7 @@ by_class_trace =
     ∷ at 17 desk desk 4 (done low 1 6) (server 0 0 3 0)
     ∷ at 19 out desk 5 (job low 1 6) (sink 3 29) ∷ []
 
+-- not by class, the job that came first is served first
 abbrev pub by_arrival_trace : List (Entry Msg Line)
 by_arrival_trace =
     until_nine

@@ -7,12 +7,15 @@ use Rattle.net_model.specs.declared.station.Kind.TheVariants.{Source, Sink}
 use Rattle.net_model.specs.Net.{Net}
 use Rattle.stations.specs.Examples.{at, tick, job, source, sink, link}
 
+-- the number of the source
 abbrev pub gate : ℕ
 gate = 1
 
+-- and of the sink
 abbrev pub out : ℕ
 out = 2
 
+-- three jobs, whose times are drawn from stream 54 of the seed 42
 abbrev pub drawn_gate : Net
 drawn_gate = record {
   format = 1;
@@ -25,6 +28,7 @@ drawn_gate = record {
       ∷ record { name = codes "out"; kind = Sink; stream = 2; links = [] } ∷ [];
 }
 
+-- so the jobs are made at 4, 12 and 17
 abbrev pub drawn_gate_trace : List (Entry Msg Line)
 drawn_gate_trace =
     at 4 gate gate 0 tick (source 1)

@@ -9,21 +9,27 @@ use Rattle.net_model.specs.declared.station.Kind.TheVariants.{Source, Server, Si
 use Rattle.net_model.specs.Net.{Net}
 use Rattle.stations.specs.Examples.{at, analyst, tick, job, done, set, source, server, sink, link, set_at, clone}
 
+-- the number of the first source
 abbrev pub s1 : ℕ
 s1 = 1
 
+-- of the second
 abbrev pub s2 : ℕ
 s2 = 2
 
+-- and of the third
 abbrev pub s3 : ℕ
 s3 = 3
 
+-- the number of the server
 abbrev pub desk : ℕ
 desk = 4
 
+-- and of the sink
 abbrev pub out : ℕ
 out = 5
 
+-- one job of each source, at 3; one server, which serves for 4, with so much room
 abbrev pub three_sources : ℕ → Net
 three_sources room = record {
   format = 1;
@@ -55,6 +61,7 @@ no_room_trace =
 abbrev pub more_servers : Clone
 more_servers = clone (codes "base") (set_at 6 desk Servers 3 0 ∷ [])
 
+-- the two who wait at 5 are in service from 6 on, and done at 10
 abbrev pub more_servers_trace : List (Entry Msg Line)
 more_servers_trace =
     at 3 s1 s1 0 tick (source 1)

@@ -11,12 +11,15 @@ use Rattle.stations.specs.declared.kind_state.KindState.TheVariants.{Server as K
 use Rattle.stations.specs.Handling.{StateView}
 use Rattle.stations.specs.Examples.{at, analyst, tick, job, done, set, source, server, sink, link, set_at, clone}
 
+-- the number of the source
 abbrev pub gate : ℕ
 gate = 1
 
+-- of the server
 abbrev pub desk : ℕ
 desk = 2
 
+-- and of the sink
 abbrev pub out : ℕ
 out = 3
 
@@ -50,6 +53,7 @@ one_desk_trace =
 abbrev pub fast : Clone
 fast = clone (codes "fast") (set_at 8 desk Service 2 2 ∷ [])
 
+-- so the second job, which is taken into service at 9, is done at 11
 abbrev pub fast_trace : List (Entry Msg Line)
 fast_trace =
     at 3 gate gate 0 tick (source 1)
@@ -66,6 +70,7 @@ fast_trace =
 abbrev pub set_at_start : Clone
 set_at_start = clone (codes "base") (set_at 0 desk Service 4 4 ∷ [])
 
+-- and so its entry is the first
 abbrev pub first_set : Entry Msg Line
 first_set = at 0 desk analyst 0 (set Service 4 4) (server 0 0 0 0)
 
@@ -73,6 +78,7 @@ first_set = at 0 desk analyst 0 (set Service 4 4) (server 0 0 0 0)
 abbrev pub brief : Clone
 brief = record { name = codes "brief"; plans = []; end = Some 9 }
 
+-- so its trace is that of the base before 9
 abbrev pub brief_trace : List (Entry Msg Line)
 brief_trace =
     at 3 gate gate 0 tick (source 1)
@@ -98,6 +104,7 @@ quick_desk = record {
       ∷ record { name = codes "out"; kind = Sink; stream = 3; links = [] } ∷ [];
 }
 
+-- jobs made at 1, 2 and 3 are done at 7, 8 and 9
 abbrev pub quick_desk_trace : List (Entry Msg Line)
 quick_desk_trace =
     at 1 gate gate 0 tick (source 1)

@@ -7,15 +7,19 @@ use Rattle.net_model.specs.declared.station.Kind.TheVariants.{Source, Delay, Rou
 use Rattle.net_model.specs.Net.{Net}
 use Rattle.stations.specs.Examples.{at, tick, job, source, passed, sink, link}
 
+-- the number of the source
 abbrev pub gate : ℕ
 gate = 1
 
+-- of the router
 abbrev pub fan : ℕ
 fan = 2
 
+-- of the delay
 abbrev pub slow : ℕ
 slow = 3
 
+-- and of the sink
 abbrev pub out : ℕ
 out = 4
 

@@ -9,18 +9,23 @@ use Rattle.net_model.specs.declared.station.Link.{Link}
 use Rattle.net_model.specs.Net.{Net}
 use Rattle.stations.specs.Examples.{at, tick, job, done, source, server, passed, sink}
 
+-- the number of the source
 abbrev pub gate : ℕ
 gate = 1
 
+-- of the server
 abbrev pub desk : ℕ
 desk = 2
 
+-- of the delay
 abbrev pub hold : ℕ
 hold = 3
 
+-- and of the sink
 abbrev pub out : ℕ
 out = 4
 
+-- a link to a station, with this delay and weight
 abbrev pub weighted : ℕ → ℕ → ℕ → Link
 weighted to delay weight = record { to = to; delay = delay; weight = weight }
 
@@ -54,6 +59,7 @@ several_links = record {
       ∷ record { name = codes "out"; kind = Sink; stream = 4; links = [] } ∷ [];
 }
 
+-- four jobs are made before the horizon, all go to the delay first, and two reach the sink
 abbrev pub several_links_trace : List (Entry Msg Line)
 several_links_trace =
     at 4 gate gate 0 tick (source 1)
