@@ -57,6 +57,7 @@ open_clone j d few running (Some clone) e h =
     let going = open_end (clone_at j.clones clone).end (rows j clone d) h in
     record { few = few; running = running; clone = clone; place = e; going = going.0; rest = going.1 }
 
+-- an accepted decision found room, a front that is not the horizon, and its clone without an end
 pub opened : (j : Situation) (d : Decision) → reply j d ≡ Accepted → IsOpen j d
 opened j d h =
     let one = passed (nat_le MOST_CALLS j.calls) Full
@@ -65,6 +66,7 @@ opened j d h =
     one.1 in
     open_clone j d one.0 two.0 (place_of (subject d) j.clones) refl two.1
 
+-- and one that finds all this is accepted
 pub reopened : (j : Situation) (d : Decision) → IsOpen j d → reply j d ≡ Accepted
 reopened j d o = rw (o.few, o.running, o.place, o.going) o.rest
 
@@ -128,6 +130,7 @@ rows_again net n m full own (Fork new old) i k s e h =
 rows_again net n m full own (Set who at station change) i k s e h = rw e h
 rows_again net n m full own (End who at) i k s e h = h
 
+-- what is accepted at front 0 is too after no more calls, among no more clones, none new, its subject the same
 pub again : (net : Net) (n m : ℕ) (full own : List Clone) (d : Decision) → m ≤ n → Same (subject d) full own
     → reply (at_opening net n full) d ≡ Accepted → reply (at_opening net m own) d ≡ Accepted
 again net n m full own d less s h =
@@ -279,6 +282,7 @@ alone_by net n m k who full own end d rest less h go true e s =
 alone_by net n m k who full own end d rest less h go false e s =
     go m k own (omega arith) (dropped_same net n rest.0 full own d e s h)
 
+-- where no decision is refused, those of one clone suffice, from a state the same for the clone it goes back to
 pub alone_from : (net : Net) (n i m k : ℕ) (who : List ℕ) (full own : List Clone) (ds : List Decision) → m ≤ n
     → Same (history who ds).0 full own → first_refusal_from (at_opening net n full) i ds ≡ None
     → IsAloneFrom net m k own (history who ds).1 who (after_all (at_opening net n full) ds).clones
@@ -295,6 +299,7 @@ alone_from net n i m k who full own (d ∷ ds) less s h =
     (λ l j mine most alike. alone_from net (n + 1) (i + 1) l j who (clones_after net full d) mine ds most alike rest)
     (bytes_eq (object d) (history who ds).0) refl s)
 
+-- where no decision is refused, those that reach a clone are all accepted and give it the same list and end
 pub alone_suffices : (net : Net) → AloneSuffices net
 alone_suffices net who ds h =
     let a = alone_from net 0 0 0 0 who (base ∷ []) (base ∷ []) ds (omega arith)

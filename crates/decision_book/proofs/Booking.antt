@@ -113,6 +113,7 @@ advanced net lists calls fronts last front h above within =
       reserved_calls = h.reserved_calls;
     }
 
+-- and its journal is the one with the front added
 pub journal_advanced : (net : Net) (lists : ListsView) (calls : ReservedView Call) (fronts : ReservedView ℕ)
     (last front : ℕ) → IsBook net lists calls fronts last
     → journal_of calls.items (fronts.items ++ front ∷ []) ≡ journal_of calls.items fronts.items ++ raised front ∷ []

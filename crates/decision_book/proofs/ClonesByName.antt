@@ -10,9 +10,11 @@ use Rattle.std.specs.Option.{option_or}
 use Rattle.sim_base.specs.Clones.{Clone, clone_at, place_of}
 use Rattle.decision_book.specs.Laws.{clone_named}
 
+-- names that compare as equal are the same
 pub same_name : (a b : List ℕ) → bytes_eq a b ≡ true → a ≡ b
 same_name a b h = (bytes_eq-Decides a b).0 h
 
+-- a name compares as equal to itself
 pub name_itself : (a : List ℕ) → bytes_eq a a ≡ true
 name_itself a = (bytes_eq-Decides a a).1 refl
 
@@ -27,6 +29,7 @@ next_place k n =
     by true = refl
     by false = refl
 
+-- a name has place 0 where the first clone has it, and else one more than its place among the others
 pub place_of-cons : (m : List ℕ) (c : Clone) (cs : List Clone)
     → place_of m (c ∷ cs) ≡ cond (bytes_eq c.name m) (Some 0) (option_map (λ i. suc i) (place_of m cs))
 place_of-cons m c cs = by (bytes_eq c.name m)
@@ -37,7 +40,7 @@ place_of-cons m c cs = by (bytes_eq c.name m)
     by true = let lt : nat_lt 0 (suc (length cs)) ≡ true = grind (arith, nat_tests) in rw lt refl
     by false = next_place (prefix_len (λ x. not (bytes_eq x.name m)) cs) (length cs)
 
--- a name has a place where it has a clone
+-- the place of a name, and the clone at it is this one
 pub record IsPlaced (m : List ℕ) (clones : List Clone) (k : Clone) : Type 0 where
   pub at : ℕ
   pub place : place_of m clones ≡ Some at
@@ -50,6 +53,7 @@ placed_by m c cs k again false e g =
     let rest = again g in
     record { at = suc rest.at; place = place_of-cons m c cs ∙ rw (e, rest.place) refl; clone = rest.clone }
 
+-- a name has a place where it has a clone
 pub placed : (m : List ℕ) (clones : List Clone) (k : Clone) → clone_named m clones ≡ Some k → IsPlaced m clones k
 placed m [] k h = absurd cc
 placed m (c ∷ cs) k h = placed_by m c cs k (placed m cs k) (bytes_eq c.name m) refl h
@@ -60,11 +64,12 @@ none_by : (m : List ℕ) (c : Clone) (cs : List Clone) → (clone_named m cs ≡
 none_by m c cs again true e g = absurd cc
 none_by m c cs again false e g = place_of-cons m c cs ∙ rw (e, again g) refl
 
+-- so a name without a clone has no place
 pub place_of-none : (m : List ℕ) (clones : List Clone) → clone_named m clones ≡ None → place_of m clones ≡ None
 place_of-none m [] h = refl
 place_of-none m (c ∷ cs) h = none_by m c cs (place_of-none m cs) (bytes_eq c.name m) refl h
 
--- the other way
+-- a name that has a place has the clone at it
 pub clone_named-place : (m : List ℕ) (clones : List Clone) (i : ℕ) → place_of m clones ≡ Some i
     → clone_named m clones ≡ Some (clone_at clones i)
 clone_named-place m clones i h = by (clone_named m clones) refl
@@ -76,6 +81,7 @@ clone_named-place m clones i h = by (clone_named m clones) refl
         let same : at.at ≡ i = cc in
         e ∙ ap (λ c. Some c) (sym at.clone ∙ ap (clone_at clones) same)
 
+-- and a name without a place has no clone
 pub clone_named-none : (m : List ℕ) (clones : List Clone) → place_of m clones ≡ None → clone_named m clones ≡ None
 clone_named-none m clones h = by (clone_named m clones) refl
   where
@@ -129,6 +135,7 @@ set_by m who c cs k e again false f (suc j) g =
     ap (λ o. cond (bytes_eq c.name m) (Some c) o) (again j (suc_place _ j g))
     ∙ swapped (bytes_eq c.name m) (bytes_eq who m) (Some c) (Some k) (clone_named m cs) apart
 
+-- where a clone is replaced by one of its name, this name finds the new one, and others what they did
 pub clone_named-set : (m who : List ℕ) (clones : List Clone) (i : ℕ) (k : Clone) → place_of who clones ≡ Some i
     → k.name ≡ who → clone_named m (slice_set clones i k) ≡ cond (bytes_eq who m) (Some k) (clone_named m clones)
 clone_named-set m who [] i k h e = absurd cc
@@ -144,5 +151,6 @@ found_name m (c ∷ cs) k h = by (bytes_eq c.name m) refl h (found_name m cs k)
     by true e g again = let same : c ≡ k = cc in ap (λ x. x.name) (sym same) ∙ same_name c.name m e
     by false e g again = again g
 
+-- the clone at the place of a name has that name
 pub name_at : (m : List ℕ) (clones : List Clone) (i : ℕ) → place_of m clones ≡ Some i → (clone_at clones i).name ≡ m
 name_at m clones i h = found_name m clones (clone_at clones i) (clone_named-place m clones i h)

@@ -18,11 +18,13 @@ each_push P before (x ∷ es) e h p = (
       (subst (λ (xs : List Event). P xs e) (sym (append_assoc before (x ∷ []) es)) p),
 )
 
+-- calls stay in the order of their fronts with one call more that stands behind all fronts
 pub stamped_push : (n all : ℕ) (cs : List Call) (c : Call) → c.fronts ≡ all → AreStamped n all cs
     → AreStamped n all (cs ++ c ∷ [])
 stamped_push n all [] c e h = (omega arith, omega arith)
 stamped_push n all (d ∷ cs) c e h = (h.0, stamped_push d.fronts all cs c e h.1)
 
+-- and with one front more
 pub stamped_more : (n all : ℕ) (cs : List Call) → AreStamped n all cs → AreStamped n (all + 1) cs
 stamped_more n all [] h = omega arith
 stamped_more n all (c ∷ cs) h = (h.0, stamped_more c.fronts all cs h.1)
@@ -70,12 +72,14 @@ fronts_of-raised : (fronts : List ℕ) (es : List Event) → fronts_of (map rais
 fronts_of-raised [] es = refl
 fronts_of-raised (f ∷ fs) es = ap (λ rest. f ∷ rest) (fronts_of-raised fs es)
 
+-- the calls of a journal that is made of calls and fronts are these calls
 pub calls_of-journal_from : (n : ℕ) (cs : List Call) (fronts : List ℕ) → calls_of (journal_from n cs fronts) ≡ cs
 calls_of-journal_from n [] fronts = ap calls_of (sym (append-nil (map raised fronts))) ∙ calls_of-raised fronts []
 calls_of-journal_from n (c ∷ cs) fronts =
     calls_of-raised (take (c.fronts - n) fronts) (asked c ∷ journal_from c.fronts cs (drop (c.fronts - n) fronts))
     ∙ ap (λ rest. c ∷ rest) (calls_of-journal_from c.fronts cs (drop (c.fronts - n) fronts))
 
+-- and its fronts are these fronts
 pub fronts_of-journal_from : (n : ℕ) (cs : List Call) (fronts : List ℕ) → fronts_of (journal_from n cs fronts) ≡ fronts
 fronts_of-journal_from n [] fronts = ap fronts_of (sym (append-nil (map raised fronts))) ∙ fronts_of-raised fronts []
     ∙ append-nil fronts

@@ -144,6 +144,7 @@ from_here net before (asked c ∷ es) s m place is right some_time few =
     (sym (h.0 c (accepted_of (calls_of es)))) more))
     (kind_of c.reply)
 
+-- where the horizon is above 0, the accepted decisions of a right journal are a script that leaves its clones
 pub journal_is_script : (net : Net) → JournalIsScript net
 journal_is_script net events right some_time =
     let l = from_here net [] events (opening net) 0 0 refl right some_time (omega arith) in
@@ -181,6 +182,7 @@ net_stays s [] = refl
 net_stays s (raised f ∷ es) = net_stays (after_event s (raised f)) es
 net_stays s (asked c ∷ es) = net_stays (after_event s (asked c)) es
 
+-- in a right journal, calls at the horizon leave the clones as they are
 pub closed_changes_nothing : (net : Net) → ClosedChangesNothing net
 closed_changes_nothing net before calls closed right =
     ap (λ (s : Situation). s.clones) (fold_append (opening net) before (map asked calls))

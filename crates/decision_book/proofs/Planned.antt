@@ -21,6 +21,7 @@ planned_at net [] c h = record { plans = tt; short = omega arith; end = tt }
 planned_at net (k ∷ ks) zero h = h.0
 planned_at net (k ∷ ks) (suc c) h = planned_at net ks c h.1
 
+-- a fork keeps the lists as planned, where there is room for one clone more
 pub planned_forked : (net : Net) (clones : List Clone) (new : List ℕ) (old : ℕ) → ArePlanned net clones
     → length clones < MOST_CLONES → ArePlanned net (forked clones new old)
 planned_forked net clones new old h few =
@@ -35,6 +36,7 @@ replaced : (net : Net) (clones : List Clone) (c : ℕ) (k : Clone) → ArePlanne
     → ArePlanned net (slice_set clones c k)
 replaced net clones c k h p = record { few = rw length-set h.few; each = all_set (IsPlanned net) clones c k h.each p }
 
+-- so does an end before the horizon
 pub planned_ended : (net : Net) (clones : List Clone) (c at : ℕ) → ArePlanned net clones → at < net.horizon
     → ArePlanned net (ended clones c at)
 planned_ended net clones c at h early =
@@ -42,6 +44,7 @@ planned_ended net clones c at h early =
     replaced net clones c (record (clone_at clones c) { end = Some at }) h
     (record { plans = from.plans; short = from.short; end = early })
 
+-- and so does one set more that may be planned, where the clone's list has room
 pub planned_added : (net : Net) (clones : List Clone) (c : ℕ) (plan : Planned) → ArePlanned net clones
     → length (clone_at clones c).plans < MOST_DECISIONS → IsPlan net plan → ArePlanned net (added clones c plan)
 planned_added net clones c plan h s p =
@@ -63,6 +66,7 @@ taken_from : (r : Result (Unit {0}) ChangeFault) (u : Unit {0}) → r ≡ Ok u �
 taken_from (Ok v) u h = refl
 taken_from (Err e) u h = absurd cc
 
+-- a set before the horizon may be planned, where its station is there and takes the change
 pub plan_taken : (net : Net) (at s : ℕ) (station : List ℕ) (change : Change) (u : Unit {0})
     → number_of station net ≡ Some s → s ≤ length net.sites → accepts (site_of net s) change ≡ Ok u → at < net.horizon
     → IsPlan net (record { at = at; station = s; change = change })
@@ -78,6 +82,7 @@ for_stations : (net : Net) (plans : List Planned) → AllByRecursion (IsPlan net
 for_stations net [] h = tt
 for_stations net (p ∷ ps) h = let one = h.0 in ((omega (arith, one.first), one.last), for_stations net ps h.1)
 
+-- each set in a planned clone's list is for a station that is there
 pub plans_are_for_stations : (net : Net) → PlansAreForStations net
 plans_are_for_stations net clones c h = let one = planned_at net clones c h.each in
     for_stations net (clone_at clones c).plans one.plans

@@ -28,9 +28,11 @@ after-with_reply net es caller d r =
     fold_push after_event (opening net) es
     (asked (record { caller = caller; fronts = length (fronts_of es); decision = d; reply = r }))
 
+-- asking a decision takes things to where they stand next, whoever asks
 pub asking_is_next : (net : Net) → AskingIsNext net
 asking_is_next net es caller d = after-with_reply net es caller d (reply (after net es) d)
 
+-- after a journal the front is its last one, or 0, and the number of calls is how many it has
 pub journal_stands : (net : Net) → JournalStands net
 journal_stands net es = let none : 0 + length (calls_of es) ≡ length (calls_of es) = omega arith in
     stands_by (opening net) es ∙ ap
@@ -43,6 +45,7 @@ stands_from net es s [] h = h
 stands_from net es s (q ∷ qs) h = stands_from net (journal_with net es q.caller q.decision) (next s q.decision) qs
     (asking_is_next net es q.caller q.decision ∙ ap (λ t. next t q.decision) h)
 
+-- after the journal of a script, things stand where its decisions lead
 pub script_stands : (net : Net) → ScriptStands net
 script_stands net qs = stands_from net [] (opening net) qs refl
 
@@ -60,6 +63,7 @@ right_from net es [] h = h
 right_from net es (q ∷ qs) h = right_from net (journal_with net es q.caller q.decision) qs
     (right_reply net es q.caller q.decision (reply (after net es) q.decision) refl h)
 
+-- the journal of a script is right
 pub script_is_right : (net : Net) → ScriptIsRight net
 script_is_right net qs = right_from net [] qs tt
 
@@ -72,6 +76,7 @@ net_stays : (s : Situation) (ds : List Decision) → (after_all s ds).net ≡ s.
 net_stays s [] = refl
 net_stays s (d ∷ ds) = net_stays (next s d) ds
 
+-- one decision more that is accepted does to the clones what it says
 pub accepted_adds : (net : Net) → AcceptedAdds net
 accepted_adds net ds d h =
     let s = after_all (opening net) ds in
@@ -96,6 +101,7 @@ refused_first_from s place (d ∷ ds) more =
     ∙ refusal_or-or place (reply s d) (first_refusal_from (next s d) (place + 1) ds)
     (first_refusal_from (after_all (next s d) ds) (place + length (d ∷ ds)) more)
 
+-- the first refusal is that of the decisions before, if there is one, and else that of the ones after them
 pub refused_first : (net : Net) → RefusedFirst net
 refused_first net ds more =
     let none : 0 + length ds ≡ length ds = omega arith in
@@ -119,10 +125,12 @@ first_refusal-none : (net : Net) (ds more : List Decision) → first_refusal net
 first_refusal-none net ds more none = refused_first net ds more
     ∙ ap (λ o. option_or o (first_refusal_from (after_all (opening net) ds) (length ds) more)) none
 
+-- where none is refused, one more that is accepted leaves none refused
 pub accepted_goes_on : (net : Net) → AcceptedGoesOn net
 accepted_goes_on net ds d none accepted = first_refusal-none net ds (d ∷ []) none
     ∙ ap (λ r. refusal_or (length ds) r None) accepted
 
+-- and one more that is refused is the first refusal, whatever comes after it
 pub refused_is_first : (net : Net) → RefusedIsFirst net
 refused_is_first net ds d more none other =
     let s = after_all (opening net) ds in

@@ -50,6 +50,7 @@ script =
     ∷ roomier (codes "b") 8
     ∷ End (codes "a") 19 ∷ []
 
+-- the clones that this script leaves, with their lists and the end of a
 abbrev pub clones_of_the_script : List Clone
 clones_of_the_script =
     record { name = codes "base"; plans = set_at 15 desk Service 2 2 ∷ []; end = None }

@@ -18,11 +18,13 @@ use Rattle.decision_desk.specs.Passes.{first_account, turn_view, HelmHasTurn, Ha
 abbrev Seen : Type 0
 Seen = Me Slot View
 
+-- a pass at rest that has drawn a ticket waits with it, without the turn
 pub drawn : (m m1 : Seen) (a : Account) (t : ℕ) → m ≡ (pass_view m.0.net m.0.seen a, [])
     → m1 ≡ (turned_to m.0 true t false m.0.seen, m.1)
     → m1 ≡ (turned_to (pass_view m.0.net m.0.seen a) true t false m.0.seen, [])
 drawn m m1 a t rest drew = drew ∙ ap (λ (x : Seen). (turned_to x.0 true t false x.0.seen, x.1)) rest
 
+-- once it is served, it has the turn, sees the journal as it then stands, and carries the book
 pub served : (m m1 m2 : Seen) (a : Account) (t : ℕ) (j : List Event) → m ≡ (pass_view m.0.net m.0.seen a, [])
     → m1 ≡ (turned_to m.0 true t false m.0.seen, m.1)
     → m2 ≡ (turned_to m1.0 true m1.0.ticket true j, (0, book_of m1.0.net j) ∷ m1.1)
@@ -31,6 +33,7 @@ served m m1 m2 a t j rest drew turn =
     turn ∙ ap (λ (x : Seen). (turned_to x.0 true x.0.ticket true j, (0, book_of x.0.net j) ∷ x.1))
     (drawn m m1 a t rest drew)
 
+-- so a pass at rest that has drawn a ticket and is served has come to its turn
 pub has_turn : (m m1 m2 : Seen) (a : Account) (t : ℕ) (j : List Event) → m ≡ (pass_view m.0.net m.0.seen a, [])
     → m1 ≡ (turned_to m.0 true t false m.0.seen, m.1)
     → Begins m1.0.seen j → length (calls_of j) ≤ 4096 → AreAccounts j m1.0.accounts
@@ -91,6 +94,7 @@ helm_drawn : (m m1 : Seen) (t : ℕ) → m ≡ (helm_view m.0.net m.0.parts m.0.
     → m1 ≡ (turned_to (helm_view m.0.net m.0.parts m.0.seen m.0.helm m.0.made m.0.accounts) true t false m.0.seen, [])
 helm_drawn m m1 t rest drew = drew ∙ ap (λ (x : Seen). (turned_to x.0 true t false x.0.seen, x.1)) rest
 
+-- a helm at rest that has drawn a ticket waits without the turn, and has a part as before
 pub helm_waits : (m m1 : Seen) (t : ℕ) → m ≡ (helm_view m.0.net m.0.parts m.0.seen m.0.helm m.0.made m.0.accounts, [])
     → m1 ≡ (turned_to m.0 true t false m.0.seen, m.1) → 0 < m.0.parts
     → (m1.0.waits ≡ true) × (m1.0.turn ≡ false) × (0 < m1.0.parts)
@@ -101,6 +105,7 @@ helm_waits m m1 t rest drew part =
       subst (λ n. 0 < n) (sym (ap (λ (x : Seen). x.0.parts) e)) part,
     )
 
+-- and once it is served, it has come to its turn
 pub helm_has_turn : (m m1 m2 : Seen) (t : ℕ) (j : List Event)
     → m ≡ (helm_view m.0.net m.0.parts m.0.seen m.0.helm m.0.made m.0.accounts, [])
     → m1 ≡ (turned_to m.0 true t false m.0.seen, m.1)

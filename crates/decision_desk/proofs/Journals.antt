@@ -7,11 +7,13 @@ use Rattle.decision_book.specs.Journal.{Event, raised, asked, calls_of}
 use Rattle.decision_desk.specs.Accounts.{Account, numbered, calls_by, front_from, front_of, RisesFrom, Begins}
 use Rattle.decision_desk.specs.Accounts.{OnlyCalls, IsFrontOf, EachFront, IsAccount, AreAccounts, accounts_of}
 
+-- a call that is asked is the last of the calls of the journal
 pub calls_asked : (es : List Event) (c : Call) → calls_of (es ++ asked c ∷ []) ≡ calls_of es ++ c ∷ []
 calls_asked [] c = refl
 calls_asked (raised f ∷ es) c = calls_asked es c
 calls_asked (asked d ∷ es) c = ap (λ l. d ∷ l) (calls_asked es c)
 
+-- a front that is raised leaves the calls as they are
 pub calls_raised : (es : List Event) (f : ℕ) → calls_of (es ++ raised f ∷ []) ≡ calls_of es
 calls_raised [] f = refl
 calls_raised (raised g ∷ es) f = calls_raised es f
@@ -22,6 +24,7 @@ front_asked_from n [] c = refl
 front_asked_from n (raised g ∷ es) c = front_asked_from g es c
 front_asked_from n (asked d ∷ es) c = front_asked_from n es c
 
+-- a call that is asked leaves the front of the journal as it is
 pub front_asked : (es : List Event) (c : Call) → front_of (es ++ asked c ∷ []) ≡ front_of es
 front_asked es c = front_asked_from 0 es c
 
@@ -30,12 +33,15 @@ front_raised_from n [] f = refl
 front_raised_from n (raised g ∷ es) f = front_raised_from g es f
 front_raised_from n (asked d ∷ es) f = front_raised_from n es f
 
+-- a front that is raised is the front of the journal
 pub front_raised : (es : List Event) (f : ℕ) → front_of (es ++ raised f ∷ []) ≡ f
 front_raised es f = front_raised_from 0 es f
 
+-- a call that is asked makes the number of calls one more
 pub calls_longer : (es : List Event) (c : Call) → length (calls_of (es ++ asked c ∷ [])) ≡ length (calls_of es) + 1
 calls_longer es c = ap length (calls_asked es c) ∙ omega (arith, length-append (calls_of es) (c ∷ []))
 
+-- a call with its place, where it is this caller's, and else none
 abbrev pub mine : ℕ → ℕ → Call → List (ℕ × Call)
 mine x n c = if nat_eq c.caller x then (n, c) ∷ [] else []
 
@@ -60,6 +66,7 @@ by_asked x es c =
     ap (λ l. numbered x 0 l) (calls_asked es c)
     ∙ (numbered_more x 0 (calls_of es) c ∙ ap (λ k. calls_by x es ++ mine x k c) e)
 
+-- a front that is raised leaves the calls of each caller as they are
 pub by_raised : (x : ℕ) (es : List Event) (f : ℕ) → calls_by x (es ++ raised f ∷ []) ≡ calls_by x es
 by_raised x es f = ap (λ l. numbered x 0 l) (calls_raised es f)
 
@@ -70,21 +77,26 @@ by_other x es c other =
     by_asked x es c ∙ (ap (λ b. calls_by x es ++ (if b then (length (calls_of es), c) ∷ [] else [])) e
     ∙ append-nil (calls_by x es))
 
+-- and a call of this caller is its last, with its place among the journal's calls
 pub by_caller : (x : ℕ) (es : List Event) (c : Call) → c.caller ≡ x → calls_by x (es ++ asked c ∷ []) ≡ calls_by x es
     ++ (length (calls_of es), c) ∷ []
 by_caller x es c same =
     let e : nat_eq c.caller x ≡ true = grind (arith, same) in
     by_asked x es c ∙ ap (λ b. calls_by x es ++ (if b then (length (calls_of es), c) ∷ [] else [])) e
 
+-- a journal begins with itself
 pub begins_refl : (es : List Event) → Begins es es
 begins_refl es = ([], sym (append-nil es))
 
+-- what a journal begins with, it begins with after one event more
 pub begins_more : (before es : List Event) (e : Event) → Begins before es → Begins before (es ++ e ∷ [])
 begins_more before es e b = (b.0 ++ e ∷ [], ap (λ l. l ++ e ∷ []) b.1 ∙ append_assoc before b.0 (e ∷ []))
 
+-- and what its beginning begins with, it begins with too
 pub begins_on : (xs ys zs : List Event) → Begins xs ys → Begins ys zs → Begins xs zs
 begins_on xs ys zs b d = (b.0 ++ d.0, d.1 ∙ (ap (λ l. l ++ d.0) b.1 ∙ append_assoc xs b.0 d.0))
 
+-- a journal is itself, followed by no calls
 pub only_calls_refl : (es : List Event) → OnlyCalls es es
 only_calls_refl es = ([], sym (append-nil es))
 
@@ -92,6 +104,7 @@ map_more : (cs : List Call) (c : Call) → map asked (cs ++ c ∷ []) ≡ map as
 map_more [] c = refl
 map_more (d ∷ cs) c = ap (λ l. asked d ∷ l) (map_more cs c)
 
+-- where only calls have followed, it is so with one call more
 pub only_calls_more : (before es : List Event) (c : Call) → OnlyCalls before es → OnlyCalls before (es ++ asked c ∷ [])
 only_calls_more before es c o = (
   o.0 ++ c ∷ [],
@@ -111,6 +124,7 @@ fronts_snoc es (g ∷ fs) f all one = (all.0, fronts_snoc es fs f all.1 one)
 begins_one : (es : List Event) (e : Event) → Begins es (es ++ e ∷ [])
 begins_one es e = (e ∷ [], refl)
 
+-- an account stays right when a front is raised
 pub account_raised : (es : List Event) (f : ℕ) (a : Account) → IsAccount es a → IsAccount (es ++ raised f ∷ []) a
 account_raised es f a i = record {
   calls = i.calls ∙ sym (by_raised a.caller es f);
@@ -118,6 +132,7 @@ account_raised es f a i = record {
   full = λ full. ap length (calls_raised es f) ∙ i.full full;
 }
 
+-- and when another caller asks, where the journal is not full
 pub account_other : (es : List Event) (c : Call) (a : Account) → c.caller ≢ a.caller → length (calls_of es) < 4096
     → IsAccount es a → IsAccount (es ++ asked c ∷ []) a
 account_other es c a other room i = record {
@@ -126,6 +141,7 @@ account_other es c a other room i = record {
   full = λ full. absurd (omega (arith, room, i.full full));
 }
 
+-- and when its own caller asks, with the call and the front added to it, where the journal is not full
 pub account_called : (es : List Event) (c : Call) (a : Account) → c.caller ≡ a.caller → length (calls_of es) < 4096
     → IsAccount es a
     → IsAccount (es ++ asked c ∷ [])
@@ -138,6 +154,7 @@ account_called es c a same room i = record {
   full = λ full. absurd (omega (arith, room, i.full full));
 }
 
+-- accounts stay right when a front is raised
 pub accounts_raised : (es : List Event) (f : ℕ) (as' : List Account) → AreAccounts es as'
     → AreAccounts (es ++ raised f ∷ []) as'
 accounts_raised es f [] all = tt
@@ -147,6 +164,7 @@ not_counted : (b : Bool) (n : ℕ) → (if b then 1 else 0) + n ≡ 0 → (b ≡
 not_counted true n e = absurd (omega (arith, e))
 not_counted false n e = (refl, omega (arith, e))
 
+-- and when a caller asks that has none of them, where the journal is not full
 pub accounts_other : (es : List Event) (c : Call) (as' : List Account) → accounts_of c.caller as' ≡ 0
     → length (calls_of es) < 4096 → AreAccounts es as' → AreAccounts (es ++ asked c ∷ []) as'
 accounts_other es c [] none room all = tt
@@ -155,6 +173,7 @@ accounts_other es c (a ∷ as') none room all =
     let other : c.caller ≢ a.caller = λ e. absurd (grind (arith, e, n.0)) in
     (account_other es c a other room all.0, accounts_other es c as' n.1 room all.1)
 
+-- an account by itself is one account of its caller's
 pub one_account : (a : Account) (x : ℕ) → a.caller ≡ x → accounts_of x (a ∷ []) ≡ 1
 one_account a x e = grind (arith, e)
 
@@ -168,15 +187,18 @@ account_looked es a i = record {
   full = i.full;
 }
 
+-- and the mark of Full, where the journal is full
 pub account_full : (es : List Event) (a : Account) → length (calls_of es) ≡ 4096 → IsAccount es a
     → IsAccount es (record a { full = true })
 account_full es a whole i = record { calls = i.calls; fronts = i.fronts; full = λ _. whole }
 
+-- two lists of right accounts are one list of right accounts
 pub accounts_append : (es : List Event) (as' bs : List Account) → AreAccounts es as' → AreAccounts es bs
     → AreAccounts es (as' ++ bs)
 accounts_append es [] bs all more = more
 accounts_append es (a ∷ as') bs all more = (all.0, accounts_append es as' bs all.1 more)
 
+-- and a caller has as many in it as in the two together
 pub counted_append : (x : ℕ) (as' bs : List Account) → accounts_of x (as' ++ bs) ≡ accounts_of x as' + accounts_of x bs
 counted_append x [] bs = omega arith
 counted_append x (a ∷ as') bs = omega (arith, counted_append x as' bs)
@@ -186,6 +208,7 @@ rises_asked_from f [] c r = tt
 rises_asked_from f (raised g ∷ es) c r = (r.0, rises_asked_from g es c r.1)
 rises_asked_from f (asked d ∷ es) c r = rises_asked_from f es c r
 
+-- the fronts of a journal still rise after one call more
 pub rises_asked : (es : List Event) (c : Call) → RisesFrom 0 es → RisesFrom 0 (es ++ asked c ∷ [])
 rises_asked es c r = rises_asked_from 0 es c r
 
@@ -195,6 +218,7 @@ rises_raised_from f [] g r above = (above, tt)
 rises_raised_from f (raised h ∷ es) g r above = (r.0, rises_raised_from h es g r.1 above)
 rises_raised_from f (asked d ∷ es) g r above = rises_raised_from f es g r above
 
+-- and after one front more that is above the last
 pub rises_raised : (es : List Event) (g : ℕ) → RisesFrom 0 es → front_of es < g → RisesFrom 0 (es ++ raised g ∷ [])
 rises_raised es g r above = rises_raised_from 0 es g r above
 

@@ -238,6 +238,7 @@ front_stands s [] = refl
 front_stands s (raised f ∷ es) = front_stands (after_event s (raised f)) es
 front_stands s (asked c ∷ es) = front_stands (after_event s (asked c)) es
 
+-- the front after a journal is the last that was raised in it, or 0
 pub front_is : (net : Net) (es : List Event) → (after net es).front ≡ front_of es
 front_is net es = front_stands (opening net) es
 
@@ -262,12 +263,14 @@ least-earliest : (net : Net) (cs : List Clone) (front : ℕ)
 least-earliest net [] front = refl
 least-earliest net (c ∷ cs) front = ap (earlier (least_of (simulation net) c front)) (least-earliest net cs front)
 
+-- the earliest of three times is the same, whichever two are compared first
 pub earlier_again : (a b c : Option ℕ) → earlier (earlier a b) c ≡ earlier a (earlier b c)
 earlier_again None b c = refl
 earlier_again (Some a) None c = refl
 earlier_again (Some a) (Some b) None = refl
 earlier_again (Some a) (Some b) (Some c) = let e : min (min a b) c ≡ min a (min b c) = omega arith in ap (λ n. Some n) e
 
+-- and a time is the earlier of itself and none
 pub earlier_none : (a : Option ℕ) → earlier a None ≡ a
 earlier_none None = refl
 earlier_none (Some a) = refl
@@ -282,11 +285,12 @@ next_is net helm cs valid right = ap (λ t. window_end (simulation net) t)
     (ap earliest (leasts_after net helm cs valid right)
     ∙ sym (least-earliest net (after net (helm ++ map asked cs)).clones (front_of helm)))
 
--- it is later, and not past the horizon
+-- it is later than a front below the horizon
 pub next_is-later : (net : Net) (cs : List Clone) (front : ℕ) → IsNet net → front < net.horizon
     → front < next_front (simulation net) cs front
 next_is-later net cs front valid below = next_front-rises (lawful-stations net valid) cs front valid.ahead below
 
+-- and it is not past the horizon
 pub next_is-within : (net : Net) (cs : List Clone) (front : ℕ) → next_front (simulation net) cs front ≤ net.horizon
 next_is-within net cs front = window_end-within (simulation net) (least (simulation net) cs front)
 
@@ -362,6 +366,7 @@ ahead b helm cs fresh known front least ts all is count below least_is valid rig
       right = right;
     }
 
+-- where only calls came since so many were known, the accepted ones of these and the next front are found
 pub looked_ahead : (b : BookView) (fresh : List Call) (known front : ℕ) (least ts : List (Option ℕ))
     (all : List Clone) → IsSince b known least → IsNet b.net → IsRight b.net b.events
     → fresh ≡ accepted_of (drop known (calls_of b.events)) → all ≡ (after b.net b.events).clones

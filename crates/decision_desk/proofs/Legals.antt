@@ -13,6 +13,7 @@ use Rattle.decision_book.proofs.Growing.{each_push}
 use Rattle.decision_desk.specs.Legal.{IsNext, GoesOn}
 use Rattle.decision_desk.specs.Passes.{Asked}
 
+-- a journal whose fronts are the next ones goes on so with one call more
 pub goes_on_asked : (net : Net) (es : List Event) (c : Call) → GoesOn net es → GoesOn net (es ++ asked c ∷ [])
 goes_on_asked net es c h = each_push (IsNext net) [] es (asked c) h tt
 
@@ -42,10 +43,12 @@ asked_told old new caller d r (Some c) is full t = (
     few : (n : ℕ) → (4096 ≤ n → ⊥) → n < 4096
     few n not = omega (arith, not)
 
+-- a journal whose fronts are the next ones goes on so with one front more that is the next
 pub goes_on_raised : (net : Net) (es : List Event) (f : ℕ) → IsNext net es (raised f) → GoesOn net es
     → GoesOn net (es ++ raised f ∷ [])
 goes_on_raised net es f is h = each_push (IsNext net) [] es (raised f) h is
 
+-- and so does a book whose front was to be raised to the next, whether it was or not
 pub goes_on_if : {E : Type 0} (net : Net) (es : List Event) (f : ℕ) (new : BookView) (r : Result (Unit {0}) E)
     → IsNext net es (raised f) → GoesOn net es
     → OnOk r (new ≡ record { net = net; events = es ++ raised f ∷ [] })

@@ -46,6 +46,7 @@ no_tickets x v idle = ap (λ b. if b then (if nat_eq v.ticket x then 1 else 0) e
 none_waiting : (v : View) → v.waits ≡ false → waiting v ≡ 0
 none_waiting v idle = ap (λ b. if b then 1 else 0) idle
 
+-- a pass at rest may read the front: it sees the journal up to there, and its account notes the front
 pub looks : (slots id : ℕ) (m : Me Slot View) → m.0.waits ≡ false → m.0.turn ≡ false → 0 < m.0.parts
     → m.0.steers ≡ false → (a : Account) → m.0.accounts ≡ a ∷ []
     → Allows Kept slots id m 0 (λ n. n) (λ n m'. (j : List Event) × Begins m.0.seen j × (n ≡ front_of j)
@@ -96,6 +97,7 @@ looks slots id m idle still some_part plain a mine s k one at small =
       ),
     )
 
+-- a pass may end its turn with its account marked Full, where the journal is full
 pub leaves_full : (slots id : ℕ) (v : View) → 0 < v.parts → v.turn ≡ true → (a : Account) → v.accounts ≡ a ∷ []
     → length (calls_of v.seen) ≡ 4096
     → Allows Kept slots id (v, (0, book_of v.net v.seen) ∷ []) 2 (λ n. (n + 1) % 2 ^ 64)
@@ -275,6 +277,7 @@ splits id v idle still steers two s k at =
       one_helm = λ i j u w e d mine other. (alone i u e mine).0 ∙ sym (alone j w d other).0;
     }
 
+-- a seat at rest may take the parts and accounts of another at rest that does not steer, and leave it spent
 pub joins : (id : ℕ) (v : View) (other : ℕ) (u : View) → v.waits ≡ false → v.turn ≡ false → 0 < v.parts
     → u.waits ≡ false → u.turn ≡ false → u.steers ≡ false
     → Joins Kept id v other u (record v { parts = v.parts + u.parts; accounts = v.accounts ++ u.accounts }) spent_view
@@ -367,6 +370,7 @@ joins id v other u idle still some_part idle' still' plain s k at apart at' =
           k.one_helm i j p.0 q.0 p.1 q.1 p.2 q.2;
     }
 
+-- a new desk keeps the rule: the journal is empty, the book at home, and the helm alone has all parts
 pub begins : (net : Net) → Kept (opening (0 ∷ 0 ∷ 0 ∷ 0 ∷ []) (book_of net [] ∷ []) (helm_view net 17 [] [] 0 []))
 begins net = record {
   net = net;
@@ -429,6 +433,7 @@ pub record Ended (v : View) (slots : List Slot) : Type 0 where
   pub accounts : AreAccounts journal v.accounts
   pub others : (x : ℕ) → accounts_of x v.accounts ≡ 0 → calls_by x journal ≡ []
 
+-- this is so of a seat without the turn that has all 17 parts, when the desk ends
 pub ends : (id : ℕ) (v : View) (ws : List ℕ) (xs : List Slot) → v.parts ≡ 17 → v.turn ≡ false
     → Final (Seen Kept id v) ws xs → Ended v xs
 ends id v ws xs whole still final =
@@ -467,9 +472,11 @@ ends id v ws xs whole still final =
       others = λ x nothing. k.others x (alone x ∙ nothing);
     }
 
+-- a list of slots that is one alone is this one and the rest of the list
 pub only_one : (xs : List (ℕ × Slot)) (y : Slot) → xs ≡ (0, y) ∷ [] → xs ≡ (0, y) ∷ rest xs
 only_one xs y e = e ∙ ap (λ (r : List (ℕ × Slot)). (0, y) ∷ r) (sym (ap rest e))
 
+-- a pass at rest may read the front, and becomes what Looked tells of each account that it has
 pub looks_said : (slots id : ℕ) (m : Me Slot View) → m.0.waits ≡ false → m.0.turn ≡ false → 0 < m.0.parts
     → m.0.steers ≡ false → (a : Account) → m.0.accounts ≡ a ∷ [] → Allows Kept slots id m 0 (λ n. n) (Looked m)
 looks_said slots id m idle still some_part plain a mine s k one at small =
@@ -488,6 +495,7 @@ looks_said slots id m idle still some_part plain a mine s k one at small =
       ),
     )
 
+-- and it may end its turn over a full journal, and becomes what LeftFull tells of each such account
 pub leaves_full_said : (slots id : ℕ) (v : View) → 0 < v.parts → v.turn ≡ true → (a : Account) → v.accounts ≡ a ∷ []
     → length (calls_of v.seen) ≡ 4096
     → Allows Kept slots id (v, (0, book_of v.net v.seen) ∷ []) 2 (λ n. (n + 1) % 2 ^ 64)

@@ -21,12 +21,14 @@ use Rattle.decision_desk.proofs.Journals.{by_raised, begins_refl, begins_more, o
 use Rattle.decision_desk.proofs.Journals.{account_called, accounts_raised, accounts_other, one_account, rises_asked}
 use Rattle.decision_desk.proofs.Journals.{rises_raised, seen_front}
 
+-- where one seat changes, the total loses what this seat had and gains what it has
 pub total_set : (f : View → ℕ) (views : List View) (id : ℕ) (v w : View) → get_elem? views id ≡ some v
     → total f (set views id w) + f v ≡ total f views + f w
 total_set f [] id v w e = absurd (some-ne-none v (sym e))
 total_set f (u ∷ us) zero v w e = let d' : f u ≡ f v = ap f (some-injective u v e) in omega arith
 total_set f (u ∷ us) (suc id) v w e = omega (arith, total_set f us id v w e)
 
+-- one seat has no more than the total
 pub below_total : (f : View → ℕ) (views : List View) (id : ℕ) (v : View) → get_elem? views id ≡ some v
     → f v ≤ total f views
 below_total f [] id v e = absurd (some-ne-none v (sym e))
@@ -38,6 +40,7 @@ total_le : (f h : View → ℕ) (views : List View) → ((id : ℕ) (v : View) �
 total_le f h [] each = omega arith
 total_le f h (u ∷ us) each = omega (arith, each 0 u refl, total_le f h us (λ i v e. each (suc i) v e))
 
+-- the place of a seat is below the number of seats
 pub at_below : (views : List View) (id : ℕ) (v : View) → get_elem? views id ≡ some v → id < length views
 at_below [] id v e = absurd (some-ne-none v (sym e))
 at_below (u ∷ us) zero v e = omega arith
@@ -67,12 +70,14 @@ one_line x from to = grind arith
 in_line_in : (x from to : ℕ) → 1 ≤ in_line x from to → (from ≤ x) × (x < to)
 in_line_in x from to h = (grind (arith, h), grind (arith, h))
 
+-- where all seats fit, and one changes to a seat that fits, all fit still
 pub each_set : (net : Net) (serve : ℕ) (j : List Event) (views : List View) (id : ℕ) (w : View) → Fits net serve j w
     → EachFits net serve j views → EachFits net serve j (set views id w)
 each_set net serve j views id w mine others i u e =
     ⊎_elim (λ (x : (i ≡ id) × (w ≡ u)). subst (λ (y : View). Fits net serve j y) x.1 mine)
     (λ (x : (i ≢ id) × (get_elem? views i ≡ some u)). others i u x.1) (at_set views id i w u e)
 
+-- where one seat changes to one without the turn, and no other has it, none has the turn
 pub no_turn_set : (views : List View) (id : ℕ) (w : View) → w.turn ≡ false
     → ((j : ℕ) (u : View) → j ≢ id → get_elem? views j ≡ some u → u.turn ≡ false) → NoTurn (set views id w)
 no_turn_set views id w mine others j u e =
@@ -86,6 +91,7 @@ pub record Alike (v w : View) : Type 0 where
   pub steers : w.steers ≡ v.steers
   pub made : w.made ≡ v.made
 
+-- two seats are so where their parts, accounts, steering and number of passes made are equal
 pub alike_refl : (v w : View) → w.parts ≡ v.parts → w.accounts ≡ v.accounts → w.steers ≡ v.steers → w.made ≡ v.made
     → Alike v w
 alike_refl v w p a s m = record { parts = p; callers = λ x. ap (accounts_of x) a; steers = s; made = m }
@@ -93,15 +99,19 @@ alike_refl v w p a s m = record { parts = p; callers = λ x. ap (accounts_of x) 
 -- what stays where one seat changes to one that is alike
 module _ (s : State Slot View) (k : Kept s) (id : ℕ) (v w : View) (at : get_elem? s.views id ≡ some v)
     (same : Alike v w) where
+  -- there are 17 parts in all
   pub parts_stay : total (λ u. u.parts) (set s.views id w) ≡ 17
   parts_stay = omega (arith, total_set (λ u. u.parts) s.views id v w at, k.parts, same.parts)
 
+  -- each caller has as many accounts as before
   pub callers_stay : (x : ℕ) → total (has_caller x) (set s.views id w) ≡ total (has_caller x) s.views
   callers_stay x = omega (arith, total_set (has_caller x) s.views id v w at, same.callers x)
 
+  -- so no caller has more than one
   pub once_stays : (x : ℕ) → total (has_caller x) (set s.views id w) ≤ 1
   once_stays x = omega (arith, callers_stay x, k.once x)
 
+  -- and no caller above the number of passes made has any
   pub unmade_stays : Unmade (set s.views id w)
   unmade_stays i u e steers x above = callers_stay x ∙ ⊎_elim
       (λ (h : (i ≡ id) × (w ≡ u)). k.unmade id v at (sym same.steers ∙ (ap (λ (y : View). y.steers) h.1 ∙ steers)) x
@@ -119,12 +129,14 @@ module _ (s : State Slot View) (k : Kept s) (id : ℕ) (v w : View) (at : get_el
       ))
       (λ (h : (i ≢ id) × (get_elem? s.views i ≡ some u)). (u, h.1, refl)) (at_set s.views id i w u e)
 
+  -- one seat at most steers
   pub one_helm_stays : OneHelm (set s.views id w)
   one_helm_stays i j u z e d mine other =
       let a = was i u e in
       let b = was j z d in
       k.one_helm i j a.0 b.0 a.1 b.1 (sym a.2 ∙ mine) (sym b.2 ∙ other)
 
+  -- and a caller without an account has no calls
   pub others_stay : (x : ℕ) → total (has_caller x) (set s.views id w) ≡ 0 → calls_by x k.journal ≡ []
   others_stay x nobody = k.others x (omega (arith, nobody, callers_stay x))
 
@@ -141,6 +153,7 @@ module _ (s : State Slot View) (k : Kept s) (id : ℕ) (v : View) (at : get_elem
         ticket_here v v.ticket waits refl,
       ))
 
+  -- and where it is the one that is served, no other seat has the turn
   pub others_idle : v.ticket ≡ k.serve → (j : ℕ) (u : View) → j ≢ id → get_elem? s.views j ≡ some u → u.turn ≡ false
   others_idle mine j u n e = not_true u.turn (λ turn. let t = (k.fits j u e).turn turn in
       omega (
@@ -155,10 +168,12 @@ module _ (s : State Slot View) (k : Kept s) (id : ℕ) (v : View) (at : get_elem
 once_more : (x from to : ℕ) → from ≤ to → in_line x from (to + 1) ≡ in_line x from to + (if nat_eq to x then 1 else 0)
 once_more x from to h = grind (arith, h)
 
+-- a line that begins one later has lost the first ticket, and no other
 pub once_less : (x from to : ℕ) → from < to
     → in_line x from to ≡ in_line x (from + 1) to + (if nat_eq from x then 1 else 0)
 once_less x from to h = grind (arith, h)
 
+-- the book is still at home or with the turn, where a seat changes that neither had nor gets the turn
 pub rest_home : (net : Net) (j : List Event) (homes : List (Option Slot)) (views : List View) (id : ℕ) (v w : View)
     → get_elem? views id ≡ some v → v.turn ≡ false → w.turn ≡ false → Housed net j homes views
     → Housed net j homes (set views id w)
@@ -180,6 +195,7 @@ rest_home net j homes views id v w at still still' home = ⊎_elim
     ))
     home
 
+-- a seat at rest that has a part may draw the next ticket
 pub draws : (slots id : ℕ) (m : Me Slot View) → m.0.waits ≡ false → m.0.turn ≡ false → 0 < m.0.parts
     → Allows Kept slots id m 1 (λ n. (n + 1) % 2 ^ 64) (Drew m)
 draws slots id m idle still some_part s k one at small =
@@ -327,6 +343,7 @@ serves_at id m some_part waits still s k at true is =
       (k.journal, f.seen, k.few, f.helm, f.accounts, refl, seen_front v.seen k.journal f.seen k.rising),
     )
 
+-- a seat that waits may look who is served, and has the turn and the book where it is its own ticket
 pub serves : (slots id : ℕ) (m : Me Slot View) → 0 < m.0.parts → m.0.waits ≡ true → m.0.turn ≡ false
     → Allows Kept slots id m 2 (λ n. n) (Served m)
 serves slots id m some_part waits still s k one at small =
@@ -366,6 +383,7 @@ fits_raised net serve j g u still other f = record {
   accounts = accounts_raised j g u.accounts f.accounts;
 }
 
+-- a seat without the turn fits still when the next ticket is served
 pub fits_served : (net : Net) (serve : ℕ) (j : List Event) (u : View) → u.turn ≡ false → Fits net serve j u
     → Fits net (serve + 1) j u
 fits_served net serve j u still f = record {
@@ -378,6 +396,7 @@ fits_served net serve j u still f = record {
   accounts = f.accounts;
 }
 
+-- a pass in its turn may add a call of its caller to the journal and its account, where there is room
 pub calls : (said : List Call) (a : Account) (c : Call) (slots id : ℕ) (m : Me Slot View) → said ≡ c ∷ []
     → m.0.accounts ≡ a ∷ [] → c.caller ≡ a.caller → m.0.turn ≡ true → length (calls_of m.0.seen) < 4096
     → Allows Kept slots id m 3 (λ n. (n + 1) % 2 ^ 64) (λ n m'. (n ≡ length (calls_of m.0.seen))
@@ -454,6 +473,7 @@ calls said a c slots id m is_said mine by turn room s k one at small =
       (ap (λ ws. slice_index ws 3) k.words ∙ ap (λ l. length (calls_of l)) (sym is), refl),
     )
 
+-- the helm in its turn may raise the front to one above the last
 pub raises : (f slots id : ℕ) (m : Me Slot View) → m.0.turn ≡ true → m.0.steers ≡ true → front_of m.0.seen < f
     → Allows Kept slots id m 0 (λ _. f) (λ _ m'. m' ≡ (after_front m.0 f, m.1))
 raises g slots id m turn steers above s k one at small =
@@ -509,6 +529,7 @@ raises g slots id m turn steers above s k one at small =
       refl,
     )
 
+-- a seat may end its turn and give back the book, and the next ticket is served
 pub leaves : (slots id : ℕ) (v : View) → 0 < v.parts → v.turn ≡ true
     → Allows Kept slots id (v, (0, book_of v.net v.seen) ∷ []) 2 (λ n. (n + 1) % 2 ^ 64)
     (Left (v, (0, book_of v.net v.seen) ∷ []))
@@ -573,6 +594,7 @@ leaves slots id v some_part turn s k one at small =
       refl,
     )
 
+-- two accounts, each of which is all that one list has, are the same
 pub heads_same : (a b : Account) (as' : List Account) → as' ≡ a ∷ [] → as' ≡ b ∷ [] → a ≡ b
 heads_same a b as' e d = ap first (sym e ∙ d)
   where
@@ -587,9 +609,11 @@ said_same c d cs e f = ap first (sym e ∙ f)
     first [] = c
     first (x ∷ xs) = x
 
+-- the one seat, with what it carries, is the other
 abbrev pub Becomes : Me Slot View → Me Slot View → Type 0
 Becomes m n = m ≡ n
 
+-- a pass in its turn may add a call, and becomes what Called tells of each such account and call
 pub calls_said : (said : List Call) (a : Account) (c : Call) (slots id : ℕ) (m : Me Slot View) → said ≡ c ∷ []
     → m.0.accounts ≡ a ∷ [] → c.caller ≡ a.caller → m.0.turn ≡ true → length (calls_of m.0.seen) < 4096
     → Allows Kept slots id m 3 (λ n. (n + 1) % 2 ^ 64) (Called said m)

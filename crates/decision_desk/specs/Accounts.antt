@@ -15,6 +15,7 @@ abbrev pub numbered : ℕ → ℕ → List Call → List (ℕ × Call)
 numbered x n [] = []
 numbered x n (c ∷ cs) = if nat_eq c.caller x then (n, c) ∷ numbered x (n + 1) cs else numbered x (n + 1) cs
 
+-- the calls of one caller in a journal, each with its place among all calls, from 0
 abbrev pub calls_by : ℕ → List Event → List (ℕ × Call)
 calls_by x events = numbered x 0 (calls_of events)
 
@@ -24,6 +25,7 @@ front_from f [] = f
 front_from f (raised g ∷ es) = front_from g es
 front_from f (asked c ∷ es) = front_from f es
 
+-- the last front of a journal, or 0 where it has none
 abbrev pub front_of : List Event → ℕ
 front_of events = front_from 0 events
 
@@ -45,6 +47,7 @@ OnlyCalls before events = (cs : List Call) × (events ≡ before ++ map asked cs
 abbrev pub IsFrontOf : List Event → ℕ → Type 0
 IsFrontOf events f = (before : List Event) × Begins before events × (f ≡ front_of before)
 
+-- each of these is 0, or a front of the journal
 abbrev pub EachFront : List Event → List ℕ → Type 0
 EachFront events [] = Unit {0}
 EachFront events (f ∷ fs) = IsFrontOf events f × EachFront events fs
@@ -56,6 +59,7 @@ pub record IsAccount (events : List Event) (a : Account) : Type 0 where
   pub fronts : EachFront events a.fronts
   pub full : a.full ≡ true → length (calls_of events) ≡ 4096
 
+-- each of these accounts is right
 abbrev pub AreAccounts : List Event → List Account → Type 0
 AreAccounts events [] = Unit {0}
 AreAccounts events (a ∷ as') = IsAccount events a × AreAccounts events as'

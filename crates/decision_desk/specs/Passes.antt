@@ -30,10 +30,12 @@ pub record Passed : Type 0 where
   pub seen : List Event
   pub account : Account
 
+-- the first of these accounts, or a new one of caller 0 where there is none
 abbrev pub first_account : List Account → Account
 first_account [] = new_account 0
 first_account (a ∷ as') = a
 
+-- what contracts see of the pass of a desk that has this view
 abbrev pub passed : TableId → View → Passed
 passed desk v = record { desk = desk; net = v.net; seen = v.seen; account = first_account v.accounts }
 
@@ -41,6 +43,7 @@ passed desk v = record { desk = desk; net = v.net; seen = v.seen; account = firs
 abbrev pub receipt_of : ℕ × Call → Receipt
 receipt_of p = record { entry = Some p.0; reply = p.1.reply }
 
+-- a pass at rest: one part of the desk, its account, the receipts of its calls, and room for 4,096 of them
 pub record IsPass (caller : ℕ) (receipts : ReservedView Receipt) (desk : TableId) (me : Me Slot View) : Type 0 where
   pub words : desk.words ≡ 4
   pub slots : desk.slots ≡ 1
@@ -57,6 +60,7 @@ pub record IsKept (old : BookView) (caller : ℕ) (d : Decision) (answer : Reply
   pub room : length (calls_of old.events) < 4096
   pub not_full : answer ≢ Full
 
+-- the reply of the table to a decision, with its call kept, or with none where the book is full
 abbrev pub Asked : BookView → ℕ → Decision → Reply → Option Call → BookView → Type 0
 Asked old caller d answer kept new = (answer ≡ reply (after old.net old.events) d)
     × MatchOption kept ((answer ≡ Full) × (4096 ≤ length (calls_of old.events)) × (new ≡ old))
@@ -120,6 +124,7 @@ pub record Helmed : Type 0 where
   pub made : ℕ
   pub accounts : List Account
 
+-- what contracts see of the helm of a desk that has this view
 abbrev pub helmed : TableId → View → Helmed
 helmed desk v = record {
   desk = desk;
@@ -131,6 +136,7 @@ helmed desk v = record {
   accounts = v.accounts;
 }
 
+-- a helm at rest: some parts of the desk, the number of passes made, and what it knew at its last turn
 pub record IsHelm (made known front : ℕ) (desk : TableId) (me : Me Slot View) : Type 0 where
   pub words : desk.words ≡ 4
   pub slots : desk.slots ≡ 1
@@ -159,6 +165,7 @@ new_helm desk net n = record { desk = desk; net = net; parts = 17 - n; seen = []
 abbrev pub looked_at : Passed → List Event → Passed
 looked_at p j = record p { seen = j; account = record p.account { fronts = p.account.fronts ++ front_of j ∷ [] } }
 
+-- the front, where this time is below it, and else none
 abbrev pub late_front : ℕ → ℕ → Option ℕ
 late_front front time = if nat_lt time front then Some front else None
 

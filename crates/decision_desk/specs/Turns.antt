@@ -17,13 +17,16 @@ use Rattle.decision_desk.specs.declared.view.View.{View}
 abbrev pub Slot : Type 0
 Slot = Option' BookView
 
+-- the book with this network and journal, as it lies there
 abbrev pub book_of : Net → List Event → Slot
 book_of net events = Some (record { net = net; events = events })
 
+-- the sum of this number over all seats
 abbrev pub total : (View → ℕ) → List View → ℕ
 total f [] = 0
 total f (v ∷ vs) = f v + total f vs
 
+-- 1 where the seat waits with a ticket
 abbrev pub waiting : View → ℕ
 waiting v = if v.waits then 1 else 0
 
@@ -35,6 +38,7 @@ has_ticket x v = if v.waits then (if nat_eq v.ticket x then 1 else 0) else 0
 abbrev pub has_caller : ℕ → View → ℕ
 has_caller x v = accounts_of x v.accounts
 
+-- 1 where the ticket is in line: at or after the first number, and before the second
 abbrev pub in_line : ℕ → ℕ → ℕ → ℕ
 in_line x from to = if nat_lt x from then 0 else (if nat_lt x to then 1 else 0)
 
@@ -48,9 +52,11 @@ pub record Fits (net : Net) (serve : ℕ) (journal : List Event) (v : View) : Ty
   pub helm : v.steers ≡ true → OnlyCalls v.helm journal
   pub accounts : AreAccounts journal v.accounts
 
+-- it holds of each of these seats
 abbrev pub EachFits : Net → ℕ → List Event → List View → Type 0
 EachFits net serve journal views = (id : ℕ) (v : View) → get_elem? views id ≡ some v → Fits net serve journal v
 
+-- no seat has the turn
 abbrev pub NoTurn : List View → Type 0
 NoTurn views = (id : ℕ) (v : View) → get_elem? views id ≡ some v → v.turn ≡ false
 
@@ -59,15 +65,17 @@ abbrev pub Housed : Net → List Event → List (Option Slot) → List View → 
 Housed net journal homes views = ((homes ≡ some (book_of net journal) ∷ []) × NoTurn views)
     ⊎ ((homes ≡ none ∷ []) × ((id : ℕ) × (v : View) × (get_elem? views id ≡ some v) × (v.turn ≡ true)))
 
--- a caller has no account above the number of passes made, and one seat at most steers
+-- no caller above the number of passes made has an account
 abbrev pub Unmade : List View → Type 0
 Unmade views = (id : ℕ) (v : View) → get_elem? views id ≡ some v → v.steers ≡ true → (x : ℕ) → v.made < x
     → total (has_caller x) views ≡ 0
 
+-- one seat at most steers
 abbrev pub OneHelm : List View → Type 0
 OneHelm views = (i j : ℕ) (u v : View) → get_elem? views i ≡ some u → get_elem? views j ≡ some v → u.steers ≡ true
     → v.steers ≡ true → i ≡ j
 
+-- the rule of the desk: what the words count, where the book is, and what holds of all seats together
 pub record Kept (s : State Slot View) : Type 0 where
   pub net : Net
   pub journal : List Event
@@ -90,10 +98,11 @@ pub record Kept (s : State Slot View) : Type 0 where
 abbrev pub turned_to : View → Bool → ℕ → Bool → List Event → View
 turned_to v waits ticket turn seen = record v { waits = waits; ticket = ticket; turn = turn; seen = seen }
 
--- what the steps tell
+-- what the steps tell: a seat that drew a ticket waits with it, and the number read is the ticket modulo 2 ^ 64
 abbrev pub Drew : Me Slot View → ℕ → Me Slot View → Type 0
 Drew m n m' = (t : ℕ) × (n ≡ t % 2 ^ 64) × (m' ≡ (turned_to m.0 true t false m.0.seen, m.1))
 
+-- where it is so, a seat has the turn, the journal as it then stands and the book; else it is as it was
 abbrev pub ServedIf : Bool → Me Slot View → Me Slot View → Type 0
 ServedIf b m m' = MatchBool b
     ((j : List Event) × Begins m.0.seen j × (length (calls_of j) ≤ 4096) × (m.0.steers ≡ true → OnlyCalls m.0.helm j)
@@ -101,19 +110,22 @@ ServedIf b m m' = MatchBool b
     × (m' ≡ (turned_to m.0 true m.0.ticket true j, (0, book_of m.0.net j) ∷ m.1)) × (front_of m.0.seen ≤ front_of j))
     (m' ≡ m)
 
+-- a seat looked who is served, and it is so where the number read is that of its ticket
 abbrev pub Served : Me Slot View → ℕ → Me Slot View → Type 0
 Served m n m' = ServedIf (nat_eq n (m.0.ticket % 2 ^ 64)) m m'
 
--- the call joins the journal, and the account of its caller
+-- the call joins the account of its caller, with its place and the front
 abbrev pub with_call : Account → List Event → Call → Account
 with_call a journal c = record a {
   calls = a.calls ++ (length (calls_of journal), c) ∷ [];
   fronts = a.fronts ++ front_of journal ∷ [];
 }
 
+-- and the journal that its seat sees
 abbrev pub after_call : View → Account → Call → View
 after_call v a c = record v { seen = v.seen ++ asked c ∷ []; accounts = with_call a v.seen c ∷ [] }
 
+-- the step that adds a call tells the call's place, and the seat has it in its journal and account
 abbrev pub Called : List Call → Me Slot View → ℕ → Me Slot View → Type 0
 Called said m n m' = (a : Account) (c : Call) → said ≡ c ∷ [] → m.0.accounts ≡ a ∷ []
     → (n ≡ length (calls_of m.0.seen)) × (m' ≡ (after_call m.0 a c, m.1))
@@ -122,9 +134,11 @@ Called said m n m' = (a : Account) (c : Call) → said ≡ c ∷ [] → m.0.acco
 abbrev pub after_front : View → ℕ → View
 after_front v f = record v { seen = v.seen ++ raised f ∷ []; helm = v.seen ++ raised f ∷ [] }
 
+-- a seat that raised the front has it in its journal
 abbrev pub Raised : Me Slot View → ℕ → Me Slot View → Type 0
 Raised m n m' = m' ≡ (after_front m.0 n, m.1)
 
+-- a seat that left its turn is at rest, and carries nothing
 abbrev pub Left : Me Slot View → ℕ → Me Slot View → Type 0
 Left m n m' = m' ≡ (turned_to m.0 false 0 false m.0.seen, [])
 
@@ -132,10 +146,11 @@ Left m n m' = m' ≡ (turned_to m.0 false 0 false m.0.seen, [])
 abbrev pub new_account : ℕ → Account
 new_account x = record { caller = x; calls = []; fronts = []; full = false }
 
+-- a network without stations
 abbrev pub no_net : Net
 no_net = record { format = 1; lookahead = 1; horizon = 1; seed = 0; limit = 1; sites = [] }
 
--- a seat at rest: a pass with its account, the helm, and a seat that gave all away
+-- a seat at rest: a pass with its account
 abbrev pub pass_view : Net → List Event → Account → View
 pass_view net seen a = record {
   net = net;
@@ -150,6 +165,7 @@ pass_view net seen a = record {
   accounts = a ∷ [];
 }
 
+-- the helm at rest, with its parts, what it saw and the accounts that came back
 abbrev pub helm_view : Net → ℕ → List Event → List Event → ℕ → List Account → View
 helm_view net parts seen helm made accounts =
     record {
@@ -165,6 +181,7 @@ helm_view net parts seen helm made accounts =
       accounts = accounts;
     }
 
+-- a seat that gave all away
 abbrev pub spent_view : View
 spent_view = record {
   net = no_net;
@@ -183,6 +200,7 @@ spent_view = record {
 abbrev pub after_look : View → Account → List Event → View
 after_look v a j = record v { seen = j; accounts = record a { fronts = a.fronts ++ front_of j ∷ [] } ∷ [] }
 
+-- the step that looks at the front tells the front of the journal then, which is no less than the one seen before
 abbrev pub Looked : Me Slot View → ℕ → Me Slot View → Type 0
 Looked m n m' = (a : Account) → m.0.accounts ≡ a ∷ [] → (j : List Event) × Begins m.0.seen j × (n ≡ front_of j)
     × (m' ≡ (after_look m.0 a j, m.1)) × (front_of m.0.seen ≤ n)
@@ -191,6 +209,7 @@ Looked m n m' = (a : Account) → m.0.accounts ≡ a ∷ [] → (j : List Event)
 abbrev pub full_account : Account → Account
 full_account a = record a { full = true }
 
+-- a seat that left its turn so is at rest with this account, and carries nothing
 abbrev pub LeftFull : Me Slot View → ℕ → Me Slot View → Type 0
 LeftFull m n m' = (a : Account) → m.0.accounts ≡ a ∷ []
     → m' ≡ (record (turned_to m.0 false 0 false m.0.seen) { accounts = full_account a ∷ [] }, [])

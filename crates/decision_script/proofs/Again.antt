@@ -136,6 +136,7 @@ item_read line force r item more rest known e h few go false other =
       items = read.items;
     }
 
+-- the lines that are written of items are read as these items, but for the numbers of the lines
 pub items_read : (line force : ℕ) (r : Reading) (items : List Item) → AreKnown r.analysts → r.current ≡ force
     → AllByRecursion (IsItem (length r.analysts)) items → length r.items + length items ≤ 4096
     → Read r (after_lines line r (map (join_with_byte 32) (item_lines r.analysts force items) ++ ([] ∷ []))) items

@@ -30,6 +30,7 @@ unplaced before name more h =
     (λ within. absurd (omega arith)) in
     grind (arith, common_steps)
 
+-- where all names are distinct, none of the later ones is named before itself
 pub are_new : (before more : List (List ℕ)) → AreDistinct (before ++ more) → All IsNamed more → AreNew before more
 are_new before [] h named = tt
 are_new before (name ∷ more) h named = (
@@ -38,6 +39,7 @@ are_new before (name ∷ more) h named = (
   are_new (before ++ name ∷ []) more (rw append_assoc h) (All-tail IsNamed name more named),
 )
 
+-- and each is the first of its name
 pub are_known : (names : List (List ℕ)) → AreDistinct names → All IsNamed names → AreKnown names
 are_known names h named = record {
   known = λ a low high. known a low high;

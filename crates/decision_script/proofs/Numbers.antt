@@ -35,12 +35,14 @@ form (d ∷ e ∷ ds) all some first =
     let lead : 48 < d = elim first [ inl h ↦ absurd (omega arith) | inr h ↦ h ] in
     grind (arith, nat_tests)
 
+-- what is written of a number below 2 ^ 64 has the form of a number
 pub form_of_decimal : (n : ℕ) → n < 2 ^ 64 → has_number_form (decimal n) ≡ true
 form_of_decimal zero h = form (decimal 0) (digits_decimal own 0 h) (decimal_nonempty 0 h)
     (inl (ap length (decimal_digit 0 (omega arith))))
 form_of_decimal (suc n) h = form (decimal (suc n)) (digits_decimal own (suc n) h) (decimal_nonempty (suc n) h)
     (inr (first_decimal (suc n) (omega arith) h))
 
+-- what is written of a number below 2 ^ 32 is read as that number
 pub number-decimal : (n : ℕ) → n < 2 ^ 32 → number (decimal n) ≡ Some n
 number-decimal n h =
     let wide : n < 2 ^ 64 = omega arith in
@@ -49,6 +51,7 @@ number-decimal n h =
     let short : length (decimal n) ≤ 10 = length-decimal-le 10 n (omega arith) (omega arith) wide in
     rw (form, value) (grind (arith, nat_tests))
 
+-- and it is so where it is a word of a line
 pub word_number-decimal : (n : ℕ) → n < 2 ^ 32 → word_number (decimal n) ≡ Ok n
 word_number-decimal n h = ap (λ o. ok_or o BadNumber) (number-decimal n h)
 
@@ -59,6 +62,7 @@ letters_of_digits (d ∷ ds) h =
     let letter : is_letter d ≡ true = grind (arith, nat_tests) in
     rw (letter, letters_of_digits ds rest) refl
 
+-- what is written of a number below 2 ^ 32 is a word
 pub decimal_is_word : (n : ℕ) → n < 2 ^ 32 → IsWord (decimal n)
 decimal_is_word n h =
     let wide : n < 2 ^ 64 = omega arith in

@@ -25,6 +25,7 @@ turn text n part h r =
     at_drop_more (after_lines (n + 1) r) (lines text) n (strip_carriage_return part) within
     ∙ ap (λ l. after_line (n + 1) r l >>= λ next. after_lines (n + 1 + 1) next (drop (n + 1) (lines text))) at
 
+-- where a line is read, what all lines from it on give is what those after it give from there
 pub line_read : (text : List ℕ) (n : ℕ) (part : List ℕ) → IsPart text n part
     → (r next : Reading) (all : Result Reading ScriptFault)
     → after_lines (n + 1) r (drop n (lines text)) ≡ all → after_line (n + 1) r (strip_carriage_return part) ≡ Ok next
@@ -33,6 +34,7 @@ line_read text n part h r next all same read =
     ap (λ x. x >>= λ next. after_lines (n + 1 + 1) next (drop (n + 1) (lines text))) (sym read)
     ∙ sym (turn text n part h r) ∙ same
 
+-- where a line is refused, all lines from it on give this refusal
 pub line_refused : (text : List ℕ) (n : ℕ) (part : List ℕ) → IsPart text n part
     → (r : Reading) (e : ScriptFault) (all : Result Reading ScriptFault)
     → after_lines (n + 1) r (drop n (lines text)) ≡ all → after_line (n + 1) r (strip_carriage_return part) ≡ Err e
@@ -40,6 +42,7 @@ pub line_refused : (text : List ℕ) (n : ℕ) (part : List ℕ) → IsPart text
 line_refused text n part h r e all same refused = sym same ∙ turn text n part h r
     ∙ ap (λ x. x >>= λ next. after_lines (n + 1 + 1) next (drop (n + 1) (lines text))) refused
 
+-- where no line is left, the rest gives the reading as it is
 pub lines_read : (text : List ℕ) (n : ℕ) (r : Reading) (all : Result Reading ScriptFault)
     → n ≡ length (slice_split is_newline text) → after_lines (n + 1) r (drop n (lines text)) ≡ all → all ≡ Ok r
 unfolding after_lines

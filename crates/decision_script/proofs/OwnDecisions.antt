@@ -34,5 +34,6 @@ agree_items : (who : List ℕ) (items : List Item) → Agree (item_history who i
 agree_items who [] = record { target = refl; list = refl }
 agree_items who (i ∷ is) = agree_act i i.act (item_history who is) who (decisions is) refl (agree_items who is)
 
+-- the decisions of a clone's own script are those of the whole script that reach the clone
 pub decisions_of_alone : AloneIsOfDecisions
 decisions_of_alone s who = (agree_items who s.items).list

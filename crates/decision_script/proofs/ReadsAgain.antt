@@ -61,5 +61,6 @@ of_first (a ∷ more) items h =
     subst (λ a. IsScript (record { analysts = a ∷ more; items = items })
     → ReadAgain (record { analysts = a ∷ more; items = items })) (sym main) (of_main more items) h
 
+-- the canonical text of a script is read as that script, but for the numbers of the lines
 pub canonical_text_reads_again : CanonicalTextReadsAgain
 canonical_text_reads_again s h = of_first s.analysts s.items h

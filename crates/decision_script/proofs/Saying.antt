@@ -16,6 +16,7 @@ use Rattle.decision_script.specs.Printing.{words_of_act, words_of_change, words_
 use Rattle.decision_script.proofs.Numbers.{word_number-decimal, decimal_is_word}
 use Rattle.decision_script.proofs.Words.{is_letter, IsWord}
 
+-- the words of a section line say the section of that name
 pub saying-section : (name : List ℕ) → IsNamed name → saying (words_of_section name) ≡ Ok (Section name)
 unfolding section
 saying-section name h = rw h refl
@@ -51,6 +52,7 @@ saying-set who station at a b Room w t s c = rw (w, s, word_number-decimal at t,
 saying-set who station at a b Weight w t s c =
     rw (w, s, word_number-decimal at t, word_number-decimal a c.0, word_number-decimal b c.1) refl
 
+-- the words of an act say that act
 pub saying-act : (act : Act) → IsAct act → saying (words_of_act act) ≡ Ok (Says act)
 saying-act (Look who station) h = saying-look who station h.0 h.1
 saying-act (Decide (Fork new old)) h = saying-fork new old h.0 h.1
@@ -65,6 +67,7 @@ letters_of_name (b ∷ bs) h =
     let letter : is_letter b ≡ true = grind (arith, nat_tests) in
     rw (letter, letters_of_name bs rest) refl
 
+-- a name is a word
 pub name_is_word : (name : List ℕ) → IsNamed name → IsWord name
 name_is_word [] h = absurd (cc)
 name_is_word (b ∷ bs) h =
@@ -100,6 +103,7 @@ change_words Weight a b h = (
   (decimal_is_word a (omega arith), (decimal_is_word b (omega arith), tt)),
 )
 
+-- what is written of an act is all words
 pub act_words : (act : Act) → IsAct act → AllByRecursion IsWord (words_of_act act)
 act_words (Look who station) h =
     (record { some = refl; letters = refl; short = refl }, (name_is_word who h.0, (name_is_word station h.1, tt)))
@@ -128,5 +132,6 @@ act_words (Decide (End who at)) h = (
   ),
 )
 
+-- and so is what is written of a section
 pub section_words : (name : List ℕ) → IsNamed name → AllByRecursion IsWord (words_of_section name)
 section_words name h = (record { some = refl; letters = refl; short = refl }, (name_is_word name h, tt))

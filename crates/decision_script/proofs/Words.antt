@@ -30,6 +30,7 @@ is_printed b = nat_le 32 b && nat_le b 126
 abbrev pub Excludes : (ℕ → Bool) → (ℕ → Bool) → Type 0
 Excludes q p = (b : ℕ) → q b ≡ true → p b ≡ false
 
+-- a split cuts off the bytes before the first separator as a part, and goes on behind it
 pub split_at : (q p : ℕ → Bool) (word rest : List ℕ) (y : ℕ) → Excludes q p → list_all q word ≡ true → p y ≡ true
     → slice_split p (word ++ (y ∷ rest)) ≡ word ∷ slice_split p rest
 split_at q p [] rest y passes h stop = slice_split-cons_yes p y rest stop
@@ -38,6 +39,7 @@ split_at q p (b ∷ bs) rest y passes h stop =
     slice_split-cons_no p b (bs ++ (y ∷ rest)) (passes b letter)
     ∙ ap (onto_first b) (split_at q p bs rest y passes letters stop)
 
+-- and bytes without a separator are the only part
 pub split_none : (q p : ℕ → Bool) (word : List ℕ) → Excludes q p → list_all q word ≡ true
     → slice_split p word ≡ word ∷ []
 split_none q p [] passes h = refl
@@ -45,16 +47,20 @@ split_none q p (b ∷ bs) passes h =
     let (letter, letters) = and_parts (q b) (list_all q bs) h in
     slice_split-cons_no p b bs (passes b letter) ∙ ap (onto_first b) (split_none q p bs passes letters)
 
+-- a letter is no blank
 pub blank_passes : Excludes is_letter is_blank
 blank_passes b h = grind (arith, nat_tests)
 
+-- and a letter or a space is no line feed
 pub newline_passes : Excludes is_printed is_newline
 newline_passes b h = grind (arith, nat_tests)
 
+-- a part with bytes in it stays when the empty ones are left out
 pub filter_yes : (word : List ℕ) (rest : List (List ℕ)) → has_bytes word ≡ true
     → filter has_bytes (word ∷ rest) ≡ word ∷ filter has_bytes rest
 filter_yes word rest h = ap (λ b. cond b (word ∷ filter has_bytes rest) (filter has_bytes rest)) h
 
+-- words that are joined by spaces are these words again
 pub words-join : (ws : List (List ℕ)) → AllByRecursion IsWord ws → words (join_with_byte 32 ws) ≡ ws
 words-join [] h = refl
 words-join (w ∷ []) h = ap (filter has_bytes) (split_none is_letter is_blank w blank_passes h.0.letters)
@@ -71,12 +77,14 @@ printed (b ∷ bs) h =
     let here : is_printed b ≡ true = grind (arith, nat_tests) in
     rw (here, printed bs letters) refl
 
+-- words that are joined by spaces are letters and spaces
 pub printed_join : (ws : List (List ℕ)) → AllByRecursion IsWord ws → list_all is_printed (join_with_byte 32 ws) ≡ true
 printed_join [] h = refl
 printed_join (w ∷ []) h = printed w h.0.letters
 printed_join (w ∷ v ∷ ws) h = list_all-append is_printed w (32 ∷ join_with_byte 32 (v ∷ ws))
     ∙ rw (printed w h.0.letters, printed_join (v ∷ ws) h.1) refl
 
+-- letters and spaces are ASCII
 pub printed_is_ascii : (bs : List ℕ) → list_all is_printed bs ≡ true → is_ascii bs ≡ true
 printed_is_ascii [] h = refl
 printed_is_ascii (b ∷ bs) h =
@@ -91,9 +99,11 @@ printed_at (b ∷ bs) zero h =
     grind (arith, nat_tests)
 printed_at (b ∷ bs) (suc i) h = printed_at bs i (and_parts (is_printed b) (list_all is_printed bs) h).1
 
+-- and no carriage return is taken off their end
 pub strip-printed : (bs : List ℕ) → list_all is_printed bs ≡ true → strip_carriage_return bs ≡ bs
 strip-printed bs h = rw (printed_at bs (length bs - 1) h) refl
 
+-- a line of words that are joined by spaces says what the words say
 pub line_saying-join : (ws : List (List ℕ)) → AllByRecursion IsWord ws → line_saying (join_with_byte 32 ws) ≡ saying ws
 line_saying-join ws h = rw (printed_is_ascii (join_with_byte 32 ws) (printed_join ws h), words-join ws h) refl
 

@@ -30,11 +30,12 @@ history who (d ∷ ds) = history_if (bytes_eq (object d) (history who ds).0) d (
 abbrev pub alone : List ℕ → List Decision → List Decision
 alone who ds = (history who ds).1
 
--- the same over items: looks are left out, and decisions keep their line and analyst
+-- the history with one item before others: a look is left out, a decision keeps its line and analyst
 abbrev pub act_history : Item → Act → List ℕ × List Item → List ℕ × List Item
 act_history item (Decide d) later = history_if (bytes_eq (object d) later.0) item (subject d) later
 act_history item (Look who station) later = later
 
+-- the history of a clone over items
 abbrev pub item_history : List ℕ → List Item → List ℕ × List Item
 item_history who [] = (who, [])
 item_history who (i ∷ is) = act_history i i.act (item_history who is)
@@ -43,11 +44,12 @@ item_history who (i ∷ is) = act_history i i.act (item_history who is)
 abbrev pub alone_of : ScriptView → List ℕ → ScriptView
 alone_of s who = record s { items = (item_history who s.items).1 }
 
--- the decisions among the items, in order
+-- the decision of an act put before others; a look adds none
 abbrev pub decisions_onto : Act → List Decision → List Decision
 decisions_onto (Decide d) ds = d ∷ ds
 decisions_onto (Look who station) ds = ds
 
+-- the decisions among the items, in order
 abbrev pub decisions : List Item → List Decision
 decisions [] = []
 decisions (i ∷ is) = decisions_onto i.act (decisions is)

@@ -12,9 +12,11 @@ use Rattle.decision_script.specs.Stating.{ScriptView}
 abbrev pub text_of : List (List ℕ) → List ℕ
 text_of ls = flat_map (λ l. l ++ 10 ∷ []) ls
 
+-- an item: the act of this analyst in this line
 abbrev pub item_at : ℕ → ℕ → Act → Item
 item_at line analyst act = record { line = line; analyst = analyst; act = act }
 
+-- set WHO at TIME desk service A B
 abbrev pub set_service : List ℕ → ℕ → ℕ → ℕ → Act
 set_service who at a b = Decide (Set who at (codes "desk") (record { param = Service; a = a; b = b }))
 
@@ -23,6 +25,7 @@ abbrev pub two_clones_text : List ℕ
 two_clones_text = text_of (codes "fork a from base" ∷ codes "fork b from base" ∷ codes
     "set a at 8 desk service 2 2" ∷ codes "set b at 8 desk service 2 2" ∷ [])
 
+-- the script that it states
 abbrev pub two_clones : ScriptView
 two_clones = record {
   analysts = codes "main" ∷ [];
@@ -41,6 +44,7 @@ abbrev pub clone_of_clone_text : List ℕ
 clone_of_clone_text = text_of (codes "fork a from base" ∷ codes "set a at 8 desk service 2 2" ∷ codes
     "fork b from a" ∷ codes "set a at 9 desk service 3 3" ∷ codes "look b desk" ∷ codes "end b at 12" ∷ [])
 
+-- the script that it states, with a look among the items
 abbrev pub clone_of_clone : ScriptView
 clone_of_clone = record {
   analysts = codes "main" ∷ [];
@@ -52,6 +56,7 @@ clone_of_clone = record {
       ∷ item_at 6 1 (Decide (End (codes "b") 12)) ∷ [];
 }
 
+-- what of it reaches the second clone: neither the later set of the first nor the look
 abbrev pub clone_of_clone_alone_text : List ℕ
 clone_of_clone_alone_text = text_of
     (codes "fork a from base" ∷ codes "set a at 8 desk service 2 2" ∷ codes "fork b from a" ∷ codes "end b at 12" ∷ [])
@@ -61,6 +66,7 @@ abbrev pub two_planners_text : List ℕ
 two_planners_text = text_of (codes "# two planners" ∷ codes "fork fast from base" ∷ codes "analyst ben" ∷ codes
     "look   fast desk" ∷ [])
 
+-- the script that it states: each item has its own analyst
 abbrev pub two_planners : ScriptView
 two_planners = record {
   analysts = codes "main" ∷ codes "ben" ∷ [];
@@ -68,6 +74,7 @@ two_planners = record {
       (Look (codes "fast") (codes "desk")) ∷ [];
 }
 
+-- its canonical text: a section line at the top for the second analyst, and one before each item
 abbrev pub two_planners_canonical : List ℕ
 two_planners_canonical = text_of
     (codes "analyst ben" ∷ codes "analyst main" ∷ codes "fork fast from base" ∷ codes "analyst ben" ∷ codes
@@ -77,6 +84,7 @@ two_planners_canonical = text_of
 abbrev pub loose_text : List ℕ
 loose_text = codes "fork fast from base\r\n\n\tanalyst \t ada\r\n# set\n\tset fast at 8 desk  room 7 \r"
 
+-- the script that it states
 abbrev pub loose : ScriptView
 loose = record {
   analysts = codes "main" ∷ codes "ada" ∷ [];

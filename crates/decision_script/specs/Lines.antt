@@ -14,6 +14,7 @@ is_newline b = b == 10
 abbrev pub is_blank : ℕ → Bool
 is_blank b = b == 32 || b == 9
 
+-- one byte or more
 abbrev pub has_bytes : List ℕ → Bool
 has_bytes bs = not (length bs == 0)
 

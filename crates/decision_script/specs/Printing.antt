@@ -25,6 +25,7 @@ words_of_decision (Set who at station change) =
     codes "set" ∷ who ∷ codes "at" ∷ decimal at ∷ station ∷ words_of_change change.param change.a change.b
 words_of_decision (End who at) = codes "end" ∷ who ∷ codes "at" ∷ decimal at ∷ []
 
+-- the words of an item's line: of a decision, or of a look
 abbrev pub words_of_act : Act → List (List ℕ)
 words_of_act (Decide decision) = words_of_decision decision
 words_of_act (Look who station) = codes "look" ∷ who ∷ station ∷ []
@@ -52,5 +53,6 @@ script_lines s = map words_of_section (drop 1 s.analysts) ++ item_lines s.analys
 abbrev pub line_text : List (List ℕ) → List ℕ
 line_text words = join_with_byte 32 words ++ 10 ∷ []
 
+-- the canonical text of a script: its lines, one after the other
 unfoldable pub canonical_text : ScriptView → List ℕ
 canonical_text s = flat_map line_text (script_lines s)

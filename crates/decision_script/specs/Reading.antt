@@ -30,6 +30,7 @@ fault_at line broken.BadLine = BadLine line
 fault_at line broken.BadNumber = BadNumber line
 fault_at line broken.NoMemory = NoMemory
 
+-- what a line says, or its fault with the line's number
 abbrev pub at_line : ℕ → Result Said LineFault → Result Said ScriptFault
 at_line line (Ok said) = Ok said
 at_line line (Err broken) = Err (fault_at line broken)
@@ -51,6 +52,7 @@ with_act line r act = if nat_lt (length r.items) MOST_ITEMS
     then Ok (record r { items = r.items ++ (record { line = line; analyst = r.current; act = act }) ∷ [] })
     else Err (TooManyLines line)
 
+-- after the line of this number, by what it says
 abbrev pub after_saying : ℕ → Reading → Said → Result Reading ScriptFault
 after_saying line r Nothing = Ok r
 after_saying line r (Section name) = in_section line r name (place_of name r.analysts)
@@ -69,6 +71,7 @@ after_lines line r (l ∷ ls) = after_line line r l >>= λ next. after_lines (li
 abbrev pub opening : Reading
 opening = record { analysts = codes "main" ∷ []; current = 1; items = [] }
 
+-- the analysts and items that were read, as a script
 abbrev pub script_of : Reading → ScriptView
 script_of r = record { analysts = r.analysts; items = r.items }
 

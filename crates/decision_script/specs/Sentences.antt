@@ -46,6 +46,7 @@ two_values param a b = do
   y ← word_number b
   Ok (record { param = param; a = x; b = y })
 
+-- the change of a parameter to these values, of which there must be one or two
 abbrev pub change_of : Param → List (List ℕ) → Result Change LineFault
 change_of param (a ∷ []) = one_value param a
 change_of param (a ∷ b ∷ []) = two_values param a b
@@ -77,23 +78,27 @@ set who link time station word values = where_form ((bytes_eq link (codes "at") 
   change ← change_of param values
   Ok (Says (Decide (Set who at station change))))
 
--- what follows each first word
+-- what follows each first word; analyst: a name
 abbrev pub after_analyst : List (List ℕ) → Result Said LineFault
 after_analyst (name ∷ []) = section name
 after_analyst _ = Err BadLine
 
+-- look: a clone and a station
 abbrev pub after_look : List (List ℕ) → Result Said LineFault
 after_look (who ∷ station ∷ []) = look who station
 after_look _ = Err BadLine
 
+-- fork: a new name, a link word, and an old name
 abbrev pub after_fork : List (List ℕ) → Result Said LineFault
 after_fork (new ∷ link ∷ old ∷ []) = fork new link old
 after_fork _ = Err BadLine
 
+-- end: a clone, a link word, and a time
 abbrev pub after_end : List (List ℕ) → Result Said LineFault
 after_end (who ∷ link ∷ time ∷ []) = end who link time
 after_end _ = Err BadLine
 
+-- set: a clone, a link word, a time, a station, a parameter, and its values
 abbrev pub after_set : List (List ℕ) → Result Said LineFault
 after_set (who ∷ link ∷ time ∷ station ∷ word ∷ values) = set who link time station word values
 after_set _ = Err BadLine
@@ -107,6 +112,7 @@ sentence verb rest = if bytes_eq verb (codes "analyst") then after_analyst rest
     else (if bytes_eq verb (codes "look") then after_look rest
     else Err BadLine))))
 
+-- a first word that begins with a number sign
 abbrev pub begins_comment : List ℕ → Bool
 begins_comment [] = false
 begins_comment (b ∷ bs) = b == 35

@@ -22,6 +22,7 @@ pub record ScriptView : Type 0 where
 abbrev pub analyst_name : List (List ℕ) → ℕ → List ℕ
 analyst_name analysts a = unwrap_or (slice_get analysts (a - 1)) []
 
+-- these bytes are a name
 abbrev pub IsNamed : List ℕ → Type 0
 IsNamed name = is_name name ≡ true
 
@@ -38,6 +39,7 @@ IsDecision (Set who at station change) = IsNamed who × (at < 2 ^ 32) × IsNamed
     × IsChange change.param change.a change.b
 IsDecision (End who at) = IsNamed who × (at < 2 ^ 32)
 
+-- the same of an act: a decision that is so, or a look with two names
 abbrev pub IsAct : Act → Type 0
 IsAct (Decide decision) = IsDecision decision
 IsAct (Look who station) = IsNamed who × IsNamed station
