@@ -157,6 +157,7 @@ refused_at net is more item stop stated whole none h = of_act item.act refl h
 
 -- ---- a book that has come to an item
 
+-- a book of the network is the journal of the first i items of a script, whose decisions were all accepted
 pub record IsAt (net : Net) (is : List Item) (i : ℕ) (book : BookView) : Type 0 where
   pub net_is : book.net ≡ net
   pub events : book.events ≡ journal_of_script net (questions (take i is))
@@ -178,6 +179,7 @@ module _ (net : Net) (is : List Item) (i : ℕ) (item : Item) (old : BookView) (
   journal_is : after old.net old.events ≡ after net (journal_of_script net (questions (take i is)))
   journal_is = ap₂ after at.net_is at.events
 
+  -- with an item that is no decision, or one that is accepted, the book comes to the next item
   pub goes_on : (new : BookView) → new.net ≡ old.net
       → new.events ≡ journal_after old.net old.events item.analyst item.act
       → AcceptsAct (after old.net old.events) item.act
@@ -192,6 +194,7 @@ module _ (net : Net) (is : List Item) (i : ℕ) (item : Item) (old : BookView) (
     accepted = all at.accepted;
   }
 
+  -- where the item is a decision that is refused, it is the first of the script that is, and the stop says so
   pub refused_here : (stated : ScriptView) (stop : Stop) → stated.items ≡ is
       → RefusesAct (after old.net old.events) item.line item.act stop → IsRefusal net stated stop
   refused_here stated stop e h =

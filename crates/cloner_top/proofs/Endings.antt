@@ -157,10 +157,12 @@ module _ (P Q : Ending → Type 0) (on : (end : Ending) → P end → Q end) (ol
   stopped_on told stop (ends.at_once none may same) = ends.at_once none (on (stopped stop) may) same
   stopped_on told stop (ends.at_limit most may few) = ends.at_limit most (on (overrun told stop most) may) few
 
+  -- where every ending of one kind is of another, a study written for the one is written for the other
   pub finished_on : (old new : SinkView) → IsFinished P old_steps new_steps old new
       → IsFinished Q old_steps new_steps old new
   finished_on old new f = record { texts = f.texts; wrote = wrote_on f.texts f.wrote; put = f.put }
 
+  -- and a cause for which it was not written, with a line alone told, is one for the other
   pub failed_on : (old new : SinkView) (r : Refusal) → IsFailed P old_steps new_steps old new r
       → IsFailed Q old_steps new_steps old new r
   failed_on old new OutOfMemory h = h
@@ -170,6 +172,7 @@ module _ (P Q : Ending → Type 0) (on : (end : Ending) → P end → Q end) (ol
   failed_on old new (Stopped stop) h = (stopped_on [] stop h.0, h.1)
   failed_on old new CannotWrite h = record { texts = h.texts; wrote = wrote_on h.texts h.wrote; cut = h.cut }
 
+  -- and so is one where a journal may be told before the line
   pub halted_on : (old new : SinkView) (h : Halt) → IsHalted P old_steps new_steps old new h
       → IsHalted Q old_steps new_steps old new h
   halted_on old new (halt.Refused r) h = failed_on old new r h
@@ -226,9 +229,11 @@ unread_is rose files a steps out CannotWrite h = absurd h
 
 module _ (P : Ending → Type 0) (old_steps new_steps work : ℕ) (texts : List (List ℕ)) (may : P (written texts work))
     (steps : new_steps ≡ old_steps + work) (old new : SinkView) where
+  -- where the texts of a lawful ending were put, the study is written
   pub all_put : ArePut texts old new → IsFinished P old_steps new_steps old new
   all_put put = record { texts = texts; wrote = record { work = work; may = may; steps = steps }; put = put }
 
+  -- where they were not put, the cause is why the study is not written
   pub not_put : (r : Refusal) → IsNotPut texts old new r → IsFailed P old_steps new_steps old new r
   not_put OutOfMemory h = h
   not_put Usage h = h
@@ -256,6 +261,7 @@ module _ (words : Option Asked) (before after : Outside) where
   by_fault fault.NoMemory none refused inputs steps = answer.memory refused
   by_fault fault.Usage none refused inputs steps = answer.usage (none refl) refused inputs steps
 
+  -- where the words were not read, and nothing but a line was told, the status of that fault is the answer
   pub unread_words : (f : WordsFault) (status : ℕ) → (f ≡ fault.Usage → words ≡ None)
       → IsRefused before after [] (words_refusal f) → after.inputs ≡ before.inputs → after.steps ≡ before.steps
       → status ≡ status_of (words_refusal f) → IsAnswer words before after status
@@ -273,6 +279,7 @@ module _ (words : Option Asked) (before after : Outside) where
   by_refusal a (Stopped stop) is h told = answer.stopped a is [] stop h.0 (record { output = h.1; told_is = told })
   by_refusal a CannotWrite is h told = answer.cut a is h told
 
+  -- where what is asked was not written, and a line was told, the status of that cause is the answer
   pub unobeyed : (a : Asked) (r : Refusal) (status : ℕ) → words ≡ Some a
       → IsUnobeyed (Rose before.inputs.faults after.inputs.faults) before.inputs.files a before.steps after.steps
       before.output after.output r

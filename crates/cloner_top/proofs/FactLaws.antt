@@ -34,6 +34,7 @@ use Rattle.cloner_top.specs.Stops.{stop_status}
 use Rattle.cloner_top.specs.Texts.{AreTexts, IsUnread}
 
 module _ (words : Option Asked) (before after : Outside) where
+  -- status 2 means that the command line has no known form
   pub usage_cause : (status : ℕ) → IsAnswer words before after status → status ≡ 2 → words ≡ None
   usage_cause _ (writes a is finished fetches quiet) two = absurd (omega (arith, two))
   usage_cause _ (memory refused) two = absurd (omega (arith, two))
@@ -53,6 +54,7 @@ module _ (words : Option Asked) (before after : Outside) where
   none_is : (a : Asked) → words ≡ Some a → words ≡ None → ⊥
   none_is a is none = let h = sym is ∙ none in cc
 
+  -- a command line of no known form gets status 1 or 2
   pub formless : (status : ℕ) → IsAnswer words before after status → words ≡ None → (status ≡ 1) ⊎ (status ≡ 2)
   formless _ (writes a is finished fetches quiet) none = absurd (none_is a is none)
   formless _ (memory refused) none = inl refl
@@ -78,6 +80,7 @@ high (NoClone name) = omega arith
 high (LimitMet limit station clone) = omega arith
 
 module _ (words : Option Asked) (before after : Outside) where
+  -- status 3 means that a text was not read
   pub unread_cause : (status : ℕ) → IsAnswer words before after status → status ≡ 3 → IsUnreadFor words before after
   unread_cause _ (writes a is finished fetches quiet) three = absurd (omega (arith, three))
   unread_cause _ (memory refused) three = absurd (omega (arith, three))
@@ -87,6 +90,7 @@ module _ (words : Option Asked) (before after : Outside) where
   unread_cause _ (stops a is told stop why refused) three = absurd (let l = low stop in omega (arith, three, l))
   unread_cause _ (cut a is off told) three = absurd (omega (arith, three))
 
+  -- statuses 4 to 7 mean that the study stopped, and that a line tells why
   pub stop_cause : (status : ℕ) → IsAnswer words before after status → 4 ≤ status → status ≤ 7
       → IsStoppedFor words before after status
   stop_cause _ (writes a is finished fetches quiet) l h = absurd (omega (arith, l))
@@ -98,6 +102,7 @@ module _ (words : Option Asked) (before after : Outside) where
       record { a = a; asks = is; told = told; stop = stop; is = refl; stops = why; told_is = refused.told_is }
   stop_cause _ (cut a is off told) l h = absurd (omega (arith, h))
 
+  -- status 8 means that a prefix of the output was written, and that the output had a fault
   pub cut_cause : (status : ℕ) → IsAnswer words before after status → status ≡ 8 → IsCutFor words before after
   cut_cause _ (writes a is finished fetches quiet) eight = absurd (omega (arith, eight))
   cut_cause _ (memory refused) eight = absurd (omega (arith, eight))
@@ -107,6 +112,7 @@ module _ (words : Option Asked) (before after : Outside) where
   cut_cause _ (stops a is told stop why refused) eight = absurd (let h = high stop in omega (arith, eight, h))
   cut_cause _ (cut a is off told) eight = record { a = a; asks = is; cut = off }
 
+  -- where the status is neither 0 nor 8, the output is as before
   pub kept : (status : ℕ) → IsAnswer words before after status → status ≢ 0 → status ≢ 8 → after.output ≡ before.output
   kept _ (writes a is finished fetches quiet) not_0 not_8 = absurd (not_0 refl)
   kept _ (memory refused) not_0 not_8 = refused.output
@@ -199,6 +205,7 @@ module _ (words : Option Asked) (before after : Outside) where
       → IsToldFor words before after (status_of r)
   one_line r told = record { told = []; refusal = r; is = refl; preceded = inl refl; told_is = told }
 
+  -- after any status but 0 a line tells why
   pub told_for : (status : ℕ) → IsAnswer words before after status → status ≢ 0 → IsToldFor words before after status
   told_for _ (writes a is finished fetches quiet) not_0 = absurd (not_0 refl)
   told_for _ (memory refused) not_0 = one_line OutOfMemory refused.told_is
@@ -215,6 +222,7 @@ module _ (words : Option Asked) (before after : Outside) where
   told_for _ (cut a is off told) not_0 = one_line CannotWrite told
 
 module _ (words : Option Asked) (before after : Outside) where
+  -- where the status is 2 to 6, no message was handled
   pub idle : (status : ℕ) → IsAnswer words before after status → 2 ≤ status → status ≤ 6 → after.steps ≡ before.steps
   idle _ (writes a is finished fetches quiet) l h = absurd (omega (arith, l))
   idle _ (memory refused) l h = absurd (omega (arith, l))
@@ -292,6 +300,7 @@ writes_come before after a m s put work texts (ends.studied net stated end is_mo
     writes_end before after a m s net stated put work texts is_model is_script may are steps
 
 module _ (words : Option Asked) (before after : Outside) where
+  -- status 0 means that the whole output is written, and nothing told
   pub finished : (status : ℕ) → IsAnswer words before after status → status ≡ 0 → IsWritten words before after
   finished _ (writes a is done fetches quiet) is_0 = record {
     a = a;
@@ -330,6 +339,7 @@ module _ (before after : Outside) where
   of_memory None = inl refl
   of_memory (Some a) = λ well. inl refl
 
+  -- where no input failed, the answer is out of memory, usage, a text that is not there, or a lawful ending
   pub completes : (words : Option Asked) (status : ℕ) → IsAnswer words before after status
       → Completes words before after status
   completes words _ (writes a is done fetches quiet) =

@@ -66,6 +66,7 @@ module _ (net : Net) (s : ScriptView) (old_steps new_steps : ℕ) (live : LiveRu
     front_is : w.front ≡ net.horizon
     front_is = ap (λ (v : WorldView). v.front) ends.world_is
 
+    -- a live run leaves a live study's world, where its clones are few and planned, and no log is beyond the limit
     pub live_world : (t : List ℕ) → t ≡ text → length w.clones ≤ 256 → NoneBeyond w.net w.clones w.front
         → ArePlanned live.book.net (after live.book.net live.book.events).clones
         → IsLiveWorld net s old_steps new_steps w t
@@ -143,11 +144,13 @@ module _ (net told : Net) (s : ScriptView) (old_steps new_steps : ℕ) (w : Worl
   texts_same : put ∷ run_texts told w.clones ≡ text ∷ run_texts net w.clones
   texts_same = ap₂ (λ t (n : Net). t ∷ run_texts n w.clones) same_text same_net
 
+  -- where the journal and the texts of the run were put, the live study is written
   pub live_finished : ArePut (put ∷ run_texts told w.clones) old new
       → IsDone (MayLive net s) old_steps new_steps old new
   live_finished are = all_put (MayLive net s) old_steps new_steps (total_handled net w.clones net.horizon)
       (text ∷ run_texts net w.clones) is.may is.steps old new (subst (λ t. ArePut t old new) texts_same are)
 
+  -- where they were not put, the cause is why it is not written
   pub live_unfinished : (r : Refusal) → IsNotPut (put ∷ run_texts told w.clones) old new r
       → IsFailed (MayLive net s) old_steps new_steps old new r
   live_unfinished r are = not_put (MayLive net s) old_steps new_steps (total_handled net w.clones net.horizon)

@@ -61,11 +61,13 @@ module _ (a : Asked) (net told : Net) (stated : ScriptView) (book : BookView) (i
 -- what is written while analysts decide ends a live study
 module _ (a : Asked) (net : Net) (stated : ScriptView) (is : a.mode ≡ Live) (old_steps new_steps : ℕ)
     (old new : SinkView) where
+  -- what is written for an ending of the live study is written for one of the study that is asked
   pub live_put : {T : Type 0} (r : Result T Halt) → OnOk r (IsFinished (MayLive net stated) old_steps new_steps old new)
       → OnOk r (IsFinished (MayEnd a net stated) old_steps new_steps old new)
   live_put r h = on_ok r (finished_on (MayLive net stated) (MayEnd a net stated) (λ end may. live end is may)
       old_steps new_steps old new) h
 
+  -- and why it is not written is why that study is not
   pub live_not_put : {T : Type 0} (r : Result T Halt)
       → IfErr r (λ e. IsHalted (MayLive net stated) old_steps new_steps old new e)
       → IfErr r (λ e. IsHalted (MayEnd a net stated) old_steps new_steps old new e)

@@ -79,6 +79,7 @@ module _ {X : Type 0} (f : X → List ℕ) (xs : List X) (last : List ℕ) where
   how_many = length-append (map f xs) (last ∷ []) ∙ ap (λ n. n + 1) (length-map xs f)
 
   module _ (old mid new : SinkView) where
+    -- where all but the last were taken, a call for each, and the last was put, all were put
     pub put_more : Appended old.bytes (flat_map f xs) mid.bytes → AreCounted (length xs) old.calls mid.calls
         → ArePut (last ∷ []) mid new → ArePut (map f xs ++ last ∷ []) old new
     put_more bytes calls put = record {
@@ -93,6 +94,7 @@ module _ {X : Type 0} (f : X → List ℕ) (xs : List X) (last : List ℕ) where
         of_one None b h = h
         of_one (Some o) b h = h
 
+    -- where all but the last were taken, and the last was cut off, the texts were cut off
     pub cut_last : Appended old.bytes (flat_map f xs) mid.bytes → AreCounted (length xs) old.calls mid.calls
         → old.faults ≤ mid.faults → AreCut (last ∷ []) mid new
         → AreCut (map f xs ++ last ∷ []) old new
@@ -112,6 +114,7 @@ module _ {X : Type 0} (f : X → List ℕ) (xs : List X) (last : List ℕ) where
         of_some None b n low high h = h
         of_some (Some o) b n low high h = let e : n ≡ 1 = omega (arith, low, high) in (rw e at h)
 
+  -- where a call before the last failed, and a part was taken, the texts were cut off
   pub cut_before : (old new : SinkView) → PartAppended old.bytes (flat_map f xs) new.bytes → Rose old.faults new.faults
       → (n : ℕ) → 1 ≤ n → n ≤ length xs → AreCounted n old.calls new.calls → AreCut (map f xs ++ last ∷ []) old new
   cut_before old new bytes failed n some few calls = record {
@@ -140,6 +143,7 @@ module _ (first : List ℕ) (texts : List (List ℕ)) where
   both_are = concat-append (first ∷ []) texts
 
   module _ (old mid new : SinkView) where
+    -- where the first was put, and then the others, all were put
     pub put_then : ArePut (first ∷ []) old mid → ArePut texts mid new → ArePut (first ∷ texts) old new
     put_then h k = record {
       bytes = subst (λ t. Appended old.bytes t new.bytes) (sym both_are)
@@ -147,6 +151,7 @@ module _ (first : List ℕ) (texts : List (List ℕ)) where
       calls = counted_then (length texts) old.calls mid.calls new.calls h.calls k.calls;
     }
 
+    -- where the first was put, and the others were cut off, all together were cut off
     pub cut_then : ArePut (first ∷ []) old mid → old.faults ≤ mid.faults → AreCut texts mid new
         → AreCut (first ∷ texts) old new
     cut_then h later k = record {
@@ -159,11 +164,13 @@ module _ (first : List ℕ) (texts : List (List ℕ)) where
       calls = counted_then k.puts old.calls mid.calls new.calls h.calls k.calls;
     }
 
+    -- where the first was put, and the others were told, all together were told
     pub told_then : ArePut (first ∷ []) old mid → old.faults ≤ mid.faults → AreTold texts mid new
         → AreTold (first ∷ texts) old new
     told_then h later (inl k) = inl (put_then h k)
     told_then h later (inr k) = inr (cut_then h later k)
 
+  -- where the first was cut off, all together were
   pub cut_first : (old new : SinkView) → AreCut (first ∷ []) old new → AreCut (first ∷ texts) old new
   cut_first old new h = record {
     bytes = subst (λ t. PartAppended old.bytes t new.bytes) (sym both_are)
@@ -180,6 +187,7 @@ module _ (first : List ℕ) (texts : List (List ℕ)) where
       → AreCut (first ∷ texts) old new
   first_cut old new r h is = cut_first old new (subst (IsNotPut (first ∷ []) old new) is h)
 
+  -- so where that fault kept the first from being put, all together were not put, for that cause
   pub first_not_put : (old new : SinkView) (r : Refusal) → IsNotPut (first ∷ []) old new r → r ≡ CannotWrite
       → IsNotPut (first ∷ texts) old new r
   first_not_put old new r h is = subst (IsNotPut (first ∷ texts) old new) (sym is) (first_cut old new r h is)

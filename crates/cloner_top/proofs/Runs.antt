@@ -55,12 +55,14 @@ module _ (texts_of : Net → List Clone → List (List ℕ)) (net told : Net) (c
   steps_same : new_steps ≡ old_steps + total_handled net cs net.horizon
   steps_same = subst (λ l. new_steps ≡ old_steps + total_handled net l net.horizon) same_clones steps
 
+  -- where no log is beyond the limit, and the texts of the run were put, the run is written
   pub run_put : {T : Type 0} (r : Result T Refusal) → OnOk r (ArePut (texts_of told those) old new)
       → OnOk r (IsFinished (MayRun net cs (texts_of net cs)) old_steps new_steps old new)
   run_put r h = on_ok r (λ put. all_put (MayRun net cs (texts_of net cs)) old_steps new_steps
       (total_handled net cs net.horizon) (texts_of net cs) may_run steps_same old new
       (subst (λ t. ArePut t old new) texts_same put)) h
 
+  -- where they were not put, the cause is why the run is not written
   pub run_not_put : {T : Type 0} (r : Result T Refusal) → IfErr r (λ e. IsNotPut (texts_of told those) old new e)
       → IfErr r (λ e. IsFailed (MayRun net cs (texts_of net cs)) old_steps new_steps old new e)
   run_not_put r h = on_err r (λ e not. not_put (MayRun net cs (texts_of net cs)) old_steps new_steps
@@ -103,18 +105,21 @@ module _ (net told : Net) (cs those : List Clone) (name : List ℕ) (k old_steps
     steps_alone = steps ∙ ap (λ n. old_steps + n) (ap (λ (n : Net). length (trace_of n (clone_at those k))) same_net
         ∙ ap (λ l. length (trace_of net (clone_at l k))) same_clones)
 
+    -- where no log of the clone is beyond the limit, and its text was put, its run by itself is written
     pub alone_put : {T : Type 0} (r : Result T Refusal) → OnOk r (ArePut (text ∷ []) old new)
         → OnOk r (IsFinished (MayRunAlone net cs name) old_steps new_steps old new)
     alone_put r h = on_ok r (λ put. all_put (MayRunAlone net cs name) old_steps new_steps
         (length (trace_of net (clone_at cs k))) (clone_text net (clone_at cs k) ∷ []) may_alone steps_alone old new
         (subst (λ t. ArePut t old new) is_text put)) h
 
+    -- where the text was not put, the cause is why that run is not written
     pub alone_not_put : {T : Type 0} (r : Result T Refusal) → IfErr r (λ e. IsNotPut (text ∷ []) old new e)
         → IfErr r (λ e. IsFailed (MayRunAlone net cs name) old_steps new_steps old new e)
     alone_not_put r h = on_err r (λ e not. not_put (MayRunAlone net cs name) old_steps new_steps
         (length (trace_of net (clone_at cs k))) (clone_text net (clone_at cs k) ∷ []) may_alone steps_alone old new e
         (subst (λ t. IsNotPut t old new e) is_text not)) h
 
+  -- where the limit is met in the run of the clone by itself, that run stops for it
   pub alone_stops : (station who : ℕ) (stop : Stop) → StopsAlone told those k old_steps new_steps station who
       → stop ≡ limit_met told station name
       → StoppedFor (MayRunAlone net cs name) old_steps new_steps [] stop

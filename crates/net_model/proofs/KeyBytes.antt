@@ -65,12 +65,14 @@ module _ (key : List ℕ) (len : ℕ) (copied front : List ℕ)
   behind : drop len (copied ++ drop len (replicate 32 0)) ≡ replicate (32 - len) 0
   behind = seam_rest copied (drop len (replicate 32 0)) len copied_len ∙ drop-replicate len 32 0
 
+  -- the bytes up to that length are the text of the key
   pub key_text_bytes : take len (front ++ drop len (copied ++ drop len (replicate 32 0))) ≡ key_text key
   key_text_bytes =
       let first : take len key ≡ take 32 key = ap (λ n. take n key) (size ∙ omega arith) ∙ take_min 32 key in
       seam front (drop len (copied ++ drop len (replicate 32 0))) len front_len
       ∙ (front_is ∙ ap (map shown) (copy ∙ first))
 
+  -- and all the bytes are a key text, with zeros behind it
   pub key_text_padded : IsKeyText (front ++ drop len (copied ++ drop len (replicate 32 0))) len
   key_text_padded = record {
     room = short;

@@ -22,6 +22,7 @@ module _ (root : Data) where
   unfolding model_of
   parts i = from_parts (only_known 0 top_keys root) (top_of root) (stations_at root)
 
+  -- an unknown key at the top is the fault of the model
   pub unknown_key : (e : ModelFault) → only_known 0 top_keys root ≡ Err e → model_of root ≡ Err e
   unknown_key e known = parts ∙ ap (λ k. from_parts k (top_of root) (stations_at root)) known
 
@@ -29,6 +30,7 @@ module _ (root : Data) where
     known_keys : model_of root ≡ from_parts (Ok tt) (top_of root) (stations_at root)
     known_keys = parts ∙ ap (λ k. from_parts k (top_of root) (stations_at root)) known
 
+    -- where the keys are known, a fault of the numbers at the top is that of the model
     pub top_refused : (e : ModelFault) → top_of root ≡ Err e → model_of root ≡ Err e
     top_refused e top = known_keys ∙ ap (λ t. from_parts (Ok tt) t (stations_at root)) top
 
@@ -36,6 +38,7 @@ module _ (root : Data) where
       with_top : model_of root ≡ from_parts (Ok tt) (Ok top) (stations_at root)
       with_top = known_keys ∙ ap (λ t. from_parts (Ok tt) t (stations_at root)) read
 
+      -- where those are read too, a fault of the tables of stations is that of the model
       pub tables_refused : (e : ModelFault) → stations_at root ≡ Err e → model_of root ≡ Err e
       tables_refused e tables = with_top ∙ ap (from_parts (Ok tt) (Ok top)) tables
 
@@ -43,8 +46,10 @@ module _ (root : Data) where
         with_tables : model_of root ≡ with_sites_read top (sites_of_tables top ds)
         with_tables = with_top ∙ ap (from_parts (Ok tt) (Ok top)) found
 
+        -- where the tables are found too, a fault of the stations in them is that of the model
         pub sites_refused : (e : ModelFault) → sites_of_tables top ds ≡ Err e → model_of root ≡ Err e
         sites_refused e sites = with_tables ∙ ap (with_sites_read top) sites
 
+        -- and where these are read as well, the model is the network of this top and these stations
         pub stated : (sites : List Site) → sites_of_tables top ds ≡ Ok sites → model_of root ≡ Ok (with_sites top sites)
         stated sites found = with_tables ∙ ap (with_sites_read top) found

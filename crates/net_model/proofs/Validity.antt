@@ -222,6 +222,7 @@ module _ (top : Top) (drafts : List DraftSite) (sites : List Site)
         way = p.way;
       }
 
+  -- stations that are placed by their drafts keep to the rules, in the network of the top and of them
   pub sites_are : AllByRecursion (IsSite (with_sites top sites)) sites
   sites_are = for_all (IsPlaced top.format top.lookahead drafts) (IsSite (with_sites top sites)) site_is sites
       holds.placed

@@ -17,12 +17,14 @@ pub record IsRange (low lo hi : ℕ) : Type 0 where
   pub ordered : lo ≤ hi
   pub small : hi ≤ MOST_TIME
 
+-- a source has a range of times from 1 on, no more jobs than the most, and a class that there is
 pub record IsSource (lo hi jobs class : ℕ) : Type 0 where
   pub every : IsRange 1 lo hi
   pub few : jobs ≤ MOST_JOBS
   pub first : 1 ≤ class
   pub last : class ≤ MOST_CLASS
 
+-- a server has 1 server or more, not too many, nor too much room, and a range of times from 1 on
 pub record IsServer (servers room lo hi : ℕ) : Type 0 where
   pub some : 1 ≤ servers
   pub few : servers ≤ MOST_SERVERS
@@ -58,6 +60,7 @@ abbrev pub HasWayOut : Kind → List Link → Type 0
 HasWayOut Sink links = length links ≡ 0
 HasWayOut _ links = 1 ≤ length links
 
+-- a station keeps to the rules of a network: its name, its stream, its kind, and its links
 pub record IsSite (net : Net) (site : Site) : Type 0 where
   pub named : is_name site.name ≡ true
   pub no_analyst : site.name ≢ codes "analyst"
@@ -68,6 +71,7 @@ pub record IsSite (net : Net) (site : Site) : Type 0 where
   pub links : AllByRecursion (IsLink net) site.links
   pub way : HasWayOut site.kind site.links
 
+-- a network keeps to the rules: its numbers are within bounds, and its stations have different names and keep to theirs
 pub record IsNet (net : Net) : Type 0 where
   pub format : (net.format ≡ 1) ⊎ (net.format ≡ 2)
   pub ahead : 1 ≤ net.lookahead

@@ -15,6 +15,7 @@ use Rattle.trace_report.specs.Outputs.{clone_text}
 module _ (net : Net) (cs : List Clone) (reserved c : ℕ) (k : Keep) (kept : IsKept net cs reserved c k) (old cut new : List ℕ)
     (margin : 32 ≤ length old) (lines : drop 32 old ≡ body_before net cs c)
     (is_cut : cut ≡ take (32 + k.bytes) old) where
+  -- the text goes at least to where the kept lines end
   pub can_cut : 32 + k.bytes ≤ length old
   can_cut = let a = ap length lines in let b = length-drop 32 old in let w = kept.within in
       omega (arith, a, b, w, margin)
@@ -47,6 +48,7 @@ module _ (net : Net) (cs : List Clone) (reserved c : ℕ) (k : Keep) (kept : IsK
       ∙ drop-append-le 32 cut (rest net (clone_at cs c) k.time) (let l = long_cut in omega (arith, l))
       ∙ ap (λ x. x ++ rest net (clone_at cs c) k.time) kept_lines ∙ sym kept.joins
 
+  -- and there are still 32 bytes or more
   pub margin_stays : new ≡ cut ++ rest net (clone_at cs c) k.time → 32 ≤ length new
   margin_stays e =
       let a = ap length e in

@@ -146,10 +146,11 @@ module _ (net : Net) (valid : IsNet net) (cs : List Clone) (in_net : AreInNet ne
 -- ---- each clone keeps what it shares with the one before it, if there is one
 
 module _ (net : Net) (cs : List Clone) where
-  -- where its own lines begin, for the first and for every other
+  -- the lines of the first clone are its own from time 0 on
   pub parting_none : (c n : ℕ) → c ≡ 0 → n ≡ 0 → n ≡ parting_at net cs c
   parting_none c n e z = z ∙ ap (parting_at net cs) (sym e)
 
+  -- those of any other from the time before which its trace is that of the clone before it
   pub parting_some : (c n : ℕ) → 1 ≤ c → n ≡ shared_at net cs c → n ≡ parting_at net cs c
   parting_some zero n l e = absurd (omega (arith, l))
   parting_some (suc c) n l e = e

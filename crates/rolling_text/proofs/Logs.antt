@@ -67,12 +67,14 @@ later_of_rest early late (e ∷ es) l =
 
 -- one line more is written
 module _ {E : Type 0} (line : E → List ℕ) (e : E) (left : List E) where
+  -- where a text and the lines left are the whole, so are the text with the next line and the lines then left
   pub line_joins : (before after all : List ℕ) → before ++ flat_map line (e ∷ left) ≡ all → after ≡ before ++ line e
       → after ++ flat_map line left ≡ all
   line_joins before after all h k =
       ap (λ l. l ++ flat_map line left) k ∙ append_assoc before (line e) (flat_map line left)
       ∙ ap (λ l. before ++ l) (sym (flat_map-cons line e left)) ∙ h
 
+  -- the lines left are as long as the next one and those behind it
   pub line_length : length (flat_map line (e ∷ left)) ≡ length (line e) + length (flat_map line left)
   line_length = ap length (flat_map-cons line e left) ∙ length-append (line e) (flat_map line left)
 
@@ -116,6 +118,7 @@ module _ (world : WorldView) (over : IsOver world) (c : ℕ) (there : c < length
   walk_fits s t log walk e f = subst FitWords (sym (f ∙ ap (from_time t) e))
       (fit_from t (log_at net clone s world.front) (log_fits s))
 
+  -- no entry of a log of the clone is of a later time than one behind it
   pub log_rises_by_time : (s : ℕ) (log : List (Entry Msg Line)) → log ≡ log_at net clone s world.front → RiseByTime log
   log_rises_by_time s log e = subst RiseByTime (sym e) (rise_by_time (log_at net clone s world.front)
       (log_rises (lawful-stations net over.valid) (stations-to_stations net over.valid)

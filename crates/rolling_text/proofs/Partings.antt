@@ -25,7 +25,7 @@ module _ (same : Planned → Planned → Bool) where
       by true h = h
       by false h = grind (arith, h)
 
-  -- one place more of both lists
+  -- one place more of both lists, where they have the same there, leaves the parting as it is
   pub both_more : (least : ℕ) (ps qs : List Planned) (i : ℕ) (d e : Planned) → i < length ps → i < length qs
       → same (get_or ps i d) (get_or qs i e) ≡ true →
       parting same least (drop i ps) (drop i qs) ≡ parting same least (drop (i + 1) ps) (drop (i + 1) qs)
@@ -34,6 +34,7 @@ module _ (same : Planned → Planned → Bool) where
       ∙ ap (λ b. if b then parting same least (drop (i + 1) ps) (drop (i + 1) qs)
       else min (min (get_or ps i d).at (get_or qs i e).at) (parting same least (drop (i + 1) ps) (drop (i + 1) qs))) h
 
+  -- and where they have not, it does so with the lesser of the two times taken in
   pub other_more : (least : ℕ) (ps qs : List Planned) (i : ℕ) (d e : Planned) → i < length ps → i < length qs
       → same (get_or ps i d) (get_or qs i e) ≡ false →
       parting same least (drop i ps) (drop i qs) ≡ parting same
@@ -73,9 +74,11 @@ module _ (least most : ℕ) (ps qs : List Planned) (i : ℕ) (d e : Planned) (in
   told_apart = same_from_decides r (same_plan (get_or ps i d) (get_or qs i e)) decides
       (same_plan-Decides (get_or ps i d) (get_or qs i e))
 
+  -- where the decisions at the place are equal, one place more of both lists leaves the result as it is
   pub equal_next : r ≡ true → parting same_plan least (drop (i + 1) ps) (drop (i + 1) qs) ≡ parting same_plan most ps qs
   equal_next h = sym (both_more same_plan least ps qs i d e in_ps in_qs (sym told_apart ∙ h)) ∙ so_far
 
+  -- where they are not, so does one place more with the lesser of their times taken in
   pub other_next : (both new : ℕ) → r ≡ false → both ≡ min (get_or ps i d).at (get_or qs i e).at → new
       ≡ min least both →
       parting same_plan new (drop (i + 1) ps) (drop (i + 1) qs) ≡ parting same_plan most ps qs

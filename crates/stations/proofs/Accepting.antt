@@ -35,6 +35,7 @@ range-bounds low lo hi h =
     let first = and_parts (nat_le low lo) (nat_le lo hi) parts.0 in
     record { above = leb-true low lo first.0; ordered = leb-true lo hi first.1; small = leb-true hi 1000000 parts.1 }
 
+-- a change names one of so many links, and a weight from 1 to 1000
 pub record IsWeightChange (links : ℕ) (c : Change) : Type 0 where
   pub first : 1 ≤ c.a
   pub last : c.a ≤ links

@@ -31,6 +31,7 @@ module _ (net : Net) (site : Site) (now : ℕ) (links : AllByRecursion (IsLink n
   delay_later : (handled : ℕ) (s : DelayState) → FitsDelay handled s → FitsDelay (handled + 1) s
   delay_later handled s f = record { range = f.range; passed = omega (arith, f.passed) }
 
+  -- after any message a delay fits one message more, and sends at most 16 messages
   pub delay_on-good : (lo hi handled : ℕ) (p : Payload) (s : DelayState) → site.kind ≡ kind.Delay lo hi
       → FitsDelay handled s
       → FitsDelay (handled + 1) (delay_on site now p s a).state × Grown net now 16 a (delay_on site now p s a).out

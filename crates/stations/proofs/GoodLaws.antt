@@ -107,6 +107,7 @@ module _ (net : Net) (valid : IsNet net) where
       pub below : at < high
       pub is : IsSend net now s at z
 
+    -- a message among sends with the numbers from k on is a send with one of these numbers
     pub among : (k : ℕ) (ms : List Msg) (z : Msg) → AreSends net now s k ms → In z ms → IsAmong k (k + length ms) z
     among k [] z are i = absurd i
     among k (m ∷ ms) z are (inl same) =
@@ -133,6 +134,7 @@ module _ (net : Net) (valid : IsNet net) where
     numbers_apart k (m ∷ ms) z y are (inr i) (inr j) same = numbers_apart (suc k) ms z y are.1 i j same
 
 module _ (net : Net) (valid : IsNet net) where
+  -- a station opens in a good state
   pub opens_good : (s : ℕ) → IsGood net s (setup net s).state
   opens_good s =
       let at = site_of net s in
@@ -148,6 +150,7 @@ module _ (net : Net) (valid : IsNet net) where
         ];
       }
 
+  -- good states stay good, and what is sent comes later, to another station by the lookahead later or more
   pub lawful-stations : HandlesLawfully (simulation net) (IsGood net)
   lawful-stations = record {
     order = record { order = record { total = msg_total; same = msg_same }; timed = msg-timed };
@@ -160,6 +163,7 @@ module _ (net : Net) (valid : IsNet net) where
         (handles-good net valid s st m good).sends i).is.far other;
   }
 
+  -- a first message is for its own station, a send for a station, and a decision for the one that it names
   pub stations-to_stations : SendsToStations (simulation net) (IsGood net)
   stations-to_stations = record {
     first = λ s m there is. (first_tick-first (opening_kind (site_of net s) (site_of net s).kind) _ m is).to;
@@ -169,6 +173,7 @@ module _ (net : Net) (valid : IsNet net) where
         (handles-good net valid s st m good).sends i).is in (omega (arith, sent.first), sent.last);
   }
 
+  -- a station numbers what it sends, each number once, and the number of a decision is its place in the list
   pub fresh-stations : HandlesFreshly (simulation net) (IsGood net) sender_of number_of next_number
   fresh-stations = record {
     keyed = λ x y less. msg-keyed x y less;

@@ -33,6 +33,7 @@ module _ (net : Net) (now : ℕ) where
       let same : k + suc (length ms) ≡ suc k + length ms = omega arith in
       (are.0, AreSends-append s (suc k) ms ns are.1 (subst (λ (i : ℕ). AreSends net now s i ns) same more))
 
+  -- what stays as it is has grown by nothing
   pub grown-none : (a : Outgoing) → Grown 0 a a
   grown-none a = record {
     station = refl;
@@ -44,6 +45,7 @@ module _ (net : Net) (now : ℕ) where
     are = tt;
   }
 
+  -- what has grown by at most n has grown by at most any number from n on
   pub grown-more : (n m : ℕ) (a b : Outgoing) → Grown n a b → n ≤ m → Grown m a b
   grown-more n m a b g le = record {
     station = g.station;
@@ -55,9 +57,11 @@ module _ (net : Net) (now : ℕ) where
     are = g.are;
   }
 
+  -- what stays as it is has grown by at most any number
   pub grown-same : (n : ℕ) (a : Outgoing) → Grown n a a
   grown-same n a = grown-more 0 n a a (grown-none a) (omega arith)
 
+  -- what has grown by at most n, and then by at most m, has grown by at most n + m
   pub grown-then : (n m : ℕ) (a b c : Outgoing) → Grown n a b → Grown m b c → Grown (n + m) a c
   grown-then n m a b c g h =
       let count = length-append g.more h.more in

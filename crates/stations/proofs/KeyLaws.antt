@@ -35,6 +35,7 @@ module _ (net : Net) (valid : IsNet net) where
   bound-enough : 16 * (net.limit + 1) ≤ 2 ^ 21
   bound-enough = let short = valid.short in omega (arith, short)
 
+  -- at a front where no log is beyond the limit each message of a clone's run has a small sender and number
   pub keys-small : KeysAreSmall net
   keys-small c front m counted i = record {
     sender = elim (numbers_low (lawful-stations net valid) (stations-to_stations net valid)
@@ -49,6 +50,7 @@ module _ (net : Net) (valid : IsNet net) where
         bound-enough i;
   }
 
+  -- so has the message of each entry of a log, which comes before the front
   pub log_keys-small : LogKeysAreSmall net
   log_keys-small c s front e counted i =
       let trace : List (Entry Msg Line) = (run_of (simulation net) c front).at.trace in

@@ -46,6 +46,7 @@ module _ (net : Net) where
   count_from s st [] = omega arith
   count_from s st (e ∷ es) = count_from s (handle net st e.msg).state es ∙ omega arith
 
+  -- the replay of a log has handled as many messages as the log has entries
   pub replay-counts : ReplayCounts net
   replay-counts s log = count_from s (setup net s).state log ∙ omega arith
 
@@ -54,6 +55,7 @@ module _ (net : Net) where
   goes_on_from s st [] e = refl
   goes_on_from s st (x ∷ log) e = goes_on_from s (handle net st x.msg).state log e
 
+  -- the replay of one entry more is what its message leads to from the replay
   pub replay-goes_on : ReplayGoesOn net
   replay-goes_on s log e = goes_on_from s (setup net s).state log e
 
@@ -72,9 +74,11 @@ module _ (net : Net) (valid : IsNet net) where
   good_from s st (e ∷ es) good =
       good_from s (handle net st e.msg).state es (handles-good net valid s st e.msg good).good
 
+  -- the replay of a log is a good state of its station
   pub replay-good : ReplayIsGood net
   replay-good s log = good_from s (setup net s).state log (opens_good net valid s)
 
+  -- at a station of the network it is a state of that station
   pub replay-suits : ReplaySuits net
   replay-suits s log low high =
       let good = replay-good s log in
@@ -93,6 +97,7 @@ module _ (net : Net) (valid : IsNet net) where
       let well = handles-well net st e.msg valid fits suits early.0 in
       fits_from s (handle net st e.msg).state es well.fits well.suits early.1
 
+  -- and it keeps what every state keeps, where the times of the log are early
   pub replay-fits : ReplayFits net
   replay-fits s log low high early =
       let site = there net s low high in
@@ -102,6 +107,7 @@ module _ (net : Net) (valid : IsNet net) where
   opens_next : (s : ℕ) → (setup net s).state.sender.next ≤ 1
   opens_next s = first_tick-next (opening_kind (site_of net s) (site_of net s).kind) _
 
+  -- a station opens with at most one message and sends at most 16 at each, and each gets the next number
   pub sends-next_numbers : SendsNextNumbers net
   sends-next_numbers = record {
     opens = opens_next;
@@ -118,12 +124,14 @@ module _ (net : Net) (valid : IsNet net) where
       let rest = next_from s (handle net st e.msg).state es one.good in
       omega (arith, rest, one.next, one.few)
 
+  -- so its next number is at most 16 for each entry of its log, and 16 more
   pub numbers-small : NumbersAreSmall net
   numbers-small s log =
       let rest = next_from s (setup net s).state log (opens_good net valid s) in
       let first = opens_next s in
       omega (arith, rest, first)
 
+  -- a job that is sent comes by the lookahead later or more
   pub jobs-take_lookahead : JobsTakeTheLookahead net
   jobs-take_lookahead s st m z good i job =
       (among net valid m.key.time s st.sender.next (handle net st m).sends z

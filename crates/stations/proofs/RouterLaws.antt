@@ -64,6 +64,7 @@ module _ (net : Net) (site : Site) (now : ℕ) (links : AllByRecursion (IsLink n
       by false = grown-more net now 1 16 a _ (grown-route net now site.links s.weights.items j a links ahead)
           (omega arith)
 
+  -- after any message a router fits one more, has a weight for each link, and sends at most 16 messages
   pub router_on-good : (handled : ℕ) (p : Payload) (s : RouterState) → is_router site.kind ≡ true
       → length s.weights.items ≡ length site.links → FitsRouter handled s
       → FitsRouter (handled + 1) (router_on site now p s a).state

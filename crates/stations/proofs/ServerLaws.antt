@@ -162,6 +162,7 @@ module _ (net : Net) (site : Site) (now : ℕ) (links : AllByRecursion (IsLink n
   last_along n a b g last = rw g.station last
 
   module _ (a : Outgoing) (first : 1 ≤ a.sender.station) (last : a.sender.station ≤ length net.sites) where
+    -- a server that could take n waiting jobs more can take none after n starts, of a message each at most
     pub start_times-good : (n m handled : ℕ) (r : Reaction ServerState) → IsBusyBut n handled r.state
         → Grown net now m a r.out → Holds (IsBusyBut 0 handled) (m + n) a (start_times n net site now r)
     start_times-good zero m handled r b g =
@@ -180,6 +181,7 @@ module _ (net : Net) (site : Site) (now : ℕ) (links : AllByRecursion (IsLink n
     same_grown : (n : ℕ) → Grown net now n a a
     same_grown n = grown-more net now 0 n a a (grown-none net now a) (omega arith)
 
+    -- where a job comes, the server fits one message more and sends at most 16 messages
     pub server_job-good : (handled : ℕ) (job : JobOf) (s : ServerState) → FitsServer handled s
         → Holds (FitsServer (handled + 1)) 16 a (server_job now job s a)
     server_job-good handled job s f = by (nat_lt s.busy s.servers) (nat_lt (length s.waiting) s.room) refl refl
@@ -237,6 +239,7 @@ module _ (net : Net) (site : Site) (now : ℕ) (links : AllByRecursion (IsLink n
           grown = same_grown 16;
         }
 
+    -- where a service ends, the server fits one message more and sends at most 16 messages
     pub server_done-good : (handled : ℕ) (job : JobOf) (s : ServerState) → FitsServer handled s
         → Holds (FitsServer (handled + 1)) 16 a (server_done net site now job s a)
     server_done-good handled job s f = by (nat_lt 0 s.busy) refl

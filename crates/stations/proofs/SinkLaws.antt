@@ -7,6 +7,7 @@ use Rattle.stations.specs.Fits.{FitsSink}
 use Rattle.stations.specs.Sinks.{sink_on}
 
 module _ (now : ℕ) (early : now < 2 ^ 31) where
+  -- after any message of a time below 2^31 a sink fits one message more
   pub sink_on-fits : (handled : ℕ) (p : Payload) (s : SinkState) → FitsSink handled s
       → FitsSink (handled + 1) (sink_on now p s)
   sink_on-fits handled (Job j) s f = record { got = omega (arith, f.got); stay = omega (arith, f.stay) }

@@ -18,6 +18,7 @@ use Rattle.stations.proofs.Growing.{Grown, grown-none, grown-more, grown-then, g
 
 -- the next tick, where one is sent
 module _ (net : Net) (now : ℕ) where
+  -- the next tick is at most one message and takes at most one word drawn
   pub tick_grown : (s : SourceState) (o : Outgoing) → IsRange 1 s.lo s.hi → 1 ≤ o.sender.station
       → o.sender.station ≤ length net.sites → Grown net now 1 o (next_tick now s o)
   tick_grown s o range low high = by (nat_lt s.sent s.jobs)
@@ -52,6 +53,7 @@ module _ (net : Net) (site : Site) (now : ℕ) (links : AllByRecursion (IsLink n
       grown-more net now 2 16 a (next_tick now t after)
       (grown-then net now 1 1 a after (next_tick now t after) routed ticked) (omega arith)
 
+  -- after any message a source fits one message more, and sends at most 16 messages
   pub source_on-good : (lo hi jobs class handled : ℕ) (p : Payload) (s : SourceState)
       → site.kind ≡ kind.Source lo hi jobs class → FitsSource handled s
       → FitsSource (handled + 1) (source_on site now p s a).state × Grown net now 16 a (source_on site now p s a).out

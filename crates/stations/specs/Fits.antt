@@ -38,7 +38,7 @@ abbrev pub HasLinks : KindState → List Link → Type 0
 HasLinks (Sink s) links = Unit {0}
 HasLinks _ links = AreLinks links
 
--- after so many messages were handled
+-- a source has a range of times from 1 on and no more jobs than the most, and sent no more than it handled messages
 pub record FitsSource (handled : ℕ) (s : SourceState) : Type 0 where
   pub range : IsRange 1 s.lo s.hi
   pub jobs : s.jobs ≤ MOST_JOBS
@@ -56,14 +56,17 @@ pub record FitsServer (handled : ℕ) (s : ServerState) : Type 0 where
   pub done : s.done ≤ handled
   pub lost : s.lost ≤ handled
 
+-- a delay has a range of times from 0 on, and has passed on no more jobs than it handled messages
 pub record FitsDelay (handled : ℕ) (s : DelayState) : Type 0 where
   pub range : IsRange 0 s.lo s.hi
   pub passed : s.passed ≤ handled
 
+-- a router has weights to pick by, and has passed on no more jobs than it handled messages
 pub record FitsRouter (handled : ℕ) (s : RouterState) : Type 0 where
   pub weights : AreWeights s.weights.items
   pub passed : s.passed ≤ handled
 
+-- a sink got no more jobs than it handled messages, and their stays are at most 2^31 for each message
 pub record FitsSink (handled : ℕ) (s : SinkState) : Type 0 where
   pub got : s.got ≤ handled
   pub stay : s.stay ≤ 2 ^ 31 * handled
@@ -84,11 +87,13 @@ GoodKind handled (Server s) = FitsServer handled s
 GoodKind handled (Delay s) = FitsDelay handled s
 GoodKind handled (Router s) = FitsRouter handled s
 
+-- the sender is a station, and has used at most 16 numbers and 16 draws for each message, and 16 more
 pub record FitsSender (handled : ℕ) (s : Sender) : Type 0 where
   pub station : 1 ≤ s.station
   pub next : s.next ≤ 16 * (handled + 1)
   pub draws : s.draws.count ≤ 16 * (handled + 1)
 
+-- a state keeps what its sender keeps and what its kind keeps, after as many messages as it handled
 pub record FitsState (st : StateView) : Type 0 where
   pub sender : FitsSender st.handled st.sender
   pub kind : FitsKind st.handled st.kind

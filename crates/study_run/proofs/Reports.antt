@@ -29,6 +29,7 @@ small net cs valid few =
 module _ (net : Net) (cs : List Clone) where
   -- ---- figures_to
 
+  -- there is one figure for each of the stations 1 to n
   pub figures_count : (n : ℕ) → length (figures_to net cs n) ≡ n
   unfolding figures_to
   figures_count zero = refl
@@ -42,6 +43,7 @@ module _ (net : Net) (cs : List Clone) where
   unfolding figures_to
   figures_more n = let e : n + 1 ≡ suc n = omega arith in ap (figures_to net cs) e
 
+  -- for no station there is no figure
   pub figures_none : [] ≡ figures_to net cs 0
   unfolding figures_to
   figures_none = refl
@@ -59,6 +61,7 @@ module _ (net : Net) (cs : List Clone) where
         subst (λ k. k ≤ suc n * (length cs * net.limit))
         (sym (sum_by_push f (figures_to net cs n) (figures_of net cs (n + 1)))) (omega (arith, h, one, m))
 
+    -- the sum over all stations is a number of 64 bits, where the clones are 256 at most
     pub figures_small : IsNet net → length cs ≤ 256 → sum_by f (figures_to net cs (length net.sites)) < 2 ^ 64
     figures_small valid few =
         let a = figures_few (length net.sites) (omega arith) in

@@ -57,12 +57,15 @@ module _ (net : Net) (c : Clone) (plans : List Planned) (end : Option ℕ) (fron
 
   module _ (s : SoloView) (old new : ℕ) (ends : config_of net s ≡ run_from net v front) (solo : IsSolo net s)
       (steps : new + length v.trace ≡ old + length s.trace) where
+    -- the trace at the end is that of the clone's run
     pub whole_trace : s.trace ≡ trace_of net c
     whole_trace = ap (λ k. k.at.trace) ends ∙ trace_from
 
+    -- the steps rose by the length of that trace
     pub steps_exact : new ≡ old + length (trace_of net c)
     steps_exact = let none = none_yet in let all = ap length whole_trace in omega (arith, none, all, steps)
 
+    -- no log of the clone's run is longer than the limit
     pub stays_within : IsWithin net c
     stays_within = within_alone net c (ap (first_beyond net.limit []) (sym whole_trace) ∙ solo.below)
 
@@ -75,6 +78,7 @@ module _ (net : Net) (c : Clone) (plans : List Planned) (end : Option ℕ) (fron
         let none = none_yet in
         omega (arith, all, count, total, none, steps)
 
+  -- where the run to the front stops at the limit, the run of the clone at its place ends so
   pub stops_alone : (cs : List Clone) (place old new station kept : ℕ) → clone_at cs place ≡ c
       → Stops net v front old new (Limit station kept)
       → StopsAlone net cs place old new station place

@@ -42,9 +42,11 @@ module _ (net told : Net) (cs those : List Clone) (front bound : ℕ) (same_net 
   next_is : bound ≡ next_front net cs front
   next_is = next ∙ ap₂ (λ (n : Net) l. next_front n l front) same_net same_clones
 
+  -- the next front is a later one
   pub rises_in : IsNet net → front < bound
   rises_in valid = let r = rises net cs valid front below in let e = next_is in omega (arith, r, e)
 
+  -- where no log is beyond the limit there, the run has come to it
   pub comes_in : (now : ℕ) → now ≡ bound → IsNet net → HasCome net cs front → NoneBeyond told those bound
       → HasCome net cs now
   comes_in now is valid come none =
@@ -53,6 +55,7 @@ module _ (net told : Net) (cs those : List Clone) (front bound : ℕ) (same_net 
       subst (HasCome net cs) (sym (is ∙ next_is))
       (comes_next net cs front below valid come (subst (NoneBeyond net cs) next_is two))
 
+  -- steps that were what the clones handle to the front are, one window on, what they handle to the next one
   pub steps_in : (now start mid new : ℕ) → now ≡ bound → mid ≡ start + total_handled net cs front
       → new + total_handled told those front ≡ mid + total_handled told those bound
       → new ≡ start + total_handled net cs now
@@ -64,6 +67,7 @@ module _ (net told : Net) (cs those : List Clone) (front bound : ℕ) (same_net 
       let c : total_handled net cs now ≡ total_handled net cs bound = ap (total_handled net cs) is in
       omega (arith, a, b, c, before, steps)
 
+  -- where a log is beyond the limit at the next front, the run of all clones ends there
   pub stops_in : (start mid new station who kept : ℕ) → IsNet net → HasCome net cs front
       → mid ≡ start + total_handled net cs front
       → IsFault told those front bound mid new (EventLimit station who kept) → StopsAll net cs start new station who
