@@ -16,6 +16,7 @@ use crate::copies::Copies;
 use crate::copy::PhysCopy;
 use crate::rack::Rack;
 use crate::stepping::step_copies;
+use arrayvec::ArrayVec;
 use clone_sets::CloneSet;
 use log_chain::Log;
 use net_model::Model;
@@ -34,6 +35,8 @@ pub struct Proc {
     copies: Copies,
     // for each clone a guess where its copy stands, at which a search begins
     places: Vec<u8>,
+    // for what one message sends, from the first step on: an empty one is more than a kilobyte that has to be written
+    out: Option<Box<ArrayVec<Msg, 16>>>,
 }
 
 impl std::marker::Model for Proc {
@@ -123,6 +126,17 @@ fn note_place(places: &mut Vec<u8>, set: CloneSet, place: usize) {
     }
 }
 
+// The buffer that was used before, or a new one.
+fn buffer(
+    alloc: Global,
+    used: Option<Box<ArrayVec<Msg, 16>>>,
+) -> Result<Box<ArrayVec<Msg, 16>>, NoMemory> {
+    match used {
+        Some(out) => Ok(out),
+        None => Ok(Box::new(alloc, ArrayVec::new())?),
+    }
+}
+
 impl Proc {
     /// What a station opens with: one copy, for the first clone.
     pub fn new(alloc: Global, model: &Model, station: u32) -> Result<Proc, NoMemory>
@@ -143,6 +157,7 @@ impl Proc {
             handled: 0,
             copies,
             places,
+            out: None,
         })
     }
 
@@ -178,15 +193,17 @@ impl Proc {
             handled,
             copies,
             places,
+            out,
         } = self;
         let _clones = living.len();
+        let mut out = buffer(alloc, out)?;
         let Stage {
             done,
             sent,
             over,
             handled: more,
             takers: _,
-        } = step_copies(alloc, copies, model, station, ends, bound, steps)?;
+        } = step_copies(alloc, copies, model, station, ends, bound, &mut out, steps)?;
         if !over.is_empty() {
             return Ok(Flow {
                 done: Proc::none(alloc, station),
@@ -202,6 +219,7 @@ impl Proc {
                 handled: handled + more,
                 copies: done,
                 places,
+                out: Some(out),
             },
             sent,
             over,
@@ -219,6 +237,7 @@ impl Proc {
             handled: 0,
             copies: Copies::none(alloc),
             places: Vec::new(alloc),
+            out: None,
         }
     }
 

@@ -104,6 +104,7 @@ fn step_standing<L: Ledger>(
 }
 
 /// Steps all copies of a station to the bound, each in place. Where memory is refused, they are gone.
+/// `out` is a buffer for what one message sends.
 pub(crate) fn step_copies<L: Ledger>(
     alloc: Global,
     copies: Copies,
@@ -111,6 +112,7 @@ pub(crate) fn step_copies<L: Ledger>(
     station: u32,
     ends: &CloneEnds,
     bound: u64,
+    out: &mut ArrayVec<Msg, 16>,
     steps: &mut Steps<L>,
 ) -> Result<Stage, NoMemory>
     requires valid { IsNet model.now }
@@ -126,7 +128,6 @@ pub(crate) fn step_copies<L: Ledger>(
         return Ok(Stage::of(alloc, copies));
     }
     let mut standing = copies.into_copies();
-    let mut out = ArrayVec::new();
     let mut stage = Stage::of(alloc, Copies::none(alloc));
     let least = step_standing(
         alloc,
@@ -135,7 +136,7 @@ pub(crate) fn step_copies<L: Ledger>(
         station,
         ends,
         bound,
-        &mut out,
+        out,
         &mut stage,
         steps,
     )?;
