@@ -205,18 +205,20 @@ module _ (w0 w1 w2 w3 : ℕ) (h : AreWords w0 w1 w2 w3) where
     size_above w3 w2 h.word2,
   )
 
-  -- the set has in word i what it has from 64 * i on
+  -- the set has in word 0 what it has from 0 to 63
   pub in_word0 : (i j : ℕ) → i ≡ 0 → j < 64 → has w0 j ≡ has (set_of w0 w1 w2 w3) (64 * i + j)
   in_word0 i j z l =
       let e : 64 * i + j ≡ j = omega arith in
       sym (ap (has (set_of w0 w1 w2 w3)) e ∙ has_above_low _ w0 j l)
 
+  -- and in word 1 what it has from 64 to 127
   pub in_word1 : (i j : ℕ) → i ≡ 1 → j < 64 → has w1 j ≡ has (set_of w0 w1 w2 w3) (64 * i + j)
   in_word1 i j o l =
       let e : 64 * i + j - 64 ≡ j = omega arith in
       sym (has_above_high _ w0 (64 * i + j) h.word0 (omega arith) ∙ ap (has (above_word (above_word w3 w2) w1)) e
       ∙ has_above_low _ w1 j l)
 
+  -- in word 2 what it has from 128 to 191
   pub in_word2 : (i j : ℕ) → i ≡ 2 → j < 64 → has w2 j ≡ has (set_of w0 w1 w2 w3) (64 * i + j)
   in_word2 i j o l =
       let e : 64 * i + j - 64 ≡ 64 + j = omega arith in
@@ -224,6 +226,7 @@ module _ (w0 w1 w2 w3 : ℕ) (h : AreWords w0 w1 w2 w3) where
       sym (has_above_high _ w0 (64 * i + j) h.word0 (omega arith) ∙ ap (has (above_word (above_word w3 w2) w1)) e
       ∙ has_above_high _ w1 (64 + j) h.word1 (omega arith) ∙ ap (has (above_word w3 w2)) f ∙ has_above_low w3 w2 j l)
 
+  -- and in word 3 what it has from 192 to 255
   pub in_word3 : (i j : ℕ) → i ≡ 3 → j < 64 → has w3 j ≡ has (set_of w0 w1 w2 w3) (64 * i + j)
   in_word3 i j o l =
       let e : 64 * i + j - 64 ≡ 128 + j = omega arith in
@@ -233,18 +236,21 @@ module _ (w0 w1 w2 w3 : ℕ) (h : AreWords w0 w1 w2 w3) where
       ∙ has_above_high _ w1 (128 + j) h.word1 (omega arith) ∙ ap (has (above_word w3 w2)) f
       ∙ has_above_high w3 w2 (64 + j) h.word2 (omega arith) ∙ ap (has w3) g)
 
-  -- the least clone of a set is in the lowest word that is not 0
+  -- where word 0 is not 0, the least clone of the set is the place of its lowest bit
   pub first_in_word0 : w0 ≢ 0 → IsFirst (set_of w0 w1 w2 w3) (trailing_zeros w64 w0)
   first_in_word0 some = first_low _ w0 some h.word0
 
+  -- where word 0 is 0 and word 1 is not, it is 64 above the place of the lowest bit of word 1
   pub first_in_word1 : w0 ≡ 0 → w1 ≢ 0 → IsFirst (set_of w0 w1 w2 w3) (64 + trailing_zeros w64 w1)
   first_in_word1 z some = first_high _ w0 _ z (first_low _ w1 some h.word1)
 
+  -- where the first two words are 0 and word 2 is not, it is 128 above that of word 2
   pub first_in_word2 : w0 ≡ 0 → w1 ≡ 0 → w2 ≢ 0 → IsFirst (set_of w0 w1 w2 w3) (128 + trailing_zeros w64 w2)
   first_in_word2 z z1 some =
       let e : 64 + (64 + trailing_zeros w64 w2) ≡ 128 + trailing_zeros w64 w2 = omega arith in
       rw (← e) (first_high _ w0 _ z (first_high _ w1 _ z1 (first_low w3 w2 some h.word2)))
 
+  -- and where only word 3 is not 0, it is 192 above that of word 3
   pub first_in_word3 : w0 ≡ 0 → w1 ≡ 0 → w2 ≡ 0 → w3 ≢ 0 → IsFirst (set_of w0 w1 w2 w3) (192 + trailing_zeros w64 w3)
   first_in_word3 z z1 z2 some =
       let e : 64 + (64 + (64 + trailing_zeros w64 w3)) ≡ 192 + trailing_zeros w64 w3 = omega arith in

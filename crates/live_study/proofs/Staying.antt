@@ -37,6 +37,7 @@ inside name clones i e = (position-Some (λ (c : Clone). bytes_eq c.name name) c
 
 -- ---- KeepLogs
 module _ (net : Net) (front : ℕ) where
+  -- clones keep their own names and logs
   pub keep_logs-refl : (clones : List Clone) → KeepLogs net front clones clones
   keep_logs-refl clones = record {
     many = omega arith;
@@ -45,6 +46,7 @@ module _ (net : Net) (front : ℕ) where
     origins = λ c l. (c, l, λ s. refl);
   }
 
+  -- clones that keep the logs of clones which keep those of others keep the logs of these others
   pub keep_logs-trans : (a b c : List Clone) → KeepLogs net front a b → KeepLogs net front b c
       → KeepLogs net front a c
   keep_logs-trans a b c p q = record {

@@ -48,6 +48,7 @@ apart_from (y ∷ ys) zs x a c h (inl p) u v = all_in (λ b. (c : ℕ) → Carri
 apart_from (y ∷ ys) zs x a c h (inr j) u v = apart_from ys zs x a c h.1 j u v
 
 module _ (net : Net) (valid : IsNet net) (s : ℕ) (ends : ℕ → ℕ) (bound : ℕ) where
+  -- before the first copy nothing is done, nothing is sent and no clone is over the limit
   pub stepping_start : (steps : ℕ) → Stepping net s ends bound [] [] [] empty steps steps
   stepping_start steps = record {
     far = so_far_none (simulation net) has ends s bound empty;
@@ -148,10 +149,12 @@ module _ (net : Net) (valid : IsNet net) (s : ℕ) (ends : ℕ → ℕ) (bound :
     fine : (a : StationCopy) → In a xs → IsGood net s a.state × SortedMarked msg_cmp a.pending
     fine a j = let fa = all_in (IsCopy net s) xs a fits j in (good_state net s a fa, fa.sorted)
 
+    -- where no clone is over the limit, each clone has what its own window gives
     pub all_stepped : over ≡ empty → IsStepped (simulation net) has ends s bound xs done sent
     all_stepped none = stepped (lawful-stations net valid) sets_join ends s bound xs done sent empty over fine
         (λ c. ap (λ k. has k c) none ∙ has-empty c) far.far
 
+    -- those over the limit are the clones whose own windows give logs that are too long
     pub all_over : AreOver (simulation net) has ends s bound xs over
     all_over = are_over (lawful-stations net valid) sets_join ends s bound xs done sent empty over fine
         (λ c. has-empty c) far.far
@@ -165,5 +168,6 @@ module _ (net : Net) (valid : IsNet net) (s : ℕ) (ends : ℕ → ℕ) (bound :
     pub all_few : (n : ℕ) → n + steps0 ≡ steps → n ≤ all_sizes xs * net.limit
     all_few n h = let k = far.counted in let f = far.few in omega (arith, h, k, f)
 
+    -- with what the clones had handled alone, no more than they then have, where none is over the limit
     pub all_shared : (n : ℕ) → n + steps0 ≡ steps → over ≡ empty → handled_alone xs + n ≤ handled_alone done
     all_shared n h none = let k = far.counted in let f = far.shared none in omega (arith, h, k, f)

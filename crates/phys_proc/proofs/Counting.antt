@@ -106,13 +106,14 @@ alone_short limit (x ∷ xs) f =
 -- ---- what one copy handles: s clones, a log of l entries, t messages handled, then n entries
 
 module _ (s l n t limit : ℕ) (some : 0 < s) (longer : n ≡ l + t) (short : n ≤ limit) where
-  -- so many at most
+  -- it handles at most as many as its clones have place for
   pub few_more : t ≤ s * (limit - l)
   few_more =
       let r : t ≤ limit - l = omega (arith, longer, short) in
       let m = mul-le 1 t s (limit - l) some r in
       omega (arith, m)
 
+  -- and no more where its clones then part, with what both parts handle from there on
   pub few_apart : (s1 s2 g1 g2 : ℕ) → s1 + s2 ≡ s → g1 ≤ s1 * (limit - n) → g2 ≤ s2 * (limit - n)
       → (g1 + g2) + t ≤ s * (limit - l)
   few_apart s1 s2 g1 g2 e f g =
@@ -124,7 +125,7 @@ module _ (s l n t limit : ℕ) (some : 0 < s) (longer : n ≡ l + t) (short : n 
       let i = ap (λ x. s * x) r in
       omega (arith, a, b, c, d, i, f, g)
 
-  -- and no more than by itself each clone would
+  -- with what its clones had handled alone, no more than they have handled alone then
   pub shared_more : s * l + t ≤ s * n
   shared_more =
       let a = mul-add s l t in
@@ -132,6 +133,7 @@ module _ (s l n t limit : ℕ) (some : 0 < s) (longer : n ≡ l + t) (short : n 
       let i = ap (λ x. s * x) longer in
       omega (arith, a, d, i)
 
+  -- nor more where its clones then part, with what both parts handle from there on
   pub shared_apart : (s1 s2 g1 g2 h1 h2 : ℕ) → s1 + s2 ≡ s → s1 * n + g1 ≤ h1 → s2 * n + g2 ≤ h2
       → s * l + ((g1 + g2) + t) ≤ h1 + h2
   shared_apart s1 s2 g1 g2 h1 h2 e f g =

@@ -15,18 +15,21 @@ use Rattle.phys_proc.proofs.Onward.{first_half, second_half, first_smaller, seco
 -- ---- why it goes no further, said of the copy as it is by then
 
 module _ (ends : ℕ → ℕ) (bound : ℕ) (a b : StationCopy) where
+  -- where nothing of b is due, as what is left of a, nothing of b is due by itself
   pub settled_here : NothingDue ends bound a b → NothingDue ends bound b b
   settled_here d = record {
     same = same_none ends b;
     settled = λ c i. d.settled c (subst (λ k. has k c ≡ true) d.same.set i);
   }
 
+  -- where nothing of b is pending before the bound, nothing of b is due
   pub idle_here : IsLate bound b → NothingDue ends bound b b
   idle_here late = record {
     same = same_none ends b;
     settled = λ c i. all_part_of (takes_at ends) c (λ (m : Msg). bound ≤ m.key.time) b.pending late;
   }
 
+  -- what is due next of b, as what is left of a, is due next of b by itself
   pub due_here : (m : Msg) (takers : CloneSet) → NextDue ends bound a b m takers → NextDue ends bound b b m takers
   due_here m takers d = record {
     same = same_none ends b;
@@ -45,27 +48,30 @@ module _ (net : Net) (s : ℕ) (ends : ℕ → ℕ) (bound : ℕ) (copy : Statio
   abbrev begun : Onward net s ends bound copy copy sent sent steps steps
   begun = onward_start net s ends bound copy sent steps fits
 
+  -- a copy of which nothing is due is done as it is
   pub of_settled : (done new : List StationCopy) (over : CloneSet) → NothingDue ends bound copy copy
       → new ≡ done ++ copy ∷ [] → Advanced net s ends bound copy done new sent sent over over steps steps
   of_settled done new over d e = answer_rest net s ends bound copy copy copy sent sent steps steps begun d done done new
       over over refl refl e
 
+  -- of a copy that is full nothing comes, and all its clones go over the limit
   pub of_full : (done : List StationCopy) (over new : CloneSet) → IsFull net.limit ends bound copy
       → new ≡ union over copy.set → Advanced net s ends bound copy done done sent sent over new steps steps
   of_full done over new x e = answer_over net s ends bound copy copy copy sent sent steps steps begun x.msg x.takers
       x.due done done over over new refl refl x.all x.full e
 
   module _ (takers : CloneSet) (x : IsParting ends bound copy takers) where
-    -- both halves are copies
+    -- the half for those that take the message is a copy of the station
     pub some_fits : (a : StationCopy) → a ≡ half copy takers → IsCopy net s a
     some_fits a e = subst (IsCopy net s) (sym e)
         (first_half net s ends bound copy copy copy sent sent steps steps begun x.msg takers x.due)
 
+    -- and so is the half for the others
     pub others_fit : (a : StationCopy) → a ≡ half copy (minus copy.set takers) → IsCopy net s a
     others_fit a e = subst (IsCopy net s) (sym e)
         (second_half net s ends bound copy copy copy sent sent steps steps begun x.msg takers x.due x.differ)
 
-    -- fewer clones are left in each
+    -- the half for those that take the message has fewer clones than the copy
     pub some_smaller : (a b : StationCopy) → a ≡ half copy takers → b.set ≡ a.set → size b.set < size copy.set
     some_smaller a b e f =
         let h = first_smaller net s ends bound copy copy copy sent sent steps steps begun x.msg takers x.due x.differ in
@@ -73,6 +79,7 @@ module _ (net : Net) (s : ℕ) (ends : ℕ → ℕ) (bound : ℕ) (copy : Statio
         let l = ap size f in
         omega (arith, h, k, l)
 
+    -- and so has the half for the others
     pub others_smaller : (a b : StationCopy) → a ≡ half copy (minus copy.set takers) → b.set ≡ a.set
         → size b.set < size copy.set
     others_smaller a b e f =

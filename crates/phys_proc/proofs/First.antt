@@ -24,6 +24,7 @@ module _ (net : Net) (valid : IsNet net) (s : ℕ) (low : 1 ≤ s) (high : s ≤
   same_pending None = refl
   same_pending (Some m) = refl
 
+  -- what a station opens with, for clone 0 alone, is the first copy as the laws have it
   pub is_first : (set : CloneSet) (pending : Marked) → set ≡ one 0 → pending ≡ pending_of first set
       → record { set = set; state = st; log = []; pending = pending } ≡ first_copy (simulation net) (one 0) s
   is_first set pending e p =
@@ -60,6 +61,7 @@ module _ (net : Net) (valid : IsNet net) (s : ℕ) (low : 1 ≤ s) (high : s ≤
     tt,
   )
 
+  -- and it is a copy of the station
   pub first_fits : (set : CloneSet) (pending : Marked) → set ≡ one 0 → pending ≡ pending_of first set → FitsState st
       → SuitsNet net st → st.sender.station ≡ s → st.handled ≡ 0
       → IsCopy net s (record { set = set; state = st; log = []; pending = pending })

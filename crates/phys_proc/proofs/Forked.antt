@@ -115,6 +115,7 @@ module _ (old new : ℕ) where
   abbrev pub forked_copy : StationCopy → StationCopy
   forked_copy a = record { set = grown a.set; state = a.state; log = a.log; pending = spread a.pending }
 
+  -- where a copy has the new clone nowhere, its forked copy is it with the new clone beside the old one
   pub is_forked : (net : Net) (ends : ℕ → ℕ) (a : StationCopy) → has a.set new ≡ false
       → AllByRecursion (λ x. has x.1 new ≡ false) a.pending → SortedMarked msg_cmp a.pending
       → IsForked (simulation net) has ends old new a (forked_copy a)
@@ -223,6 +224,7 @@ module _ (old new : ℕ) where
       marks = marks_grow a.set a.pending n f.marks;
     }
 
+    -- copies of a station, none of which has the new clone, are copies of it still with that clone
     pub forked_fits : (xs : List StationCopy) → AllByRecursion (λ a. has a.set new ≡ false) xs
         → AllByRecursion (IsCopy net s) xs → AllByRecursion (IsCopy net s) (map (forked old new) xs)
     forked_fits [] n f = tt
@@ -275,6 +277,7 @@ module _ (old new : ℕ) where
       or_none true b h = absurd (false≢true (sym h))
       or_none false b h = (refl, h)
 
+  -- a clone that is not among those of all copies together is in none of them
   pub fresh_in : (living : CloneSet) (xs : List StationCopy) → all_clones xs ≡ living → has living new ≡ false
       → AllByRecursion (λ a. has a.set new ≡ false) xs
   fresh_in living xs e n = none_new xs (ap (λ k. has k new) e ∙ n)
@@ -350,6 +353,7 @@ module _ (old new : ℕ) where
       let e = ap (λ l. size (forked old new x).set * length l) (log_is x) in
       omega (arith, h, m, e)
 
+  -- what the copies of a station keep, they keep with a new clone beside one that lives
   pub shares_forked : (s handled : ℕ) (living : CloneSet) (xs : List StationCopy) → has living old ≡ true
       → has living new ≡ false → KeepsShares (record { station = s; living = living; handled = handled; copies = xs }) →
       KeepsShares (record {
@@ -377,6 +381,7 @@ module _ (old new : ℕ) where
   late_spread t [] f = tt
   late_spread t (x ∷ xs) f = (f.0, late_spread t xs f.1)
 
+  -- where nothing of the copies is pending before a time, nothing is with the new clone
   pub late_forked : (t : ℕ) (xs : List StationCopy) → AreLate t xs → AreLate t (map (forked old new) xs)
   late_forked t [] f = tt
   late_forked t (x ∷ xs) f = (by_test (has x.set old), late_forked t xs f.1)

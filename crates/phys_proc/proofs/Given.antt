@@ -57,6 +57,7 @@ module _ (net : Net) (ends : ℕ → ℕ) (m : Msg) (k : CloneSet) where
         order m (meet a.set k) a.pending s;
   }
 
+  -- in a copy to which it is given, a message is pending besides for the clones that take it
   pub is_given : (a : StationCopy) → SortedMarked msg_cmp a.pending
       → IsGiven (simulation net) has ends m k a (given m k a)
   is_given a s = given_by (meet a.set k == empty) a refl s
@@ -97,6 +98,7 @@ module _ (net : Net) (ends : ℕ → ℕ) (m : Msg) (k : CloneSet) where
           first_of true y h = refl
           first_of false y h = absurd (false≢true h)
 
+  -- copies of the station that the message is for are copies of it still
   pub all_fit : (s : ℕ) (xs : List StationCopy) → m.to ≡ s → AllByRecursion (IsCopy net s) xs
       → AllByRecursion (IsCopy net s) (map (given m k) xs)
   all_fit s [] e f = tt
@@ -270,6 +272,7 @@ module _ (m : Msg) (k : CloneSet) where
   same_at (x ∷ xs) zero d1 d2 l = refl
   same_at (x ∷ xs) (suc i) d1 d2 l = same_at xs i d1 d2 (omega arith)
 
+  -- where the copy at place i has got it, and all get it for the rest of the set, all copies have got it
   pub given_first : (xs : List StationCopy) (i : ℕ) (d1 d2 : StationCopy) (rest : CloneSet) (a : StationCopy)
       → i < length xs → Disjoint has xs → rest ≡ minus k (get_or xs i d1).set → a ≡ given m k (get_or xs i d2)
       → map (given m rest) (slice_set xs i a) ≡ map (given m k) xs

@@ -72,6 +72,7 @@ module _ (net : Net) (s : ℕ) (a : StationCopy) (m0 : Msg) (k0 : CloneSet) (q0 
   replay_more st [] e = refl
   replay_more st (x ∷ es) e = replay_more (handle net st x.msg).state es e
 
+  -- with the new state, log and pending messages it is a copy of the station
   pub new_copy : IsCopy net s new
   new_copy =
       let long : length log ≡ length a.log + 1 =
@@ -100,6 +101,7 @@ module _ (net : Net) (s : ℕ) (a : StationCopy) (m0 : Msg) (k0 : CloneSet) (q0 
             (whole_marks a.set fits.inhabited.0 fits.inhabited.1) (to_it (λ (m : Msg). m.to) s out) q0 rest_marks);
       }
 
+  -- and it is the old copy with its least message handled
   pub is_handled : IsHandled net s a new before after
   is_handled m k q p =
       let both : (m0, k0) ∷ q0 ≡ (m, k) ∷ q = sym there ∙ p in

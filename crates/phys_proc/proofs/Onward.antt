@@ -67,12 +67,15 @@ longer_log net s copy new before after m k q p h = ap (λ (u : StationCopy). len
     ∙ length-append copy.log _
 
 module _ (net : Net) (s : ℕ) (ends : ℕ → ℕ) (bound : ℕ) where
+  -- what comes of a copy of the station at the bound, and what it sends, who goes over and what it gains
   abbrev pub Comes : StationCopy → List StationCopy → Marked → Marked → CloneSet → CloneSet → ℕ → Type 0
   Comes = Ends (simulation net) has ends s bound
 
+  -- how far a copy of the station has come on its way to the bound
   abbrev pub On : StationCopy → StationCopy → Marked → Marked → ℕ → ℕ → Type 0
   On = Onward net s ends bound
 
+  -- at first a copy is where it began, and no step was taken
   pub onward_start : (first : StationCopy) (start : Marked) (steps : ℕ) → IsCopy net s first
       → On first first start start steps steps
   onward_start first start steps f =
@@ -106,6 +109,7 @@ module _ (net : Net) (s : ℕ) (ends : ℕ → ℕ) (bound : ℕ) where
   module _ (first copy new : StationCopy) (start sent : Marked) (steps0 steps : ℕ)
       (o : On first copy start sent steps0 steps) (m : Msg) (takers : CloneSet)
       (d : NextDue ends bound copy new m takers) where
+    -- without the messages that none of its clones takes, the copy has come as far
     abbrev pub onward_new : On first new start sent steps0 steps
     onward_new = onward_same first copy new start sent steps0 steps o d.same
 
@@ -217,7 +221,7 @@ module _ (net : Net) (s : ℕ) (ends : ℕ → ℕ) (bound : ℕ) where
         let k = ap (λ k. size k * (net.limit - length new.log)) onward_new.set in
         omega (arith, d, e, k)
 
-    -- what that makes of the first copy
+    -- where all clones take the message and the log is full, all clones of the first copy go over
     pub answer_over : (done0 done1 : List StationCopy) (over0 over1 over2 : CloneSet) → done1 ≡ done0 → over1 ≡ over0
         → takers ≡ new.set → net.limit ≤ length new.log → over2 ≡ union over1 new.set →
         Advanced net s ends bound first done0 done1 start sent over0 over2 steps0 steps
@@ -239,6 +243,7 @@ module _ (net : Net) (s : ℕ) (ends : ℕ → ℕ) (bound : ℕ) where
         no_union a c i e = false≢true (sym (has-empty c)
             ∙ (ap (λ k. has k c) (sym e) ∙ (has-union a new.set c ∙ or_true (has a c) (has new.set c) i)))
 
+    -- where some clones take the message and some do not, what comes of both halves comes of the first copy
     pub answer_apart : (done0 done1 done2 done3 : List StationCopy) (mid after : Marked)
         (over0 over1 over2 over3 : CloneSet) (steps1 steps2 : ℕ) → done1 ≡ done0 → over1 ≡ over0 →
         Advanced net s ends bound (half new takers) done1 done2 sent mid over1 over2 steps steps1
@@ -288,17 +293,20 @@ module _ (net : Net) (s : ℕ) (ends : ℕ → ℕ) (bound : ℕ) where
           | inr f ↦ f ∙ sym n
         ]
 
+    -- where not all clones take the message, the half for those that do has fewer clones
     pub first_smaller : takers ≢ new.set → size takers < size new.set
     first_smaller ne = subst (λ k. size k < size new.set) takers_meet (meet_smaller new.set takers (others_some ne))
 
-    -- and copies
+    -- the half for those that take the message is a copy of the station
     pub first_half : IsCopy net s (half new takers)
     first_half = copy_half ends net s new takers onward_new.fits (set_has_clone takers d.some)
 
+    -- and so is the half for the others, where not all clones take the message
     pub second_half : (takers ≢ new.set) → IsCopy net s (half new (minus new.set takers))
     second_half ne = copy_half ends net s new (minus new.set takers) onward_new.fits
         (set_has_clone (minus new.set takers) (others_some ne))
 
+    -- and that half has fewer clones
     pub second_smaller : size (minus new.set takers) < size new.set
     second_smaller = minus_smaller new.set takers (λ e. d.some (sym takers_meet ∙ e))
 
@@ -314,6 +322,7 @@ module _ (net : Net) (s : ℕ) (ends : ℕ → ℕ) (bound : ℕ) where
         n.fits,
       )
 
+  -- where nothing is due, the copy as it is comes of the first copy
   pub answer_rest : (first copy new : StationCopy) (start sent : Marked) (steps0 steps : ℕ)
       (o : On first copy start sent steps0 steps) (d : NothingDue ends bound copy new)
       (done0 done1 done2 : List StationCopy) (over0 over1 : CloneSet) →

@@ -28,6 +28,7 @@ module _ (by : CloneSet) where
   abbrev cut : Marked → Marked
   cut xs = cut_by met by xs
 
+  -- the rest, with the message before it where marks are left to it
   abbrev pub kept_of : Option CloneSet → Msg → Marked → Marked
   kept_of o m rest = cons_option (option_map (λ k. (m, k)) o) rest
 
@@ -139,6 +140,7 @@ module _ (ends : ℕ → ℕ) where
         omega arith) f,
   )
 
+  -- where the first message that is left comes at the bound or later, nothing is due
   pub nothing_late : (bound : ℕ) (a b : StationCopy) (m : Msg) (k : CloneSet) → IsSame ends a b
       → SortedMarked msg_cmp a.pending → Some (m, k) ≡ slice_get b.pending 0 → bound ≤ m.key.time
       → NothingDue ends bound a b
@@ -153,6 +155,7 @@ module _ (ends : ℕ → ℕ) where
             (sym f.1) (late_one c bound m k f.0 late sb.0);
       }
 
+  -- and nothing is due where no message is left
   pub nothing_left : (bound : ℕ) (a b : StationCopy) → IsSame ends a b → None ≡ slice_get b.pending 0
       → NothingDue ends bound a b
   nothing_left bound a b h none =
@@ -245,6 +248,7 @@ module _ (horizon : ℕ) (es : List (ℕ × ℕ)) (bound : ℕ) (early : bound �
   and_assoc true y z = refl
   and_assoc false y z = refl
 
+  -- the takers are the clones of the copy that take the message
   pub takers_are : (c : ℕ) → has takers c ≡ (has a.set c && takes_at (ends_in horizon es) m k c)
   takers_are c =
       left c ∙ ap (λ x. x && not (has gone c)) (meets c ∙ ap (λ s. has s c && has k c) same.set)
@@ -252,6 +256,7 @@ module _ (horizon : ℕ) (es : List (ℕ × ℕ)) (bound : ℕ) (early : bound �
       ∙ ap (λ x. has a.set c && x) (not_gone (has k c) (has gone c) (nat_lt m.key.time (ends_in horizon es c))
       (went c ∙ gone_is horizon m.key.time es c (omega arith)))
 
+  -- where there are some, the message is due next
   pub next_is_due : takers ≢ empty → Some (m, k) ≡ slice_get b.pending 0
       → NextDue (ends_in horizon es) bound a b m takers
   next_is_due some first =

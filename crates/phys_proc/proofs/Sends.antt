@@ -23,17 +23,19 @@ module _ (s : ℕ) (set : CloneSet) where
   kept_own m ms q e = ap (λ b. insert_marked_all union msg_cmp
       (cond b (m ∷ to_it (λ (m : Msg). m.to) s ms) (to_it (λ (m : Msg). m.to) s ms)) set q) (eq-eqb m.to s e)
 
+  -- and is not laid aside
   pub sent_own : (m : Msg) (ms : List Msg) (sent : Marked) → m.to ≡ s
       → sent_on s set (m ∷ ms) sent ≡ sent_on s set ms sent
   sent_own m ms sent e = ap (λ b. sent ++ map (λ x. (x, set))
       (cond (not b) (m ∷ to_others (λ (m : Msg). m.to) s ms) (to_others (λ (m : Msg). m.to) s ms))) (eq-eqb m.to s e)
 
-  -- and one to another is laid aside
+  -- a message to another does not become pending
   pub kept_other : (m : Msg) (ms : List Msg) (q : Marked) → (m.to ≡ s → ⊥)
       → kept_on s set (m ∷ ms) q ≡ kept_on s set ms q
   kept_other m ms q n = ap (λ b. insert_marked_all union msg_cmp
       (cond b (m ∷ to_it (λ (m : Msg). m.to) s ms) (to_it (λ (m : Msg). m.to) s ms)) set q) (ne_eqb m.to s n)
 
+  -- but is laid aside
   pub sent_other : (m : Msg) (ms : List Msg) (sent : Marked) → (m.to ≡ s → ⊥)
       → sent_on s set (m ∷ ms) sent ≡ sent_on s set ms (sent ++ (m, set) ∷ [])
   sent_other m ms sent n =
@@ -50,6 +52,7 @@ module _ (P : Msg → Type 0) (set : CloneSet) where
   all_placed Equal m y ys rest p f g = f
   all_placed Greater m y ys rest p f g = (f.0, g)
 
+  -- what holds of the messages that are there and of a new one holds of all, once it is put in its place
   pub all_inserted : (m : Msg) (q : Marked) → P m → AllByRecursion (λ x. P x.0) q
       → AllByRecursion (λ x. P x.0) (insert_marked union msg_cmp m set q)
   all_inserted m [] p f = (p, tt)
@@ -73,12 +76,14 @@ module _ (P : CloneSet → Type 0) (joined : (a b : CloneSet) → P a → P b �
   marks_placed Equal m y ys rest f g = (joined y.1 set f.0 new, f.1)
   marks_placed Greater m y ys rest f g = (f.0, g)
 
+  -- it holds of all marks once a message with the new marks is put in its place
   pub marks_inserted : (m : Msg) (q : Marked) → AllByRecursion (λ x. P x.1) q
       → AllByRecursion (λ x. P x.1) (insert_marked union msg_cmp m set q)
   marks_inserted m [] f = (new, tt)
   marks_inserted m (y ∷ ys) f = marks_placed (msg_cmp m y.0) m y ys (insert_marked union msg_cmp m set ys) f
       (marks_inserted m ys f.1)
 
+  -- and once several are
   pub marks_inserted_all : (ms : List Msg) (q : Marked) → AllByRecursion (λ x. P x.1) q
       → AllByRecursion (λ x. P x.1) (insert_marked_all union msg_cmp ms set q)
   marks_inserted_all [] q f = f

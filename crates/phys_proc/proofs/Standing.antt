@@ -59,12 +59,14 @@ module _ (cs after : List StationCopy) (i : ℕ) (y : StationCopy) (there : i < 
       next : suc i ≡ i + 1
       next = omega arith
 
+  -- before the place it is as it was
   pub without_take : take i after ≡ take i cs
   without_take = ap (take i) without ∙ cut_take cs (drop (i + 1) cs) i (omega (arith, there))
 
   without_drop : drop i after ≡ drop (i + 1) cs
   without_drop = ap (drop i) without ∙ cut_drop cs (drop (i + 1) cs) i (omega (arith, there))
 
+  -- and it is shorter by one copy
   pub without_shorter : length after + 1 ≡ length cs
   without_shorter =
       let e = ap length is in
@@ -205,10 +207,11 @@ module _ (net : Net) (valid : IsNet net) (s : ℕ) (ends : ℕ → ℕ) (bound :
     next_whole : all ≡ (h.passed ++ x ∷ []) ++ left
     next_whole = whole_is ∙ sym (append_assoc h.passed (x ∷ []) left)
 
-    -- it is a copy of the station, whose clones may handle no more than there is a number for
+    -- it is a copy of the station
     pub standing_fits : AllByRecursion (IsCopy net s) all → IsCopy net s x
     standing_fits f = holds_at (IsCopy net s) h.passed left x (subst (AllByRecursion (IsCopy net s)) whole_is f)
 
+    -- with at most 256 clones in all, what was handled and what it may handle are at most 2 ^ 32
     pub standing_few : all_sizes all ≤ 256 → (handled : ℕ) → handled + steps0 ≡ steps
         → handled + may_handle net.limit x ≤ 2 ^ 32
     standing_few few handled e =

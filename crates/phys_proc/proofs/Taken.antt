@@ -361,11 +361,13 @@ module _ (ends : ℕ → ℕ) (xs all : List StationCopy) (x : StationCopy) (who
     ],
   )
 
+  -- the least time so far, with what the next copy makes of it, is the least with that copy
   pub least_with : (before t : Option ℕ) → IsWithCopy ends x before t → IsLeast ends xs before → IsLeast ends all t
   least_with before t (inl w) h = subst (IsLeast ends all) (sym (w.3 ∙ w.1))
       (least_stays w.0 (subst (IsLeast ends xs) w.1 h) w.2)
   least_with before t (inr w) h = subst (IsLeast ends all) (sym w.2) (least_more before w.0 h w.1)
 
+  -- and for one clone, the earlier of its least so far and its least of the copy is its least with the copy
   pub least_of_more : (c : ℕ) (t u : Option ℕ) → IsLeastOf ends xs c t
       → IsLeastTime (λ m. (has x.set c ≡ true) × In m (taken_at ends c x.pending)) u
       → IsLeastOf ends all c (earlier t u)

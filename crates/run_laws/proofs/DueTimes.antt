@@ -98,6 +98,7 @@ module _ {S M N : Type 0} (sim : Simulation S M N) (front : ℕ) where
   abbrev pub DueIn : List Clone → M → Type 0
   DueIn cs m = (c : Clone) × In c cs × In m (all_due sim c front)
 
+  -- the least due time of some clones is the least of what is due in one of them
   pub least-is : (cs : List Clone) → IsLeastTime sim.time (DueIn cs) (least sim cs front)
   least-is [] = λ m h. h.1
   least-is (c ∷ cs) = least-of_same (least sim (c ∷ cs) front)
@@ -136,6 +137,7 @@ module _ {S M N : Type 0} (sim : Simulation S M N) (front : ℕ) where
       (λ m h. (h.0, append_old cs (k ∷ []) h.0 h.1, h.2))
       (least-is (cs ++ k ∷ [])) (least-is cs)
 
+  -- so the next front with a fork is the one without it
   pub next_front-forked : (cs : List Clone) (old : ℕ) (name : List ℕ) → old < length cs → (clone_at cs old).end ≡ None →
       next_front sim (forked cs name old) front ≡ next_front sim cs front
   next_front-forked cs old name there no_end = ap (window_end sim) (least-forked cs old name there no_end)
@@ -177,6 +179,7 @@ module _ {S M N K : Type 0} {sim : Simulation S M N} {Good : ℕ → S → Type 
             (own_from sim.to (sim.to m) (all_due sim (clone_at cs c) front) m i refl);
       }
 
+  -- the least time that a clone takes of the copies is the least due time of the clones
   pub least-copies : (t : Option ℕ) → IsLeastTime sim.time (IsTaken K sim has cs copies) t → least sim cs front ≡ t
   least-copies t f = least-unique sim.time (DueIn sim front cs) (IsTaken K sim has cs copies)
       (least sim cs front) t taken_if_due due_if_taken (least-is sim front cs) f

@@ -49,10 +49,12 @@ module _ {S M N : Type 0} {sim : Simulation S M N} {Good : ℕ → S → Type 0}
       ))
       (begins_fine law plans) (run_reached law plans front).0
 
+  -- what is pending in a run is for stations
   pub pending_for_stations : (plans : List Planned) (front : ℕ) → AreForStations sim plans → (z : M) →
       In z (run sim plans front).pending → IsStation sim (sim.to z)
   pending_for_stations plans front there = (run_for_stations plans front there).0
 
+  -- and what a run has handled was for stations
   pub trace_for_stations : (plans : List Planned) (front : ℕ) → AreForStations sim plans →
       AllByRecursion (λ e. IsStation sim (sim.to e.msg)) (run sim plans front).at.trace
   trace_for_stations plans front there = (run_for_stations plans front there).1

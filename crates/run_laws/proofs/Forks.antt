@@ -9,11 +9,14 @@ module _ {S M N : Type 0} (sim : Simulation S M N) (c : Clone) (name : List ℕ)
   abbrev fork : Clone
   fork = record { name = name; plans = c.plans; end = None }
 
+  -- it ends when the clone ends
   pub end_of-fork : end_of sim fork ≡ end_of sim c
   end_of-fork = ap (λ x. end_of sim (record { name = name; plans = c.plans; end = x })) (sym no_end)
 
+  -- its logs are the clone's
   pub log_at-fork : (s front : ℕ) → log_at sim fork s front ≡ log_at sim c s front
   log_at-fork s front = ap (λ x. log_at sim (record { name = name; plans = c.plans; end = x }) s front) (sym no_end)
 
+  -- and what is due in it is what is due in the clone
   pub all_due-fork : (front : ℕ) → all_due sim fork front ≡ all_due sim c front
   all_due-fork front = ap (λ x. all_due sim (record { name = name; plans = c.plans; end = x }) front) (sym no_end)

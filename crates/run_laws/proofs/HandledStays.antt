@@ -38,10 +38,11 @@ no_prefixes f (c ∷ cs) h = ap (λ l. prefixes l ++ flat_map prefixes (map f cs
 -- ---- handled
 
 module _ {S M N : Type 0} (sim : Simulation S M N) where
-  -- before 0
+  -- at front 0 each log is empty
   pub log_at-0 : (c : Clone) (s : ℕ) → log_at sim c s 0 ≡ []
   log_at-0 c s = ap (λ w. log_of sim.to s w.at.trace) (run_at_0 sim c)
 
+  -- so nothing was handled once at front 0
   pub handled-0 : (same : Entry M N → Entry M N → Bool) (cs : List Clone) (s : ℕ) → handled sim same cs s 0 ≡ 0
   handled-0 same cs s = ap (λ l. distinct_count (same_list same) l)
       (no_prefixes (λ c. log_at sim c s 0) cs (λ c. log_at-0 c s))

@@ -73,6 +73,7 @@ module _ {S M N : Type 0} {sim : Simulation S M N} {Good : ℕ → S → Type 0}
       before sim t (trace_of sim c) ≡ (run sim c.plans t).at.trace
   before_time c t l k = trace_at_front law c.plans t (min sim.horizon (end_of sim c)) (omega arith)
 
+  -- two clones whose decisions below a time are equal have one trace before it, if neither ends earlier
   pub traces_agree : (c d : Clone) (t : ℕ) → t ≤ end_of sim c → t ≤ end_of sim d → t ≤ sim.horizon →
       earlier_than sim.time t (planned sim 0 c.plans) ≡ earlier_than sim.time t (planned sim 0 d.plans) →
       before sim t (trace_of sim c) ≡ before sim t (trace_of sim d)

@@ -39,6 +39,7 @@ module _ {S M N : Type 0} {sim : Simulation S M N} {Good : ℕ → S → Type 0}
   abbrev by_key : Entry M N → Entry M N → Ordering
   by_key = entry_order sim.time sender number
 
+  -- the order of entries by key is total
   pub entries_total : IsTotalOrder by_key
   entries_total = on_total (λ (e : Entry M N). e.msg) (key_total sim.time sender number)
 
@@ -46,6 +47,7 @@ module _ {S M N : Type 0} {sim : Simulation S M N} {Good : ℕ → S → Type 0}
     abbrev trace : List (Entry M N)
     trace = (run_of sim c front).at.trace
 
+    -- a trace rises by key
     pub trace_sorted : Sorted by_key trace
     trace_sorted = sorted_entries (key_order sim.time sender number) trace
         (trace_rises law stations fresh c front there)

@@ -22,6 +22,7 @@ module _ {X M : Type 0} (cmp : M → M → Ordering) (handle : X → M → X × 
   abbrev pub after : X → M → List M → Config X M
   after x m q = let h = handle x m in record { at = h.0; pending = insert_all cmp h.1 q }
 
+  -- the turn of a machine with these messages: the first is handled, and where there is none all stays
   abbrev pub turn_on : X → List M → Config X M
   turn_on x [] = record { at = x; pending = [] }
   turn_on x (m ∷ q) = after x m q
@@ -30,6 +31,7 @@ module _ {X M : Type 0} (cmp : M → M → Ordering) (handle : X → M → X × 
   abbrev pub turn : Config X M → Config X M
   turn c = turn_on c.at c.pending
 
+  -- so many turns
   abbrev pub turns : ℕ → Config X M → Config X M
   turns zero c = c
   turns (suc n) c = turns n (turn c)

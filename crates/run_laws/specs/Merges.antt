@@ -20,6 +20,7 @@ module _ {X : Type 0} (cmp : X → X → Ordering) where
   merge_at x rest [] = x ∷ rest []
   merge_at x rest (y ∷ ys) = pick (cmp x y) x y (rest (y ∷ ys)) (merge_at x rest ys)
 
+  -- two lists as one; of elements that tie, that of the first list goes first
   abbrev pub merge : List X → List X → List X
   merge [] ys = ys
   merge (x ∷ xs) ys = merge_at x (merge xs) ys

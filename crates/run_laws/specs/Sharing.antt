@@ -24,6 +24,7 @@ module _ {S M N : Type 0} (sim : Simulation S M N) where
   abbrev pub IsSameClass : ℕ → ℕ → Clone → Clone → Type 0
   IsSameClass s front c d = log_at sim c s front ≡ log_at sim d s front
 
+  -- the logs of the clones at a station, one clone after the other
   abbrev pub logs_at : List Clone → ℕ → ℕ → List (List (Entry M N))
   logs_at cs s front = map (λ c. log_at sim c s front) cs
 

@@ -16,6 +16,7 @@ pub record Opening (S M : Type 0) : Type 0 where
   pub state : S
   pub first : Option M
 
+-- all that a run is about: the messages, the stations and how they handle messages, and the bounds of the run
 pub record Simulation (S M N : Type 0) : Type 0 where
   -- the order of messages, the time stamp and the receiver of each
   pub order : M → M → Ordering

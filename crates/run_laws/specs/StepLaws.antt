@@ -26,10 +26,11 @@ module _ {S M N : Type 0} (K : Type 0) (sim : Simulation S M N) (Good : ℕ → 
   abbrev pub Gives : Step K → Copy S M N K → List (Copy S M N K) → List (M × K) → List (M × K) → K → K → ℕ → Type 0
   Gives w = Ends sim w.has w.ends w.station w.bound
 
-  -- all clones of a copy take a message, or none does
+  -- all clones of a copy take a message
   abbrev pub AllTake : Step K → Copy S M N K → M × K → Type 0
   AllTake w r x = (c : ℕ) → Carries w.has r c → takes sim w.has w.ends x.0 x.1 c ≡ true
 
+  -- no clone of a copy takes a message
   abbrev pub NoneTakes : Step K → Copy S M N K → M × K → Type 0
   NoneTakes w r x = (c : ℕ) → Carries w.has r c → takes sim w.has w.ends x.0 x.1 c ≡ false
 

@@ -40,6 +40,7 @@ module _ {S M N : Type 0} (to : M → ℕ) (handle : ℕ → S → M → Handled
   replay s st (e ∷ es) = replay s (handle s st e.msg).state es
 
 module _ {S M N : Type 0} (sim : Simulation S M N) where
+  -- messages, and behind them the first message of a station that has one
   abbrev pub and_first : List M → Option M → List M
   and_first ms None = ms
   and_first ms (Some m) = ms ++ m ∷ []

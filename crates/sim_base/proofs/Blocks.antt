@@ -33,24 +33,27 @@ module _ {X : Type 0} where
       ∙ ap (λ t. t ++ of_blocks bs) (take-append-drop 32 b)
   same_halved (suc at) (b ∷ bs) = ap (λ t. b ++ t) (same_halved at bs)
 
+  -- and there is one block more then
   pub length_halved : (at : ℕ) (bs : List (List X)) → at < length bs → length (halved at bs) ≡ suc (length bs)
   length_halved at [] l = absurd (omega arith)
   length_halved zero (b ∷ bs) l = refl
   length_halved (suc at) (b ∷ bs) l = ap suc (length_halved at bs (omega arith))
 
-  -- its first half, its second half, and the block behind it
+  -- at its place is its first half then
   pub first_half : (at : ℕ) (bs : List (List X)) → at < length bs
       → get_or (halved at bs) at [] ≡ take 32 (get_or bs at [])
   first_half at [] l = absurd (omega arith)
   first_half zero (b ∷ bs) l = refl
   first_half (suc at) (b ∷ bs) l = first_half at bs (omega arith)
 
+  -- at the next place is its second half
   pub second_half : (at : ℕ) (bs : List (List X)) → at < length bs
       → get_or (halved at bs) (suc at) [] ≡ drop 32 (get_or bs at [])
   second_half at [] l = absurd (omega arith)
   second_half zero (b ∷ bs) l = refl
   second_half (suc at) (b ∷ bs) l = second_half at bs (omega arith)
 
+  -- and then comes the block that was behind it
   pub behind_halves : (at : ℕ) (bs : List (List X)) → at < length bs
       → get_or (halved at bs) (suc (suc at)) [] ≡ get_or bs (suc at) []
   behind_halves at [] l = absurd (omega arith)
@@ -152,6 +155,7 @@ module _ {M K : Type 0} (join : K → K → K) (meet : K → K → Option K) (by
   spread_of_blocks (b ∷ bs) = ap (λ t. spread_marks join meet by more b ++ t) (spread_of_blocks bs)
       ∙ sym (map-append _ b (of_blocks bs))
 
+  -- blocks that are filled are filled still
   pub spread_filled : (bs : List (List (M × K))) → AreFilled bs → AreFilled (map (spread_marks join meet by more) bs)
   spread_filled [] h = tt
   spread_filled (b ∷ bs) h = let l : length (spread_marks join meet by more b) ≡ length b = length-map b _ in

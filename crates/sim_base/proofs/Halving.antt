@@ -33,24 +33,29 @@ module _ {X : Type 0} where
 
   module _ (at : ℕ) (first first' : List X) (later later' : List (List X))
       (cut : (first' ∷ later') ≡ halved at (first ∷ later)) (within : at ≤ length later) where
+    -- there is one later block more
     pub length_later : length later' ≡ suc (length later)
     length_later = let all = length_halved at (first ∷ later) (omega arith) in let same = ap length cut in omega arith
 
+    -- at the place of the block is its first half
     pub first_half_at : get_or (first' ∷ later') at [] ≡ take 32 (block_at first later at)
     first_half_at = ap (λ (bs : List (List X)). get_or bs at []) cut ∙ first_half at (first ∷ later) (omega arith)
 
+    -- behind it is its second half
     pub second_half_at : get_or later' at [] ≡ drop 32 (block_at first later at)
     second_half_at = ap (λ (bs : List (List X)). get_or bs (suc at) []) cut
         ∙ second_half at (first ∷ later) (omega arith)
 
+    -- and then comes the block that was behind it
     pub behind_at : get_or later' (suc at) [] ≡ get_or later at []
     behind_at = ap (λ (bs : List (List X)). get_or bs (suc (suc at)) []) cut
         ∙ behind_halves at (first ∷ later) (omega arith)
 
-    -- there is room in both halves
+    -- where the block was full, there is room in the first half
     pub first_room : length (block_at first later at) ≡ 64 → length (block_at first' later' at) < 64
     first_room full = rw first_half_at (omega (arith, length-take 32 (block_at first later at)))
 
+    -- and in the second half
     pub second_room : (to : ℕ) → to ≡ suc at → length (block_at first later at) ≡ 64
         → length (block_at first' later' to) < 64
     second_room to e full = rw (e, second_half_at) (omega (arith, length-drop 32 (block_at first later at)))

@@ -46,11 +46,12 @@ is_greater Equal e = absurd (cc)
 is_greater Greater e = refl
 
 module _ {M K : Type 0} (cmp : M → M → Ordering) where
-  -- a list in order has its parts in order
+  -- a list in order has its first part in order
   pub sorted_left : (xs ys : List (M × K)) → SortedMarked cmp (xs ++ ys) → SortedMarked cmp xs
   sorted_left [] ys s = tt
   sorted_left (x ∷ xs) ys s = (all_left _ xs ys s.0, sorted_left xs ys s.1)
 
+  -- and its last part
   pub sorted_right : (xs ys : List (M × K)) → SortedMarked cmp (xs ++ ys) → SortedMarked cmp ys
   sorted_right [] ys s = s
   sorted_right (x ∷ xs) ys s = sorted_right xs ys s.1

@@ -33,12 +33,13 @@ module _ {X : Type 0} where
         later_filled = filled_set n later b h.later_filled some few;
       }
 
-  -- the place of a later block
+  -- to set a block behind the first is to set it among the later ones, one place before
   pub set_later : (at : ℕ) (first : List X) (later : List (List X)) (b : List X)
       → 0 < at → (first ∷ set later (at - 1) b) ≡ set (first ∷ later) at b
   set_later zero first later b l = absurd (omega arith)
   set_later (suc n) first later b l = let e : suc n - 1 ≡ n = omega arith in rw e refl
 
+  -- and what is read there is the block of that number
   pub later_at : (at : ℕ) (first : List X) (later : List (List X))
       → 0 < at → get_or later (at - 1) [] ≡ block_at first later at
   later_at zero first later l = absurd (omega arith)
@@ -72,6 +73,7 @@ module _ {M K A E : Type 0} (cmp : M → M → Ordering) (join : K → K → K) 
     pub err : OnErr r (of_blocks (first' ∷ later') ≡ of_blocks (first ∷ later))
 
 module _ {M K A E : Type 0} {cmp : M → M → Ordering} (o : IsTotalOrder cmp) (join : K → K → K) (m : M) (k : K) where
+  -- a message that is put into the block to which it goes is put into all; where that fails, none changes
   pub is_put : (at : ℕ) (first : List (M × K)) (later : List (List (M × K))) → AreBlocks cmp first later
       → IsBlockOf cmp m later at → length (block_at first later at) < 64 →
       (r : Result A E) (b first' : List (M × K)) (later' : List (List (M × K)))

@@ -120,11 +120,12 @@ pub filled_if : {X : Type 0} (xs : List X) → false ≡ (length xs == 0) → 0 
 filled_if xs e = let some = eqb-false (length xs) 0 (sym e) in omega arith
 
 module _ {M K : Type 0} (join : K → K → K) (meet : K → K → Option K) (by more : K) where
-  -- marks that are spread, where they meet and where they don't
+  -- marks that meet the given ones are joined with the further ones
   pub spread_met : (x : M × K) (k : K) (r : Option K) → r ≡ meet x.1 by → is_some r ≡ true → k ≡ join x.1 more
       → ◌≡◌ {A = M × K} (x.0, k) (x.0, if is_some (meet x.1 by) then join x.1 more else x.1)
   spread_met x k r e s is = let yes : is_some (meet x.1 by) ≡ true = ap is_some (sym e) ∙ s in rw (yes, is) refl
 
+  -- and marks that do not meet them stay
   pub spread_apart : (x : M × K) (r : Option K) → r ≡ meet x.1 by → is_some r ≡ false
       → ◌≡◌ {A = M × K} x (x.0, if is_some (meet x.1 by) then join x.1 more else x.1)
   spread_apart x r e s = let no : is_some (meet x.1 by) ≡ false = ap is_some (sym e) ∙ s in rw no refl

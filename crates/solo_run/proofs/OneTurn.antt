@@ -108,6 +108,7 @@ module _ (limit : ℕ) where
         ∙ ap (λ t. first_beyond limit t more) (append_assoc seen (e ∷ []) es)
   ]
 
+  -- and one entry more does not go beyond it, where the log of its station is shorter than the limit
   pub beyond_none : (seen : List (Entry Msg Line)) (e : Entry Msg Line) → first_beyond limit [] seen ≡ None
       → length (log_of receiver e.msg.to seen) < limit → first_beyond limit [] (seen ++ e ∷ []) ≡ None
   beyond_none seen e none below = beyond_append [] seen (e ∷ []) none ∙ beyond_later seen e [] below
@@ -122,6 +123,7 @@ module _ (net : Net) (valid : IsNet net) (v : SoloView) (m : Msg) (new : List St
     (early : m.key.time < 2 ^ 31)
     (solo : IsSolo net (with_due m v))
     (h : HandlesAt net (m.to - 1) m v.states new sends line) where
+  -- the entry that the turn adds to the trace
   abbrev pub e : Entry Msg Line
   e = record { msg = m; line = line }
 
@@ -207,6 +209,7 @@ module _ (net : Net) (valid : IsNet net) (v : SoloView) (m : Msg) (new : List St
         }
   ]
 
+  -- after the turn it is a run of the network still, with no log beyond the limit
   pub solo_is : messages_of next ≡ insert_all msg_cmp sends (messages_of v.pending)
       → IsSolo net (record { states = new; pending = next; trace = v.trace ++ e ∷ [] })
   solo_is is =
@@ -233,6 +236,7 @@ module _ (net : Net) (valid : IsNet net) (v : SoloView) (m : Msg) (new : List St
         below = beyond_none net.limit v.trace e solo.below (let below = h.below in omega (arith, full_log, below));
       }
 
+  -- and it has come to where the turn leads
   pub turned : messages_of next ≡ insert_all msg_cmp sends (messages_of v.pending)
       → Turned net v m (record { states = new; pending = next; trace = v.trace ++ e ∷ [] })
   turned is = config_is is

@@ -93,12 +93,14 @@ module _ (net : Net) (valid : IsNet net) (list : List Planned) (states : List St
   pending_is = then_all ∙ (ap (insert_all msg_cmp (planned (simulation net) 0 list)) first
       ∙ sym (insert_both (openings (simulation net) (length net.sites)) (planned (simulation net) 0 list) []))
 
+  -- with the opening states and these messages, the run stands where the world of the clone begins
   pub begins : config_of net (record { states = states; pending = p; trace = [] }) ≡ start_of net list
   begins =
       ap (λ f. record { at = record { states = f; trace = [] }; pending = messages_of p })
       (fun_ext (opening_at net states opened))
       ∙ ap (λ q. record { at = record { states = λ s. (setup net s).state; trace = [] }; pending = q }) pending_is
 
+  -- and where the decisions are for stations, it is a run of the network with no log beyond the limit
   pub begins_solo : AreForStations (simulation net) list
       → IsSolo net (record { states = states; pending = p; trace = [] })
   unfolding run_to

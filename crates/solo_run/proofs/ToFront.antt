@@ -92,6 +92,7 @@ module _ (net : Net) (valid : IsNet net) where
         (λ y e. let h = (lawful-stations net valid).order.timed p.0 y e in omega arith) sorted.0,
   )
 
+  -- turns before the front that leave nothing pending before it have come to the run
   pub run_ends : (front : ℕ) (v w : SoloView) → IsSolo net v → IsSolo net w
       → Reach msg_cmp (λ m. m.key.time) (step_of net) front (config_of net v) (config_of net w)
       → NothingBefore front w.pending → config_of net w ≡ run_from net v front

@@ -184,6 +184,7 @@ module _ (w : ℕ) (words : List ℕ) (ls : List (List E)) (reserved most : ℕ)
       let q : get_or ls j [] ≡ [] = subst (λ i. get_or ls i [] ≡ []) same none in
       let x : ⊥ = cc in absurd x
 
+  -- no list has an entry left where the list that the least word tells has none
   pub none_is : get_or ls (w % 64) [] ≡ [] → merge_all ls ≡ []
   none_is none = none_of_all ls (λ j lj. nothing_at j (get_or ls j []) lj refl none)
 

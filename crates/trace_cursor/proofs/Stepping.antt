@@ -59,6 +59,7 @@ module _ (ls : List (List E)) (words : List ℕ) (reserved most : ℕ) (c : IsCu
   some_of (Some e) some = first_is w words ls reserved most c h e new there (at_first ∙ some)
   some_of None some = tt
 
+  -- an entry that is given is the first of what was left, and the others are left then
   pub given : (v : CursorView) → view_of ls most ≡ v → IfSome r (λ e. v.left ≡ e ∷ merge_all (set ls i new))
   given v is = seen r (some_of r some)
     where

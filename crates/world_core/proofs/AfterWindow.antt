@@ -173,22 +173,25 @@ module _ (net : Net) (valid : IsNet net) (cs : List Clone) (front bound : ℕ) (
     (later : front ≤ bound) (within : bound ≤ next_front (simulation net) cs front)
     (stood : (i : ℕ) (p : ProcView) → slice_get procs i ≡ Some p → StandsAt net cs front i p)
     (stepped : AllFlow net (ends_of (simulation net) cs) bound procs flows) where
-  -- the copies of a station, and what came of them
+  -- each station of the network has its copies
   pub proc_of : (i : ℕ) → i < length net.sites → (p : ProcView) × (slice_get procs i ≡ Some p)
   proc_of i l = elim (slice_get_cases procs i).1 [
     | inl found ↦ (found.0, found.2)
     | inr past ↦ absurd (let p = past.0 in omega (arith, p, are_procs, l))
   ]
 
+  -- and an answer, which has what came of them
   pub flow_of : (i : ℕ) → i < length net.sites → (flow : Flow) × (slice_get flows i ≡ Some flow)
   flow_of i l = elim (slice_get_cases flows i).1 [
     | inl found ↦ (found.0, found.2)
     | inr past ↦ absurd (let p = past.0 in omega (arith, p, count, l))
   ]
 
+  -- the copies at a place are those of the station that is read there
   pub copies_of : (i : ℕ) (p : ProcView) → slice_get procs i ≡ Some p → copies_at procs i ≡ p.copies
   copies_of i p got = ap (λ o. unwrap_or (option_map (λ (p : ProcView). p.copies) o) []) got
 
+  -- and they stand for the clones at the front
   pub stand_of : (i : ℕ) → i < length net.sites → Stands (simulation net) has cs front (i + 1) (copies_at procs i)
   stand_of i l =
       let p = proc_of i l in

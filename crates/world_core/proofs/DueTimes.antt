@@ -92,6 +92,7 @@ module _ (net : Net) (cs : List Clone) (ended : List (ℕ × ℕ)) (front : ℕ)
   one_up : (i : ℕ) → i + 1 ≡ suc i
   one_up i = omega arith
 
+  -- the clone's least due time up to a station, with its least of the next station's copies, is that up to the next
   pub least_of_next : (i c : ℕ) (p : ProcView) (before here : Option ℕ) → slice_get procs i ≡ Some p → c < length cs →
       before ≡ least_to (simulation net) (clone_at cs c) front i → IsLeastOf ends p.copies c here →
       earlier before here ≡ least_to (simulation net) (clone_at cs c) front (i + 1)
@@ -102,6 +103,7 @@ module _ (net : Net) (cs : List Clone) (ended : List (ℕ × ℕ)) (front : ℕ)
       subst (λ s. earlier before here ≡ least_to (simulation net) (clone_at cs c) front s) (sym (one_up i))
       (ap (λ b. earlier b here) e ∙ ap (earlier (least_to (simulation net) (clone_at cs c) front i)) (sym e1))
 
+  -- and up to the last station it is the clone's least due time
   pub least_of_all : (n c : ℕ) (t : Option ℕ) → n ≡ length procs → c < length cs
       → t ≡ least_to (simulation net) (clone_at cs c) front n → t ≡ least_of (simulation net) (clone_at cs c) front
   least_of_all n c t many l e =
@@ -111,9 +113,11 @@ module _ (net : Net) (cs : List Clone) (ended : List (ℕ × ℕ)) (front : ℕ)
 
   -- ---- of all clones
 
+  -- of no stations nothing is taken, so there is no least time
   pub least_none : IsLeastBy time_of (TakenTo ends procs 0) None
   least_none = λ m h. let l = h.before in absurd (omega (arith, l))
 
+  -- the least of what is taken before a place and at it is the least up to the next place
   pub least_next : (i : ℕ) (p : ProcView) (after : Option ℕ) → slice_get procs i ≡ Some p →
       IsLeastTime (λ m. TakenTo ends procs i m ⊎ ((c : ℕ) × IsTakenBy ends p.copies c m)) after →
       IsLeastBy time_of (TakenTo ends procs (i + 1)) after
@@ -172,6 +176,7 @@ module _ (net : Net) (cs : List Clone) (ended : List (ℕ × ℕ)) (front : ℕ)
     | inr past ↦ absurd (let l = h.1 in let k = past.0 in let n = world.count in omega (arith, k, l, n))
   ]
 
+  -- and up to the last place it is the least due time of all clones
   pub least_all : (n : ℕ) (t : Option ℕ) → length procs ≤ n → IsLeastBy time_of (TakenTo ends procs n) t
       → t ≡ least (simulation net) cs front
   least_all n t many h = sym (least-copies (lawful-stations net world.valid) (stations-to_stations net world.valid)
@@ -224,6 +229,7 @@ module _ (net : Net) (cs : List Clone) (ended : List (ℕ × ℕ)) (front : ℕ)
 -- ---- figures
 
 module _ (net : Net) (cs : List Clone) (front i : ℕ) (p : ProcView) (here : StandsAt net cs front i p) where
+  -- the station's different logs are as many as its copies
   pub many_copies : copies net cs (i + 1) front ≡ length p.copies
   many_copies = copies_are_logs (lawful-stations net here.proc.valid) sets_join cs
       (i + 1) front p.copies here.stands same_entry same_entry-Decides
@@ -233,6 +239,7 @@ module _ (net : Net) (cs : List Clone) (front i : ℕ) (p : ProcView) (here : St
   alone_sum (x ∷ xs) = let h = alone_sum xs in let e =
       sum_by-cons (λ (a : StationCopy). size a.set * length a.log) x xs in omega (arith, h, e)
 
+  -- and what the clones would handle alone there is what its copies count
   pub many_alone : alone net cs (i + 1) front ≡ handled_alone p.copies
   many_alone = alone-copies has size (simulation net) cs front (i + 1) p.copies
       (λ a i. size_is_count a.set) here.stands ∙ sym (alone_sum p.copies)
@@ -247,12 +254,14 @@ all_short net s (x ∷ xs) l h = let k = h.0 in let e = k.short in (omega (arith
 
 module _ (net : Net) (cs : List Clone) (ended : List (ℕ × ℕ)) (front : ℕ) (procs : List ProcView)
     (world : WorldStands net cs ended front procs) where
+  -- the copies have the figures of station s at the front, and no more than 256 clones
   pub record Figured (s : ℕ) (p : ProcView) : Type 0 where
     pub copies_are : length p.copies ≡ copies net cs s front
     pub once : p.handled ≡ handled net cs s front
     pub each_alone : handled_alone p.copies ≡ alone net cs s front
     pub sizes : all_sizes p.copies ≤ 256
 
+  -- and so it is with the copies of each station
   pub figured : (s : ℕ) (p : ProcView) → 1 ≤ s → slice_get procs (s - 1) ≡ Some p → Figured s p
   figured s p low got =
       let w = world.each (s - 1) p got in

@@ -112,6 +112,7 @@ before_last (x ∷ xs) y zero l = refl
 before_last (x ∷ xs) y (suc i) l = before_last xs y i (omega (arith, l))
 
 module _ (net : Net) (ends : ℕ → ℕ) (bound : ℕ) (olds : List ProcView) where
+  -- at first no station has answered
   pub stepped_none : (steps : ℕ) → SteppedTo net ends bound 0 olds olds [] None steps steps
   stepped_none steps = record {
     flows = [];
@@ -128,6 +129,7 @@ module _ (net : Net) (ends : ℕ → ℕ) (bound : ℕ) (olds : List ProcView) w
       none_got : (flow : Flow) → None ≡ Some flow → ⊥
       none_got flow e = absurd (cc)
 
+  -- where the first n have answered and now the next has, the first n + 1 have
   pub stepped_next : (n : ℕ) (news after : List ProcView) (sent out now : Marked) (over0 over1 : Option (ℕ × ℕ))
       (over : CloneSet) (handled steps0 steps steps1 : ℕ) → n < length olds →
       SteppedTo net ends bound n olds news sent over0 steps0 steps
@@ -175,6 +177,7 @@ module _ (net : Net) (ends : ℕ → ℕ) (bound : ℕ) (olds : List ProcView) w
           below : (i : ℕ) → i < n + 1 → (i ≡ n → ⊥) → i < n
           below i less ne = grind (arith, less)
 
+  -- and where as many as there are have answered, all have
   pub stepped_all : (n : ℕ) (news : List ProcView) (sent : Marked) (over : Option (ℕ × ℕ)) (steps0 steps : ℕ)
       → n ≡ length olds →
       SteppedTo net ends bound n olds news sent over steps0 steps

@@ -45,6 +45,7 @@ module _ {X : Type 0} (cmp : X → X → Ordering) where
   none_left (x ∷ xs) = ap (λ l. x ∷ l) (none_left xs)
 
   module _ (xs ys out : List X) (i j : ℕ) (so_far : out ++ merge cmp (drop i xs) (drop j ys) ≡ merge cmp xs ys) where
+    -- the first list's next may be put out, unless the second list's next comes before it
     pub put_first : (x y : X) → slice_get xs i ≡ Some x → slice_get ys j ≡ Some y → (cmp x y ≡ Greater → ⊥) →
         (out ++ x ∷ []) ++ merge cmp (drop (i + 1) xs) (drop j ys) ≡ merge cmp xs ys
     put_first x y a b n =
@@ -55,6 +56,7 @@ module _ {X : Type 0} (cmp : X → X → Ordering) where
         (sym (drop-at ys j y b))))
         ∙ so_far
 
+    -- and where that comes before it, the second list's next may be put out
     pub put_second : (x y : X) → slice_get xs i ≡ Some x → slice_get ys j ≡ Some y → cmp x y ≡ Greater →
         (out ++ y ∷ []) ++ merge cmp (drop i xs) (drop (j + 1) ys) ≡ merge cmp xs ys
     put_second x y a b e =
@@ -71,6 +73,7 @@ module _ {X : Type 0} (cmp : X → X → Ordering) where
     drop_past (z ∷ zs) zero l = absurd (omega (arith, l))
     drop_past (z ∷ zs) (suc k) l = drop_past zs k (omega (arith, l))
 
+    -- where the second list is at its end, the rest of the first is all that is to be put out
     pub first_left : length ys ≤ j → (out ++ drop i xs) ++ drop j ys ≡ merge cmp xs ys
     first_left l =
         append_assoc out (drop i xs) (drop j ys)
@@ -78,6 +81,7 @@ module _ {X : Type 0} (cmp : X → X → Ordering) where
         ∙ sym (none_left (drop i xs)) ∙ ap (merge cmp (drop i xs)) (sym (drop_past ys j l)))
         ∙ so_far
 
+    -- and where the first is at its end, the rest of the second is
     pub second_left : length xs ≤ i → (out ++ drop i xs) ++ drop j ys ≡ merge cmp xs ys
     second_left l =
         append_assoc out (drop i xs) (drop j ys)
@@ -87,12 +91,14 @@ module _ {X : Type 0} (cmp : X → X → Ordering) where
 
 module _ (net : Net) (cs : List Clone) (ended : List (ℕ × ℕ)) (front : ℕ) (procs : List ProcView)
     (world : WorldStands net cs ended front procs) (who : ℕ) (there : who < length cs) where
+  -- at each station some copy has the clone
   pub has_a_copy : (i : ℕ) (p : ProcView) → slice_get procs i ≡ Some p
       → AllByRecursion (λ (a : StationCopy). has a.set who ≡ false) p.copies → ⊥
   has_a_copy i p got none =
       let a = (world.each i p got).stands.carried who there in
       false≢true (sym (all_in (λ (a : StationCopy). has a.set who ≡ false) p.copies a.0 none a.1) ∙ a.2)
 
+  -- and the log of that copy is the clone's own
   pub log_is : (i : ℕ) (p : ProcView) (log : List (Entry Msg Line)) → slice_get procs i ≡ Some p
       → HasLog p.copies who log → log ≡ log_at (simulation net) (clone_at cs who) (i + 1) front
   log_is i p log got h = h.is_log ∙ (world.each i p got).stands.log h.copy who h.is_copy h.is_in
@@ -121,6 +127,7 @@ module _ (net : Net) (cs : List Clone) (ended : List (ℕ × ℕ)) (front : ℕ)
     | inr past ↦ absurd (let p = past.0 in omega (arith, p, l))
   ]
 
+  -- the merged logs of the stations so far, merged with that of the next, are those up to the next
   pub one_more : (i : ℕ) (p : ProcView) (before log after : List (Entry Msg Line)) → slice_get procs i ≡ Some p
       → HasLog p.copies who log →
       before ≡ merge_of_logs (simulation net) sender_of number_of (clone_at cs who) front i
@@ -133,6 +140,7 @@ module _ (net : Net) (cs : List Clone) (ended : List (ℕ × ℕ)) (front : ℕ)
       (log_is i p log got h ∙ ap (λ s. log_at (simulation net) (clone_at cs who) s front) up)
       ∙ ap (merge_of_logs (simulation net) sender_of number_of (clone_at cs who) front) (sym up)
 
+  -- and up to the last station they are the clone's trace
   pub all_merged : (n : ℕ) (trace : List (Entry Msg Line)) → n ≡ length procs
       → trace ≡ merge_of_logs (simulation net) sender_of number_of (clone_at cs who) front n
       → trace ≡ (run_of (simulation net) (clone_at cs who) front).at.trace

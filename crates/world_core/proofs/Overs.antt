@@ -28,6 +28,7 @@ module _ (net : Net) (valid : IsNet net) (cs : List Clone) (front bound : ℕ) (
       (has flow.over c ≡ true) ↔ ((c < length cs) × IsBeyond net (i + 1) bound (clone_at cs c))
   over_at = over_of net valid cs front bound procs flows are_procs count later within stood stepped
 
+  -- the first station and clone over the limit are the first whose log is beyond it at the bound
   pub first_beyond : (i who : ℕ) → IsFirstOver flows i who → IsFirstBeyond net cs bound (i + 1) who
   first_beyond i who h =
       let place = (at_got flows i h.flow h.flow h.is_there).0 in

@@ -96,6 +96,7 @@ module _ (net : Net) (cs : List Clone) (name : List ℕ) (old : ℕ) (there : ol
       one_more : (c n : ℕ) → ((n == c) || nat_lt c n) ≡ nat_lt c (n + 1)
       one_more c n = grind (arith, nat_tests)
 
+  -- where the new clone is put beside the old one in all copies, the world stands for the clones with the fork
   pub world_forked : (ended : List (ℕ × ℕ)) (front : ℕ) (procs news : List ProcView) → length cs < 256
       → WorldStands net cs ended front procs → AllForked old (length cs) procs news
       → WorldStands net (forked cs name old) ended front news
@@ -142,6 +143,7 @@ module _ (net : Net) (cs : List Clone) (who : ℕ) (plan : Planned) (there : who
   for_no_other : (c : ℕ) → (c ≡ who → ⊥) → has (one who) c ≡ false
   for_no_other c n = has-one who c ∙ ne_eqb who c (λ e. n (sym e))
 
+  -- where the message of the set is given to the copies, the world stands for the clones with the set
   pub world_added : (ended : List (ℕ × ℕ)) (front : ℕ) (procs news : List ProcView) → 1 ≤ plan.station
       → plan.station ≤ length net.sites → front ≤ plan.at → WorldStands net cs ended front procs
       → AllDelivered ((tells, one who) ∷ []) procs news → WorldStands net (added cs who plan) ended front news
@@ -200,6 +202,7 @@ module _ (net : Net) (cs : List Clone) (who at : ℕ) (there : who < length cs)
   at_horizon : end_of (simulation net) (clone_at cs who) ≡ net.horizon
   at_horizon = ap (λ (o : Option ℕ). end_of (simulation net) (record (clone_at cs who) { end = o })) open_end
 
+  -- where the list of ends has the new end, the world stands for the clones with it, the copies as they were
   pub world_ended : (olds news : List (ℕ × ℕ)) (front : ℕ) (procs : List ProcView) → front ≤ at → at ≤ net.horizon →
       ((c : ℕ) → ends_in net.horizon news c ≡ cond (who == c) (min at (ends_in net.horizon olds c))
       (ends_in net.horizon olds c)) →

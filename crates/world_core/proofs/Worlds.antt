@@ -53,6 +53,7 @@ module _ (net : Net) (cs : List Clone) (ended : List (ℕ × ℕ)) (front bound 
   early : bound ≤ net.horizon
   early = let h = window_end-within (simulation net) (least (simulation net) cs front) in omega (arith, within, h)
 
+  -- the stations may step to the bound
   pub may_step : MayStep net bound
   may_step = record { valid = world.valid; early = early }
 
@@ -67,10 +68,12 @@ module _ (net : Net) (cs : List Clone) (ended : List (ℕ × ℕ)) (front bound 
     soon : front ≤ bound
     soon = omega (arith, later)
 
+    -- the first station and clone over the limit are the first whose log is beyond it at the bound
     pub first_beyond_is : (i who : ℕ) → IsFirstOver flows i who → IsFirstBeyond net cs bound (i + 1) who
     first_beyond_is = first_beyond net world.valid cs front bound procs flows world.count many soon within world.each
         steps_of
 
+    -- what was handled, and what is handled now, is no more than the limit allows each clone at each station
     pub few_are : total_handled net cs front + all_handled flows ≤ length net.sites * (length cs * net.limit)
     few_are = few_handled net world.valid cs front bound procs flows world.count many soon within world.each steps_of
 
@@ -84,14 +87,17 @@ module _ (net : Net) (cs : List Clone) (ended : List (ℕ × ℕ)) (front bound 
         ap (λ (p : ProcView). p.station) (sym f.2) ∙ (steps_of i q.0 f.0 q.1 f.1).number
 
     module _ (none : NoneOver flows) where
+      -- where no clone went over the limit, no log is beyond it at the bound
       pub none_are_beyond : NoneBeyond net cs bound
       none_are_beyond = none_beyond net world.valid cs front bound procs flows world.count many soon within world.each
           steps_of none
 
+      -- what was handled up to the bound is what was handled before and what is handled in the window
       pub steps_sum : total_handled net cs bound ≡ total_handled net cs front + all_handled flows
       steps_sum = total_grows net world.valid cs front bound procs flows world.count many soon within world.each
           steps_of world.for_stations none
 
+      -- and with what was sent delivered, the world stands at the bound
       pub world_after : (news : List ProcView) → AllDelivered (all_sent flows) (map (λ (f : Flow). f.done) flows) news
           → WorldStands net cs ended bound news
       world_after news given = record {
