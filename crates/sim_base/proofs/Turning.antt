@@ -1,11 +1,13 @@
 -- Lists that are turned round once: each element leaves at the front, and what becomes of it comes in at the back.
-use Rattle.std.proofs.Common.{◌≡◌, ℕ, ◌+◌, ◌<◌, ◌≤◌, refl, sym, ap, ◌∙◌, subst, List, [], ◌∷◌, ◌++◌, Option, Some, None}
+use Rattle.std.proofs.Common.{◌≡◌, ℕ, zero, suc, ◌+◌, ◌<◌, ◌≤◌, refl, sym, ap, ◌∙◌, subst, List, [], ◌∷◌, ◌++◌}
+use Rattle.std.proofs.Common.{Option, Some, None, set}
 use Rattle.std.proofs.Common.{true, false, ◌==◌, if◌then◌else◌, length, take, drop, get_or, map, arith, append_assoc}
 use Rattle.std.specs.Prelude.{is_some}
 use Rattle.std.proofs.lemmas.Bool.{eqb-true, eqb-false}
 use Rattle.std.proofs.lemmas.List.{append-nil, drop_more, take_more, nil_from_length}
 use Rattle.sim_base.specs.Pending.{cut_by}
-use Rattle.sim_base.specs.Blocks.{of_blocks, AreFilled}
+use Rattle.sim_base.specs.Blocks.{of_blocks, AreFilled, StartsAt}
+use Rattle.sim_base.specs.declared.message.Msg.{Msg}
 use Rattle.sim_base.proofs.Placing.{all_at, all_both}
 use Rattle.sim_base.proofs.Blocks.{of_blocks-append}
 use Rattle.sim_base.proofs.Cutting.{cut_kept, cut_dropped, cut-append, length_cut}
@@ -129,3 +131,10 @@ module _ {M K : Type 0} (join : K → K → K) (meet : K → K → Option K) (by
   pub spread_apart : (x : M × K) (r : Option K) → r ≡ meet x.1 by → is_some r ≡ false
       → ◌≡◌ {A = M × K} x (x.0, if is_some (meet x.1 by) then join x.1 more else x.1)
   spread_apart x r e s = let no : is_some (meet x.1 by) ≡ false = ap is_some (sym e) ∙ s in rw no refl
+
+-- other marks at a message leave the time of the first
+pub starts_set : {K : Type 0} (time : ℕ) (xs : List (Msg × K)) (i : ℕ) (x : Msg × K) (k : K) → x ≡ get_or xs i x
+    → StartsAt time xs → StartsAt time (set xs i (x.0, k))
+starts_set time [] i x k is s = tt
+starts_set time (y ∷ ys) zero x k is s = s ∙ ap (λ z. z.0.key.time) (sym is)
+starts_set time (y ∷ ys) (suc i) x k is s = s

@@ -5,6 +5,7 @@ use Rattle.std.specs.List.{AllByRecursion}
 use Rattle.std.specs.Ordering.{is_lt, is_eq, is_gt}
 use Rattle.std.specs.declared.cmp.Ordering.{Ordering}
 use Rattle.sim_base.specs.Marked.{SortedMarked}
+use Rattle.sim_base.specs.declared.message.Msg.{Msg}
 
 -- the messages of blocks, one block after another
 abbrev pub of_blocks : {X : Type 0} → List (List X) → List X
@@ -31,6 +32,11 @@ module _ {X : Type 0} where
     pub first_filled : 0 < length later → 0 < length first
     pub first_small : length first ≤ 64
     pub later_filled : AreFilled later
+
+-- where there is a first message, this is its time
+abbrev pub StartsAt : {K : Type 0} → ℕ → List (Msg × K) → Type 0
+StartsAt time [] = ⊤
+StartsAt time (x ∷ xs) = time ≡ x.0.key.time
 
 module _ {M K : Type 0} (cmp : M → M → Ordering) where
   -- all messages together are in order

@@ -34,6 +34,10 @@ module _ {M K : Type 0} (meet : K → K → Option K) where
 abbrev pub first_time : {K : Type 0} → List (Msg × K) → Option ℕ
 first_time xs = option_map (λ x. x.0.key.time) (slice_get xs 0)
 
+-- the marks of the first message
+abbrev pub first_marks : {M K : Type 0} → List (M × K) → Option K
+first_marks xs = option_map (λ x. x.1) (slice_get xs 0)
+
 -- nothing is pending, or the first message is at the bound or later
 abbrev pub NothingBefore : {K : Type 0} → ℕ → List (Msg × K) → Type 0
 NothingBefore bound [] = ⊤

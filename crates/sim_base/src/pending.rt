@@ -6,7 +6,7 @@
 //!     first [3 5 8 ..]   later [21 22 25 ..] [40 41 ..] ..
 ghost use Rattle.std.specs.Prelude.{◌≡◌, ◌<◌, ◌≤◌, ◌==◌, Option, List, [], ◌∷◌, ◌++◌};
 ghost use Rattle.std.specs.Prelude.{length, OnOk, OnErr, IfOk, IfNone, IfSome, Some, None, slice_get};
-ghost use Rattle.sim_base.specs.Pending.{insert_marked, spread_marks, cut_by, first_time, NothingBefore};
+ghost use Rattle.sim_base.specs.Pending.{insert_marked, spread_marks, cut_by, first_time, first_marks, NothingBefore};
 ghost use Rattle.sim_base.specs.Order.{msg_cmp};
 ghost use Rattle.sim_base.specs.Marked.{SortedMarked};
 ghost use Rattle.sim_base.specs.Blocks.{of_blocks, AreBlocks};
@@ -86,6 +86,13 @@ impl<S: Marks> Pending<S> {
         self.first.first_time()
     }
 
+    /// The marks of the least message, None exactly where nothing is pending. No message is copied.
+    pub fn least_marks(&self) -> Option<S>
+        ensures value { result ≡ first_marks self.now }
+    {
+        self.first.first_marks()
+    }
+
     /// Takes the least message out, None exactly where nothing is pending.
     pub fn take_least(&mut self) -> Option<(Msg, S)>
         ensures some { IfSome result (λ p. self.old ≡ p ∷ self.new) }
@@ -96,6 +103,17 @@ impl<S: Marks> Pending<S> {
             next_block(&mut self.first, &mut self.later);
         }
         taken
+    }
+
+    /// Takes the least message out and gives it without its marks, None exactly where nothing is pending.
+    pub fn take_message(&mut self) -> Option<Msg>
+        ensures some { IfSome result (λ m. (k : S) × (self.old ≡ (m, k) ∷ self.new)) }
+        ensures none { IfNone result ((self.old ≡ []) × (self.new ≡ [])) }
+    {
+        match self.take_least() {
+            Some(taken) => Some(taken.0),
+            None => None,
+        }
     }
 
     /// Takes the least message out if its time is before the bound. None changes nothing.

@@ -1,10 +1,10 @@
 //! One block of pending messages.
 ghost use Rattle.std.specs.Prelude.{◌≡◌, ℕ, ◌+◌, ◌-◌, ◌<◌, ◌≤◌, ◌==◌, List, []};
 ghost use Rattle.std.specs.Prelude.{◌++◌, length, take, drop, slice_get, OnOk, OnErr, IfOk};
-ghost use Rattle.sim_base.specs.Pending.{insert_marked, spread_marks, cut_by, first_time};
+ghost use Rattle.sim_base.specs.Pending.{insert_marked, spread_marks, cut_by, first_time, first_marks};
 ghost use Rattle.sim_base.specs.Order.{msg_cmp};
 ghost use Rattle.sim_base.specs.Marked.{SortedMarked};
-ghost use Rattle.sim_base.specs.Blocks.{IsPlaceOf, is_there, StartsAfter};
+ghost use Rattle.sim_base.specs.Blocks.{IsPlaceOf, is_there, StartsAfter, StartsAt};
 ghost use Rattle.sim_base.specs.declared.message.Msg.{Msg};
 
 use crate::marks::Marks;
@@ -21,12 +21,17 @@ const FEW: usize = 8;
 #[derive(Drop)]
 pub(crate) struct Block<S: Marks> {
     items: VecDeque<(Msg, S)>,
+    // the first message's, kept here so that looking for a block reads no memory of its messages; of a block with
+    // no message it means nothing
+    time: u64,
 }
 
 impl<S: Marks> Model for Block<S> {
     ghost Value = { List (Msg × S) };
 
     ghost view = { λ b. b.items.items };
+
+    ghost invariant = { λ b. StartsAt b.time b.items.items };
 }
 
 impl<S: Marks> Block<S> {
@@ -36,7 +41,16 @@ impl<S: Marks> Block<S> {
     {
         Block {
             items: VecDeque::new(alloc),
+            time: 0,
         }
+    }
+
+    /// A block of these messages.
+    fn of(items: VecDeque<(Msg, S)>) -> Block<S>
+        ensures value { result ≡ items.items }
+    {
+        let time = time_of_first(&items);
+        Block { items, time }
     }
 
     /// How many messages there are.
@@ -64,8 +78,19 @@ impl<S: Marks> Block<S> {
     pub(crate) fn first_time(&self) -> Option<u64>
         ensures value { result ≡ first_time self.now }
     {
+        if self.items.is_empty() {
+            None
+        } else {
+            Some(self.time)
+        }
+    }
+
+    /// The marks of the first message.
+    pub(crate) fn first_marks(&self) -> Option<S>
+        ensures value { result ≡ first_marks self.now }
+    {
         match self.items.front() {
-            Some(item) => Some(item.0.key.time),
+            Some(item) => Some(item.1),
             None => None,
         }
     }
@@ -74,6 +99,10 @@ impl<S: Marks> Block<S> {
     pub(crate) fn starts_after(&self, msg: &Msg) -> bool
         ensures value { StartsAfter msg_cmp msg.now self.now result }
     {
+        // times differ mostly, and then the message itself is not read
+        if msg.key.time != self.time {
+            return msg.key.time < self.time;
+        }
         match self.items.front() {
             Some(item) => compare(msg, &item.0).is_lt(),
             None => false,
@@ -85,7 +114,9 @@ impl<S: Marks> Block<S> {
         ensures value { result ≡ slice_get self.old 0 }
         ensures rest { self.new ≡ drop 1 self.old }
     {
-        self.items.pop_front()
+        let taken = self.items.pop_front();
+        self.time = time_of_first(&self.items);
+        taken
     }
 
     /// How many messages come before this one.
@@ -128,6 +159,9 @@ impl<S: Marks> Block<S> {
             return Ok(());
         }
         self.items.insert(place, (msg, marks))?;
+        if place == 0 {
+            self.time = msg.key.time;
+        }
         Ok(())
     }
 
@@ -139,7 +173,7 @@ impl<S: Marks> Block<S> {
         ensures err { OnErr result (self.new ≡ self.old) }
     {
         match self.items.split_off(place) {
-            Ok(items) => Ok(Block { items }),
+            Ok(items) => Ok(Block::of(items)),
             Err(_) => Err(NoMemory),
         }
     }
@@ -166,7 +200,7 @@ impl<S: Marks> Block<S> {
                 items.push_back((item.0, shared))?;
             }
         }
-        Ok(Block { items })
+        Ok(Block::of(items))
     }
 
     /// A block with the same messages and marks.
@@ -177,9 +211,7 @@ impl<S: Marks> Block<S> {
         let mut items = Vec::with_capacity(alloc, self.items.len())?;
         items.extend_from_slice(front)?;
         items.extend_from_slice(back)?;
-        Ok(Block {
-            items: VecDeque::from_vec(items),
-        })
+        Ok(Block::of(VecDeque::from_vec(items)))
     }
 
     /// Keeps the messages whose marks meet `by`, each with what they share. It takes no memory.
@@ -197,6 +229,7 @@ impl<S: Marks> Block<S> {
                 };
             }
         }
+        self.time = time_of_first(&self.items);
     }
 
     /// Joins `more` to the marks of each message whose marks meet `by`.
@@ -209,6 +242,16 @@ impl<S: Marks> Block<S> {
                 item.1 = item.1.join(more);
             }
         }
+    }
+}
+
+/// The time of the first message, and 0 where there is none.
+fn time_of_first<S: Marks>(items: &VecDeque<(Msg, S)>) -> u64
+    ensures value { StartsAt result items.now.items }
+{
+    match items.front() {
+        Some(item) => item.0.key.time,
+        None => 0,
     }
 }
 

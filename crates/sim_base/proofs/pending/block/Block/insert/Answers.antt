@@ -20,8 +20,19 @@ returns-then-has_at-clause-ok g c =
     c.index_mut-item.result.now sorted place there c.index_mut-item.ensures.value)
     ∙ ap (insert_marked g.S.Marks.joined msg_cmp c.args.msg c.args.marks) c.self.view_is)
 
-pub returns-clause-ok : goal.returns-clause-ok
-returns-clause-ok g c =
+pub returns-then-place-eq0-clause-ok : goal.returns-then-place-eq0-clause-ok
+returns-then-place-eq0-clause-ok g c =
+    let sorted = subst (λ xs. SortedMarked msg_cmp xs) (sym c.self.view_is) c.requires.sorted in
+    let place = subst (λ xs. IsPlaceOf msg_cmp c.args.msg xs c.place-place.result)
+    (sym c.self.view_is) c.place-place.ensures.value in
+    let there = subst (λ xs. is_there msg_cmp c.args.msg (slice_get xs c.place-place.result) ≡ false)
+    (sym c.self.view_is) (sym c.if-has_at.ensures.value) in
+    c.in_ok-insert.ensures.items ∙ sym
+    (new_at msg_total g.S.Marks.joined c.args.msg c.args.marks c.self.inside.items.items c.place-place.result
+    sorted place there) ∙ ap (insert_marked g.S.Marks.joined msg_cmp c.args.msg c.args.marks) c.self.view_is
+
+pub returns-else-place-eq0-clause-ok : goal.returns-else-place-eq0-clause-ok
+returns-else-place-eq0-clause-ok g c =
     let sorted = subst (λ xs. SortedMarked msg_cmp xs) (sym c.self.view_is) c.requires.sorted in
     let place = subst (λ xs. IsPlaceOf msg_cmp c.args.msg xs c.place-place.result)
     (sym c.self.view_is) c.place-place.ensures.value in

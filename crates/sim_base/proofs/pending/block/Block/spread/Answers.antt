@@ -1,7 +1,8 @@
 use Rattle.std.proofs.Common.{◌≡◌, ◌<◌, ap, sym, ◌∙◌, subst, arith, length, set, if◌then◌else◌}
 use Rattle.std.specs.Prelude.{is_some}
 use Rattle.std.proofs.lemmas.List.Edits.{map_over_more}
-use Rattle.sim_base.proofs.Turning.{spread_met, spread_apart}
+use Rattle.sim_base.specs.Blocks.{StartsAt}
+use Rattle.sim_base.proofs.Turning.{spread_met, spread_apart, starts_set}
 use Rattle.sim_base.proofs.pending.block.Block.spread.Goals as goal
 use Rattle.sim_base.proofs.pending.block.Block.spread.Goals.{then-is_some, else-is_some}
 
@@ -9,21 +10,36 @@ pub loop-i-preserved : goal.loop-i-preserved
 loop-i-preserved g c =
     let met = g.S.Marks.met in
     let join = g.S.Marks.joined in
+    let old = c.loop-i.self-inside.items.items in
+    let item = c.index_mut-item.result.now in
     let l : c.loop-i.i < length c.args.self.now = omega (arith, ap length c.self.view_is) in
     let step = map_over_more (λ x. (x.0, if is_some (met x.1 c.args.by) then join x.1 c.args.more else x.1))
-    c.args.self.now c.loop-i.self-inside.items.items c.loop-i.i c.index_mut-item.result.now l c.loop-i.invariant
-    c.index_mut-item.ensures.value in
-    elim c.if-is_some.branch [
-      | then-is_some w ↦
-          ap (λ b. b.items.items) w.self-inside-is
-          ∙ ap (set c.loop-i.self-inside.items.items c.loop-i.i)
-          (spread_met join met c.args.by c.args.more c.index_mut-item.result.now w.join-item.result c.meet.result
-          c.meet.ensures (sym c.is_some.ensures ∙ w.if-is_some.true) w.join-item.ensures)
-          ∙ step
-      | else-is_some w ↦
-          ap (λ b. b.items.items) w.self-inside-is
-          ∙ ap (set c.loop-i.self-inside.items.items c.loop-i.i)
-          (spread_apart join met c.args.by c.args.more c.index_mut-item.result.now c.meet.result c.meet.ensures
-          (sym c.is_some.ensures ∙ w.if-is_some.false))
-          ∙ step
-    ]
+    c.args.self.now old c.loop-i.i item l c.loop-i.invariant.items c.index_mut-item.ensures.value in
+    record {
+      items =
+          elim c.if-is_some.branch [
+            | then-is_some w ↦
+                ap (λ b. b.items.items) w.self-inside-is
+                ∙ ap (set old c.loop-i.i)
+                (spread_met join met c.args.by c.args.more item w.join-item.result c.meet.result
+                c.meet.ensures (sym c.is_some.ensures ∙ w.if-is_some.true) w.join-item.ensures)
+                ∙ step
+            | else-is_some w ↦
+                ap (λ b. b.items.items) w.self-inside-is
+                ∙ ap (set old c.loop-i.i)
+                (spread_apart join met c.args.by c.args.more item c.meet.result c.meet.ensures
+                (sym c.is_some.ensures ∙ w.if-is_some.false))
+                ∙ step
+          ];
+      time =
+          elim c.if-is_some.branch [
+            | then-is_some w ↦
+                subst (λ b. StartsAt b.time b.items.items) (sym w.self-inside-is)
+                (starts_set c.loop-i.self-inside.time old c.loop-i.i item w.join-item.result
+                c.index_mut-item.ensures.value c.loop-i.invariant.time)
+            | else-is_some w ↦
+                subst (λ b. StartsAt b.time b.items.items) (sym w.self-inside-is)
+                (starts_set c.loop-i.self-inside.time old c.loop-i.i item item.1
+                c.index_mut-item.ensures.value c.loop-i.invariant.time)
+          ];
+    }
