@@ -5,7 +5,7 @@ use Rattle.std.specs.Prelude.{option_map}
 use Rattle.std.specs.List.{AllByRecursion, cons_option}
 use Rattle.std.specs.declared.cmp.Ordering.TheVariants.{Less}
 use Rattle.sim_base.specs.Order.{msg_cmp}
-use Rattle.sim_base.specs.Pending.{cut_by}
+use Rattle.sim_base.specs.Pending.{cut_by, first_time, first_marks}
 use Rattle.sim_base.specs.declared.message.Msg.{Msg}
 use Rattle.clone_sets.specs.Sets.{has, met, empty}
 use Rattle.clone_sets.specs.declared.set.CloneSet.{CloneSet}
@@ -123,6 +123,26 @@ pub first_is : (q : Marked) (x y : Msg × CloneSet) (rest : Marked) → Some x �
     → q ≡ x ∷ rest
 first_is [] x y rest e f = absurd (cc)
 first_is (z ∷ zs) x y rest e f = let h : z ≡ x = cc in let t : zs ≡ rest = ap tail_of f in λ i. h i ∷ t i
+
+-- where there is a first time, there is a first message of that time
+pub first_timed : (q : Marked) (t : ℕ) → Some t ≡ first_time q
+    → (x : Msg × CloneSet) × (Some x ≡ slice_get q 0) × (x.0.key.time ≡ t)
+first_timed [] t e = absurd (cc)
+first_timed (x ∷ xs) t e = let h : t ≡ x.0.key.time = cc in (x, refl, sym h)
+
+-- and with the first marks
+pub first_marked : (q : Marked) (t : ℕ) (k : CloneSet) → Some t ≡ first_time q → Some k ≡ first_marks q
+    → (m : Msg) × (Some (m, k) ≡ slice_get q 0) × (m.key.time ≡ t)
+first_marked [] t k e f = absurd (cc)
+first_marked (x ∷ xs) t k e f =
+    let h : t ≡ x.0.key.time = cc in
+    let g : k ≡ x.1 = cc in
+    (x.0, ap (λ l. Some (x.0, l)) g, sym h)
+
+-- where there is none, there is no message
+pub none_timed : (q : Marked) → None ≡ first_time q → None ≡ slice_get q 0
+none_timed [] e = refl
+none_timed (x ∷ xs) e = absurd (cc)
 
 -- a list with nothing at place 0 is empty
 pub none_of : (q : Marked) → None ≡ slice_get q 0 → q ≡ []

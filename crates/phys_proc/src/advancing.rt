@@ -82,10 +82,9 @@ pub(crate) fn go_on<L: Ledger>(
     ensures handled { OnOk result (stage.new.handled + steps.old ≡ stage.old.handled + steps.new) }
 {
     loop {
-        let Some(due) = next_due(copy, ends, bound, model.horizon()) else {
+        let Some(takers) = next_due(copy, ends, bound, model.horizon()) else {
             return Ok(Stop::Settled);
         };
-        let takers = due.1;
         if takers == copy.set() {
             if copy.log().len() >= model.limit() {
                 return Ok(Stop::Full);

@@ -37,29 +37,31 @@ impl std::marker::Model for PhysCopy {
     ghost view = { λ p. record { set = p.set; state = p.state; log = p.log; pending = p.pending } };
 }
 
-// The least message before the bound that some clone of the copy takes, with those that take it. What none takes is
-// passed over.
+// The clones that take the least message before the bound that some clone of the copy takes. What none takes is passed
+// over. The message stays where it is: only its time and its marks are looked at.
 pub(crate) fn next_due(
     copy: &mut PhysCopy,
     ends: &CloneEnds,
     bound: u64,
     horizon: u64,
-) -> Option<(Msg, CloneSet)>
+) -> Option<CloneSet>
     requires early { bound ≤ horizon }
     requires sorted { SortedMarked msg_cmp copy.old.pending }
-    ensures some { IfSome result (λ p. NextDue (ends_in horizon ends.now) bound copy.old copy.new p.0 p.1) }
+    ensures some { IfSome result (λ k. (m : Msg') × NextDue (ends_in horizon ends.now) bound copy.old copy.new m k) }
     ensures none { IfNone result (NothingDue (ends_in horizon ends.now) bound copy.old copy.new) }
 {
-    while let Some(first) = copy.pending.least() {
-        let msg = first.0;
-        if msg.key.time >= bound {
+    while let Some(time) = copy.pending.least_time() {
+        if time >= bound {
             return None;
         }
-        let takers = copy.set.meet(first.1).minus(ends.gone(msg.key.time));
+        let Some(marks) = copy.pending.least_marks() else {
+            unreachable!()
+        };
+        let takers = copy.set.meet(marks).minus(ends.gone(time));
         if !takers.is_empty() {
-            return Some((msg, takers));
+            return Some(takers);
         }
-        let Some(_) = copy.pending.take_least() else {
+        let Some(_) = copy.pending.take_message() else {
             unreachable!()
         };
     }
@@ -103,7 +105,7 @@ pub(crate) fn handle_least<L: Ledger>(
     ensures handled { OnOk result (IsHandled model.now station copy.old copy.new sent.old.items sent.new.items) }
     ensures counted { OnOk result (steps.new ≡ steps.old + 1) }
 {
-    let Some((msg, _)) = copy.pending.take_least() else {
+    let Some(msg) = copy.pending.take_message() else {
         unreachable!()
     };
     out.clear();

@@ -6,8 +6,8 @@ use Rattle.phys_proc.proofs.Finishing.{settled_here, due_here}
 use Rattle.phys_proc.proofs.Onward.{onward_start, onward_same, onward_new, came_on, fewer_left, longer_log}
 use Rattle.phys_proc.proofs.advancing.go_on.Goals as goal
 
-pub loop-due-init : goal.loop-due-init
-loop-due-init g c = record {
+pub loop-takers-init : goal.loop-takers-init
+loop-takers-init g c = record {
   onward = onward_start c.args.model.now c.args.station (ends_in c.args.model.now.horizon c.args.ends.now)
       c.args.bound c.args.copy.now c.args.stage.now.sent.items c.args.steps.now c.requires.fits;
   done = refl;
@@ -17,94 +17,96 @@ loop-due-init g c = record {
 
 pub returns-in_default-clause-onward : goal.returns-in_default-clause-onward
 returns-in_default-clause-onward g c =
-    let d = subst (λ h. NothingDue (ends_in h c.args.ends.now) c.args.bound c.loop-due.copy c.next_due.new.copy)
+    let d = subst (λ h. NothingDue (ends_in h c.args.ends.now) c.args.bound c.loop-takers.copy c.next_due.new.copy)
     c.horizon.ensures.value c.in_default.ensures.none in
     onward_same c.args.model.now c.args.station (ends_in c.args.model.now.horizon c.args.ends.now) c.args.bound
-    c.args.copy.now c.loop-due.copy c.next_due.new.copy c.args.stage.now.sent.items c.loop-due.stage.sent.items
-    c.args.steps.now c.loop-due.steps c.loop-due.invariant.onward d.same
+    c.args.copy.now c.loop-takers.copy c.next_due.new.copy c.args.stage.now.sent.items c.loop-takers.stage.sent.items
+    c.args.steps.now c.loop-takers.steps c.loop-takers.invariant.onward d.same
 
 pub returns-in_default-clause-stop : goal.returns-in_default-clause-stop
 returns-in_default-clause-stop g c =
-    settled_here (ends_in c.args.model.now.horizon c.args.ends.now) c.args.bound c.loop-due.copy c.next_due.new.copy
-    (subst (λ h. NothingDue (ends_in h c.args.ends.now) c.args.bound c.loop-due.copy c.next_due.new.copy)
+    settled_here (ends_in c.args.model.now.horizon c.args.ends.now) c.args.bound c.loop-takers.copy c.next_due.new.copy
+    (subst (λ h. NothingDue (ends_in h c.args.ends.now) c.args.bound c.loop-takers.copy c.next_due.new.copy)
     c.horizon.ensures.value c.in_default.ensures.none)
 
 pub returns-then-len-limit-clause-onward : goal.returns-then-len-limit-clause-onward
 returns-then-len-limit-clause-onward g c =
-    let d = subst (λ h. NextDue (ends_in h c.args.ends.now) c.args.bound c.loop-due.copy c.next_due.new.copy
-    c.in-Some.due.0 c.in-Some.due.1) c.horizon.ensures.value c.in-Some.ensures.some in
+    let d = subst (λ h. NextDue (ends_in h c.args.ends.now) c.args.bound c.loop-takers.copy c.next_due.new.copy
+    c.in-Some.ensures.some.0 c.in-Some.takers) c.horizon.ensures.value c.in-Some.ensures.some.1 in
     onward_same c.args.model.now c.args.station (ends_in c.args.model.now.horizon c.args.ends.now) c.args.bound
-    c.args.copy.now c.loop-due.copy c.next_due.new.copy c.args.stage.now.sent.items c.loop-due.stage.sent.items
-    c.args.steps.now c.loop-due.steps c.loop-due.invariant.onward d.same
+    c.args.copy.now c.loop-takers.copy c.next_due.new.copy c.args.stage.now.sent.items c.loop-takers.stage.sent.items
+    c.args.steps.now c.loop-takers.steps c.loop-takers.invariant.onward d.same
 
 pub returns-then-len-limit-clause-stop : goal.returns-then-len-limit-clause-stop
 returns-then-len-limit-clause-stop g c =
-    let d = subst (λ h. NextDue (ends_in h c.args.ends.now) c.args.bound c.loop-due.copy c.next_due.new.copy
-    c.in-Some.due.0 c.in-Some.due.1) c.horizon.ensures.value c.in-Some.ensures.some in
+    let d = subst (λ h. NextDue (ends_in h c.args.ends.now) c.args.bound c.loop-takers.copy c.next_due.new.copy
+    c.in-Some.ensures.some.0 c.in-Some.takers) c.horizon.ensures.value c.in-Some.ensures.some.1 in
     let log = ap length c.log.ensures.value in
     record {
-      msg = c.in-Some.due.0;
-      takers = c.in-Some.due.1;
-      due = due_here (ends_in c.args.model.now.horizon c.args.ends.now) c.args.bound c.loop-due.copy
-          c.next_due.new.copy c.in-Some.due.0 c.in-Some.due.1 d;
-      all = eqb-true c.in-Some.due.1 c.set.result (sym c.if-eq.ensures) ∙ c.set.ensures.value;
+      msg = c.in-Some.ensures.some.0;
+      takers = c.in-Some.takers;
+      due = due_here (ends_in c.args.model.now.horizon c.args.ends.now) c.args.bound c.loop-takers.copy
+          c.next_due.new.copy c.in-Some.ensures.some.0 c.in-Some.takers d;
+      all = eqb-true c.in-Some.takers c.set.result (sym c.if-eq.ensures) ∙ c.set.ensures.value;
       full = let l = c.if-len-limit.true in let a = c.len.ensures in let b = c.limit.ensures.value in
           omega (arith, l, a, b, log);
     }
 
 pub returns-else-eq-clause-onward : goal.returns-else-eq-clause-onward
 returns-else-eq-clause-onward g c =
-    let d = subst (λ h. NextDue (ends_in h c.args.ends.now) c.args.bound c.loop-due.copy c.next_due.new.copy
-    c.in-Some.due.0 c.in-Some.due.1) c.horizon.ensures.value c.in-Some.ensures.some in
+    let d = subst (λ h. NextDue (ends_in h c.args.ends.now) c.args.bound c.loop-takers.copy c.next_due.new.copy
+    c.in-Some.ensures.some.0 c.in-Some.takers) c.horizon.ensures.value c.in-Some.ensures.some.1 in
     onward_same c.args.model.now c.args.station (ends_in c.args.model.now.horizon c.args.ends.now) c.args.bound
-    c.args.copy.now c.loop-due.copy c.next_due.new.copy c.args.stage.now.sent.items c.loop-due.stage.sent.items
-    c.args.steps.now c.loop-due.steps c.loop-due.invariant.onward d.same
+    c.args.copy.now c.loop-takers.copy c.next_due.new.copy c.args.stage.now.sent.items c.loop-takers.stage.sent.items
+    c.args.steps.now c.loop-takers.steps c.loop-takers.invariant.onward d.same
 
 pub returns-else-eq-clause-stop : goal.returns-else-eq-clause-stop
 returns-else-eq-clause-stop g c =
-    let d = subst (λ h. NextDue (ends_in h c.args.ends.now) c.args.bound c.loop-due.copy c.next_due.new.copy
-    c.in-Some.due.0 c.in-Some.due.1) c.horizon.ensures.value c.in-Some.ensures.some in
+    let d = subst (λ h. NextDue (ends_in h c.args.ends.now) c.args.bound c.loop-takers.copy c.next_due.new.copy
+    c.in-Some.ensures.some.0 c.in-Some.takers) c.horizon.ensures.value c.in-Some.ensures.some.1 in
     record {
-      msg = c.in-Some.due.0;
-      due = due_here (ends_in c.args.model.now.horizon c.args.ends.now) c.args.bound c.loop-due.copy
-          c.next_due.new.copy c.in-Some.due.0 c.in-Some.due.1 d;
-      differ = λ e. eqb-false c.in-Some.due.1 c.set.result (sym c.if-eq.ensures) (e ∙ sym c.set.ensures.value);
+      msg = c.in-Some.ensures.some.0;
+      due = due_here (ends_in c.args.model.now.horizon c.args.ends.now) c.args.bound c.loop-takers.copy
+          c.next_due.new.copy c.in-Some.ensures.some.0 c.in-Some.takers d;
+      differ = λ e. eqb-false c.in-Some.takers c.set.result (sym c.if-eq.ensures) (e ∙ sym c.set.ensures.value);
     }
 
 pub handle_least-requires-clause-fits : goal.handle_least-requires-clause-fits
 handle_least-requires-clause-fits g c =
-    let d = subst (λ h. NextDue (ends_in h c.args.ends.now) c.args.bound c.loop-due.copy c.next_due.new.copy
-    c.in-Some.due.0 c.in-Some.due.1) c.horizon.ensures.value c.in-Some.ensures.some in
+    let d = subst (λ h. NextDue (ends_in h c.args.ends.now) c.args.bound c.loop-takers.copy c.next_due.new.copy
+    c.in-Some.ensures.some.0 c.in-Some.takers) c.horizon.ensures.value c.in-Some.ensures.some.1 in
     (onward_new c.args.model.now c.args.station (ends_in c.args.model.now.horizon c.args.ends.now) c.args.bound
-    c.args.copy.now c.loop-due.copy c.next_due.new.copy c.args.stage.now.sent.items c.loop-due.stage.sent.items
-    c.args.steps.now c.loop-due.steps c.loop-due.invariant.onward c.in-Some.due.0 c.in-Some.due.1 d).fits
+    c.args.copy.now c.loop-takers.copy c.next_due.new.copy c.args.stage.now.sent.items c.loop-takers.stage.sent.items
+    c.args.steps.now c.loop-takers.steps c.loop-takers.invariant.onward
+    c.in-Some.ensures.some.0 c.in-Some.takers d).fits
 
-pub loop-due-smaller : goal.loop-due-smaller
-loop-due-smaller g c =
-    let d = subst (λ h. NextDue (ends_in h c.args.ends.now) c.args.bound c.loop-due.copy c.next_due.new.copy
-    c.in-Some.due.0 c.in-Some.due.1) c.horizon.ensures.value c.in-Some.ensures.some in
+pub loop-takers-smaller : goal.loop-takers-smaller
+loop-takers-smaller g c =
+    let d = subst (λ h. NextDue (ends_in h c.args.ends.now) c.args.bound c.loop-takers.copy c.next_due.new.copy
+    c.in-Some.ensures.some.0 c.in-Some.takers) c.horizon.ensures.value c.in-Some.ensures.some.1 in
     let log = ap length c.log.ensures.value in
     let room : length c.next_due.new.copy.log < c.args.model.now.limit = let l = c.if-len-limit.false in let a =
     c.len.ensures in let b = c.limit.ensures.value in omega (arith, l, a, b, log) in
     fewer_left c.args.model.now.limit (length c.next_due.new.copy.log) (length c.handle_least.new.copy.log)
-    (length c.loop-due.copy.log) (longer_log c.args.model.now c.args.station c.next_due.new.copy
-    c.handle_least.new.copy _ _ c.in-Some.due.0 d.marks d.rest d.pending c.in_ok-handle_least.ensures.handled)
+    (length c.loop-takers.copy.log) (longer_log c.args.model.now c.args.station c.next_due.new.copy
+    c.handle_least.new.copy _ _ c.in-Some.ensures.some.0 d.marks d.rest d.pending c.in_ok-handle_least.ensures.handled)
     (ap (λ l. length l) d.same.log) room
 
-pub loop-due-preserved : goal.loop-due-preserved
-loop-due-preserved g c =
-    let d = subst (λ h. NextDue (ends_in h c.args.ends.now) c.args.bound c.loop-due.copy c.next_due.new.copy
-    c.in-Some.due.0 c.in-Some.due.1) c.horizon.ensures.value c.in-Some.ensures.some in
-    let inv = c.loop-due.invariant in
+pub loop-takers-preserved : goal.loop-takers-preserved
+loop-takers-preserved g c =
+    let d = subst (λ h. NextDue (ends_in h c.args.ends.now) c.args.bound c.loop-takers.copy c.next_due.new.copy
+    c.in-Some.ensures.some.0 c.in-Some.takers) c.horizon.ensures.value c.in-Some.ensures.some.1 in
+    let inv = c.loop-takers.invariant in
     let log = ap length c.log.ensures.value in
     let room : length c.next_due.new.copy.log < c.args.model.now.limit = let l = c.if-len-limit.false in let a =
     c.len.ensures in let b = c.limit.ensures.value in omega (arith, l, a, b, log) in
     record {
       onward = came_on c.args.model.now c.args.station (ends_in c.args.model.now.horizon c.args.ends.now) c.args.bound
-          c.args.copy.now c.loop-due.copy c.next_due.new.copy c.args.stage.now.sent.items
-          c.loop-due.stage.sent.items c.args.steps.now c.loop-due.steps inv.onward c.in-Some.due.0 c.in-Some.due.1 d
+          c.args.copy.now c.loop-takers.copy c.next_due.new.copy c.args.stage.now.sent.items
+          c.loop-takers.stage.sent.items c.args.steps.now c.loop-takers.steps
+          inv.onward c.in-Some.ensures.some.0 c.in-Some.takers d
           c.handle_least.new.copy c.handle_least.new.sent.items c.handle_least.new.steps
-          (eqb-true c.in-Some.due.1 c.set.result (sym c.if-eq.ensures) ∙ c.set.ensures.value) room
+          (eqb-true c.in-Some.takers c.set.result (sym c.if-eq.ensures) ∙ c.set.ensures.value) room
           c.in_ok-handle_least.ensures.handled c.in_ok-handle_least.ensures.counted;
       done = inv.done;
       over = inv.over;

@@ -3,8 +3,8 @@ use Rattle.phys_proc.specs.Gone.{ends_in}
 use Rattle.phys_proc.specs.Own.{Onward}
 use Rattle.phys_proc.proofs.advancing.go_on.Given as goal
 
-abbrev pub invariant-loop-due : goal.invariant-loop-due
-invariant-loop-due g l = record {
+abbrev pub invariant-loop-takers : goal.invariant-loop-takers
+invariant-loop-takers g l = record {
   onward : Onward l.model l.station (ends_in l.model.horizon l.ends) l.bound l.fn.copy l.copy l.fn.stage.sent.items
       l.stage.sent.items l.fn.steps l.steps;
   done : l.stage.done ≡ l.fn.stage.done;
@@ -12,5 +12,5 @@ invariant-loop-due g l = record {
   handled : l.stage.handled + l.fn.steps ≡ l.fn.stage.handled + l.steps;
 }
 
-abbrev pub decreases-loop-due : goal.decreases-loop-due
-decreases-loop-due g l = l.model.limit - length l.copy.log
+abbrev pub decreases-loop-takers : goal.decreases-loop-takers
+decreases-loop-takers g l = l.model.limit - length l.copy.log

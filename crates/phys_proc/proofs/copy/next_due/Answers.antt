@@ -1,32 +1,44 @@
-use Rattle.std.proofs.Common.{sym, refl, ap, ◌∙◌, eqb-true}
+use Rattle.std.proofs.Common.{sym, refl, ap, ◌∙◌, eqb-true, arith}
 use Rattle.std.proofs.lemmas.Bool.{eqb-false}
 use Rattle.clone_sets.specs.Sets.{has, empty}
 use Rattle.clone_sets.proofs.SetLaws.{has-empty}
 use Rattle.phys_proc.proofs.Parted.{nothing_late, nothing_left, next_is_due, none_takes, same_more, first_is}
-use Rattle.phys_proc.specs.Gone.{ends_in}
+use Rattle.phys_proc.proofs.Parted.{first_timed, first_marked, none_timed}
+use Rattle.phys_proc.specs.Gone.{ends_in, is_gone}
 use Rattle.phys_proc.proofs.copy.next_due.Goals as goal
 
-pub returns-then-msg-bound-clause-none : goal.returns-then-msg-bound-clause-none
-returns-then-msg-bound-clause-none c =
-    nothing_late (ends_in c.args.horizon c.args.ends.now) c.args.bound c.args.copy.now _ c.in-Some.first.0
-    c.in-Some.first.1 c.loop-first.invariant c.requires.sorted c.in-Some.ensures.value c.if-msg-bound.true
+pub returns-then-time-bound-clause-none : goal.returns-then-time-bound-clause-none
+returns-then-time-bound-clause-none c =
+    let f = first_timed _ c.in-Some.time c.in-Some.ensures.value in
+    nothing_late (ends_in c.args.horizon c.args.ends.now) c.args.bound c.args.copy.now _ f.0.0 f.0.1
+    c.loop-time.invariant c.requires.sorted f.1 (let l = c.if-time-bound.true in let t = f.2 in omega (arith, l, t))
 
 pub returns-then-not-is_empty-clause-some : goal.returns-then-not-is_empty-clause-some
 returns-then-not-is_empty-clause-some c =
-    next_is_due c.args.horizon c.args.ends.now c.args.bound c.requires.early c.args.copy.now _ c.in-Some.first.0
-    c.in-Some.first.1 c.minus-takers.result c.meet.result c.gone.result c.loop-first.invariant c.meet.ensures.members
-    c.minus-takers.ensures.members c.gone.ensures.gone c.if-msg-bound.false
-    (λ e. eqb-false c.minus-takers.result empty (sym c.if-not-is_empty.ensures.value) e) c.in-Some.ensures.value
+    let f = first_marked _ c.in-Some.time c.in-Some-least_marks.marks c.in-Some.ensures.value
+    c.in-Some-least_marks.ensures.value in (
+      f.0,
+      next_is_due c.args.horizon c.args.ends.now c.args.bound c.requires.early c.args.copy.now _ f.0
+          c.in-Some-least_marks.marks c.minus-takers.result c.meet.result c.gone.result c.loop-time.invariant
+          c.meet.ensures.members c.minus-takers.ensures.members
+          (λ x. c.gone.ensures.gone x ∙ ap (λ t. is_gone t c.args.ends.now x) (sym f.2))
+          (let l = c.if-time-bound.false in let t = f.2 in omega (arith, l, t))
+          (λ e. eqb-false c.minus-takers.result empty (sym c.if-not-is_empty.ensures.value) e) f.1,
+    )
 
-pub loop-first-preserved : goal.loop-first-preserved
-loop-first-preserved c = same_more (ends_in c.args.horizon c.args.ends.now) c.args.copy.now _ _ c.in-Some.first.0
-    c.in-Some.first.1 c.loop-first.invariant
-    (first_is _ _ _ _ c.in-Some.ensures.value c.in-Some-take_least.ensures.some) refl refl refl
-    (none_takes c.args.horizon c.args.ends.now c.args.bound c.requires.early c.args.copy.now _ c.in-Some.first.0
-    c.in-Some.first.1 c.minus-takers.result c.meet.result c.gone.result c.loop-first.invariant
-    c.meet.ensures.members c.minus-takers.ensures.members c.gone.ensures.gone c.if-msg-bound.false
+pub loop-time-preserved : goal.loop-time-preserved
+loop-time-preserved c =
+    let f = first_marked _ c.in-Some.time c.in-Some-least_marks.marks c.in-Some.ensures.value
+    c.in-Some-least_marks.ensures.value in
+    same_more (ends_in c.args.horizon c.args.ends.now) c.args.copy.now _ _ f.0 c.in-Some-least_marks.marks
+    c.loop-time.invariant (first_is _ _ _ _ f.1 c.in-Some-take_message.ensures.some.1) refl refl refl
+    (none_takes c.args.horizon c.args.ends.now c.args.bound c.requires.early c.args.copy.now _ f.0
+    c.in-Some-least_marks.marks c.minus-takers.result c.meet.result c.gone.result c.loop-time.invariant
+    c.meet.ensures.members c.minus-takers.ensures.members
+    (λ x. c.gone.ensures.gone x ∙ ap (λ t. is_gone t c.args.ends.now x) (sym f.2))
+    (let l = c.if-time-bound.false in let t = f.2 in omega (arith, l, t))
     (λ x. ap (λ k. has k x) (eqb-true c.minus-takers.result empty (sym c.if-not-is_empty.ensures.value)) ∙ has-empty x))
 
 pub returns-clause-none : goal.returns-clause-none
 returns-clause-none c = nothing_left (ends_in c.args.horizon c.args.ends.now) c.args.bound c.args.copy.now _
-    c.loop-first.invariant c.in_default.ensures.value
+    c.loop-time.invariant (none_timed _ c.in_default.ensures.value)
