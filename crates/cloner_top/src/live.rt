@@ -114,7 +114,15 @@ pub(crate) fn write_live<O: Sink, G: Gate, L: Ledger, R: Threads + Wait + Sync>(
         Ok(ran) => ran,
         Err(halt) => return Err(halt),
     };
-    match put_live(alloc, &study.model, &world, journal.as_slice(), out) {
+    match put_live(
+        rt,
+        alloc,
+        request.workers,
+        &study.model,
+        &world,
+        journal.as_slice(),
+        out,
+    ) {
         Ok(()) => Ok(()),
         Err(refusal) => Err(Halt::Refused(refusal)),
     }

@@ -13,6 +13,7 @@ use rolling_text::{Texts, WorldTraces, prepare, put_texts};
 use sim_base::NoMemory;
 use sim_outer::Sink;
 use std::alloc::Global;
+use std::thread::Threads;
 use study_run::report_of;
 use world_core::World;
 
@@ -64,12 +65,18 @@ pub(crate) fn put_report<O: Sink>(
 #[derive(Drop)]
 struct RunTexts<'a> {
     traces: WorldTraces<'a>,
-    texts: Texts,
+    texts: Texts<'a>,
     report: Vec<u8>,
 }
 
 // Takes all memory that the texts of a world at the horizon need.
-fn prepare_run<'a>(alloc: Global, model: &Model, world: &'a World) -> Result<RunTexts<'a>, NoMemory>
+fn prepare_run<'a, R: Threads + Sync>(
+    rt: &R,
+    alloc: Global,
+    workers: u32,
+    model: &Model,
+    world: &'a World,
+) -> Result<RunTexts<'a>, NoMemory>
     requires net { world.now.net ≡ model.now }
     requires ended { world.now.front ≡ model.now.horizon }
     requires few { length world.now.clones ≤ 256 }
@@ -77,8 +84,8 @@ fn prepare_run<'a>(alloc: Global, model: &Model, world: &'a World) -> Result<Run
     requires short { AreShort world.now.clones }
     ensures ready { IfOk result (λ run. IsReadyRun model.now world.now.clones run) }
 {
-    let traces = WorldTraces::new(alloc, world)?;
-    let texts = prepare(alloc, &traces)?;
+    let traces = WorldTraces::of(world);
+    let texts = prepare(rt, alloc, &traces, workers)?;
     let report = report_of(alloc, model, world)?;
     Ok(RunTexts {
         traces,
@@ -88,7 +95,13 @@ fn prepare_run<'a>(alloc: Global, model: &Model, world: &'a World) -> Result<Run
 }
 
 // Puts the trace text of each clone, and then the report.
-fn put_prepared<O: Sink>(run: RunTexts, out: &mut O) -> Result<(), Refusal>
+fn put_prepared<'a, O: Sink, R: Threads + Sync>(
+    rt: &R,
+    alloc: Global,
+    workers: u32,
+    run: RunTexts<'a>,
+    out: &mut O,
+) -> Result<(), Refusal>
     requires ready { IsReadyRun run.traces.net run.traces.clones run }
     ensures ok { OnOk result (ArePut (run_texts run.entry.traces.net run.entry.traces.clones)
         (record { bytes = O.bytes out.old; faults = O.faults out.old; calls = O.calls out.old })
@@ -99,19 +112,21 @@ fn put_prepared<O: Sink>(run: RunTexts, out: &mut O) -> Result<(), Refusal>
     ensures cause { IfErr result (λ r. r ≡ Refusal.CannotWrite) }
 {
     let RunTexts {
-        mut traces,
+        traces,
         texts,
         report,
     } = run;
-    match put_texts(&mut traces, texts, out) {
+    match put_texts(rt, alloc, &traces, workers, texts, out) {
         Ok(()) => put_text(out, report.as_slice()),
         Err(_) => Err(Refusal::CannotWrite),
     }
 }
 
 /// Puts the trace text of each clone of a world at the horizon, and then its report.
-pub(crate) fn put_run<O: Sink>(
+pub(crate) fn put_run<O: Sink, R: Threads + Sync>(
+    rt: &R,
     alloc: Global,
+    workers: u32,
     model: &Model,
     world: &World,
     out: &mut O,
@@ -128,15 +143,17 @@ pub(crate) fn put_run<O: Sink>(
         (record { bytes = O.bytes out.old; faults = O.faults out.old; calls = O.calls out.old })
         (record { bytes = O.bytes out.new; faults = O.faults out.new; calls = O.calls out.new }) r) }
 {
-    match prepare_run(alloc, model, world) {
-        Ok(run) => put_prepared(run, out),
+    match prepare_run(rt, alloc, workers, model, world) {
+        Ok(run) => put_prepared(rt, alloc, workers, run, out),
         Err(NoMemory) => Err(Refusal::OutOfMemory),
     }
 }
 
 /// Puts this text, and then those of a run.
-pub(crate) fn put_live<O: Sink>(
+pub(crate) fn put_live<O: Sink, R: Threads + Sync>(
+    rt: &R,
     alloc: Global,
+    workers: u32,
     model: &Model,
     world: &World,
     journal: &[u8],
@@ -154,12 +171,12 @@ pub(crate) fn put_live<O: Sink>(
         (record { bytes = O.bytes out.old; faults = O.faults out.old; calls = O.calls out.old })
         (record { bytes = O.bytes out.new; faults = O.faults out.new; calls = O.calls out.new }) r) }
 {
-    let run = match prepare_run(alloc, model, world) {
+    let run = match prepare_run(rt, alloc, workers, model, world) {
         Ok(run) => run,
         Err(NoMemory) => return Err(Refusal::OutOfMemory),
     };
     match put_text(out, journal) {
-        Ok(()) => put_prepared(run, out),
+        Ok(()) => put_prepared(rt, alloc, workers, run, out),
         Err(refusal) => Err(refusal),
     }
 }

@@ -112,7 +112,7 @@ fn write_run<O: Sink, G: Gate, L: Ledger, R: Threads + Wait + Sync>(
         (record { bytes = O.bytes out.new; faults = O.faults out.new; calls = O.calls out.new }) r) }
 {
     match run_world(rt, alloc, gate, request, plan, steps) {
-        Ok(world) => put_run(alloc, &plan.model, &world, out),
+        Ok(world) => put_run(rt, alloc, request.workers, &plan.model, &world, out),
         Err(refusal) => Err(refusal),
     }
 }

@@ -31,7 +31,7 @@ module _ (net : Net) (cs : List Clone) (reserved c : ℕ) (k : Keep) (kept : IsK
   kept_lines = ap (drop 32) is_cut ∙ drop-take 32 k.bytes old ∙ ap (take k.bytes) lines
 
   -- the rest fits
-  pub rest_fits : length cut + length (rest net (clone_at cs c) k.time) + 256 ≤ reserved
+  pub rest_fits : length cut + k.rest ≤ reserved
   rest_fits =
       let a = ap length kept.joins in
       let b = length-append (take k.bytes (body_before net cs c)) (rest net (clone_at cs c) k.time) in
@@ -39,7 +39,8 @@ module _ (net : Net) (cs : List Clone) (reserved c : ℕ) (k : Keep) (kept : IsK
       grind (arith, common_steps, w) in
       let e = long_cut in
       let f = kept.fits in
-      omega (arith, a, b, d, e, f)
+      let o = kept.own in
+      omega (arith, a, b, d, e, f, o)
 
   -- and then the lines are this clone's
   pub rolled : new ≡ cut ++ rest net (clone_at cs c) k.time → drop 32 new ≡ body net (clone_at cs c)

@@ -89,9 +89,9 @@ module _ (net : Net) (valid : IsNet net) (c d : Clone)
 
 -- ---- the first clone keeps nothing
 
-first_joined : (net : Net) (cs : List Clone) (c : ℕ) → c ≡ 0 → IsJoined net cs c (record { bytes = 0; time = 0 })
-first_joined net cs c e = subst (λ k. IsJoined net cs k (record { bytes = 0; time = 0 })) (sym e)
-    (record { within = omega arith; joins = sym (rest_from_0 net (clone_at cs 0)) })
+first_joined : (net : Net) (cs : List Clone) (here : ℕ) → here ≡ length (rest net (clone_at cs 0) 0)
+    → IsJoined net cs 0 (record { bytes = 0; time = 0; rest = here })
+first_joined net cs here h = record { within = omega arith; joins = sym (rest_from_0 net (clone_at cs 0)); own = h }
 
 first_len : (net : Net) (cs : List Clone) (c n : ℕ) → c ≡ 0 → n ≡ length (rest net (clone_at cs 0) 0)
     → n ≡ length (body net (clone_at cs c))
@@ -122,9 +122,10 @@ module _ (net : Net) (valid : IsNet net) (cs : List Clone) (in_net : AreInNet ne
       let b = ap length before_is in
       omega (arith, a, b)
 
-  next_joined : (bytes : ℕ) → bytes + length (rest net old time) ≡ length (body_before net cs c)
-      → IsJoined net cs c (record { bytes = bytes; time = time })
-  next_joined bytes e =
+  next_joined : (bytes here : ℕ) → bytes + length (rest net old time) ≡ length (body_before net cs c)
+      → here ≡ length (rest net (clone_at cs c) time)
+      → IsJoined net cs c (record { bytes = bytes; time = time; rest = here })
+  next_joined bytes here e own =
       let h = kept_bytes net valid old (clone_at cs c) (in_net.ends (c - 1) there_old) (in_net.ends c there)
       (in_net.plans (c - 1) there_old) (in_net.plans c there) bytes (e ∙ ap length before_is) in
       let w = h.0 in let l = ap length before_is in
@@ -132,12 +133,13 @@ module _ (net : Net) (valid : IsNet net) (cs : List Clone) (in_net : AreInNet ne
         within = omega (arith, w, l);
         joins = h.1 ∙ ap (λ b. take bytes b ++ rest net (clone_at cs c) time)
             (sym before_is);
+        own = own;
       }
 
   next_len : (bytes n : ℕ) → bytes + length (rest net old time) ≡ length (body_before net cs c) →
       n ≡ bytes + length (rest net (clone_at cs c) time) → n ≡ length (body net (clone_at cs c))
   next_len bytes n e f =
-      let j = next_joined bytes e in
+      let j = next_joined bytes (length (rest net (clone_at cs c) time)) e refl in
       let a = ap length j.joins in
       let b = length-append (take bytes (body_before net cs c)) (rest net (clone_at cs c) time) in
       let d : length (take bytes (body_before net cs c)) ≡ bytes = let w = j.within in grind (arith, common_steps, w) in
@@ -176,14 +178,17 @@ module _ (net : Net) (cs : List Clone) where
     -- the bytes before that are kept
     pub joined_at : (c bytes : ℕ) → c < length cs → len ≡ length (body_before net cs c)
         → time ≡ parting_at net cs c → dropped ≡ dropped_at net cs c → bytes + dropped ≡ len
-        → IsJoined net cs c (record { bytes = bytes; time = time })
-    joined_at zero bytes there l t d e =
+        → (here : ℕ) → here ≡ length (rest net (clone_at cs c) time)
+        → IsJoined net cs c (record { bytes = bytes; time = time; rest = here })
+    joined_at zero bytes there l t d e here h =
         let none : 0 ≡ bytes = omega (arith, l, e) in
-        subst (λ b. IsJoined net cs 0 (record { bytes = b; time = time })) none
-        (subst (λ u. IsJoined net cs 0 (record { bytes = 0; time = u })) (sym t) (first_joined net cs 0 refl))
-    joined_at (suc c) bytes there l t d e =
-        subst (λ u. IsJoined net cs (suc c) (record { bytes = bytes; time = u })) (sym t)
-        (next_joined net valid cs in_net (suc c) (omega arith) there bytes (omega (arith, l, d, e)))
+        subst (λ b. IsJoined net cs 0 (record { bytes = b; time = time; rest = here })) none
+        (subst (λ u. IsJoined net cs 0 (record { bytes = 0; time = u; rest = here })) (sym t)
+        (first_joined net cs here (h ∙ ap (λ u. length (rest net (clone_at cs 0) u)) t)))
+    joined_at (suc c) bytes there l t d e here h =
+        subst (λ u. IsJoined net cs (suc c) (record { bytes = bytes; time = u; rest = here })) (sym t)
+        (next_joined net valid cs in_net (suc c) (omega arith) there bytes here (omega (arith, l, d, e))
+        (h ∙ ap (λ u. length (rest net (clone_at cs (suc c)) u)) t))
 
     -- and those and its own lines are all of a clone's lines
     pub len_at : (c bytes here new : ℕ) → c < length cs → len ≡ length (body_before net cs c)

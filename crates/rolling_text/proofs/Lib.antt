@@ -6,7 +6,7 @@ pub mod Pieces
 pub mod Calls
 pub mod Puts
 pub mod Partings
-pub mod Logs
+pub mod LogLaws
 pub mod ShortLists
 pub mod Keeping
 pub mod Planned

@@ -18,17 +18,17 @@ get_push (y ∷ ys) k (suc i) x e =
 -- with the next clone's lines joined, and enough reserved for them, one clone more is planned
 pub plan_push : (net : Net) (cs : List Clone) (c reserved next len : ℕ) (ks all : List Keep) (k : Keep)
     → ArePlannedTo net cs c reserved ks → IsJoined net cs c k → len ≡ length (body net (clone_at cs c)) →
-    reserved ≤ next → 32 + len + 256 ≤ next → all ≡ ks ++ k ∷ [] → ArePlannedTo net cs (c + 1) next all
+    reserved ≤ next → 32 + len ≤ next → all ≡ ks ++ k ∷ [] → ArePlannedTo net cs (c + 1) next all
 plan_push net cs c reserved next len ks all k h j e l fits grown = subst (ArePlannedTo net cs (c + 1) next) (sym grown)
     (record {
       many = let a = h.many in let b = length-append ks (k ∷ []) in omega (arith, a, b);
       each = λ i x g. elim (get_push ks k i x g) [
         | inl a ↦ let q = h.each i x a in let f = q.fits in
-            record { within = q.within; joins = q.joins; fits = omega (arith, f, l) }
+            record { within = q.within; joins = q.joins; own = q.own; fits = omega (arith, f, l) }
         | inr a ↦
             let at : i ≡ c = a.0 ∙ h.many in
             let here : IsKept net cs next c k =
-            record { within = j.within; joins = j.joins; fits = omega (arith, e, fits) } in
+            record { within = j.within; joins = j.joins; own = j.own; fits = omega (arith, e, fits) } in
             subst (λ n. IsKept net cs next n x) (sym at) (subst (λ y. IsKept net cs next c y) a.1 here)
       ];
     })

@@ -1,5 +1,6 @@
 pub mod Sharing
 pub mod Pages
+pub mod Lengths
+pub mod WorldTraces
 pub mod Texts
 pub mod Counting
-pub mod WorldTraces

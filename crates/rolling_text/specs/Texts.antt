@@ -7,6 +7,7 @@ use Rattle.run_laws.specs.SharedTexts.{from_on, shared_to}
 use Rattle.stations.specs.Runs.{simulation, trace_of}
 use Rattle.trace_report.specs.TraceText.{entry_line}
 use Rattle.rolling_text.specs.Sharing.{same_plan}
+use Rattle.rolling_text.specs.WorldTraces.{IsWalk}
 use Rattle.rolling_text.specs.declared.texts.Keep.{Keep}
 use Rattle.rolling_text.specs.declared.texts.Texts.{Texts}
 
@@ -41,12 +42,14 @@ dropped_at net cs (suc c) = length (rest net (clone_at cs (suc c - 1)) (shared_a
 pub record IsJoined (net : Net) (cs : List Clone) (c : ℕ) (k : Keep) : Type 0 where
   pub within : k.bytes ≤ length (body_before net cs c)
   pub joins : body net (clone_at cs c) ≡ take k.bytes (body_before net cs c) ++ rest net (clone_at cs c) k.time
+  pub own : k.rest ≡ length (rest net (clone_at cs c) k.time)
 
--- and enough is reserved for them, with 32 bytes before and 256 behind
+-- and enough is reserved for them, with 32 bytes before
 pub record IsKept (net : Net) (cs : List Clone) (reserved c : ℕ) (k : Keep) : Type 0 where
   pub within : k.bytes ≤ length (body_before net cs c)
   pub joins : body net (clone_at cs c) ≡ take k.bytes (body_before net cs c) ++ rest net (clone_at cs c) k.time
-  pub fits : 32 + length (body net (clone_at cs c)) + 256 ≤ reserved
+  pub own : k.rest ≡ length (rest net (clone_at cs c) k.time)
+  pub fits : 32 + length (body net (clone_at cs c)) ≤ reserved
 
 -- what is kept for each of the first n clones
 pub record ArePlannedTo (net : Net) (cs : List Clone) (n reserved : ℕ) (ks : List Keep) : Type 0 where
@@ -57,7 +60,8 @@ pub record ArePlannedTo (net : Net) (cs : List Clone) (n reserved : ℕ) (ks : L
 abbrev pub ArePlanned : Net → List Clone → ℕ → List Keep → Type 0
 ArePlanned net cs reserved ks = ArePlannedTo net cs (length cs) reserved ks
 
--- all that the texts of these clones need is there: what each keeps, and a buffer that fits the longest
+-- all that the texts of these clones need is there: what each keeps, a buffer that fits the longest, and a cursor
 pub record IsReady (net : Net) (cs : List Clone) (texts : Texts) : Type 0 where
   pub planned : ArePlanned net cs texts.page.reserved texts.keeps.items
   pub margin : length texts.page.text ≡ 32
+  pub walk : IsWalk net texts.walk

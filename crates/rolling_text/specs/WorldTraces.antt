@@ -3,6 +3,7 @@ use Rattle.std.specs.Prelude.{◌≡◌, ℕ, ◌^◌, ◌<◌, ◌≤◌, List,
 use Rattle.sim_base.specs.Clones.{Clone, clone_at}
 use Rattle.net_model.specs.Net.{Net}
 use Rattle.net_model.specs.Rules.{IsNet}
+use Rattle.trace_cursor.specs.Cursors.{CursorView}
 use Rattle.trace_report.specs.Slots.{AreNames}
 use Rattle.trace_report.specs.declared.names.Slot.{Slot}
 use Rattle.world_core.specs.Overs.{NoneBeyond}
@@ -26,8 +27,11 @@ pub record IsOver (world : WorldView) : Type 0 where
   pub within : NoneBeyond world.net world.clones world.front
   pub short : AreShort world.clones
 
--- and what its lines are made with: the stations' names, and place for their logs
-pub record MayTrace (world : WorldView) (names : List Slot) (most : ℕ) : Type 0 where
+-- and what its lines are made with: the stations' names
+pub record MayTrace (world : WorldView) (names : List Slot) : Type 0 where
   pub over : IsOver world
   pub names_are : AreNames world.net names
-  pub place : most ≡ length world.net.sites
+
+-- a cursor has place for the logs of all stations
+abbrev pub IsWalk : Net → CursorView → Type 0
+IsWalk net walk = walk.most ≡ length net.sites

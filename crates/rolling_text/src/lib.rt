@@ -12,29 +12,31 @@
 //! ```
 //!
 //! ```text
-//! let mut traces = WorldTraces::new(alloc, &world)?;     // a world at the horizon
-//! let texts = prepare(alloc, &traces)?;                  // all memory that the texts need
-//! put_texts(&mut traces, texts, out)?;                   // one put for each clone
+//! let traces = WorldTraces::of(&world);                   // a world at the horizon
+//! let texts = prepare(rt, alloc, &traces, workers)?;      // all memory that the texts need
+//! put_texts(rt, alloc, &traces, workers, texts, out)?;    // one put for each clone
 //! ```
 //!
 //! `prepare` computes by lengths alone how much of each text the next one keeps, and how long the longest is: one
 //! walk along what is not shared, in which nothing is written. The name line stands at the end of the 32 bytes before
 //! the lines, so that each text is one slice, whatever its name. A line that is not shared costs its entry from the
-//! stations' logs, merged by key, and its bytes.
+//! stations' logs, merged by key, and its bytes. Long texts are written by several workers: each merges what comes in a
+//! part of the time, and fills its part of the bytes.
 //!
 //! The promise that it carries: **each text is the trace of its clone simulated alone**, byte for byte, and none needs
 //! memory once the first is put, so out of memory comes before any output.
 #![tactic(auto)]
 
 pub mod laws;
+mod lengths;
+mod logs;
 mod page;
 mod parting;
 mod putting;
 mod texts;
-mod traces;
 mod world_traces;
+mod writing;
 
 pub use putting::put_texts;
 pub use texts::{Keep, Texts, prepare};
-pub use traces::Traces;
 pub use world_traces::WorldTraces;

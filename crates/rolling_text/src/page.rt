@@ -2,11 +2,15 @@
 ghost use Rattle.std.specs.Prelude.{◌≡◌, ◌+◌, ◌<◌, ◌≤◌, ◌++◌, length, take, drop, IfOk};
 ghost use Rattle.sim_base.specs.Clones.{clone_at};
 ghost use Rattle.rolling_text.specs.Texts.{rest};
+ghost use Rattle.rolling_text.specs.WorldTraces.{IsWalk};
 
-use crate::traces::Traces;
+use crate::world_traces::WorldTraces;
+use crate::writing::fill;
 use sim_base::NoMemory;
 use std::alloc::Global;
 use std::marker::Model;
+use std::thread::Threads;
+use trace_cursor::Cursor;
 
 /// Text in a buffer that never grows.
 #[derive(Drop)]
@@ -64,18 +68,39 @@ impl Page {
         overwrite(&mut self.bytes, at, piece);
     }
 
-    /// Writes the lines of a clone from a time on behind the text.
-    pub fn put_rest<T: Traces>(&mut self, traces: &mut T, c: u32, time: u64)
-        requires there { c < length (T.clones traces.old) }
-        requires reserved { length self.old.text + length (rest (T.net traces.old) (clone_at (T.clones traces.old) c) time) + 256
-            ≤ self.old.reserved }
-        ensures text { self.new.text ≡ self.old.text ++ rest (T.net traces.old)
-            (clone_at (T.clones traces.old) c) time }
+    /// Writes the lines of a clone from a time on behind the text, `len` bytes, by so many workers.
+    pub fn put_rest<'a, R: Threads + Sync>(
+        &mut self,
+        rt: &R,
+        alloc: Global,
+        traces: &WorldTraces<'a>,
+        workers: u32,
+        walk: &mut Cursor<'a>,
+        c: u32,
+        time: u64,
+        len: usize,
+    )
+        requires there { c < length traces.now.clones }
+        requires walk { IsWalk traces.now.net walk.old }
+        requires len { len ≡ length (rest traces.now.net (clone_at traces.now.clones c) time) }
+        requires reserved { length self.old.text + len ≤ self.old.reserved }
+        ensures text { self.new.text ≡ self.old.text ++ rest traces.now.net (clone_at traces.now.clones c) time }
         ensures reserved { self.new.reserved ≡ self.old.reserved }
-        ensures net { T.net traces.new ≡ T.net traces.old }
-        ensures clones { T.clones traces.new ≡ T.clones traces.old }
+        ensures walk { IsWalk traces.now.net walk.new }
     {
-        self.len = traces.write_rest(c, time, &mut self.bytes, self.len);
+        fill_from(
+            rt,
+            alloc,
+            &mut self.bytes,
+            self.len,
+            traces,
+            workers,
+            walk,
+            c,
+            time,
+            len,
+        );
+        self.len += len;
     }
 
     /// The text.
@@ -93,4 +118,39 @@ fn overwrite(bytes: &mut [u8], at: usize, piece: &[u8])
 {
     let end = at + piece.len();
     bytes[at..end].copy_from_slice(piece);
+}
+
+// Fills so many bytes from a place on with the lines of a clone from a time on.
+fn fill_from<'a, R: Threads + Sync>(
+    rt: &R,
+    alloc: Global,
+    bytes: &mut [u8],
+    at: usize,
+    traces: &WorldTraces<'a>,
+    workers: u32,
+    walk: &mut Cursor<'a>,
+    c: u32,
+    time: u64,
+    len: usize,
+)
+    requires there { c < length traces.now.clones }
+    requires walk { IsWalk traces.now.net walk.old }
+    requires len { len ≡ length (rest traces.now.net (clone_at traces.now.clones c) time) }
+    requires within { at + len ≤ length bytes.old }
+    ensures text { take (at + len) bytes.new ≡ take at bytes.old
+        ++ rest traces.now.net (clone_at traces.now.clones c) time }
+    ensures size { length bytes.new ≡ length bytes.old }
+    ensures walk { IsWalk traces.now.net walk.new }
+{
+    let end = at + len;
+    fill(
+        rt,
+        alloc,
+        traces,
+        workers,
+        walk,
+        c,
+        time,
+        &mut bytes[at..end],
+    );
 }

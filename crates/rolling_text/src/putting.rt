@@ -5,13 +5,17 @@ ghost use Rattle.sim_outer.specs.Bytes.{Appended, PartAppended};
 ghost use Rattle.sim_outer.specs.Causes.{AreCounted, Rose};
 ghost use Rattle.rolling_text.specs.Counting.{AreCountedTo};
 ghost use Rattle.rolling_text.specs.Texts.{ArePlanned, IsKept, IsReady, body, body_before};
+ghost use Rattle.rolling_text.specs.WorldTraces.{IsWalk};
 ghost use Rattle.trace_report.specs.Outputs.{clone_texts};
 
 use crate::page::Page;
 use crate::texts::{Keep, MARGIN, Texts};
-use crate::traces::Traces;
+use crate::world_traces::WorldTraces;
 use sim_base::Name;
 use sim_outer::{PutFailed, Sink};
+use std::alloc::Global;
+use std::thread::Threads;
+use trace_cursor::Cursor;
 
 // Puts a clone's name line before its lines, at the end of the 32 bytes there, and returns where it begins.
 fn put_head(page: &mut Page, name: &Name) -> usize
@@ -31,42 +35,65 @@ fn put_head(page: &mut Page, name: &Name) -> usize
 }
 
 // Makes the lines of a clone of those of the clone before.
-fn roll<T: Traces>(traces: &mut T, c: u32, keep: &Keep, page: &mut Page)
-    requires there { c < length (T.clones traces.old) }
-    requires kept { IsKept (T.net traces.old) (T.clones traces.old) page.old.reserved c keep.now }
+fn roll<'a, R: Threads + Sync>(
+    rt: &R,
+    alloc: Global,
+    traces: &WorldTraces<'a>,
+    workers: u32,
+    walk: &mut Cursor<'a>,
+    c: u32,
+    keep: &Keep,
+    page: &mut Page,
+)
+    requires there { c < length traces.now.clones }
+    requires walk { IsWalk traces.now.net walk.old }
+    requires kept { IsKept traces.now.net traces.now.clones page.old.reserved c keep.now }
     requires margin { 32 ≤ length page.old.text }
-    requires lines { drop 32 page.old.text ≡ body_before (T.net traces.old) (T.clones traces.old) c }
-    ensures lines { drop 32 page.new.text ≡ body (T.net traces.old) (clone_at (T.clones traces.old) c) }
+    requires lines { drop 32 page.old.text ≡ body_before traces.now.net traces.now.clones c }
+    ensures lines { drop 32 page.new.text ≡ body traces.now.net (clone_at traces.now.clones c) }
     ensures margin { 32 ≤ length page.new.text }
     ensures reserved { page.new.reserved ≡ page.old.reserved }
-    ensures net { T.net traces.new ≡ T.net traces.old }
-    ensures clones { T.clones traces.new ≡ T.clones traces.old }
+    ensures walk { IsWalk traces.now.net walk.new }
 {
     let _all = page.len();
     page.cut(MARGIN + keep.bytes);
-    page.put_rest(traces, c, keep.time);
+    page.put_rest(rt, alloc, traces, workers, walk, c, keep.time, keep.rest);
 }
 
 // The texts, whose plan and buffer are given.
-fn put_all<T: Traces, O: Sink>(
-    traces: &mut T,
+fn put_all<'a, O: Sink, R: Threads + Sync>(
+    rt: &R,
+    alloc: Global,
+    traces: &WorldTraces<'a>,
+    workers: u32,
+    walk: &mut Cursor<'a>,
     keeps: &[Keep],
     page: &mut Page,
     out: &mut O,
 ) -> Result<(), PutFailed>
-    requires planned { ArePlanned (T.net traces.old) (T.clones traces.old) page.old.reserved keeps.now }
+    requires walk { IsWalk traces.now.net walk.old }
+    requires planned { ArePlanned traces.now.net traces.now.clones page.old.reserved keeps.now }
     requires fresh { length page.old.text ≡ 32 }
-    ensures ok { OnOk result (Appended (O.bytes out.old) (clone_texts (T.net traces.old) (T.clones traces.old))
+    ensures ok { OnOk result (Appended (O.bytes out.old) (clone_texts traces.now.net traces.now.clones)
         (O.bytes out.new)) }
-    ensures part { OnErr result (PartAppended (O.bytes out.old) (clone_texts (T.net traces.old) (T.clones traces.old))
+    ensures part { OnErr result (PartAppended (O.bytes out.old) (clone_texts traces.now.net traces.now.clones)
         (O.bytes out.new)) }
     ensures cause { OnErr result (Rose (O.faults out.old) (O.faults out.new)) }
     ensures later { O.faults out.old ≤ O.faults out.new }
-    ensures each { OnOk result (AreCounted (length (T.clones traces.old)) (O.calls out.old) (O.calls out.new)) }
-    ensures some { OnErr result (AreCountedTo (length (T.clones traces.old)) (O.calls out.old) (O.calls out.new)) }
+    ensures each { OnOk result (AreCounted (length traces.now.clones) (O.calls out.old) (O.calls out.new)) }
+    ensures some { OnErr result (AreCountedTo (length traces.now.clones) (O.calls out.old) (O.calls out.new)) }
 {
     for c in 0..traces.len() {
-        roll(traces, c, &keeps[c as usize], page);
+        roll(
+            rt,
+            alloc,
+            traces,
+            workers,
+            walk,
+            c,
+            &keeps[c as usize],
+            page,
+        );
         let start = put_head(page, &traces.name(c));
         match out.put(&page.as_bytes()[start..]) {
             Ok(()) => {}
@@ -76,24 +103,41 @@ fn put_all<T: Traces, O: Sink>(
     Ok(())
 }
 
-/// Puts the text of each clone, its name line and its lines, in one piece. It takes no memory.
+/// Puts the text of each clone, its name line and its lines, in one piece.
 ///
-/// The lines that a clone shares with the one before it stay where they are.
-pub fn put_texts<T: Traces, O: Sink>(
-    traces: &mut T,
-    texts: Texts,
+/// The lines that a clone shares with the one before it stay where they are. Long texts are written by so many workers,
+/// if there is memory for it, and else by one, which takes none.
+pub fn put_texts<'a, O: Sink, R: Threads + Sync>(
+    rt: &R,
+    alloc: Global,
+    traces: &WorldTraces<'a>,
+    workers: u32,
+    texts: Texts<'a>,
     out: &mut O,
 ) -> Result<(), PutFailed>
-    requires ready { IsReady (T.net traces.old) (T.clones traces.old) texts }
-    ensures ok { OnOk result (Appended (O.bytes out.old) (clone_texts (T.net traces.old) (T.clones traces.old))
+    requires ready { IsReady traces.now.net traces.now.clones texts }
+    ensures ok { OnOk result (Appended (O.bytes out.old) (clone_texts traces.now.net traces.now.clones)
         (O.bytes out.new)) }
-    ensures part { OnErr result (PartAppended (O.bytes out.old) (clone_texts (T.net traces.old) (T.clones traces.old))
+    ensures part { OnErr result (PartAppended (O.bytes out.old) (clone_texts traces.now.net traces.now.clones)
         (O.bytes out.new)) }
     ensures cause { OnErr result (Rose (O.faults out.old) (O.faults out.new)) }
     ensures later { O.faults out.old ≤ O.faults out.new }
-    ensures each { OnOk result (AreCounted (length (T.clones traces.old)) (O.calls out.old) (O.calls out.new)) }
-    ensures some { OnErr result (AreCountedTo (length (T.clones traces.old)) (O.calls out.old) (O.calls out.new)) }
+    ensures each { OnOk result (AreCounted (length traces.now.clones) (O.calls out.old) (O.calls out.new)) }
+    ensures some { OnErr result (AreCountedTo (length traces.now.clones) (O.calls out.old) (O.calls out.new)) }
 {
-    let Texts { keeps, mut page } = texts;
-    put_all(traces, keeps.as_slice(), &mut page, out)
+    let Texts {
+        keeps,
+        mut page,
+        mut walk,
+    } = texts;
+    put_all(
+        rt,
+        alloc,
+        traces,
+        workers,
+        &mut walk,
+        keeps.as_slice(),
+        &mut page,
+        out,
+    )
 }

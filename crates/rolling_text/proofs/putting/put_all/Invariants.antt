@@ -3,19 +3,19 @@ use Rattle.std.specs.List.{flat_map}
 use Rattle.sim_outer.specs.Bytes.{Appended}
 use Rattle.sim_outer.specs.Causes.{AreCounted}
 use Rattle.rolling_text.specs.Texts.{body_before}
+use Rattle.rolling_text.specs.WorldTraces.{IsWalk}
 use Rattle.trace_report.specs.Outputs.{clone_text}
 use Rattle.rolling_text.proofs.putting.put_all.Given as goal
 
 -- nothing is said of the 32 bytes before the lines: they are what the last head left
 abbrev pub invariant-loop-c : goal.invariant-loop-c
 invariant-loop-c g l = record {
-  net : g.T.Traces.net l.traces ≡ g.T.Traces.net l.fn.traces;
-  clones : g.T.Traces.clones l.traces ≡ g.T.Traces.clones l.fn.traces;
+  walk : IsWalk l.traces.net l.walk;
   margin : 32 ≤ length l.page.text;
   reserved : l.page.reserved ≡ l.fn.page.reserved;
-  lines : drop 32 l.page.text ≡ body_before (g.T.Traces.net l.fn.traces) (g.T.Traces.clones l.fn.traces) l.c;
+  lines : drop 32 l.page.text ≡ body_before l.traces.net l.traces.clones l.c;
   appended : Appended (g.O.Sink.bytes l.fn.out)
-      (flat_map (clone_text (g.T.Traces.net l.fn.traces)) (take l.c (g.T.Traces.clones l.fn.traces)))
+      (flat_map (clone_text l.traces.net) (take l.c l.traces.clones))
       (g.O.Sink.bytes l.out);
   later : g.O.Sink.faults l.fn.out ≤ g.O.Sink.faults l.out;
   counted : AreCounted l.c (g.O.Sink.calls l.fn.out) (g.O.Sink.calls l.out);

@@ -3,13 +3,13 @@ use Rattle.rolling_text.proofs.Keeping.{parting_none, parting_some}
 use Rattle.rolling_text.proofs.texts.parts_at.Goals as goal
 
 pub returns-then-c-eq0 : goal.returns-then-c-eq0
-returns-then-c-eq0 g c = record {
-  value = parting_none (g.T.Traces.net c.args.traces.now) (g.T.Traces.clones c.args.traces.now) c.args.c 0
+returns-then-c-eq0 c = record {
+  value = parting_none c.args.traces.now.net c.args.traces.now.clones c.args.c 0
       c.if-c-eq0.true refl;
 }
 
 pub returns : goal.returns
-returns g c = record {
-  value = parting_some (g.T.Traces.net c.args.traces.now) (g.T.Traces.clones c.args.traces.now) c.args.c
+returns c = record {
+  value = parting_some c.args.traces.now.net c.args.traces.now.clones c.args.c
       c.shared_to.result (omega arith) c.shared_to.ensures.value;
 }

@@ -7,8 +7,8 @@ use Rattle.rolling_text.proofs.texts.plan.Goals as goal
 
 pub overflow_sub-bytes : goal.overflow_sub-bytes
 overflow_sub-bytes g c =
-    let net = g.T.Traces.net c.args.traces.now in
-    let cs = g.T.Traces.clones c.args.traces.now in
+    let net = c.args.traces.now.net in
+    let cs = c.args.traces.now.clones in
     let h = c.loop-c.invariant in
     let is = c.len-clones.ensures in
     let here : c.loop-c.c < c.len-clones.result = omega (arith, c.loop-c-test.true, c.loop-c.auto.c-end) in
@@ -19,8 +19,8 @@ overflow_sub-bytes g c =
 
 pub loop-c-preserved : goal.loop-c-preserved
 loop-c-preserved g c =
-    let net = g.T.Traces.net c.args.traces.now in
-    let cs = g.T.Traces.clones c.args.traces.now in
+    let net = c.args.traces.now.net in
+    let cs = c.args.traces.now.clones in
     let h = c.loop-c.invariant in
     let is = c.len-clones.ensures in
     let here : c.loop-c.c < c.len-clones.result = omega (arith, c.loop-c-test.true, c.loop-c.auto.c-end) in
@@ -30,7 +30,7 @@ loop-c-preserved g c =
     c.loop-c.dropped c.loop-c.time c.loop-c.c there h.before (h.dropped here) in
     let whole : bytes + c.loop-c.dropped ≡ c.loop-c.len = omega (arith, within) in
     let joined = joined_at net cs is.valid is.in_net c.loop-c.len c.loop-c.dropped c.loop-c.time c.loop-c.c bytes
-    there h.before (h.time here) (h.dropped here) whole in
+    there h.before (h.time here) (h.dropped here) whole c.rest_lens-rest.result.0 c.rest_lens-rest.ensures.first in
     let new = len_at net cs is.valid is.in_net c.loop-c.len c.loop-c.dropped c.loop-c.time c.loop-c.c bytes
     c.rest_lens-rest.result.0 (bytes + c.rest_lens-rest.result.0) there h.before (h.time here) (h.dropped here) whole
     c.rest_lens-rest.ensures.first (omega arith) in
@@ -42,7 +42,7 @@ loop-c-preserved g c =
           (c.parts_at-next.ensures.value ∙ ap (parting_at net cs) (omega (arith, more, c.min.ensures)));
       small = omega (arith, h.small, c.rest_lens-rest.ensures.first_short);
       most = omega (arith, h.small, h.most, c.rest_lens-rest.ensures.first_short, c.max-most.ensures);
-      planned = plan_push net cs c.loop-c.c (c.loop-c.most + 288) (c.max-most.result + 288)
+      planned = plan_push net cs c.loop-c.c (c.loop-c.most + 32) (c.max-most.result + 32)
           (bytes + c.rest_lens-rest.result.0) c.loop-c.keeps.items _ _ h.planned joined new
           (omega (arith, c.max-most.ensures)) (omega (arith, c.max-most.ensures)) c.in_ok-push.ensures.items;
     }

@@ -4,10 +4,10 @@ use Rattle.rolling_text.proofs.texts.plan.Given as goal
 
 abbrev pub invariant-loop-c : goal.invariant-loop-c
 invariant-loop-c g l = record {
-  before : l.len ≡ length (body_before (g.T.Traces.net l.traces) (g.T.Traces.clones l.traces) l.c);
-  time : l.c < l.clones → l.time ≡ parting_at (g.T.Traces.net l.traces) (g.T.Traces.clones l.traces) l.c;
-  dropped : l.c < l.clones → l.dropped ≡ dropped_at (g.T.Traces.net l.traces) (g.T.Traces.clones l.traces) l.c;
+  before : l.len ≡ length (body_before l.traces.net l.traces.clones l.c);
+  time : l.c < l.clones → l.time ≡ parting_at l.traces.net l.traces.clones l.c;
+  dropped : l.c < l.clones → l.dropped ≡ dropped_at l.traces.net l.traces.clones l.c;
   small : l.len ≤ l.c * 2 ^ 40;
   most : l.most ≤ l.c * 2 ^ 40;
-  planned : ArePlannedTo (g.T.Traces.net l.traces) (g.T.Traces.clones l.traces) l.c (l.most + 288) l.keeps.items;
+  planned : ArePlannedTo l.traces.net l.traces.clones l.c (l.most + 32) l.keeps.items;
 }

@@ -1,7 +1,7 @@
 use Rattle.std.proofs.Common.{◌+◌, ap, arith, length}
 use Rattle.net_model.specs.Net.{Net}
-use Rattle.rolling_text.proofs.Logs.{log_rises_by_time, walk_fits, all_gathered}
-use Rattle.rolling_text.proofs.world_traces.gather.Goals as goal
+use Rattle.rolling_text.proofs.LogLaws.{log_rises_by_time, walk_fits, all_gathered}
+use Rattle.rolling_text.proofs.logs.gather.Goals as goal
 
 pub walk_from_time-requires : goal.walk_from_time-requires
 walk_from_time-requires c = record {

@@ -3,7 +3,7 @@ use Rattle.sim_base.specs.Clones.{clone_at}
 use Rattle.stations.specs.Good.{sender_of, number_of}
 use Rattle.stations.specs.Runs.{simulation}
 use Rattle.trace_cursor.specs.Rests.{merge_of_rests}
-use Rattle.rolling_text.proofs.world_traces.gather.Given as goal
+use Rattle.rolling_text.proofs.logs.gather.Given as goal
 
 abbrev pub invariant-loop-s : goal.invariant-loop-s
 invariant-loop-s l = record {

@@ -1,0 +1,351 @@
+-- The logs of a world at the horizon: their keys fit words, they rise, and merged or measured they are a clone's rest.
+use Rattle.std.proofs.Common.{◌≡◌, ℕ, zero, suc, ◌+◌, ◌<◌, ◌≤◌, Bool, true, false, not, nat_lt, if◌then◌else◌, List, [], ◌∷◌}
+use Rattle.std.proofs.Common.{◌++◌, refl, sym, ap, ap₂, ◌∙◌, subst, arith, length, sum_by, length-append}
+use Rattle.std.specs.List.{AllByRecursion, filter, flat_map}
+use Rattle.std.proofs.lemmas.Bool.{ltb-true, ltb-false}
+use Rattle.std.proofs.lemmas.Grind.{flat_map-append}
+use Rattle.std.proofs.lemmas.List.Concat.{flat_map-cons}
+use Rattle.sim_base.specs.Clones.{Clone, clone_at}
+use Rattle.sim_base.specs.declared.entry.Entry.{Entry}
+use Rattle.sim_base.specs.declared.entry.Line.{Line}
+use Rattle.sim_base.specs.declared.message.Msg.{Msg}
+use Rattle.net_model.specs.Net.{Net}
+use Rattle.run_laws.specs.Merges.{merge}
+use Rattle.run_laws.specs.Simulation.{Simulation}
+use Rattle.run_laws.specs.Laws.{before}
+use Rattle.run_laws.specs.SharedTexts.{from_on, station_sum}
+use Rattle.run_laws.proofs.Lists.{filter_all}
+use Rattle.run_laws.proofs.Queue.{all_from}
+use Rattle.run_laws.proofs.SharedTextsWeighing.{rest_length, trace_split}
+use Rattle.stations.specs.Good.{sender_of, number_of}
+use Rattle.stations.specs.Handling.{StateView}
+use Rattle.stations.specs.Laws.{IsCounted}
+use Rattle.stations.specs.Runs.{simulation, trace_of, log_at}
+use Rattle.stations.proofs.GoodLaws.{lawful-stations, stations-to_stations, fresh-stations}
+use Rattle.stations.proofs.KeyLaws.{log_keys-small}
+use Rattle.log_chain.specs.Packing.{FitsWord, FitWords}
+use Rattle.log_chain.specs.Times.{RiseByTime, Rises, from_time, times_of}
+use Rattle.trace_report.specs.TraceText.{entry_line}
+use Rattle.trace_cursor.specs.Rests.{merge_of_rests}
+use Rattle.trace_cursor.specs.Words.{by_key}
+use Rattle.trace_cursor.proofs.Rests.{log_rises, rest_is_merge}
+use Rattle.trace_cursor.proofs.Rising.{rise_by_time, fit_from}
+use Rattle.world_core.specs.Worlds.{WorldView}
+use Rattle.rolling_text.specs.Lengths.{log_length, first_lengths}
+use Rattle.rolling_text.specs.Texts.{rest}
+use Rattle.rolling_text.specs.WorldTraces.{IsOver, TracesView}
+
+-- a list from a time on is no longer than the list
+pub from_short : (t : ℕ) (es : List (Entry Msg Line)) → length (from_time t es) ≤ length es
+from_short t es = filter_short _ es
+  where
+    filter_short : (keep : Entry Msg Line → Bool) (es : List (Entry Msg Line)) → length (filter keep es) ≤ length es
+    filter_short keep [] = omega arith
+    filter_short keep (e ∷ es) = by (keep e) (filter_short keep es)
+      where
+        by : (b : Bool) → length (filter keep es) ≤ length es
+            → length (if b then e ∷ filter keep es else filter keep es) ≤ suc (length es)
+        by true h = omega (arith, h)
+        by false h = omega (arith, h)
+
+-- from a later time on, what comes from an earlier one on has all
+pub later_of_rest : (early late : ℕ) (es : List (Entry Msg Line)) → early ≤ late
+    → from_time late (from_time early es) ≡ from_time late es
+later_of_rest early late [] l = refl
+later_of_rest early late (e ∷ es) l =
+    by (nat_lt e.msg.key.time early) refl (nat_lt e.msg.key.time late) refl (later_of_rest early late es l)
+  where
+    by : (a : Bool) → nat_lt e.msg.key.time early ≡ a → (b : Bool) → nat_lt e.msg.key.time late ≡ b
+        → from_time late (from_time early es) ≡ from_time late es
+        → from_time late (if not a then e ∷ from_time early es else from_time early es)
+        ≡ (if not b then e ∷ from_time late es else from_time late es)
+    by false p true q h = ap (λ b. if not b then e ∷ from_time late (from_time early es) else from_time late
+        (from_time early es)) q ∙ h
+    by false p false q h = ap (λ b. if not b then e ∷ from_time late (from_time early es) else from_time late
+        (from_time early es)) q ∙ ap (λ k. e ∷ k) h
+    by true p true q h = h
+    by true p false q h =
+        let early_is = ltb-true e.msg.key.time early p in
+        let late_is = ltb-false e.msg.key.time late q in
+        absurd (omega (arith, l, early_is, late_is))
+
+-- an entry before a time is none of those from it on
+pub early_left : (t : ℕ) (e : Entry Msg Line) (es : List (Entry Msg Line)) → e.msg.key.time < t
+    → from_time t (e ∷ es) ≡ from_time t es
+early_left t e es l = by (nat_lt e.msg.key.time t) refl
+  where
+    by : (b : Bool) → nat_lt e.msg.key.time t ≡ b → (if not b then e ∷ from_time t es else from_time t es) ≡ from_time t es
+    by true p = refl
+    by false p = let late = ltb-false e.msg.key.time t p in absurd (omega (arith, l, late))
+
+-- an entry at a time or later is the first of those from it on
+pub late_stays : (t : ℕ) (e : Entry Msg Line) (es : List (Entry Msg Line)) → t ≤ e.msg.key.time
+    → from_time t (e ∷ es) ≡ e ∷ from_time t es
+late_stays t e es l = by (nat_lt e.msg.key.time t) refl
+  where
+    by : (b : Bool) → nat_lt e.msg.key.time t ≡ b
+        → (if not b then e ∷ from_time t es else from_time t es) ≡ e ∷ from_time t es
+    by false p = refl
+    by true p = let early = ltb-true e.msg.key.time t p in absurd (omega (arith, l, early))
+
+-- where a list rises and its first entry is at a time or later, all are
+pub all_late : (t : ℕ) (e : Entry Msg Line) (es : List (Entry Msg Line)) → RiseByTime (e ∷ es) → t ≤ e.msg.key.time
+    → from_time t (e ∷ es) ≡ e ∷ es
+all_late t e [] r l = late_stays t e [] l
+all_late t e (f ∷ fs) r l =
+    late_stays t e (f ∷ fs) l ∙ ap (λ k. e ∷ k) (all_late t f fs r.1 (let m = r.0.0 in omega (arith, l, m)))
+
+-- some of the numbers that a list's times are not below are not below those of some entries
+some_above : (n : ℕ) (keep : Entry Msg Line → Bool) (es : List (Entry Msg Line))
+    → AllByRecursion (λ m. n ≤ m) (times_of es) → AllByRecursion (λ m. n ≤ m) (times_of (filter keep es))
+some_above n keep [] h = tt
+some_above n keep (e ∷ es) h = by (keep e) (some_above n keep es h.1)
+  where
+    by : (b : Bool) → AllByRecursion (λ m. n ≤ m) (times_of (filter keep es))
+        → AllByRecursion (λ m. n ≤ m) (times_of (if b then e ∷ filter keep es else filter keep es))
+    by true k = (h.0, k)
+    by false k = k
+
+rise_filter : (keep : Entry Msg Line → Bool) (es : List (Entry Msg Line)) → RiseByTime es → RiseByTime (filter keep es)
+rise_filter keep [] h = tt
+rise_filter keep (e ∷ es) h = by (keep e) (rise_filter keep es h.1)
+  where
+    by : (b : Bool) → RiseByTime (filter keep es) → RiseByTime (if b then e ∷ filter keep es else filter keep es)
+    by true k = (some_above e.msg.key.time keep es h.0, k)
+    by false k = k
+
+-- the entries of a rising list from a time on rise
+pub rise_from : (t : ℕ) (es : List (Entry Msg Line)) → RiseByTime es → RiseByTime (from_time t es)
+rise_from t es h = rise_filter (λ e. not (nat_lt e.msg.key.time t)) es h
+
+-- of entries before a time none is left from it on
+none_late : (t : ℕ) (es : List (Entry Msg Line)) → AllByRecursion (λ e. e.msg.key.time < t) es → from_time t es ≡ []
+none_late t [] h = refl
+none_late t (e ∷ es) h = early_left t e es h.0 ∙ none_late t es h.1
+
+-- what is kept of two lists, one behind the other
+filter_both : (keep : Entry Msg Line → Bool) (xs ys : List (Entry Msg Line))
+    → filter keep (xs ++ ys) ≡ filter keep xs ++ filter keep ys
+filter_both keep [] ys = refl
+filter_both keep (x ∷ xs) ys = by (keep x) (filter_both keep xs ys)
+  where
+    by : (b : Bool) → filter keep (xs ++ ys) ≡ filter keep xs ++ filter keep ys
+        → (if b then x ∷ filter keep (xs ++ ys) else filter keep (xs ++ ys))
+        ≡ (if b then x ∷ filter keep xs else filter keep xs) ++ filter keep ys
+    by true h = ap (λ l. x ∷ l) h
+    by false h = h
+
+-- those from a time on of those from a later time on are those
+late_twice : (early late : ℕ) (es : List (Entry Msg Line)) → early ≤ late
+    → from_time early (from_time late es) ≡ from_time late es
+late_twice early late [] l = refl
+late_twice early late (e ∷ es) l = by (nat_lt e.msg.key.time late) refl (late_twice early late es l)
+  where
+    by : (b : Bool) → nat_lt e.msg.key.time late ≡ b → from_time early (from_time late es) ≡ from_time late es
+        → from_time early (if not b then e ∷ from_time late es else from_time late es)
+        ≡ (if not b then e ∷ from_time late es else from_time late es)
+    by true p h = h
+    by false p h =
+        let above = ltb-false e.msg.key.time late p in
+        late_stays early e (from_time late es) (omega (arith, l, above)) ∙ ap (λ k. e ∷ k) h
+
+-- ---- the logs of a clone in a world at the horizon
+
+module _ (world : WorldView) (over : IsOver world) (c : ℕ) (there : c < length world.clones) where
+  abbrev net : Net
+  net = world.net
+
+  abbrev sim : Simulation StateView Msg Line
+  sim = simulation net
+
+  abbrev clone : Clone
+  clone = clone_at world.clones c
+
+  counted : IsCounted net clone world.front
+  counted = record {
+    there = over.in_net.plans c there;
+    short = over.short c there;
+    within = λ s low high. over.within s c low high there;
+  }
+
+  log_fits : (s : ℕ) → FitWords (log_at net clone s world.front)
+  log_fits s = all_from (λ (e : Entry Msg Line). FitsWord e.msg.key) (log_at net clone s world.front) (λ e i.
+      let small = log_keys-small net over.valid clone s world.front e counted i in
+      let early = small.0 in
+      let sender = small.1.sender in
+      let done = over.done in
+      let soon = over.valid.soon in
+      let few = over.valid.few in
+      record { time = omega (arith, early, done, soon); sender = omega (arith, sender, few); number = small.1.number })
+
+  -- a cursor may take it, from any time on
+  pub walk_fits : (s t : ℕ) (log walk : List (Entry Msg Line)) → log ≡ log_at net clone s world.front
+      → walk ≡ from_time t log → FitWords walk
+  walk_fits s t log walk e f = subst FitWords (sym (f ∙ ap (from_time t) e))
+      (fit_from t (log_at net clone s world.front) (log_fits s))
+
+  -- no entry of a log of the clone is of a later time than one behind it
+  pub log_rises_by_time : (s : ℕ) (log : List (Entry Msg Line)) → log ≡ log_at net clone s world.front → RiseByTime log
+  log_rises_by_time s log e = subst RiseByTime (sym e) (rise_by_time (log_at net clone s world.front)
+      (log_rises (lawful-stations net over.valid) (stations-to_stations net over.valid)
+      (fresh-stations net over.valid) clone s world.front (over.in_net.plans c there)))
+
+  -- what a walk has from a time on
+  walk_is : (s t : ℕ) (log walk : List (Entry Msg Line)) → log ≡ log_at net clone s world.front
+      → walk ≡ from_time t log → walk ≡ from_on sim t (log_at net clone s net.horizon)
+  walk_is s t log walk e f = f ∙ ap (from_time t) (e ∙ ap (log_at net clone s) over.done)
+
+  -- one log more is merged
+  pub gathered : (i t : ℕ) (left log walk new : List (Entry Msg Line))
+      → left ≡ merge_of_rests sim sender_of number_of clone t i →
+      log ≡ log_at net clone (i + 1) world.front → walk ≡ from_time t log → new ≡ merge by_key left walk
+      → new ≡ merge_of_rests sim sender_of number_of clone t (i + 1)
+  gathered i t left log walk new e f g h =
+      let up : i + 1 ≡ suc i = omega arith in
+      h ∙ ap₂ (merge by_key) e (walk_is (i + 1) t log walk f g
+      ∙ ap (λ s. from_on sim t (log_at net clone s net.horizon)) up)
+      ∙ ap (merge_of_rests sim sender_of number_of clone t) (sym up)
+
+  -- all of them are the trace from the time on
+  pub all_gathered : (n t : ℕ) (left : List (Entry Msg Line)) → n ≡ length net.sites
+      → left ≡ merge_of_rests sim sender_of number_of clone t n → left ≡ from_on sim t (trace_of net clone)
+  all_gathered n t left many e =
+      e ∙ ap (merge_of_rests sim sender_of number_of clone t) many
+      ∙ rest_is_merge (lawful-stations net over.valid) (stations-to_stations net over.valid)
+      (fresh-stations net over.valid) clone t (over.in_net.plans c there)
+
+  -- how long the lines of a log are that a world tells
+  pub log_measured : (t s : ℕ) (log : List (Entry Msg Line)) → log ≡ log_at net clone s world.front
+      → sum_by (λ e. length (entry_line net e)) (from_time t log) ≡ log_length net clone t s
+  log_measured t s log e = ap (sum_by (λ (x : Entry Msg Line). length (entry_line net x)))
+      (walk_is s t log (from_time t log) e refl)
+
+  -- and so how long those between two times are
+  pub span_measured : (model : Net) → model ≡ net → (s from until len : ℕ) (log : List (Entry Msg Line))
+      → log ≡ log_at net clone s world.front
+      → len + sum_by (λ e. length (entry_line model e)) (from_time until log)
+      ≡ sum_by (λ e. length (entry_line model e)) (from_time from log)
+      → len + log_length net clone until s ≡ log_length net clone from s
+  span_measured model is s from until len log e h =
+      let of : (t : ℕ) → sum_by (λ (x : Entry Msg Line). length (entry_line model x)) (from_time t log)
+      ≡ log_length net clone t s =
+      λ t. ap (λ m. sum_by (λ (x : Entry Msg Line). length (entry_line m x)) (from_time t log)) is ∙ log_measured t s log e in
+      let a = of from in
+      let b = of until in
+      omega (arith, a, b, h)
+
+  -- the lengths of all logs are together that of the rest
+  pub all_measured : (n t : ℕ) → n ≡ length net.sites → first_lengths net clone t n ≡ length (rest net clone t)
+  unfolding rest first_lengths
+  all_measured n t many =
+      ap (station_sum (log_length net clone t)) many
+      ∙ sym (rest_length (lawful-stations net over.valid) (stations-to_stations net over.valid)
+      (fresh-stations net over.valid) clone t (entry_line net) (over.in_net.plans c there))
+
+  -- nothing is left at the horizon
+  pub no_rest : (t : ℕ) → net.horizon ≤ t → length (rest net clone t) ≡ 0
+  unfolding first_lengths
+  no_rest t late = sym (all_measured (length net.sites) t refl) ∙ none (length net.sites)
+    where
+      log_ends : (s : ℕ) → log_length net clone t s ≡ 0
+      log_ends s = sym (log_measured t s (log_at net clone s world.front) refl)
+          ∙ ap (sum_by (λ (x : Entry Msg Line). length (entry_line net x)))
+          (none_late t (log_at net clone s world.front)
+          (all_from (λ (e : Entry Msg Line). e.msg.key.time < t) (log_at net clone s world.front) (λ e i.
+          let small = log_keys-small net over.valid clone s world.front e counted i in
+          let early = small.0 in
+          let done = over.done in
+          omega (arith, early, done, late))))
+
+      none : (n : ℕ) → first_lengths net clone t n ≡ 0
+      none zero = refl
+      none (suc n) = let a = none n in let b = log_ends (suc n) in omega (arith, a, b)
+
+  -- what comes from a time on is what comes before another, and then the rest from there on
+  pub rest_splits : (early late : ℕ) → early ≤ late
+      → (part : List ℕ) × (rest net clone early ≡ part ++ rest net clone late)
+  unfolding rest
+  rest_splits early late l =
+      let trace : List (Entry Msg Line) = trace_of net clone in
+      let first : List (Entry Msg Line) = before sim late trace in
+      let es : from_on sim early trace ≡ from_on sim early first ++ from_on sim late trace =
+      ap (from_on sim early) (trace_split (lawful-stations net over.valid) (stations-to_stations net over.valid)
+      (fresh-stations net over.valid) clone late (over.in_net.plans c there))
+      ∙ filter_both (λ e. not (nat_lt e.msg.key.time early)) first (from_time late trace)
+      ∙ ap (λ k. from_on sim early first ++ k) (late_twice early late trace l) in (
+        flat_map (entry_line net) (from_on sim early first),
+        ap (flat_map (entry_line net)) es ∙ flat_map-append (entry_line net) (from_on sim early first)
+            (from_on sim late trace),
+      )
+
+-- ---- the lengths of the logs of the first stations
+
+-- no station has no lines
+pub lengths_none : (net : Net) (c : Clone) (t : ℕ) → first_lengths net c t 0 ≡ 0
+unfolding first_lengths
+lengths_none net c t = refl
+
+-- one station more has those of its log
+pub lengths_more : (net : Net) (c : Clone) (t n : ℕ)
+    → first_lengths net c t (n + 1) ≡ first_lengths net c t n + log_length net c t (n + 1)
+unfolding first_lengths
+lengths_more net c t n =
+    let up : n + 1 ≡ suc n = omega arith in
+    ap (station_sum (log_length net c t)) up ∙ ap (λ s. station_sum (log_length net c t) n + log_length net c t s) (sym up)
+
+-- ---- the same of what contracts see of a world's traces
+
+module _ (world : WorldView) (over : IsOver world) (view : TracesView)
+    (seen : record { net = world.net; clones = world.clones } ≡ view) (c : ℕ) (there : c < length view.clones) where
+  there_too : c < length world.clones
+  there_too = subst (λ (v : TracesView). c < length v.clones) (sym seen) there
+
+  -- what the logs of all stations have between two times is what the rest from the first has before that from the second
+  pub rest_measured : (n from until len : ℕ) → n ≡ length world.net.sites
+      → len + (first_lengths view.net (clone_at view.clones c) from 0
+      + first_lengths view.net (clone_at view.clones c) until n)
+      ≡ first_lengths view.net (clone_at view.clones c) from n + first_lengths view.net (clone_at view.clones c) until 0
+      → len + length (rest view.net (clone_at view.clones c) until) ≡ length (rest view.net (clone_at view.clones c) from)
+  rest_measured n from until len many e =
+      let whole : (t : ℕ) → first_lengths view.net (clone_at view.clones c) t n
+      ≡ length (rest view.net (clone_at view.clones c) t) =
+      λ t. subst (λ (v : TracesView). first_lengths v.net (clone_at v.clones c) t n
+      ≡ length (rest v.net (clone_at v.clones c) t)) seen (all_measured world over c there_too n t many) in
+      let a = whole from in
+      let b = whole until in
+      let x = lengths_none view.net (clone_at view.clones c) from in
+      let y = lengths_none view.net (clone_at view.clones c) until in
+      omega (arith, a, b, x, y, e)
+
+  -- nothing is left at the horizon
+  pub no_rest_seen : (t : ℕ) → world.net.horizon ≤ t → length (rest view.net (clone_at view.clones c) t) ≡ 0
+  no_rest_seen t late = subst (λ (v : TracesView). length (rest v.net (clone_at v.clones c) t) ≡ 0) seen
+      (no_rest world over c there_too t late)
+
+  -- two rests by what comes between their times, and between the later one and the end
+  pub two_rests : (early late end more after : ℕ) → world.net.horizon ≤ end
+      → after + length (rest view.net (clone_at view.clones c) end) ≡ length (rest view.net (clone_at view.clones c) late)
+      → more + length (rest view.net (clone_at view.clones c) late) ≡ length (rest view.net (clone_at view.clones c) early)
+      → (more + after ≡ length (rest view.net (clone_at view.clones c) early))
+      × (after ≡ length (rest view.net (clone_at view.clones c) late))
+  two_rests early late end more after beyond e h =
+      let none = no_rest_seen end beyond in
+      (omega (arith, none, e, h), omega (arith, none, e))
+
+  -- a rest is a part of so many bytes, and then the rest from a later time on
+  pub rest_parts : (early late len : ℕ) → early ≤ late
+      → len + length (rest view.net (clone_at view.clones c) late) ≡ length (rest view.net (clone_at view.clones c) early)
+      → (part : List ℕ) × (length part ≡ len)
+      × (rest view.net (clone_at view.clones c) early ≡ part ++ rest view.net (clone_at view.clones c) late)
+  rest_parts early late len l e =
+      let split = subst (λ (v : TracesView). (part : List ℕ) × (rest v.net (clone_at v.clones c) early
+      ≡ part ++ rest v.net (clone_at v.clones c) late)) seen (rest_splits world over c there_too early late l) in
+      let a = ap length split.1 in
+      let b = length-append split.0 (rest view.net (clone_at view.clones c) late) in
+      (split.0, omega (arith, a, b, e), split.1)
+
+-- the lines of what a cursor was given are the clone's rest
+pub lines_are : (net model : Net) (c : Clone) (t : ℕ) (left : List (Entry Msg Line)) → model ≡ net
+    → left ≡ from_on (simulation net) t (trace_of net c) → flat_map (entry_line model) left ≡ rest net c t
+unfolding rest
+lines_are net model c t left is e = ap₂ (λ n es. flat_map (entry_line n) es) is e

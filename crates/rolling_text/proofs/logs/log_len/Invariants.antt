@@ -1,0 +1,16 @@
+use Rattle.std.proofs.Common.{◌≡◌, ◌+◌, ◌*◌, ◌≤◌, length, sum_by}
+use Rattle.log_chain.specs.Times.{RiseByTime, from_time}
+use Rattle.trace_report.specs.TraceText.{entry_line}
+use Rattle.rolling_text.proofs.logs.log_len.Given as goal
+
+abbrev pub invariant-loop-entry : goal.invariant-loop-entry
+invariant-loop-entry l = record {
+  sum : l.sum + sum_by (λ e. length (entry_line l.model e)) l.walk ≡ sum_by (λ e. length (entry_line l.model e))
+      (from_time l.from l.log);
+  late : from_time l.until l.walk ≡ from_time l.until l.log;
+  rises : RiseByTime l.walk;
+  bound : l.sum + 256 * length l.walk ≤ 256 * 65536;
+}
+
+abbrev pub decreases-loop-entry : goal.decreases-loop-entry
+decreases-loop-entry l = length l.walk
