@@ -82,6 +82,23 @@ none_new flows f none over = λ i g got. elim (push_got flows f g i got) [
   | inr e ↦ ap (λ (x : Flow). x.over) e.1 ∙ over
 ]
 
+-- what the step of the station at place i comes to
+pub stepped_at : (net : Net) (ends : ℕ → ℕ) (bound i : ℕ) (olds news : List ProcView) (p : ProcView) (flow : Flow)
+    → slice_get olds i ≡ Some p →
+    IsFlow net ends bound i p flow → slice_get news i ≡ Some flow.done
+    → ((j : ℕ) → j ≢ i → slice_get news j ≡ slice_get olds j) →
+    length news ≡ length olds → SteppedAt net ends bound i olds news flow.sent.items flow.over flow.handled
+stepped_at net ends bound i olds news p flow got is there others long = record {
+  flow = flow;
+  is_flow = λ q got_q. subst (λ (x : ProcView). IsFlow net ends bound i x flow) (of_some p q (sym got ∙ got_q)) is;
+  there = there;
+  others = others;
+  long = long;
+  sent_is = refl;
+  over_is = refl;
+  handled_is = refl;
+}
+
 -- ---- one station more
 
 sent_more : (flows : List Flow) (f : Flow) → all_sent (flows ++ f ∷ []) ≡ all_sent flows ++ f.sent.items
@@ -177,6 +194,25 @@ module _ (net : Net) (ends : ℕ → ℕ) (bound : ℕ) (olds : List ProcView) w
           below : (i : ℕ) → i < n + 1 → (i ≡ n → ⊥) → i < n
           below i less ne = grind (arith, less)
 
+  -- a station with nothing due has answered where it stands
+  pub stepped_idle : (n : ℕ) (news : List ProcView) (sent : Marked) (over : Option (ℕ × ℕ)) (steps0 steps : ℕ)
+      (p : ProcView) (flow : Flow) → n < length olds → SteppedTo net ends bound n olds news sent over steps0 steps
+      → slice_get news n ≡ Some p → IsNumbered net n p → AreLate bound p.copies → AreShared p.living p.copies
+      → flow.done ≡ p → flow.sent.items ≡ [] → flow.over ≡ empty → flow.handled ≡ 0
+      → SteppedTo net ends bound (n + 1) olds news sent over steps0 steps
+  stepped_idle n news sent over steps0 steps p flow less far got numbered late shared done none free silent =
+      stepped_next n news news sent flow.sent.items sent over over flow.over flow.handled steps0 steps steps less far
+      (stepped_at net ends bound n news news p flow got
+      (idle_flow net ends bound n p flow numbered late shared done none free silent) (got ∙ ap Some (sym done))
+      (λ j ne. refl) refl)
+      (sym (ap (λ l. sent ++ l) none ∙ append-nil sent)) (omega (arith, silent))
+      (λ flows f many same. still over flows f (same ∙ free))
+    where
+      still : (o : Option (ℕ × ℕ)) (flows : List Flow) (f : Flow) → f.over ≡ empty → FirstOver flows o
+          → FirstOver (flows ++ f ∷ []) o
+      still None flows f e h = none_new flows f h e
+      still (Some q) flows f e h = first_kept flows f q.0 q.1 h
+
   -- and where as many as there are have answered, all have
   pub stepped_all : (n : ℕ) (news : List ProcView) (sent : Marked) (over : Option (ℕ × ℕ)) (steps0 steps : ℕ)
       → n ≡ length olds →
@@ -264,20 +300,3 @@ put_back {X} xs ys zs i n m d less long last size moved stay count swapped = (he
 
         below : (j : ℕ) → j < length xs → (j ≡ length ys → ⊥) → j < length ys
         below j l q = grind (arith, l, q, long)
-
--- what the step of the station at place i comes to
-pub stepped_at : (net : Net) (ends : ℕ → ℕ) (bound i : ℕ) (olds news : List ProcView) (p : ProcView) (flow : Flow)
-    → slice_get olds i ≡ Some p →
-    IsFlow net ends bound i p flow → slice_get news i ≡ Some flow.done
-    → ((j : ℕ) → j ≢ i → slice_get news j ≡ slice_get olds j) →
-    length news ≡ length olds → SteppedAt net ends bound i olds news flow.sent.items flow.over flow.handled
-stepped_at net ends bound i olds news p flow got is there others long = record {
-  flow = flow;
-  is_flow = λ q got_q. subst (λ (x : ProcView). IsFlow net ends bound i x flow) (of_some p q (sym got ∙ got_q)) is;
-  there = there;
-  others = others;
-  long = long;
-  sent_is = refl;
-  over_is = refl;
-  handled_is = refl;
-}

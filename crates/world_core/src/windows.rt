@@ -126,7 +126,7 @@ fn first_with(before: Option<(u32, u32)>, i: u32, over: CloneSet) -> Option<(u32
     None
 }
 
-// Steps the station at place i where it stands, if something is due there.
+// Steps the station at place i where it stands.
 fn step_place<L: Ledger>(
     alloc: Global,
     work: &Window,
@@ -142,13 +142,6 @@ fn step_place<L: Ledger>(
         procs.old.items procs.new.items part.sent.items part.over part.handled) }
     ensures steps { IfOk result (λ part. steps.new ≡ steps.old + part.handled) }
 {
-    if procs[i].is_idle(work.bound) {
-        return Ok(Part {
-            sent: Vec::new(alloc),
-            over: CloneSet::empty(),
-            handled: 0,
-        });
-    }
     let item = procs.swap_remove(i);
     let flow = work.run(alloc, i as u32, item, steps)?;
     let Flow {
@@ -189,6 +182,9 @@ fn step_in_place<G: Gate, L: Ledger, R: Wait>(
     let mut handled: u64 = 0;
     for i in 0..procs.len() {
         gate.before(rt, 0, i as u32);
+        if procs[i].is_idle(work.bound) {
+            continue;
+        }
         let part = step_place(alloc, work, &mut procs, i, steps)?;
         sent = joined(sent, part.sent)?;
         over = first_with(over, i as u32, part.over);

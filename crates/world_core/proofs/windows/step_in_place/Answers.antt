@@ -1,7 +1,12 @@
-use Rattle.std.proofs.Common.{◌<◌, None, arith, sym, subst, length}
+use Rattle.std.proofs.Common.{◌<◌, None, arith, refl, sym, ap, subst, ◌∙◌, length}
+use Rattle.clone_sets.specs.Sets.{empty}
+use Rattle.phys_proc.specs.Own.{AreLate}
 use Rattle.phys_proc.specs.Gone.{ends_in}
+use Rattle.phys_proc.specs.declared.proc.Flow.{Flow}
+use Rattle.world_core.specs.Windows.{WindowView}
 use Rattle.world_core.specs.Stepping.{SteppedTo}
-use Rattle.world_core.proofs.InPlace.{stepped_none, stepped_next, stepped_all}
+use Rattle.world_core.proofs.Places.{got_at}
+use Rattle.world_core.proofs.InPlace.{stepped_none, stepped_idle, stepped_next, stepped_all}
 use Rattle.world_core.proofs.windows.step_in_place.Goals as goal
 
 pub loop-i-init : goal.loop-i-init
@@ -14,6 +19,27 @@ loop-i-init g c =
           (sym c.new-sent.ensures.items)
           (stepped_none w.net (ends_in w.net.horizon w.ended) w.bound olds c.args.steps.now);
       few = tt;
+    }
+
+pub loop-i-preserved-then-is_idle : goal.loop-i-preserved-then-is_idle
+loop-i-preserved-then-is_idle g c =
+    let w = c.args.work.now in
+    let olds = c.args.olds.items in
+    let far = c.loop-i.invariant.stepped in
+    let same = far.long in
+    let l : c.loop-i.i < length olds =
+    omega (arith, c.loop-i-test.true, c.loop-i.auto.i-end, c.len-i-end.ensures, c.args.olds.ok.0) in
+    let p = c.index.result.now in
+    let got = got_at c.loop-i.procs.items c.loop-i.i p (omega (arith, l, same)) c.index.ensures in
+    let late = subst (λ b. AreLate b p.copies) (ap (λ (u : WindowView). u.bound) c.work.view_is)
+    (c.if-is_idle.ensures.late refl) in
+    let flow : Flow = record { done = p; sent = c.new-sent.result; over = empty; handled = 0 } in
+    record {
+      stepped = stepped_idle w.net (ends_in w.net.horizon w.ended) w.bound olds c.loop-i.i c.loop-i.procs.items
+          c.loop-i.sent.items c.loop-i.over c.args.steps.now c.loop-i.steps p flow l far got
+          (c.requires.numbered c.loop-i.i p (sym (far.others c.loop-i.i (omega arith)) ∙ got)) late
+          c.is_idle.ensures.shared refl c.new-sent.ensures.items refl refl;
+      few = c.loop-i.invariant.few;
     }
 
 pub loop-i-preserved : goal.loop-i-preserved

@@ -5,23 +5,8 @@ use Rattle.phys_proc.specs.Gone.{ends_in}
 use Rattle.phys_proc.specs.declared.proc.Flow.{Flow}
 use Rattle.world_core.specs.Windows.{WindowView}
 use Rattle.world_core.proofs.Places.{got_at}
-use Rattle.world_core.proofs.InPlace.{idle_flow, put_back, stepped_at}
+use Rattle.world_core.proofs.InPlace.{put_back, stepped_at}
 use Rattle.world_core.proofs.windows.step_place.Goals as goal
-
-pub returns-then-is_idle-clause-stepped : goal.returns-then-is_idle-clause-stepped
-returns-then-is_idle-clause-stepped g c =
-    let w = c.args.work.now in
-    let items = c.args.procs.now.items in
-    let i = c.args.i in
-    let p = c.index.result.now in
-    let got = got_at items i p c.requires.place c.index.ensures in
-    let late = subst (λ b. AreLate b p.copies) (ap (λ (u : WindowView). u.bound) c.work.view_is)
-    (c.if-is_idle.ensures.late refl) in
-    let flow : Flow = record { done = p; sent = c.new.result; over = c.empty.result; handled = 0 } in
-    stepped_at w.net (ends_in w.net.horizon w.ended) w.bound i items items p flow got
-    (idle_flow w.net (ends_in w.net.horizon w.ended) w.bound i p flow
-    (c.requires.numbered p got) late c.is_idle.ensures.shared refl c.new.ensures.items
-    c.empty.ensures refl) got (λ j ne. refl) refl
 
 pub run-requires : goal.run-requires
 run-requires g c =
