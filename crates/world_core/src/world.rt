@@ -33,7 +33,7 @@ pub struct World {
 }
 
 /// Windows that handle fewer messages than this run in the caller's thread: starting threads costs more.
-pub const SMALL_WINDOW: u64 = 500;
+pub const SMALL_WINDOW: u64 = 8_000;
 
 impl std::marker::Model for World {
     ghost use Rattle.world_core.specs.Worlds.{WorldView, WorldStands};

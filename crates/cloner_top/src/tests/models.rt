@@ -325,15 +325,15 @@ by = "turn"
 link = [{ to = "spin", delay = 1 }]
 "#;
 
-/// Two stations and windows of 600 messages: more than one thread steps them.
-pub const BUSY: &str = r#"lookahead = 600
-horizon = 3000
+/// Two stations and windows of more than 8,000 messages: more than one thread steps them.
+pub const BUSY: &str = r#"lookahead = 9000
+horizon = 27000
 [[station]]
 name = "gate"
 kind = "source"
 every = [1, 1]
-jobs = 3000
-link = [{ to = "out", delay = 600 }]
+jobs = 27000
+link = [{ to = "out", delay = 9000 }]
 [[station]]
 name = "out"
 kind = "sink"
