@@ -2,6 +2,7 @@
 ghost use Rattle.std.specs.Prelude.{◌≡◌, ℕ, ◌+◌, ◌-◌, ◌<◌, ◌≤◌, ◌==◌, List, []};
 ghost use Rattle.std.specs.Prelude.{◌++◌, length, take, drop, slice_get, OnOk, OnErr, IfOk};
 ghost use Rattle.sim_base.specs.Pending.{insert_marked, spread_marks, cut_by, first_time, first_marks};
+ghost use Rattle.std.specs.Ordering.{is_eq, is_gt};
 ghost use Rattle.sim_base.specs.Order.{msg_cmp};
 ghost use Rattle.sim_base.specs.Marked.{SortedMarked};
 ghost use Rattle.sim_base.specs.Blocks.{IsPlaceOf, is_there, StartsAfter, StartsAt};
@@ -127,7 +128,7 @@ impl<S: Marks> Block<S> {
         let mut high = self.items.len();
         while low < high {
             let middle = next_look(low, high);
-            if compare(msg, &self.items[middle].0).is_gt() {
+            if comes_after(msg, &self.items[middle].0) {
                 low = middle + 1;
             } else {
                 high = middle;
@@ -143,7 +144,7 @@ impl<S: Marks> Block<S> {
         if place >= self.items.len() {
             return false;
         }
-        compare(msg, &self.items[place].0).is_eq()
+        is_same(msg, &self.items[place].0)
     }
 
     /// Adds a message, or joins the marks to those that it has where it is there already.
@@ -253,6 +254,23 @@ fn time_of_first<S: Marks>(items: &VecDeque<(Msg, S)>) -> u64
         Some(item) => item.0.key.time,
         None => 0,
     }
+}
+
+// Whether a message comes after another. Times differ mostly, and then nothing else is looked at.
+fn comes_after(msg: &Msg, other: &Msg) -> bool
+    ensures value { result ≡ is_gt (msg_cmp msg.now other.now) }
+{
+    if msg.key.time != other.key.time {
+        return msg.key.time > other.key.time;
+    }
+    compare(msg, other).is_gt()
+}
+
+// Whether two messages are the same one.
+fn is_same(msg: &Msg, other: &Msg) -> bool
+    ensures value { result ≡ is_eq (msg_cmp msg.now other.now) }
+{
+    msg.key.time == other.key.time && compare(msg, other).is_eq()
 }
 
 /// At which of the places from `low` on and before `high` to look next: new messages are mostly late.

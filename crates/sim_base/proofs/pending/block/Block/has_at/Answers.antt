@@ -1,6 +1,5 @@
 use Rattle.std.proofs.Common.{◌≡◌, ap, sym, ◌∙◌, false, Some, None, arith}
 use Rattle.std.specs.Prelude.{slice_get}
-use Rattle.std.specs.Ordering.{is_eq}
 use Rattle.sim_base.specs.Blocks.{is_there}
 use Rattle.sim_base.specs.Order.{msg_cmp}
 use Rattle.sim_base.proofs.Placing.{read_at, past_at}
@@ -19,6 +18,6 @@ returns g c =
     let there = read_at c.self.inside.items.items c.args.place c.index.result.now (omega arith) c.index.ensures in
     record {
       value =
-          c.is_eq.ensures ∙ ap is_eq c.compare.ensures.value ∙ ap (is_there msg_cmp c.args.msg.now) (sym there)
+          c.is_same.ensures.value ∙ ap (is_there msg_cmp c.args.msg.now) (sym there)
           ∙ ap (λ xs. is_there msg_cmp c.args.msg.now (slice_get xs c.args.place)) c.self.view_is;
     }

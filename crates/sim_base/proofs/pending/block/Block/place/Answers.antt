@@ -1,14 +1,14 @@
-use Rattle.std.proofs.Common.{◌≡◌, ℕ, ◌+◌, ◌<◌, ap, sym, ◌∙◌, subst, true, false, get_or, length, arith}
+use Rattle.std.proofs.Common.{◌≡◌, ℕ, ◌+◌, ◌<◌, sym, ◌∙◌, subst, true, false, get_or, length, arith}
 use Rattle.std.specs.Ordering.{is_gt}
 use Rattle.sim_base.specs.Blocks.{IsPlaceOf}
 use Rattle.sim_base.specs.Order.{msg_cmp}
 use Rattle.sim_base.proofs.Placing.{gt_at}
 use Rattle.sim_base.proofs.pending.block.Block.place.Goals as goal
 
-pub loop-low-preserved-then-is_gt : goal.loop-low-preserved-then-is_gt
-loop-low-preserved-then-is_gt g c =
+pub loop-low-preserved-then-comes_after : goal.loop-low-preserved-then-comes_after
+loop-low-preserved-then-comes_after g c =
     let inv = c.loop-low.invariant in
-    let answer = sym (sym c.if-is_gt.true ∙ c.is_gt.ensures ∙ ap is_gt c.compare.ensures.value) in
+    let answer = sym (sym c.if-comes_after.true ∙ c.comes_after.ensures.value) in
     record {
       order = omega arith;
       within = inv.within;
@@ -20,7 +20,7 @@ loop-low-preserved-then-is_gt g c =
 pub loop-low-preserved : goal.loop-low-preserved
 loop-low-preserved g c =
     let inv = c.loop-low.invariant in
-    let answer = sym (sym c.if-is_gt.false ∙ c.is_gt.ensures ∙ ap is_gt c.compare.ensures.value) in
+    let answer = sym (sym c.if-comes_after.false ∙ c.comes_after.ensures.value) in
     record {
       order = omega arith;
       within = omega (arith, inv.within);
