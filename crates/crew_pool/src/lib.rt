@@ -38,8 +38,6 @@ mod own_counter;
 pub mod serial;
 pub mod stealing;
 mod task_deque;
-#[cfg(test)]
-mod tests;
 pub mod work;
 pub mod workers;
 

@@ -34,8 +34,6 @@ pub mod call;
 pub mod examples;
 pub mod laws;
 mod reply;
-#[cfg(test)]
-mod tests;
 
 pub use book::Book;
 pub use call::{Call, MOST_CALLS, Reply};

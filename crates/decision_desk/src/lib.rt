@@ -29,8 +29,6 @@ pub mod helm;
 pub mod legal;
 mod next_front;
 pub mod pass;
-#[cfg(test)]
-mod tests;
 mod turns;
 pub mod view;
 

@@ -40,8 +40,6 @@ mod one_clone;
 mod print;
 mod read;
 pub mod script;
-#[cfg(test)]
-mod tests;
 
 pub use fault::ScriptFault;
 pub use item::{Act, Item};

@@ -44,8 +44,6 @@ pub mod prepared;
 pub mod room;
 pub mod run;
 mod study;
-#[cfg(test)]
-mod tests;
 mod text;
 mod work;
 

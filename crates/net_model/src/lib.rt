@@ -42,8 +42,6 @@ mod read;
 mod reading;
 mod resolve;
 pub mod station;
-#[cfg(test)]
-mod tests;
 mod top;
 
 pub use fault::ModelFault;

@@ -32,8 +32,6 @@ mod leasts;
 pub mod proc;
 pub mod rack;
 mod stepping;
-#[cfg(test)]
-mod tests;
 
 pub use clone_ends::CloneEnds;
 pub use copy::PhysCopy;

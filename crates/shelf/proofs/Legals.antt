@@ -7,8 +7,7 @@ use Rattle.std.proofs.lemmas.Bool.Decides.{nat_tests}
 use mathlib.Core.List.{IsPrefix}
 use Rattle.phys_proc.specs.Racks.{RackView}
 use Rattle.shelf.specs.Racks.{MayComeAfter, MayFollow, AreLegal, latest, or_this, if_this}
-use Rattle.shelf.specs.Racks.{HasRack, AreSeenUpTo, AreShown, OneEach, MayOpen}
-use Rattle.net_model.specs.Net.{Net}
+use Rattle.shelf.specs.Racks.{HasRack, AreShown, OneEach, MayOpen}
 
 -- what holds of a list and of one more holds of both together
 all_with : {A : Type 0} (P : A → Type 0) (xs : List A) (y : A) → AllByRecursion P xs → P y
@@ -239,28 +238,6 @@ shown_at f xs published s x shown has got =
 pub has_place : {A : Type 0} (f : A → RackView) (xs : List A) (published : List RackView) (s : ℕ)
     → AreShown (map f xs) published → HasRack s published → (1 ≤ s) × (s ≤ length xs)
 has_place f xs published s shown has = let k = shown.all s has in (k.0, omega (arith, k.1, length-map xs f))
-
--- ---- racks up to a front
-
--- a rack of a later front may follow
-pub seen_follows : (net : Net) (front : ℕ) (racks : List RackView) (r : RackView) → AreSeenUpTo net front racks
-    → r.net ≡ net → front < r.front → MayFollow racks r
-seen_follows net front [] r seen e l = tt
-seen_follows net front (q ∷ racks) r seen e l =
-    let same : r.net ≡ q.net = e ∙ sym seen.0.0 in
-    let f : q.front < r.front = let h = seen.0.1 in omega (arith, h, l) in
-    (record { net = same; later = λ s. f }, seen_follows net front racks r seen.1 e l)
-
--- and with it they are seen up to its front
-pub seen_with : (net : Net) (front : ℕ) (racks : List RackView) (r : RackView) → AreSeenUpTo net front racks
-    → r.net ≡ net → front ≤ r.front
-    → AreSeenUpTo net r.front (racks ++ r ∷ [])
-seen_with net front racks r seen e l = all_with (λ (q : RackView). (q.net ≡ net) × (q.front ≤ r.front)) racks r
-    (later racks seen) (e, omega arith)
-  where
-    later : (racks : List RackView) → AreSeenUpTo net front racks → AreSeenUpTo net r.front racks
-    later [] seen = tt
-    later (q ∷ racks) seen = let h = seen.0.1 in ((seen.0.0, omega (arith, h, l)), later racks seen.1)
 
 -- a station that has a rack has one also with one rack more
 pub has_with : (s : ℕ) (racks : List RackView) (r : RackView) → HasRack s racks → HasRack s (racks ++ r ∷ [])

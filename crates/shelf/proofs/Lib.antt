@@ -2,4 +2,3 @@ pub mod Prefixes
 pub mod Legals
 pub mod Adding
 pub mod Replacing
-pub mod Opening

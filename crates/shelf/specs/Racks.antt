@@ -4,7 +4,6 @@ use Rattle.std.specs.Prelude.{[], ◌∷◌, ◌++◌, Option, Some, None, IfSom
 use Rattle.std.specs.List.{AllByRecursion}
 use mathlib.Core.List.{IsPrefix}
 use Rattle.sim_base.specs.Clones.{place_of}
-use Rattle.net_model.specs.Net.{Net}
 use Rattle.phys_proc.specs.Racks.{RackView, IsSeen}
 use Rattle.phys_proc.specs.declared.rack.Glance.{Glance}
 
@@ -75,7 +74,3 @@ pub record IsGlance (rack : RackView) (who : List ℕ) (glance : Glance) : Type 
   pub unknown : IfNone glance.found (place_of who rack.clones ≡ None)
   pub found : IfSome glance.found (λ f. (c : ℕ) × (place_of who rack.clones ≡ Some c) ×
       IsSeen rack.net rack.clones rack.station rack.front c f.handled f.shared)
-
--- these racks are of this network, and show it up to this front at most
-abbrev pub AreSeenUpTo : Net → ℕ → List RackView → Type 0
-AreSeenUpTo net front racks = AllByRecursion (λ q. (q.net ≡ net) × (q.front ≤ front)) racks

@@ -30,8 +30,6 @@
 mod history;
 mod seat;
 mod stocker;
-#[cfg(test)]
-mod tests;
 mod version;
 
 pub use history::{History, Naming, Opened, Published};

@@ -41,8 +41,6 @@ mod looking;
 mod racks;
 mod shared_lists;
 mod taking;
-#[cfg(test)]
-mod tests;
 mod timed_proc;
 mod tracing;
 pub mod windows;

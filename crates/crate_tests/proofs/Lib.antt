@@ -1,0 +1,4 @@
+pub mod Deciding
+pub mod NewPasses
+pub mod Opening
+pub mod Seen

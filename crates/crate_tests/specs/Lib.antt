@@ -1,0 +1,2 @@
+pub mod Abreast
+pub mod Seen

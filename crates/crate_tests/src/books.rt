@@ -1,0 +1,216 @@
+//! Worked books, the table of refusals in its order, and full books.
+
+use crate::texts::ONE_DESK;
+use decision_book::{Book, Reply};
+use net_model::read_model;
+use sim_base::{Change, Decision, Name, NoMemory, Param};
+use std::alloc::Global;
+use std::process::Abort;
+use std::sync::Arc;
+use std::test::Fail;
+
+fn name<R: Abort>(rt: &R, text: &[u8]) -> Name {
+    Name::read(text).expect(rt, "a name")
+}
+
+fn fork<R: Abort>(rt: &R, new: &[u8], old: &[u8]) -> Decision {
+    Decision::Fork {
+        new: name(rt, new),
+        old: name(rt, old),
+    }
+}
+
+fn set<R: Abort>(rt: &R, who: &[u8], at: u64, station: &[u8], change: Change) -> Decision {
+    Decision::Set {
+        who: name(rt, who),
+        at,
+        station: name(rt, station),
+        change,
+    }
+}
+
+fn end<R: Abort>(rt: &R, who: &[u8], at: u64) -> Decision {
+    Decision::End {
+        who: name(rt, who),
+        at,
+    }
+}
+
+fn service(low: u64, high: u64) -> Change {
+    Change {
+        param: Param::Service,
+        a: low,
+        b: high,
+    }
+}
+
+/// A book of one desk, with no call.
+fn begun(alloc: Global) -> Option<Book> {
+    let model = read_model(alloc, ONE_DESK.as_bytes()).ok()?;
+    let model = Arc::new(alloc, model).ok()?;
+    Book::begin(alloc, model).ok()
+}
+
+/// Raises the front, where it may be raised.
+fn raise(book: &mut Book, front: u64) -> bool {
+    front > book.front() && front <= book.model().horizon() && book.advance(front).is_ok()
+}
+
+#[test]
+fn decisions_during_a_run(rt: HostRuntime) -> Result<(), Fail> {
+    let Some(mut book) = begun(rt.alloc()) else {
+        return Err(NoMemory.into());
+    };
+    let mut all = true;
+    for front in [5, 7, 10] {
+        all = raise(&mut book, front) && all;
+    }
+    let replies = [
+        book.decide(1, fork(&rt, b"fast", b"base")),
+        book.decide(1, set(&rt, b"fast", 10, b"desk", service(2, 2))),
+        book.decide(2, set(&rt, b"fast", 9, b"desk", service(2, 2))),
+    ];
+    for front in [13, 15, 17, 20] {
+        all = raise(&mut book, front) && all;
+    }
+    let closed = book.decide(1, fork(&rt, b"x", b"base"));
+    assert!(rt; all);
+    assert_eq!(rt;
+        replies,
+        [Reply::Accepted, Reply::Accepted, Reply::Late { front: 10 }]
+    );
+    assert_eq!(rt; closed, Reply::Closed);
+    let more = book.ask(2, &fork(&rt, b"x", b"base"));
+    assert_eq!(rt; more, (Reply::Closed, book.calls().last().copied()));
+    let fronts = [3, 3, 3, 7, 7];
+    assert_eq!(rt; book.calls().len(), 5);
+    for (call, fronts) in book.calls().iter().zip(fronts) {
+        assert_eq!(rt; call.fronts, fronts);
+    }
+    assert_eq!(rt; book.fronts(), [5, 7, 10, 13, 15, 17, 20].as_slice());
+    assert_eq!(rt; (book.front(), book.lists().len()), (20, 2));
+    Ok(())
+}
+
+/// A name of four bytes for each number below 1,000.
+fn numbered<R: Abort>(rt: &R, n: u32) -> Name {
+    let digit = |d: u32| b'0' + (d % 10) as u8;
+    name(rt, &[b'c', digit(n / 100), digit(n / 10), digit(n)])
+}
+
+/// Fills a book with 256 clones: `base` with 256 decisions, `late` with none, `over` with an end, and others.
+fn crowd<R: Abort>(rt: &R, book: &mut Book) -> bool {
+    let mut all = true;
+    for decision in [
+        fork(rt, b"late", b"base"),
+        fork(rt, b"over", b"base"),
+        end(rt, b"over", 12),
+    ] {
+        all = book.decide(1, decision) == Reply::Accepted && all;
+    }
+    for _ in 0..256 {
+        let more = set(rt, b"base", 15, b"desk", service(2, 2));
+        all = book.decide(1, more) == Reply::Accepted && all;
+    }
+    for n in 0..253 {
+        let branch = Decision::Fork {
+            new: numbered(rt, n),
+            old: name(rt, b"base"),
+        };
+        all = book.decide(2, branch) == Reply::Accepted && all;
+    }
+    all
+}
+
+/// Decisions for a crowded book at front 10. Each refusal comes first where the one after it in the table, or a later
+/// one, holds too.
+fn refused<R: Abort>(rt: &R) -> [(Decision, Reply); 13] {
+    let (out, good) = (service(0, 0), service(2, 2));
+    let over = Reply::Ended { at: 12 };
+    let late = Reply::Late { front: 10 };
+    [
+        (set(rt, b"ghost", 9, b"nowhere", out), Reply::UnknownClone),
+        (fork(rt, b"base", b"over"), over),
+        (set(rt, b"over", 25, b"nowhere", out), over),
+        (fork(rt, b"late", b"base"), Reply::NameTaken),
+        (fork(rt, b"fresh", b"base"), Reply::TooManyClones),
+        (set(rt, b"base", 25, b"nowhere", out), Reply::UnknownStation),
+        (set(rt, b"base", 25, b"gate", out), Reply::WrongParameter),
+        (set(rt, b"base", 25, b"desk", out), Reply::OutOfRange),
+        (set(rt, b"base", 25, b"desk", good), Reply::ListFull),
+        (set(rt, b"late", 20, b"desk", good), Reply::PastHorizon),
+        (end(rt, b"base", 20), Reply::PastHorizon),
+        (set(rt, b"late", 9, b"desk", good), late),
+        (end(rt, b"base", 9), late),
+    ]
+}
+
+/// The place of the first of these decisions that has another reply than the one beside it.
+fn first_wrong(book: &mut Book, table: &[(Decision, Reply)]) -> Option<usize> {
+    for (i, (decision, reply)) in table.iter().enumerate() {
+        if book.decide(1, *decision) != *reply {
+            return Some(i);
+        }
+    }
+    None
+}
+
+/// How many clones there are, and the number of decisions and the end of the first.
+fn first_clone(book: &Book) -> (u32, usize, Option<u64>) {
+    let lists = book.lists();
+    let count = lists.len();
+    (count, lists.list(0).len(), lists.end_of(0))
+}
+
+#[test]
+fn refusals_in_their_order(rt: HostRuntime) -> Result<(), Fail> {
+    let Some(mut book) = begun(rt.alloc()) else {
+        return Err(NoMemory.into());
+    };
+    assert!(rt; crowd(&rt, &mut book) && raise(&mut book, 10));
+    assert_eq!(rt; first_wrong(&mut book, &refused(&rt)), None);
+    assert_eq!(rt; first_clone(&book), (256, 256, None));
+    let numbers = [3, 12, 12, 4, 5, 6, 7, 8, 9, 10, 10, 11, 11];
+    for ((_, reply), number) in refused(&rt).iter().zip(numbers) {
+        assert_eq!(rt; reply.number(), number);
+    }
+    // no refusal holds
+    let accepted = [
+        (
+            set(&rt, b"late", 10, b"desk", service(2, 2)),
+            Reply::Accepted,
+        ),
+        (
+            set(&rt, b"late", 19, b"desk", service(2, 2)),
+            Reply::Accepted,
+        ),
+        (end(&rt, b"base", 19), Reply::Accepted),
+    ];
+    assert_eq!(rt; first_wrong(&mut book, &accepted), None);
+    assert_eq!(rt; first_clone(&book), (256, 256, Some(19)));
+    Ok(())
+}
+
+/// Asks the same until the book is full, and answers whether it was always closed.
+fn fill(book: &mut Book, decision: &Decision) -> bool {
+    for _ in 0..4096 {
+        let reply = book.decide(3, *decision);
+        if reply != Reply::Closed {
+            return false;
+        }
+    }
+    true
+}
+
+#[test]
+fn a_full_book(rt: HostRuntime) -> Result<(), Fail> {
+    let Some(mut book) = begun(rt.alloc()) else {
+        return Err(NoMemory.into());
+    };
+    let decision = fork(&rt, b"fresh", b"nobody");
+    assert!(rt; raise(&mut book, 20) && fill(&mut book, &decision));
+    assert_eq!(rt; book.decide(3, decision), Reply::Full);
+    assert_eq!(rt; book.ask(3, &decision), (Reply::Full, None));
+    assert_eq!(rt; book.calls().len(), 4096);
+    Ok(())
+}

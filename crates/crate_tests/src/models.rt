@@ -1,0 +1,265 @@
+//! What no clause says: that texts from outside are read and refused as people expect, that a call
+//! finds memory, and how long hostile texts take.
+
+mod changes;
+mod texts;
+
+use changes::{Change, OTHER_TEXTS, ROAD_CHANGES, SMALL_CHANGES};
+use net_model::{KeyText, Kind, Link, Model, read_model};
+use std::alloc::{AllocError, Global};
+use std::test::Fail;
+use std::time::{Duration, Instant};
+use texts::{CLINIC, FACTORY, INLINE, ROAD, SMALL};
+
+// Whether the text is refused with this number at this place, and names this key, or none.
+fn is_refused(alloc: Global, text: &[u8], number: u32, place: u32, key: &str) -> bool {
+    let Err(fault) = read_model(alloc, text) else {
+        return false;
+    };
+    let named = match fault.key() {
+        Some(named) => named == key,
+        None => key.is_empty(),
+    };
+    fault.number() == number && fault.place() == place && named
+}
+
+// Whether the changed text is refused as the change says.
+fn is_refused_so(alloc: Global, text: &str, change: &Change) -> Result<bool, AllocError> {
+    let changed = text.replacen(alloc, change.old, change.new, 1)?;
+    Ok(is_refused(
+        alloc,
+        changed.as_bytes(),
+        change.number,
+        change.place,
+        change.key,
+    ))
+}
+
+#[test]
+fn changed_texts_are_refused(rt: HostRuntime) -> Result<(), Fail> {
+    for change in SMALL_CHANGES {
+        assert!(rt; is_refused_so(rt.alloc(), SMALL, change)?, "{change:?}");
+    }
+    for change in OTHER_TEXTS {
+        assert!(rt; is_refused_so(rt.alloc(), SMALL, change)?, "{change:?}");
+    }
+    for change in ROAD_CHANGES {
+        assert!(rt; is_refused_so(rt.alloc(), ROAD, change)?, "{change:?}");
+    }
+    assert!(rt; is_refused(rt.alloc(), b"\xff", 2, 0, ""), "not UTF-8");
+    Ok(())
+}
+
+#[test]
+fn long_keys_are_cut(rt: HostRuntime) {
+    let key = KeyText::of("aB_c-d9 \u{e9}fghijklmnopqrstuvwxyz0123456");
+    assert!(rt; key.text() == "a?_c?d9???fghijklmnopqrstuvwxyz0");
+}
+
+// Whether a station has this name, kind, stream and links.
+fn stands(model: &Model, s: u32, name: &str, kind: Kind, stream: u64, links: &[Link]) -> bool {
+    if s < 1 || s > model.len() {
+        return false;
+    }
+    let station = model.station(s);
+    station.name.text() == name
+        && station.kind == kind
+        && station.stream == stream
+        && station.links.as_slice() == links
+}
+
+fn link(to: u32, delay: u64, weight: u32) -> Link {
+    Link { to, delay, weight }
+}
+
+// Whether the numbers at the top are these.
+fn has_top(
+    model: &Model,
+    format: u32,
+    lookahead: u64,
+    horizon: u64,
+    seed: u64,
+    limit: u64,
+) -> bool {
+    model.format() == format
+        && model.lookahead() == lookahead
+        && model.horizon() == horizon
+        && model.seed() == seed
+        && model.limit() == limit
+}
+
+// The small model, with what its text leaves out.
+fn is_small(alloc: Global, text: &str) -> bool {
+    let Ok(model) = read_model(alloc, text.as_bytes()) else {
+        return false;
+    };
+    let source = Kind::Source {
+        lo: 3,
+        hi: 3,
+        jobs: 2,
+        class: 1,
+    };
+    let server = Kind::Server {
+        servers: 1,
+        room: 5,
+        lo: 4,
+        hi: 4,
+        by_class: false,
+    };
+    has_top(&model, 1, 2, 20, 0, 16_384)
+        && model.len() == 3
+        && stands(&model, 1, "gate", source, 1, &[link(2, 2, 1)])
+        && stands(&model, 2, "desk", server, 2, &[link(3, 2, 1)])
+        && stands(&model, 3, "out", Kind::Sink, 3, &[])
+}
+
+fn is_clinic(alloc: Global, text: &str) -> bool {
+    let Ok(model) = read_model(alloc, text.as_bytes()) else {
+        return false;
+    };
+    let triage = [link(4, 2, 3), link(5, 4, 1)];
+    has_top(&model, 1, 1, 10_000, 2001, 16_384)
+        && model.len() == 6
+        && stands(
+            &model,
+            3,
+            "triage",
+            Kind::Router { turn: false },
+            3,
+            &triage,
+        )
+}
+
+fn is_factory(alloc: Global, text: &str) -> bool {
+    let Ok(model) = read_model(alloc, text.as_bytes()) else {
+        return false;
+    };
+    let paint = Kind::Delay { lo: 300, hi: 420 };
+    let rework = [link(6, 20, 17), link(3, 30, 2), link(7, 5, 1)];
+    model.len() == 7
+        && stands(&model, 4, "paint", paint, 4, &[link(5, 5, 1)])
+        && stands(&model, 5, "check", Kind::Router { turn: false }, 5, &rework)
+}
+
+// A model of format 2, with a class, an order and a stream.
+fn is_road(alloc: Global, text: &str) -> bool {
+    let Ok(model) = read_model(alloc, text.as_bytes()) else {
+        return false;
+    };
+    let cars = Kind::Source {
+        lo: 30,
+        hi: 90,
+        jobs: 1000,
+        class: 2,
+    };
+    let signal = Kind::Server {
+        servers: 1,
+        room: 25,
+        lo: 18,
+        hi: 45,
+        by_class: true,
+    };
+    let exits = [link(8, 10, 1), link(9, 12, 1)];
+    let ambulances = Kind::Source {
+        lo: 4000,
+        hi: 9000,
+        jobs: 12,
+        class: 1,
+    };
+    has_top(&model, 2, 5, 72_000, 11, 32_768)
+        && stands(&model, 2, "ambulances", ambulances, 40, &[link(3, 5, 1)])
+        && stands(&model, 1, "west", cars, 1, &[link(3, 5, 1)])
+        && stands(&model, 4, "first_signal", signal, 4, &[link(5, 5, 1)])
+        && stands(&model, 7, "fork", Kind::Router { turn: true }, 7, &exits)
+}
+
+#[test]
+fn model_files_are_read(rt: HostRuntime) {
+    assert!(rt; is_small(rt.alloc(), SMALL));
+    assert!(rt; is_small(rt.alloc(), INLINE));
+    assert!(rt; is_clinic(rt.alloc(), CLINIC));
+    assert!(rt; is_factory(rt.alloc(), FACTORY));
+    assert!(rt; is_road(rt.alloc(), ROAD));
+}
+
+// Sixty-four routers of sixteen links each, with a comment before them.
+fn full_text(alloc: Global, comment: u32) -> Result<Vec<u8>, AllocError> {
+    let mut text = repeated(alloc, b"lookahead = 2\nhorizon = 20\n#", b".", comment)?;
+    for i in 0..64u32 {
+        let head = format!(in alloc;
+            "\n[[station]]\nname = \"x{i}\"\nkind = \"router\"\nby = \"turn\"\n"
+        )?;
+        text.extend_from_slice(head.as_bytes())?;
+        let links = repeated(alloc, b"link = [", b"{ to = \"x7\", delay = 2 }, ", 16)?;
+        text.extend_from_slice(links.as_slice())?;
+        text.extend_from_slice(b"]")?;
+    }
+    Ok(text)
+}
+
+// How many stations of sixteen links the text states, 0 where it is refused.
+fn full_stations(alloc: Global, text: &[u8]) -> u32 {
+    let Ok(model) = read_model(alloc, text) else {
+        return 0;
+    };
+    let mut full = 0u32;
+    for s in 0..model.len() {
+        if model.station(s + 1).links.len() == 16 {
+            full = full.wrapping_add(1);
+        }
+    }
+    full
+}
+
+#[test]
+fn the_fullest_model_is_read(rt: HostRuntime) -> Result<(), Fail> {
+    let text = full_text(rt.alloc(), 1_000_000)?;
+    let start = Instant::now(&rt)?;
+    let full = full_stations(rt.alloc(), text.as_slice());
+    let took = start.elapsed(&rt)?;
+    assert_eq!(rt; full, 64);
+    assert!(rt; took < Duration::from_secs(1), "it took {took:?}");
+    Ok(())
+}
+
+// A text of so many pieces behind a front.
+fn repeated(alloc: Global, front: &[u8], piece: &[u8], times: u32) -> Result<Vec<u8>, AllocError> {
+    let mut text = Vec::from_slice(alloc, front)?;
+    for _ in 0..times {
+        text.extend_from_slice(piece)?;
+    }
+    Ok(text)
+}
+
+// So many keys, each with its number.
+fn many_keys(alloc: Global, count: u32) -> Result<Vec<u8>, AllocError> {
+    let mut text = Vec::new(alloc);
+    for i in 0..count {
+        let line = format!(in alloc; "k{i} = {i}\n")?;
+        text.extend_from_slice(line.as_bytes())?;
+    }
+    Ok(text)
+}
+
+#[test]
+fn hostile_texts_are_refused_soon(rt: HostRuntime) -> Result<(), Fail> {
+    let top = b"lookahead = 2\nhorizon = 20\n";
+    let brackets = repeated(rt.alloc(), b"x = ", b"[", 1_048_572)?;
+    let spaces = repeated(rt.alloc(), b"", b" ", 1_048_577)?;
+    let keys = many_keys(rt.alloc(), 50_000)?;
+    let tables = repeated(rt.alloc(), top.as_slice(), b"[[station]]\n", 80_000)?;
+    for (text, number, key) in [
+        (brackets, 2, ""),
+        (spaces, 1, ""),
+        (keys, 5, "k0"),
+        (tables, 12, ""),
+    ] {
+        let start = Instant::now(&rt)?;
+        let is = is_refused(rt.alloc(), text.as_slice(), number, 0, key);
+        let took = start.elapsed(&rt)?;
+        println!(rt; "refusal {number}: {took:?}")?;
+        assert!(rt; is, "refusal {number}");
+        assert!(rt; took < Duration::from_secs(1), "it took {took:?}");
+    }
+    Ok(())
+}
