@@ -341,15 +341,15 @@ impl Gate for Counts {
     fn before_call<R: Wait>(&self, _rt: &R, _analyst: u32, _k: u32) {}
 }
 
-/// A source whose windows have 600 messages, and a sink.
-const BUSY: &str = r#"lookahead = 600
-horizon = 3000
+/// A source whose windows have 9,000 messages, and a sink.
+const BUSY: &str = r#"lookahead = 9000
+horizon = 36000
 [[station]]
 name = "gate"
 kind = "source"
 every = [1, 1]
-jobs = 3000
-link = [{ to = "out", delay = 600 }]
+jobs = 36000
+link = [{ to = "out", delay = 9000 }]
 [[station]]
 name = "out"
 kind = "sink"
@@ -387,7 +387,7 @@ fn three_windows<G: Gate, L: Ledger, R: Threads + Wait + Sync>(
     let model = model_of(alloc, BUSY)?;
     let mut world = begun(alloc, &model)?;
     for _ in 0..3 {
-        world = window(rt, alloc, &crew, gate, world, 3000, &mut steps).ok()?;
+        world = window(rt, alloc, &crew, gate, world, 36000, &mut steps).ok()?;
     }
     Some(world)
 }
@@ -643,7 +643,7 @@ fn busy_windows_run_on_two_threads(rt: HostRuntime) -> Result<(), Fail> {
     };
     let ran = gate.workers.load(Ordering::SeqCst);
     assert!(rt;
-        front == 1801 && ran == 0b11,
+        front == 27001 && ran == 0b11,
         "front {}, workers {}",
         front,
         ran
