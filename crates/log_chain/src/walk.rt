@@ -1,5 +1,5 @@
 //! Walks along a log.
-ghost use Rattle.std.specs.Prelude.{◌≡◌, ◌++◌, ◌∷◌, [], ◌<◌, length, drop, IfSome, IfNone, option_map, slice_get};
+ghost use Rattle.std.specs.Prelude.{◌≡◌, ◌++◌, ◌∷◌, [], ◌<◌, ◌≤◌, length, drop, IfSome, IfNone, option_map, slice_get};
 ghost use Rattle.log_chain.specs.Blocks.{all_of, AreBlocks};
 ghost use Rattle.log_chain.specs.Segments.{entries_in};
 
@@ -44,14 +44,28 @@ impl<'a> Walk<'a> {
         ensures some { IfSome result (λ e. self.old ≡ e ∷ self.new) }
         ensures none { IfNone result ((self.old ≡ []) × (self.new ≡ [])) }
     {
-        let (packed, rest) = self.packed.split_first()?;
+        if self.packed.is_empty() {
+            return None;
+        }
+        Some(self.take())
+    }
+
+    /// The next entry of a walk that has one. A caller that knows that it is not at its end has no other case to think of
+    /// then.
+    pub fn take(&mut self) -> Entry
+        requires some { 1 ≤ length self.old }
+        ensures value { self.old ≡ result ∷ self.new }
+    {
+        let Some((packed, rest)) = self.packed.split_first() else {
+            unreachable!()
+        };
         let entry = unpack(packed, self.wide);
         if rest.is_empty() {
             *self = along(self.segments, self.blocks);
         } else {
             self.packed = rest;
         }
-        Some(entry)
+        entry
     }
 
     /// The key of the next entry, None exactly at the end. The entry itself is not unpacked.

@@ -139,9 +139,7 @@ fn put_most(cursor: &mut Cursor<'_>, model: &Model, names: &Names, bytes: &mut [
 {
     let mut at = 0;
     while bytes.len() - at >= 256 {
-        let Some(entry) = cursor.next() else {
-            unreachable!()
-        };
+        let entry = cursor.take();
         at = write_line(bytes, at, model, names, &entry);
     }
     at
@@ -184,9 +182,7 @@ fn put_last(cursor: &mut Cursor<'_>, model: &Model, names: &Names, bytes: &mut [
 {
     let mut at = at;
     while at < bytes.len() {
-        let Some(entry) = cursor.next() else {
-            unreachable!()
-        };
+        let entry = cursor.take();
         at = put_beside(bytes, at, model, names, &entry);
     }
 }

@@ -5,7 +5,7 @@ use Rattle.std.specs.Cmp.{ranks, IsTotalOrder}
 use Rattle.std.specs.Ordering.{MatchOrdering, nat_cmp, ordering_then, ordering_reverse}
 use Rattle.std.specs.declared.cmp.Ordering.{Ordering}
 use Rattle.std.specs.declared.cmp.Ordering.TheVariants.{Less, Equal, Greater}
-use Rattle.std.proofs.lemmas.Bool.{cases_eq}
+use Rattle.std.proofs.lemmas.Bool.{cases_eq, cases_lt}
 use Rattle.std.proofs.lemmas.Cmp.{on_total}
 use Rattle.std.proofs.lemmas.List.{length-set, get_or-set_same, get_or-set_other, get_or_past}
 use Rattle.sim_base.specs.declared.message.Msg.{Msg}
@@ -191,6 +191,21 @@ module _ (w : ℕ) (words : List ℕ) (ls : List (List E)) (reserved most : ℕ)
   -- nor where there is no such list
   pub none_past : length ls ≤ w % 64 → merge_all ls ≡ []
   none_past past = none_is (get_or_past ls (w % 64) [] past)
+
+  -- where an entry is left, the least word tells a list
+  pub turn_there : 1 ≤ length (merge_all ls) → w % 64 < length ls
+  turn_there some = elim (cases_lt (w % 64) (length ls)) [
+    | inl l ↦ l
+    | inr l ↦ let e = ap length (none_past l) in absurd (omega (arith, e, some))
+  ]
+
+  -- which has one
+  pub turn_has : 1 ≤ length (merge_all ls) → 1 ≤ length (get_or ls (w % 64) [])
+  turn_has some = by (get_or ls (w % 64) []) refl
+    where
+      by : (l : List E) → get_or ls (w % 64) [] ≡ l → 1 ≤ length l
+      by [] e = let n = ap length (none_is e) in absurd (omega (arith, n, some))
+      by (x ∷ xs) e = omega arith
 
 -- ---- IsCursor
 

@@ -1,5 +1,5 @@
 -- What a step of a cursor gives and leaves, by what the walk whose turn it is gave; and what an added list leaves.
-use Rattle.std.proofs.Common.{◌≡◌, ℕ, zero, suc, ◌+◌, ◌%◌, ◌<◌, List, [], ◌∷◌, ◌++◌, refl}
+use Rattle.std.proofs.Common.{◌≡◌, ℕ, zero, suc, ◌+◌, ◌%◌, ◌<◌, ◌≤◌, List, [], ◌∷◌, ◌++◌, refl}
 use Rattle.std.proofs.Common.{sym, ap, ◌∙◌, subst, arith, length, get_or, set, Option, Some, None}
 use Rattle.std.specs.Prelude.{IfSome, IfNone}
 use Rattle.std.proofs.lemmas.List.{get_or-set_same, set-get_or}
@@ -9,7 +9,7 @@ use Rattle.trace_cursor.specs.Tournament.{IsLeast}
 use Rattle.trace_cursor.specs.Words.{by_key, word_of, merge_all}
 use Rattle.trace_cursor.specs.Cursors.{CursorView, IsCursor}
 use Rattle.trace_cursor.proofs.Merged.{E, merge_more}
-use Rattle.trace_cursor.proofs.Popping.{fit_at, first_is, none_is, cursor_set, more_long}
+use Rattle.trace_cursor.proofs.Popping.{fit_at, first_is, none_is, turn_there, turn_has, cursor_set, more_long}
 
 abbrev seen : List E → ℕ → ℕ → CursorView
 seen left logs most = record { left = left; logs = logs; most = most }
@@ -79,6 +79,32 @@ module _ (ls : List (List E)) (words : List ℕ) (reserved most : ℕ) (c : IsCu
           let nothing : merge_all ls ≡ [] = none_is w words ls reserved most c h (at_first ∙ k.0) in
           let same : set ls i new ≡ ls = ap (set ls i) (k.1 ∙ sym (at_first ∙ k.0)) ∙ set-get_or ls i [] in
           (sym (ap (λ (u : CursorView). u.left) is) ∙ nothing, ap merge_all same ∙ nothing)
+
+-- ---- a cursor that has an entry
+
+module _ (ls : List (List E)) (words : List ℕ) (reserved most : ℕ) (c : IsCursor ls words reserved most)
+    (w : ℕ) (h : IsLeast w words) (v : CursorView) (is : view_of ls most ≡ v) (some : 1 ≤ length v.left) where
+  some_left : 1 ≤ length (merge_all ls)
+  some_left = let e = ap (λ (u : CursorView). length u.left) is in omega (arith, e, some)
+
+  -- the list whose turn it is is there
+  pub turn_is : w % 64 < length ls
+  turn_is = turn_there w words ls reserved most c h some_left
+
+  -- and has an entry
+  pub turn_some : (old : List E) → old ≡ get_or ls (w % 64) old → 1 ≤ length old
+  turn_some old at =
+      let e = ap length (at ∙ same_element ls (w % 64) old turn_is) in
+      let n = turn_has w words ls reserved most c h some_left in
+      omega (arith, e, n)
+
+  -- what it has left fits words
+  pub turn_fits : (old new here : List E) (e : E) → old ≡ get_or ls (w % 64) old → old ≡ e ∷ new
+      → here ≡ get_or (set ls (w % 64) new) (w % 64) here → FitWords here
+  turn_fits old new here e at taken is_here =
+      let all : FitWords (e ∷ new) = subst FitWords (sym (at ∙ same_element ls (w % 64) old turn_is) ∙ taken)
+      (fit_at ls (w % 64) c.fit) in
+      subst FitWords (sym (is_here ∙ get_or-set_same ls (w % 64) new here turn_is)) all.1
 
 -- what is left where a list was added
 pub added : (ls new : List (List E)) (most : ℕ) (l : List E) (v : CursorView) → view_of ls most ≡ v

@@ -1,5 +1,5 @@
 //! Cursors.
-ghost use Rattle.std.specs.Prelude.{◌≡◌, ◌∷◌, [], ◌+◌, ◌<◌, ◌≤◌, IfSome, IfNone, IfOk};
+ghost use Rattle.std.specs.Prelude.{◌≡◌, ◌∷◌, [], ◌+◌, ◌<◌, ◌≤◌, IfSome, IfNone, IfOk, length};
 ghost use Rattle.run_laws.specs.Merges.{merge};
 ghost use Rattle.log_chain.specs.Packing.{FitWords};
 ghost use Rattle.trace_cursor.specs.Words.{by_key, word_of};
@@ -85,6 +85,21 @@ impl<'a> Cursor<'a> {
             return None;
         }
         let entry = self.walks[i].next();
+        self.tree.set(i, word(&self.walks[i], place));
+        entry
+    }
+
+    /// The next entry of a cursor that has one. A caller that knows that it is not at its end has no other case to think of
+    /// then.
+    pub fn take(&mut self) -> Entry
+        requires some { 1 ≤ length self.old.left }
+        ensures value { self.old.left ≡ result ∷ self.new.left }
+        ensures logs { self.new.logs ≡ self.old.logs }
+        ensures most { self.new.most ≡ self.old.most }
+    {
+        let place = self.tree.least() % 64;
+        let i = place as usize;
+        let entry = self.walks[i].take();
         self.tree.set(i, word(&self.walks[i], place));
         entry
     }
