@@ -344,6 +344,7 @@ impl Gate for Counts {
 /// A source whose windows have 9,000 messages, and a sink.
 const BUSY: &str = r#"lookahead = 9000
 horizon = 36000
+limit = 65536
 [[station]]
 name = "gate"
 kind = "source"

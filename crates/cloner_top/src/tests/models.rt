@@ -328,6 +328,7 @@ link = [{ to = "spin", delay = 1 }]
 /// Two stations and windows of more than 8,000 messages: more than one thread steps them.
 pub const BUSY: &str = r#"lookahead = 9000
 horizon = 27000
+limit = 65536
 [[station]]
 name = "gate"
 kind = "source"
