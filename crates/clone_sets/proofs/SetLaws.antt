@@ -3,11 +3,11 @@ use Rattle.std.proofs.Common.{◌≡◌, ◌≢◌, inl, inr, ℕ, zero, suc, �
 use Rattle.std.proofs.Common.{◌||◌, ◌&&◌, not, Bool, true, false, Some, None, refl, sym, ap, ◌∙◌, subst, arith, eq-eqb}
 use Rattle.std.specs.Prelude.{bit_and, if◌then◌else◌}
 use Rattle.std.specs.Int.{bit_at}
-use Rattle.std.proofs.lemmas.Bool.{cases_eq, cases_order, ne_eqb, cases_lt, false≢true}
+use Rattle.std.proofs.lemmas.Bool.{cases_eq, ne_eqb, cases_lt, false≢true}
 use Rattle.std.proofs.lemmas.Option.{none-some}
 use Rattle.std.proofs.lemmas.Nat.Bits.{bit_at_and, bit_at_or, bit_at_xor, bit_at-lt, bit_at-zero}
 use Rattle.std.proofs.lemmas.Nat.Bits.{bit_at-pow_same, bit_at-pow_other, bit_at_above, same_from_bits}
-use Rattle.clone_sets.specs.Sets.{has, empty, one, union, meet, minus, with, without, met, IsFirst}
+use Rattle.clone_sets.specs.Sets.{has, empty, one, union, meet, minus, with, without, met}
 
 -- ---- one bit
 
@@ -127,15 +127,6 @@ pub none_from : (s k c : ℕ) → s < 2 ^ k → k ≤ c → has s c ≡ false
 unfolding has
 none_from s k c p q = ap (λ x. x == 1) (bit_at_above s k c p q)
 
--- two sets with the same clones below k are equal, where all their clones are below k
-pub same_members_below : (k a b : ℕ) → a < 2 ^ k → b < 2 ^ k → ((c : ℕ) → c < k → has a c ≡ has b c) → a ≡ b
-same_members_below k a b p q h =
-    same_members a b (λ c. elim (cases_lt c k) [
-      | inl l ↦ h c l
-      | inr m ↦ none_from a k c p m
-          ∙ sym (none_from b k c q m)
-    ])
-
 -- a set with no clone is empty
 pub empty_from_none : (s : ℕ) → ((c : ℕ) → has s c ≡ false) → s ≡ empty
 empty_from_none s h = same_members s empty (λ c. h c ∙ sym (has-empty c))
@@ -143,17 +134,6 @@ empty_from_none s h = same_members s empty (λ c. h c ∙ sym (has-empty c))
 -- a set below the number 2 ^ k has clones below k alone
 pub below_limit : (s k c : ℕ) → s < 2 ^ k → has s c ≡ true → c < k
 below_limit s k c p h = elim (cases_lt c k) [ inl l ↦ l | inr m ↦ absurd (false≢true (sym (none_from s k c p m) ∙ h)) ]
-
--- ---- the least clone
-
--- a set has one least clone at most
-pub first_unique : (s c d : ℕ) → IsFirst s c → IsFirst s d → c ≡ d
-first_unique s c d p q =
-    elim (cases_order c d) [
-      | inl e ↦ e
-      | inr (inl l) ↦ absurd (false≢true (sym (q.least c l) ∙ p.in_set))
-      | inr (inr l) ↦ absurd (false≢true (sym (p.least d l) ∙ q.in_set))
-    ]
 
 -- ---- what two sets have in common
 

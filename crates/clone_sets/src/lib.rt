@@ -31,8 +31,6 @@ pub mod laws;
 pub mod marks;
 pub mod members;
 pub mod set;
-#[cfg(test)]
-mod tests;
 
 pub use members::Members;
 pub use set::CloneSet;

@@ -34,33 +34,11 @@ use Rattle.cloner_top.specs.Texts.{IsUnread, all_fetches, fetches_of, text_of}
 
 -- ---- the texts of a study
 
--- why the model's text was not read is why the study is not read
-pub no_model_text : (rose : Type 0) (source : Source) (files : Option Files) (r : Refusal)
-    → IsNotRead rose source Model files r → IsUnreadStudy rose source files r
-no_model_text rose source files OutOfMemory h = tt
-no_model_text rose source files Usage h = absurd h
-no_model_text rose source files NoModel h = h
-no_model_text rose source files NoScript h = absurd h
-no_model_text rose source files (Stopped stop) h = absurd h
-no_model_text rose source files CannotWrite h = absurd h
-
 unread_on : (a b c : ℕ) (source : Source) (files : Option Files) → a ≤ b → IsUnread (Rose b c) source Script files
     → IsUnread (Rose a c) source Script files
 unread_on a b c (named m s) files le (inl rose) = inl (omega (arith, rose, le))
 unread_on a b c (named m s) files le (inr lacks) = inr lacks
 unread_on a b c (made n) files le h = h
-
--- where the model's text is a model, why the script's text was not read is why the study is not read
-pub no_script_text : (a b c : ℕ) (source : Source) (files more : Option Files) (r : Refusal) → a ≤ b → more ≡ files
-    → HasModel source files
-    → IsNotRead (Rose b c) source Script more r → IsUnreadStudy (Rose a c) source files r
-no_script_text a b c source files more OutOfMemory le same has h = tt
-no_script_text a b c source files more Usage le same has h = absurd h
-no_script_text a b c source files more NoModel le same has h = absurd h
-no_script_text a b c source files more NoScript le same has h =
-    (has, unread_on a b c source files le (subst (λ f. IsUnread (Rose b c) source Script f) same h))
-no_script_text a b c source files more (Stopped stop) le same has h = absurd h
-no_script_text a b c source files more CannotWrite le same has h = absurd h
 
 bad_model_stops : (source : Source) (files : Option Files) (m : List ℕ) (stop : Stop)
     → IsText (text_of source Model files) m → IsBadModel m stop → StopsEarly source files stop
@@ -140,11 +118,6 @@ twice (named m s) (Some x) b c h k = (rw h at k)
 pub fetched_twice : (source : Source) (a b c : Option ℕ) → AreCounted (fetches_of source) a b
     → AreCounted (fetches_of source) b c → AreCounted (all_fetches source) a c
 fetched_twice = twice
-
--- one text takes no more fetches than both
-pub fetched_once : (source : Source) → fetches_of source ≤ all_fetches source
-fetched_once (named m s) = omega arith
-fetched_once (made n) = omega arith
 
 -- ---- endings
 

@@ -122,13 +122,3 @@ module _ (words : Option Asked) (before after : Outside) where
     few = omega arith;
     calls = subst (λ i. AreCounted 0 before.inputs.calls i.calls) (sym same) (not_counted before.inputs.calls);
   }
-
-  -- no more was fetched than what is asked takes
-  pub few_fetches : (a : Asked) (n : ℕ) → words ≡ Some a → n ≤ all_fetches a.source
-      → AreCounted n before.inputs.calls after.inputs.calls
-      → AreFewFetches words before after
-  few_fetches a n is few calls = record {
-    fetches = n;
-    few = subst (λ w. n ≤ fetches_for w) (sym is) few;
-    calls = calls;
-  }

@@ -113,16 +113,6 @@ EachKnowsDealt-idle x n (u ∷ us) each none =
 
 -- ---- NumbersOnce
 
--- the rule holds at first, of an empty deque and one seat that has every part and has taken nothing
-pub NumbersOnce-begins : NumbersOnce [] (seat_view 1024 0 [] ∷ [])
-NumbersOnce-begins = (0, refl, (λ x. grind arith), each)
-  where
-    each : EachKnowsDealt 0 (seat_view 1024 0 [] ∷ [])
-    each zero v e =
-        subst (λ (y : SeatView). KnowsDealt 0 y) (some-injective (seat_view 1024 0 []) v e)
-        ((λ none. absurd (omega (arith, none))), λ _. refl)
-    each (suc j) v e = absurd (some-ne-none v (sym e))
-
 -- the rule stays when a seat with a part takes one number, which then joins those that it has taken
 pub NumbersOnce-takes : (port : ℕ) (v : SeatView) → 0 < v.parts → Takes NumbersOnce port v 1 (TakesNumbers v)
 NumbersOnce-takes port v part (x ∷ []) queue views _ _ h at =

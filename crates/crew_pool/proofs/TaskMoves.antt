@@ -25,7 +25,6 @@ use Rattle.crew_pool.specs.declared.task_deque.SeatView.{SeatView}
 use Rattle.crew_pool.specs.Deque.{seat_view, NumbersOnce, IsComplete, numbers, IsItemAt, TasksOnce, TakesTasks}
 use Rattle.crew_pool.specs.Tasks.{EachReady, AnswersTo}
 use Rattle.crew_pool.proofs.DequeRule.{
-  NumbersOnce-begins,
   NumbersOnce-takes,
   NumbersOnce-deals,
   NumbersOnce-forks,
@@ -35,10 +34,6 @@ use Rattle.crew_pool.proofs.DequeRule.{
 use Rattle.crew_pool.proofs.Pairs.{numbers-push, EachPair-push}
 
 -- ---- TasksOnce
-
--- of any items the rule holds at first, where the deque is empty and one seat has every part
-pub TasksOnce-begins : {X : Type 0} (items : List X) → TasksOnce items [] (seat_view 1024 0 [] ∷ [])
-TasksOnce-begins items = (NumbersOnce-begins, tt)
 
 -- the rule stays when a seat with a part takes one task, which has the item of its number
 pub TasksOnce-takes : {X : Type 0} (items : List X) (port : ℕ) (v : SeatView) → 0 < v.parts

@@ -1,17 +1,14 @@
 -- A legal journal goes on.
-use Rattle.std.proofs.Common.{◌≡◌, ◌≤◌, ◌<◌, ◌↔◌, List, ◌++◌, ◌∷◌, [], ℕ, subst, sym}
-use Rattle.std.proofs.Common.{arith, length, Option, Some, None, Result, Ok, Err, OnOk, OnErr}
+use Rattle.std.proofs.Common.{◌≡◌, List, ◌++◌, ◌∷◌, [], ℕ, subst, sym}
+use Rattle.std.proofs.Common.{Option, Some, None, Result, Ok, Err, OnOk, OnErr}
 use Rattle.decision_book.specs.Books.{BookView, IsTold}
 use Rattle.sim_base.specs.declared.decision.Decision.{Decision}
 use Rattle.net_model.specs.Net.{Net}
 use Rattle.decision_book.specs.declared.call.Call.{Call}
 use Rattle.decision_book.specs.declared.call.Reply.{Reply}
-use Rattle.decision_book.specs.declared.call.Reply.TheVariants.{Full}
-use Rattle.decision_book.specs.Journal.{Event, raised, asked, after, calls_of}
-use Rattle.decision_book.specs.Replies.{reply}
+use Rattle.decision_book.specs.Journal.{Event, raised, asked}
 use Rattle.decision_book.proofs.Growing.{each_push}
 use Rattle.decision_desk.specs.Legal.{IsNext, GoesOn}
-use Rattle.decision_desk.specs.Passes.{Asked}
 
 -- a journal whose fronts are the next ones goes on so with one call more
 pub goes_on_asked : (net : Net) (es : List Event) (c : Call) → GoesOn net es → GoesOn net (es ++ asked c ∷ [])
@@ -23,25 +20,6 @@ pub goes_on_told : (old new : BookView) (caller : ℕ) (d : Decision) (r : Reply
 goes_on_told old new caller d r None h t = subst (λ (b : BookView). GoesOn b.net b.events) (sym t.1) h
 goes_on_told old new caller d r (Some c) h t = subst (λ (b : BookView). GoesOn b.net b.events) (sym t.1.new_is)
     (goes_on_asked old.net old.events c h)
-
--- what is told of a call, in the desk's words
-pub asked_told : (old new : BookView) (caller : ℕ) (d : Decision) (r : Reply) (told : Option Call)
-    → r ≡ reply (after old.net old.events) d → (r ≡ Full) ↔ (4096 ≤ length (calls_of old.events))
-    → IsTold old caller d r told new → Asked old caller d r told new
-asked_told old new caller d r None is full t = (is, (t.0, full.0 t.0, t.1))
-asked_told old new caller d r (Some c) is full t = (
-  is,
-  record {
-    is = t.1.call_is;
-    new_is = t.1.new_is;
-    room = few (length (calls_of old.events))
-        (λ h. t.0 (full.1 h));
-    not_full = t.0;
-  },
-)
-  where
-    few : (n : ℕ) → (4096 ≤ n → ⊥) → n < 4096
-    few n not = omega (arith, not)
 
 -- a journal whose fronts are the next ones goes on so with one front more that is the next
 pub goes_on_raised : (net : Net) (es : List Event) (f : ℕ) → IsNext net es (raised f) → GoesOn net es

@@ -36,8 +36,6 @@ pub mod examples;
 pub mod laws;
 mod looked;
 mod pieces;
-#[cfg(test)]
-mod tests;
 mod text;
 
 pub use looked::Looked;

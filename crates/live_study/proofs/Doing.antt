@@ -1,6 +1,6 @@
 -- What one act more does to what was asked and looked at.
 use Rattle.std.proofs.Common.{◌≡◌, ℕ, ◌+◌, ◌<◌, ◌≤◌, List, [], ◌∷◌, ◌++◌, length, map, Option, Some}
-use Rattle.std.proofs.Common.{None, IfSome, IfNone, option_map, position, take, get_or, refl, sym, ap, ap₂, ◌∙◌, subst, arith, length-append, append-nil}
+use Rattle.std.proofs.Common.{None, IfSome, option_map, position, take, get_or, sym, ap, ap₂, ◌∙◌, subst, arith, length-append, append-nil}
 use Rattle.std.specs.List.{AllByRecursion}
 use Rattle.std.proofs.lemmas.List.{length-map, map-append, take_more}
 use Rattle.std.proofs.lemmas.List.Concat.{flat_map-append}
@@ -21,7 +21,7 @@ use Rattle.phys_proc.specs.Racks.{RackView}
 use Rattle.phys_proc.specs.declared.rack.Glance.{Glance}
 use Rattle.shelf.specs.Racks.{AreLegal, IsGlance, latest}
 use Rattle.shelf.proofs.Legals.{front-later, has_later}
-use Rattle.shelf.proofs.Prefixes.{prefix_self, prefix_trans}
+use Rattle.shelf.proofs.Prefixes.{prefix_trans}
 use Rattle.journal_text.specs.declared.looked.Looked.{Looked}
 use Rattle.live_study.specs.declared.analyst.Analyst.{Analyst}
 use Rattle.live_study.specs.Asking.{AskedSo, HasAsked, IsSame, decided}
@@ -99,20 +99,6 @@ never_fall-with [] l rise later = (tt, tt)
 never_fall-with (k ∷ ls) l rise later =
     (all_push (IsNoEarlier k) ls l rise.0 later.0, never_fall-with ls l rise.1 later.1)
 
--- an analyst that decided has looked at what it had
-pub looked_over : (net : Net) (acts : List Act) (d : Decision) (old new : Analyst) (read : List RackView)
-    → HasLooked net acts (old, read) → new.looks ≡ old.looks → new.number ≡ old.number
-    → HasLooked net (acts ++ Decide d ∷ []) (new, read)
-looked_over net acts d old new read h e n =
-    let items : new.looks.items ≡ old.looks.items = ap (λ r. r.items) e in
-    record {
-      asked = ap (map asked_for) items ∙ h.asked ∙ ap (λ x. looks_in x acts) (sym n)
-          ∙ sym (looks_more new.number acts (Decide d) ∙ append-nil (looks_in new.number acts));
-      read = subst (λ ls. AllByRecursion (IsRead net read) ls) (sym items) h.read;
-      rise = subst NeverFall (sym items) h.rise;
-      there = h.there;
-    }
-
 asked_is : (l : Looked) (x : ℕ) (who station : List ℕ) → l.analyst ≡ x → l.who ≡ who → l.station ≡ station
     → asked_for l ≡ (x, who, station)
 asked_is l x who station e f g = λ i. (e i, f i, g i)
@@ -181,10 +167,6 @@ same_on a b c s t = record {
   room = t.room ∙ s.room;
 }
 
--- an analyst is the same as itself
-pub same_self : (a : Analyst) → IsSame a a
-same_self a = record { todo = refl; caller = refl; number = refl; room = refl }
-
 -- ---- one look
 -- stations are numbered from 1
 pub number_low : (name : List ℕ) (net : Net) (s : ℕ) → number_of name net ≡ Some s → 1 ≤ s
@@ -202,29 +184,6 @@ none_seen : (n : Option ℕ) (most : ℕ) (who : List ℕ) (read : List RackView
     → IfSome o (λ g. (s : ℕ) × (n ≡ Some s) × (s ≤ most) × WasRead read s who g)
 none_seen n most who read None e = tt
 none_seen n most who read (Some g) e = absurd (cc)
-
--- where the model has no such station, nothing is seen
-pub seen_nowhere : (net : Net) (read : List RackView) (l : Looked) → l.glance ≡ None → number_of l.station net ≡ None
-    → IsRead net read l
-seen_nowhere net read l e n = record {
-  unknown = subst (λ o. IfNone o (number_of l.station net ≡ None)) (sym e) n;
-  known = none_seen (number_of l.station net) (length net.sites) l.who read l.glance e;
-}
-
--- a glance of the last rack of the station
-pub seen_there : (net : Net) (read : List RackView) (l : Looked) (g : Glance) (s : ℕ) (r : RackView)
-    → l.glance ≡ Some g → number_of l.station net ≡ Some s → s ≤ length net.sites → latest s read ≡ Some r
-    → IsGlance r l.who g → IsRead net read l
-seen_there net read l g s r e n high last is = record {
-  unknown = subst (λ o. IfNone o (number_of l.station net ≡ None)) (sym e) tt;
-  known = subst (λ o. IfSome o (λ x. (t : ℕ) × (number_of l.station net ≡ Some t) × (t ≤ length net.sites)
-      × WasRead read t l.who x)) (sym e) (
-        s,
-        n,
-        high,
-        record { before = read; begins = prefix_self read; rack = r; last = last; glance = is },
-      );
-}
 
 -- ---- a look and those before it
 pub none_later : (k l : Looked) → l.glance ≡ None → IsNoEarlier k l

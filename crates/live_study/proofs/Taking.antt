@@ -1,47 +1,17 @@
 -- The accepted calls of a turn are calls that a world takes at its front.
-use Rattle.std.proofs.Common.{◌≡◌, ⊎_elim, ℕ, ◌+◌, ◌==◌, refl, sym, ap, ◌∙◌, subst, fold, Bool}
-use Rattle.std.proofs.Common.{true, false, List, [], ◌∷◌, ◌++◌, map, Option, Some, None, option_map}
-use Rattle.std.specs.Prelude.{nat_le}
-use Rattle.sim_base.specs.Clones.{clone_at, place_of}
-use Rattle.sim_base.specs.Decisions.{subject}
+use Rattle.std.proofs.Common.{◌≡◌, ⊎_elim, ◌+◌, refl, sym, ap, ◌∙◌, subst, fold}
+use Rattle.std.proofs.Common.{List, [], ◌∷◌, ◌++◌, map}
 use Rattle.sim_base.specs.declared.decision.Decision.{Decision}
-use Rattle.sim_base.specs.declared.decision.Decision.TheVariants.{Fork, Set, End}
 use Rattle.net_model.specs.Net.{Net}
 use Rattle.decision_book.specs.Journal.{Event, Situation, after, after_event, asked, clones_after, if_accepted, opening}
-use Rattle.decision_book.specs.Replies.{clone_rows, first_row, reply, row, rows}
+use Rattle.decision_book.specs.Replies.{reply}
 use Rattle.decision_book.specs.Right.{EachAfter, IsRight, MayFollow}
 use Rattle.decision_book.specs.Scripts.{accepted_of, if_taken}
 use Rattle.decision_book.specs.declared.call.Call.{Call}
-use Rattle.decision_book.specs.declared.call.Reply.{Reply}
-use Rattle.decision_book.specs.declared.call.Reply.TheVariants.{Accepted, Full, Closed, Ended}
-use Rattle.decision_book.specs.declared.call.TheConstants.{MOST_CALLS}
+use Rattle.decision_book.specs.declared.call.Reply.TheVariants.{Accepted}
 use Rattle.decision_book.proofs.JournalScripts.{Passes, each_later, fold_append, kind_of}
-use Rattle.world_core.specs.Taking.{AreAccepted, IsAccepted, clones_after_calls, situation}
-
--- ---- a journal that is not full
--- the rows of a decision do not depend on how many calls there were
-rows_same : (s : Situation) (c : ℕ) (d : Decision) → rows s c d ≡ rows (situation s.net s.clones s.front) c d
-rows_same s c (Fork new old) = refl
-rows_same s c (Set who at station change) = refl
-rows_same s c (End who at) = refl
-
-clone_rows_same : (s : Situation) (d : Decision) (place : Option ℕ)
-    → clone_rows s d place ≡ clone_rows (situation s.net s.clones s.front) d place
-clone_rows_same s d None = refl
-clone_rows_same s d (Some c) = ap (λ r. option_map (λ at. Ended at) (clone_at s.clones c).end ∷ r) (rows_same s c d)
-
-not_full : (b : Bool) (more : List (Option Reply)) → first_row (row b Full ∷ more) ≡ Accepted
-    → first_row more ≡ Accepted
-not_full true more h = absurd (cc)
-not_full false more h = h
-
--- what was accepted is accepted in a journal that is not full
-accepted_at : (s : Situation) (d : Decision) → reply s d ≡ Accepted → IsAccepted s.net s.clones s.front d
-accepted_at s d h =
-    ap (λ r. first_row (row (s.front == s.net.horizon) Closed ∷ r))
-    (sym (clone_rows_same s d (place_of (subject d) s.clones)))
-    ∙ not_full (nat_le MOST_CALLS s.calls)
-    (row (s.front == s.net.horizon) Closed ∷ clone_rows s d (place_of (subject d) s.clones)) h
+use Rattle.world_core.specs.Taking.{AreAccepted, clones_after_calls}
+use Rattle.world_core.proofs.Accepted.{accepted_at}
 
 -- ---- calls behind a journal
 -- the calls are ones that a world takes, and it has the clones that they leave then

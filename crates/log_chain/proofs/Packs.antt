@@ -10,7 +10,7 @@ use Rattle.sim_base.specs.declared.entry.Entry.{Entry}
 use Rattle.sim_base.specs.declared.entry.Line.{Line}
 use Rattle.sim_base.specs.declared.message.Msg.{Msg}
 use Rattle.log_chain.specs.Packing.{unpacked, is_wide, entry_of, entries_of, FitsWord}
-use Rattle.log_chain.specs.Packing.{IsNarrow, IsPlaced, ArePlaced, FitWords}
+use Rattle.log_chain.specs.Packing.{IsPlaced, ArePlaced, FitWords}
 use Rattle.log_chain.specs.declared.packed.Packed.{Packed}
 
 -- an entry, out of the side list or not
@@ -30,12 +30,6 @@ entry_other : (b : Bool) (wide other : List (Entry Msg Line)) (n : ℕ) (e : Ent
     → picked b wide n e ≡ picked b other n e
 entry_other true wide other n e h = let below : n < 0 = h refl in absurd (omega arith)
 entry_other false wide other n e h = refl
-
--- an entry that fits is its packed form's
-entry_narrow : (b : Bool) (wide : List (Entry Msg Line)) (n : ℕ) (e : Entry Msg Line) → b ≡ false
-    → picked b wide n e ≡ e
-entry_narrow true wide n e h = absurd (false≢true (sym h))
-entry_narrow false wide n e h = refl
 
 -- the last of the side list
 entry_last : (b : Bool) (wide : List (Entry Msg Line)) (n : ℕ) (e x : Entry Msg Line) → b ≡ true → n ≡ length wide
@@ -67,14 +61,6 @@ entries_other wide other (p ∷ ps) h =
     ap₂ (λ e es. e ∷ es) (entry_other (is_wide p.msg.kind) wide other p.msg.count (unpacked p) h.0.wide)
     (entries_other wide other ps h.1)
 
--- the entries with one more that fits
-pub entries_push : (wide : List (Entry Msg Line)) (ps : List Packed) (p : Packed) (e : Entry Msg Line)
-    → unpacked p ≡ e → IsNarrow p.msg → entries_of wide (ps ++ p ∷ []) ≡ entries_of wide ps ++ e ∷ []
-entries_push wide ps p e is fits =
-    entries_append wide ps (p ∷ [])
-    ∙ ap (λ x. entries_of wide ps ++ x ∷ [])
-    (entry_narrow (is_wide p.msg.kind) wide p.msg.count (unpacked p) fits.narrow ∙ is)
-
 -- the entries with one more of the side list
 pub entries_push_wide : (wide : List (Entry Msg Line)) (ps : List Packed) (p : Packed) (e : Entry Msg Line)
     → ArePlaced (length wide) ps → is_wide p.msg.kind ≡ true → p.msg.count ≡ length wide
@@ -103,10 +89,6 @@ placed_more n m (p ∷ ps) l h = (
   record { wide = λ e. let below : p.msg.count < n = h.0.wide e in omega arith; narrow = h.0.narrow },
   placed_more n m ps l h.1,
 )
-
--- an entry that fits
-pub narrow_placed : (n : ℕ) (p : Packed) → IsNarrow p.msg → IsPlaced n p
-narrow_placed n p fits = record { wide = λ e. absurd (false≢true (sym fits.narrow ∙ e)); narrow = λ _. fits.word }
 
 -- one of the side list
 pub wide_placed : (n : ℕ) (p : Packed) → is_wide p.msg.kind ≡ true → p.msg.count < n → IsPlaced n p

@@ -3,7 +3,6 @@ use Rattle.std.proofs.Common.{◌≡◌, ℕ, zero, suc, ◌+◌, ◌*◌, ◌<�
 use Rattle.std.proofs.Common.{refl, sym, ap, ◌∙◌, arith, append_assoc, append-nil, length-append}
 use Rattle.std.specs.Prelude.{Result, Ok, Err, OnOk, OnErr}
 use Rattle.std.proofs.lemmas.List.{drop-append-le}
-use Rattle.std.proofs.lemmas.Grind.{flat_map-append}
 use Rattle.std.proofs.Math.Seq.{drop-append-add}
 use Rattle.log_chain.specs.Blocks.{all_of, AreBlocks}
 
@@ -35,12 +34,7 @@ module _ {X : Type 0} where
   blocks_push_last (x ∷ y ∷ z ∷ zs) (suc (suc i)) c h long small =
       (h.0, blocks_push_last (y ∷ z ∷ zs) (suc i) c h.1 (omega (arith, long)) small)
 
-  -- to a new block
-  pub all_push_new : (bs : List (List X)) (b : List X) (e : X) → b ≡ e ∷ []
-      → all_of (bs ++ b ∷ []) ≡ all_of bs ++ e ∷ []
-  all_push_new bs b e new = flat_map-append (λ x. x) bs (b ∷ []) ∙ ap (λ l. all_of bs ++ l) (append-nil b ∙ new)
-
-  -- where the last one is full, or there is none
+  -- to a new block, where the last one is full or there is none
   pub blocks_push_new : (bs : List (List X)) (b : List X) (e : X) → AreBlocks bs → b ≡ e ∷ []
       → ((i : ℕ) (l : List X) → length bs ≡ i + 1 → l ≡ get_or bs i l → 64 ≤ length l) → AreBlocks (bs ++ b ∷ [])
   blocks_push_new [] b e h new full = omega (arith, ap length new)

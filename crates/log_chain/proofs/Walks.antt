@@ -1,10 +1,9 @@
 -- A walk that begins in a segment, and one that goes on.
 use Rattle.std.proofs.Common.{◌≡◌, ℕ, suc, ◌+◌, ◌-◌, ◌*◌, ◌<◌, ◌≤◌, List, ◌++◌, length}
 use Rattle.std.proofs.Common.{take, drop, get_or, sym, ap, ap₂, ◌∙◌, arith, append_assoc, add-one}
-use Rattle.std.specs.Prelude.{flat_map}
 use Rattle.std.specs.declared.sync.Arc.{Arc}
 use Rattle.std.proofs.lemmas.List.{drop-append-le, drop-map, length-map}
-use Rattle.std.proofs.Math.Seq.{drop-append-add, drop-cons}
+use Rattle.std.proofs.Math.Seq.{drop-append-add}
 use Rattle.log_chain.specs.Segments.{entries_of_segment, entries_in}
 use Rattle.sim_base.specs.declared.entry.Entry.{Entry}
 use Rattle.sim_base.specs.declared.entry.Line.{Line}
@@ -31,12 +30,6 @@ module _ {X Z : Type 0} where
       ∙ (drop-append-add before ((entries_of_segment s ++ behind) ++ rest) left
       ∙ (ap (λ l. drop left l) (append_assoc (entries_of_segment s) behind rest)
       ∙ drop-append-le left (entries_of_segment s) (behind ++ rest) within))))
-
--- the elements that a list's elements stand for, from one on
-pub flat_step : {A B : Type 0} (f : A → List B) (xs : List A) (i : ℕ) (x : A) → i < length xs → x ≡ get_or xs i x
-    → flat_map f (drop i xs) ≡ f x ++ flat_map f (drop (i + 1) xs)
-flat_step f xs i x there here =
-    rw add-one (ap (flat_map f) (drop-cons xs i x there) ∙ ap (λ y. f y ++ flat_map f (drop (suc i) xs)) (sym here))
 
 -- the elements behind a first list
 pub drop_behind : {A : Type 0} (xs ys : List A) (at n : ℕ) → at ≡ length xs + n → drop at (xs ++ ys) ≡ drop n ys

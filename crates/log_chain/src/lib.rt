@@ -34,8 +34,6 @@ pub mod log;
 mod packed;
 mod run;
 mod segments;
-#[cfg(test)]
-mod tests;
 pub mod walk;
 
 pub use log::Log;

@@ -74,6 +74,7 @@ pub fn pack(entry: &Entry) -> Option<Packed>
 }
 
 /// The entry of a packed one; `wide` is the side list.
+#[inline(always)]
 pub fn unpack(packed: &Packed, wide: &[Entry]) -> Entry
     ensures value { result ≡ entry_of wide.now packed.now }
 {
@@ -88,6 +89,7 @@ pub fn unpack(packed: &Packed, wide: &[Entry]) -> Entry
 }
 
 /// The key of an entry, read without the rest of it.
+#[inline(always)]
 pub fn key_at(packed: &Packed, wide: &[Entry]) -> Key
     ensures value { result ≡ (entry_of wide.now packed.now).msg.key }
 {
@@ -125,6 +127,7 @@ pub fn in_side_list(place: u32) -> Packed
     }
 }
 
+#[inline(always)]
 fn is_wide(msg: &PackedMsg) -> bool
     ensures value { result ≡ is_wide msg.now.kind }
 {
@@ -239,6 +242,7 @@ fn with_counts(kind: LineKind, first: u64, second: u64, third: u64, busy: u64) -
     }
 }
 
+#[inline(always)]
 fn unpack_key(msg: &PackedMsg) -> Key
     ensures value { result ≡ key_of msg.now }
 {
@@ -249,6 +253,7 @@ fn unpack_key(msg: &PackedMsg) -> Key
     }
 }
 
+#[inline(always)]
 fn unpack_msg(msg: &PackedMsg) -> Msg
     ensures value { result ≡ msg_of msg.now }
 {
@@ -259,6 +264,7 @@ fn unpack_msg(msg: &PackedMsg) -> Msg
     }
 }
 
+#[inline(always)]
 fn unpack_payload(msg: &PackedMsg) -> Payload
     ensures value { result ≡ (msg_of msg.now).payload }
 {
@@ -280,6 +286,7 @@ fn unpack_payload(msg: &PackedMsg) -> Payload
     }
 }
 
+#[inline(always)]
 fn set(param: Param, values: &Job) -> Payload
     ensures value { result ≡ set_of param values.now }
 {
@@ -290,6 +297,7 @@ fn set(param: Param, values: &Job) -> Payload
     })
 }
 
+#[inline(always)]
 fn unpack_line(line: &PackedLine) -> Line
     ensures value { result ≡ line_of line.now }
 {

@@ -19,6 +19,8 @@ pub struct Walk<'a> {
     // the parts after it
     segments: &'a [Segment],
     blocks: &'a [Run],
+    // a byte of an entry some places on: reading it early brings its memory near
+    ahead: u8,
 }
 
 impl<'a> Model for Walk<'a> {
@@ -40,6 +42,7 @@ impl<'a> Model for Walk<'a> {
 
 impl<'a> Walk<'a> {
     /// The next entry, None exactly at the end.
+    #[inline(always)]
     pub fn next(&mut self) -> Option<Entry>
         ensures some { IfSome result (λ e. self.old ≡ e ∷ self.new) }
         ensures none { IfNone result ((self.old ≡ []) × (self.new ≡ [])) }
@@ -50,8 +53,8 @@ impl<'a> Walk<'a> {
         Some(self.take())
     }
 
-    /// The next entry of a walk that has one. A caller that knows that it is not at its end has no other case to think of
-    /// then.
+    /// The next entry of a walk that is not at its end.
+    #[inline(always)]
     pub fn take(&mut self) -> Entry
         requires some { 1 ≤ length self.old }
         ensures value { self.old ≡ result ∷ self.new }
@@ -60,6 +63,9 @@ impl<'a> Walk<'a> {
             unreachable!()
         };
         let entry = unpack(packed, self.wide);
+        if let Some(later) = rest.get(4) {
+            self.ahead = later.msg.sender;
+        }
         if rest.is_empty() {
             *self = along(self.segments, self.blocks);
         } else {
@@ -69,6 +75,7 @@ impl<'a> Walk<'a> {
     }
 
     /// The key of the next entry, None exactly at the end. The entry itself is not unpacked.
+    #[inline(always)]
     pub fn key(&self) -> Option<Key>
         ensures value { result ≡ option_map (λ e. e.msg.key) (slice_get self.now 0) }
     {
@@ -89,6 +96,7 @@ pub fn along<'a>(segments: &'a [Segment], blocks: &'a [Run]) -> Walk<'a>
                 wide,
                 segments: &segments[i + 1..],
                 blocks,
+                ahead: 0,
             };
         }
     }
@@ -106,6 +114,7 @@ fn along_blocks<'a>(blocks: &'a [Run]) -> Walk<'a>
                 wide,
                 segments: &[],
                 blocks: &blocks[i + 1..],
+                ahead: 0,
             };
         }
     }
@@ -126,6 +135,7 @@ pub fn from_segment<'a>(segments: &'a [Segment], blocks: &'a [Run], at: usize) -
                 wide,
                 segments: &segments[i + 1..],
                 blocks,
+                ahead: 0,
             };
         }
         left -= packed.len();
@@ -152,6 +162,7 @@ pub fn from_block<'a>(blocks: &'a [Run], at: usize) -> Walk<'a>
         wide,
         segments: &[],
         blocks: &blocks[i + 1..],
+        ahead: 0,
     }
 }
 
@@ -163,5 +174,6 @@ fn at_end<'a>() -> Walk<'a>
         wide: &[],
         segments: &[],
         blocks: &[],
+        ahead: 0,
     }
 }

@@ -27,8 +27,6 @@ pub mod examples;
 mod model;
 mod script;
 mod study;
-#[cfg(test)]
-mod tests;
 
 pub use model::model_text;
 pub use script::script_text;

@@ -28,8 +28,6 @@
 pub mod groups;
 pub mod laws;
 pub mod parts;
-#[cfg(test)]
-mod tests;
 
 pub use groups::group;
 pub use parts::{Part, cut};

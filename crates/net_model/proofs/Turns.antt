@@ -25,11 +25,6 @@ abbrev pub after : {A : Type 0} → List A → Result (List A) ModelFault → Re
 after done (Ok rest) = Ok (done ++ rest)
 after done (Err e) = Err e
 
--- behind nothing, the rest is as it is read
-pub after_none : {A : Type 0} (r : Result (List A) ModelFault) → after [] r ≡ r
-after_none (Ok rest) = refl
-after_none (Err e) = refl
-
 -- where no rest is left, what is there is all
 pub after_all : {A : Type 0} (done : List A) → after done (Ok []) ≡ Ok done
 after_all done = ap Ok (append-nil done)
@@ -126,21 +121,6 @@ drafts_step format tables done new i table draft whole lt is read push so_far =
     (as_draft draft) (sym read)
     ∙ ap (λ drafts. after drafts (drafts_of format drafts (i + 1 + 1) (map view (drop (i + 1) tables))))
     (sym (ap (map as_draft) push ∙ map-append as_draft done (draft ∷ [])))))
-
--- a station that is refused where it is read gives its fault to the whole
-pub drafts_refused : (format : ℕ) (tables : List Value) (done : List Draft) (i : ℕ) (table : Value) (e : ModelFault)
-    (whole : Result (List DraftSite) ModelFault)
-    → i < length tables → table ≡ get_or tables i table
-    → Err e ≡ draft_of format (map as_draft done) (i + 1) (view table)
-    → whole ≡ after (map as_draft done) (drafts_of format (map as_draft done) (i + 1) (map view (drop i tables)))
-    → whole ≡ Err e
-drafts_refused format tables done i table e whole lt is read so_far =
-    let here : map view (drop i tables) ≡ view table ∷ map view (drop (i + 1) tables) =
-    mapped_drop view tables i table lt ∙ ap (λ d. view d ∷ map view (drop (i + 1) tables)) (sym is) in
-    so_far
-    ∙ (ap (λ ds. after (map as_draft done) (drafts_of format (map as_draft done) (i + 1) ds)) here
-    ∙ after_refused (map as_draft done) (draft_of format (map as_draft done) (i + 1) (view table))
-    (λ d. drafts_of format (map as_draft done ++ d ∷ []) (i + 1 + 1) (map view (drop (i + 1) tables))) e (sym read))
 
 -- the receiver of a link, and its kind
 kind_read : (drafts : List Draft) (i : ℕ) (draft : Draft) → i < length drafts → draft ≡ get_or drafts i draft

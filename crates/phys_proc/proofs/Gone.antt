@@ -37,12 +37,6 @@ pub not_gone : (b g later : Bool) → g ≡ not later → (b && not g) ≡ (b &&
 not_gone b g true e = ap (λ x. b && not x) e
 not_gone b g false e = ap (λ x. b && not x) e
 
--- one listed end more was looked at
-pub gone_with : (same had rest : Bool) → ((same || had) || rest) ≡ (had || (same || rest))
-gone_with true true rest = refl
-gone_with true false rest = refl
-gone_with false had rest = refl
-
 -- ---- an end more
 
 push_end : (horizon : ℕ) (es : List (ℕ × ℕ)) (e : ℕ × ℕ) (c : ℕ)

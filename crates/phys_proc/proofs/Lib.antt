@@ -14,3 +14,4 @@ pub mod Taken
 pub mod Seeing
 pub mod Finishing
 pub mod Standing
+pub mod Noted

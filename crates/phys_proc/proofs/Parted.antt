@@ -1,6 +1,6 @@
 -- A copy without messages that none of its clones takes, and a copy for some of the clones.
 use Rattle.std.proofs.Common.{◌≡◌, ℕ, ◌<◌, ◌≤◌, ◌&&◌, Bool, true, false, cond, List, [], ◌∷◌, ◌++◌, Option}
-use Rattle.std.proofs.Common.{Some, None, refl, sym, ap, ◌∙◌, subst, arith, nat_lt, not, ◌≢◌, append_assoc, slice_get}
+use Rattle.std.proofs.Common.{Some, None, refl, sym, ap, ◌∙◌, subst, arith, nat_lt, not, ◌≢◌, append_assoc, length, slice_get}
 use Rattle.std.specs.Prelude.{option_map}
 use Rattle.std.specs.List.{AllByRecursion, cons_option}
 use Rattle.std.specs.declared.cmp.Ordering.TheVariants.{Less}
@@ -143,6 +143,11 @@ first_marked (x ∷ xs) t k e f =
 pub none_timed : (q : Marked) → None ≡ first_time q → None ≡ slice_get q 0
 none_timed [] e = refl
 none_timed (x ∷ xs) e = absurd (cc)
+
+-- where there is a first time, a message waits
+pub some_waits : (q : Marked) (t : ℕ) → Some t ≡ first_time q → 0 < length q
+some_waits [] t e = absurd (cc)
+some_waits (x ∷ xs) t e = omega arith
 
 -- a list with nothing at place 0 is empty
 pub none_of : (q : Marked) → None ≡ slice_get q 0 → q ≡ []

@@ -1,6 +1,6 @@
 -- What a reader sees of the copies of a station.
 use Rattle.std.proofs.Common.{◌≡◌, ℕ, zero, suc, ◌<◌, ◌≤◌, true, false, List, [], ◌∷◌, inl, inr}
-use Rattle.std.proofs.Common.{refl, sym, ap, ◌∙◌, subst, arith, length, map, take, slice_set, get_or, ◌+◌, ◌++◌}
+use Rattle.std.proofs.Common.{refl, sym, ap, ◌∙◌, subst, arith, length, map, slice_set, get_or, ◌++◌}
 use Rattle.std.specs.List.{AllByRecursion}
 use Rattle.std.proofs.lemmas.Bool.{false≢true}
 use Rattle.sim_base.specs.Clones.{Clone}
@@ -11,7 +11,6 @@ use Rattle.run_laws.specs.Queue.{In}
 use Rattle.run_laws.specs.Copies.{Stands}
 use Rattle.run_laws.proofs.Queue.{all_in}
 use Rattle.phys_proc.specs.Own.{StationCopy}
-use Rattle.phys_proc.proofs.Taken.{take_one}
 use Rattle.phys_proc.specs.Racks.{SeenCopy, seen, ShowsClones, IsSeen}
 
 -- what is read at a place of a list is in it
@@ -82,8 +81,3 @@ set_same (x ∷ xs) (suc i) y d l e = ap (λ t. x ∷ t) (set_same xs i y d (ome
 seen_push : (xs : List StationCopy) (x : StationCopy) → map seen (xs ++ x ∷ []) ≡ map seen xs ++ seen x ∷ []
 seen_push [] x = refl
 seen_push (y ∷ ys) x = ap (λ t. seen y ∷ t) (seen_push ys x)
-
--- what is seen of one copy more is what was seen so far and what is seen of that copy
-pub seen_more : (xs : List StationCopy) (i : ℕ) (x : StationCopy) → i < length xs → x ≡ get_or xs i x
-    → map seen (take (i + 1) xs) ≡ map seen (take i xs) ++ seen x ∷ []
-seen_more xs i x l e = ap (map seen) (take_one xs i x l e) ∙ seen_push (take i xs) x

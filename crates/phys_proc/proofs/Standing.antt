@@ -15,12 +15,13 @@ use Rattle.run_laws.specs.Copies.{Disjoint, Carries}
 use Rattle.run_laws.proofs.Queue.{all_in, all_from}
 use Rattle.run_laws.proofs.Lists.{in_append, append_old, append_new}
 use Rattle.run_laws.proofs.Ends.{disjoint_append}
-use Rattle.phys_proc.specs.Own.{StationCopy, Marked, IsCopy, Advanced, Onward, Stepping, NothingDue}
+use Rattle.phys_proc.specs.Own.{StationCopy, Marked, IsCopy, Advanced, Onward, Stepping, NothingDue, IsLate}
 use Rattle.phys_proc.specs.Own.{all_sizes, may_handle}
 use Rattle.phys_proc.proofs.Counting.{alone-append}
 use Rattle.phys_proc.proofs.Shares.{few_next}
 use Rattle.phys_proc.proofs.AllCopies.{holds_at, stepping_start, stepping_more}
-use Rattle.phys_proc.proofs.Onward.{answer_rest, answer_on}
+use Rattle.phys_proc.proofs.Finishing.{idle_here}
+use Rattle.phys_proc.proofs.Onward.{onward_start, answer_rest, answer_on}
 
 -- ---- lists of which one place changes
 
@@ -37,6 +38,18 @@ set_there cs i x y l e = e ∙ get_or-set_same cs i y x l
 at_place : (cs : List StationCopy) (i : ℕ) (x : StationCopy) → i < length cs → x ≡ get_or cs i x
     → drop i cs ≡ x ∷ drop (i + 1) cs
 at_place cs i x l e = drop_more cs i x l ∙ ap (λ y. y ∷ drop (i + 1) cs) (sym e)
+
+-- at each place there is a copy
+pub copy_at : (cs : List StationCopy) (i : ℕ) → i < length cs → (x : StationCopy) × (x ≡ get_or cs i x)
+copy_at [] i l = absurd (omega (arith, l))
+copy_at (x ∷ cs) zero l = (x, refl)
+copy_at (x ∷ cs) (suc i) l = copy_at cs i (omega (arith, l))
+
+-- where the copy that stands there is set, all is as it was
+kept_there : (cs : List StationCopy) (i : ℕ) (x : StationCopy) → x ≡ get_or cs i x → cs ≡ slice_set cs i x
+kept_there [] i x e = refl
+kept_there (y ∷ cs) zero x e = ap (λ z. z ∷ cs) (sym e)
+kept_there (y ∷ cs) (suc i) x e = ap (λ k. y ∷ k) (kept_there cs i x e)
 
 -- a list of which the rest is another: its front, and the rest
 cut_take : (cs zs : List StationCopy) (i : ℕ) → i ≤ length cs → take i (take i cs ++ zs) ≡ take i cs
@@ -240,6 +253,13 @@ module _ (net : Net) (valid : IsNet net) (s : ℕ) (ends : ℕ → ℕ) (bound :
               (subst (λ k. Stepping net s ends bound (h.passed ++ x ∷ []) ((take i cs ++ y ∷ []) ++ more) next k steps0
               steps1) (sym g) st);
         }
+
+    -- nothing of it is pending before the bound, so it stays as it is
+    pub standing_idle : Disjoint has all → IsCopy net s x → IsLate bound x
+        → Standing net s ends bound all (i + 1) cs more sent over steps0 steps
+    standing_idle dis fits late = standing_next dis x cs more sent over steps
+        (onward_start net s ends bound x sent steps fits) (idle_here ends bound x x late) (kept_there cs i x is) refl
+        refl
 
     -- it is taken out, and what comes of it is put with the others
     pub standing_out : Disjoint has all → (y : StationCopy) (after more1 more2 : List StationCopy) (mid next : Marked)

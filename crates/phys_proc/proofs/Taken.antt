@@ -172,10 +172,6 @@ pub record OthersNone (ends : ℕ → ℕ) (set alive : CloneSet) (q : Marked) :
   pub within : (c : ℕ) → has alive c ≡ true → has set c ≡ true
   pub none : (c : ℕ) → has set c ≡ true → has alive c ≡ false → (m : Msg) → ¬ (In m (taken_at ends c q))
 
--- of the whole set there are no others that might take anything
-pub others_start : (ends : ℕ → ℕ) (set : CloneSet) (q : Marked) → OthersNone ends set set q
-others_start ends set q = record { within = λ c i. i; none = λ c i n m t. false≢true (sym n ∙ i) }
-
 module _ (horizon : ℕ) (es : List (ℕ × ℕ)) (set alive : CloneSet) (q : Marked)
     (h : OthersNone (ends_in horizon es) set alive q) (sorted : SortedMarked msg_cmp q) where
   -- none of them has a message

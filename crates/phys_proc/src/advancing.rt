@@ -29,16 +29,16 @@ pub(crate) struct Stage {
 }
 
 impl Stage {
-    /// Nothing was handled yet.
-    pub fn of(alloc: Global, done: Copies) -> Stage
-        ensures done { result.done ≡ done }
-        ensures sent { result.sent.items ≡ [] }
+    /// Nothing was handled yet; what is sent is put behind these.
+    pub fn of(alloc: Global, sent: Vec<(Msg, CloneSet)>) -> Stage
+        ensures done { result.done ≡ [] }
+        ensures sent { result.sent.items ≡ sent.items }
         ensures over { result.over ≡ empty }
         ensures handled { result.handled ≡ 0 }
     {
         Stage {
-            done,
-            sent: Vec::new(alloc),
+            done: Copies::none(alloc),
+            sent,
             over: CloneSet::empty(),
             handled: 0,
             takers: CloneSet::empty(),

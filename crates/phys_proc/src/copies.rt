@@ -1,5 +1,6 @@
-//! A list of copies, and a time that nothing of them is pending before.
+//! A list of copies, and times that nothing of them is pending before.
 ghost use Rattle.std.specs.Prelude.{◌≡◌, ◌<◌, ◌≤◌, ◌∷◌, ◌++◌, [], OnOk, IfOk, IsTrue, map};
+ghost use Rattle.std.specs.List.{AllZip};
 ghost use Rattle.sim_base.specs.Marked.{SortedMarked};
 ghost use Rattle.sim_base.specs.Order.{msg_cmp};
 ghost use Rattle.clone_sets.specs.Sets.{has};
@@ -13,24 +14,28 @@ use clone_sets::CloneSet;
 use sim_base::{Msg, NoMemory};
 use std::alloc::Global;
 use std::marker::Model;
+use std::mem;
 
-/// Copies of one station, and a lower bound of the times of their pending messages.
+/// Copies of one station, and lower bounds of the times of their pending messages.
 #[derive(Drop)]
 pub(crate) struct Copies {
     copies: Vec<PhysCopy>,
+    // for each copy, at the same place, a time that nothing of it is pending before: asking it reads no copy's memory
+    leasts: Vec<u64>,
     // nothing is pending before it
     least: u64,
 }
 
 impl Model for Copies {
     ghost use Rattle.std.specs.Prelude.{List};
-    ghost use Rattle.phys_proc.specs.Own.{StationCopy, AreLate};
+    ghost use Rattle.std.specs.List.{AllZip};
+    ghost use Rattle.phys_proc.specs.Own.{StationCopy, IsLate, AreLate};
 
     ghost Value = { List StationCopy };
 
     ghost view = { λ p. p.copies.items };
 
-    ghost invariant = { λ p. AreLate p.least p.copies.items };
+    ghost invariant = { λ p. AreLate p.least p.copies.items × AllZip IsLate p.leasts.items p.copies.items };
 }
 
 // A time that nothing of the copy is pending before.
@@ -44,24 +49,34 @@ pub(crate) fn earliest(copy: &PhysCopy) -> u64
     }
 }
 
-// Gives a message to those clones of the copy that are in the set.
-fn give(copy: &mut PhysCopy, msg: Msg, set: CloneSet) -> Result<(), NoMemory>
+// Gives a message to those clones of the copy that are in the set. Nothing of it is pending before `least`.
+fn give(copy: &mut PhysCopy, least: &mut u64, msg: Msg, set: CloneSet) -> Result<(), NoMemory>
+    requires late { IsLate least.old copy.old }
     ensures given { OnOk result (copy.new ≡ given msg set copy.old) }
     ensures same { but_pending copy.new ≡ but_pending copy.old }
+    ensures late { IsLate least.new copy.new }
 {
     let shared = copy.set.meet(set);
     if !shared.is_empty() {
         copy.pending.insert(msg, shared)?;
+        *least = (*least).min(msg.key.time);
     }
     Ok(())
 }
 
 // Gives a message to those clones of the copies that are in the set. No clone is in two copies, so none is looked at
 // behind the last that shares clones with the set. Returns its place.
-fn deliver(copies: &mut Vec<PhysCopy>, msg: Msg, set: CloneSet) -> Result<usize, NoMemory>
+fn deliver(
+    copies: &mut Vec<PhysCopy>,
+    leasts: &mut Vec<u64>,
+    msg: Msg,
+    set: CloneSet,
+) -> Result<usize, NoMemory>
     requires disjoint { Disjoint has copies.old.items }
+    requires each { AllZip IsLate leasts.old.items copies.old.items }
     ensures given { OnOk result (copies.new.items ≡ map (given msg set) copies.old.items) }
     ensures same { map but_pending copies.new.items ≡ map but_pending copies.old.items }
+    ensures each { AllZip IsLate leasts.new.items copies.new.items }
 {
     // those that no copy so far stands for
     let mut rest = set;
@@ -70,7 +85,7 @@ fn deliver(copies: &mut Vec<PhysCopy>, msg: Msg, set: CloneSet) -> Result<usize,
             return Ok(i.saturating_sub(1));
         }
         rest = rest.minus(copies[i].set);
-        give(&mut copies[i], msg, set)?;
+        give(&mut copies[i], &mut leasts[i], msg, set)?;
     }
     Ok(copies.len().saturating_sub(1))
 }
@@ -78,23 +93,26 @@ fn deliver(copies: &mut Vec<PhysCopy>, msg: Msg, set: CloneSet) -> Result<usize,
 // The same, where the copy at `guess` gets it first.
 fn deliver_from(
     copies: &mut Vec<PhysCopy>,
+    leasts: &mut Vec<u64>,
     msg: Msg,
     set: CloneSet,
     guess: usize,
 ) -> Result<usize, NoMemory>
     requires disjoint { Disjoint has copies.old.items }
+    requires each { AllZip IsLate leasts.old.items copies.old.items }
     ensures given { OnOk result (copies.new.items ≡ map (given msg set) copies.old.items) }
     ensures same { map but_pending copies.new.items ≡ map but_pending copies.old.items }
+    ensures each { AllZip IsLate leasts.new.items copies.new.items }
 {
     if guess >= copies.len() {
-        return deliver(copies, msg, set);
+        return deliver(copies, leasts, msg, set);
     }
     let rest = set.minus(copies[guess].set);
-    give(&mut copies[guess], msg, set)?;
+    give(&mut copies[guess], &mut leasts[guess], msg, set)?;
     if rest.is_empty() {
         return Ok(guess);
     }
-    let place = deliver(copies, msg, rest)?;
+    let place = deliver(copies, leasts, msg, rest)?;
     Ok(place)
 }
 
@@ -141,6 +159,7 @@ impl Copies {
     {
         Copies {
             copies: Vec::new(alloc),
+            leasts: Vec::new(alloc),
             least: u64::MAX,
         }
     }
@@ -150,19 +169,35 @@ impl Copies {
         requires late { IsLate least copy }
         ensures more { OnOk result (self.new ≡ self.old ++ copy ∷ []) }
     {
-        self.copies.push(copy)?;
+        self.leasts.reserve(1)?;
+        self.copies.reserve(1)?;
+        self.leasts.push_reserved(least);
+        self.copies.push_reserved(copy);
         self.least = self.least.min(least);
         Ok(())
     }
 
-    /// Puts copies before these, of which nothing is pending before `least`.
-    pub fn put_before(&mut self, copies: Vec<PhysCopy>, least: u64) -> Result<(), NoMemory>
+    /// Puts copies before these, of which nothing is pending before `least`, and of each nothing before its time in
+    /// `leasts`. Out of memory, all are gone.
+    pub fn put_before(
+        &mut self,
+        alloc: Global,
+        copies: Vec<PhysCopy>,
+        leasts: Vec<u64>,
+        least: u64,
+    ) -> Result<(), NoMemory>
         requires late { AreLate least copies.items }
+        requires each { AllZip IsLate leasts.items copies.items }
         ensures all { OnOk result (self.new ≡ copies.items ++ self.old) }
     {
         let mut copies = copies;
-        copies.append(&mut self.copies)?;
+        let mut leasts = leasts;
+        let mut last = mem::replace(&mut self.copies, Vec::new(alloc));
+        let mut last_leasts = mem::replace(&mut self.leasts, Vec::new(alloc));
+        copies.append(&mut last)?;
+        leasts.append(&mut last_leasts)?;
         self.copies = copies;
+        self.leasts = leasts;
         self.least = self.least.min(least);
         Ok(())
     }
@@ -177,7 +212,7 @@ impl Copies {
         let least = self.least.min(msg.key.time);
         // also where memory is refused
         self.least = 0;
-        let place = deliver_from(&mut self.copies, msg, set, guess)?;
+        let place = deliver_from(&mut self.copies, &mut self.leasts, msg, set, guess)?;
         self.least = least;
         Ok(place)
     }
@@ -214,12 +249,24 @@ impl Copies {
         bound <= self.least
     }
 
-    /// The copies, one by one.
-    pub fn into_copies(self) -> Vec<PhysCopy>
-        ensures same { result.items ≡ self }
+    /// The copies, one by one, and for each a time that nothing of it is pending before.
+    pub fn into_parts(self) -> (Vec<PhysCopy>, Vec<u64>)
+        ensures same { result.0.items ≡ self }
+        ensures each { AllZip IsLate result.1.items self }
     {
-        let Copies { copies, least: _ } = self;
-        copies
+        let Copies {
+            copies,
+            leasts,
+            least: _,
+        } = self;
+        (copies, leasts)
+    }
+
+    /// For each copy, at the same place, a time that nothing of it is pending before.
+    pub fn leasts(&self) -> &[u64]
+        ensures each { AllZip IsLate result.now self.now }
+    {
+        self.leasts.as_slice()
     }
 
     /// The copies.

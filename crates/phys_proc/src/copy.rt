@@ -61,9 +61,7 @@ pub(crate) fn next_due(
         if !takers.is_empty() {
             return Some(takers);
         }
-        let Some(_) = copy.pending.take_message() else {
-            unreachable!()
-        };
+        let _passed = copy.pending.take_message();
     }
     None
 }
@@ -105,9 +103,7 @@ pub(crate) fn handle_least<L: Ledger>(
     ensures handled { OnOk result (IsHandled model.now station copy.old copy.new sent.old.items sent.new.items) }
     ensures counted { OnOk result (steps.new ≡ steps.old + 1) }
 {
-    let Some(msg) = copy.pending.take_message() else {
-        unreachable!()
-    };
+    let msg = copy.pending.take_message();
     out.clear();
     let line = handle(&mut copy.state, model, &msg, out, steps)?;
     copy.log.push(Entry { msg, line })?;

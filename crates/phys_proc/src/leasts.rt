@@ -5,12 +5,11 @@ ghost use Rattle.sim_base.specs.Order.{msg_cmp};
 ghost use Rattle.clone_sets.specs.Sets.{has};
 ghost use Rattle.run_laws.specs.Queue.{In};
 ghost use Rattle.run_laws.specs.Fronts.{earlier as earlier'};
-ghost use Rattle.phys_proc.specs.Own.{taken_at};
+ghost use Rattle.phys_proc.specs.Own.{IsLate, taken_at};
 ghost use Rattle.phys_proc.specs.Procs.{IsProc, IsLeastTime, IsLeastOf, IsLeast, IsWithCopy};
 ghost use Rattle.phys_proc.specs.Gone.{ends_in};
 
 use crate::clone_ends::CloneEnds;
-use crate::copies::earliest;
 use crate::copy::PhysCopy;
 use crate::proc::Proc;
 use clone_sets::CloneSet;
@@ -67,13 +66,21 @@ pub(crate) fn least_of_copy(copy: &PhysCopy, ends: &CloneEnds, horizon: u64) -> 
     None
 }
 
-// The lesser of a time that was found before, and the least time that any of its clones takes of the copy.
-fn with_copy(copy: &PhysCopy, ends: &CloneEnds, horizon: u64, before: Option<u64>) -> Option<u64>
+// The lesser of a time that was found before, and the least time that any of its clones takes of the copy. Nothing of
+// it is pending before `least`: it is looked at only if that is before the other time.
+fn with_copy(
+    copy: &PhysCopy,
+    least: u64,
+    ends: &CloneEnds,
+    horizon: u64,
+    before: Option<u64>,
+) -> Option<u64>
     requires sorted { SortedMarked msg_cmp copy.now.pending }
+    requires late { IsLate least copy.now }
     ensures least { IsWithCopy (ends_in horizon ends.now) copy.now before result }
 {
     if let Some(time) = before {
-        if time <= earliest(copy) {
+        if time <= least {
             return before;
         }
     }
@@ -101,8 +108,10 @@ impl Proc {
         ensures least { IsLeast (ends_in model.now.horizon ends.now) self.now.copies result }
     {
         let mut least = None;
-        for copy in self.copies() {
-            least = with_copy(copy, ends, model.horizon(), least);
+        let copies = self.copies();
+        let leasts = self.leasts();
+        for i in 0..copies.len() {
+            least = with_copy(&copies[i], leasts[i], ends, model.horizon(), least);
         }
         least
     }

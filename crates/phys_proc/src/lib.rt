@@ -35,5 +35,5 @@ mod stepping;
 
 pub use clone_ends::CloneEnds;
 pub use copy::PhysCopy;
-pub use proc::{Flow, Proc};
+pub use proc::{Flow, Gain, Proc};
 pub use rack::{Found, Glance, Rack};

@@ -5,7 +5,7 @@ ghost use Rattle.clone_sets.specs.Sets.{has, one, with, empty, size};
 ghost use Rattle.net_model.specs.Net.{Net};
 ghost use Rattle.stations.specs.Runs.{simulation};
 ghost use Rattle.run_laws.specs.Copies.{first_copy, IsForked, IsStepped, AreOver, GainTogether, Stands};
-ghost use Rattle.phys_proc.specs.Own.{given, forked, but_pending, pending_of, IsCopy, AreLate};
+ghost use Rattle.phys_proc.specs.Own.{given, forked, but_pending, pending_of, IsCopy, IsLate, AreLate};
 ghost use Rattle.phys_proc.specs.Gone.{ends_in};
 ghost use Rattle.phys_proc.specs.Procs.{IsProc, AreShared};
 ghost use Rattle.phys_proc.specs.Racks.{seen};
@@ -23,6 +23,7 @@ use net_model::Model;
 use sim_base::{Lists, Msg, NoMemory, Pending, Steps};
 use stations::state::setup;
 use std::alloc::Global;
+use std::mem;
 use std::sync::Arc;
 use std::sync::ledger::Ledger;
 
@@ -52,6 +53,15 @@ impl std::marker::Model for Proc {
       handled = p.handled;
       copies = p.copies;
     }) };
+}
+
+/// What a step in place gives beside the messages that were sent.
+#[derive(Clone, Copy, Debug, PartialEq, Eq)]
+pub struct Gain {
+    /// The clones whose logs would get longer than the limit.
+    pub over: CloneSet,
+    /// How many messages were handled, each once for all clones of a copy.
+    pub handled: u64,
 }
 
 /// What a step of a station gives.
@@ -161,6 +171,69 @@ impl Proc {
         })
     }
 
+    /// Steps the copies to the bound where they stand; what they send to other stations is put into `sent`, which
+    /// is empty before. Out of memory, or where some clone is over the limit, they mean nothing.
+    pub fn advance<L: Ledger>(
+        &mut self,
+        alloc: Global,
+        model: &Model,
+        ends: &CloneEnds,
+        bound: u64,
+        sent: &mut Vec<(Msg, CloneSet)>,
+        steps: &mut Steps<L>,
+    ) -> Result<Gain, NoMemory>
+        requires proc { IsProc model.now self.old }
+        requires early { bound ≤ model.now.horizon }
+        requires silent { sent.old.items ≡ [] }
+        ensures windows { IfOk result (λ g. g.over ≡ empty →
+            IsStepped (simulation model.now) has (ends_in model.now.horizon ends.now) self.old.station bound
+            self.old.copies self.new.copies sent.new.items) }
+        ensures over { IfOk result (λ g. AreOver (simulation model.now) has (ends_in model.now.horizon ends.now)
+            self.old.station bound self.old.copies g.over) }
+        ensures gained { IfOk result (λ g. GainTogether (simulation model.now) has
+            (ends_in model.now.horizon ends.now) self.old.station bound self.old.copies g.handled) }
+        ensures counted { IfOk result (λ g. steps.new ≡ steps.old + g.handled) }
+        ensures few { IfOk result (λ g. g.handled ≤ size self.old.living * model.now.limit) }
+        ensures proc { OnOk result (IsProc model.now self.new) }
+        ensures station { self.new.station ≡ self.old.station }
+        ensures living { IfOk result (λ g. g.over ≡ empty → self.new.living ≡ self.old.living) }
+        ensures handled { IfOk result (λ g. g.over ≡ empty → self.new.handled ≡ self.old.handled + g.handled) }
+    {
+        let _horizon = model.horizon();
+        let living = self.living;
+        let before = self.handled;
+        let _clones = living.len();
+        let mut out = buffer(alloc, self.out.take())?;
+        let mut stage = Stage::of(alloc, mem::replace(sent, Vec::new(alloc)));
+        let copies = self.take_copies(alloc);
+        step_copies(
+            alloc,
+            copies,
+            model,
+            self.station,
+            ends,
+            bound,
+            &mut out,
+            &mut stage,
+            steps,
+        )?;
+        let Stage {
+            done,
+            sent: all,
+            over,
+            handled,
+            takers: _,
+        } = stage;
+        self.out = Some(out);
+        *sent = all;
+        if over.is_empty() {
+            self.copies = done;
+            self.living = living;
+            self.handled = before + handled;
+        }
+        Ok(Gain { over, handled })
+    }
+
     /// Steps the copies to the bound, each in place. Out of memory, they are gone.
     pub fn step<L: Ledger>(
         self,
@@ -186,59 +259,30 @@ impl Proc {
         ensures living { IfOk result (λ f. f.over ≡ empty → f.done.living ≡ self.living) }
         ensures handled { IfOk result (λ f. f.over ≡ empty → f.done.handled ≡ self.handled + f.handled) }
     {
-        let _horizon = model.horizon();
-        let Proc {
-            station,
-            living,
-            handled,
-            copies,
-            places,
-            out,
-        } = self;
-        let _clones = living.len();
-        let mut out = buffer(alloc, out)?;
-        let Stage {
+        let mut done = self;
+        let mut sent = Vec::new(alloc);
+        let Gain { over, handled } = done.advance(alloc, model, ends, bound, &mut sent, steps)?;
+        Ok(Flow {
             done,
             sent,
             over,
-            handled: more,
-            takers: _,
-        } = step_copies(alloc, copies, model, station, ends, bound, &mut out, steps)?;
-        if !over.is_empty() {
-            return Ok(Flow {
-                done: Proc::none(alloc, station),
-                sent,
-                over,
-                handled: more,
-            });
-        }
-        Ok(Flow {
-            done: Proc {
-                station,
-                living,
-                handled: handled + more,
-                copies: done,
-                places,
-                out: Some(out),
-            },
-            sent,
-            over,
-            handled: more,
+            handled,
         })
     }
 
-    // No clone lives, and there is no copy.
-    fn none(alloc: Global, station: u32) -> Proc
-        ensures none { result ≡ record { station = station; living = empty; handled = 0; copies = [] } }
+    // Takes the copies out. Then no clone lives.
+    fn take_copies(&mut self, alloc: Global) -> Copies
+        ensures copies { result ≡ self.old.copies }
+        ensures none { self.new ≡ record {
+          station = self.old.station;
+          living = empty;
+          handled = 0;
+          copies = [];
+        } }
     {
-        Proc {
-            station,
-            living: CloneSet::empty(),
-            handled: 0,
-            copies: Copies::none(alloc),
-            places: Vec::new(alloc),
-            out: None,
-        }
+        self.living = CloneSet::empty();
+        self.handled = 0;
+        mem::replace(&mut self.copies, Copies::none(alloc))
     }
 
     /// Gives a message to those of its clones that are in the set.
@@ -337,6 +381,13 @@ impl Proc {
         ensures value { result ≡ self.now.handled }
     {
         self.handled
+    }
+
+    /// For each copy, at the same place, a time that nothing of it is pending before.
+    pub(crate) fn leasts(&self) -> &[u64]
+        ensures each { AllZip IsLate result.now self.now.copies }
+    {
+        self.copies.leasts()
     }
 
     /// The copies.

@@ -33,10 +33,6 @@ plan_push net cs c reserved next len ks all k h j e l fits grown = subst (ArePla
       ];
     })
 
--- nothing needs to be kept for no clones
-pub plan_none : (net : Net) (cs : List Clone) (reserved : ℕ) → ArePlannedTo net cs 0 reserved []
-plan_none net cs reserved = record { many = refl; each = λ i x g. let h : ⊥ = cc in absurd h }
-
 -- and so all of them
 pub plan_all : (net : Net) (cs : List Clone) (n reserved r : ℕ) (ks : List Keep) → ArePlannedTo net cs n reserved ks
     → n ≡ length cs → r ≡ reserved → ArePlanned net cs r ks

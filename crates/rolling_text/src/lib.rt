@@ -17,8 +17,8 @@
 //! put_texts(rt, alloc, &traces, workers, texts, out)?;    // one put for each clone
 //! ```
 //!
-//! `prepare` computes by lengths alone how much of each text the next one keeps, and how long the longest is: one
-//! walk along what is not shared, in which nothing is written. The name line stands at the end of the 32 bytes before
+//! `prepare` computes by lengths alone how much of each text the next one keeps, and how long the longest is: it walks
+//! log by log along what is not shared, and writes nothing. The name line stands at the end of the 32 bytes before
 //! the lines, so that each text is one slice, whatever its name. A line that is not shared costs its entry from the
 //! stations' logs, merged by key, and its bytes. Long texts are written by several workers: each merges what comes in a
 //! part of the time, and fills its part of the bytes.

@@ -1,5 +1,5 @@
 -- What the clones have in common, by their logs alone: classes, messages handled once and alone, the limit.
-use Rattle.std.specs.Prelude.{◌≡◌, ℕ, ◌<◌, List, [], ◌∷◌, ◌&&◌, Bool, true, false, map, length, take, sum_by}
+use Rattle.std.specs.Prelude.{ℕ, ◌<◌, List, [], ◌∷◌, ◌&&◌, Bool, true, false, map, length, take, sum_by}
 use Rattle.std.specs.List.{flat_map}
 use Rattle.std.specs.Set.{distinct_count}
 use Rattle.sim_base.specs.Clones.{Clone}
@@ -20,10 +20,6 @@ module _ {E : Type 0} (same : E → E → Bool) where
   same_list xs ys = false
 
 module _ {S M N : Type 0} (sim : Simulation S M N) where
-  -- two clones are of one class at a station where their logs there are equal
-  abbrev pub IsSameClass : ℕ → ℕ → Clone → Clone → Type 0
-  IsSameClass s front c d = log_at sim c s front ≡ log_at sim d s front
-
   -- the logs of the clones at a station, one clone after the other
   abbrev pub logs_at : List Clone → ℕ → ℕ → List (List (Entry M N))
   logs_at cs s front = map (λ c. log_at sim c s front) cs

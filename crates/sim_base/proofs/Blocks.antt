@@ -1,18 +1,18 @@
 -- Pending messages in blocks: what an insertion into one block is to all, and a block cut in two.
-use Rattle.std.proofs.Common.{◌≡◌, ℕ, zero, suc, ◌+◌, ◌-◌, ◌<◌, ◌≤◌, refl, sym, ap, ◌∙◌, subst}
-use Rattle.std.proofs.Common.{List, [], ◌∷◌, ◌++◌, Bool, true, false, Ordering, Less, Equal, Greater, length, take}
-use Rattle.std.proofs.Common.{drop, get_or, set, map, arith, append_assoc, option_map, Option, Some, None, min}
+use Rattle.std.proofs.Common.{◌≡◌, ℕ, zero, suc, ◌<◌, refl, sym, ap, ◌∙◌, subst}
+use Rattle.std.proofs.Common.{List, [], ◌∷◌, ◌++◌, true, false, Ordering, Less, Equal, Greater, length, take}
+use Rattle.std.proofs.Common.{drop, get_or, set, map, arith, append_assoc, Option}
 use Rattle.std.specs.Ordering.{is_lt}
 use Rattle.std.specs.Cmp.{IsTotalOrder}
-use Rattle.std.specs.List.{AllByRecursion, filter_map}
+use Rattle.std.specs.List.{AllByRecursion}
 use Rattle.std.proofs.lemmas.List.{append-nil, take-append-drop, length-take, length-drop, map-append, length-map}
 use Rattle.sim_base.specs.Pending.{insert_marked, cut_by, spread_marks}
 use Rattle.sim_base.proofs.Cutting.{cut-append}
 use Rattle.sim_base.specs.Marked.{SortedMarked}
-use Rattle.sim_base.specs.Blocks.{of_blocks, block_at, halved, AreFilled, AreSized, AreBlocks, StartsAfter, IsBlockOf}
+use Rattle.sim_base.specs.Blocks.{of_blocks, block_at, halved, AreFilled, AreSized, StartsAfter, IsBlockOf}
 use Rattle.std.specs.Prelude.{slice_get}
 use Rattle.sim_base.proofs.Placing.{all_left, all_both, insert_behind, insert_before}
-use Rattle.sim_base.proofs.Placing.{all_before, sorted_right, sorted_insert, length_insert}
+use Rattle.sim_base.proofs.Placing.{all_before, sorted_right}
 
 is_less : (o : Ordering) → true ≡ is_lt o → o ≡ Less
 is_less Less e = refl

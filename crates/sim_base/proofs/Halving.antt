@@ -1,9 +1,9 @@
 -- A full block that is cut in two: the blocks after it, and where a message goes then.
 use Rattle.std.proofs.Common.{◌≡◌, ℕ, zero, suc, ◌+◌, ◌-◌, ◌<◌, ◌≤◌, refl, sym, ap, ◌∙◌, subst, List}
-use Rattle.std.proofs.Common.{[], ◌∷◌, ◌++◌, Bool, true, false, Ordering, length, take, drop, get_or, set, arith, min}
+use Rattle.std.proofs.Common.{[], ◌∷◌, Bool, true, false, Ordering, length, take, drop, get_or, set, arith}
 use Rattle.std.specs.List.{insert}
 use Rattle.std.proofs.lemmas.List.{length-take, length-drop, get_or_read}
-use Rattle.sim_base.specs.Blocks.{of_blocks, block_at, halved, AreFilled, AreSized, StartsAfter, IsBlockOf}
+use Rattle.sim_base.specs.Blocks.{block_at, halved, AreFilled, AreSized, StartsAfter, IsBlockOf}
 use Rattle.sim_base.proofs.Blocks.{length_halved, first_half, second_half, behind_halves}
 
 module _ {X : Type 0} where

@@ -1,7 +1,7 @@
 -- Where a marked message goes in a list in order, and that the order is kept.
-use Rattle.std.proofs.Common.{◌≡◌, ℕ, zero, suc, ◌+◌, ◌-◌, ◌<◌, ◌≤◌, refl, sym, ap}
+use Rattle.std.proofs.Common.{◌≡◌, ℕ, zero, suc, ◌+◌, ◌<◌, ◌≤◌, refl, sym, ap}
 use Rattle.std.proofs.Common.{◌∙◌, subst, List, [], ◌∷◌, ◌++◌, Bool, true, false, Ordering, Less}
-use Rattle.std.proofs.Common.{Equal, Greater, length, take, drop, get_or, set, arith, Option, Some, None}
+use Rattle.std.proofs.Common.{Equal, Greater, length, get_or, set, arith, Some, None}
 use Rattle.std.specs.Prelude.{slice_get}
 use Rattle.std.proofs.lemmas.List.{get_or_read}
 use Rattle.std.specs.Ordering.{is_lt, is_eq, is_gt, ordering_reverse}

@@ -1,6 +1,6 @@
 -- A message that is put into the block to which it goes: all blocks after it.
-use Rattle.std.proofs.Common.{◌≡◌, ℕ, zero, suc, ◌+◌, ◌-◌, ◌<◌, ◌≤◌, refl, sym, ap, ◌∙◌, subst, List}
-use Rattle.std.proofs.Common.{[], ◌∷◌, ◌++◌, Ordering, length, get_or, set, arith, Result, Ok, Err, OnOk, OnErr}
+use Rattle.std.proofs.Common.{◌≡◌, ℕ, zero, suc, ◌-◌, ◌<◌, ◌≤◌, refl, sym, ap, ◌∙◌, subst, List}
+use Rattle.std.proofs.Common.{[], ◌∷◌, Ordering, length, get_or, set, arith, Result, Ok, Err, OnOk, OnErr}
 use Rattle.std.specs.Cmp.{IsTotalOrder}
 use Rattle.std.proofs.lemmas.List.{length-set, set-get_or}
 use Rattle.sim_base.specs.Pending.{insert_marked}

@@ -1,7 +1,7 @@
 -- Lists that are turned round once: each element leaves at the front, and what becomes of it comes in at the back.
 use Rattle.std.proofs.Common.{◌≡◌, ℕ, zero, suc, ◌+◌, ◌<◌, ◌≤◌, refl, sym, ap, ◌∙◌, subst, List, [], ◌∷◌, ◌++◌}
 use Rattle.std.proofs.Common.{Option, Some, None, set}
-use Rattle.std.proofs.Common.{true, false, ◌==◌, if◌then◌else◌, length, take, drop, get_or, map, arith, append_assoc}
+use Rattle.std.proofs.Common.{true, false, ◌==◌, if◌then◌else◌, length, take, drop, get_or, arith, append_assoc}
 use Rattle.std.specs.Prelude.{is_some}
 use Rattle.std.proofs.lemmas.Bool.{eqb-true, eqb-false}
 use Rattle.std.proofs.lemmas.List.{append-nil, drop_more, take_more, nil_from_length}

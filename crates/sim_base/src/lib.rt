@@ -43,8 +43,6 @@ pub mod name;
 pub mod pending;
 pub mod reserved;
 pub mod steps;
-#[cfg(test)]
-mod tests;
 
 pub use decision::{Decision, Planned, same_plan};
 pub use entry::{Entry, Line, same_entry};

@@ -338,6 +338,3 @@ fn push_plan(clones: &mut Vec<CloneList>, c: usize, plan: Planned) -> Result<(),
     let clone = &mut clones[c];
     clone.plans.push(plan)
 }
-
-#[cfg(test)]
-mod tests;

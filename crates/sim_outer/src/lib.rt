@@ -35,8 +35,6 @@ pub mod mem_sink;
 pub mod null;
 pub mod real;
 pub mod sink;
-#[cfg(test)]
-mod tests;
 pub mod word;
 
 pub use inputs::{FetchFault, Inputs, MOST_FETCHED};

@@ -22,8 +22,6 @@
 
 mod opening;
 pub mod solo;
-#[cfg(test)]
-mod tests;
 pub mod turn;
 
 pub use solo::Solo;

@@ -98,12 +98,7 @@ pub record FitsState (st : StateView) : Type 0 where
   pub sender : FitsSender st.handled st.sender
   pub kind : FitsKind st.handled st.kind
 
--- whether a kind is that of a server
-abbrev pub is_server : Kind → Bool
-is_server (kind.Server servers room lo hi by_class) = true
-is_server _ = false
-
--- and whether it is that of a router
+-- whether a kind is that of a router
 abbrev pub is_router : Kind → Bool
 is_router (kind.Router turn) = true
 is_router _ = false

@@ -39,8 +39,6 @@ mod server;
 mod sink;
 mod source;
 pub mod state;
-#[cfg(test)]
-mod tests;
 
 pub use change::ChangeFault;
 pub use job_queue::JobQueue;

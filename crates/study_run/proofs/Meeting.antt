@@ -27,10 +27,6 @@ none_within net cs h c there s low high =
       | inr short ↦ short
     ]
 
--- and the other way round
-pub within_none : (net : Net) (cs : List Clone) → AreWithin net cs → NoneBeyond net cs net.horizon
-within_none net cs h s c low high there long = let short = h c there s low high in absurd (omega (arith, long, short))
-
 -- ---- fronts
 
 module _ (net : Net) (valid : IsNet net) (cs : List Clone) where

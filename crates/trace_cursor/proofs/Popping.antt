@@ -1,5 +1,5 @@
 -- The least word tells which entry is the first of all, and a cursor stays one.
-use Rattle.std.proofs.Common.{◌≡◌, ◌≢◌, ◌⊎◌, ℕ, zero, suc, ◌+◌, ◌%◌, ◌<◌, ◌≤◌, List, [], ◌∷◌}
+use Rattle.std.proofs.Common.{◌≡◌, ◌⊎◌, ℕ, zero, suc, ◌+◌, ◌%◌, ◌<◌, ◌≤◌, List, [], ◌∷◌}
 use Rattle.std.proofs.Common.{◌++◌, inl, inr, refl, sym, ap, ◌∙◌, subst, arith, length, get_or, set}
 use Rattle.std.specs.Cmp.{ranks, IsTotalOrder}
 use Rattle.std.specs.Ordering.{MatchOrdering, nat_cmp, ordering_then, ordering_reverse}
@@ -96,10 +96,6 @@ fit_set : (ls : List (List E)) (i : ℕ) (l : List E) → AllFit ls → FitWords
 fit_set [] i l a b = a
 fit_set (x ∷ ls) zero l a b = (b, a.1)
 fit_set (x ∷ ls) (suc i) l a b = (a.0, fit_set ls i l a.1 b)
-
-fit_more : (ls : List (List E)) (l : List E) → AllFit ls → FitWords l → AllFit (ls ++ l ∷ [])
-fit_more [] l a b = (b, tt)
-fit_more (x ∷ ls) l a b = (a.0, fit_more ls l a.1 b)
 
 -- ---- IsLeast
 
@@ -236,45 +232,7 @@ cursor_set ls words reserved most i l c there fit =
       ];
     }
 
--- the list behind the others
-more_at : (ls : List (List E)) (l : List E) → get_or (ls ++ l ∷ []) (length ls) [] ≡ l
-more_at [] l = refl
-more_at (x ∷ xs) l = more_at xs l
-
-more_other : (ls : List (List E)) (l : List E) (j : ℕ) → j ≢ length ls → get_or (ls ++ l ∷ []) j [] ≡ get_or ls j []
-more_other [] l zero n = absurd (n refl)
-more_other [] l (suc j) n = refl
-more_other (x ∷ xs) l zero n = refl
-more_other (x ∷ xs) l (suc j) n = more_other xs l j (λ e. n (omega (arith, e)))
-
 -- with a list more at the end there is one list more
 pub more_long : (ls : List (List E)) (l : List E) → length (ls ++ l ∷ []) ≡ length ls + 1
 more_long [] l = refl
 more_long (x ∷ xs) l = let h = more_long xs l in omega (arith, h)
-
--- where a list is added
-pub cursor_more : (ls : List (List E)) (words : List ℕ) (reserved most now : ℕ) (l : List E) →
-    IsCursor ls words reserved most →
-    length ls < most → reserved ≤ now → FitWords l →
-    IsCursor (ls ++ l ∷ []) (set words (length ls) (word_of (length ls) l)) now most
-cursor_more ls words reserved most now l c below more fit =
-    let i : ℕ = length ls in
-    let there : length ls < length words = let a = c.there in omega (arith, a, below) in
-    let long_ls = more_long ls l in
-    let long_words = length-set words i (word_of i l) in
-    record {
-      few = let a = c.few in omega (arith, a, long_words);
-      place = omega (arith, below, long_ls);
-      there = let a = c.there in omega (arith, a, long_words);
-      fits = let a = c.fits in omega (arith, a, more);
-      fit = fit_more ls l c.fit fit;
-      words_are = λ j lj. elim (cases_eq j i) [
-        | inl e ↦
-            let a = get_or-set_same words i (word_of i l) 0 there in
-            subst (λ k. get_or (set words i (word_of i l)) k 0 ≡ word_of k (get_or (ls ++ l ∷ []) k [])) (sym e)
-            (a ∙ ap (word_of i) (sym (more_at ls l)))
-        | inr n ↦
-            let a = get_or-set_other words i j (word_of i l) 0 n in
-            a ∙ (c.words_are j (omega (arith, lj, long_words)) ∙ ap (word_of j) (sym (more_other ls l j n)))
-      ];
-    }

@@ -89,8 +89,8 @@ impl<'a> Cursor<'a> {
         entry
     }
 
-    /// The next entry of a cursor that has one. A caller that knows that it is not at its end has no other case to think of
-    /// then.
+    /// The next entry of a cursor that is not at its end.
+    #[inline(always)]
     pub fn take(&mut self) -> Entry
         requires some { 1 ≤ length self.old.left }
         ensures value { self.old.left ≡ result ∷ self.new.left }
@@ -124,6 +124,7 @@ fn places(most: usize) -> usize
 }
 
 // The key of the next entry as a word, with the place of the walk; the greatest word at the end.
+#[inline(always)]
 fn word(walk: &Walk<'_>, place: u64) -> u64
     requires few { place < 64 }
     requires fit { FitWords walk.now }

@@ -30,8 +30,6 @@
 
 pub mod cursor;
 pub mod laws;
-#[cfg(test)]
-mod tests;
 pub mod tree;
 
 pub use cursor::Cursor;

@@ -45,6 +45,7 @@ impl Tree {
     }
 
     /// Puts a word in the place of another.
+    #[inline(always)]
     pub fn set(&mut self, i: usize, word: u64)
         requires there { i < length self.old }
         ensures value { self.new ≡ slice_set self.old i word }
@@ -60,6 +61,7 @@ impl Tree {
     }
 
     /// The least word.
+    #[inline(always)]
     pub fn least(&self) -> u64
         ensures value { IsLeast result self.now }
     {

@@ -1,5 +1,4 @@
 pub mod StationLines
 pub mod Tenths
 pub mod Slots
-pub mod Lines
 pub mod Params

@@ -1,5 +1,5 @@
 -- The text of a clone's trace: a head, and then a line for each message that was handled.
-use Rattle.std.specs.Prelude.{◌==◌, ℕ, ◌++◌, Bool, true, false, if◌then◌else◌, List}
+use Rattle.std.specs.Prelude.{◌==◌, ℕ, ◌++◌, if◌then◌else◌, List}
 use Rattle.std.specs.Prelude.{[], ◌∷◌, Option, Some, None, codes, decimal}
 use Rattle.std.specs.List.{flat_map, join_with_byte}
 use Rattle.sim_base.specs.Params.{param_word, param_values}
@@ -9,8 +9,6 @@ use Rattle.sim_base.specs.declared.entry.Line.TheVariants.{Source, Server, Passe
 use Rattle.sim_base.specs.declared.message.Change.{Change}
 use Rattle.sim_base.specs.declared.message.Job.{Job as JobOf}
 use Rattle.sim_base.specs.declared.message.Msg.{Msg}
-use Rattle.sim_base.specs.declared.message.Param.{Param}
-use Rattle.sim_base.specs.declared.message.Param.TheVariants.{Every, Service, Hold, Servers, Room, Weight}
 use Rattle.sim_base.specs.declared.message.Payload.{Payload}
 use Rattle.sim_base.specs.declared.message.Payload.TheVariants.{Tick, Job, Done, Set}
 use Rattle.net_model.specs.Net.{Net, Site, site_at, site_of, class_of_kind}

@@ -29,8 +29,6 @@ mod line;
 mod names;
 mod pieces;
 mod report;
-#[cfg(test)]
-mod tests;
 mod trace;
 
 pub use lengths::line_len;

@@ -1,8 +1,7 @@
 -- What holds of a decision that was accepted: no row of the table of refusals is its.
 use Rattle.std.proofs.Common.{◌≡◌, ℕ, ◌+◌, ◌==◌, ◌<◌, ◌≤◌, Bool, true, false, List}
-use Rattle.std.proofs.Common.{[], ◌∷◌, refl, sym, ◌∙◌, arith, length, Option, Some, None}
-use Rattle.std.proofs.Common.{Result, Ok, Err, is_some, is_none, option_map, nat_le, nat_lt, position}
-use Rattle.std.proofs.lemmas.Bool.{false≢true}
+use Rattle.std.proofs.Common.{[], ◌∷◌, refl, sym, ap, ◌∙◌, arith, length, Option, Some, None}
+use Rattle.std.proofs.Common.{Result, Ok, Err, is_none, option_map, nat_le, nat_lt, position}
 use Rattle.std.proofs.lemmas.Bool.Decides.{nat_tests}
 use Rattle.std.specs.Str.{bytes_eq}
 use Rattle.sim_base.specs.Clones.{Clone, clone_at, place_of}
@@ -15,8 +14,9 @@ use Rattle.net_model.specs.Net.{Net, number_of, site_of}
 use Rattle.stations.specs.declared.change.ChangeFault.{ChangeFault}
 use Rattle.stations.specs.declared.change.ChangeFault.TheVariants as refused
 use Rattle.stations.specs.Changes.{accepts}
+use Rattle.decision_book.specs.Journal.{Situation}
 use Rattle.decision_book.specs.declared.call.Reply.{Reply}
-use Rattle.decision_book.specs.declared.call.Reply.TheVariants.{Accepted, Full, Closed, Ended, NameTaken, TooManyClones}
+use Rattle.decision_book.specs.declared.call.Reply.TheVariants.{Accepted, Full, Closed, Ended}
 use Rattle.decision_book.specs.declared.call.Reply.TheVariants.{UnknownStation, ListFull, PastHorizon, Late}
 use Rattle.decision_book.specs.declared.call.TheConstants.{MOST_CALLS}
 use Rattle.decision_book.specs.Replies.{row, first_row, reply, rows, clone_rows, time_rows, change_row, fault_row}
@@ -81,19 +81,6 @@ pub record MayFork (cs : List Clone) (new : List ℕ) : Type 0 where
   pub unused : place_of new cs ≡ None
   pub few : length cs < MOST_CLONES
 
--- and so it is for each fork that no row refuses
-pub may_fork : (net : Net) (cs : List Clone) (front c : ℕ) (new old : List ℕ)
-    → first_row (rows (situation net cs front) c (Fork new old)) ≡ Accepted → MayFork cs new
-may_fork net cs front c new old h =
-    let a = no_row (is_some (place_of new cs)) NameTaken (row (nat_le MOST_CLONES (length cs)) TooManyClones ∷ [])
-    (λ e. absurd cc) h in
-    let b = no_row (nat_le MOST_CLONES (length cs)) TooManyClones [] (λ e. absurd cc) a.1 in
-    record { unused = none_of (place_of new cs) a.0; few = above MOST_CLONES (length cs) b.0 }
-  where
-    none_of : (o : Option ℕ) → is_some o ≡ false → o ≡ None
-    none_of None e = refl
-    none_of (Some c) e = absurd (false≢true (sym e))
-
 from_one : (o : Option ℕ) (s : ℕ) → option_map (λ i. i + 1) o ≡ Some s → 1 ≤ s
 from_one None s h = absurd cc
 from_one (Some i) s h = let same : i + 1 ≡ s = cc in omega arith
@@ -154,3 +141,24 @@ pub accepted_at_any : (net : Net) (cs : List Clone) (front calls : ℕ) (d : Dec
 accepted_at_any net cs front calls d h =
     (no_row (nat_le MOST_CALLS calls) Full (row (front == net.horizon) Closed ∷ clone_rows (situation net cs front) d
     (place_of (subject d) cs)) (λ e. absurd cc) h).1
+
+-- ---- what a book accepts, a world takes
+-- the rows of a decision do not depend on how many calls there were
+rows_same : (s : Situation) (c : ℕ) (d : Decision) → rows s c d ≡ rows (situation s.net s.clones s.front) c d
+rows_same s c (Fork new old) = refl
+rows_same s c (Set who at station change) = refl
+rows_same s c (End who at) = refl
+
+-- nor do those of its clone
+clone_rows_same : (s : Situation) (d : Decision) (place : Option ℕ)
+    → clone_rows s d place ≡ clone_rows (situation s.net s.clones s.front) d place
+clone_rows_same s d None = refl
+clone_rows_same s d (Some c) = ap (λ r. option_map (λ at. Ended at) (clone_at s.clones c).end ∷ r) (rows_same s c d)
+
+-- what was accepted in a journal, with any number of calls, is accepted by a world with its clones at its front
+pub accepted_at : (s : Situation) (d : Decision) → reply s d ≡ Accepted → IsAccepted s.net s.clones s.front d
+accepted_at s d h =
+    ap (λ r. first_row (row (s.front == s.net.horizon) Closed ∷ r))
+    (sym (clone_rows_same s d (place_of (subject d) s.clones)))
+    ∙ (no_row (nat_le MOST_CALLS s.calls) Full
+    (row (s.front == s.net.horizon) Closed ∷ clone_rows s d (place_of (subject d) s.clones)) (λ e. absurd cc) h).1

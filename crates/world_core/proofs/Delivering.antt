@@ -92,14 +92,6 @@ still_numbered ms olds news h d = λ i q got.
     let p = there_at olds i q (let k = d.count in omega (arith, l, k)) in
     (d.each i (get_or olds i q) q p got).station ∙ h i (get_or olds i q) p
 
--- where there are no messages, every station stays as it was
-pub none_delivered : (procs : List ProcView) → AllDelivered [] procs procs
-none_delivered procs = record {
-  count = refl;
-  each = λ i p q a b. subst (IsDeliveredTo [] p) (of_some p q (sym a ∙ b))
-      (unchanged [] p refl);
-}
-
 sent_append : (i : ℕ) (xs ys : Marked) → sent_to i (xs ++ ys) ≡ sent_to i xs ++ sent_to i ys
 sent_append i [] ys = refl
 sent_append i (x ∷ xs) ys = by (sent_append i xs ys) (x.0.to == i + 1)

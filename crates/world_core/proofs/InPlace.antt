@@ -1,9 +1,8 @@
 -- Stations that are stepped one after the other, where they stand.
-use Rattle.std.proofs.Common.{◌≡◌, ◌≢◌, ℕ, zero, suc, ◌+◌, ◌-◌, ◌<◌, ◌≤◌, List, [], ◌∷◌, ◌++◌, inl, inr, Option, ◌⊎◌}
+use Rattle.std.proofs.Common.{◌≡◌, ◌≢◌, ℕ, zero, suc, ◌+◌, ◌<◌, List, [], ◌∷◌, ◌++◌, inl, inr, Option}
 use Rattle.std.proofs.Common.{Some, None, refl, sym, ap, ◌∙◌, subst, arith, append-nil, length, length-append, map}
-use Rattle.std.proofs.Common.{get_or, slice_get}
-use Rattle.std.specs.List.{SwappedAt}
-use Rattle.std.proofs.lemmas.Bool.{cases_eq, cases_lt}
+use Rattle.std.proofs.Common.{slice_get}
+use Rattle.std.proofs.lemmas.Bool.{cases_eq}
 use Rattle.std.proofs.lemmas.List.{length-map}
 use Rattle.std.proofs.lemmas.List.Sums.{sum_by-cons}
 use Rattle.clone_sets.specs.Sets.{empty, IsFirst}
@@ -16,7 +15,7 @@ use Rattle.phys_proc.proofs.AllCopies.{idle, all_stepped, all_over, all_gained}
 use Rattle.world_core.specs.Windows.{IsFlow, IsNumbered, NoneOver, all_handled, all_sent}
 use Rattle.world_core.specs.Overs.{IsFirstOver}
 use Rattle.world_core.specs.Stepping.{FirstOver, SteppedAt, SteppedTo, AllStepped}
-use Rattle.world_core.proofs.Places.{at_got, there_at, push_got}
+use Rattle.world_core.proofs.Places.{at_got, push_got}
 use Rattle.world_core.proofs.Delivering.{of_some}
 use Rattle.world_core.proofs.Flows.{is_flow}
 
@@ -83,18 +82,18 @@ none_new flows f none over = λ i g got. elim (push_got flows f g i got) [
 ]
 
 -- what the step of the station at place i comes to
-pub stepped_at : (net : Net) (ends : ℕ → ℕ) (bound i : ℕ) (olds news : List ProcView) (p : ProcView) (flow : Flow)
-    → slice_get olds i ≡ Some p →
-    IsFlow net ends bound i p flow → slice_get news i ≡ Some flow.done
-    → ((j : ℕ) → j ≢ i → slice_get news j ≡ slice_get olds j) →
-    length news ≡ length olds → SteppedAt net ends bound i olds news flow.sent.items flow.over flow.handled
-stepped_at net ends bound i olds news p flow got is there others long = record {
+pub stepped_at : (net : Net) (ends : ℕ → ℕ) (bound i : ℕ) (olds news : List ProcView) (before after : Marked)
+    (p : ProcView) (flow : Flow) → slice_get olds i ≡ Some p → IsFlow net ends bound i p flow
+    → slice_get news i ≡ Some flow.done → ((j : ℕ) → j ≢ i → slice_get news j ≡ slice_get olds j)
+    → length news ≡ length olds → after ≡ before ++ flow.sent.items
+    → SteppedAt net ends bound i olds news before after flow.over flow.handled
+stepped_at net ends bound i olds news before after p flow got is there others long sent = record {
   flow = flow;
   is_flow = λ q got_q. subst (λ (x : ProcView). IsFlow net ends bound i x flow) (of_some p q (sym got ∙ got_q)) is;
   there = there;
   others = others;
   long = long;
-  sent_is = refl;
+  sent_is = sent;
   over_is = refl;
   handled_is = refl;
 }
@@ -147,15 +146,14 @@ module _ (net : Net) (ends : ℕ → ℕ) (bound : ℕ) (olds : List ProcView) w
       none_got flow e = absurd (cc)
 
   -- where the first n have answered and now the next has, the first n + 1 have
-  pub stepped_next : (n : ℕ) (news after : List ProcView) (sent out now : Marked) (over0 over1 : Option (ℕ × ℕ))
+  pub stepped_next : (n : ℕ) (news after : List ProcView) (sent now : Marked) (over0 over1 : Option (ℕ × ℕ))
       (over : CloneSet) (handled steps0 steps steps1 : ℕ) → n < length olds →
       SteppedTo net ends bound n olds news sent over0 steps0 steps
-      → SteppedAt net ends bound n news after out over handled →
-      now ≡ sent ++ out → steps1 ≡ steps + handled →
+      → SteppedAt net ends bound n news after sent now over handled → steps1 ≡ steps + handled →
       ((flows : List Flow) (f : Flow) → length flows ≡ n → f.over ≡ over → FirstOver flows over0
       → FirstOver (flows ++ f ∷ []) over1) →
       SteppedTo net ends bound (n + 1) olds after now over1 steps0 steps1
-  stepped_next n news after sent out now over0 over1 over handled steps0 steps steps1 less far one both took first =
+  stepped_next n news after sent now over0 over1 over handled steps0 steps steps1 less far one took first =
       let f = one.flow in
       let c = far.count in
       record {
@@ -170,8 +168,7 @@ module _ (net : Net) (ends : ℕ → ℕ) (bound : ℕ) (olds : List ProcView) w
         done = λ i l. done_at i l ∙ ap (λ k. slice_get k i) (sym (map_more far.flows f));
         others = λ i l. one.others i (λ e. omega (arith, e, l)) ∙ far.others i (omega (arith, l));
         long = one.long ∙ far.long;
-        sent_is = both ∙ ap (λ l. l ++ out) far.sent_is ∙ ap (λ l. all_sent far.flows ++ l) one.sent_is
-            ∙ sym (sent_more far.flows f);
+        sent_is = one.sent_is ∙ ap (λ l. l ++ f.sent.items) far.sent_is ∙ sym (sent_more far.flows f);
         first = first far.flows f c (sym one.over_is) far.first;
         steps_are = let a = far.steps_are in let b = one.handled_is in let d = handled_more far.flows f in
             omega (arith, a, b, d, took);
@@ -201,11 +198,10 @@ module _ (net : Net) (ends : ℕ → ℕ) (bound : ℕ) (olds : List ProcView) w
       → flow.done ≡ p → flow.sent.items ≡ [] → flow.over ≡ empty → flow.handled ≡ 0
       → SteppedTo net ends bound (n + 1) olds news sent over steps0 steps
   stepped_idle n news sent over steps0 steps p flow less far got numbered late shared done none free silent =
-      stepped_next n news news sent flow.sent.items sent over over flow.over flow.handled steps0 steps steps less far
-      (stepped_at net ends bound n news news p flow got
+      stepped_next n news news sent sent over over flow.over flow.handled steps0 steps steps less far
+      (stepped_at net ends bound n news news sent sent p flow got
       (idle_flow net ends bound n p flow numbered late shared done none free silent) (got ∙ ap Some (sym done))
-      (λ j ne. refl) refl)
-      (sym (ap (λ l. sent ++ l) none ∙ append-nil sent)) (omega (arith, silent))
+      (λ j ne. refl) refl (sym (ap (λ l. sent ++ l) none ∙ append-nil sent))) (omega (arith, silent))
       (λ flows f many same. still over flows f (same ∙ free))
     where
       still : (o : Option (ℕ × ℕ)) (flows : List Flow) (f : Flow) → f.over ≡ empty → FirstOver flows o
@@ -240,63 +236,3 @@ module _ (net : Net) (ends : ℕ → ℕ) (bound : ℕ) (olds : List ProcView) w
       same_lists (x ∷ xs) [] l h = absurd (omega (arith, l))
       same_lists {X} (x ∷ xs) (y ∷ ys) l h = ap (λ z. z ∷ xs) (of_some x y (h zero (omega arith)))
           ∙ ap (λ zs. y ∷ zs) (same_lists xs ys (omega (arith, l)) (λ i k. h (suc i) (omega (arith, k))))
-
--- ---- a station is taken out, and what came of it is put in its place
-
--- the last element takes the place of the i-th, a new one comes behind, and these two are swapped
-pub put_back : {X : Type 0} (xs ys zs : List X) (i n m : ℕ) (d : X) → i < length xs → length ys + 1 ≡ length xs
-    → n ≡ length ys → m ≡ length xs →
-    ((e : X) → i + 1 < m → get_or ys i e ≡ get_or xs (m - 1) e) →
-    ((k : ℕ) (e : X) → k ≢ i → k + 1 < m → get_or ys k e ≡ get_or xs k e) →
-    length zs ≡ length (ys ++ d ∷ []) → SwappedAt (ys ++ d ∷ []) zs i n →
-    (slice_get zs i ≡ Some d) × ((k : ℕ) → k ≢ i → slice_get zs k ≡ slice_get xs k) × (length zs ≡ length xs)
-put_back {X} xs ys zs i n m d less long last size moved stay count swapped = (here, others, whole)
-  where
-    plus : length (ys ++ d ∷ []) ≡ length ys + 1
-    plus = length-append ys (d ∷ [])
-
-    whole : length zs ≡ length xs
-    whole = omega (arith, plus, count, long)
-
-    -- the element at a place before the last of the two
-    old_at : (k : ℕ) (e : X) → k < length ys → get_or (ys ++ d ∷ []) k e ≡ get_or ys k e
-    old_at k e l = front ys k e l
-      where
-        front : (l : List X) (k : ℕ) (e : X) → k < length l → get_or (l ++ d ∷ []) k e ≡ get_or l k e
-        front [] k e l = absurd (omega (arith, l))
-        front (y ∷ l) zero e h = refl
-        front (y ∷ l) (suc k) e h = front l k e (omega (arith, h))
-
-    new_at : (k : ℕ) (e : X) → k ≡ length ys → get_or (ys ++ d ∷ []) k e ≡ d
-    new_at k e l = (at_got (ys ++ d ∷ []) k d e (got_last ys d k (sym l))).1
-
-    here : slice_get zs i ≡ Some d
-    here = there_at zs i d (omega (arith, whole, less)) ∙ ap Some (swapped.0 d ∙ new_at n d last)
-
-    -- by its element, an element of both
-    by_element : (k : ℕ) → k < length xs → ((e : X) → get_or zs k e ≡ get_or xs k e) → slice_get zs k ≡ slice_get xs k
-    by_element k l h = there_at zs k d (omega (arith, l, whole)) ∙ ap Some (h d) ∙ sym (there_at xs k d l)
-
-    past : (l : List X) (k : ℕ) → length l ≤ k → slice_get l k ≡ None
-    past [] k h = refl
-    past (y ∷ l) zero h = absurd (omega (arith, h))
-    past (y ∷ l) (suc k) h = past l k (omega (arith, h))
-
-    others : (k : ℕ) → k ≢ i → slice_get zs k ≡ slice_get xs k
-    others k ne = elim (cases_le k) [
-      | inl l ↦ elim (cases_eq k n) [
-        | inl e ↦ by_element k l (λ x. ap (λ j. get_or zs j x) e ∙ swapped.1 x
-            ∙ old_at i x (below i less (λ q. ne (e ∙ last ∙ sym q)))
-            ∙ moved x (let b = below i less (λ q. ne (e ∙ last ∙ sym q)) in omega (arith, b, long, size))
-            ∙ ap (λ j. get_or xs j x) (omega (arith, last, long, e, size)))
-        | inr o ↦ by_element k l (λ x. swapped.2 k x ne o ∙ old_at k x (below k l (λ q. o (q ∙ sym last)))
-            ∙ stay k x ne (let b = below k l (λ q. o (q ∙ sym last)) in omega (arith, b, long, size)))
-      ]
-      | inr l ↦ past zs k (omega (arith, l, whole)) ∙ sym (past xs k l)
-    ]
-      where
-        cases_le : (k : ℕ) → (k < length xs) ⊎ (length xs ≤ k)
-        cases_le k = cases_lt k (length xs)
-
-        below : (j : ℕ) → j < length xs → (j ≡ length ys → ⊥) → j < length ys
-        below j l q = grind (arith, l, q, long)

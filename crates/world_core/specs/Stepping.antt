@@ -1,5 +1,5 @@
 -- What the stations of a window come to, whoever steps them.
-use Rattle.std.specs.Prelude.{◌≡◌, ◌≢◌, ℕ, ◌+◌, ◌<◌, ◌≤◌, List, length, map, slice_get, Option, Some, None}
+use Rattle.std.specs.Prelude.{◌≡◌, ◌≢◌, ℕ, ◌+◌, ◌<◌, ◌≤◌, ◌++◌, List, length, map, slice_get, Option, Some, None}
 use Rattle.clone_sets.specs.declared.set.CloneSet.{CloneSet}
 use Rattle.net_model.specs.Net.{Net}
 use Rattle.phys_proc.specs.Own.{Marked}
@@ -13,15 +13,16 @@ abbrev pub FirstOver : List Flow → Option (ℕ × ℕ) → Type 0
 FirstOver flows None = NoneOver flows
 FirstOver flows (Some p) = IsFirstOver flows p.0 p.1
 
--- the station at place i has answered, and the others stand as they did
-pub record SteppedAt (net : Net) (ends : ℕ → ℕ) (bound i : ℕ) (olds news : List ProcView) (sent : Marked)
+-- the station at place i has answered, what it sent stands behind what the others sent before, and the others stand as
+-- they did
+pub record SteppedAt (net : Net) (ends : ℕ → ℕ) (bound i : ℕ) (olds news : List ProcView) (before after : Marked)
     (over : CloneSet) (handled : ℕ) : Type 0 where
   pub flow : Flow
   pub is_flow : (p : ProcView) → slice_get olds i ≡ Some p → IsFlow net ends bound i p flow
   pub there : slice_get news i ≡ Some flow.done
   pub others : (j : ℕ) → j ≢ i → slice_get news j ≡ slice_get olds j
   pub long : length news ≡ length olds
-  pub sent_is : sent ≡ flow.sent.items
+  pub sent_is : after ≡ before ++ flow.sent.items
   pub over_is : over ≡ flow.over
   pub handled_is : handled ≡ flow.handled
 

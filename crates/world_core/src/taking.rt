@@ -116,6 +116,7 @@ impl World {
             front,
             mut procs,
             last,
+            outbox,
         } = self;
         let number = lists.lists().len();
         lists.fork(alloc, new, old)?;
@@ -127,6 +128,7 @@ impl World {
             front,
             procs,
             last,
+            outbox,
         })
     }
 
@@ -147,6 +149,7 @@ impl World {
             front,
             mut procs,
             last,
+            outbox,
         } = self;
         let msg = message_of(lists.lists().list(who).len(), &plan);
         lists.add(who, plan)?;
@@ -158,6 +161,7 @@ impl World {
             front,
             procs,
             last,
+            outbox,
         })
     }
 
@@ -178,6 +182,7 @@ impl World {
             front,
             procs,
             last,
+            outbox,
         } = self;
         lists.end(who, at);
         ends.end(who, at)?;
@@ -188,6 +193,7 @@ impl World {
             front,
             procs,
             last,
+            outbox,
         })
     }
 }

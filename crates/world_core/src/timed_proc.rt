@@ -1,11 +1,11 @@
 //! The copies of a station, beside a time that nothing of them is pending before.
-ghost use Rattle.std.specs.Prelude.{◌≡◌, ℕ, ◌<◌, ◌≤◌, true, false, IfOk, OnOk, IsTrue, map, length};
+ghost use Rattle.std.specs.Prelude.{◌≡◌, ℕ, ◌<◌, ◌≤◌, ◌+◌, [], true, false, IfOk, OnOk, IsTrue, map, length};
 ghost use Rattle.std.specs.List.{AllZip};
-ghost use Rattle.clone_sets.specs.Sets.{has, with};
+ghost use Rattle.clone_sets.specs.Sets.{has, with, empty};
 ghost use Rattle.net_model.specs.Net.{Net};
 ghost use Rattle.stations.specs.Runs.{simulation};
 ghost use Rattle.run_laws.specs.Fronts.{earlier as earlier'};
-ghost use Rattle.run_laws.specs.Copies.{IsForked, Stands};
+ghost use Rattle.run_laws.specs.Copies.{IsForked, IsStepped, AreOver, GainTogether, Stands};
 ghost use Rattle.phys_proc.specs.Own.{given, AreLate};
 ghost use Rattle.phys_proc.specs.Gone.{ends_in};
 ghost use Rattle.phys_proc.specs.Procs.{IsProc, IsLeastOf, AreShared};
@@ -14,10 +14,11 @@ ghost use Rattle.world_core.specs.Due.{IsWithLeast};
 
 use clone_sets::CloneSet;
 use net_model::Model;
-use phys_proc::{CloneEnds, PhysCopy, Proc, Rack};
-use sim_base::{Lists, Msg, NoMemory};
+use phys_proc::{CloneEnds, Gain, PhysCopy, Proc, Rack};
+use sim_base::{Lists, Msg, NoMemory, Steps};
 use std::alloc::Global;
 use std::sync::Arc;
+use std::sync::ledger::Ledger;
 
 /// The copies of one station, beside a lower bound of the times of their pending messages. So a station with nothing
 /// due is known by one comparison.
@@ -76,6 +77,40 @@ impl TimedProc {
     {
         let _copies = self.proc.copies();
         bound <= self.least
+    }
+
+    /// Steps the copies to the bound where they stand; what they send to other stations is put into `sent`, which
+    /// is empty before. Out of memory, or where some clone is over the limit, they mean nothing.
+    pub fn advance<L: Ledger>(
+        &mut self,
+        alloc: Global,
+        model: &Model,
+        ends: &CloneEnds,
+        bound: u64,
+        sent: &mut Vec<(Msg, CloneSet)>,
+        steps: &mut Steps<L>,
+    ) -> Result<Gain, NoMemory>
+        requires proc { IsProc model.now self.old }
+        requires early { bound ≤ model.now.horizon }
+        requires silent { sent.old.items ≡ [] }
+        ensures windows { IfOk result (λ g. g.over ≡ empty →
+            IsStepped (simulation model.now) has (ends_in model.now.horizon ends.now) self.old.station bound
+            self.old.copies self.new.copies sent.new.items) }
+        ensures over { IfOk result (λ g. AreOver (simulation model.now) has (ends_in model.now.horizon ends.now)
+            self.old.station bound self.old.copies g.over) }
+        ensures gained { IfOk result (λ g. GainTogether (simulation model.now) has
+            (ends_in model.now.horizon ends.now) self.old.station bound self.old.copies g.handled) }
+        ensures counted { IfOk result (λ g. steps.new ≡ steps.old + g.handled) }
+        ensures proc { OnOk result (IsProc model.now self.new) }
+        ensures station { self.new.station ≡ self.old.station }
+        ensures living { IfOk result (λ g. g.over ≡ empty → self.new.living ≡ self.old.living) }
+        ensures handled { IfOk result (λ g. g.over ≡ empty → self.new.handled ≡ self.old.handled + g.handled) }
+    {
+        // also where memory is refused
+        self.least = 0;
+        let gain = self.proc.advance(alloc, model, ends, bound, sent, steps)?;
+        self.least = self.proc.earliest();
+        Ok(gain)
     }
 
     /// The lesser of a time that was found before, and the least time at which something is due to any clone here.

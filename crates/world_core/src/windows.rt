@@ -1,6 +1,6 @@
 //! The tasks of a window: each station steps its own copies.
 ghost use Rattle.std.specs.Prelude.{◌≡◌, ℕ, ◌+◌, ◌<◌, ◌≤◌, ◌++◌, ◌∷◌, []};
-ghost use Rattle.std.specs.Prelude.{Some, None, List, length, map, slice_get, IfOk, IfSome};
+ghost use Rattle.std.specs.Prelude.{Some, None, List, length, map, slice_get, IfOk, OnOk, IfSome};
 ghost use Rattle.clone_sets.specs.declared.set.CloneSet.{CloneSet as CloneSet'};
 ghost use Rattle.phys_proc.specs.Gone.{ends_in};
 ghost use Rattle.phys_proc.specs.Procs.{ProcView};
@@ -12,7 +12,7 @@ use crate::timed_proc::TimedProc;
 use clone_sets::CloneSet;
 use crew_pool::{Crew, Gate, Work};
 use net_model::Model;
-use phys_proc::{CloneEnds, Flow};
+use phys_proc::{CloneEnds, Flow, Gain};
 use sim_base::{Msg, NoMemory, Steps};
 use std::alloc::Global;
 use std::sync::Wait;
@@ -77,36 +77,39 @@ impl<'a> Work for Window<'a> {
 #[derive(Drop)]
 pub(crate) struct Stepped {
     pub procs: Vec<TimedProc>,
-    pub sent: Vec<(Msg, CloneSet)>,
+    pub outbox: Outbox,
     pub over: Option<(u32, u32)>,
     /// How many messages were handled: a hint.
     pub handled: u64,
 }
 
-// What the step of one station gives beside its copies.
+/// What stations send in a window. It is kept from window to window, so that its memory is taken once.
 #[derive(Drop)]
-struct Part {
-    sent: Vec<(Msg, CloneSet)>,
-    over: CloneSet,
-    handled: u64,
+pub(crate) struct Outbox {
+    /// What all stations so far have sent.
+    pub all: Vec<(Msg, CloneSet)>,
+    /// What one station sends, before it is put with the others.
+    one: Vec<(Msg, CloneSet)>,
 }
 
-// Both lists, one behind the other; where one is empty, the other itself.
-fn joined(
-    sent: Vec<(Msg, CloneSet)>,
-    out: Vec<(Msg, CloneSet)>,
-) -> Result<Vec<(Msg, CloneSet)>, NoMemory>
-    ensures both { IfOk result (λ v. v.items ≡ sent.items ++ out.items) }
+impl Outbox {
+    /// Nothing was sent. It takes no memory.
+    pub fn new(alloc: Global) -> Outbox
+        ensures none { result.all.items ≡ [] }
+    {
+        Outbox {
+            all: Vec::new(alloc),
+            one: Vec::new(alloc),
+        }
+    }
+}
+
+// Puts messages behind others.
+fn put_behind(all: &mut Vec<(Msg, CloneSet)>, more: &[(Msg, CloneSet)]) -> Result<(), NoMemory>
+    ensures both { OnOk result (all.new.items ≡ all.old.items ++ more.now) }
 {
-    if out.is_empty() {
-        return Ok(sent);
-    }
-    if sent.is_empty() {
-        return Ok(out);
-    }
-    let mut sent = sent;
-    sent.extend_from_slice(out.as_slice())?;
-    Ok(sent)
+    all.extend_from_slice(more)?;
+    Ok(())
 }
 
 // The first station over the limit so far, and there the first clone, where the station at place i comes next.
@@ -126,58 +129,55 @@ fn first_with(before: Option<(u32, u32)>, i: u32, over: CloneSet) -> Option<(u32
     None
 }
 
-// Steps the station at place i where it stands.
+// Steps the station at place i where it stands, and puts what it sends behind what the others sent.
 fn step_place<L: Ledger>(
     alloc: Global,
     work: &Window,
     procs: &mut Vec<TimedProc>,
     i: usize,
+    outbox: &mut Outbox,
     steps: &mut Steps<L>,
-) -> Result<Part, NoMemory>
+) -> Result<Gain, NoMemory>
     requires place { i < length procs.old.items }
     requires few { i < 64 }
     requires numbered { (p : ProcView) → slice_get procs.old.items i ≡ Some p → IsNumbered work.now.net i p }
-    ensures stepped { IfOk result (λ part. SteppedAt work.now.net (ends_in work.now.net.horizon work.now.ended)
-        work.now.bound i
-        procs.old.items procs.new.items part.sent.items part.over part.handled) }
-    ensures steps { IfOk result (λ part. steps.new ≡ steps.old + part.handled) }
+    ensures stepped { IfOk result (λ gain. SteppedAt work.now.net (ends_in work.now.net.horizon work.now.ended)
+        work.now.bound i procs.old.items procs.new.items outbox.old.all.items outbox.new.all.items gain.over
+        gain.handled) }
+    ensures steps { IfOk result (λ gain. steps.new ≡ steps.old + gain.handled) }
 {
-    let item = procs.swap_remove(i);
-    let flow = work.run(alloc, i as u32, item, steps)?;
-    let Flow {
-        done,
-        sent,
-        over,
-        handled,
-    } = flow;
-    let last = procs.len();
-    procs.push(TimedProc::of(done))?;
-    procs.swap(i, last);
-    Ok(Part {
-        sent,
-        over,
-        handled,
-    })
+    outbox.one.clear();
+    let gain = procs[i].advance(
+        alloc,
+        work.model,
+        work.ends,
+        work.bound,
+        &mut outbox.one,
+        steps,
+    )?;
+    put_behind(&mut outbox.all, outbox.one.as_slice())?;
+    Ok(gain)
 }
 
-// Steps the stations one by one, in the caller's thread. Those with nothing due stay where they are.
+// Steps the stations one by one, in the caller's thread, each where it stands. Those with nothing due are passed over.
 fn step_in_place<G: Gate, L: Ledger, R: Wait>(
     rt: &R,
     alloc: Global,
     gate: &G,
     work: &Window,
     olds: Vec<TimedProc>,
+    outbox: Outbox,
     steps: &mut Steps<L>,
 ) -> Result<Stepped, NoMemory>
     requires few { length olds.items ≤ 64 }
     requires numbered { AllNumbered work.now.net olds.items }
     ensures stepped { IfOk result (λ s. AllStepped work.now.net (ends_in work.now.net.horizon work.now.ended)
-        work.now.bound
-        olds.items s.procs.items s.sent.items s.over steps.old steps.new) }
+        work.now.bound olds.items s.procs.items s.outbox.all.items s.over steps.old steps.new) }
     ensures few { IfOk result (λ s. IfSome s.over (λ p. p.0 < 64)) }
 {
     let mut procs = olds;
-    let mut sent = Vec::new(alloc);
+    let mut outbox = outbox;
+    outbox.all.clear();
     let mut over = None;
     let mut handled: u64 = 0;
     for i in 0..procs.len() {
@@ -185,14 +185,13 @@ fn step_in_place<G: Gate, L: Ledger, R: Wait>(
         if procs[i].is_idle(work.bound) {
             continue;
         }
-        let part = step_place(alloc, work, &mut procs, i, steps)?;
-        sent = joined(sent, part.sent)?;
-        over = first_with(over, i as u32, part.over);
-        handled = handled.saturating_add(part.handled);
+        let gain = step_place(alloc, work, &mut procs, i, &mut outbox, steps)?;
+        over = first_with(over, i as u32, gain.over);
+        handled = handled.saturating_add(gain.handled);
     }
     Ok(Stepped {
         procs,
-        sent,
+        outbox,
         over,
         handled,
     })
@@ -202,12 +201,13 @@ fn step_in_place<G: Gate, L: Ledger, R: Wait>(
 fn take_apart(
     alloc: Global,
     flows: Vec<Flow>,
-) -> Result<(Vec<TimedProc>, Vec<(Msg, CloneSet)>), NoMemory>
-    ensures procs { IfOk result (λ p. p.0.items ≡ map (λ f. f.done) flows.items) }
-    ensures sent { IfOk result (λ p. p.1.items ≡ all_sent flows.items) }
+    sent: &mut Vec<(Msg, CloneSet)>,
+) -> Result<Vec<TimedProc>, NoMemory>
+    requires none { sent.old.items ≡ [] }
+    ensures procs { IfOk result (λ p. p.items ≡ map (λ f. f.done) flows.items) }
+    ensures sent { OnOk result (sent.new.items ≡ all_sent flows.items) }
 {
     let mut procs = Vec::with_capacity(alloc, flows.len())?;
-    let mut sent = Vec::new(alloc);
     for flow in flows {
         let Flow {
             done,
@@ -216,9 +216,9 @@ fn take_apart(
             handled: _,
         } = flow;
         procs.push(TimedProc::of(done))?;
-        sent = joined(sent, out)?;
+        put_behind(sent, out.as_slice())?;
     }
-    Ok((procs, sent))
+    Ok(procs)
 }
 
 // How many messages the stations have handled.
@@ -245,19 +245,21 @@ fn first_over(flows: &[Flow]) -> Option<(u32, u32)>
 }
 
 // What the answers of all tasks come to.
-fn gathered(alloc: Global, flows: Vec<Flow>) -> Result<Stepped, NoMemory>
+fn gathered(alloc: Global, flows: Vec<Flow>, outbox: Outbox) -> Result<Stepped, NoMemory>
     requires few { length flows.items ≤ 64 }
     ensures procs { IfOk result (λ s. s.procs.items ≡ map (λ f. f.done) flows.items) }
-    ensures sent { IfOk result (λ s. s.sent.items ≡ all_sent flows.items) }
+    ensures sent { IfOk result (λ s. s.outbox.all.items ≡ all_sent flows.items) }
     ensures over { IfOk result (λ s. FirstOver flows.items s.over) }
     ensures few { IfOk result (λ s. IfSome s.over (λ p. p.0 < 64)) }
 {
     let over = first_over(flows.as_slice());
     let handled = handled_in(flows.as_slice());
-    let (procs, sent) = take_apart(alloc, flows)?;
+    let mut outbox = outbox;
+    outbox.all.clear();
+    let procs = take_apart(alloc, flows, &mut outbox.all)?;
     Ok(Stepped {
         procs,
-        sent,
+        outbox,
         over,
         handled,
     })
@@ -266,7 +268,7 @@ fn gathered(alloc: Global, flows: Vec<Flow>) -> Result<Stepped, NoMemory>
 /// Steps all stations to the bound. Out of memory, they are gone.
 ///
 /// `small` says that so little is due that threads would cost more than they save: then the caller's thread steps the
-/// stations where they stand. Else each is handed to the crew, and comes back in its answer.
+/// stations where they stand. Else each is handed to the crew, and comes back in its answer. `outbox` is a buffer.
 pub(crate) fn step_all<C: Crew, G: Gate, L: Ledger, R: Threads + Wait + Sync>(
     rt: &R,
     alloc: Global,
@@ -275,6 +277,7 @@ pub(crate) fn step_all<C: Crew, G: Gate, L: Ledger, R: Threads + Wait + Sync>(
     model: &Model,
     ends: &CloneEnds,
     procs: Vec<TimedProc>,
+    outbox: Outbox,
     bound: u64,
     small: bool,
     steps: &mut Steps<L>,
@@ -283,15 +286,15 @@ pub(crate) fn step_all<C: Crew, G: Gate, L: Ledger, R: Threads + Wait + Sync>(
     requires few { length procs.items ≤ 64 }
     requires numbered { AllNumbered model.now procs.items }
     ensures stepped { IfOk result (λ s. AllStepped model.now (ends_in model.now.horizon ends.now) bound procs.items
-        s.procs.items s.sent.items s.over steps.old steps.new) }
+        s.procs.items s.outbox.all.items s.over steps.old steps.new) }
     ensures few { IfOk result (λ s. IfSome s.over (λ p. p.0 < 64)) }
 {
     let work = Window { model, ends, bound };
     if small {
-        let stepped = step_in_place(rt, alloc, gate, &work, procs, steps)?;
+        let stepped = step_in_place(rt, alloc, gate, &work, procs, outbox, steps)?;
         return Ok(stepped);
     }
     let flows = crew.all(rt, alloc, &work, procs, gate, steps)?;
-    let all = gathered(alloc, flows)?;
+    let all = gathered(alloc, flows, outbox)?;
     Ok(all)
 }

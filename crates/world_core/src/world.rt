@@ -10,7 +10,7 @@ ghost use Rattle.world_core.specs.Overs.{IsFault, NoneBeyond};
 use crate::delivery::deliver_all;
 use crate::shared_lists::SharedLists;
 use crate::timed_proc::TimedProc;
-use crate::windows::{Stepped, step_all};
+use crate::windows::{Outbox, Stepped, step_all};
 use crew_pool::{Crew, Gate};
 use net_model::Model;
 use phys_proc::{CloneEnds, Proc};
@@ -30,6 +30,8 @@ pub struct World {
     pub(crate) procs: Vec<TimedProc>,
     // how many messages the last window handled: a hint of how many the next one will
     pub(crate) last: u64,
+    // for what a window sends
+    pub(crate) outbox: Outbox,
 }
 
 /// Windows that handle fewer messages than this run in the caller's thread: starting threads costs more.
@@ -82,6 +84,7 @@ impl World {
             front: 0,
             procs,
             last: 0,
+            outbox: Outbox::new(alloc),
         })
     }
 
@@ -112,7 +115,7 @@ impl World {
 
     /// Handles what comes before the bound, at each station by itself, and gives each station what the others sent
     /// to it. Each station is a task, whether or not something is due there: of the crew, or where little is due of
-    /// the caller's thread, which moves only those with something due.
+    /// the caller's thread, which steps them where they stand.
     ///
     /// Out of memory, or where a log would get longer than the limit, the world is given up.
     pub fn window<C: Crew, G: Gate, L: Ledger, R: Threads + Wait + Sync>(
@@ -141,16 +144,17 @@ impl World {
             front: _,
             procs,
             last,
+            outbox,
         } = self;
         let small = last < SMALL_WINDOW;
         let Ok(stepped) = step_all(
-            rt, alloc, crew, gate, &model, &ends, procs, bound, small, steps,
+            rt, alloc, crew, gate, &model, &ends, procs, outbox, bound, small, steps,
         ) else {
             return Err(WorldFault::NoMemory);
         };
         let Stepped {
             mut procs,
-            sent,
+            outbox,
             over,
             handled,
         } = stepped;
@@ -161,7 +165,7 @@ impl World {
                 kept: model.limit(),
             });
         }
-        match deliver_all(&mut procs, sent.as_slice()) {
+        match deliver_all(&mut procs, outbox.all.as_slice()) {
             Ok(()) => Ok(World {
                 model,
                 lists,
@@ -169,6 +173,7 @@ impl World {
                 front: bound,
                 procs,
                 last: handled,
+                outbox,
             }),
             Err(NoMemory) => Err(WorldFault::NoMemory),
         }

@@ -1,6 +1,6 @@
 //! One block of pending messages.
 ghost use Rattle.std.specs.Prelude.{◌≡◌, ℕ, ◌+◌, ◌-◌, ◌<◌, ◌≤◌, ◌==◌, List, []};
-ghost use Rattle.std.specs.Prelude.{◌++◌, length, take, drop, slice_get, OnOk, OnErr, IfOk};
+ghost use Rattle.std.specs.Prelude.{◌++◌, length, take, drop, slice_get, Some, OnOk, OnErr, IfOk};
 ghost use Rattle.sim_base.specs.Pending.{insert_marked, spread_marks, cut_by, first_time, first_marks};
 ghost use Rattle.std.specs.Ordering.{is_eq, is_gt};
 ghost use Rattle.sim_base.specs.Order.{msg_cmp};
@@ -116,6 +116,18 @@ impl<S: Marks> Block<S> {
         ensures rest { self.new ≡ drop 1 self.old }
     {
         let taken = self.items.pop_front();
+        self.time = time_of_first(&self.items);
+        taken
+    }
+
+    /// Takes the first message out, and leaves its marks.
+    pub(crate) fn take_message(&mut self) -> Msg
+        requires some { 0 < length self.old }
+        ensures value { (k : S) × (slice_get self.old 0 ≡ Some (result, k)) }
+        ensures rest { self.new ≡ drop 1 self.old }
+    {
+        let taken = self.items[0].0;
+        let _first = self.items.pop_front();
         self.time = time_of_first(&self.items);
         taken
     }

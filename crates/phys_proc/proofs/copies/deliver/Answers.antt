@@ -3,6 +3,7 @@ use Rattle.std.proofs.lemmas.Bool.{false≢true}
 use Rattle.clone_sets.specs.Sets.{minus, empty}
 use Rattle.phys_proc.specs.Own.{StationCopy, given, but_pending}
 use Rattle.phys_proc.proofs.Given.{changed_more, changed_all, length-changed, rest_more, given_to_all}
+use Rattle.phys_proc.proofs.Noted.{leasts_long, least_at, leasts_set}
 use Rattle.phys_proc.proofs.Shares.{same_set}
 use Rattle.phys_proc.proofs.copies.deliver.Goals as goal
 
@@ -27,6 +28,8 @@ loop-i-preserved c =
             length-changed (given c.args.msg c.args.set) c.loop-i.i c.args.copies.now.items,
           ))
           (c.in_ok-give.ensures.same ∙ ap but_pending c.index_mut.ensures.value) ∙ c.loop-i.invariant.same;
+      each = leasts_set c.loop-i.leasts.items c.loop-i.copies.items c.loop-i.i c.give.new.least c.give.new.copy
+          c.loop-i.invariant.each c.in_ok-give.ensures.late;
       rest = c.minus-rest.ensures.value ∙ ap₂ minus c.loop-i.invariant.rest (ap (λ (u : StationCopy). u.set)
           (c.behind-copies.view_is ∙ (c.index.ensures ∙ ap (λ l. get_or l c.loop-i.i c.index.result.now) h)))
           ∙ rest_more f c.args.set c.args.copies.now.items c.loop-i.i c.index.result.now
@@ -58,3 +61,34 @@ returns-in_err-give-clause-same c =
       length-changed (given c.args.msg c.args.set) c.loop-i.i c.args.copies.now.items,
     ))
     (c.in_err-give.ensures.same ∙ ap but_pending c.index_mut.ensures.value) ∙ c.loop-i.invariant.same
+
+pub index_mut-requires-in-loop-i : goal.index_mut-requires-in-loop-i
+index_mut-requires-in-loop-i c = omega (
+  arith,
+  c.loop-i-test.true,
+  c.loop-i.auto.i-end,
+  c.len-i-end.ensures,
+  c.args.copies.now.ok.0,
+  c.loop-i.leasts.ok.0,
+  ap length c.loop-i.invariant.given,
+  length-changed (given c.args.msg c.args.set) c.loop-i.i c.args.copies.now.items,
+  leasts_long c.loop-i.leasts.items c.loop-i.copies.items c.loop-i.invariant.each,
+)
+
+pub give-requires : goal.give-requires
+give-requires c = record {
+  late = least_at c.loop-i.leasts.items c.loop-i.copies.items c.loop-i.i c.index_mut-in-loop-i.result.now
+      c.index_mut-in-loop-i.result.now c.index_mut.result.now c.loop-i.invariant.each (omega (
+        arith,
+        c.loop-i-test.true,
+        c.loop-i.auto.i-end,
+        c.len-i-end.ensures,
+        c.args.copies.now.ok.0,
+        ap length c.loop-i.invariant.given,
+        length-changed (given c.args.msg c.args.set) c.loop-i.i c.args.copies.now.items,
+      )) c.index_mut-in-loop-i.ensures.value c.index_mut.ensures.value;
+}
+
+pub returns-in_err-give-clause-each : goal.returns-in_err-give-clause-each
+returns-in_err-give-clause-each c = leasts_set c.loop-i.leasts.items c.loop-i.copies.items c.loop-i.i
+    c.give.new.least c.give.new.copy c.loop-i.invariant.each c.in_err-give.ensures.late

@@ -2,6 +2,7 @@ use Rattle.std.proofs.Common.{arith, sym, ap, ◌∙◌, slice_set, eqb-true}
 use Rattle.clone_sets.specs.Sets.{minus, empty}
 use Rattle.phys_proc.specs.Own.{StationCopy, given, but_pending}
 use Rattle.phys_proc.proofs.Given.{given_alone, given_first}
+use Rattle.phys_proc.proofs.Noted.{leasts_long, least_at, leasts_set}
 use Rattle.phys_proc.proofs.Shares.{disjoint_same, same_set}
 use Rattle.phys_proc.proofs.copies.deliver_from.Goals as goal
 
@@ -34,6 +35,8 @@ deliver-requires-2 c = record {
       (same_set c.args.guess c.args.copies.now.items c.give.new.copy c.index_mut.result.now
       (omega (arith, c.if-guess-len.false, c.len.ensures, c.args.copies.now.ok.0))
       (c.in_ok-give.ensures.same ∙ ap but_pending c.index_mut.ensures.value)) c.requires.disjoint;
+  each = leasts_set c.args.leasts.now.items c.args.copies.now.items c.args.guess c.give.new.least c.give.new.copy
+      c.requires.each c.in_ok-give.ensures.late;
 }
 
 pub returns-in_err-place-clause-same : goal.returns-in_err-place-clause-same
@@ -57,3 +60,29 @@ returns-clause-same c = c.in_ok-place.ensures.same
     ∙ same_set c.args.guess c.args.copies.now.items c.give.new.copy c.index_mut.result.now
     (omega (arith, c.if-guess-len.false, c.len.ensures, c.args.copies.now.ok.0))
     (c.in_ok-give.ensures.same ∙ ap but_pending c.index_mut.ensures.value)
+
+pub index_mut-requires-2 : goal.index_mut-requires-2
+index_mut-requires-2 c = omega (
+  arith,
+  c.if-guess-len.false,
+  c.len.ensures,
+  c.args.copies.now.ok.0,
+  c.args.leasts.now.ok.0,
+  leasts_long c.args.leasts.now.items c.args.copies.now.items c.requires.each,
+)
+
+pub give-requires : goal.give-requires
+give-requires c = record {
+  late = least_at c.args.leasts.now.items c.args.copies.now.items c.args.guess c.index_mut-2.result.now
+      c.index_mut-2.result.now c.index_mut.result.now c.requires.each
+      (omega (arith, c.if-guess-len.false, c.len.ensures, c.args.copies.now.ok.0)) c.index_mut-2.ensures.value
+      c.index_mut.ensures.value;
+}
+
+pub returns-in_err-give-clause-each : goal.returns-in_err-give-clause-each
+returns-in_err-give-clause-each c = leasts_set c.args.leasts.now.items c.args.copies.now.items c.args.guess
+    c.give.new.least c.give.new.copy c.requires.each c.in_err-give.ensures.late
+
+pub returns-then-is_empty-clause-each : goal.returns-then-is_empty-clause-each
+returns-then-is_empty-clause-each c = leasts_set c.args.leasts.now.items c.args.copies.now.items c.args.guess
+    c.give.new.least c.give.new.copy c.requires.each c.in_ok-give.ensures.late

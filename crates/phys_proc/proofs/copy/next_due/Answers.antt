@@ -3,7 +3,7 @@ use Rattle.std.proofs.lemmas.Bool.{eqb-false}
 use Rattle.clone_sets.specs.Sets.{has, empty}
 use Rattle.clone_sets.proofs.SetLaws.{has-empty}
 use Rattle.phys_proc.proofs.Parted.{nothing_late, nothing_left, next_is_due, none_takes, same_more, first_is}
-use Rattle.phys_proc.proofs.Parted.{first_timed, first_marked, none_timed}
+use Rattle.phys_proc.proofs.Parted.{first_timed, first_marked, none_timed, some_waits}
 use Rattle.phys_proc.specs.Gone.{ends_in, is_gone}
 use Rattle.phys_proc.proofs.copy.next_due.Goals as goal
 
@@ -26,12 +26,16 @@ returns-then-not-is_empty-clause-some c =
           (λ e. eqb-false c.minus-takers.result empty (sym c.if-not-is_empty.ensures.value) e) f.1,
     )
 
+pub take_message-passed-requires : goal.take_message-passed-requires
+take_message-passed-requires c =
+    record { some = some_waits _ c.in-Some.time c.in-Some.ensures.value }
+
 pub loop-time-preserved : goal.loop-time-preserved
 loop-time-preserved c =
     let f = first_marked _ c.in-Some.time c.in-Some-least_marks.marks c.in-Some.ensures.value
     c.in-Some-least_marks.ensures.value in
     same_more (ends_in c.args.horizon c.args.ends.now) c.args.copy.now _ _ f.0 c.in-Some-least_marks.marks
-    c.loop-time.invariant (first_is _ _ _ _ f.1 c.in-Some-take_message.ensures.some.1) refl refl refl
+    c.loop-time.invariant (first_is _ _ _ _ f.1 c.take_message-passed.ensures.value.1) refl refl refl
     (none_takes c.args.horizon c.args.ends.now c.args.bound c.requires.early c.args.copy.now _ f.0
     c.in-Some-least_marks.marks c.minus-takers.result c.meet.result c.gone.result c.loop-time.invariant
     c.meet.ensures.members c.minus-takers.ensures.members

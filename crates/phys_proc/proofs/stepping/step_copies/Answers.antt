@@ -7,7 +7,7 @@ use Rattle.phys_proc.proofs.stepping.step_copies.Goals as goal
 pub returns-then-is_idle-clause-stepped : goal.returns-then-is_idle-clause-stepped
 returns-then-is_idle-clause-stepped g c =
     let net = c.args.model.now in
-    rw (c.of.ensures.done, c.of.ensures.sent, c.of.ensures.over)
+    rw (c.requires.silent, c.requires.under)
     (idle net c.requires.valid c.args.station (ends_in net.horizon c.args.ends.now) c.args.bound c.args.copies
     c.args.steps.now c.requires.fits (c.if-is_idle.ensures.late refl) c.requires.disjoint)
 
@@ -19,5 +19,5 @@ returns-clause-stepped g c =
     subst (λ d. Stepping net c.args.station ends c.args.bound c.args.copies d new.stage.sent.items new.stage.over
     c.args.steps.now new.steps) (sym c.in_ok-put_before.ensures.all)
     (subst (λ k. Stepping net c.args.station ends c.args.bound k (new.copies.items ++ new.stage.done)
-    new.stage.sent.items new.stage.over c.args.steps.now new.steps) c.into_copies-standing.ensures.same
+    new.stage.sent.items new.stage.over c.args.steps.now new.steps) c.into_parts-standing.ensures.same
     c.in_ok-least.ensures.stepped)

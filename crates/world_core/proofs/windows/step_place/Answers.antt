@@ -1,44 +1,31 @@
-use Rattle.std.proofs.Common.{◌≡◌, ◌++◌, ◌∷◌, [], Some, refl, arith, ap, subst, ◌∙◌, length}
-use Rattle.std.specs.List.{SwappedAt}
-use Rattle.phys_proc.specs.Own.{AreLate}
+use Rattle.std.proofs.Common.{◌≡◌, ◌++◌, sym, ap, subst, ◌∙◌, length-set, slice_set}
 use Rattle.phys_proc.specs.Gone.{ends_in}
 use Rattle.phys_proc.specs.declared.proc.Flow.{Flow}
-use Rattle.world_core.specs.Windows.{WindowView}
+use Rattle.world_core.specs.Windows.{WindowView, IsNumbered}
+use Rattle.world_core.specs.Stepping.{SteppedAt}
+use Rattle.world_core.proofs.Delivering.{set_same, set_other}
+use Rattle.world_core.proofs.Flows.{is_flow}
+use Rattle.world_core.proofs.InPlace.{stepped_at}
 use Rattle.world_core.proofs.Places.{got_at}
-use Rattle.world_core.proofs.InPlace.{put_back, stepped_at}
 use Rattle.world_core.proofs.windows.step_place.Goals as goal
-
-pub run-requires : goal.run-requires
-run-requires g c =
-    let x = c.swap_remove-item.result in
-    record {
-      ready = c.requires.numbered x
-          (got_at c.args.procs.now.items c.args.i x c.requires.place c.swap_remove-item.ensures.value);
-    }
 
 pub returns-clause-stepped : goal.returns-clause-stepped
 returns-clause-stepped g c =
-    let w = c.args.work.now in
+    let v : WindowView = record { net = c.work.inside.model.now; ended = c.work.inside.ends.now; bound = c.work.inside.bound } in
+    let ends = ends_in v.net.horizon v.ended in
     let items = c.args.procs.now.items in
     let i = c.args.i in
-    let x = c.swap_remove-item.result in
-    let d = c.of.result in
-    let ys = c.swap_remove-item.new.self.items in
-    let zs = c.swap.new.self.items in
-    let old_long = c.args.procs.now.ok.0 in
-    let mid_long = c.swap_remove-item.new.self.ok.0 in
-    let end_long = c.swap.new.self.ok.0 in
-    let push_long = c.push.new.self.ok.0 in
-    let taken = c.swap_remove-item.ensures.len in
-    let swapped_long = c.swap.ensures.len in
-    let last = c.len-last.ensures in
-    let pushed : c.push.new.self.items ≡ ys ++ d ∷ [] = c.in_ok-push.ensures.items in
-    let pushed_long = ap length pushed in
-    let got = got_at items i x c.requires.place c.swap_remove-item.ensures.value in
-    let r = put_back items ys zs i c.len-last.result c.args.procs.now.len d c.requires.place
-    (omega (arith, old_long, mid_long, taken)) (omega (arith, mid_long, last)) (omega (arith, old_long))
-    c.swap_remove-item.ensures.by_index.0 c.swap_remove-item.ensures.by_index.1
-    (omega (arith, end_long, push_long, swapped_long, pushed_long))
-    (subst (λ l. SwappedAt l zs i c.len-last.result) pushed c.swap.ensures.by_index) in
-    stepped_at w.net (ends_in w.net.horizon w.ended) w.bound i items zs x c.in_ok-flow.flow got
-    c.in_ok-flow.ensures.answer (r.0 ∙ ap Some c.of.ensures.same) r.1 r.2
+    let x = c.index_mut.result.now in
+    let y = c.advance.new.self in
+    let e = c.in_ok-gain.ensures in
+    let got = got_at items i x c.requires.place c.index_mut.ensures.value in
+    let at = subst (λ (w : WindowView). IsNumbered w.net i x) (sym c.work.view_is) (c.requires.numbered x got) in
+    let flow : Flow = record { done = y; sent = c.advance.new.sent; over = c.in_ok-gain.gain.over; handled = c.in_ok-gain.gain.handled } in
+    let sent : c.put_behind.new.all.items ≡ c.args.outbox.now.all.items ++ c.advance.new.sent.items =
+    c.in_ok-put_behind.ensures.both ∙ ap (λ l. c.args.outbox.now.all.items ++ l) c.as_slice.ensures.value in
+    subst (λ (w : WindowView). SteppedAt w.net (ends_in w.net.horizon w.ended) w.bound i items (slice_set items i y)
+    c.args.outbox.now.all.items c.put_behind.new.all.items flow.over flow.handled) c.work.view_is
+    (stepped_at v.net ends v.bound i items (slice_set items i y) c.args.outbox.now.all.items
+    c.put_behind.new.all.items x flow got
+    (is_flow v.net ends v.bound i x flow at.number e.windows e.over e.gained e.proc e.station e.living e.handled)
+    (set_same items i y c.requires.place) (λ j ne. set_other items j i y ne) (length-set items i y) sent)

@@ -1,8 +1,15 @@
+use Rattle.std.specs.List.{AllZip}
 use Rattle.std.proofs.Common.{subst, sym}
-use Rattle.phys_proc.specs.Own.{AreLate}
+use Rattle.phys_proc.specs.Own.{IsLate, AreLate}
 use Rattle.phys_proc.proofs.Forked.{late_forked}
+use Rattle.phys_proc.proofs.Noted.{leasts_forked}
 use Rattle.phys_proc.proofs.copies.Copies.fork.Goals as goal
 
 pub invariant_of-self : goal.invariant_of-self
-invariant_of-self c = subst (AreLate c.self.inside.least) (sym c.fork.ensures.forked)
-    (late_forked c.args.old c.args.new c.self.inside.least c.self.inside.copies.items c.self.invariant)
+invariant_of-self c =
+    let i = c.self.inside in (
+      subst (AreLate i.least) (sym c.fork.ensures.forked)
+          (late_forked c.args.old c.args.new i.least i.copies.items c.self.invariant.0),
+      subst (AllZip IsLate i.leasts.items) (sym c.fork.ensures.forked)
+          (leasts_forked c.args.old c.args.new i.leasts.items i.copies.items c.self.invariant.1),
+    )

@@ -1,29 +1,46 @@
-use Rattle.std.proofs.Common.{◌+◌, ◌<◌, arith, subst, ◌∙◌, ap, take, length, get_or}
+use Rattle.std.proofs.Common.{◌+◌, ◌<◌, arith, refl, subst, ◌∙◌, ap, take, length, get_or}
 use Rattle.std.proofs.lemmas.List.{take_all}
 use Rattle.phys_proc.specs.Gone.{ends_in}
 use Rattle.phys_proc.specs.Procs.{IsLeast}
+use Rattle.phys_proc.proofs.Noted.{leasts_long, least_at}
 use Rattle.phys_proc.proofs.Taken.{take_one, least_with}
 use Rattle.phys_proc.proofs.proc.Proc.least.Goals as goal
-
-pub loop-copy-preserved : goal.loop-copy-preserved
-loop-copy-preserved c =
-    let net = c.args.model.now in
-    let xs = c.args.self.now.copies in
-    let i = c.loop-copy.copy-index in
-    let x = c.copy-item.result in
-    let same = c.copies-copy-items.ensures.value in
-    let l : i < length xs = subst (λ k. i < length k) same c.loop-copy-test.true in
-    let whole = take_one xs i x l (c.copy-item.is ∙ ap (λ k. get_or k i x) same) in
-    least_with (ends_in net.horizon c.args.ends.now) (take i xs) (take (i + 1) xs) x whole c.loop-copy.least
-    c.with_copy-least.result (rw (← c.horizon.ensures.value) c.with_copy-least.ensures.least) c.loop-copy.invariant
 
 pub returns : goal.returns
 returns c =
     let xs = c.args.self.now.copies in
-    let same = c.copies-copy-items.ensures.value in
-    let e = ap length same in
-    let l = c.loop-copy-test.false in
+    let e = ap length c.copies-copies.ensures.value in
+    let l = c.loop-i-test.false in
     record {
-      least = subst (λ k. IsLeast (ends_in c.args.model.now.horizon c.args.ends.now) k c.loop-copy.least)
-          (take_all c.loop-copy.copy-index xs (omega (arith, e, l))) c.loop-copy.invariant;
+      least = subst (λ k. IsLeast (ends_in c.args.model.now.horizon c.args.ends.now) k c.loop-i.least)
+          (take_all c.loop-i.i xs (omega (arith, e, l))) c.loop-i.invariant;
     }
+
+pub bounds-leasts-i : goal.bounds-leasts-i
+bounds-leasts-i c =
+    let e = ap length c.copies-copies.ensures.value in
+    let n = leasts_long c.leasts-leasts.result.now c.args.self.now.copies c.leasts-leasts.ensures.each in
+    omega (arith, e, n, c.loop-i-test.true)
+
+pub with_copy-least-requires-clause-late : goal.with_copy-least-requires-clause-late
+with_copy-least-requires-clause-late c =
+    let xs = c.args.self.now.copies in
+    let x = c.index-copies-i.result in
+    let same = c.copies-copies.ensures.value in
+    let e = ap length same in
+    least_at c.leasts-leasts.result.now xs c.loop-i.i 0 (get_or c.leasts-leasts.result.now c.loop-i.i 0) x
+    c.leasts-leasts.ensures.each (omega (arith, e, c.loop-i-test.true)) refl
+    (c.index-copies-i.is ∙ ap (λ k. get_or k c.loop-i.i x) same)
+
+pub loop-i-preserved : goal.loop-i-preserved
+loop-i-preserved c =
+    let net = c.args.model.now in
+    let xs = c.args.self.now.copies in
+    let i = c.loop-i.i in
+    let x = c.index-copies-i.result in
+    let same = c.copies-copies.ensures.value in
+    let e = ap length same in
+    let there : i < length xs = omega (arith, e, c.loop-i-test.true) in
+    let whole = take_one xs i x there (c.index-copies-i.is ∙ ap (λ k. get_or k i x) same) in
+    least_with (ends_in net.horizon c.args.ends.now) (take i xs) (take (i + 1) xs) x whole c.loop-i.least
+    c.with_copy-least.result (rw (← c.horizon.ensures.value) c.with_copy-least.ensures.least) c.loop-i.invariant

@@ -1,4 +1,4 @@
-use Rattle.std.proofs.Common.{◌≡◌, ◌∷◌, ◌++◌, ◌<◌, [], ap, sym, ◌∙◌, subst, arith, length}
+use Rattle.std.proofs.Common.{◌++◌, ap, sym, ◌∙◌, subst, arith, length}
 use Rattle.std.proofs.lemmas.List.{append-nil}
 use Rattle.std.specs.VecDeque.Iter.{deque_iter_rest}
 use Rattle.sim_base.specs.Pending.{cut_by}

@@ -1,4 +1,4 @@
-use Rattle.std.proofs.Common.{◌≡◌, ◌∷◌, ◌++◌, [], ap, sym, ◌∙◌, subst, arith, length}
+use Rattle.std.proofs.Common.{◌++◌, ap, sym, ◌∙◌, subst, arith, length}
 use Rattle.sim_base.specs.Pending.{cut_by}
 use Rattle.sim_base.specs.Order.{msg_cmp}
 use Rattle.sim_base.specs.Marked.{SortedMarked}

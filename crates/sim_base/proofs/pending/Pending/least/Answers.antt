@@ -1,7 +1,5 @@
-use Rattle.std.proofs.Common.{ap, sym, ◌∙◌, subst}
+use Rattle.std.proofs.Common.{ap, sym, ◌∙◌}
 use Rattle.std.specs.Prelude.{slice_get}
-use Rattle.sim_base.specs.Marked.{SortedMarked}
-use Rattle.sim_base.specs.Order.{msg_cmp}
 use Rattle.sim_base.proofs.Blocks.{first_of_blocks}
 use Rattle.sim_base.proofs.pending.Pending.least.Goals as goal
 

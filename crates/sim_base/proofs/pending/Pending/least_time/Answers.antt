@@ -1,5 +1,4 @@
 use Rattle.std.proofs.Common.{ap, sym, ◌∙◌, option_map}
-use Rattle.std.specs.Prelude.{slice_get}
 use Rattle.sim_base.specs.Pending.{first_time}
 use Rattle.sim_base.proofs.Blocks.{first_of_blocks}
 use Rattle.sim_base.proofs.pending.Pending.least_time.Goals as goal

@@ -1,4 +1,4 @@
-use Rattle.std.proofs.Common.{◌≡◌, [], ◌++◌}
+use Rattle.std.proofs.Common.{◌≡◌}
 use Rattle.std.specs.VecDeque.Iter.{deque_iter_rest}
 use Rattle.sim_base.specs.Blocks.{of_blocks}
 use Rattle.sim_base.specs.Pending.{cut_by}

@@ -1,8 +1,6 @@
-use Rattle.std.proofs.Common.{◌≡◌, ℕ, ◌+◌, ◌<◌, [], ap, sym, ◌∙◌, subst, true, false, get_or, length, arith}
-use Rattle.std.proofs.lemmas.List.{get_or_read}
-use Rattle.sim_base.specs.Blocks.{IsBlockOf, StartsAfter}
+use Rattle.std.proofs.Common.{◌≡◌, [], subst, true, get_or, arith}
+use Rattle.sim_base.specs.Blocks.{StartsAfter}
 use Rattle.sim_base.specs.Order.{msg_cmp}
-use Rattle.sim_base.proofs.Halving.{starts_there}
 use Rattle.sim_base.proofs.pending.blocks.block_of.Goals as goal
 
 pub returns : goal.returns

@@ -1,4 +1,4 @@
-use Rattle.std.proofs.Common.{◌≡◌, ap, ◌∙◌, arith}
+use Rattle.std.proofs.Common.{ap, ◌∙◌, arith}
 use Rattle.sim_base.proofs.Halving.{halve_first, halve_later}
 use Rattle.sim_base.proofs.pending.blocks.halve.Goals as goal
 use Rattle.sim_base.proofs.pending.blocks.halve.Goals.{then-at-eq0+in_ok-half, else-at-eq0+in_ok-half-2}

@@ -1,4 +1,4 @@
-use Rattle.std.proofs.Common.{◌≡◌, ◌∷◌, ◌++◌, ◌+◌, [], ◌<◌, ap, sym, ◌∙◌, subst, arith, length}
+use Rattle.std.proofs.Common.{◌∷◌, ◌++◌, ◌+◌, [], ◌<◌, ap, sym, ◌∙◌, subst, arith, length}
 use Rattle.sim_base.proofs.Turning.{Turned, block_kept, block_dropped, filled_if, empty_if}
 use Rattle.sim_base.proofs.pending.blocks.keep_later.Goals as goal
 

@@ -1,5 +1,5 @@
-use Rattle.std.proofs.Common.{◌≡◌, ◌∷◌, List, length, refl, subst, sym, ap, ◌∙◌, suc, true, false, arith, add-one}
-use Rattle.sim_base.specs.Blocks.{of_blocks, block_at, AreBlocks, IsBlockOf}
+use Rattle.std.proofs.Common.{◌∷◌, subst, sym, ap, ◌∙◌, true, false, arith}
+use Rattle.sim_base.specs.Blocks.{of_blocks}
 use Rattle.sim_base.specs.Marked.{SortedMarked}
 use Rattle.sim_base.specs.Order.{msg_cmp}
 use Rattle.sim_base.proofs.Blocks.{same_halved, sized_halved}

@@ -1,4 +1,4 @@
-use Rattle.std.proofs.Common.{◌≡◌, ◌∷◌, ◌-◌, [], ◌<◌, refl, sym, ap, ◌∙◌, subst, arith, Result, set}
+use Rattle.std.proofs.Common.{◌-◌, [], ◌<◌, refl, sym, ◌∙◌, subst, arith}
 use Rattle.std.proofs.lemmas.List.{get_or_read}
 use Rattle.sim_base.specs.Marked.{SortedMarked}
 use Rattle.sim_base.specs.Order.{msg_cmp}

@@ -1,4 +1,4 @@
-use Rattle.std.proofs.Common.{◌≡◌, ◌<◌, ◌++◌, [], ap, sym, ◌∙◌, subst, arith, length, set, ◌≤◌, take, drop, map}
+use Rattle.std.proofs.Common.{◌≡◌, ◌<◌, ◌++◌, ap, sym, ◌∙◌, subst, arith, length, set, ◌≤◌, drop, map}
 use Rattle.std.proofs.lemmas.List.{append-nil, take_all, drop_all, length-map}
 use Rattle.std.proofs.lemmas.List.Edits.{map_over_more}
 use Rattle.sim_base.specs.Pending.{spread_marks}

@@ -5,11 +5,17 @@ use Rattle.phys_proc.specs.Gone.{ends_in}
 use Rattle.phys_proc.specs.Own.{Marked}
 use Rattle.phys_proc.specs.Procs.{ProcView}
 use Rattle.world_core.specs.Worlds.{WorldView, total_handled}
-use Rattle.world_core.specs.Windows.{AllDelivered, AllFlow, AreNumbered, all_sent}
+use Rattle.world_core.specs.Windows.{AllDelivered, AllFlow, AllNumbered, AreNumbered, all_sent}
 use Rattle.world_core.specs.Stepping.{FirstOver}
 use Rattle.world_core.specs.Overs.{IsFirstBeyond, NoneBeyond}
-use Rattle.world_core.proofs.Worlds.{first_beyond_is, few_are, done_numbered, none_are_beyond, steps_sum, world_after}
+use Rattle.world_core.proofs.Worlds.{all_numbered, first_beyond_is, few_are, done_numbered, none_are_beyond, steps_sum, world_after}
 use Rattle.world_core.proofs.world.World.window.Goals as goal
+
+pub step_all-requires-clause-numbered : goal.step_all-requires-clause-numbered
+step_all-requires-clause-numbered g c κs within =
+    let i = c.self.inside in
+    subst (λ (n : Net). AllNumbered n i.procs.items) (sym c.deref.ensures)
+    (all_numbered i.model.value i.lists.clones i.ends i.front i.procs.items c.self.invariant)
 
 pub returns-in-Some-clause-fault : goal.returns-in-Some-clause-fault
 returns-in-Some-clause-fault g c =

@@ -1,4 +1,4 @@
-use Rattle.std.proofs.Common.{◌≡◌, ℕ, ◌+◌, ◌<◌, sym, ◌∙◌, subst, true, false, get_or, length, arith}
+use Rattle.std.proofs.Common.{◌≡◌, sym, ◌∙◌, subst, true, false, get_or, arith}
 use Rattle.std.specs.Ordering.{is_gt}
 use Rattle.sim_base.specs.Blocks.{IsPlaceOf}
 use Rattle.sim_base.specs.Order.{msg_cmp}

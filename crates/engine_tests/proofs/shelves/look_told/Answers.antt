@@ -1,0 +1,7 @@
+use Rattle.shelf.proofs.Legals.{has_later}
+use Rattle.engine_tests.proofs.shelves.look_told.Goals as goal
+
+pub look_once-requires : goal.look_once-requires
+look_once-requires g c = record {
+  there = has_later 2 c.args.seat.now c.learn.new.self c.learn.ensures.begins c.requires.there;
+}

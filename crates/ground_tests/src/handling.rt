@@ -1,0 +1,163 @@
+//! Each kind of station answers each kind of message, and copies of a station stay apart.
+ghost use Rattle.std.specs.Prelude.{◌≡◌, ◌<◌, IfSome};
+ghost use Rattle.stations.specs.Fits.{SuitsNet};
+
+mod models;
+mod rows;
+
+use arrayvec::ArrayVec;
+use models::FIVE_KINDS;
+use net_model::{Model, read_model};
+use rows::{
+    Row, at_the_copy, at_the_original, at_the_original_afterwards, before_the_copy, delay_rows,
+    router_rows, server_rows, sink_rows, source_rows,
+};
+use sim_base::{Key, Msg, Steps};
+use stations::State;
+use stations::state::{handle, setup};
+use std::alloc::Global;
+use std::marker::Brand;
+use std::sync::ledger::{Blank, Ledger};
+use std::test::Fail;
+
+/// The station of this number, before it has handled anything.
+fn opened(alloc: Global, model: &Model, station: u32) -> Option<State>
+    ensures suits { IfSome result (λ state. SuitsNet model.now state) }
+    ensures own { IfSome result (λ state. state.sender.station ≡ station) }
+{
+    if station < 1 || station > model.len() {
+        return None;
+    }
+    match setup(alloc, model, station) {
+        Ok((state, _)) => Some(state),
+        Err(_) => None,
+    }
+}
+
+/// Whether the station answers the row's message as the row says.
+fn answers_row<L: Ledger>(
+    state: &mut State,
+    model: &Model,
+    station: u32,
+    row: &Row,
+    steps: &mut Steps<L>,
+) -> bool
+    requires suits { SuitsNet model.now state.old }
+    requires own { state.old.sender.station ≡ station }
+    ensures suits { SuitsNet model.now state.new }
+    ensures own { state.new.sender.station ≡ station }
+{
+    if state.handled() >= 65536 || row.time >= 1 << 31 {
+        return false;
+    }
+    let key = Key {
+        time: row.time,
+        sender: 0,
+        number: 0,
+    };
+    let msg = Msg {
+        key,
+        to: station,
+        payload: row.payload,
+    };
+    let mut out = ArrayVec::new();
+    let Ok(line) = handle(state, model, &msg, &mut out, steps) else {
+        return false;
+    };
+    let arrives = out.last().map(|sent| sent.key.time);
+    line == row.line && out.len() == row.sends && arrives == row.arrives
+}
+
+/// Whether the station answers one message after the other as the rows say.
+fn answers<L: Ledger>(
+    state: &mut State,
+    model: &Model,
+    station: u32,
+    rows: &[Row],
+    steps: &mut Steps<L>,
+) -> bool
+    requires suits { SuitsNet model.now state.old }
+    requires own { state.old.sender.station ≡ station }
+    ensures suits { SuitsNet model.now state.new }
+    ensures own { state.new.sender.station ≡ station }
+{
+    for row in rows {
+        if !answers_row(state, model, station, row, steps) {
+            return false;
+        }
+    }
+    true
+}
+
+/// Whether a station that has just opened answers as the rows say.
+fn begins<L: Ledger>(
+    alloc: Global,
+    model: &Model,
+    station: u32,
+    rows: &[Row],
+    steps: &mut Steps<L>,
+) -> bool {
+    match opened(alloc, model, station) {
+        Some(mut state) => answers(&mut state, model, station, rows, steps),
+        None => false,
+    }
+}
+
+fn every_kind<L: Ledger>(alloc: Global, blank: Blank) -> bool
+    requires name { blank.name ≡ L.name }
+    requires parts { blank.parts ≡ L.parts }
+    requires some { 0 < L.parts }
+{
+    let mut steps = Steps::<L>::new(blank);
+    let Ok(model) = read_model(alloc, FIVE_KINDS.as_bytes()) else {
+        return false;
+    };
+    begins(alloc, &model, 1, &source_rows(), &mut steps)
+        && begins(alloc, &model, 2, &server_rows(), &mut steps)
+        && begins(alloc, &model, 3, &delay_rows(), &mut steps)
+        && begins(alloc, &model, 4, &router_rows(), &mut steps)
+        && begins(alloc, &model, 5, &sink_rows(), &mut steps)
+}
+
+fn original_and_copy<L: Ledger>(alloc: Global, blank: Blank) -> bool
+    requires name { blank.name ≡ L.name }
+    requires parts { blank.parts ≡ L.parts }
+    requires some { 0 < L.parts }
+{
+    let mut steps = Steps::<L>::new(blank);
+    let Ok(model) = read_model(alloc, FIVE_KINDS.as_bytes()) else {
+        return false;
+    };
+    let Some(mut state) = opened(alloc, &model, 2) else {
+        return false;
+    };
+    if !answers(&mut state, &model, 2, &before_the_copy(), &mut steps) {
+        return false;
+    }
+    let Ok(mut copy) = state.copy(alloc) else {
+        return false;
+    };
+    answers(&mut state, &model, 2, &at_the_original(), &mut steps)
+        && answers(&mut copy, &model, 2, &at_the_copy(), &mut steps)
+        && answers(
+            &mut state,
+            &model,
+            2,
+            &at_the_original_afterwards(),
+            &mut steps,
+        )
+}
+
+#[test]
+fn every_message_at_every_kind(rt: HostRuntime) -> Result<(), Fail> {
+    let all = every_kind::<Brand>(rt.alloc(), Blank::new(1));
+    assert!(rt; all);
+    Ok(())
+}
+
+#[test]
+fn copies_stay_apart(rt: HostRuntime) -> Result<(), Fail> {
+    let apart = original_and_copy::<Brand>(rt.alloc(), Blank::new(1));
+    assert!(rt; apart);
+    Ok(())
+}

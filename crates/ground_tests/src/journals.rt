@@ -1,0 +1,193 @@
+//! The texts of journals, as people expect them.
+ghost use Rattle.std.specs.Prelude.{◌≡◌, ◌≤◌, All, length, true};
+
+use decision_book::{Call, Reply};
+use decision_script::{Script, read_script};
+use journal_text::{Looked, journal_text};
+use phys_proc::{Found, Glance};
+use sim_base::{Change, Decision, Name, Param};
+use std::alloc::Global;
+use std::process::Abort;
+use std::test::Fail;
+
+const FOUR_CALLS: &str = "journal 4 7
+# front 5
+# front 7
+# front 10
+analyst main
+fork fast from base
+analyst main
+set fast at 10 desk service 2 2
+analyst main
+# refused 11 front 10: set fast at 9 desk service 2 2
+# front 12
+# front 15
+# front 17
+# front 20
+analyst main
+# refused 2: fork x from base
+looks 0
+";
+
+const NO_CALLS: &str = "journal 0 7
+# front 5
+# front 7
+# front 10
+# front 13
+# front 15
+# front 17
+# front 20
+looks 0
+";
+
+const LOOKS: &str = "journal 1 0
+analyst ben
+# refused 12: end base at 900
+looks 3
+look ben base desk front=7 clones=2 handled=3 shared=2
+look main fast desk front=0 clones=1 absent
+look ben base till unknown
+";
+
+fn name<R: Abort>(rt: &R, text: &str) -> Name {
+    Name::read(text.as_bytes()).expect(rt, "a name")
+}
+
+fn fork<R: Abort>(rt: &R, new: &str) -> Decision {
+    Decision::Fork {
+        new: name(rt, new),
+        old: name(rt, "base"),
+    }
+}
+
+fn faster<R: Abort>(rt: &R, at: u64) -> Decision {
+    Decision::Set {
+        who: name(rt, "fast"),
+        at,
+        station: name(rt, "desk"),
+        change: Change {
+            param: Param::Service,
+            a: 2,
+            b: 2,
+        },
+    }
+}
+
+fn call(caller: u32, fronts: u32, decision: Decision, reply: Reply) -> Call {
+    Call {
+        caller,
+        fronts,
+        decision,
+        reply,
+    }
+}
+
+fn are_callers(script: &Script, calls: &[Call]) -> bool
+    ensures { result ≡ true → All (λ c. (1 ≤ c.caller) × (c.caller ≤ length script.now.analysts)) calls.now }
+{
+    let many = script.analysts();
+    calls.iter().all(|c| 1 <= c.caller && c.caller <= many)
+}
+
+fn are_lookers(script: &Script, looks: &[Looked]) -> bool
+    ensures { result ≡ true → All (λ l. (1 ≤ l.analyst) × (l.analyst ≤ length script.now.analysts)) looks.now }
+{
+    let many = script.analysts();
+    looks.iter().all(|l| 1 <= l.analyst && l.analyst <= many)
+}
+
+fn text_of(
+    alloc: Global,
+    script: &Script,
+    calls: &[Call],
+    fronts: &[u64],
+    looks: &[Looked],
+) -> Option<Vec<u8>> {
+    if !are_callers(script, calls) || !are_lookers(script, looks) {
+        return None;
+    }
+    journal_text(alloc, script, calls, fronts, looks).ok()
+}
+
+#[test]
+fn calls_stand_among_the_fronts(rt: HostRuntime) -> Result<(), Fail> {
+    let alloc = rt.alloc();
+    let Ok(script) = read_script(alloc, b"fork fast from base\n") else {
+        panic!(rt; "the script is refused");
+    };
+    let calls = [
+        call(1, 3, fork(&rt, "fast"), Reply::Accepted),
+        call(1, 3, faster(&rt, 10), Reply::Accepted),
+        call(1, 3, faster(&rt, 9), Reply::Late { front: 10 }),
+        call(1, 7, fork(&rt, "x"), Reply::Closed),
+    ];
+    let fronts = [5, 7, 10, 12, 15, 17, 20];
+    let Some(text) = text_of(alloc, &script, &calls, &fronts, &[]) else {
+        panic!(rt; "no memory");
+    };
+    assert_eq!(rt; text.as_slice(), FOUR_CALLS.as_bytes());
+    Ok(())
+}
+
+#[test]
+fn fronts_stand_alone(rt: HostRuntime) -> Result<(), Fail> {
+    let alloc = rt.alloc();
+    let Ok(script) = read_script(alloc, b"") else {
+        panic!(rt; "the script is refused");
+    };
+    let fronts = [5, 7, 10, 13, 15, 17, 20];
+    let Some(text) = text_of(alloc, &script, &[], &fronts, &[]) else {
+        panic!(rt; "no memory");
+    };
+    assert_eq!(rt; text.as_slice(), NO_CALLS.as_bytes());
+    Ok(())
+}
+
+#[test]
+fn looks_tell_what_they_found(rt: HostRuntime) -> Result<(), Fail> {
+    let alloc = rt.alloc();
+    let Ok(script) = read_script(alloc, b"analyst ben\n") else {
+        panic!(rt; "the script is refused");
+    };
+    let end = Decision::End {
+        who: name(&rt, "base"),
+        at: 900,
+    };
+    let calls = [call(2, 0, end, Reply::Ended { at: 30 })];
+    let looks = [
+        Looked {
+            analyst: 2,
+            who: name(&rt, "base"),
+            station: name(&rt, "desk"),
+            glance: Some(Glance {
+                front: 7,
+                clones: 2,
+                found: Some(Found {
+                    handled: 3,
+                    shared: 2,
+                }),
+            }),
+        },
+        Looked {
+            analyst: 1,
+            who: name(&rt, "fast"),
+            station: name(&rt, "desk"),
+            glance: Some(Glance {
+                front: 0,
+                clones: 1,
+                found: None,
+            }),
+        },
+        Looked {
+            analyst: 2,
+            who: name(&rt, "base"),
+            station: name(&rt, "till"),
+            glance: None,
+        },
+    ];
+    let Some(text) = text_of(alloc, &script, &calls, &[], &looks) else {
+        panic!(rt; "no memory");
+    };
+    assert_eq!(rt; text.as_slice(), LOOKS.as_bytes());
+    Ok(())
+}

@@ -1,0 +1,53 @@
+//! The tests of the crates that the engine stands on, and of the texts. The library is empty.
+//!
+//! A crate's tests are proved together with the crate, so a crate with tests is proved twice. Those of these crates stand
+//! here, where they are proved once, and so are their crates. Each module tests one crate by what is public of it:
+//!
+//! ```text
+//! messages, pending, lists    sim_base          scripts    decision_script    routes      msg_route
+//! logs                        log_chain         books      decision_book      cursors     trace_cursor
+//! sets                        clone_sets        made       made_study         traces      trace_report
+//! models                      net_model         alone      solo_run           journals    journal_text
+//! handling                    stations          sinks      sim_outer
+//! ```
+//!
+//! They show what no clause says: that calls find memory, and that clauses mean what they should, by values from
+//! outside. A table has a row for each case, and its test goes over the rows: the text or the decision first, and then
+//! what comes of it, as the number, the place and the key of a refusal. So a row reads: *this change to the small model
+//! is refused so*.
+#![tactic(auto)]
+
+#[cfg(test)]
+mod alone;
+#[cfg(test)]
+mod books;
+#[cfg(test)]
+mod cursors;
+#[cfg(test)]
+mod handling;
+#[cfg(test)]
+mod journals;
+#[cfg(test)]
+mod lists;
+#[cfg(test)]
+mod logs;
+#[cfg(test)]
+mod made;
+#[cfg(test)]
+mod messages;
+#[cfg(test)]
+mod models;
+#[cfg(test)]
+mod pending;
+#[cfg(test)]
+mod routes;
+#[cfg(test)]
+mod scripts;
+#[cfg(test)]
+mod sets;
+#[cfg(test)]
+mod sinks;
+#[cfg(test)]
+mod texts;
+#[cfg(test)]
+mod traces;

@@ -1,0 +1,131 @@
+use Rattle.std.proofs.Common.{◌+◌, ◌≤◌, ◌*◌, arith, ap, sym, subst, ◌∙◌, eq-eqb, eqb-true}
+use Rattle.std.proofs.lemmas.Nat.{mul-le}
+use Rattle.clone_sets.specs.Sets.{has, size, empty}
+use Rattle.stations.specs.Runs.{simulation}
+use Rattle.run_laws.specs.Copies.{IsStepped, AreOver, GainTogether}
+use Rattle.phys_proc.specs.Own.{all_sizes, Stepping}
+use Rattle.phys_proc.specs.Procs.{ProcView, IsProc, KeepsShares}
+use Rattle.phys_proc.specs.Gone.{ends_in}
+use Rattle.phys_proc.proofs.AllCopies.{all_stepped, all_over, all_gained, all_few, all_shared}
+use Rattle.phys_proc.proofs.Shares.{few_members, few_clones, sizes_are, shares_after, few_handled}
+use Rattle.phys_proc.proofs.proc.Proc.advance.Goals.{then-is_empty, else-is_empty}
+use Rattle.phys_proc.proofs.proc.Proc.advance.Goals as goal
+
+pub step_copies-requires-clause-few : goal.step_copies-requires-clause-few
+step_copies-requires-clause-few g c =
+    subst (λ k. all_sizes k ≤ 256) (sym c.take_copies-copies.ensures.copies)
+    (few_clones c.self.inside.living c.self.inside.copies c.self.invariant.shares
+    (few_members c.self.inside.living c.len-clones.result c.len-clones.ensures.value c.len-clones.ensures.members))
+
+pub overflow_add-self : goal.overflow_add-self
+overflow_add-self g c =
+    let net = c.args.model.now in
+    let ends = ends_in net.horizon c.args.ends.now in
+    let i = c.self.inside in
+    let h = subst (IsProc net) (sym c.self.view_is) c.requires.proc in
+    let st = c.step_copies.new.stage in
+    let far = subst (λ s. Stepping net s ends c.args.bound i.copies st.done st.sent.items st.over c.args.steps.now
+    c.step_copies.new.steps) (ap (λ (u : ProcView). u.station) (c.self-2.view_is ∙ c.take_copies-copies.ensures.none))
+    (subst (λ k. Stepping net c.self-2.inside.station ends c.args.bound k st.done st.sent.items st.over
+    c.args.steps.now c.step_copies.new.steps) c.take_copies-copies.ensures.copies
+    c.in_ok-step_copies.ensures.stepped) in
+    let sizes = few_clones i.living i.copies c.self.invariant.shares
+    (few_members i.living c.len-clones.result c.len-clones.ensures.value c.len-clones.ensures.members) in
+    let a = few_handled net i.station i.handled i.copies h.copies sizes h.valid.short c.self.invariant.once in
+    let b = all_few net h.valid i.station ends c.args.bound i.copies st.done st.sent.items st.over c.args.steps.now
+    c.step_copies.new.steps h.copies far st.handled c.in_ok-step_copies.ensures.handled in
+    let m = mul-le (all_sizes i.copies) net.limit 256 65536 sizes h.valid.short in
+    omega (arith, a, b, m)
+
+pub invariant_of-self-then-is_empty : goal.invariant_of-self-then-is_empty
+invariant_of-self-then-is_empty g c =
+    let net = c.args.model.now in
+    let ends = ends_in net.horizon c.args.ends.now in
+    let i = c.self.inside in
+    let h = subst (IsProc net) (sym c.self.view_is) c.requires.proc in
+    let st = c.step_copies.new.stage in
+    let far = subst (λ s. Stepping net s ends c.args.bound i.copies st.done st.sent.items st.over c.args.steps.now
+    c.step_copies.new.steps) (ap (λ (u : ProcView). u.station) (c.self-2.view_is ∙ c.take_copies-copies.ensures.none))
+    (subst (λ k. Stepping net c.self-2.inside.station ends c.args.bound k st.done st.sent.items st.over
+    c.args.steps.now c.step_copies.new.steps) c.take_copies-copies.ensures.copies
+    c.in_ok-step_copies.ensures.stepped) in
+    let none = eqb-true st.over empty (sym c.if-is_empty.ensures.value) in
+    subst (λ s. KeepsShares (record { station = s; living = i.living; handled = i.handled + st.handled; copies = st.done }))
+    (sym (ap (λ (u : ProcView). u.station) (c.self-2.view_is ∙ c.take_copies-copies.ensures.none)))
+    (shares_after net i.station ends c.args.bound i.copies st.done st.sent.items
+    (all_stepped net h.valid i.station ends c.args.bound i.copies st.done st.sent.items st.over c.args.steps.now
+    c.step_copies.new.steps h.copies far none) i.living i.handled st.handled
+    c.self.invariant.shares.together c.self.invariant.once
+    (all_shared net h.valid i.station ends c.args.bound i.copies st.done st.sent.items st.over c.args.steps.now
+    c.step_copies.new.steps h.copies far st.handled c.in_ok-step_copies.ensures.handled none))
+
+pub returns-clause-windows : goal.returns-clause-windows
+returns-clause-windows g c =
+    let net = c.args.model.now in
+    let ends = ends_in net.horizon c.args.ends.now in
+    let i = c.self.inside in
+    let h = subst (IsProc net) (sym c.self.view_is) c.requires.proc in
+    let st = c.step_copies.new.stage in
+    let far = subst (λ s. Stepping net s ends c.args.bound i.copies st.done st.sent.items st.over c.args.steps.now
+    c.step_copies.new.steps) (ap (λ (u : ProcView). u.station) (c.self-2.view_is ∙ c.take_copies-copies.ensures.none))
+    (subst (λ k. Stepping net c.self-2.inside.station ends c.args.bound k st.done st.sent.items st.over
+    c.args.steps.now c.step_copies.new.steps) c.take_copies-copies.ensures.copies
+    c.in_ok-step_copies.ensures.stepped) in
+    λ none. elim c.if-is_empty.branch [
+      | then-is_empty w ↦ subst (λ (u : ProcView). IsStepped (simulation net) has ends c.args.self.now.station
+          c.args.bound c.args.self.now.copies u.copies st.sent.items) (sym w.self-is)
+          (subst (λ (u : ProcView). IsStepped (simulation net) has ends u.station c.args.bound u.copies st.done
+          st.sent.items) c.self.view_is (all_stepped net h.valid i.station ends c.args.bound i.copies st.done
+          st.sent.items st.over c.args.steps.now c.step_copies.new.steps h.copies far none))
+      | else-is_empty w ↦ absurd (let t = eq-eqb st.over empty none in let f = w.if-is_empty.ensures.value in cc)
+    ]
+
+pub returns-clause-over : goal.returns-clause-over
+returns-clause-over g c =
+    let net = c.args.model.now in
+    let ends = ends_in net.horizon c.args.ends.now in
+    let i = c.self.inside in
+    let h = subst (IsProc net) (sym c.self.view_is) c.requires.proc in
+    let st = c.step_copies.new.stage in
+    let far = subst (λ s. Stepping net s ends c.args.bound i.copies st.done st.sent.items st.over c.args.steps.now
+    c.step_copies.new.steps) (ap (λ (u : ProcView). u.station) (c.self-2.view_is ∙ c.take_copies-copies.ensures.none))
+    (subst (λ k. Stepping net c.self-2.inside.station ends c.args.bound k st.done st.sent.items st.over
+    c.args.steps.now c.step_copies.new.steps) c.take_copies-copies.ensures.copies
+    c.in_ok-step_copies.ensures.stepped) in
+    subst (λ (u : ProcView). AreOver (simulation net) has ends u.station c.args.bound u.copies st.over) c.self.view_is
+    (all_over net h.valid i.station ends c.args.bound i.copies st.done st.sent.items st.over c.args.steps.now
+    c.step_copies.new.steps h.copies far)
+
+pub returns-clause-gained : goal.returns-clause-gained
+returns-clause-gained g c =
+    let net = c.args.model.now in
+    let ends = ends_in net.horizon c.args.ends.now in
+    let i = c.self.inside in
+    let h = subst (IsProc net) (sym c.self.view_is) c.requires.proc in
+    let st = c.step_copies.new.stage in
+    let far = subst (λ s. Stepping net s ends c.args.bound i.copies st.done st.sent.items st.over c.args.steps.now
+    c.step_copies.new.steps) (ap (λ (u : ProcView). u.station) (c.self-2.view_is ∙ c.take_copies-copies.ensures.none))
+    (subst (λ k. Stepping net c.self-2.inside.station ends c.args.bound k st.done st.sent.items st.over
+    c.args.steps.now c.step_copies.new.steps) c.take_copies-copies.ensures.copies
+    c.in_ok-step_copies.ensures.stepped) in
+    subst (λ (u : ProcView). GainTogether (simulation net) has ends u.station c.args.bound u.copies st.handled)
+    c.self.view_is (all_gained net h.valid i.station ends c.args.bound i.copies st.done st.sent.items st.over
+    c.args.steps.now c.step_copies.new.steps h.copies far st.handled
+    c.in_ok-step_copies.ensures.handled)
+
+pub returns-clause-few : goal.returns-clause-few
+returns-clause-few g c =
+    let net = c.args.model.now in
+    let ends = ends_in net.horizon c.args.ends.now in
+    let i = c.self.inside in
+    let h = subst (IsProc net) (sym c.self.view_is) c.requires.proc in
+    let st = c.step_copies.new.stage in
+    let far = subst (λ s. Stepping net s ends c.args.bound i.copies st.done st.sent.items st.over c.args.steps.now
+    c.step_copies.new.steps) (ap (λ (u : ProcView). u.station) (c.self-2.view_is ∙ c.take_copies-copies.ensures.none))
+    (subst (λ k. Stepping net c.self-2.inside.station ends c.args.bound k st.done st.sent.items st.over
+    c.args.steps.now c.step_copies.new.steps) c.take_copies-copies.ensures.copies
+    c.in_ok-step_copies.ensures.stepped) in
+    subst (λ (u : ProcView). st.handled ≤ size u.living * net.limit) c.self.view_is
+    (subst (λ n. st.handled ≤ n * net.limit) (sizes_are i.living i.copies c.self.invariant.shares)
+    (all_few net h.valid i.station ends c.args.bound i.copies st.done st.sent.items st.over c.args.steps.now
+    c.step_copies.new.steps h.copies far st.handled c.in_ok-step_copies.ensures.handled))
