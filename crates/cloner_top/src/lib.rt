@@ -33,8 +33,6 @@ mod reading;
 pub mod refusal;
 mod running;
 pub mod stop;
-#[cfg(test)]
-mod tests;
 
 pub use command_words::{Mode, Request, Source};
 pub use error_line::ErrorLine;

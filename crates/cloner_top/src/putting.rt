@@ -70,13 +70,7 @@ struct RunTexts<'a> {
 }
 
 // Takes all memory that the texts of a world at the horizon need.
-fn prepare_run<'a, R: Threads + Sync>(
-    rt: &R,
-    alloc: Global,
-    workers: u32,
-    model: &Model,
-    world: &'a World,
-) -> Result<RunTexts<'a>, NoMemory>
+fn prepare_run<'a>(alloc: Global, model: &Model, world: &'a World) -> Result<RunTexts<'a>, NoMemory>
     requires net { world.now.net ≡ model.now }
     requires ended { world.now.front ≡ model.now.horizon }
     requires few { length world.now.clones ≤ 256 }
@@ -85,7 +79,7 @@ fn prepare_run<'a, R: Threads + Sync>(
     ensures ready { IfOk result (λ run. IsReadyRun model.now world.now.clones run) }
 {
     let traces = WorldTraces::of(world);
-    let texts = prepare(rt, alloc, &traces, workers)?;
+    let texts = prepare(alloc, &traces)?;
     let report = report_of(alloc, model, world)?;
     Ok(RunTexts {
         traces,
@@ -143,7 +137,7 @@ pub(crate) fn put_run<O: Sink, R: Threads + Sync>(
         (record { bytes = O.bytes out.old; faults = O.faults out.old; calls = O.calls out.old })
         (record { bytes = O.bytes out.new; faults = O.faults out.new; calls = O.calls out.new }) r) }
 {
-    match prepare_run(rt, alloc, workers, model, world) {
+    match prepare_run(alloc, model, world) {
         Ok(run) => put_prepared(rt, alloc, workers, run, out),
         Err(NoMemory) => Err(Refusal::OutOfMemory),
     }
@@ -171,7 +165,7 @@ pub(crate) fn put_live<O: Sink, R: Threads + Sync>(
         (record { bytes = O.bytes out.old; faults = O.faults out.old; calls = O.calls out.old })
         (record { bytes = O.bytes out.new; faults = O.faults out.new; calls = O.calls out.new }) r) }
 {
-    let run = match prepare_run(rt, alloc, workers, model, world) {
+    let run = match prepare_run(alloc, model, world) {
         Ok(run) => run,
         Err(NoMemory) => return Err(Refusal::OutOfMemory),
     };

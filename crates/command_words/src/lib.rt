@@ -29,8 +29,6 @@ pub mod laws;
 mod number;
 pub mod reading;
 pub mod request;
-#[cfg(test)]
-mod tests;
 pub mod usage;
 
 pub use reading::read_words;

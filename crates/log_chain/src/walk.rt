@@ -19,7 +19,7 @@ pub struct Walk<'a> {
     // the parts after it
     segments: &'a [Segment],
     blocks: &'a [Run],
-    // a byte of an entry some places on: reading it early brings its memory near
+    // bytes of entries some places on: reading them early brings their memory near
     ahead: u8,
 }
 
@@ -63,8 +63,9 @@ impl<'a> Walk<'a> {
             unreachable!()
         };
         let entry = unpack(packed, self.wide);
-        if let Some(later) = rest.get(4) {
-            self.ahead = later.msg.sender;
+        // one of eight, so that their memory comes at once and is not waited for each time
+        if rest.len() % 8 == 7 {
+            self.ahead = bytes_ahead(rest);
         }
         if rest.is_empty() {
             *self = along(self.segments, self.blocks);
@@ -82,6 +83,15 @@ impl<'a> Walk<'a> {
         let packed = self.packed.first()?;
         Some(key_at(packed, self.wide))
     }
+}
+
+// A byte of every second entry, eight to fourteen places on: two entries share a line of the processor's memory.
+#[inline(always)]
+fn bytes_ahead(rest: &[Packed]) -> u8 {
+    if rest.len() <= 14 {
+        return 0;
+    }
+    rest[8].msg.sender ^ rest[10].msg.sender ^ rest[12].msg.sender ^ rest[14].msg.sender
 }
 
 /// A walk along all of the segments and blocks.

@@ -1,8 +1,8 @@
 -- How many bytes of the text before stay, by the lengths of what follows.
-use Rattle.std.proofs.Common.{◌≡◌, ℕ, zero, suc, subst, ◌+◌, ◌-◌, ◌<◌, ◌≤◌, refl, sym, ◌∙◌, ap}
+use Rattle.std.proofs.Common.{◌≡◌, ℕ, zero, suc, subst, ◌+◌, ◌-◌, ◌<◌, ◌≤◌, sym, ◌∙◌, ap}
 use Rattle.std.proofs.Common.{arith, List, ◌++◌, not, nat_lt, Bool, true, length, take, length-append}
 use Rattle.std.specs.List.{flat_map}
-use Rattle.std.proofs.lemmas.Grind.{flat_map-append, common_steps}
+use Rattle.std.proofs.lemmas.Grind.{flat_map-append}
 use Rattle.std.proofs.lemmas.Bool.{le-ltb}
 use Rattle.sim_base.specs.Clones.{Clone, clone_at}
 use Rattle.sim_base.specs.declared.entry.Entry.{Entry}
@@ -23,9 +23,14 @@ use Rattle.stations.specs.Good.{IsGood, sender_of, number_of, next_number}
 use Rattle.stations.proofs.GoodLaws.{lawful-stations, stations-to_stations, fresh-stations}
 use Rattle.trace_report.specs.TraceText.{entry_line}
 use Rattle.rolling_text.specs.Sharing.{same_plan}
-use Rattle.rolling_text.specs.Texts.{body, body_before, rest, shared_at, parting_at, dropped_at, IsJoined}
+use Rattle.rolling_text.specs.Texts.{body, body_before, rest, shared_at, parting_at, dropped_at}
 use Rattle.world_core.specs.Worlds.{AreInNet}
 use Rattle.rolling_text.proofs.SamePlans.{tells_plans}
+
+-- so many bytes of the clone before are kept, and then come the lines from a time on
+pub record IsJoined (net : Net) (cs : List Clone) (c bytes time : ℕ) : Type 0 where
+  pub within : bytes ≤ length (body_before net cs c)
+  pub joins : body net (clone_at cs c) ≡ take bytes (body_before net cs c) ++ rest net (clone_at cs c) time
 
 -- all lines come at 0 or later
 pub rest_from_0 : (net : Net) (c : Clone) → rest net c 0 ≡ body net c
@@ -89,14 +94,8 @@ module _ (net : Net) (valid : IsNet net) (c d : Clone)
 
 -- ---- the first clone keeps nothing
 
-first_joined : (net : Net) (cs : List Clone) (here : ℕ) → here ≡ length (rest net (clone_at cs 0) 0)
-    → IsJoined net cs 0 (record { bytes = 0; time = 0; rest = here })
-first_joined net cs here h = record { within = omega arith; joins = sym (rest_from_0 net (clone_at cs 0)); own = h }
-
-first_len : (net : Net) (cs : List Clone) (c n : ℕ) → c ≡ 0 → n ≡ length (rest net (clone_at cs 0) 0)
-    → n ≡ length (body net (clone_at cs c))
-first_len net cs c n e h = h ∙ ap length (rest_from_0 net (clone_at cs 0))
-    ∙ ap (λ k. length (body net (clone_at cs k))) (sym e)
+first_joined : (net : Net) (cs : List Clone) → IsJoined net cs 0 0 0
+first_joined net cs = record { within = omega arith; joins = sym (rest_from_0 net (clone_at cs 0)) }
 
 -- ---- every other keeps what it shares with the one before it
 
@@ -122,28 +121,16 @@ module _ (net : Net) (valid : IsNet net) (cs : List Clone) (in_net : AreInNet ne
       let b = ap length before_is in
       omega (arith, a, b)
 
-  next_joined : (bytes here : ℕ) → bytes + length (rest net old time) ≡ length (body_before net cs c)
-      → here ≡ length (rest net (clone_at cs c) time)
-      → IsJoined net cs c (record { bytes = bytes; time = time; rest = here })
-  next_joined bytes here e own =
+  next_joined : (bytes : ℕ) → bytes + length (rest net old time) ≡ length (body_before net cs c)
+      → IsJoined net cs c bytes time
+  next_joined bytes e =
       let h = kept_bytes net valid old (clone_at cs c) (in_net.ends (c - 1) there_old) (in_net.ends c there)
       (in_net.plans (c - 1) there_old) (in_net.plans c there) bytes (e ∙ ap length before_is) in
       let w = h.0 in let l = ap length before_is in
       record {
         within = omega (arith, w, l);
-        joins = h.1 ∙ ap (λ b. take bytes b ++ rest net (clone_at cs c) time)
-            (sym before_is);
-        own = own;
+        joins = h.1 ∙ ap (λ b. take bytes b ++ rest net (clone_at cs c) time) (sym before_is);
       }
-
-  next_len : (bytes n : ℕ) → bytes + length (rest net old time) ≡ length (body_before net cs c) →
-      n ≡ bytes + length (rest net (clone_at cs c) time) → n ≡ length (body net (clone_at cs c))
-  next_len bytes n e f =
-      let j = next_joined bytes (length (rest net (clone_at cs c) time)) e refl in
-      let a = ap length j.joins in
-      let b = length-append (take bytes (body_before net cs c)) (rest net (clone_at cs c) time) in
-      let d : length (take bytes (body_before net cs c)) ≡ bytes = let w = j.within in grind (arith, common_steps, w) in
-      omega (arith, a, b, d, f)
 
 -- ---- each clone keeps what it shares with the one before it, if there is one
 
@@ -166,37 +153,21 @@ module _ (net : Net) (cs : List Clone) where
       e ∙ ap (λ t. length (rest net (clone_at cs c) t)) (n ∙ ap (parting_at net cs) up)
       ∙ ap (λ k. length (rest net (clone_at cs k) (shared_at net cs (suc c)))) down ∙ sym (ap (dropped_at net cs) up)
 
-  module _ (valid : IsNet net) (in_net : AreInNet net cs) (len dropped time : ℕ) where
+  module _ (valid : IsNet net) (in_net : AreInNet net cs) (dropped : ℕ) where
     -- what is dropped of the lines before is within them
-    pub dropped_within : (c : ℕ) → c < length cs → len ≡ length (body_before net cs c) → dropped ≡ dropped_at net cs c
-        → dropped ≤ len
-    dropped_within zero there l d = omega (arith, d)
-    dropped_within (suc c) there l d =
+    pub dropped_within : (c : ℕ) → c < length cs → dropped ≡ dropped_at net cs c
+        → dropped ≤ length (body_before net cs c)
+    dropped_within zero there d = omega (arith, d)
+    dropped_within (suc c) there d =
         let h = next_fits net valid cs in_net (suc c) (omega arith) there in
-        omega (arith, h, l, d)
+        omega (arith, h, d)
 
     -- the bytes before that are kept
-    pub joined_at : (c bytes : ℕ) → c < length cs → len ≡ length (body_before net cs c)
-        → time ≡ parting_at net cs c → dropped ≡ dropped_at net cs c → bytes + dropped ≡ len
-        → (here : ℕ) → here ≡ length (rest net (clone_at cs c) time)
-        → IsJoined net cs c (record { bytes = bytes; time = time; rest = here })
-    joined_at zero bytes there l t d e here h =
-        let none : 0 ≡ bytes = omega (arith, l, e) in
-        subst (λ b. IsJoined net cs 0 (record { bytes = b; time = time; rest = here })) none
-        (subst (λ u. IsJoined net cs 0 (record { bytes = 0; time = u; rest = here })) (sym t)
-        (first_joined net cs here (h ∙ ap (λ u. length (rest net (clone_at cs 0) u)) t)))
-    joined_at (suc c) bytes there l t d e here h =
-        subst (λ u. IsJoined net cs (suc c) (record { bytes = bytes; time = u; rest = here })) (sym t)
-        (next_joined net valid cs in_net (suc c) (omega arith) there bytes here (omega (arith, l, d, e))
-        (h ∙ ap (λ u. length (rest net (clone_at cs (suc c)) u)) t))
-
-    -- and those and its own lines are all of a clone's lines
-    pub len_at : (c bytes here new : ℕ) → c < length cs → len ≡ length (body_before net cs c)
-        → time ≡ parting_at net cs c → dropped ≡ dropped_at net cs c → bytes + dropped ≡ len
-        → here ≡ length (rest net (clone_at cs c) time) → new ≡ bytes + here → new ≡ length (body net (clone_at cs c))
-    len_at zero bytes here new there l t d e h n =
-        let r = h ∙ ap (λ u. length (rest net (clone_at cs 0) u)) t in
-        first_len net cs 0 new refl (omega (arith, l, e, n, r))
-    len_at (suc c) bytes here new there l t d e h n =
-        next_len net valid cs in_net (suc c) (omega arith) there bytes new (omega (arith, l, d, e))
-        (n ∙ ap (λ k. bytes + k) (h ∙ ap (λ u. length (rest net (clone_at cs (suc c)) u)) t))
+    pub joined_at : (c bytes time : ℕ) → c < length cs → dropped ≡ dropped_at net cs c → time ≡ parting_at net cs c
+        → bytes + dropped ≡ length (body_before net cs c) → IsJoined net cs c bytes time
+    joined_at zero bytes time there d t e =
+        let none : 0 ≡ bytes = omega (arith, e) in
+        subst (λ b. IsJoined net cs 0 b time) none (subst (λ u. IsJoined net cs 0 0 u) (sym t) (first_joined net cs))
+    joined_at (suc c) bytes time there d t e =
+        subst (λ u. IsJoined net cs (suc c) bytes u) (sym t)
+        (next_joined net valid cs in_net (suc c) (omega arith) there bytes (omega (arith, d, e)))

@@ -2,19 +2,19 @@
 use Rattle.std.proofs.Common.{◌≡◌, ℕ, zero, suc, ◌+◌, ◌<◌, ◌≤◌, Bool, true, false, not, nat_lt, if◌then◌else◌, List, [], ◌∷◌}
 use Rattle.std.proofs.Common.{◌++◌, refl, sym, ap, ap₂, ◌∙◌, subst, arith, length, sum_by, length-append}
 use Rattle.std.specs.List.{AllByRecursion, filter, flat_map}
+use Rattle.std.specs.declared.cmp.Ordering.{Ordering}
+use Rattle.std.specs.declared.cmp.Ordering.TheVariants.{Less, Equal, Greater}
 use Rattle.std.proofs.lemmas.Bool.{ltb-true, ltb-false}
 use Rattle.std.proofs.lemmas.Grind.{flat_map-append}
-use Rattle.std.proofs.lemmas.List.Concat.{flat_map-cons}
 use Rattle.sim_base.specs.Clones.{Clone, clone_at}
 use Rattle.sim_base.specs.declared.entry.Entry.{Entry}
 use Rattle.sim_base.specs.declared.entry.Line.{Line}
 use Rattle.sim_base.specs.declared.message.Msg.{Msg}
 use Rattle.net_model.specs.Net.{Net}
-use Rattle.run_laws.specs.Merges.{merge}
+use Rattle.run_laws.specs.Merges.{merge, merge_at, pick}
 use Rattle.run_laws.specs.Simulation.{Simulation}
 use Rattle.run_laws.specs.Laws.{before}
 use Rattle.run_laws.specs.SharedTexts.{from_on, station_sum}
-use Rattle.run_laws.proofs.Lists.{filter_all}
 use Rattle.run_laws.proofs.Queue.{all_from}
 use Rattle.run_laws.proofs.SharedTextsWeighing.{rest_length, trace_split}
 use Rattle.stations.specs.Good.{sender_of, number_of}
@@ -24,7 +24,7 @@ use Rattle.stations.specs.Runs.{simulation, trace_of, log_at}
 use Rattle.stations.proofs.GoodLaws.{lawful-stations, stations-to_stations, fresh-stations}
 use Rattle.stations.proofs.KeyLaws.{log_keys-small}
 use Rattle.log_chain.specs.Packing.{FitsWord, FitWords}
-use Rattle.log_chain.specs.Times.{RiseByTime, Rises, from_time, times_of}
+use Rattle.log_chain.specs.Times.{RiseByTime, from_time, times_of}
 use Rattle.trace_report.specs.TraceText.{entry_line}
 use Rattle.trace_cursor.specs.Rests.{merge_of_rests}
 use Rattle.trace_cursor.specs.Words.{by_key}
@@ -149,6 +149,24 @@ late_twice early late (e ∷ es) l = by (nat_lt e.msg.key.time late) refl (late_
         let above = ltb-false e.msg.key.time late p in
         late_stays early e (from_time late es) (omega (arith, l, above)) ∙ ap (λ k. e ∷ k) h
 
+-- two lists in order as one have as many elements as both
+pub merge_length : {X : Type 0} (cmp : X → X → Ordering) (xs ys : List X)
+    → length (merge cmp xs ys) ≡ length xs + length ys
+merge_length {X = X} cmp [] ys = omega arith
+merge_length {X = X} cmp (x ∷ xs) ys = at x (merge cmp xs) (length xs) (merge_length cmp xs) ys
+  where
+    at : (x : X) (others : List X → List X) (n : ℕ) → ((zs : List X) → length (others zs) ≡ n + length zs)
+        → (zs : List X) → length (merge_at cmp x others zs) ≡ suc n + length zs
+    at x others n h [] = let a = h [] in omega (arith, a)
+    at x others n h (z ∷ zs) = by (cmp x z) (h (z ∷ zs)) (at x others n h zs)
+      where
+        by : (r : Ordering) → length (others (z ∷ zs)) ≡ n + length (z ∷ zs)
+            → length (merge_at cmp x others zs) ≡ suc n + length zs
+            → length (pick r x z (others (z ∷ zs)) (merge_at cmp x others zs)) ≡ suc n + length (z ∷ zs)
+        by Less a b = omega (arith, a)
+        by Equal a b = omega (arith, a)
+        by Greater a b = omega (arith, b)
+
 -- ---- the logs of a clone in a world at the horizon
 
 module _ (world : WorldView) (over : IsOver world) (c : ℕ) (there : c < length world.clones) where
@@ -191,7 +209,7 @@ module _ (world : WorldView) (over : IsOver world) (c : ℕ) (there : c < length
       (fresh-stations net over.valid) clone s world.front (over.in_net.plans c there)))
 
   -- what a walk has from a time on
-  walk_is : (s t : ℕ) (log walk : List (Entry Msg Line)) → log ≡ log_at net clone s world.front
+  pub walk_is : (s t : ℕ) (log walk : List (Entry Msg Line)) → log ≡ log_at net clone s world.front
       → walk ≡ from_time t log → walk ≡ from_on sim t (log_at net clone s net.horizon)
   walk_is s t log walk e f = f ∙ ap (from_time t) (e ∙ ap (log_at net clone s) over.done)
 
@@ -343,6 +361,14 @@ module _ (world : WorldView) (over : IsOver world) (view : TracesView)
       let a = ap length split.1 in
       let b = length-append split.0 (rest view.net (clone_at view.clones c) late) in
       (split.0, omega (arith, a, b, e), split.1)
+
+-- the lines from a later time on of what a cursor was given are the clone's rest from there
+pub late_lines_are : (net model : Net) (c : Clone) (t late : ℕ) (left : List (Entry Msg Line)) → model ≡ net
+    → left ≡ from_on (simulation net) t (trace_of net c) → t ≤ late
+    → flat_map (entry_line model) (from_time late left) ≡ rest net c late
+unfolding rest
+late_lines_are net model c t late left is e l =
+    ap₂ (λ n es. flat_map (entry_line n) es) is (ap (from_time late) e ∙ later_of_rest t late (trace_of net c) l)
 
 -- the lines of what a cursor was given are the clone's rest
 pub lines_are : (net model : Net) (c : Clone) (t : ℕ) (left : List (Entry Msg Line)) → model ≡ net

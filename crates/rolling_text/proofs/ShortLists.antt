@@ -1,5 +1,5 @@
 -- A call adds one decision to one list at most.
-use Rattle.std.proofs.Common.{◌≡◌, ℕ, zero, suc, ◌+◌, ◌^◌, ◌<◌, ◌≤◌, List}
+use Rattle.std.proofs.Common.{ℕ, zero, suc, ◌+◌, ◌^◌, ◌≤◌, List}
 use Rattle.std.proofs.Common.{[], ◌∷◌, ◌++◌, arith, length, length-append, slice_set, Some, None}
 use Rattle.sim_base.specs.Clones.{Clone, base, clone_at, added, ended, forked}
 use Rattle.sim_base.specs.declared.decision.Decision.{Decision}

@@ -1,14 +1,17 @@
 -- The texts of clones, each made of the one before it.
-use Rattle.std.specs.Prelude.{◌≡◌, ℕ, zero, suc, ◌+◌, ◌-◌, ◌≤◌, List, [], ◌++◌, length, take, slice_get, Some}
+use Rattle.std.specs.Prelude.{◌≡◌, ℕ, zero, suc, ◌+◌, ◌-◌, ◌<◌, ◌≤◌, List, [], length}
 use Rattle.std.specs.List.{flat_map}
 use Rattle.sim_base.specs.Clones.{Clone, clone_at}
+use Rattle.sim_base.specs.declared.entry.Entry.{Entry}
+use Rattle.sim_base.specs.declared.entry.Line.{Line}
+use Rattle.sim_base.specs.declared.message.Msg.{Msg}
 use Rattle.net_model.specs.Net.{Net}
+use Rattle.run_laws.specs.Queue.{In}
 use Rattle.run_laws.specs.SharedTexts.{from_on, shared_to}
 use Rattle.stations.specs.Runs.{simulation, trace_of}
 use Rattle.trace_report.specs.TraceText.{entry_line}
 use Rattle.rolling_text.specs.Sharing.{same_plan}
 use Rattle.rolling_text.specs.WorldTraces.{IsWalk}
-use Rattle.rolling_text.specs.declared.texts.Keep.{Keep}
 use Rattle.rolling_text.specs.declared.texts.Texts.{Texts}
 
 -- the lines of a clone
@@ -38,30 +41,16 @@ abbrev pub dropped_at : Net → List Clone → ℕ → ℕ
 dropped_at net cs zero = 0
 dropped_at net cs (suc c) = length (rest net (clone_at cs (suc c - 1)) (shared_at net cs (suc c)))
 
--- so many bytes of the clone before are kept, and then come the lines from a time on
-pub record IsJoined (net : Net) (cs : List Clone) (c : ℕ) (k : Keep) : Type 0 where
-  pub within : k.bytes ≤ length (body_before net cs c)
-  pub joins : body net (clone_at cs c) ≡ take k.bytes (body_before net cs c) ++ rest net (clone_at cs c) k.time
-  pub own : k.rest ≡ length (rest net (clone_at cs c) k.time)
+-- no line of these entries is longer than 256 bytes
+pub record HaveShortLines (net : Net) (es : List (Entry Msg Line)) : Type 0 where
+  pub each : (e : Entry Msg Line) → In e es → length (entry_line net e) ≤ 256
 
--- and enough is reserved for them, with 32 bytes before
-pub record IsKept (net : Net) (cs : List Clone) (reserved c : ℕ) (k : Keep) : Type 0 where
-  pub within : k.bytes ≤ length (body_before net cs c)
-  pub joins : body net (clone_at cs c) ≡ take k.bytes (body_before net cs c) ++ rest net (clone_at cs c) k.time
-  pub own : k.rest ≡ length (rest net (clone_at cs c) k.time)
-  pub fits : 32 + length (body net (clone_at cs c)) ≤ reserved
+-- the lines of each clone have room in so many bytes, with 32 before
+abbrev pub AllFit : Net → List Clone → ℕ → Type 0
+AllFit net cs reserved = (c : ℕ) → c < length cs → 32 + length (body net (clone_at cs c)) ≤ reserved
 
--- what is kept for each of the first n clones
-pub record ArePlannedTo (net : Net) (cs : List Clone) (n reserved : ℕ) (ks : List Keep) : Type 0 where
-  pub many : length ks ≡ n
-  pub each : (c : ℕ) (k : Keep) → slice_get ks c ≡ Some k → IsKept net cs reserved c k
-
--- and for all
-abbrev pub ArePlanned : Net → List Clone → ℕ → List Keep → Type 0
-ArePlanned net cs reserved ks = ArePlannedTo net cs (length cs) reserved ks
-
--- all that the texts of these clones need is there: what each keeps, a buffer that fits the longest, and a cursor
+-- all that the texts of these clones need is there: a buffer that fits the longest, and a cursor
 pub record IsReady (net : Net) (cs : List Clone) (texts : Texts) : Type 0 where
-  pub planned : ArePlanned net cs texts.page.reserved texts.keeps.items
+  pub fits : AllFit net cs texts.page.reserved
   pub margin : length texts.page.text ≡ 32
   pub walk : IsWalk net texts.walk

@@ -5,12 +5,9 @@ ghost use Rattle.sim_base.specs.Clones.{clone_at};
 ghost use Rattle.rolling_text.specs.Lengths.{first_lengths};
 ghost use Rattle.rolling_text.specs.Texts.{rest};
 
-use crate::logs::{count_from, len_between};
+use crate::logs::len_between;
 use crate::world_traces::WorldTraces;
 use std::thread::{Threads, join};
-
-// One worker measures what has fewer messages, since a thread costs more.
-const LONG: u64 = 32_768;
 
 // The lines of a clone from a time on and before another, at the stations behind `low` up to `high`: each worker
 // measures some of the stations.
@@ -99,14 +96,9 @@ pub(crate) fn rest_lens<R: Threads + Sync>(
 {
     let early = first.min(second);
     let late = first.max(second);
-    let some = if count_from(traces.world, c, early) < LONG {
-        1
-    } else {
-        workers
-    };
     let end = late.max(traces.world.model().horizon());
-    let after = len_of(rt, traces, some, c, late, end);
-    let all = len_of(rt, traces, some, c, early, late) + after;
+    let after = len_of(rt, traces, workers, c, late, end);
+    let all = len_of(rt, traces, workers, c, early, late) + after;
     if first <= second {
         (all, after)
     } else {

@@ -13,15 +13,15 @@
 //!
 //! ```text
 //! let traces = WorldTraces::of(&world);                   // a world at the horizon
-//! let texts = prepare(rt, alloc, &traces, workers)?;      // all memory that the texts need
+//! let texts = prepare(alloc, &traces)?;                   // all memory that the texts need
 //! put_texts(rt, alloc, &traces, workers, texts, out)?;    // one put for each clone
 //! ```
 //!
-//! `prepare` computes by lengths alone how much of each text the next one keeps, and how long the longest is: it walks
-//! log by log along what is not shared, and writes nothing. The name line stands at the end of the 32 bytes before
-//! the lines, so that each text is one slice, whatever its name. A line that is not shared costs its entry from the
-//! stations' logs, merged by key, and its bytes. Long texts are written by several workers: each merges what comes in a
-//! part of the time, and fills its part of the bytes.
+//! `prepare` takes room for 256 bytes a line, and no line is longer; memory that no text reaches is never touched. The
+//! name line stands at the end of the 32 bytes before the lines, so that each text is one slice, whatever its name. A
+//! line that is not shared costs its entry from the stations' logs, merged by key, and its bytes; while a clone's lines
+//! are written, those are counted that the next one drops. Long texts are measured and then written by several
+//! workers: each merges what comes in a part of the time, and fills its part of the bytes.
 //!
 //! The promise that it carries: **each text is the trace of its clone simulated alone**, byte for byte, and none needs
 //! memory once the first is put, so out of memory comes before any output.
@@ -29,14 +29,16 @@
 
 pub mod laws;
 mod lengths;
+mod lines;
 mod logs;
 mod page;
 mod parting;
 mod putting;
+mod room;
 mod texts;
 mod world_traces;
 mod writing;
 
 pub use putting::put_texts;
-pub use texts::{Keep, Texts, prepare};
+pub use texts::{Texts, prepare};
 pub use world_traces::WorldTraces;

@@ -1,9 +1,6 @@
-//! The lines of a clone out of the logs of a world at the horizon: how long they are, and their bytes.
-ghost use Rattle.std.specs.Prelude.{◌≡◌, ◌+◌, ◌-◌, ◌*◌, ◌<◌, ◌≤◌, length, min, sum_by, take, ◌++◌};
-ghost use Rattle.std.specs.List.{flat_map};
+//! How long the lines of a clone are, and how many, out of the logs of a world at the horizon.
+ghost use Rattle.std.specs.Prelude.{◌≡◌, ◌+◌, ◌-◌, ◌*◌, ◌<◌, ◌≤◌, length, sum_by};
 ghost use Rattle.sim_base.specs.Clones.{clone_at};
-ghost use Rattle.stations.specs.Runs.{simulation, trace_of};
-ghost use Rattle.run_laws.specs.SharedTexts.{from_on};
 ghost use Rattle.log_chain.specs.Times.{RiseByTime, from_time};
 ghost use Rattle.trace_report.specs.Slots.{AreNames};
 ghost use Rattle.trace_report.specs.TraceText.{entry_line};
@@ -12,9 +9,7 @@ ghost use Rattle.rolling_text.specs.WorldTraces.{IsOver};
 
 use log_chain::Log;
 use net_model::Model;
-use sim_base::Entry;
-use trace_cursor::Cursor;
-use trace_report::{Names, line_len, write_line};
+use trace_report::{Names, line_len};
 use world_core::World;
 
 // How long the lines of a log from a time on and before another are.
@@ -108,92 +103,4 @@ pub(crate) fn middle_time(world: &World, c: u32, from: u64, until: u64) -> u64
         }
     }
     time
-}
-
-/// Gives a cursor what the logs of a clone have from a time on.
-pub(crate) fn gather<'a>(cursor: &mut Cursor<'a>, world: &'a World, c: u32, time: u64)
-    requires over { IsOver world.now }
-    requires there { c < length world.now.clones }
-    requires place { cursor.old.most ≡ length world.now.net.sites }
-    ensures left { cursor.new.left ≡ from_on (simulation world.now.net) time
-        (trace_of world.now.net (clone_at world.now.clones c)) }
-    ensures place { cursor.new.most ≡ cursor.old.most }
-{
-    cursor.clear();
-    for s in 0..world.model().len() {
-        let log = world.log(c, s + 1);
-        cursor.add(log.walk_from_time(time));
-    }
-}
-
-// Writes lines of the entries that a cursor has left, as long as a line's pieces, which reach past its end, have place.
-// Returns the place behind.
-fn put_most(cursor: &mut Cursor<'_>, model: &Model, names: &Names, bytes: &mut [u8]) -> usize
-    requires names { AreNames model.now names.now }
-    requires enough { length bytes.old ≤ length (flat_map (entry_line model.now) cursor.old.left) }
-    ensures text { take result bytes.new ++ flat_map (entry_line model.now) cursor.new.left
-        ≡ flat_map (entry_line model.now) cursor.old.left }
-    ensures within { result ≤ length bytes.old }
-    ensures size { length bytes.new ≡ length bytes.old }
-    ensures most { cursor.new.most ≡ cursor.old.most }
-{
-    let mut at = 0;
-    while bytes.len() - at >= 256 {
-        let entry = cursor.take();
-        at = write_line(bytes, at, model, names, &entry);
-    }
-    at
-}
-
-// Writes the line of an entry at a place, or as much of it as there is place for, and returns the place behind. The line
-// is made beside, since its pieces reach past its end.
-fn put_beside(bytes: &mut [u8], at: usize, model: &Model, names: &Names, entry: &Entry) -> usize
-    requires names { AreNames model.now names.now }
-    requires within { at ≤ length bytes.old }
-    ensures text { take result bytes.new ≡ take result (take at bytes.old ++ entry_line model.now entry.now) }
-    ensures place { result ≡ min (length bytes.old) (at + length (entry_line model.now entry.now)) }
-    ensures size { length bytes.new ≡ length bytes.old }
-{
-    let mut piece = [0; 256];
-    let len = write_line(&mut piece, 0, model, names, entry);
-    let end = bytes.len().min(at + len);
-    copy_at(bytes, at, &piece[..end - at]);
-    end
-}
-
-// Writes bytes over others.
-fn copy_at(bytes: &mut [u8], at: usize, piece: &[u8])
-    requires within { at + length piece.now ≤ length bytes.old }
-    ensures text { take (at + length piece.now) bytes.new ≡ take at bytes.old ++ piece.now }
-    ensures size { length bytes.new ≡ length bytes.old }
-{
-    let end = at + piece.len();
-    bytes[at..end].copy_from_slice(piece);
-}
-
-// Fills the bytes from a place on with the lines of the entries that a cursor has left.
-fn put_last(cursor: &mut Cursor<'_>, model: &Model, names: &Names, bytes: &mut [u8], at: usize)
-    requires names { AreNames model.now names.now }
-    requires within { at ≤ length bytes.old }
-    requires enough { length bytes.old ≤ at + length (flat_map (entry_line model.now) cursor.old.left) }
-    ensures text { bytes.new ≡ take (length bytes.old) (take at bytes.old
-        ++ flat_map (entry_line model.now) cursor.old.left) }
-    ensures most { cursor.new.most ≡ cursor.old.most }
-{
-    let mut at = at;
-    while at < bytes.len() {
-        let entry = cursor.take();
-        at = put_beside(bytes, at, model, names, &entry);
-    }
-}
-
-/// Fills bytes with the lines of the entries that a cursor has left.
-pub(crate) fn put_lines(cursor: &mut Cursor<'_>, model: &Model, names: &Names, bytes: &mut [u8])
-    requires names { AreNames model.now names.now }
-    requires enough { length bytes.old ≤ length (flat_map (entry_line model.now) cursor.old.left) }
-    ensures text { bytes.new ≡ take (length bytes.old) (flat_map (entry_line model.now) cursor.old.left) }
-    ensures most { cursor.new.most ≡ cursor.old.most }
-{
-    let at = put_most(cursor, model, names, bytes);
-    put_last(cursor, model, names, bytes, at);
 }

@@ -4,12 +4,13 @@ ghost use Rattle.sim_base.specs.Clones.{clone_at};
 ghost use Rattle.sim_outer.specs.Bytes.{Appended, PartAppended};
 ghost use Rattle.sim_outer.specs.Causes.{AreCounted, Rose};
 ghost use Rattle.rolling_text.specs.Counting.{AreCountedTo};
-ghost use Rattle.rolling_text.specs.Texts.{ArePlanned, IsKept, IsReady, body, body_before};
+ghost use Rattle.rolling_text.specs.Texts.{AllFit, IsReady, body, body_before, dropped_at, rest};
 ghost use Rattle.rolling_text.specs.WorldTraces.{IsWalk};
 ghost use Rattle.trace_report.specs.Outputs.{clone_texts};
 
 use crate::page::Page;
-use crate::texts::{Keep, MARGIN, Texts};
+use crate::room::parts_at;
+use crate::texts::Texts;
 use crate::world_traces::WorldTraces;
 use sim_base::Name;
 use sim_outer::{PutFailed, Sink};
@@ -34,7 +35,8 @@ fn put_head(page: &mut Page, name: &Name) -> usize
     at - 6
 }
 
-// Makes the lines of a clone of those of the clone before.
+// Makes the lines of a clone of those of the clone before, of which so many bytes are dropped. Returns how many of the
+// clone's own the next one drops, which parts from it at a time.
 fn roll<'a, R: Threads + Sync>(
     rt: &R,
     alloc: Global,
@@ -42,37 +44,41 @@ fn roll<'a, R: Threads + Sync>(
     workers: u32,
     walk: &mut Cursor<'a>,
     c: u32,
-    keep: &Keep,
+    dropped: usize,
+    next: u64,
     page: &mut Page,
-)
+) -> usize
     requires there { c < length traces.now.clones }
     requires walk { IsWalk traces.now.net walk.old }
-    requires kept { IsKept traces.now.net traces.now.clones page.old.reserved c keep.now }
+    requires fits { AllFit traces.now.net traces.now.clones page.old.reserved }
+    requires dropped { dropped ≡ dropped_at traces.now.net traces.now.clones c }
     requires margin { 32 ≤ length page.old.text }
     requires lines { drop 32 page.old.text ≡ body_before traces.now.net traces.now.clones c }
     ensures lines { drop 32 page.new.text ≡ body traces.now.net (clone_at traces.now.clones c) }
+    ensures dropped { result ≡ length (rest traces.now.net (clone_at traces.now.clones c) next) }
     ensures margin { 32 ≤ length page.new.text }
-    ensures reserved { page.new.reserved ≡ page.old.reserved }
+    ensures reserved { page.old.reserved ≤ page.new.reserved }
     ensures walk { IsWalk traces.now.net walk.new }
 {
-    let _all = page.len();
-    page.cut(MARGIN + keep.bytes);
-    page.put_rest(rt, alloc, traces, workers, walk, c, keep.time, keep.rest);
+    let _clones = traces.len();
+    let time = parts_at(traces, c);
+    let keep = page.len() - dropped;
+    page.cut(keep);
+    page.put_rest(rt, alloc, traces, workers, walk, c, time, next)
 }
 
-// The texts, whose plan and buffer are given.
+// The texts, whose buffer is given.
 fn put_all<'a, O: Sink, R: Threads + Sync>(
     rt: &R,
     alloc: Global,
     traces: &WorldTraces<'a>,
     workers: u32,
     walk: &mut Cursor<'a>,
-    keeps: &[Keep],
     page: &mut Page,
     out: &mut O,
 ) -> Result<(), PutFailed>
     requires walk { IsWalk traces.now.net walk.old }
-    requires planned { ArePlanned traces.now.net traces.now.clones page.old.reserved keeps.now }
+    requires fits { AllFit traces.now.net traces.now.clones page.old.reserved }
     requires fresh { length page.old.text ≡ 32 }
     ensures ok { OnOk result (Appended (O.bytes out.old) (clone_texts traces.now.net traces.now.clones)
         (O.bytes out.new)) }
@@ -83,17 +89,12 @@ fn put_all<'a, O: Sink, R: Threads + Sync>(
     ensures each { OnOk result (AreCounted (length traces.now.clones) (O.calls out.old) (O.calls out.new)) }
     ensures some { OnErr result (AreCountedTo (length traces.now.clones) (O.calls out.old) (O.calls out.new)) }
 {
-    for c in 0..traces.len() {
-        roll(
-            rt,
-            alloc,
-            traces,
-            workers,
-            walk,
-            c,
-            &keeps[c as usize],
-            page,
-        );
+    let clones = traces.len();
+    let mut dropped = 0;
+    for c in 0..clones {
+        // where there is no next clone, nobody asks what it drops
+        let next = parts_at(traces, (c + 1).min(clones - 1));
+        dropped = roll(rt, alloc, traces, workers, walk, c, dropped, next, page);
         let start = put_head(page, &traces.name(c));
         match out.put(&page.as_bytes()[start..]) {
             Ok(()) => {}
@@ -125,19 +126,6 @@ pub fn put_texts<'a, O: Sink, R: Threads + Sync>(
     ensures each { OnOk result (AreCounted (length traces.now.clones) (O.calls out.old) (O.calls out.new)) }
     ensures some { OnErr result (AreCountedTo (length traces.now.clones) (O.calls out.old) (O.calls out.new)) }
 {
-    let Texts {
-        keeps,
-        mut page,
-        mut walk,
-    } = texts;
-    put_all(
-        rt,
-        alloc,
-        traces,
-        workers,
-        &mut walk,
-        keeps.as_slice(),
-        &mut page,
-        out,
-    )
+    let Texts { mut page, mut walk } = texts;
+    put_all(rt, alloc, traces, workers, &mut walk, &mut page, out)
 }

@@ -9,7 +9,8 @@ ghost use Rattle.rolling_text.specs.Texts.{rest};
 ghost use Rattle.rolling_text.specs.WorldTraces.{IsWalk};
 
 use crate::lengths::len_of;
-use crate::logs::{gather, middle_time, put_lines};
+use crate::lines::{gather, put_lines};
+use crate::logs::middle_time;
 use crate::world_traces::WorldTraces;
 use std::alloc::Global;
 use std::thread::{Threads, join_mut};
@@ -32,8 +33,8 @@ fn write_part<'a>(
     ensures text { bytes.new ≡ take (length bytes.old) (rest traces.now.net (clone_at traces.now.clones c) from) }
     ensures walk { IsWalk traces.now.net walk.new }
 {
-    gather(walk, traces.world, c, from);
-    put_lines(walk, traces.world.model(), &traces.names, bytes);
+    let count = gather(walk, traces.world, c, from);
+    put_lines(walk, count, traces.world.model(), &traces.names, bytes);
 }
 
 // The same with a cursor of its own. False where there is no memory for it.
@@ -125,8 +126,8 @@ fn write_halves<R: Threads + Sync>(
     one && two
 }
 
-/// Fills bytes with the first lines of a clone from a time on, by so many workers. The cursor serves where one worker
-/// writes all, or where there is no memory for more cursors.
+/// Fills bytes with the first lines of a clone from a time on, by so many workers. The cursor serves where there is no
+/// memory for more.
 pub(crate) fn fill<'a, R: Threads + Sync>(
     rt: &R,
     alloc: Global,
@@ -144,10 +145,7 @@ pub(crate) fn fill<'a, R: Threads + Sync>(
     ensures walk { IsWalk traces.now.net walk.new }
 {
     let end = traces.world.model().horizon();
-    if workers > 1
-        && bytes.len() >= LONG
-        && write_lines(rt, alloc, traces, workers, c, from, end, bytes)
-    {
+    if write_lines(rt, alloc, traces, workers, c, from, end, bytes) {
         return;
     }
     write_part(traces, walk, c, from, bytes);

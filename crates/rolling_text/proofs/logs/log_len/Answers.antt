@@ -4,7 +4,7 @@ use Rattle.sim_base.specs.declared.entry.Line.{Line}
 use Rattle.sim_base.specs.declared.message.Msg.{Msg}
 use Rattle.log_chain.specs.Times.{RiseByTime, from_time}
 use Rattle.trace_report.specs.TraceText.{entry_line}
-use Rattle.rolling_text.proofs.LogLaws.{from_short, later_of_rest, rise_from, early_left, all_late}
+use Rattle.rolling_text.proofs.LogLaws.{from_short, later_of_rest, rise_from, all_late}
 use Rattle.rolling_text.proofs.logs.log_len.Goals as goal
 
 pub loop-entry-init : goal.loop-entry-init

@@ -1,4 +1,4 @@
-use Rattle.std.proofs.Common.{arith, ap, ◌∙◌, ◌≡◌, ◌+◌, length, min}
+use Rattle.std.proofs.Common.{arith, length}
 use Rattle.sim_base.specs.Clones.{clone_at}
 use Rattle.rolling_text.specs.Texts.{rest}
 use Rattle.rolling_text.proofs.LogLaws.{rest_parts}

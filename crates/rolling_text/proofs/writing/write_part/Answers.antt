@@ -1,7 +1,5 @@
-use Rattle.std.proofs.Common.{ap, ap₂, arith, sym, subst, ◌∙◌, ◌≡◌, length, take}
-use Rattle.std.specs.List.{flat_map}
+use Rattle.std.proofs.Common.{ap, arith, ◌∙◌, length, take}
 use Rattle.sim_base.specs.Clones.{clone_at}
-use Rattle.trace_report.specs.TraceText.{entry_line}
 use Rattle.rolling_text.specs.WorldTraces.{TracesView}
 use Rattle.rolling_text.specs.Texts.{rest}
 use Rattle.rolling_text.proofs.LogLaws.{lines_are}
@@ -11,7 +9,7 @@ pub put_lines-requires-clause-enough : goal.put_lines-requires-clause-enough
 put_lines-requires-clause-enough c =
     let world = c.traces.inside.world.now in
     let lines = ap length (lines_are world.net c.model.result.now (clone_at world.clones c.args.c) c.args.from
-    c.gather.new.cursor.left c.model.ensures.value c.gather.ensures.left
+    c.gather-count.new.cursor.left c.model.ensures.value c.gather-count.ensures.left
     ∙ ap (λ (v : TracesView). rest v.net (clone_at v.clones c.args.c) c.args.from) c.traces.view_is) in
     omega (arith, lines, c.requires.enough)
 
@@ -19,5 +17,5 @@ pub returns-clause-text : goal.returns-clause-text
 returns-clause-text c =
     let world = c.traces.inside.world.now in
     c.put_lines.ensures.text ∙ ap (take (length c.args.bytes.now)) (lines_are world.net c.model.result.now
-    (clone_at world.clones c.args.c) c.args.from c.gather.new.cursor.left c.model.ensures.value c.gather.ensures.left
+    (clone_at world.clones c.args.c) c.args.from c.gather-count.new.cursor.left c.model.ensures.value c.gather-count.ensures.left
     ∙ ap (λ (v : TracesView). rest v.net (clone_at v.clones c.args.c) c.args.from) c.traces.view_is)

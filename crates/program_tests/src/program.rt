@@ -11,7 +11,7 @@ mod refusals;
 mod texts;
 mod words;
 
-use crate::program::cloner;
+use cloner_top::cloner;
 use crew_pool::{Gate, NoGate};
 use sim_base::{NoMemory, Steps};
 use sim_outer::{MemInputs, MemSink, Word};

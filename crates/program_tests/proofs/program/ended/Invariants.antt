@@ -1,4 +1,4 @@
-use Rattle.cloner_top.proofs.tests.ended.Given as goal
+use Rattle.program_tests.proofs.program.ended.Given as goal
 
 abbrev pub ghosts-counted : goal.ghosts-counted
 ghosts-counted g a = record { name = a.blank.name; parts = a.blank.parts }

@@ -1,7 +1,5 @@
 //! What no clause says: that words of each form find memory and are read.
-use crate::reading::read_words;
-use crate::request::{Mode, Source, WordsFault};
-use crate::usage::usage_line;
+use command_words::{Mode, Source, WordsFault, read_words, usage_line};
 use sim_base::NoMemory;
 use sim_outer::Word;
 use std::alloc::Global;

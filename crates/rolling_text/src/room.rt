@@ -1,0 +1,84 @@
+//! How much room the texts take at most, told before any is made.
+//!
+//! No line is longer than 256 bytes, since its numbers are words and names have at most 16 bytes. A clone's entries from
+//! where it parts from the one before it are met once each, which shows it of them; those before are the other clone's.
+ghost use Rattle.std.specs.Prelude.{◌≡◌, ℕ, ◌^◌, ◌<◌, ◌≤◌, length};
+ghost use Rattle.sim_base.specs.Clones.{clone_at};
+ghost use Rattle.stations.specs.Runs.{simulation, trace_of};
+ghost use Rattle.run_laws.specs.SharedTexts.{from_on};
+ghost use Rattle.log_chain.specs.Times.{RiseByTime, from_time};
+ghost use Rattle.trace_report.specs.Slots.{AreNames};
+ghost use Rattle.rolling_text.specs.Texts.{HaveShortLines, body, parting_at};
+ghost use Rattle.rolling_text.specs.WorldTraces.{IsOver};
+
+use crate::world_traces::WorldTraces;
+use log_chain::Log;
+use net_model::Model;
+use trace_report::{Names, line_len};
+use world_core::World;
+
+// Meets the entries of a log from a time on: no line of theirs is longer than 256 bytes.
+fn meet_log(model: &Model, names: &Names, log: &Log, from: u64)
+    requires names { AreNames model.now names.now }
+    requires rises { RiseByTime log.now }
+    ensures short { HaveShortLines model.now (from_time from log.now) }
+{
+    let mut walk = log.walk_from_time(from);
+    while let Some(entry) = walk.next() {
+        let _len = line_len(model, names, &entry);
+    }
+}
+
+// The same of all that a clone handled from a time on.
+fn meet_rest(world: &World, names: &Names, c: u32, from: u64)
+    requires names { AreNames world.now.net names.now }
+    requires over { IsOver world.now }
+    requires there { c < length world.now.clones }
+    ensures short { HaveShortLines world.now.net (from_on (simulation world.now.net) from
+        (trace_of world.now.net (clone_at world.now.clones c))) }
+{
+    let model = world.model();
+    for s in 0..model.len() {
+        meet_log(model, names, world.log(c, s + 1), from);
+    }
+}
+
+// How many bytes the lines of a clone have at most, by how many they are.
+fn room_of(world: &World, c: u32) -> usize
+    requires over { IsOver world.now }
+    requires there { c < length world.now.clones }
+    requires short { HaveShortLines world.now.net (trace_of world.now.net (clone_at world.now.clones c)) }
+    ensures room { length (body world.now.net (clone_at world.now.clones c)) ≤ result }
+    ensures few { result ≤ 2 ^ 40 }
+{
+    let mut room = 0;
+    for s in 0..world.model().len() {
+        room += 256 * world.log(c, s + 1).len() as usize;
+    }
+    room
+}
+
+// From which time on the lines of a clone differ from those of the one before it: all of them, where there is none.
+pub(crate) fn parts_at(traces: &WorldTraces<'_>, c: u32) -> u64
+    requires there { c < length traces.now.clones }
+    ensures value { result ≡ parting_at traces.now.net traces.now.clones c }
+{
+    if c == 0 {
+        return 0;
+    }
+    traces.shared_to(c)
+}
+
+/// How many bytes the lines of each clone have at most.
+pub(crate) fn most_room(traces: &WorldTraces<'_>) -> usize
+    ensures room { (c : ℕ) → c < length traces.now.clones
+        → length (body traces.now.net (clone_at traces.now.clones c)) ≤ result }
+    ensures few { result ≤ 2 ^ 40 }
+{
+    let mut most = 0usize;
+    for c in 0..traces.len() {
+        meet_rest(traces.world, &traces.names, c, parts_at(traces, c));
+        most = most.max(room_of(traces.world, c));
+    }
+    most
+}
