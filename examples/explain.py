@@ -16,9 +16,10 @@ FORMATS = os.path.join(os.path.dirname(os.path.abspath(__file__)), "..", "docs",
 # what helps to find the cause, where the rule alone doesn't say it
 HINTS = {
     ("model", 6): "Look at `name`, and at `to` of the station's links: 1 to 16 of a-z, 0-9 and _, the first a letter.",
-    ("script", 3): "A comment stands on a line of its own; TIME comes before the station.",
+    ("script", 3): "A comment stands on a line of its own; TIME comes before the station; names have small letters, figures and _ alone.",
     ("script", 4): "A number has no sign, no leading zero, no point and no separators.",
     ("decision", 3): "A fork goes before all that uses its clone.",
+    ("decision", 7): "`every` is a source's; `service`, `servers` and `room` a server's; `hold` a delay's; `weight` a router's by weights.",
     ("decision", 12): "Forks and sets of a clone go before its end.",
 }
 
@@ -41,6 +42,18 @@ def station_lines(lines, station):
     return heads[station - 1], (heads + [len(lines)])[station]
 
 
+def with_key(lines, first, last, key):
+    """The places of the lines that give a key, also within a link. What the program can't print of a key it writes as `?`."""
+    name = "".join("." if letter == "?" else re.escape(letter) for letter in key)
+    return [i for i in range(first, last) if re.search(rf'(^|[\s{{,\["]){name}"?\s*(=|\]\])', lines[i])]
+
+
+def to_nowhere(lines, first, last):
+    """The places of the lines whose `to` names no station."""
+    names = set(re.findall(r'^\s*name\s*=\s*"(\w*)"', "\n".join(lines), re.M))
+    return [i for i in range(first, last) if not names.issuperset(re.findall(r'\bto\s*=\s*"(\w*)"', lines[i]))]
+
+
 def of_model(path, number, station, key):
     if number == 2:
         try:
@@ -53,10 +66,10 @@ def of_model(path, number, station, key):
     if stated is None:
         return
     first, last = stated
-    with_key = [i for i in range(first, last) if key and re.match(rf"\s*{re.escape(key)}\s*=", lines[i])]
-    for i in with_key:
+    places = with_key(lines, first, last, key) if key else to_nowhere(lines, first, last) if number == 9 else []
+    for i in places:
         print(f"  {path}:{i + 1}: {lines[i].strip()}")
-    if not with_key and station > 0:
+    if not places and station > 0:
         print(f"  {path}:{first + 1}: {lines[first].strip()}   (station {station} begins here)")
 
 

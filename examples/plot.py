@@ -126,8 +126,19 @@ def picture(branches, station, names):
     yield "</svg>"
 
 
+def refuse_unknown(branches, station, names):
+    """Ends where a branch isn't there, or no line of a trace says how many wait at the station."""
+    if missing := [name for name in names if name not in branches]:
+        sys.exit(f"no branch {missing[0]}: there are {', '.join(branches)}")
+    servers = {line.split()[1] for lines in branches.values() for line in lines if " wait=" in line}
+    if station not in servers:
+        sys.exit(f"nobody waits at {station}: jobs wait at servers, here {', '.join(sorted(servers))}")
+
+
 if __name__ == "__main__":
     if len(sys.argv) < 3:
         sys.exit(__doc__)
     all_branches = branches_of(sys.argv[1])
-    print("\n".join(picture(all_branches, sys.argv[2], sys.argv[3:] or list(all_branches))))
+    chosen = sys.argv[3:] or list(all_branches)
+    refuse_unknown(all_branches, sys.argv[2], chosen)
+    print("\n".join(picture(all_branches, sys.argv[2], chosen)))
