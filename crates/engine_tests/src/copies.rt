@@ -2,10 +2,10 @@
 ghost use Rattle.std.specs.Prelude.{◌≡◌, ◌≤◌, ◌<◌, length, IfSome};
 ghost use Rattle.phys_proc.specs.Procs.{IsProc};
 
-use crate::texts::ONE_DESK;
 use clone_sets::CloneSet;
 use net_model::{Model, read_model};
 use phys_proc::{CloneEnds, Flow, Proc};
+use sample_models::ONE_DESK;
 use sim_base::{Change, Job, Key, Msg, Param, Payload, Steps};
 use std::alloc::Global;
 use std::marker::Brand;

@@ -5,10 +5,10 @@ ghost use Rattle.run_laws.specs.Fronts.{least_of};
 ghost use Rattle.stations.specs.Runs.{simulation};
 ghost use Rattle.decision_desk.specs.Passes.{new_passes, new_helm};
 
-use crate::texts::ONE_DESK;
 use decision_book::Reply;
 use decision_desk::{Desk, Helm, Pass, Receipt};
 use net_model::read_model;
+use sample_models::ONE_DESK;
 use sim_base::{Change, Decision, Name, NoMemory, Param};
 use std::alloc::Global;
 use std::process::Abort;

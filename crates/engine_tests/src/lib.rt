@@ -24,6 +24,4 @@ mod live_studies;
 #[cfg(test)]
 mod shelves;
 #[cfg(test)]
-mod texts;
-#[cfg(test)]
 mod worlds;

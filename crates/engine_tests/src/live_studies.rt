@@ -1,11 +1,11 @@
 //! Two analysts beside the engine, whatever the schedule: what the journal and the looks of a run with looks alone are.
 ghost use Rattle.std.specs.Prelude.{◌≡◌, ◌<◌};
 
-use crate::texts::ONE_DESK;
 use crew_pool::{Crew, NoGate, Serial};
 use decision_script::read_script;
 use live_study::live_study;
 use net_model::read_model;
+use sample_models::ONE_DESK;
 use sim_base::Steps;
 use std::alloc::Global;
 use std::marker::Brand;

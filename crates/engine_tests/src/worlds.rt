@@ -4,11 +4,11 @@ ghost use Rattle.sim_base.specs.Clones.{base};
 ghost use Rattle.decision_book.specs.Journal.{after};
 ghost use Rattle.engine_tests.specs.Abreast.{AreAbreast};
 
-use crate::texts::ONE_DESK;
 use crew_pool::{Crew, Forked, Gate, NoGate, Serial, Stealing, Workers};
 use decision_book::{Book, Call, Reply};
 use net_model::{Model, read_model};
 use phys_proc::{Found, Glance};
+use sample_models::ONE_DESK;
 use sim_base::{Change, Decision, Entry, Figures, Name, Param, Steps};
 use std::alloc::Global;
 use std::marker::Brand;

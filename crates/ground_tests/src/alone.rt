@@ -5,9 +5,9 @@ ghost use Rattle.solo_run.specs.SoloView.{IsSolo};
 mod models;
 mod traces;
 
-use crate::texts::ONE_DESK;
-use models::{CLASSES, DRAWN_GATE, FAN_BY_TURN, NO_ROOM};
+use models::{CLASSES, DRAWN_GATE, FAN_BY_TURN};
 use net_model::{Model, read_model};
+use sample_models::{NO_ROOM, ONE_DESK};
 use sim_base::{Change, Entry, Param, Planned, Steps};
 use solo_run::{Solo, SoloFault};
 use std::alloc::Global;

@@ -1,8 +1,8 @@
 //! Worked books, the table of refusals in its order, and full books.
 
-use crate::texts::ONE_DESK;
 use decision_book::{Book, Reply};
 use net_model::read_model;
+use sample_models::ONE_DESK;
 use sim_base::{Change, Decision, Name, NoMemory, Param};
 use std::alloc::Global;
 use std::process::Abort;

@@ -48,6 +48,4 @@ mod sets;
 #[cfg(test)]
 mod sinks;
 #[cfg(test)]
-mod texts;
-#[cfg(test)]
 mod traces;

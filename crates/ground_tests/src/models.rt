@@ -6,10 +6,11 @@ mod texts;
 
 use changes::{Change, OTHER_TEXTS, ROAD_CHANGES, SMALL_CHANGES};
 use net_model::{KeyText, Kind, Link, Model, read_model};
+use sample_models::CLINIC;
 use std::alloc::{AllocError, Global};
 use std::test::Fail;
 use std::time::{Duration, Instant};
-use texts::{CLINIC, FACTORY, INLINE, ROAD, SMALL};
+use texts::{FACTORY, INLINE, ROAD, SMALL};
 
 // Whether the text is refused with this number at this place, and names this key, or none.
 fn is_refused(alloc: Global, text: &[u8], number: u32, place: u32, key: &str) -> bool {

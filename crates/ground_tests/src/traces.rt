@@ -1,8 +1,8 @@
 //! The texts of traces and reports, as people expect them.
 ghost use Rattle.std.specs.Prelude.{◌≡◌, ◌<◌, ◌^◌, sum_by};
 
-use crate::texts::ONE_DESK;
 use net_model::read_model;
+use sample_models::ONE_DESK;
 use sim_base::{Change, Entry, Figures, Job, Key, Line, Msg, Name, Param, Payload};
 use std::alloc::Global;
 use std::test::Fail;

@@ -13,6 +13,7 @@ mod words;
 
 use cloner_top::cloner;
 use crew_pool::{Gate, NoGate};
+use sample_models::ONE_DESK;
 use sim_base::{NoMemory, Steps};
 use sim_outer::{MemInputs, MemSink, Word};
 use std::alloc::Global;
@@ -73,7 +74,7 @@ const RUN: &[&str] = &["run", "m", "s"];
 const PLAIN: Row<'static> = Row {
     shows: "a run of one desk",
     words: RUN,
-    model: models::ONE_DESK,
+    model: ONE_DESK,
     script: "",
     status: 0,
     traces: texts::BASE,

@@ -9,4 +9,4 @@ pub mod Partings
 pub mod LogLaws
 pub mod ShortLists
 pub mod Keeping
-pub mod Rooms
+pub mod ShortLines

@@ -45,7 +45,7 @@ dropped_at net cs (suc c) = length (rest net (clone_at cs (suc c - 1)) (shared_a
 pub record HaveShortLines (net : Net) (es : List (Entry Msg Line)) : Type 0 where
   pub each : (e : Entry Msg Line) → In e es → length (entry_line net e) ≤ 256
 
--- the lines of each clone have room in so many bytes, with 32 before
+-- the lines of each clone fit in so many bytes, with 32 before
 abbrev pub AllFit : Net → List Clone → ℕ → Type 0
 AllFit net cs reserved = (c : ℕ) → c < length cs → 32 + length (body net (clone_at cs c)) ≤ reserved
 

@@ -17,7 +17,7 @@
 //! put_texts(rt, alloc, &traces, workers, texts, out)?;    // one put for each clone
 //! ```
 //!
-//! `prepare` takes room for 256 bytes a line, and no line is longer; memory that no text reaches is never touched. The
+//! `prepare` reserves 256 bytes a line, and no line is longer; memory that no text reaches is never touched. The
 //! name line stands at the end of the 32 bytes before the lines, so that each text is one slice, whatever its name. A
 //! line that is not shared costs its entry from the stations' logs, merged by key, and its bytes; while a clone's lines
 //! are written, those are counted that the next one drops. Long texts are measured and then written by several
@@ -27,6 +27,7 @@
 //! memory once the first is put, so out of memory comes before any output.
 #![tactic(auto)]
 
+mod bounds;
 pub mod laws;
 mod lengths;
 mod lines;
@@ -34,7 +35,6 @@ mod logs;
 mod page;
 mod parting;
 mod putting;
-mod room;
 mod texts;
 mod world_traces;
 mod writing;

@@ -39,7 +39,7 @@ impl std::marker::Model for Page {
 }
 
 impl Page {
-    /// A text of so many spaces, with room for so many bytes.
+    /// A text of so many spaces, with memory for so many bytes.
     pub fn new(alloc: Global, text: usize, reserved: usize) -> Result<Page, NoMemory>
         requires within { text ≤ reserved }
         ensures text { IfOk result (λ p. length p.text ≡ text) }
@@ -78,7 +78,7 @@ impl Page {
 
     // Writes bytes behind the text.
     fn append(&mut self, piece: &[u8])
-        requires room { length self.old.text + length piece.now ≤ self.old.reserved }
+        requires fits { length self.old.text + length piece.now ≤ self.old.reserved }
         ensures text { self.new.text ≡ self.old.text ++ piece.now }
         ensures reserved { self.old.reserved ≤ self.new.reserved }
     {
@@ -90,7 +90,7 @@ impl Page {
 
     // Writes so many spaces behind the text.
     fn grow(&mut self, len: usize)
-        requires room { length self.old.text + len ≤ self.old.reserved }
+        requires fits { length self.old.text + len ≤ self.old.reserved }
         ensures text { take (length self.old.text) self.new.text ≡ self.old.text }
         ensures len { length self.new.text ≡ length self.old.text + len }
         ensures reserved { self.old.reserved ≤ self.new.reserved }
@@ -114,7 +114,7 @@ impl Page {
     ) -> usize
         requires names { AreNames model.now names.now }
         requires count { count ≡ length cursor.old.left }
-        requires room { length self.old.text + length (flat_map (entry_line model.now) cursor.old.left)
+        requires fits { length self.old.text + length (flat_map (entry_line model.now) cursor.old.left)
             ≤ self.old.reserved }
         ensures text { self.new.text ≡ self.old.text ++ flat_map (entry_line model.now) cursor.old.left }
         ensures late { result ≡ length (flat_map (entry_line model.now) (from_time late cursor.old.left)) }
@@ -147,7 +147,7 @@ impl Page {
     ) -> usize
         requires there { c < length traces.now.clones }
         requires walk { IsWalk traces.now.net walk.old }
-        requires room { length self.old.text + length (rest traces.now.net (clone_at traces.now.clones c) time)
+        requires fits { length self.old.text + length (rest traces.now.net (clone_at traces.now.clones c) time)
             ≤ self.old.reserved }
         ensures text { self.new.text ≡ self.old.text ++ rest traces.now.net (clone_at traces.now.clones c) time }
         ensures next { result ≡ length (rest traces.now.net (clone_at traces.now.clones c) next) }
@@ -177,7 +177,7 @@ impl Page {
     ) -> usize
         requires there { c < length traces.now.clones }
         requires walk { IsWalk traces.now.net walk.old }
-        requires room { length self.old.text + length (rest traces.now.net (clone_at traces.now.clones c) time)
+        requires fits { length self.old.text + length (rest traces.now.net (clone_at traces.now.clones c) time)
             ≤ self.old.reserved }
         ensures text { self.new.text ≡ self.old.text ++ rest traces.now.net (clone_at traces.now.clones c) time }
         ensures next { result ≡ length (rest traces.now.net (clone_at traces.now.clones c) next) }

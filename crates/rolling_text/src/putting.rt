@@ -8,8 +8,8 @@ ghost use Rattle.rolling_text.specs.Texts.{AllFit, IsReady, body, body_before, d
 ghost use Rattle.rolling_text.specs.WorldTraces.{IsWalk};
 ghost use Rattle.trace_report.specs.Outputs.{clone_texts};
 
+use crate::bounds::parts_at;
 use crate::page::Page;
-use crate::room::parts_at;
 use crate::texts::Texts;
 use crate::world_traces::WorldTraces;
 use sim_base::Name;

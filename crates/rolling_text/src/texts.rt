@@ -2,8 +2,8 @@
 ghost use Rattle.std.specs.Prelude.{IfOk};
 ghost use Rattle.rolling_text.specs.Texts.{IsReady};
 
+use crate::bounds::greatest_bound;
 use crate::page::Page;
-use crate::room::most_room;
 use crate::world_traces::WorldTraces;
 use sim_base::NoMemory;
 use std::alloc::Global;
@@ -23,7 +23,7 @@ pub struct Texts<'a> {
 pub fn prepare<'a>(alloc: Global, traces: &WorldTraces<'a>) -> Result<Texts<'a>, NoMemory>
     ensures ready { IfOk result (λ texts. IsReady traces.now.net traces.now.clones texts) }
 {
-    let page = Page::new(alloc, MARGIN, MARGIN + most_room(traces))?;
+    let page = Page::new(alloc, MARGIN, MARGIN + greatest_bound(traces))?;
     let stations = traces.world.model().len();
     let walk = Cursor::new(alloc, stations as usize)?;
     Ok(Texts { page, walk })

@@ -1,4 +1,4 @@
-//! The models of the worked examples, but for one desk.
+//! The models of the worked examples that the tests of no other crate read.
 
 /// A source that draws its times.
 pub const DRAWN_GATE: &str = r#"lookahead = 2
@@ -10,39 +10,6 @@ kind = "source"
 every = [1, 10]
 jobs = 3
 stream = 54
-link = [{ to = "out", delay = 2 }]
-[[station]]
-name = "out"
-kind = "sink"
-"#;
-
-/// Three jobs reach a desk at one time, and nobody can wait.
-pub const NO_ROOM: &str = r#"lookahead = 2
-horizon = 20
-[[station]]
-name = "s1"
-kind = "source"
-every = [3, 3]
-jobs = 1
-link = [{ to = "desk", delay = 2 }]
-[[station]]
-name = "s2"
-kind = "source"
-every = [3, 3]
-jobs = 1
-link = [{ to = "desk", delay = 2 }]
-[[station]]
-name = "s3"
-kind = "source"
-every = [3, 3]
-jobs = 1
-link = [{ to = "desk", delay = 2 }]
-[[station]]
-name = "desk"
-kind = "server"
-servers = 1
-room = 0
-service = [4, 4]
 link = [{ to = "out", delay = 2 }]
 [[station]]
 name = "out"

@@ -1,5 +1,5 @@
-//! Model texts of the tests. The first four are the files of the folder `examples` at the top of the
-//! repository, byte for byte.
+//! Model texts of the tests. The first three are files of the folder `examples` at the top of the
+//! repository, byte for byte; `examples/clinic.toml` stands in `sample_models`.
 
 /// `examples/small.toml`
 pub const SMALL: &str =
@@ -21,54 +21,6 @@ service = [4, 4]
 link = [{ to = "out", delay = 2 }]
 [[station]]
 name = "out"
-kind = "sink"
-"#;
-
-/// `examples/clinic.toml`
-pub const CLINIC: &str = r#"# A walk-in clinic; times in minutes
-lookahead = 1
-horizon = 10000
-seed = 2001
-
-[[station]]
-name = "arrivals"
-kind = "source"
-every = [4, 9]
-jobs = 3000
-link = [{ to = "reception", delay = 1 }]
-
-[[station]]
-name = "reception"
-kind = "server"
-servers = 2
-room = 40
-service = [3, 8]
-link = [{ to = "triage", delay = 1 }]
-
-[[station]]
-name = "triage"
-kind = "router"
-by = "weights"
-link = [{ to = "doctor", delay = 2, weight = 3 }, { to = "xray", delay = 4, weight = 1 }]
-
-[[station]]
-name = "doctor"
-kind = "server"
-servers = 3
-room = 60
-service = [10, 25]
-link = [{ to = "exit", delay = 1 }]
-
-[[station]]
-name = "xray"
-kind = "server"
-servers = 1
-room = 20
-service = [8, 16]
-link = [{ to = "doctor", delay = 3 }]
-
-[[station]]
-name = "exit"
 kind = "sink"
 "#;
 

@@ -1,6 +1,7 @@
 //! Inputs and sinks that fail.
-use super::{GOOD, Outside, RUN, both, ended, models, texts};
+use super::{GOOD, Outside, RUN, both, ended, texts};
 use crew_pool::NoGate;
+use sample_models::ONE_DESK;
 use std::alloc::Global;
 use std::process::Abort;
 use std::sync::Wait;
@@ -28,15 +29,7 @@ struct Fault<'a> {
 impl<'a> Fault<'a> {
     fn holds<R: Threads + Wait + Sync>(&self, rt: &R, alloc: Global) -> bool {
         let whole = both(alloc, texts::BASE_AND_FAST, texts::BASE_AND_FAST_REPORT);
-        let ended = ended(
-            rt,
-            alloc,
-            &NoGate,
-            RUN,
-            models::ONE_DESK,
-            FAST,
-            &self.outside,
-        );
+        let ended = ended(rt, alloc, &NoGate, RUN, ONE_DESK, FAST, &self.outside);
         match (ended, whole) {
             (Ok(ended), Ok(whole)) => {
                 whole.len() >= self.size
@@ -58,8 +51,7 @@ fn fetches_fail(rt: HostRuntime) -> Result<(), Fail> {
                 fetch: &fetch,
                 ..GOOD
             };
-            let model = models::ONE_DESK;
-            let ended = ended(&rt, rt.alloc(), &NoGate, words, model, FAST, &outside)?;
+            let ended = ended(&rt, rt.alloc(), &NoGate, words, ONE_DESK, FAST, &outside)?;
             assert!(rt;
                 ended.is(3, &[], errors),
                 "{} words, {}",
@@ -184,15 +176,7 @@ fn solo_is_cut_off(rt: HostRuntime) -> Result<(), Fail> {
         put: &[(1, 7)],
         ..GOOD
     };
-    let ended = ended(
-        &rt,
-        rt.alloc(),
-        &NoGate,
-        words,
-        models::ONE_DESK,
-        "",
-        &outside,
-    )?;
+    let ended = ended(&rt, rt.alloc(), &NoGate, words, ONE_DESK, "", &outside)?;
     assert!(rt; ended.is(8, b"clone b", CUT));
     Ok(())
 }

@@ -1,5 +1,6 @@
 //! Stations of every kind.
 use super::{PLAIN, Row, models, texts};
+use sample_models::NO_ROOM;
 use std::process::Abort;
 use std::test::Fail;
 
@@ -34,7 +35,7 @@ const ROWS: &[Row] = &[
     },
     Row {
         shows: "a desk without a queue loses jobs",
-        model: models::NO_ROOM,
+        model: NO_ROOM,
         traces: texts::NO_ROOM,
         report: texts::NO_ROOM_REPORT,
         ..PLAIN

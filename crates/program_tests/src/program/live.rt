@@ -1,6 +1,7 @@
 //! Live studies: analysts who decide and look while the engine runs.
 use super::{GOOD, Outcome, both, ended, models, texts};
 use crew_pool::{Gate, NoGate};
+use sample_models::{CLINIC, ONE_DESK};
 use sim_base::NoMemory;
 use std::alloc::Global;
 use std::process::Abort;
@@ -63,7 +64,7 @@ fn live<G: Gate, R: Threads + Wait + Sync>(
     script: &str,
 ) -> Result<Outcome, NoMemory> {
     let words = ["live", "m", "s", "--workers", workers];
-    ended(rt, alloc, gate, &words, models::ONE_DESK, script, &GOOD)
+    ended(rt, alloc, gate, &words, ONE_DESK, script, &GOOD)
 }
 
 /// Without decisions and looks the journal can't vary, and what follows is the plain run.
@@ -158,7 +159,7 @@ fn put_fails<R: Threads + Wait + Sync>(
             error: fails,
             ..GOOD
         };
-        let ended = ended(rt, alloc, &NoGate, LIVE, models::ONE_DESK, "", &outside)?;
+        let ended = ended(rt, alloc, &NoGate, LIVE, ONE_DESK, "", &outside)?;
         holds = holds && ended.is(8, part.as_slice(), line);
     }
     Ok(holds)
@@ -357,7 +358,7 @@ fn is_repeated<R: Threads + Wait + Sync>(
         return Ok(false);
     };
     let words = ["run", "m", "s"];
-    let again = ended(rt, alloc, &NoGate, &words, models::ONE_DESK, script, &GOOD)?;
+    let again = ended(rt, alloc, &NoGate, &words, ONE_DESK, script, &GOOD)?;
     Ok(live.status == 0 && again.is(0, behind, ""))
 }
 
@@ -410,7 +411,7 @@ fn clinic_live(rt: HostRuntime) -> Result<(), Fail> {
         rt.alloc(),
         &NoGate,
         &words,
-        models::CLINIC,
+        CLINIC,
         texts::CLINIC_SCRIPT,
         &GOOD,
     )?;

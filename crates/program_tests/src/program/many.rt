@@ -1,6 +1,7 @@
 //! Many branches and many lines, and many workers.
-use super::{GOOD, PLAIN, REFUSED, RUN, Row, ended, models, texts};
+use super::{GOOD, PLAIN, REFUSED, RUN, Row, ended, texts};
 use crew_pool::{Gate, NoGate};
+use sample_models::{CLINIC, ONE_DESK};
 use sim_base::NoMemory;
 use std::alloc::Global;
 use std::process::Abort;
@@ -54,7 +55,7 @@ fn reports<R: Threads + Wait + Sync>(
     report: &str,
 ) -> bool {
     let words = ["run", "m", "s", "--workers", workers];
-    match ended(rt, alloc, &NoGate, &words, models::ONE_DESK, script, &GOOD) {
+    match ended(rt, alloc, &NoGate, &words, ONE_DESK, script, &GOOD) {
         Ok(ended) => {
             ended.status == 0
                 && ended.errors.is_empty()
@@ -153,7 +154,7 @@ fn any_number_of_workers(rt: HostRuntime) -> Result<(), Fail> {
     let fast = "fork fast from base\nset fast at 8 desk service 2 2";
     for more in ["2", "4", "16"] {
         assert!(rt;
-            same_for_all(&rt, rt.alloc(), more, models::ONE_DESK, fast),
+            same_for_all(&rt, rt.alloc(), more, ONE_DESK, fast),
             "{}",
             more
         );
@@ -163,7 +164,7 @@ fn any_number_of_workers(rt: HostRuntime) -> Result<(), Fail> {
 
 #[test]
 fn clinic_by_two_workers(rt: HostRuntime) -> Result<(), Fail> {
-    assert!(rt; same_for_all(&rt, rt.alloc(), "2", models::CLINIC, texts::CLINIC_SCRIPT));
+    assert!(rt; same_for_all(&rt, rt.alloc(), "2", CLINIC, texts::CLINIC_SCRIPT));
     Ok(())
 }
 
@@ -189,7 +190,7 @@ fn windows_counted(rt: HostRuntime) -> Result<(), Fail> {
             calls: AtomicU64::new(0),
         };
         let words = ["run", "m", "s", "--workers", workers];
-        let ended = ended(&rt, rt.alloc(), &gate, &words, models::ONE_DESK, "", &GOOD)?;
+        let ended = ended(&rt, rt.alloc(), &gate, &words, ONE_DESK, "", &GOOD)?;
         assert!(rt;
             ended.status == 0 && gate.calls.load(Ordering::SeqCst) == 21,
             "{}",

@@ -1,27 +1,6 @@
-//! The models of the tests.
+//! The models that these tests alone read.
 
-/// A gate, a desk and a way out.
-pub const ONE_DESK: &str = r#"lookahead = 2
-horizon = 20
-[[station]]
-name = "gate"
-kind = "source"
-every = [3, 3]
-jobs = 2
-link = [{ to = "desk", delay = 2 }]
-[[station]]
-name = "desk"
-kind = "server"
-servers = 1
-room = 5
-service = [4, 4]
-link = [{ to = "out", delay = 2 }]
-[[station]]
-name = "out"
-kind = "sink"
-"#;
-
-/// The same, where a station may handle three messages.
+/// `ONE_DESK`, where a station may handle three messages.
 pub const LIMIT_3: &str = r#"lookahead = 2
 horizon = 20
 limit = 3
@@ -145,40 +124,7 @@ name = "out"
 kind = "sink"
 "#;
 
-/// Three sources before a desk without room.
-pub const NO_ROOM: &str = r#"lookahead = 2
-horizon = 20
-[[station]]
-name = "s1"
-kind = "source"
-every = [3, 3]
-jobs = 1
-link = [{ to = "desk", delay = 2 }]
-[[station]]
-name = "s2"
-kind = "source"
-every = [3, 3]
-jobs = 1
-link = [{ to = "desk", delay = 2 }]
-[[station]]
-name = "s3"
-kind = "source"
-every = [3, 3]
-jobs = 1
-link = [{ to = "desk", delay = 2 }]
-[[station]]
-name = "desk"
-kind = "server"
-servers = 1
-room = 0
-service = [4, 4]
-link = [{ to = "out", delay = 2 }]
-[[station]]
-name = "out"
-kind = "sink"
-"#;
-
-/// The same with room for five.
+/// `NO_ROOM`, but with room for five.
 pub const SOME_ROOM: &str = r#"lookahead = 2
 horizon = 20
 [[station]]
@@ -309,22 +255,6 @@ by = "turn"
 link = [{ to = "spin", delay = 1 }]
 "#;
 
-/// The same up to a nearer horizon.
-pub const SHORT_SPIN: &str = r#"lookahead = 1
-horizon = 16386
-[[station]]
-name = "gate"
-kind = "source"
-every = [1, 1]
-jobs = 1
-link = [{ to = "spin", delay = 1 }]
-[[station]]
-name = "spin"
-kind = "router"
-by = "turn"
-link = [{ to = "spin", delay = 1 }]
-"#;
-
 /// Two stations and windows of more than 8,000 messages: more than one thread steps them.
 pub const BUSY: &str = r#"lookahead = 9000
 horizon = 27000
@@ -345,53 +275,5 @@ pub const ONLY_OUT: &str = r#"lookahead = 1
 horizon = 1
 [[station]]
 name = "out"
-kind = "sink"
-"#;
-
-/// `examples/clinic.toml`
-pub const CLINIC: &str = r#"# A walk-in clinic; times in minutes
-lookahead = 1
-horizon = 10000
-seed = 2001
-
-[[station]]
-name = "arrivals"
-kind = "source"
-every = [4, 9]
-jobs = 3000
-link = [{ to = "reception", delay = 1 }]
-
-[[station]]
-name = "reception"
-kind = "server"
-servers = 2
-room = 40
-service = [3, 8]
-link = [{ to = "triage", delay = 1 }]
-
-[[station]]
-name = "triage"
-kind = "router"
-by = "weights"
-link = [{ to = "doctor", delay = 2, weight = 3 }, { to = "xray", delay = 4, weight = 1 }]
-
-[[station]]
-name = "doctor"
-kind = "server"
-servers = 3
-room = 60
-service = [10, 25]
-link = [{ to = "exit", delay = 1 }]
-
-[[station]]
-name = "xray"
-kind = "server"
-servers = 1
-room = 20
-service = [8, 16]
-link = [{ to = "doctor", delay = 3 }]
-
-[[station]]
-name = "exit"
 kind = "sink"
 "#;

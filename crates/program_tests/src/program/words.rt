@@ -1,5 +1,5 @@
 //! The words of the command line, files that are not there, and made studies.
-use super::{GOOD, PLAIN, REFUSED, Row, ended, models};
+use super::{GOOD, PLAIN, REFUSED, Row, ended};
 use command_words::usage_line;
 use crew_pool::NoGate;
 use std::process::Abort;

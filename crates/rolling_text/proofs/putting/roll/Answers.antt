@@ -11,8 +11,8 @@ overflow_sub-keep g c =
     c.requires.dropped c.parts_at-time.ensures.value c.args.page.now.text c.requires.margin c.requires.lines in
     omega (arith, a, c.len.ensures.value)
 
-pub put_rest-requires-clause-room : goal.put_rest-requires-clause-room
-put_rest-requires-clause-room g c =
+pub put_rest-requires-clause-fits : goal.put_rest-requires-clause-fits
+put_rest-requires-clause-fits g c =
     let net = c.args.traces.now.net in
     let cs = c.args.traces.now.clones in
     let is = c.len-clones.ensures in

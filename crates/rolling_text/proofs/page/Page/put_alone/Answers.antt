@@ -5,13 +5,13 @@ use Rattle.rolling_text.specs.WorldTraces.{TracesView}
 use Rattle.rolling_text.proofs.LogLaws.{late_lines_are, lines_are}
 use Rattle.rolling_text.proofs.page.Page.put_alone.Goals as goal
 
-pub put_entries-after-requires-clause-room : goal.put_entries-after-requires-clause-room
-put_entries-after-requires-clause-room g c =
+pub put_entries-after-requires-clause-fits : goal.put_entries-after-requires-clause-fits
+put_entries-after-requires-clause-fits g c =
     let world = c.traces.inside.world.now in
     let lines = ap length (lines_are world.net c.model-model.result.now (clone_at world.clones c.args.c) c.args.time
     c.gather-count.new.cursor.left c.model-model.ensures.value c.gather-count.ensures.left
     ∙ ap (λ (v : TracesView). rest v.net (clone_at v.clones c.args.c) c.args.time) c.traces.view_is) in
-    omega (arith, lines, c.requires.room)
+    omega (arith, lines, c.requires.fits)
 
 pub overflow_add-result : goal.overflow_add-result
 overflow_add-result g c =

@@ -14,7 +14,7 @@ append-requires c =
     let d = length-append c.args.self.now.text (flat_map (entry_line net) c.args.cursor.now.left) in
     let e = ap length put.ensures.text in
     let f = length-append (take put.result.0 put.new.piece) (flat_map (entry_line net) put.new.cursor.left) in
-    record { room = omega (arith, a, b, d, e, f, c.requires.room, h.reserved) }
+    record { fits = omega (arith, a, b, d, e, f, c.requires.fits, h.reserved) }
 
 pub overflow_add-after : goal.overflow_add-after
 overflow_add-after c =

@@ -1,4 +1,4 @@
--- How much room the lines of clones take at most.
+-- How many bytes the lines of clones have at most.
 use Rattle.std.proofs.Common.{◌≡◌, inl, inr, ℕ, zero, suc, ◌+◌, ◌-◌, ◌*◌, ◌<◌, ◌≤◌, refl, sym, ap, subst, ◌∙◌}
 use Rattle.std.proofs.Common.{arith, List, [], ◌∷◌, not, nat_lt, length, sum_by, Bool, true, ◌==◌}
 use Rattle.std.proofs.lemmas.Bool.{cases_lt, le-ltb}
@@ -77,7 +77,7 @@ met_more net c i t h k =
     (from_on (simulation net) t (log_at net c (suc i) net.horizon)) h
     (subst (λ n. HaveShortLines net (from_on (simulation net) t (log_at net c n net.horizon))) up k))
 
--- one log more has room for its lines
+-- the lines of one log more are within 256 bytes each
 module _ (world : WorldView) (over : IsOver world) (c : ℕ) (there : c < length world.clones) where
   abbrev net : Net
   net = world.net
@@ -85,9 +85,9 @@ module _ (world : WorldView) (over : IsOver world) (c : ℕ) (there : c < length
   abbrev clone : Clone
   clone = clone_at world.clones c
 
-  log_fits_room : (s : ℕ) (log : List (Entry Msg Line)) → log ≡ log_at net clone s world.front
+  log_bounded : (s : ℕ) (log : List (Entry Msg Line)) → log ≡ log_at net clone s world.front
       → HaveShortLines net (trace_of net clone) → log_length net clone 0 s ≤ 256 * length log
-  log_fits_room s log e h =
+  log_bounded s log e h =
       let a = log_measured world over c there 0 s log e in
       let in_trace : (x : Entry Msg Line) → In x (from_time 0 log) → In x (trace_of net clone) =
       λ x i.
@@ -99,18 +99,18 @@ module _ (world : WorldView) (over : IsOver world) (c : ℕ) (there : c < length
       let d = from_short 0 log in
       omega (arith, a, b, d)
 
-  pub room_more : (i room new : ℕ) (log : List (Entry Msg Line)) → log ≡ log_at net clone (i + 1) world.front
-      → HaveShortLines net (trace_of net clone) → first_lengths net clone 0 i ≤ room
-      → new ≡ room + 256 * length log → first_lengths net clone 0 (i + 1) ≤ new
-  room_more i room new log e h l n =
-      let a = log_fits_room (i + 1) log e h in
+  pub bound_more : (i bound new : ℕ) (log : List (Entry Msg Line)) → log ≡ log_at net clone (i + 1) world.front
+      → HaveShortLines net (trace_of net clone) → first_lengths net clone 0 i ≤ bound
+      → new ≡ bound + 256 * length log → first_lengths net clone 0 (i + 1) ≤ new
+  bound_more i bound new log e h l n =
+      let a = log_bounded (i + 1) log e h in
       let b = lengths_more net clone 0 i in
       omega (arith, a, b, l, n)
 
-  -- all logs have room for all lines
-  pub room_all : (n room : ℕ) → n ≡ length net.sites → first_lengths net clone 0 n ≤ room
-      → length (body net clone) ≤ room
-  room_all n room many l =
+  -- with all logs the bound is that of all lines
+  pub bound_all : (n bound : ℕ) → n ≡ length net.sites → first_lengths net clone 0 n ≤ bound
+      → length (body net clone) ≤ bound
+  bound_all n bound many l =
       let a = all_measured world over c there n 0 many in
       let b = ap length (rest_from_0 net clone) in
       omega (arith, a, b, l)
@@ -133,9 +133,9 @@ module _ (net : Net) (valid : IsNet net) (cs : List Clone) (in_net : AreInNet ne
       record {
         each = λ e i. elim (in_append (before (simulation net) time (trace_of net new))
             (from_on (simulation net) time (trace_of net new)) e (subst (λ l. In e l) split i)) [
-          | inl a ↦ h.each e (in_filter _ (trace_of net old) e (subst (λ l. In e l) (sym agree) a)).0
-          | inr b ↦ k.each e b
-        ];
+              | inl a ↦ h.each e (in_filter _ (trace_of net old) e (subst (λ l. In e l) (sym agree) a)).0
+              | inr b ↦ k.each e b
+            ];
       }
 
   -- the first clone has all lines from where it parts on
@@ -156,7 +156,7 @@ module _ (net : Net) (valid : IsNet net) (cs : List Clone) (in_net : AreInNet ne
   short_at (suc c) time there t h k = short_next (suc c) (omega arith) there (h (omega arith))
       (subst (λ u. HaveShortLines net (from_on (simulation net) u (trace_of net (clone_at cs (suc c))))) t k)
 
--- the room for one text more
+-- a bound for the lines of one clone more
 pub fits_more : (net : Net) (cs : List Clone) (n most here new : ℕ)
     → ((c : ℕ) → c < n → length (body net (clone_at cs c)) ≤ most) → length (body net (clone_at cs n)) ≤ here
     → most ≤ new → here ≤ new → (c : ℕ) → c < n + 1 → length (body net (clone_at cs c)) ≤ new

@@ -1,11 +1,11 @@
 use Rattle.std.proofs.Common.{◌*◌, ◌≤◌, length}
 use Rattle.sim_base.specs.Clones.{clone_at}
 use Rattle.rolling_text.specs.Lengths.{first_lengths}
-use Rattle.rolling_text.proofs.room.room_of.Given as goal
+use Rattle.rolling_text.proofs.bounds.bound_of.Given as goal
 
 abbrev pub invariant-loop-s : goal.invariant-loop-s
 invariant-loop-s l = record {
-  room : first_lengths l.world.net (clone_at l.world.clones l.c) 0 l.s ≤ l.room;
-  few : l.room ≤ l.s * (256 * 65536);
+  bound : first_lengths l.world.net (clone_at l.world.clones l.c) 0 l.s ≤ l.bound;
+  few : l.bound ≤ l.s * (256 * 65536);
   within : l.s ≤ length l.world.net.sites;
 }

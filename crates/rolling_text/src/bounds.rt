@@ -1,4 +1,4 @@
-//! How much room the texts take at most, told before any is made.
+//! How many bytes texts have at most, told before any is made.
 //!
 //! No line is longer than 256 bytes, since its numbers are words and names have at most 16 bytes. A clone's entries from
 //! where it parts from the one before it are met once each, which shows it of them; those before are the other clone's.
@@ -44,18 +44,18 @@ fn meet_rest(world: &World, names: &Names, c: u32, from: u64)
 }
 
 // How many bytes the lines of a clone have at most, by how many they are.
-fn room_of(world: &World, c: u32) -> usize
+fn bound_of(world: &World, c: u32) -> usize
     requires over { IsOver world.now }
     requires there { c < length world.now.clones }
     requires short { HaveShortLines world.now.net (trace_of world.now.net (clone_at world.now.clones c)) }
-    ensures room { length (body world.now.net (clone_at world.now.clones c)) ≤ result }
+    ensures bound { length (body world.now.net (clone_at world.now.clones c)) ≤ result }
     ensures few { result ≤ 2 ^ 40 }
 {
-    let mut room = 0;
+    let mut bound = 0;
     for s in 0..world.model().len() {
-        room += 256 * world.log(c, s + 1).len() as usize;
+        bound += 256 * world.log(c, s + 1).len() as usize;
     }
-    room
+    bound
 }
 
 // From which time on the lines of a clone differ from those of the one before it: all of them, where there is none.
@@ -70,15 +70,15 @@ pub(crate) fn parts_at(traces: &WorldTraces<'_>, c: u32) -> u64
 }
 
 /// How many bytes the lines of each clone have at most.
-pub(crate) fn most_room(traces: &WorldTraces<'_>) -> usize
-    ensures room { (c : ℕ) → c < length traces.now.clones
+pub(crate) fn greatest_bound(traces: &WorldTraces<'_>) -> usize
+    ensures bound { (c : ℕ) → c < length traces.now.clones
         → length (body traces.now.net (clone_at traces.now.clones c)) ≤ result }
     ensures few { result ≤ 2 ^ 40 }
 {
     let mut most = 0usize;
     for c in 0..traces.len() {
         meet_rest(traces.world, &traces.names, c, parts_at(traces, c));
-        most = most.max(room_of(traces.world, c));
+        most = most.max(bound_of(traces.world, c));
     }
     most
 }

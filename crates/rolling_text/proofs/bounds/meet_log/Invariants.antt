@@ -1,7 +1,7 @@
 use Rattle.std.proofs.Common.{length}
 use Rattle.log_chain.specs.Times.{from_time}
 use Rattle.rolling_text.specs.Texts.{HaveShortLines}
-use Rattle.rolling_text.proofs.room.meet_log.Given as goal
+use Rattle.rolling_text.proofs.bounds.meet_log.Given as goal
 
 -- it is enough that the lines that are left are short
 abbrev pub invariant-loop-entry : goal.invariant-loop-entry

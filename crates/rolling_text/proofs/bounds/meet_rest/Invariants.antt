@@ -4,7 +4,7 @@ use Rattle.stations.specs.Good.{sender_of, number_of}
 use Rattle.stations.specs.Runs.{simulation}
 use Rattle.trace_cursor.specs.Rests.{merge_of_rests}
 use Rattle.rolling_text.specs.Texts.{HaveShortLines}
-use Rattle.rolling_text.proofs.room.meet_rest.Given as goal
+use Rattle.rolling_text.proofs.bounds.meet_rest.Given as goal
 
 abbrev pub invariant-loop-s : goal.invariant-loop-s
 invariant-loop-s l = record {

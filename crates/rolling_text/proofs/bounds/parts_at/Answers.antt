@@ -1,6 +1,6 @@
 use Rattle.std.proofs.Common.{arith, refl}
 use Rattle.rolling_text.proofs.Keeping.{parting_none, parting_some}
-use Rattle.rolling_text.proofs.room.parts_at.Goals as goal
+use Rattle.rolling_text.proofs.bounds.parts_at.Goals as goal
 
 pub returns-then-c-eq0 : goal.returns-then-c-eq0
 returns-then-c-eq0 c = record {

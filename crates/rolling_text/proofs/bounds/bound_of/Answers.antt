@@ -2,13 +2,13 @@ use Rattle.std.proofs.Common.{ap, arith, length}
 use Rattle.sim_base.specs.Clones.{clone_at}
 use Rattle.net_model.specs.Net.{Net}
 use Rattle.rolling_text.proofs.LogLaws.{lengths_none}
-use Rattle.rolling_text.proofs.Rooms.{room_more, room_all}
-use Rattle.rolling_text.proofs.room.room_of.Goals as goal
+use Rattle.rolling_text.proofs.ShortLines.{bound_more, bound_all}
+use Rattle.rolling_text.proofs.bounds.bound_of.Goals as goal
 
 pub loop-s-init : goal.loop-s-init
 loop-s-init c =
     let none = lengths_none c.args.world.now.net (clone_at c.args.world.now.clones c.args.c) 0 in
-    record { room = omega (arith, none); few = omega arith; within = omega arith }
+    record { bound = omega (arith, none); few = omega arith; within = omega arith }
 
 pub loop-s-preserved : goal.loop-s-preserved
 loop-s-preserved c =
@@ -16,14 +16,14 @@ loop-s-preserved c =
     let sites = ap (λ (n : Net). length n.sites) c.model.ensures.value in
     let h = c.loop-s.invariant in
     record {
-      room = room_more world c.requires.over c.args.c c.requires.there c.loop-s.s c.loop-s.room _ c.log.result.now
-          c.log.ensures.value c.requires.short h.room (omega (arith, c.len.ensures.value));
+      bound = bound_more world c.requires.over c.args.c c.requires.there c.loop-s.s c.loop-s.bound _ c.log.result.now
+          c.log.ensures.value c.requires.short h.bound (omega (arith, c.len.ensures.value));
       few = omega (arith, h.few, c.log.ensures.short, c.len.ensures.value);
       within = omega (arith, c.loop-s-test.true, c.loop-s.auto.s-end, c.len-s-end.ensures.value, sites);
     }
 
-pub returns-clause-room : goal.returns-clause-room
-returns-clause-room c =
+pub returns-clause-bound : goal.returns-clause-bound
+returns-clause-bound c =
     let sites = ap (λ (n : Net). length n.sites) c.model.ensures.value in
-    room_all c.args.world.now c.requires.over c.args.c c.requires.there c.loop-s.s c.loop-s.room
-    (omega (arith, c.loop-s-test.false, c.loop-s.auto.s-end, c.len-s-end.ensures.value, sites)) c.loop-s.invariant.room
+    bound_all c.args.world.now c.requires.over c.args.c c.requires.there c.loop-s.s c.loop-s.bound
+    (omega (arith, c.loop-s-test.false, c.loop-s.auto.s-end, c.len-s-end.ensures.value, sites)) c.loop-s.invariant.bound

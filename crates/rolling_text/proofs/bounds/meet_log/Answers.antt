@@ -1,8 +1,8 @@
 use Rattle.std.proofs.Common.{◌≤◌, arith, length, subst, sym}
 use Rattle.trace_report.specs.TraceText.{entry_line}
 use Rattle.rolling_text.specs.Texts.{HaveShortLines}
-use Rattle.rolling_text.proofs.Rooms.{short_none, short_more}
-use Rattle.rolling_text.proofs.room.meet_log.Goals as goal
+use Rattle.rolling_text.proofs.ShortLines.{short_none, short_more}
+use Rattle.rolling_text.proofs.bounds.meet_log.Goals as goal
 
 pub loop-entry-init : goal.loop-entry-init
 loop-entry-init c = λ h. subst (HaveShortLines c.args.model.now) c.walk_from_time-walk.ensures.value h

@@ -4,8 +4,8 @@ use Rattle.net_model.specs.Net.{Net}
 use Rattle.log_chain.specs.Times.{from_time}
 use Rattle.rolling_text.specs.Texts.{HaveShortLines}
 use Rattle.rolling_text.proofs.LogLaws.{log_rises_by_time, walk_is, all_gathered}
-use Rattle.rolling_text.proofs.Rooms.{short_none, met_more}
-use Rattle.rolling_text.proofs.room.meet_rest.Goals as goal
+use Rattle.rolling_text.proofs.ShortLines.{short_none, met_more}
+use Rattle.rolling_text.proofs.bounds.meet_rest.Goals as goal
 
 pub loop-s-init : goal.loop-s-init
 loop-s-init c = record { short = short_none c.args.world.now.net; within = omega arith }

@@ -1,0 +1,107 @@
+//! Models that the tests of several crates read, each as the text of a model file. They stand here once, so that the
+//! tests of a lower and of a higher crate speak of the same network, and a change of it reaches them all. There is
+//! nothing to run and nothing to prove.
+#![tactic(auto)]
+
+/// A source of two jobs, a desk with one server, and a sink, one after the other.
+pub const ONE_DESK: &str = r#"lookahead = 2
+horizon = 20
+[[station]]
+name = "gate"
+kind = "source"
+every = [3, 3]
+jobs = 2
+link = [{ to = "desk", delay = 2 }]
+[[station]]
+name = "desk"
+kind = "server"
+servers = 1
+room = 5
+service = [4, 4]
+link = [{ to = "out", delay = 2 }]
+[[station]]
+name = "out"
+kind = "sink"
+"#;
+
+/// Three sources, whose jobs reach a desk at one time, where nobody can wait, and a sink.
+pub const NO_ROOM: &str = r#"lookahead = 2
+horizon = 20
+[[station]]
+name = "s1"
+kind = "source"
+every = [3, 3]
+jobs = 1
+link = [{ to = "desk", delay = 2 }]
+[[station]]
+name = "s2"
+kind = "source"
+every = [3, 3]
+jobs = 1
+link = [{ to = "desk", delay = 2 }]
+[[station]]
+name = "s3"
+kind = "source"
+every = [3, 3]
+jobs = 1
+link = [{ to = "desk", delay = 2 }]
+[[station]]
+name = "desk"
+kind = "server"
+servers = 1
+room = 0
+service = [4, 4]
+link = [{ to = "out", delay = 2 }]
+[[station]]
+name = "out"
+kind = "sink"
+"#;
+
+/// A walk-in clinic where one patient of four is x-rayed: `examples/clinic.toml` at the top of the repository, byte
+/// for byte.
+pub const CLINIC: &str = r#"# A walk-in clinic; times in minutes
+lookahead = 1
+horizon = 10000
+seed = 2001
+
+[[station]]
+name = "arrivals"
+kind = "source"
+every = [4, 9]
+jobs = 3000
+link = [{ to = "reception", delay = 1 }]
+
+[[station]]
+name = "reception"
+kind = "server"
+servers = 2
+room = 40
+service = [3, 8]
+link = [{ to = "triage", delay = 1 }]
+
+[[station]]
+name = "triage"
+kind = "router"
+by = "weights"
+link = [{ to = "doctor", delay = 2, weight = 3 }, { to = "xray", delay = 4, weight = 1 }]
+
+[[station]]
+name = "doctor"
+kind = "server"
+servers = 3
+room = 60
+service = [10, 25]
+link = [{ to = "exit", delay = 1 }]
+
+[[station]]
+name = "xray"
+kind = "server"
+servers = 1
+room = 20
+service = [8, 16]
+link = [{ to = "doctor", delay = 3 }]
+
+[[station]]
+name = "exit"
+kind = "sink"
+"#;
