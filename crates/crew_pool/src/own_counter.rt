@@ -8,7 +8,7 @@ use std::alloc::Global;
 use std::sync::ledger::{Blank, Ledger};
 
 /// Runs one task on a counter of its own, whose count is dropped.
-pub(crate) fn run_with_own_counter<W: Work, L: Ledger>(
+pub fn run_with_own_counter<W: Work, L: Ledger>(
     alloc: Global,
     work: &W,
     i: u32,
@@ -26,7 +26,7 @@ pub(crate) fn run_with_own_counter<W: Work, L: Ledger>(
 }
 
 /// Ticks the counter once for each step that the answers took.
-pub(crate) fn tick_costs<W: Work, L: Ledger>(work: &W, outs: &[W::Out], steps: &mut Steps<L>)
+pub fn tick_costs<W: Work, L: Ledger>(work: &W, outs: &[W::Out], steps: &mut Steps<L>)
     ensures value { steps.new ≡ steps.old + sum_by W.cost outs.now }
 {
     for out in outs {

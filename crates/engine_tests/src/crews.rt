@@ -16,9 +16,9 @@ use std::thread::Threads;
 
 /// Each task puts its number behind its item, in place, but that one task is out of memory.
 #[derive(Drop)]
-struct Appends {
-    refused: Option<u32>,
-    small: bool,
+pub(crate) struct Appends {
+    pub refused: Option<u32>,
+    pub small: bool,
 }
 
 impl Work for Appends {
@@ -59,7 +59,7 @@ impl Work for Appends {
 }
 
 /// So many items, each a list of one number.
-fn items(alloc: Global, tasks: u32) -> Result<Vec<Vec<u64>>, NoMemory>
+pub(crate) fn items(alloc: Global, tasks: u32) -> Result<Vec<Vec<u64>>, NoMemory>
     ensures count { IfOk result (λ items. length items.items ≡ tasks) }
 {
     let mut items = Vec::new(alloc);

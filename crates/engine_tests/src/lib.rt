@@ -7,6 +7,7 @@
 //! crews     crew_pool         desks           decision_desk
 //! copies    phys_proc         shelves         shelf
 //! worlds    world_core        live_studies    live_study
+//! teams     standing_crew
 //! ```
 //!
 //! They show what no clause says: that calls find memory, and that clauses mean what they should, by values from
@@ -23,5 +24,7 @@ mod desks;
 mod live_studies;
 #[cfg(test)]
 mod shelves;
+#[cfg(test)]
+mod teams;
 #[cfg(test)]
 mod worlds;

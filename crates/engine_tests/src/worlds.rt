@@ -10,14 +10,16 @@ use net_model::{Model, read_model};
 use phys_proc::{Found, Glance};
 use sample_models::ONE_DESK;
 use sim_base::{Change, Decision, Entry, Figures, Name, Param, Steps};
+use standing_crew::{Bell, Team, serve_all};
 use std::alloc::Global;
 use std::marker::Brand;
 use std::sync::atomic::{AtomicU64, Ordering};
 use std::sync::ledger::{Blank, Ledger};
 use std::sync::{Arc, Wait};
 use std::test::Fail;
+use std::thread;
 use std::thread::Threads;
-use world_core::{World, WorldFault};
+use world_core::{Window, World, WorldFault};
 
 /// The fronts, and after each the copies, the messages handled once and those alone, of the gate, the desk and the exit.
 const WINDOWS: [(u64, [u64; 3], [u64; 3], [u64; 3]); 7] = [
@@ -375,6 +377,7 @@ fn three_windows<G: Gate, L: Ledger, R: Threads + Wait + Sync>(
     rt: &R,
     alloc: Global,
     gate: &G,
+    team: Option<Team<Window>>,
     blank: Blank,
 ) -> Option<World>
     requires name { blank.name ≡ L.name }
@@ -387,6 +390,9 @@ fn three_windows<G: Gate, L: Ledger, R: Threads + Wait + Sync>(
     };
     let model = model_of(alloc, BUSY)?;
     let mut world = begun(alloc, &model)?;
+    if let Some(team) = team {
+        world = world.with_team(team);
+    }
     for _ in 0..3 {
         world = window(rt, alloc, &crew, gate, world, 36000, &mut steps).ok()?;
     }
@@ -398,8 +404,74 @@ fn three_busy_windows<G: Gate, R: Threads + Wait + Sync>(
     rt: &R,
     alloc: Global,
     gate: &G,
+    team: Option<Team<Window>>,
 ) -> Option<World> {
-    three_windows::<G, Brand, R>(rt, alloc, gate, Blank::new(1))
+    three_windows::<G, Brand, R>(rt, alloc, gate, team, Blank::new(1))
+}
+
+/// Which workers ran a task. The caller's task is held until the other worker has begun one, but for the first two tasks,
+/// those of the first window, which is always small.
+#[derive(Drop)]
+struct Helped {
+    calls: AtomicU64,
+    ran: Ran,
+}
+
+impl Gate for Helped {
+    fn before<R: Wait>(&self, rt: &R, worker: u32, task: u32) {
+        self.ran.before(rt, worker, task);
+        let early = self.calls.fetch_add(1, Ordering::SeqCst) < 2;
+        if early || worker != 0 {
+            return;
+        }
+        for _ in 0..1_000_000u32 {
+            if self.ran.workers.load(Ordering::SeqCst) == 0b11 {
+                return;
+            }
+            thread::yield_now();
+        }
+    }
+
+    fn before_call<R: Wait>(&self, _rt: &R, _analyst: u32, _k: u32) {}
+}
+
+/// Whether both worlds have come as far, and the gate and the exit of both have handled as much.
+fn come_alike(one: &World, other: &World) -> bool {
+    let stations = one.model().len().min(other.model().len());
+    stations == 2
+        && one.front() == other.front()
+        && one.figures(1) == other.figures(1)
+        && one.figures(2) == other.figures(2)
+}
+
+/// The same with a team, and then the bell rings, whatever came of it.
+fn three_windows_of<G: Gate, R: Threads + Wait + Sync>(
+    rt: &R,
+    alloc: Global,
+    gate: &G,
+    team: Team<Window>,
+    bell: &Bell,
+) -> Option<World> {
+    let world = three_busy_windows(rt, alloc, gate, Some(team));
+    bell.end();
+    world
+}
+
+/// The same beside the other worker of the team.
+fn three_windows_beside<G: Gate, R: Threads + Wait + Sync>(
+    rt: &R,
+    alloc: Global,
+    gate: &G,
+) -> Option<World> {
+    let (team, members) = Team::<Window>::begin(alloc, Workers { count: 2 }).ok()?;
+    let bell = team.bell().ok()?;
+    let bell: &Bell = &bell;
+    let (_, world) = thread::join(
+        rt,
+        move || serve_all(rt, alloc, gate, bell, members),
+        move || three_windows_of(rt, alloc, gate, team, bell),
+    );
+    world
 }
 
 /// Twenty windows, each so long at the most.
@@ -638,7 +710,7 @@ fn busy_windows_run_on_two_threads(rt: HostRuntime) -> Result<(), Fail> {
     let gate = Ran {
         workers: AtomicU64::new(0),
     };
-    let front = match three_busy_windows(&rt, rt.alloc(), &gate) {
+    let front = match three_busy_windows(&rt, rt.alloc(), &gate, None) {
         Some(world) => world.front(),
         None => 0,
     };
@@ -649,6 +721,25 @@ fn busy_windows_run_on_two_threads(rt: HostRuntime) -> Result<(), Fail> {
         front,
         ran
     );
+    Ok(())
+}
+
+#[test]
+fn busy_windows_run_by_a_team(rt: HostRuntime) -> Result<(), Fail> {
+    let gate = Helped {
+        calls: AtomicU64::new(0),
+        ran: Ran {
+            workers: AtomicU64::new(0),
+        },
+    };
+    let by_team = three_windows_beside(&rt, rt.alloc(), &gate);
+    let alone = three_busy_windows(&rt, rt.alloc(), &NoGate, None);
+    let alike = match (by_team, alone) {
+        (Some(one), Some(other)) => come_alike(&one, &other),
+        _ => false,
+    };
+    let ran = gate.ran.workers.load(Ordering::SeqCst);
+    assert!(rt; alike && ran == 0b11, "alike {}, workers {}", alike, ran);
     Ok(())
 }
 

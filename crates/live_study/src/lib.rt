@@ -37,6 +37,7 @@
 pub mod analyst;
 mod asking;
 mod begin;
+mod beside;
 mod engine;
 pub mod laws;
 mod live;

@@ -12,7 +12,7 @@ ghost use Rattle.live_study.specs.Showing.{AllCaughtUp, AreShownOf, HasLooked, H
 
 use crate::analyst::Analyst;
 use crate::asking::act_everyone;
-use crate::engine::drive_alone;
+use crate::beside::drive_with_team;
 use crate::room::Room;
 use crate::run::LiveRun;
 use crew_pool::{Crew, Gate};
@@ -76,7 +76,7 @@ fn side_by_side<
                 × IfOk result.2 (λ w. InStep result.0 w × (w.front ≡ w.net.horizon))
                 × IfOk result.2 (λ w. AreShownOf result.0 w result.1.published)
                 × IfErr result.2 (λ e. StopsAt result.0.net result.0.helm e) }
-        { drive_alone(rt, alloc, crew, gate, desk, helm, world, stocker, watched) },
+        { drive_with_team(rt, alloc, crew, gate, desk, helm, world, stocker, watched) },
         move || -> Vec<(Analyst, Seat<J>)>
             requires { AreReadyAll desk.now.table.shared.table_id model.now seated.items }
             ensures { (length result.items ≡ length seated.items)

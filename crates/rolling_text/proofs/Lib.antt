@@ -7,6 +7,7 @@ pub mod Calls
 pub mod Puts
 pub mod Partings
 pub mod LogLaws
+pub mod Parts
 pub mod ShortLists
 pub mod Keeping
 pub mod ShortLines

@@ -1,11 +1,12 @@
 -- The logs of a world at the horizon: their keys fit words, they rise, and merged or measured they are a clone's rest.
 use Rattle.std.proofs.Common.{◌≡◌, ℕ, zero, suc, ◌+◌, ◌<◌, ◌≤◌, Bool, true, false, not, nat_lt, if◌then◌else◌, List, [], ◌∷◌}
 use Rattle.std.proofs.Common.{◌++◌, refl, sym, ap, ap₂, ◌∙◌, subst, arith, length, sum_by, length-append}
+use Rattle.std.proofs.Common.{drop, max, ◌-◌, inl, inr}
+use Rattle.std.proofs.Math.Seq.{drop-append_seam}
 use Rattle.std.specs.List.{AllByRecursion, filter, flat_map}
 use Rattle.std.specs.declared.cmp.Ordering.{Ordering}
 use Rattle.std.specs.declared.cmp.Ordering.TheVariants.{Less, Equal, Greater}
-use Rattle.std.proofs.lemmas.Bool.{ltb-true, ltb-false}
-use Rattle.std.proofs.lemmas.Grind.{flat_map-append}
+use Rattle.std.proofs.lemmas.Bool.{cases_lt, ltb-true, ltb-false}
 use Rattle.sim_base.specs.Clones.{Clone, clone_at}
 use Rattle.sim_base.specs.declared.entry.Entry.{Entry}
 use Rattle.sim_base.specs.declared.entry.Line.{Line}
@@ -232,6 +233,15 @@ module _ (world : WorldView) (over : IsOver world) (c : ℕ) (there : c < length
       ∙ rest_is_merge (lawful-stations net over.valid) (stations-to_stations net over.valid)
       (fresh-stations net over.valid) clone t (over.in_net.plans c there)
 
+  -- one log more has as many entries more
+  pub counted_log : (i t : ℕ) (log : List (Entry Msg Line)) → log ≡ log_at net clone (i + 1) world.front
+      → length (merge_of_rests sim sender_of number_of clone t (i + 1))
+      ≡ length (merge_of_rests sim sender_of number_of clone t i) + length (from_time t log)
+  counted_log i t log e =
+      let left : List (Entry Msg Line) = merge_of_rests sim sender_of number_of clone t i in
+      sym (ap length (gathered i t left log (from_time t log) (merge by_key left (from_time t log)) refl e refl refl))
+      ∙ merge_length by_key left (from_time t log)
+
   -- how long the lines of a log are that a world tells
   pub log_measured : (t s : ℕ) (log : List (Entry Msg Line)) → log ≡ log_at net clone s world.front
       → sum_by (λ e. length (entry_line net e)) (from_time t log) ≡ log_length net clone t s
@@ -260,41 +270,75 @@ module _ (world : WorldView) (over : IsOver world) (c : ℕ) (there : c < length
       ∙ sym (rest_length (lawful-stations net over.valid) (stations-to_stations net over.valid)
       (fresh-stations net over.valid) clone t (entry_line net) (over.in_net.plans c there))
 
-  -- nothing is left at the horizon
+  -- no log has anything left at the horizon
+  log_over : (t s : ℕ) → net.horizon ≤ t → from_time t (log_at net clone s world.front) ≡ []
+  log_over t s late = none_late t (log_at net clone s world.front)
+      (all_from (λ (e : Entry Msg Line). e.msg.key.time < t) (log_at net clone s world.front) (λ e i.
+      let small = log_keys-small net over.valid clone s world.front e counted i in
+      let early = small.0 in
+      let done = over.done in
+      omega (arith, early, done, late)))
+
+  -- so there are no entries
+  pub none_over : (t : ℕ) → net.horizon ≤ t → length (from_on sim t (trace_of net clone)) ≡ 0
+  none_over t late = sym (ap length (all_gathered (length net.sites) t
+      (merge_of_rests sim sender_of number_of clone t (length net.sites)) refl refl)) ∙ none (length net.sites)
+    where
+      none : (n : ℕ) → length (merge_of_rests sim sender_of number_of clone t n) ≡ 0
+      none zero = refl
+      none (suc n) =
+          let up : n + 1 ≡ suc n = omega arith in
+          let more = counted_log n t (log_at net clone (n + 1) world.front) refl in
+          let here = ap length (log_over t (n + 1) late) in
+          let before = none n in
+          ap (λ m. length (merge_of_rests sim sender_of number_of clone t m)) (sym up)
+          ∙ omega (arith, more, here, before)
+
+  -- and no lines
   pub no_rest : (t : ℕ) → net.horizon ≤ t → length (rest net clone t) ≡ 0
   unfolding first_lengths
   no_rest t late = sym (all_measured (length net.sites) t refl) ∙ none (length net.sites)
     where
       log_ends : (s : ℕ) → log_length net clone t s ≡ 0
       log_ends s = sym (log_measured t s (log_at net clone s world.front) refl)
-          ∙ ap (sum_by (λ (x : Entry Msg Line). length (entry_line net x)))
-          (none_late t (log_at net clone s world.front)
-          (all_from (λ (e : Entry Msg Line). e.msg.key.time < t) (log_at net clone s world.front) (λ e i.
-          let small = log_keys-small net over.valid clone s world.front e counted i in
-          let early = small.0 in
-          let done = over.done in
-          omega (arith, early, done, late))))
+          ∙ ap (sum_by (λ (x : Entry Msg Line). length (entry_line net x))) (log_over t s late)
 
       none : (n : ℕ) → first_lengths net clone t n ≡ 0
       none zero = refl
       none (suc n) = let a = none n in let b = log_ends (suc n) in omega (arith, a, b)
 
-  -- what comes from a time on is what comes before another, and then the rest from there on
-  pub rest_splits : (early late : ℕ) → early ≤ late
-      → (part : List ℕ) × (rest net clone early ≡ part ++ rest net clone late)
-  unfolding rest
-  rest_splits early late l =
+  -- what comes from a time on is what comes before another, and then what comes from there on
+  trace_splits : (early late : ℕ) → early ≤ late → (part : List (Entry Msg Line))
+      × (from_on sim early (trace_of net clone) ≡ part ++ from_on sim late (trace_of net clone))
+  trace_splits early late l =
       let trace : List (Entry Msg Line) = trace_of net clone in
-      let first : List (Entry Msg Line) = before sim late trace in
-      let es : from_on sim early trace ≡ from_on sim early first ++ from_on sim late trace =
-      ap (from_on sim early) (trace_split (lawful-stations net over.valid) (stations-to_stations net over.valid)
-      (fresh-stations net over.valid) clone late (over.in_net.plans c there))
-      ∙ filter_both (λ e. not (nat_lt e.msg.key.time early)) first (from_time late trace)
-      ∙ ap (λ k. from_on sim early first ++ k) (late_twice early late trace l) in (
-        flat_map (entry_line net) (from_on sim early first),
-        ap (flat_map (entry_line net)) es ∙ flat_map-append (entry_line net) (from_on sim early first)
-            (from_on sim late trace),
+      let first : List (Entry Msg Line) = before sim late trace in (
+        from_on sim early first,
+        ap (from_on sim early) (trace_split (lawful-stations net over.valid) (stations-to_stations net over.valid)
+            (fresh-stations net over.valid) clone late (over.in_net.plans c there))
+            ∙ filter_both (λ e. not (nat_lt e.msg.key.time early)) first (from_time late trace)
+            ∙ ap (λ k. from_on sim early first ++ k) (late_twice early late trace l),
       )
+
+  -- so from a later time on there are no more entries
+  pub fewer_later : (early late all some : ℕ) → early ≤ late → all ≡ length (from_on sim early (trace_of net clone))
+      → some ≡ length (from_on sim late (trace_of net clone)) → some ≤ all
+  fewer_later early late all some l a s =
+      let split = trace_splits early late l in
+      let b = ap length split.1 in
+      let d = length-append split.0 (from_on sim late (trace_of net clone)) in
+      omega (arith, a, s, b, d)
+
+  -- and those that there are more come first
+  pub left_later : (early late all some : ℕ) → early ≤ late → all ≡ length (from_on sim early (trace_of net clone))
+      → some ≡ length (from_on sim late (trace_of net clone))
+      → drop (all - some) (from_on sim early (trace_of net clone)) ≡ from_on sim late (trace_of net clone)
+  left_later early late all some l a s =
+      let split = trace_splits early late l in
+      let b = ap length split.1 in
+      let d = length-append split.0 (from_on sim late (trace_of net clone)) in
+      let n : all - some ≡ length split.0 = omega (arith, a, s, b, d) in
+      ap₂ drop n split.1 ∙ drop-append_seam split.0 (from_on sim late (trace_of net clone))
 
 -- ---- the lengths of the logs of the first stations
 
@@ -318,57 +362,25 @@ module _ (world : WorldView) (over : IsOver world) (view : TracesView)
   there_too : c < length world.clones
   there_too = subst (λ (v : TracesView). c < length v.clones) (sym seen) there
 
-  -- what the logs of all stations have between two times is what the rest from the first has before that from the second
-  pub rest_measured : (n from until len : ℕ) → n ≡ length world.net.sites
-      → len + (first_lengths view.net (clone_at view.clones c) from 0
-      + first_lengths view.net (clone_at view.clones c) until n)
-      ≡ first_lengths view.net (clone_at view.clones c) from n + first_lengths view.net (clone_at view.clones c) until 0
-      → len + length (rest view.net (clone_at view.clones c) until) ≡ length (rest view.net (clone_at view.clones c) from)
-  rest_measured n from until len many e =
-      let whole : (t : ℕ) → first_lengths view.net (clone_at view.clones c) t n
-      ≡ length (rest view.net (clone_at view.clones c) t) =
-      λ t. subst (λ (v : TracesView). first_lengths v.net (clone_at v.clones c) t n
-      ≡ length (rest v.net (clone_at v.clones c) t)) seen (all_measured world over c there_too n t many) in
-      let a = whole from in
-      let b = whole until in
-      let x = lengths_none view.net (clone_at view.clones c) from in
-      let y = lengths_none view.net (clone_at view.clones c) until in
-      omega (arith, a, b, x, y, e)
-
   -- nothing is left at the horizon
   pub no_rest_seen : (t : ℕ) → world.net.horizon ≤ t → length (rest view.net (clone_at view.clones c) t) ≡ 0
   no_rest_seen t late = subst (λ (v : TracesView). length (rest v.net (clone_at v.clones c) t) ≡ 0) seen
       (no_rest world over c there_too t late)
 
-  -- two rests by what comes between their times, and between the later one and the end
-  pub two_rests : (early late end more after : ℕ) → world.net.horizon ≤ end
-      → after + length (rest view.net (clone_at view.clones c) end) ≡ length (rest view.net (clone_at view.clones c) late)
-      → more + length (rest view.net (clone_at view.clones c) late) ≡ length (rest view.net (clone_at view.clones c) early)
-      → (more + after ≡ length (rest view.net (clone_at view.clones c) early))
-      × (after ≡ length (rest view.net (clone_at view.clones c) late))
-  two_rests early late end more after beyond e h =
-      let none = no_rest_seen end beyond in
-      (omega (arith, none, e, h), omega (arith, none, e))
-
-  -- a rest is a part of so many bytes, and then the rest from a later time on
-  pub rest_parts : (early late len : ℕ) → early ≤ late
-      → len + length (rest view.net (clone_at view.clones c) late) ≡ length (rest view.net (clone_at view.clones c) early)
-      → (part : List ℕ) × (length part ≡ len)
-      × (rest view.net (clone_at view.clones c) early ≡ part ++ rest view.net (clone_at view.clones c) late)
-  rest_parts early late len l e =
-      let split = subst (λ (v : TracesView). (part : List ℕ) × (rest v.net (clone_at v.clones c) early
-      ≡ part ++ rest v.net (clone_at v.clones c) late)) seen (rest_splits world over c there_too early late l) in
-      let a = ap length split.1 in
-      let b = length-append split.0 (rest view.net (clone_at view.clones c) late) in
-      (split.0, omega (arith, a, b, e), split.1)
-
--- the lines from a later time on of what a cursor was given are the clone's rest from there
+-- the lines from a later time on of what a cursor was given are the clone's rest from the later of the two on
 pub late_lines_are : (net model : Net) (c : Clone) (t late : ℕ) (left : List (Entry Msg Line)) → model ≡ net
-    → left ≡ from_on (simulation net) t (trace_of net c) → t ≤ late
-    → flat_map (entry_line model) (from_time late left) ≡ rest net c late
+    → left ≡ from_on (simulation net) t (trace_of net c)
+    → flat_map (entry_line model) (from_time late left) ≡ rest net c (max t late)
 unfolding rest
-late_lines_are net model c t late left is e l =
-    ap₂ (λ n es. flat_map (entry_line n) es) is (ap (from_time late) e ∙ later_of_rest t late (trace_of net c) l)
+late_lines_are net model c t late left is e =
+    ap₂ (λ n es. flat_map (entry_line n) es) is (ap (from_time late) e ∙ elim (cases_lt late t) [
+      | inl less ↦
+          late_twice late t (trace_of net c) (omega (arith, less))
+          ∙ ap (λ n. from_time n (trace_of net c)) (omega (arith, less))
+      | inr not_less ↦
+          later_of_rest t late (trace_of net c) (omega (arith, not_less))
+          ∙ ap (λ n. from_time n (trace_of net c)) (omega (arith, not_less))
+    ])
 
 -- the lines of what a cursor was given are the clone's rest
 pub lines_are : (net model : Net) (c : Clone) (t : ℕ) (left : List (Entry Msg Line)) → model ≡ net

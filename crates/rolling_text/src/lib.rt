@@ -20,8 +20,9 @@
 //! `prepare` reserves 256 bytes a line, and no line is longer; memory that no text reaches is never touched. The
 //! name line stands at the end of the 32 bytes before the lines, so that each text is one slice, whatever its name. A
 //! line that is not shared costs its entry from the stations' logs, merged by key, and its bytes; while a clone's lines
-//! are written, those are counted that the next one drops. Long texts are measured and then written by several
-//! workers: each merges what comes in a part of the time, and fills its part of the bytes.
+//! are written, those are counted that the next one drops. Long texts are written by several workers, in rounds: each
+//! merges what comes in a span of time and makes its lines in a buffer of its own, and then these are put behind the
+//! text, one after the other, while the workers make the lines of the next round.
 //!
 //! The promise that it carries: **each text is the trace of its clone simulated alone**, byte for byte, and none needs
 //! memory once the first is put, so out of memory comes before any output.
@@ -29,12 +30,13 @@
 
 mod bounds;
 pub mod laws;
-mod lengths;
 mod lines;
 mod logs;
 mod page;
+mod part;
 mod parting;
 mod putting;
+mod rounds;
 mod texts;
 mod world_traces;
 mod writing;

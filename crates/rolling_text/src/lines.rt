@@ -1,5 +1,5 @@
 //! The lines of the entries that a clone's logs have, merged, and made piece by piece.
-ghost use Rattle.std.specs.Prelude.{◌≡◌, ◌+◌, ◌<◌, ◌≤◌, length, take, ◌++◌};
+ghost use Rattle.std.specs.Prelude.{◌≡◌, ◌+◌, ◌<◌, ◌≤◌, length, take, drop, vec_capacity, ◌++◌, IfOk, OnOk, OnErr};
 ghost use Rattle.std.specs.List.{flat_map};
 ghost use Rattle.sim_base.specs.Clones.{clone_at};
 ghost use Rattle.stations.specs.Runs.{simulation, trace_of};
@@ -10,6 +10,7 @@ ghost use Rattle.trace_report.specs.TraceText.{entry_line};
 ghost use Rattle.rolling_text.specs.WorldTraces.{IsOver};
 
 use net_model::Model;
+use sim_base::NoMemory;
 use trace_cursor::Cursor;
 use trace_report::{Names, write_line};
 use world_core::World;
@@ -38,7 +39,7 @@ pub(crate) fn gather<'a>(cursor: &mut Cursor<'a>, world: &'a World, c: u32, time
     count
 }
 
-/// Makes lines of the entries that a cursor has left, `left` of them, as long as there is place, and counts them down.
+/// Makes lines of the next entries of a cursor, `left` of them, as long as there is place, and counts them down.
 ///
 /// Returns how many bytes they have, and how many of these are of a time or later.
 pub(crate) fn put_piece(
@@ -50,7 +51,7 @@ pub(crate) fn put_piece(
     piece: &mut [u8],
 ) -> (usize, usize)
     requires names { AreNames model.now names.now }
-    requires left { left.old ≡ length cursor.old.left }
+    requires left { left.old ≤ length cursor.old.left }
     requires place { 256 ≤ length piece.old }
     ensures text { take result.0 piece.new ++ flat_map (entry_line model.now) cursor.new.left
         ≡ flat_map (entry_line model.now) cursor.old.left }
@@ -58,7 +59,8 @@ pub(crate) fn put_piece(
     ensures late { result.1 + length (flat_map (entry_line model.now) (from_time late cursor.new.left))
         ≡ length (flat_map (entry_line model.now) (from_time late cursor.old.left)) }
     ensures part { result.1 ≤ result.0 }
-    ensures left { left.new ≡ length cursor.new.left }
+    ensures left { left.new ≤ length cursor.new.left }
+    ensures behind { drop left.new cursor.new.left ≡ drop left.old cursor.old.left }
     ensures fewer { 1 ≤ left.old → left.new < left.old }
     ensures size { length piece.new ≡ length piece.old }
     ensures most { cursor.new.most ≡ cursor.old.most }
@@ -77,37 +79,43 @@ pub(crate) fn put_piece(
     (at, after)
 }
 
-// Writes bytes over others.
-fn copy_at(bytes: &mut [u8], at: usize, piece: &[u8])
-    requires within { at + length piece.now ≤ length bytes.old }
-    ensures text { take (at + length piece.now) bytes.new ≡ take at bytes.old ++ piece.now }
-    ensures size { length bytes.new ≡ length bytes.old }
-{
-    let end = at + piece.len();
-    bytes[at..end].copy_from_slice(piece);
-}
-
-/// Fills bytes with the lines of the entries that a cursor has left, so many of them.
-pub(crate) fn put_lines(
+/// Writes the lines of the next entries of a cursor, so many of them, behind the bytes. Returns how many bytes of them
+/// are of a time or later.
+///
+/// Errors: out of memory, which never comes where all that the cursor has left fits what is reserved.
+pub(crate) fn put_entries(
+    bytes: &mut Vec<u8>,
     cursor: &mut Cursor<'_>,
     count: u64,
     model: &Model,
     names: &Names,
-    bytes: &mut [u8],
-)
+    late: u64,
+) -> Result<usize, NoMemory>
     requires names { AreNames model.now names.now }
-    requires count { count ≡ length cursor.old.left }
-    requires enough { length bytes.old ≤ length (flat_map (entry_line model.now) cursor.old.left) }
-    ensures text { bytes.new ≡ take (length bytes.old) (flat_map (entry_line model.now) cursor.old.left) }
+    requires count { count ≤ length cursor.old.left }
+    ensures text { OnOk result (bytes.new.items ++ flat_map (entry_line model.now) cursor.new.left
+        ≡ bytes.old.items ++ flat_map (entry_line model.now) cursor.old.left) }
+    ensures left { OnOk result (cursor.new.left ≡ drop count cursor.old.left) }
+    ensures late { IfOk result (λ after. after
+        + length (flat_map (entry_line model.now) (from_time late cursor.new.left))
+        ≡ length (flat_map (entry_line model.now) (from_time late cursor.old.left))) }
+    ensures part { IfOk result (λ after. length bytes.old.items + after ≤ length bytes.new.items) }
+    ensures full { OnErr result (vec_capacity bytes.old
+        < length bytes.old.items + length (flat_map (entry_line model.now) cursor.old.left)) }
+    ensures reserved { vec_capacity bytes.old ≤ vec_capacity bytes.new }
     ensures most { cursor.new.most ≡ cursor.old.most }
 {
     let mut piece = [0; PIECE];
     let mut left = count;
-    let mut at = 0;
-    while at < bytes.len() {
-        let (len, _) = put_piece(cursor, &mut left, model, names, 0, &mut piece);
-        let end = bytes.len().min(at + len);
-        copy_at(bytes, at, &piece[..end - at]);
-        at = end;
+    let mut after = 0;
+    while left > 0 {
+        let (len, part) = put_piece(cursor, &mut left, model, names, late, &mut piece);
+        match bytes.extend_from_slice(&piece[..len]) {
+            Ok(()) => {}
+            Err(_) => return Err(NoMemory),
+        }
+        let _all = bytes.len();
+        after += part;
     }
+    Ok(after)
 }

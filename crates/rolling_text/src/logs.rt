@@ -1,10 +1,12 @@
 //! How long the lines of a clone are, and how many, out of the logs of a world at the horizon.
-ghost use Rattle.std.specs.Prelude.{◌≡◌, ◌+◌, ◌-◌, ◌*◌, ◌<◌, ◌≤◌, length, sum_by};
+ghost use Rattle.std.specs.Prelude.{◌≡◌, ◌+◌, ◌*◌, ◌^◌, ◌<◌, ◌≤◌, length, sum_by};
 ghost use Rattle.sim_base.specs.Clones.{clone_at};
 ghost use Rattle.log_chain.specs.Times.{RiseByTime, from_time};
 ghost use Rattle.trace_report.specs.Slots.{AreNames};
 ghost use Rattle.trace_report.specs.TraceText.{entry_line};
-ghost use Rattle.rolling_text.specs.Lengths.{first_lengths};
+ghost use Rattle.run_laws.specs.SharedTexts.{from_on};
+ghost use Rattle.stations.specs.Runs.{simulation, trace_of};
+ghost use Rattle.rolling_text.specs.Texts.{rest};
 ghost use Rattle.rolling_text.specs.WorldTraces.{IsOver};
 
 use log_chain::Log;
@@ -33,47 +35,37 @@ fn log_len(model: &Model, names: &Names, log: &Log, from: u64, until: u64) -> us
     sum
 }
 
-/// How long the lines of a clone from a time on and before another are, at the stations behind `low` up to `high`.
-pub(crate) fn len_between(
-    world: &World,
-    names: &Names,
-    c: u32,
-    from: u64,
-    until: u64,
-    low: u32,
-    high: u32,
-) -> usize
+/// How long the lines of a clone from a time on and before another are.
+pub(crate) fn len_between(world: &World, names: &Names, c: u32, from: u64, until: u64) -> usize
     requires names { AreNames world.now.net names.now }
     requires over { IsOver world.now }
     requires there { c < length world.now.clones }
     requires order { from ≤ until }
-    requires low { low ≤ high }
-    requires high { high ≤ length world.now.net.sites }
-    ensures value { result + (first_lengths world.now.net (clone_at world.now.clones c) from low
-        + first_lengths world.now.net (clone_at world.now.clones c) until high)
-        ≡ first_lengths world.now.net (clone_at world.now.clones c) from high
-        + first_lengths world.now.net (clone_at world.now.clones c) until low }
-    ensures short { result ≤ (high - low) * (256 * 65536) }
+    ensures value { result + length (rest world.now.net (clone_at world.now.clones c) until)
+        ≡ length (rest world.now.net (clone_at world.now.clones c) from) }
+    ensures short { result ≤ 2 ^ 39 }
 {
     let model = world.model();
     let mut sum = 0;
-    for s in low..high {
+    for s in 0..model.len() {
         sum += log_len(model, names, world.log(c, s + 1), from, until);
     }
     sum
 }
 
-/// How many messages the clone handled from a time on: a hint.
+/// How many messages the clone handled from a time on.
 pub(crate) fn count_from(world: &World, c: u32, time: u64) -> u64
     requires over { IsOver world.now }
     requires there { c < length world.now.clones }
+    ensures value { result ≡ length (from_on (simulation world.now.net) time
+        (trace_of world.now.net (clone_at world.now.clones c))) }
 {
-    let mut sum: u64 = 0;
+    let mut count: u64 = 0;
     for s in 0..world.model().len() {
         let log = world.log(c, s + 1);
-        sum = sum.saturating_add(log.len().saturating_sub(log.place_of_time(time)));
+        count += log.len().saturating_sub(log.place_of_time(time));
     }
-    sum
+    count
 }
 
 // The time of an entry, or another where there is none.
@@ -85,22 +77,28 @@ fn time_at(log: &Log, place: u64, other: u64) -> u64 {
 }
 
 /// A time at which about half of what the clone handled from a time on and before another is done: that of the entry in
-/// the middle, at the station that handled most. How near it is to the half is a hint.
-pub(crate) fn middle_time(world: &World, c: u32, from: u64, until: u64) -> u64
+/// the middle, at the station that handled most. Beside it, how many messages it handled then. Both are hints.
+pub(crate) fn middle_of(world: &World, c: u32, from: u64, until: u64) -> (u64, u64)
     requires over { IsOver world.now }
     requires there { c < length world.now.clones }
-    ensures late { from ≤ result }
+    requires order { from ≤ until }
+    ensures late { from ≤ result.0 }
+    ensures early { result.0 ≤ until }
 {
+    let mut all: u64 = 0;
     let mut most: u64 = 0;
     let mut time = from;
     for s in 0..world.model().len() {
         let log = world.log(c, s + 1);
         let place = log.place_of_time(from);
         let count = log.place_of_time(until).saturating_sub(place);
+        all = all.saturating_add(count);
         if most < count {
             most = count;
-            time = from.max(time_at(log, place.saturating_add(count / 2), from));
+            time = time_at(log, place.saturating_add(count / 2), from)
+                .max(from)
+                .min(until);
         }
     }
-    time
+    (time, all)
 }

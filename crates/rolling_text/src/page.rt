@@ -1,24 +1,20 @@
 //! A buffer whose memory is taken once, and written forward.
-ghost use Rattle.std.specs.Prelude.{◌≡◌, ◌+◌, ◌^◌, ◌<◌, ◌≤◌, ◌++◌, length, take, drop, IfOk};
-ghost use Rattle.std.specs.List.{flat_map};
+ghost use Rattle.std.specs.Prelude.{◌≡◌, ◌+◌, ◌^◌, ◌<◌, ◌≤◌, [], ◌++◌, length, take, drop, IfOk};
+ghost use Rattle.std.specs.Thread.{IsSync};
 ghost use Rattle.sim_base.specs.Clones.{clone_at};
-ghost use Rattle.log_chain.specs.Times.{from_time};
-ghost use Rattle.trace_report.specs.Slots.{AreNames};
-ghost use Rattle.trace_report.specs.TraceText.{entry_line};
+ghost use Rattle.rolling_text.specs.Parts.{Wrote, text_of, late_of};
 ghost use Rattle.rolling_text.specs.Texts.{rest};
 ghost use Rattle.rolling_text.specs.WorldTraces.{IsWalk};
 
-use crate::lengths::{len_of, rest_lens};
-use crate::lines::{PIECE, gather, put_piece};
-use crate::logs::count_from;
+use crate::logs::{count_from, len_between};
+use crate::part::Part;
+use crate::rounds::ends_of_rounds;
 use crate::world_traces::WorldTraces;
-use crate::writing::fill;
-use net_model::Model;
+use crate::writing::{make_parts, put_span};
 use sim_base::NoMemory;
 use std::alloc::Global;
-use std::thread::Threads;
+use std::thread::{Threads, join_mut};
 use trace_cursor::Cursor;
-use trace_report::Names;
 
 // One worker writes what has fewer lines, since a thread costs more.
 const LONG: u64 = 32_768;
@@ -88,78 +84,133 @@ impl Page {
         }
     }
 
-    // Writes so many spaces behind the text.
-    fn grow(&mut self, len: usize)
-        requires fits { length self.old.text + len ≤ self.old.reserved }
-        ensures text { take (length self.old.text) self.new.text ≡ self.old.text }
-        ensures len { length self.new.text ≡ length self.old.text + len }
+    // Writes the lines of a clone from a time on and before another behind the text. Returns how many bytes of them are
+    // of a time `late` or later.
+    fn put_alone<'a>(
+        &mut self,
+        traces: &WorldTraces<'a>,
+        walk: &mut Cursor<'a>,
+        c: u32,
+        from: u64,
+        until: u64,
+        late: u64,
+    ) -> usize
+        requires there { c < length traces.now.clones }
+        requires walk { IsWalk traces.now.net walk.old }
+        requires order { from ≤ until }
+        requires fits { length self.old.text + length (rest traces.now.net (clone_at traces.now.clones c) from)
+            ≤ self.old.reserved }
+        ensures wrote { Wrote traces.now.net (clone_at traces.now.clones c) from until late
+            self.old.text self.new.text result }
         ensures reserved { self.old.reserved ≤ self.new.reserved }
+        ensures walk { IsWalk traces.now.net walk.new }
     {
-        let all = self.bytes.len() + len;
-        match self.bytes.resize(all, b' ') {
-            Ok(()) => {}
+        match put_span(&mut self.bytes, traces, walk, c, from, until, late) {
+            Ok(after) => after,
             Err(_) => unreachable!(),
         }
     }
 
-    // Writes the lines of the entries that a cursor has left, so many of them, behind the text. Returns how many bytes
-    // of them are of a time or later.
-    fn put_entries(
-        &mut self,
-        cursor: &mut Cursor<'_>,
-        count: u64,
-        model: &Model,
-        names: &Names,
-        late: u64,
-    ) -> usize
-        requires names { AreNames model.now names.now }
-        requires count { count ≡ length cursor.old.left }
-        requires fits { length self.old.text + length (flat_map (entry_line model.now) cursor.old.left)
-            ≤ self.old.reserved }
-        ensures text { self.new.text ≡ self.old.text ++ flat_map (entry_line model.now) cursor.old.left }
-        ensures late { result ≡ length (flat_map (entry_line model.now) (from_time late cursor.old.left)) }
-        ensures part { result ≤ length self.new.text }
+    // Writes parts behind the text. Returns how many bytes of them are late.
+    fn put_parts(&mut self, parts: &[Part]) -> usize
+        requires fits { length self.old.text + length (text_of parts.now) ≤ self.old.reserved }
+        ensures text { self.new.text ≡ self.old.text ++ text_of parts.now }
+        ensures late { result ≡ late_of parts.now }
         ensures reserved { self.old.reserved ≤ self.new.reserved }
-        ensures most { cursor.new.most ≡ cursor.old.most }
     {
-        let mut piece = [0; PIECE];
-        let mut left = count;
         let mut after = 0;
-        while left > 0 {
-            let (len, part) = put_piece(cursor, &mut left, model, names, late, &mut piece);
-            self.append(&piece[..len]);
+        for part in parts {
+            self.append(&part.bytes);
             let _all = self.len();
-            after += part;
+            after += part.after;
         }
         after
     }
 
-    // Writes the lines of a clone from a time on behind the text. Returns how many bytes of its lines are of another
-    // time or later.
-    fn put_alone<'a, R: Threads + Sync>(
+    // The same in rounds that end at these times: while the parts of one are put behind the text, so many workers make
+    // those of the next. Where there is no memory for them, one worker writes what is left, and takes none.
+    fn put_rounds<'a, R: Threads + Sync>(
         &mut self,
         rt: &R,
+        alloc: Global,
         traces: &WorldTraces<'a>,
+        workers: u32,
         walk: &mut Cursor<'a>,
         c: u32,
-        time: u64,
-        next: u64,
+        from: u64,
+        until: u64,
+        late: u64,
+        ends: &[u64],
     ) -> usize
         requires there { c < length traces.now.clones }
         requires walk { IsWalk traces.now.net walk.old }
-        requires fits { length self.old.text + length (rest traces.now.net (clone_at traces.now.clones c) time)
+        requires order { from ≤ until }
+        requires fits { length self.old.text + length (rest traces.now.net (clone_at traces.now.clones c) from)
             ≤ self.old.reserved }
-        ensures text { self.new.text ≡ self.old.text ++ rest traces.now.net (clone_at traces.now.clones c) time }
-        ensures next { result ≡ length (rest traces.now.net (clone_at traces.now.clones c) next) }
+        ensures wrote { Wrote traces.now.net (clone_at traces.now.clones c) from until late
+            self.old.text self.new.text result }
         ensures reserved { self.old.reserved ≤ self.new.reserved }
         ensures walk { IsWalk traces.now.net walk.new }
     {
-        let count = gather(walk, traces.world, c, time);
-        let late = time.max(next);
-        let model = traces.world.model();
-        let after = self.put_entries(walk, count, model, &traces.names, late);
+        let mut made = from;
+        let mut after = 0;
+        let mut parts = Vec::new(alloc);
+        for end in ends {
+            // the times are hints, and no round ends before it begins
+            let next = (*end).max(made).min(until);
+            let (more, put) = put_beside(
+                self, rt, alloc, traces, workers, c, made, next, late, &parts,
+            );
+            let _all = self.len();
+            after += put;
+            match more {
+                Ok(more) => parts = more,
+                Err(_) => {
+                    let left = self.put_alone(traces, walk, c, made, until, late);
+                    let _all = self.len();
+                    return after + left;
+                }
+            }
+            made = next;
+        }
+        let put = self.put_parts(&parts);
+        let left = self.put_alone(traces, walk, c, made, until, late);
         let _all = self.len();
-        after + len_of(rt, traces, 1, c, next, late)
+        after + put + left
+    }
+
+    // The same by one worker, where there are few lines, and else in rounds.
+    fn put_by<'a, R: Threads + Sync>(
+        &mut self,
+        rt: &R,
+        alloc: Global,
+        traces: &WorldTraces<'a>,
+        workers: u32,
+        walk: &mut Cursor<'a>,
+        c: u32,
+        from: u64,
+        until: u64,
+        late: u64,
+    ) -> usize
+        requires there { c < length traces.now.clones }
+        requires walk { IsWalk traces.now.net walk.old }
+        requires order { from ≤ until }
+        requires fits { length self.old.text + length (rest traces.now.net (clone_at traces.now.clones c) from)
+            ≤ self.old.reserved }
+        ensures wrote { Wrote traces.now.net (clone_at traces.now.clones c) from until late
+            self.old.text self.new.text result }
+        ensures reserved { self.old.reserved ≤ self.new.reserved }
+        ensures walk { IsWalk traces.now.net walk.new }
+    {
+        if workers <= 1 || count_from(traces.world, c, from) < LONG {
+            return self.put_alone(traces, walk, c, from, until, late);
+        }
+        match ends_of_rounds(alloc, traces, c, from, until) {
+            Ok(ends) => self.put_rounds(
+                rt, alloc, traces, workers, walk, c, from, until, late, &ends,
+            ),
+            Err(_) => self.put_alone(traces, walk, c, from, until, late),
+        }
     }
 
     /// Writes the lines of a clone from a time on behind the text, by so many workers. Returns how many bytes of its
@@ -184,24 +235,11 @@ impl Page {
         ensures reserved { self.old.reserved ≤ self.new.reserved }
         ensures walk { IsWalk traces.now.net walk.new }
     {
-        if workers <= 1 || count_from(traces.world, c, time) < LONG {
-            return self.put_alone(rt, traces, walk, c, time, next);
-        }
-        let (len, after) = rest_lens(rt, traces, workers, c, time, next);
-        let at = self.bytes.len();
-        self.grow(len);
-        fill_from(
-            rt,
-            alloc,
-            &mut self.bytes,
-            at,
-            traces,
-            workers,
-            walk,
-            c,
-            time,
-        );
-        after
+        let end = time.max(traces.world.model().horizon());
+        let late = time.max(next);
+        let after = self.put_by(rt, alloc, traces, workers, walk, c, time, end, late);
+        let _all = self.len();
+        after + len_between(traces.world, &traces.names, c, next, late)
     }
 
     /// The text.
@@ -221,23 +259,38 @@ fn overwrite(bytes: &mut [u8], at: usize, piece: &[u8])
     bytes[at..end].copy_from_slice(piece);
 }
 
-// Fills the bytes from a place on with the lines of a clone from a time on.
-fn fill_from<'a, R: Threads + Sync>(
+// Writes the parts of one round behind the text, while so many workers make those of the next. Returns these, and how
+// many bytes of what was written are late.
+fn put_beside<R: Threads + Sync>(
+    page: &mut Page,
     rt: &R,
     alloc: Global,
-    bytes: &mut [u8],
-    at: usize,
-    traces: &WorldTraces<'a>,
+    traces: &WorldTraces<'_>,
     workers: u32,
-    walk: &mut Cursor<'a>,
     c: u32,
-    time: u64,
-)
+    from: u64,
+    until: u64,
+    late: u64,
+    parts: &[Part],
+) -> (Result<Vec<Part>, NoMemory>, usize)
     requires there { c < length traces.now.clones }
-    requires walk { IsWalk traces.now.net walk.old }
-    requires len { length bytes.old ≡ at + length (rest traces.now.net (clone_at traces.now.clones c) time) }
-    ensures text { bytes.new ≡ take at bytes.old ++ rest traces.now.net (clone_at traces.now.clones c) time }
-    ensures walk { IsWalk traces.now.net walk.new }
+    requires order { from ≤ until }
+    requires fits { length page.old.text + length (text_of parts.now) ≤ page.old.reserved }
+    ensures made { IfOk result.0 (λ more. Wrote traces.now.net (clone_at traces.now.clones c) from until late
+        [] (text_of more.items) (late_of more.items)) }
+    ensures text { page.new.text ≡ page.old.text ++ text_of parts.now }
+    ensures late { result.1 ≡ late_of parts.now }
+    ensures reserved { page.old.reserved ≤ page.new.reserved }
 {
-    fill(rt, alloc, traces, workers, walk, c, time, &mut bytes[at..]);
+    let mut make = || -> Result<Vec<Part>, NoMemory>
+        requires { IsSync R.row × (c < length traces.now.clones) × (from ≤ until) }
+        ensures { IfOk result (λ more. Wrote traces.entry.now.net (clone_at traces.entry.now.clones c) from until late
+            [] (text_of more.items) (late_of more.items)) }
+    { make_parts(rt, alloc, traces, workers, c, from, until, late) };
+    let mut put = || -> usize
+        requires { length page.now.text + length (text_of parts.now) ≤ page.now.reserved }
+        ensures { (page.exit.now.text ≡ page.entry.now.text ++ text_of parts.entry.now)
+            × (result ≡ late_of parts.entry.now) × (page.entry.now.reserved ≤ page.exit.now.reserved) }
+    { page.put_parts(parts) };
+    join_mut(rt, &mut make, &mut put)
 }

@@ -1,152 +1,174 @@
-//! The lines of a clone, written by several workers: each fills a part of the bytes, those of a time of its own.
+//! The lines of a clone, made by several workers: each makes those of a span of time, in a buffer of its own.
 //!
-//!     bytes   |3 gate ..   7 desk ..|8 desk ..   14 out ..|15 gate .. ..  |
+//!     span     3 gate ..   7 desk ..|8 desk ..   14 out ..|15 gate .. ..
 //!     worker   first                 second                third
-ghost use Rattle.std.specs.Prelude.{◌≡◌, ◌+◌, ◌<◌, ◌≤◌, length, take, IsTrue};
+ghost use Rattle.std.specs.Prelude.{◌≡◌, ◌+◌, ◌<◌, ◌≤◌, ◌∷◌, [], ◌++◌, length, drop, vec_capacity, IfOk, OnErr};
 ghost use Rattle.std.specs.Thread.{IsSync};
 ghost use Rattle.sim_base.specs.Clones.{clone_at};
+ghost use Rattle.stations.specs.Runs.{simulation, trace_of};
+ghost use Rattle.run_laws.specs.SharedTexts.{from_on};
+ghost use Rattle.rolling_text.specs.Parts.{Wrote, text_of, late_of};
 ghost use Rattle.rolling_text.specs.Texts.{rest};
 ghost use Rattle.rolling_text.specs.WorldTraces.{IsWalk};
 
-use crate::lengths::len_of;
-use crate::lines::{gather, put_lines};
-use crate::logs::middle_time;
+use crate::lines::{gather, put_entries};
+use crate::logs::{count_from, middle_of};
+use crate::part::Part;
 use crate::world_traces::WorldTraces;
+use sim_base::NoMemory;
 use std::alloc::Global;
-use std::thread::{Threads, join_mut};
+use std::thread::{Threads, join};
 use trace_cursor::Cursor;
 
-// One worker writes what is shorter, since a thread costs more.
-const LONG: usize = 1 << 20;
-
-// Fills bytes with the first lines of a clone from a time on.
-fn write_part<'a>(
+// Gives a cursor what a clone handled from a time on. Returns how many of these entries come before another time.
+fn gather_span<'a>(
     traces: &WorldTraces<'a>,
     walk: &mut Cursor<'a>,
     c: u32,
     from: u64,
-    bytes: &mut [u8],
-)
+    until: u64,
+) -> u64
     requires there { c < length traces.now.clones }
     requires walk { IsWalk traces.now.net walk.old }
-    requires enough { length bytes.old ≤ length (rest traces.now.net (clone_at traces.now.clones c) from) }
-    ensures text { bytes.new ≡ take (length bytes.old) (rest traces.now.net (clone_at traces.now.clones c) from) }
+    requires order { from ≤ until }
+    ensures left { walk.new.left ≡ from_on (simulation traces.now.net) from
+        (trace_of traces.now.net (clone_at traces.now.clones c)) }
+    ensures behind { drop result walk.new.left ≡ from_on (simulation traces.now.net) until
+        (trace_of traces.now.net (clone_at traces.now.clones c)) }
+    ensures within { result ≤ length walk.new.left }
     ensures walk { IsWalk traces.now.net walk.new }
 {
-    let count = gather(walk, traces.world, c, from);
-    put_lines(walk, count, traces.world.model(), &traces.names, bytes);
-}
-
-// The same with a cursor of its own. False where there is no memory for it.
-fn write_alone(alloc: Global, traces: &WorldTraces<'_>, c: u32, from: u64, bytes: &mut [u8]) -> bool
-    requires there { c < length traces.now.clones }
-    requires enough { length bytes.old ≤ length (rest traces.now.net (clone_at traces.now.clones c) from) }
-    ensures text { IsTrue result →
-        bytes.new ≡ take (length bytes.old) (rest traces.now.net (clone_at traces.now.clones c) from) }
-    ensures size { length bytes.new ≡ length bytes.old }
-{
-    let stations = traces.world.model().len();
-    let Ok(mut walk) = Cursor::new(alloc, stations as usize) else {
-        return false;
-    };
-    write_part(traces, &mut walk, c, from, bytes);
-    true
-}
-
-// The same by so many workers; about half of the lines come before a time in the middle, up to `until`.
-#[cycle(halves)]
-fn write_lines<R: Threads + Sync>(
-    rt: &R,
-    alloc: Global,
-    traces: &WorldTraces<'_>,
-    workers: u32,
-    c: u32,
-    from: u64,
-    until: u64,
-    bytes: &mut [u8],
-) -> bool
-    requires there { c < length traces.now.clones }
-    requires enough { length bytes.old ≤ length (rest traces.now.net (clone_at traces.now.clones c) from) }
-    ensures text { IsTrue result →
-        bytes.new ≡ take (length bytes.old) (rest traces.now.net (clone_at traces.now.clones c) from) }
-    ensures size { length bytes.new ≡ length bytes.old }
-{
-    if workers <= 1 || bytes.len() < LONG {
-        return write_alone(alloc, traces, c, from, bytes);
+    let all = gather(walk, traces.world, c, from);
+    // nothing comes from the horizon on, where the last span of a text ends
+    if until >= traces.world.model().horizon() {
+        return all;
     }
-    let middle = middle_time(traces.world, c, from, until);
-    let place = len_of(rt, traces, workers, c, from, middle).min(bytes.len());
-    let (first, second) = bytes.split_at_mut(place);
-    write_halves(
-        rt, alloc, traces, workers, c, from, middle, until, first, second,
-    )
+    all - count_from(traces.world, c, until)
 }
 
+/// Writes the lines of a clone from a time on and before another behind the bytes. Returns how many bytes of them are
+/// of a time `late` or later.
+///
+/// Errors: out of memory, which never comes where all lines of the clone from that time on fit what is reserved.
+pub(crate) fn put_span<'a>(
+    bytes: &mut Vec<u8>,
+    traces: &WorldTraces<'a>,
+    walk: &mut Cursor<'a>,
+    c: u32,
+    from: u64,
+    until: u64,
+    late: u64,
+) -> Result<usize, NoMemory>
+    requires there { c < length traces.now.clones }
+    requires walk { IsWalk traces.now.net walk.old }
+    requires order { from ≤ until }
+    ensures wrote { IfOk result (λ after. Wrote traces.now.net (clone_at traces.now.clones c) from until late
+        bytes.old.items bytes.new.items after) }
+    ensures full { OnErr result (vec_capacity bytes.old < length bytes.old.items
+        + length (rest traces.now.net (clone_at traces.now.clones c) from)) }
+    ensures reserved { vec_capacity bytes.old ≤ vec_capacity bytes.new }
+    ensures walk { IsWalk traces.now.net walk.new }
+{
+    let count = gather_span(traces, walk, c, from, until);
+    let model = traces.world.model();
+    put_entries(bytes, walk, count, model, &traces.names, late)
+}
+
+// The same in a buffer of its own, with a cursor of its own.
+fn make_part(
+    alloc: Global,
+    traces: &WorldTraces<'_>,
+    c: u32,
+    from: u64,
+    until: u64,
+    late: u64,
+) -> Result<Part, NoMemory>
+    requires there { c < length traces.now.clones }
+    requires order { from ≤ until }
+    ensures wrote { IfOk result (λ p. Wrote traces.now.net (clone_at traces.now.clones c) from until late
+        [] p.bytes.items p.after) }
+{
+    let model = traces.world.model();
+    let mut walk = Cursor::new(alloc, model.len() as usize)?;
+    let count = gather_span(traces, &mut walk, c, from, until);
+    // no line is longer than 256 bytes, so that the buffer never grows
+    let mut bytes = Vec::with_capacity(alloc, (count as usize).saturating_mul(256))?;
+    let after = put_entries(&mut bytes, &mut walk, count, model, &traces.names, late)?;
+    Ok(Part { bytes, after })
+}
+
+// A list of one part.
+fn list_of(alloc: Global, part: Part) -> Result<Vec<Part>, NoMemory>
+    ensures value { IfOk result (λ parts. parts.items ≡ part ∷ []) }
+{
+    let mut parts = Vec::with_capacity(alloc, 1)?;
+    parts.push(part)?;
+    Ok(parts)
+}
+
+// The parts of two lists, one behind the other.
+fn add_all(mut parts: Vec<Part>, mut more: Vec<Part>) -> Result<Vec<Part>, NoMemory>
+    ensures value { IfOk result (λ all. all.items ≡ parts.items ++ more.items) }
+{
+    parts.append(&mut more)?;
+    Ok(parts)
+}
+
+// The whole span as one part.
+fn make_alone(
+    alloc: Global,
+    traces: &WorldTraces<'_>,
+    c: u32,
+    from: u64,
+    until: u64,
+    late: u64,
+) -> Result<Vec<Part>, NoMemory>
+    requires there { c < length traces.now.clones }
+    requires order { from ≤ until }
+    ensures wrote { IfOk result (λ parts. Wrote traces.now.net (clone_at traces.now.clones c) from until late
+        [] (text_of parts.items) (late_of parts.items)) }
+{
+    let part = make_part(alloc, traces, c, from, until, late)?;
+    list_of(alloc, part)
+}
+
+/// Makes the lines of a clone from a time on and before another, by so many workers: a part each.
+///
+/// Errors: out of memory in some worker.
 #[cycle(halves)]
-fn write_halves<R: Threads + Sync>(
+pub(crate) fn make_parts<R: Threads + Sync>(
     rt: &R,
     alloc: Global,
     traces: &WorldTraces<'_>,
     workers: u32,
     c: u32,
     from: u64,
-    middle: u64,
     until: u64,
-    first: &mut [u8],
-    second: &mut [u8],
-) -> bool
-    requires several { 2 ≤ workers }
+    late: u64,
+) -> Result<Vec<Part>, NoMemory>
     requires there { c < length traces.now.clones }
-    requires first { length first.old ≤ length (rest traces.now.net (clone_at traces.now.clones c) from) }
-    requires second { length second.old ≤ length (rest traces.now.net (clone_at traces.now.clones c) middle) }
-    ensures first { IsTrue result →
-        first.new ≡ take (length first.old) (rest traces.now.net (clone_at traces.now.clones c) from) }
-    ensures second { IsTrue result →
-        second.new ≡ take (length second.old) (rest traces.now.net (clone_at traces.now.clones c) middle) }
-    ensures first_size { length first.new ≡ length first.old }
-    ensures second_size { length second.new ≡ length second.old }
+    requires order { from ≤ until }
+    ensures wrote { IfOk result (λ parts. Wrote traces.now.net (clone_at traces.now.clones c) from until late
+        [] (text_of parts.items) (late_of parts.items)) }
 {
+    if workers <= 1 {
+        return make_alone(alloc, traces, c, from, until, late);
+    }
+    let (middle, _) = middle_of(traces.world, c, from, until);
     let some = workers / 2;
     let others = workers - some;
-    let mut early = || -> bool
-        requires { IsSync R.row × (c < length traces.now.clones) ×
-            (length first.now ≤ length (rest traces.now.net (clone_at traces.now.clones c) from)) }
-        ensures { (IsTrue result → first.exit.now ≡ take (length first.entry.now)
-            (rest traces.entry.now.net (clone_at traces.entry.now.clones c) from)) ×
-            (length first.exit.now ≡ length first.entry.now) }
-    { write_lines(rt, alloc, traces, some, c, from, middle, first) };
-    let mut late = || -> bool
-        requires { IsSync R.row × (c < length traces.now.clones) ×
-            (length second.now ≤ length (rest traces.now.net (clone_at traces.now.clones c) middle)) }
-        ensures { (IsTrue result → second.exit.now ≡ take (length second.entry.now)
-            (rest traces.entry.now.net (clone_at traces.entry.now.clones c) middle)) ×
-            (length second.exit.now ≡ length second.entry.now) }
-    { write_lines(rt, alloc, traces, others, c, middle, until, second) };
-    let (one, two) = join_mut(rt, &mut early, &mut late);
-    one && two
-}
-
-/// Fills bytes with the first lines of a clone from a time on, by so many workers. The cursor serves where there is no
-/// memory for more.
-pub(crate) fn fill<'a, R: Threads + Sync>(
-    rt: &R,
-    alloc: Global,
-    traces: &WorldTraces<'a>,
-    workers: u32,
-    walk: &mut Cursor<'a>,
-    c: u32,
-    from: u64,
-    bytes: &mut [u8],
-)
-    requires there { c < length traces.now.clones }
-    requires walk { IsWalk traces.now.net walk.old }
-    requires enough { length bytes.old ≤ length (rest traces.now.net (clone_at traces.now.clones c) from) }
-    ensures text { bytes.new ≡ take (length bytes.old) (rest traces.now.net (clone_at traces.now.clones c) from) }
-    ensures walk { IsWalk traces.now.net walk.new }
-{
-    let end = traces.world.model().horizon();
-    if write_lines(rt, alloc, traces, workers, c, from, end, bytes) {
-        return;
-    }
-    write_part(traces, walk, c, from, bytes);
+    let early = || -> Result<Vec<Part>, NoMemory>
+        requires { IsSync R.row × (c < length traces.now.clones) × (from ≤ middle) }
+        ensures { IfOk result (λ parts. Wrote traces.entry.now.net (clone_at traces.entry.now.clones c) from middle late
+            [] (text_of parts.items) (late_of parts.items)) }
+    { make_parts(rt, alloc, traces, some, c, from, middle, late) };
+    let later = || -> Result<Vec<Part>, NoMemory>
+        requires { IsSync R.row × (c < length traces.now.clones) × (middle ≤ until) }
+        ensures { IfOk result (λ parts. Wrote traces.entry.now.net (clone_at traces.entry.now.clones c) middle until late
+            [] (text_of parts.items) (late_of parts.items)) }
+    { make_parts(rt, alloc, traces, others, c, middle, until, late) };
+    let (parts, more) = join(rt, early, later);
+    let parts = parts?;
+    let more = more?;
+    add_all(parts, more)
 }

@@ -6,3 +6,4 @@ pub mod Fulls
 pub mod SoloRuns
 pub mod Reports
 pub mod Accepting
+pub mod Goings

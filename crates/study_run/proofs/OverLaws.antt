@@ -11,7 +11,7 @@ use Rattle.run_laws.proofs.NextFronts.{next_front-rises, window_end-within}
 use Rattle.stations.specs.Runs.{IsBeyond, log_at, next_front, simulation}
 use Rattle.stations.proofs.GoodLaws.{lawful-stations}
 use Rattle.world_core.specs.Overs.{IsFirstBeyond, NoneBeyond}
-use Rattle.study_run.specs.Overs.{first_over, first_over_of, over_at, over_in, over_of, sooner}
+use Rattle.study_run.specs.Overs.{HasCome, first_over, first_over_of, over_at, over_in, over_of, sooner}
 use Rattle.study_run.proofs.FirstBelow.{below_none, below_some, both_none, found_below, none_below}
 
 -- ---- over_of, over_in, over_at
@@ -153,12 +153,6 @@ module _ (net : Net) (cs : List Clone) where
     within_horizon h = let some = valid.horizon in within_from net.horizon 0 (omega arith) (omega (arith, some)) h
 
 -- ---- a run that goes from window to window
-
--- it has come to a front, and no log was beyond the limit
-pub record HasCome (net : Net) (cs : List Clone) (front : ℕ) : Type 0 where
-  pub left : ℕ
-  pub enough : net.horizon ≤ left + front
-  pub same : first_over net cs left front ≡ first_over_of net cs
 
 -- so it is at front 0
 pub comes_first : (net : Net) (cs : List Clone) (front : ℕ) → front ≡ 0 → HasCome net cs front

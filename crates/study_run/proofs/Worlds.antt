@@ -12,7 +12,8 @@ use Rattle.world_core.specs.Worlds.{total_handled}
 use Rattle.world_core.specs.declared.world.WorldFault.TheVariants.{EventLimit}
 use Rattle.study_run.specs.Faults.{StopsAll}
 use Rattle.study_run.proofs.Meeting.{found_met}
-use Rattle.study_run.proofs.OverLaws.{HasCome, comes_next, over_here, rises}
+use Rattle.study_run.specs.Overs.{HasCome}
+use Rattle.study_run.proofs.OverLaws.{comes_next, over_here, rises}
 
 -- at first nothing was handled
 pub none_handled : (net : Net) (cs : List Clone) (n : ℕ) → station_sum (λ s. handled net cs s 0) n ≡ 0
@@ -55,11 +56,11 @@ module _ (net told : Net) (cs those : List Clone) (front bound : ℕ) (same_net 
       subst (HasCome net cs) (sym (is ∙ next_is))
       (comes_next net cs front below valid come (subst (NoneBeyond net cs) next_is two))
 
-  -- steps that were what the clones handle to the front are, one window on, what they handle to the next one
-  pub steps_in : (now start mid new : ℕ) → now ≡ bound → mid ≡ start + total_handled net cs front
+  -- steps that are beside a number what the clones handle to the front are, one window on, what they handle to the next
+  pub steps_in : (base now start mid new : ℕ) → now ≡ bound → mid + base ≡ start + total_handled net cs front
       → new + total_handled told those front ≡ mid + total_handled told those bound
-      → new ≡ start + total_handled net cs now
-  steps_in now start mid new is before steps =
+      → new + base ≡ start + total_handled net cs now
+  steps_in base now start mid new is before steps =
       let a : total_handled told those front ≡ total_handled net cs front =
       ap₂ (λ (n : Net) l. total_handled n l front) same_net same_clones in
       let b : total_handled told those bound ≡ total_handled net cs bound =

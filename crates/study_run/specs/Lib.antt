@@ -4,3 +4,4 @@ pub mod Work
 pub mod Faults
 pub mod Laws
 pub mod Accepted
+pub mod Going

@@ -1,5 +1,5 @@
 -- The first log of a run that is beyond the limit, found window by window.
-use Rattle.std.specs.Prelude.{ℕ, zero, suc, ◌+◌, List, Option, Some, None, if◌then◌else◌, length, nat_lt}
+use Rattle.std.specs.Prelude.{◌≡◌, ℕ, zero, suc, ◌+◌, ◌≤◌, List, Option, Some, None, if◌then◌else◌, length, nat_lt}
 use Rattle.sim_base.specs.Clones.{Clone, clone_at}
 use Rattle.net_model.specs.Net.{Net}
 use Rattle.stations.specs.Runs.{log_at, next_front}
@@ -37,3 +37,9 @@ first_over net cs (suc n) front =
 -- the first in a whole run, of which the fronts are no more than the horizon's times
 abbrev pub first_over_of : Net → List Clone → Option (ℕ × ℕ)
 first_over_of net cs = first_over net cs net.horizon 0
+
+-- a run has come to a front, and no log was beyond the limit: what is found from there on is what is found at all
+pub record HasCome (net : Net) (cs : List Clone) (front : ℕ) : Type 0 where
+  pub left : ℕ
+  pub enough : net.horizon ≤ left + front
+  pub same : first_over net cs left front ≡ first_over_of net cs

@@ -1,21 +1,23 @@
 //! The run of all clones in one world.
-ghost use Rattle.std.specs.Prelude.{◌≡◌, ◌+◌, ◌∷◌, [], IfOk, IfErr, OnOk};
+ghost use Rattle.std.specs.Prelude.{◌≡◌, ◌+◌, ◌∷◌, [], Some, false, IfOk, IfErr, IfSome, OnOk};
 ghost use Rattle.sim_base.specs.Clones.{base};
 ghost use Rattle.world_core.specs.Taking.{AreAccepted, clones_after_calls};
-ghost use Rattle.world_core.specs.Worlds.{total_handled};
+ghost use Rattle.world_core.specs.Worlds.{WorldView, total_handled};
+ghost use Rattle.study_run.specs.Going.{IsUnderWay, HasGoneOn, HasStopped};
 ghost use Rattle.study_run.specs.Faults.{IsFaultOfAll};
 ghost use Rattle.study_run.specs.Limits.{AreWithin};
 
 use crate::fault::StudyFault;
-use crew_pool::{Crew, Gate};
+use crew_pool::{Crew, Gate, Kind, Workers};
 use decision_book::Call;
 use net_model::Model;
 use sim_base::{NoMemory, Steps};
+use standing_crew::{Bell, Member, Team, serve_all};
 use std::alloc::Global;
 use std::sync::ledger::Ledger;
 use std::sync::{Arc, Wait};
-use std::thread::Threads;
-use world_core::{World, WorldFault};
+use std::thread::{Threads, join_mut};
+use world_core::{Window, World, WorldFault};
 
 // The world of all clones that the calls make, before anything is handled.
 fn open_world(alloc: Global, model: &Arc<Model>, calls: &[Call]) -> Result<World, NoMemory>
@@ -28,6 +30,159 @@ fn open_world(alloc: Global, model: &Arc<Model>, calls: &[Call]) -> Result<World
     let world = World::new(alloc, shared)?;
     let world = world.take(alloc, calls)?;
     Ok(world)
+}
+
+// Goes on window by window, up to the horizon, or before where a team pays and is asked for.
+fn go_on<C: Crew, G: Gate, L: Ledger, R: Threads + Wait + Sync>(
+    rt: &R,
+    alloc: Global,
+    crew: &C,
+    gate: &G,
+    model: &Model,
+    world: World,
+    asks: bool,
+    steps: &mut Steps<L>,
+) -> Result<World, StudyFault>
+    requires under_way { IsUnderWay model.now world }
+    ensures gone_on { IfOk result (λ w. HasGoneOn model.now world w steps.old steps.new) }
+    ensures front { IfOk result (λ w. asks ≡ false → w.front ≡ model.now.horizon) }
+    ensures stopped { IfErr result (λ e. HasStopped model.now world steps.old steps.new e) }
+{
+    let mut world = world;
+    'window: while world.front() < model.horizon() {
+        if asks && world.wants_team() {
+            return Ok(world);
+        }
+        let bound = world.bound();
+        world = match world.window(rt, alloc, crew, gate, bound, steps) {
+            Ok(world) => world,
+            Err(WorldFault::NoMemory) => return Err(StudyFault::NoMemory),
+            Err(WorldFault::EventLimit { station, who, .. }) => {
+                return Err(StudyFault::LimitMet { station, who });
+            }
+        };
+    }
+    Ok(world)
+}
+
+// Goes on to the horizon, and tells the workers that no more windows come.
+fn finish_beside<C: Crew, G: Gate, L: Ledger, R: Threads + Wait + Sync>(
+    rt: &R,
+    alloc: Global,
+    crew: &C,
+    gate: &G,
+    model: &Model,
+    world: &mut Option<World>,
+    bell: &Bell,
+    steps: &mut Steps<L>,
+) -> Result<World, StudyFault>
+    requires there { (w : WorldView) × (world.old ≡ Some w) × IsUnderWay model.now w }
+    ensures gone_on { IfSome world.old (λ w. IfOk result (λ v. HasGoneOn model.now w v steps.old steps.new
+        × (v.front ≡ model.now.horizon))) }
+    ensures stopped { IfSome world.old (λ w. IfErr result (λ e. HasStopped model.now w steps.old steps.new e)) }
+{
+    let Some(world) = world.take() else {
+        unreachable!()
+    };
+    let done = go_on(rt, alloc, crew, gate, model, world, false, steps);
+    bell.end();
+    done
+}
+
+// The workers' part, if it was not done yet.
+fn serve_members<G: Gate, R: Threads + Wait + Sync>(
+    rt: &R,
+    alloc: Global,
+    gate: &G,
+    bell: &Bell,
+    members: &mut Option<Vec<Member<Window>>>,
+) {
+    if let Some(members) = members.take() {
+        serve_all(rt, alloc, gate, bell, members);
+    }
+}
+
+// Goes on to the horizon beside the workers of the world's team.
+fn go_on_beside<C: Crew, G: Gate, L: Ledger, R: Threads + Wait + Sync>(
+    rt: &R,
+    alloc: Global,
+    crew: &C,
+    gate: &G,
+    model: &Model,
+    world: World,
+    members: Vec<Member<Window>>,
+    bell: &Bell,
+    steps: &mut Steps<L>,
+) -> Result<World, StudyFault>
+    requires under_way { IsUnderWay model.now world }
+    ensures gone_on { IfOk result (λ w. HasGoneOn model.now world w steps.old steps.new) }
+    ensures front { IfOk result (λ w. w.front ≡ model.now.horizon) }
+    ensures stopped { IfErr result (λ e. HasStopped model.now world steps.old steps.new e) }
+{
+    let mut members = Some(members);
+    let mut world = Some(world);
+    let mut help = || serve_members(rt, alloc, gate, bell, &mut members);
+    let mut lead = || -> Result<World, StudyFault>
+        requires { (w : WorldView) × (world ≡ Some w) × IsUnderWay model.now w }
+        ensures { IfSome world.entry (λ w. IfOk result (λ v.
+            HasGoneOn model.entry.now w v steps.entry.now steps.exit.now × (v.front ≡ model.entry.now.horizon)))
+            × IfSome world.entry (λ w. IfErr result (λ e.
+            HasStopped model.entry.now w steps.entry.now steps.exit.now e)) }
+    { finish_beside(rt, alloc, crew, gate, model, &mut world, bell, steps) };
+    let (_, done) = join_mut(rt, &mut help, &mut lead);
+    done
+}
+
+// Goes on to the horizon with a team of so many workers; where there is no memory for it, without one.
+fn go_on_with_team<C: Crew, G: Gate, L: Ledger, R: Threads + Wait + Sync>(
+    rt: &R,
+    alloc: Global,
+    crew: &C,
+    gate: &G,
+    model: &Model,
+    world: World,
+    workers: Workers,
+    steps: &mut Steps<L>,
+) -> Result<World, StudyFault>
+    requires under_way { IsUnderWay model.now world }
+    ensures gone_on { IfOk result (λ w. HasGoneOn model.now world w steps.old steps.new) }
+    ensures front { IfOk result (λ w. w.front ≡ model.now.horizon) }
+    ensures stopped { IfErr result (λ e. HasStopped model.now world steps.old steps.new e) }
+{
+    if let Ok((team, members)) = Team::begin(alloc, workers) {
+        if let Ok(bell) = team.bell() {
+            let world = world.with_team(team);
+            return go_on_beside(rt, alloc, crew, gate, model, world, members, &bell, steps);
+        }
+    }
+    go_on(rt, alloc, crew, gate, model, world, false, steps)
+}
+
+// Goes on to the horizon: alone until a window is large, and then with a team.
+fn go_to_horizon<C: Crew, G: Gate, L: Ledger, R: Threads + Wait + Sync>(
+    rt: &R,
+    alloc: Global,
+    crew: &C,
+    gate: &G,
+    model: &Model,
+    world: World,
+    steps: &mut Steps<L>,
+) -> Result<World, StudyFault>
+    requires under_way { IsUnderWay model.now world }
+    ensures gone_on { IfOk result (λ w. HasGoneOn model.now world w steps.old steps.new) }
+    ensures front { IfOk result (λ w. w.front ≡ model.now.horizon) }
+    ensures stopped { IfErr result (λ e. HasStopped model.now world steps.old steps.new e) }
+{
+    let workers = match crew.kind() {
+        Kind::Serial => return go_on(rt, alloc, crew, gate, model, world, false, steps),
+        Kind::Forked(workers) => workers,
+        Kind::Stealing(workers) => workers,
+    };
+    let large = match go_on(rt, alloc, crew, gate, model, world, true, steps) {
+        Ok(large) => large,
+        Err(fault) => return Err(fault),
+    };
+    go_on_with_team(rt, alloc, crew, gate, model, large, workers, steps)
 }
 
 // Runs all clones window by window, up to the horizon.
@@ -49,18 +204,11 @@ fn run_to_horizon<C: Crew, G: Gate, L: Ledger, R: Threads + Wait + Sync>(
     ensures steps { OnOk result (steps.new ≡ steps.old + total_handled model.now world.clones model.now.horizon) }
     ensures fault { IfErr result (λ e. IsFaultOfAll model.now world.clones steps.old steps.new e) }
 {
-    let mut world = world;
-    'window: while world.front() < model.horizon() {
-        let bound = world.bound();
-        world = match world.window(rt, alloc, crew, gate, bound, steps) {
-            Ok(world) => world,
-            Err(WorldFault::NoMemory) => return Err(StudyFault::NoMemory),
-            Err(WorldFault::EventLimit { station, who, .. }) => {
-                return Err(StudyFault::LimitMet { station, who });
-            }
-        };
+    let _valid = model.horizon();
+    match go_to_horizon(rt, alloc, crew, gate, model, world, steps) {
+        Ok(world) => Ok(world),
+        Err(fault) => Err(fault),
     }
-    Ok(world)
 }
 
 /// Runs a study: the world of a model takes the calls at front 0, which were accepted, and goes to the horizon.

@@ -40,10 +40,10 @@ unchanged ms p none = record {
   proc = λ net h. h;
 }
 
-not_for : (m : Msg) (k : CloneSet) (i : ℕ) → (m.to ≡ i + 1 → ⊥) → sent_to i ((m, k) ∷ []) ≡ []
+pub not_for : (m : Msg) (k : CloneSet) (i : ℕ) → (m.to ≡ i + 1 → ⊥) → sent_to i ((m, k) ∷ []) ≡ []
 not_for m k i n = ap (λ b. cond b ((m, k) ∷ []) []) (ne_eqb m.to (i + 1) n)
 
-for_it : (m : Msg) (k : CloneSet) (i : ℕ) → m.to ≡ i + 1 → sent_to i ((m, k) ∷ []) ≡ (m, k) ∷ []
+pub for_it : (m : Msg) (k : CloneSet) (i : ℕ) → m.to ≡ i + 1 → sent_to i ((m, k) ∷ []) ≡ (m, k) ∷ []
 for_it m k i e = ap (λ b. cond b ((m, k) ∷ []) []) (eq-eqb m.to (i + 1) e)
 
 -- a message for no station
@@ -92,7 +92,7 @@ still_numbered ms olds news h d = λ i q got.
     let p = there_at olds i q (let k = d.count in omega (arith, l, k)) in
     (d.each i (get_or olds i q) q p got).station ∙ h i (get_or olds i q) p
 
-sent_append : (i : ℕ) (xs ys : Marked) → sent_to i (xs ++ ys) ≡ sent_to i xs ++ sent_to i ys
+pub sent_append : (i : ℕ) (xs ys : Marked) → sent_to i (xs ++ ys) ≡ sent_to i xs ++ sent_to i ys
 sent_append i [] ys = refl
 sent_append i (x ∷ xs) ys = by (sent_append i xs ys) (x.0.to == i + 1)
   where
@@ -102,7 +102,7 @@ sent_append i (x ∷ xs) ys = by (sent_append i xs ys) (x.0.to == i + 1)
     by h true = ap (λ l. x ∷ l) h
     by h false = h
 
-given_append : (xs ys : Marked) (copies : List StationCopy)
+pub given_append : (xs ys : Marked) (copies : List StationCopy)
     → given_all (xs ++ ys) copies ≡ given_all ys (given_all xs copies)
 given_append [] ys copies = refl
 given_append (x ∷ xs) ys copies = given_append xs ys (map (given x.0 x.1) copies)

@@ -13,3 +13,5 @@ pub mod Merging
 pub mod Calls
 pub mod Delivering
 pub mod Forks
+mod Mail
+mod Working

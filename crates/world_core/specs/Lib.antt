@@ -7,3 +7,5 @@ pub mod Due
 pub mod Taking
 pub mod Forking
 pub mod Tracing
+pub mod Posts
+pub mod Jobs

@@ -1,10 +1,21 @@
 //! After a window each station gets what the others sent to it.
-ghost use Rattle.std.specs.Prelude.{◌∷◌, [], OnOk};
-ghost use Rattle.world_core.specs.Windows.{AllDelivered, AreNumbered};
+ghost use Rattle.std.specs.Prelude.{◌≡◌, ◌∷◌, [], ◌<◌, ◌≤◌, length, IfOk, OnOk};
+ghost use Rattle.world_core.specs.Windows.{AllDelivered, AreNumbered, MayStep};
 
+use crate::jobs::{mail_for, procs_of};
+use crate::posts::posts_of;
+use crate::shared_ends::SharedEnds;
 use crate::timed_proc::TimedProc;
+use crate::windows::Window;
 use clone_sets::CloneSet;
-use sim_base::{Msg, NoMemory};
+use crew_pool::NoGate;
+use net_model::Model;
+use sim_base::{Msg, NoMemory, Steps};
+use standing_crew::Team;
+use std::alloc::Global;
+use std::marker::Brand;
+use std::sync::ledger::{Blank, Ledger};
+use std::sync::{Arc, Wait};
 
 /// The station that the message is for gets it, if there is one.
 pub(crate) fn deliver_to(
@@ -34,4 +45,74 @@ pub(crate) fn deliver_all(
         deliver_to(procs, pair.0, pair.1)?;
     }
     Ok(())
+}
+
+// The workers of a team give each station its mail, on a counter that nobody reads.
+fn give_by_team<L: Ledger, R: Wait>(
+    rt: &R,
+    alloc: Global,
+    team: Team<Window>,
+    work: Window,
+    procs: Vec<TimedProc>,
+    sent: &[(Msg, CloneSet)],
+    blank: Blank,
+) -> Result<(Vec<TimedProc>, Team<Window>), NoMemory>
+    requires few { length procs.items ≤ 64 }
+    requires numbered { AreNumbered procs.items }
+    requires name { blank.name ≡ L.name }
+    requires parts { blank.parts ≡ L.parts }
+    requires some { 0 < L.parts }
+    ensures given { IfOk result (λ r. AllDelivered sent.now procs.items r.0.items) }
+{
+    let mut steps = Steps::<L>::new(blank);
+    let work = Arc::new(alloc, work)?;
+    let posts = posts_of(alloc, procs, sent)?;
+    let jobs = mail_for(alloc, posts)?;
+    let (team, dones) = team.all(rt, alloc, work, jobs, &NoGate, &mut steps)?;
+    let given = procs_of(alloc, dones)?;
+    Ok((given, team))
+}
+
+/// Gives each station what the others sent to it: the worker of a team that steps a station gives it to the copies, so
+/// that they stay in its processor's memory. Where there is no team, or the window was small, the caller gives it.
+pub(crate) fn give_all<R: Wait>(
+    rt: &R,
+    alloc: Global,
+    team: Option<Team<Window>>,
+    model: &Arc<Model>,
+    ends: &SharedEnds,
+    bound: u64,
+    procs: Vec<TimedProc>,
+    sent: &[(Msg, CloneSet)],
+    small: bool,
+) -> Result<(Vec<TimedProc>, Option<Team<Window>>), NoMemory>
+    requires step { MayStep model.now.value bound }
+    requires few { length procs.items ≤ 64 }
+    requires numbered { AreNumbered procs.items }
+    ensures given { IfOk result (λ r. AllDelivered sent.now procs.items r.0.items) }
+{
+    let mut procs = procs;
+    if small {
+        deliver_all(&mut procs, sent)?;
+        return Ok((procs, team));
+    }
+    match team {
+        Some(team) => {
+            let work = Window::new(model, ends, bound)?;
+            let (procs, team) = give_by_team::<Brand, R>(
+                rt,
+                alloc,
+                team,
+                work,
+                procs,
+                sent,
+                Blank::new(1),
+            )?;
+            Ok((procs, Some(team)))
+        }
+        None => {
+            deliver_all(&mut procs, sent)?;
+            Ok((procs, None))
+        }
+    }
 }

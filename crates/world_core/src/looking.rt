@@ -34,7 +34,10 @@ impl World {
     {
         let mut least = None;
         for i in 0..self.procs.len() {
-            least = earlier(least, self.procs[i].least_of(&self.model, &self.ends, c));
+            least = earlier(
+                least,
+                self.procs[i].least_of(&self.model, self.ends.ends(), c),
+            );
         }
         least
     }
@@ -45,7 +48,7 @@ impl World {
     {
         let mut least = None;
         for i in 0..self.procs.len() {
-            least = self.procs[i].with_least(&self.model, &self.ends, least);
+            least = self.procs[i].with_least(&self.model, self.ends.ends(), least);
         }
         least
     }

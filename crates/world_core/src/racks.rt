@@ -8,8 +8,8 @@ use sim_base::NoMemory;
 use std::alloc::Global;
 use std::sync::Arc;
 
-// One share more of the model.
-fn shared(model: &Arc<Model>) -> Result<Arc<Model>, NoMemory>
+/// One share more of the model.
+pub(crate) fn shared(model: &Arc<Model>) -> Result<Arc<Model>, NoMemory>
     ensures value { IfOk result (λ m. m.value ≡ model.now.value) }
 {
     Ok(model.clone()?)

@@ -93,7 +93,7 @@ impl World {
                 Ok(world)
             }
             Decision::End { at, .. } => {
-                let world = self.with_end(clone, at)?;
+                let world = self.with_end(alloc, clone, at)?;
                 Ok(world)
             }
         }
@@ -117,6 +117,7 @@ impl World {
             mut procs,
             last,
             outbox,
+            team,
         } = self;
         let number = lists.lists().len();
         lists.fork(alloc, new, old)?;
@@ -129,6 +130,7 @@ impl World {
             procs,
             last,
             outbox,
+            team,
         })
     }
 
@@ -150,6 +152,7 @@ impl World {
             mut procs,
             last,
             outbox,
+            team,
         } = self;
         let msg = message_of(lists.lists().list(who).len(), &plan);
         lists.add(who, plan)?;
@@ -162,11 +165,12 @@ impl World {
             procs,
             last,
             outbox,
+            team,
         })
     }
 
     /// From its end on a clone takes nothing.
-    pub(crate) fn with_end(self, who: u32, at: u64) -> Result<World, NoMemory>
+    pub(crate) fn with_end(self, alloc: Global, who: u32, at: u64) -> Result<World, NoMemory>
         requires there { who < length self.clones }
         requires open { (clone_at self.clones who).end ≡ None }
         requires late { self.front ≤ at }
@@ -183,9 +187,10 @@ impl World {
             procs,
             last,
             outbox,
+            team,
         } = self;
         lists.end(who, at);
-        ends.end(who, at)?;
+        ends.end(alloc, who, at)?;
         Ok(World {
             model,
             lists,
@@ -194,6 +199,7 @@ impl World {
             procs,
             last,
             outbox,
+            team,
         })
     }
 }

@@ -1,70 +1,118 @@
-//! The tasks of a window: each station steps its own copies.
+//! The tasks of a window: each station steps its own copies. Where little is due, they run in the caller's thread, else
+//! on the workers of a team that stay between windows, or on those of a crew.
 ghost use Rattle.std.specs.Prelude.{◌≡◌, ℕ, ◌+◌, ◌<◌, ◌≤◌, ◌++◌, ◌∷◌, []};
 ghost use Rattle.std.specs.Prelude.{Some, None, List, length, map, slice_get, IfOk, OnOk, IfSome};
 ghost use Rattle.clone_sets.specs.declared.set.CloneSet.{CloneSet as CloneSet'};
 ghost use Rattle.phys_proc.specs.Gone.{ends_in};
 ghost use Rattle.phys_proc.specs.Procs.{ProcView};
 ghost use Rattle.phys_proc.specs.declared.proc.Flow.{Flow as Flow'};
-ghost use Rattle.world_core.specs.Windows.{AllFlow, AllNumbered, MayStep, IsNumbered, all_handled, all_sent};
+ghost use Rattle.world_core.specs.Windows.{AllFlow, AllNumbered, IsFlow, MayStep, IsNumbered, all_handled, all_sent};
 ghost use Rattle.world_core.specs.Stepping.{FirstOver, AllStepped, SteppedAt};
 
+use crate::jobs::{Done, Job, flows_of, steps_for};
+use crate::racks::shared;
+use crate::shared_ends::SharedEnds;
 use crate::timed_proc::TimedProc;
 use clone_sets::CloneSet;
 use crew_pool::{Crew, Gate, Work};
 use net_model::Model;
 use phys_proc::{CloneEnds, Flow, Gain};
 use sim_base::{Msg, NoMemory, Steps};
+use standing_crew::Team;
 use std::alloc::Global;
-use std::sync::Wait;
 use std::sync::ledger::Ledger;
+use std::sync::{Arc, Wait};
 use std::thread::Threads;
 
-/// A window of all stations: task i owns the copies of station i + 1, and steps them to the bound.
+/// A window of all stations: task i owns the copies of station i + 1, and steps them to the bound. It has a share of
+/// the model and of the clones' ends, since a worker of a team may hold it for longer than the call.
 #[derive(Drop)]
-pub struct Window<'a> {
-    model: &'a Model,
-    ends: &'a CloneEnds,
+pub struct Window {
+    model: Arc<Model>,
+    ends: Arc<CloneEnds>,
     bound: u64,
 }
 
-impl<'a> std::marker::Model for Window<'a> {
+impl std::marker::Model for Window {
     ghost use Rattle.world_core.specs.Windows.{WindowView, MayStep};
 
     ghost Value = { WindowView };
 
-    ghost view = { λ w. record { net = w.model.now; ended = w.ends.now; bound = w.bound } };
+    ghost view = { λ w. record { net = w.model.value; ended = w.ends.value; bound = w.bound } };
 
-    ghost invariant = { λ w. MayStep w.model.now w.bound };
+    ghost invariant = { λ w. MayStep w.model.value w.bound };
 }
 
-impl<'a> Work for Window<'a> {
-    type In = TimedProc;
+impl Window {
+    /// The window to this bound, which shares the model and the ends.
+    pub(crate) fn new(model: &Arc<Model>, ends: &SharedEnds, bound: u64) -> Result<Window, NoMemory>
+        requires step { MayStep model.now.value bound }
+        ensures value { IfOk result (λ w. w ≡ record { net = model.now.value; ended = ends.now; bound = bound }) }
+    {
+        Ok(Window {
+            model: shared(model)?,
+            ends: ends.shared()?,
+            bound,
+        })
+    }
 
-    type Out = Flow;
+    // Steps the copies of station i + 1 to the bound.
+    fn stepped<L: Ledger>(
+        &self,
+        alloc: Global,
+        _i: u32,
+        proc: TimedProc,
+        steps: &mut Steps<L>,
+    ) -> Result<Flow, NoMemory>
+        requires numbered { IsNumbered self.now.net _i proc }
+        ensures flow { IfOk result (λ flow. IsFlow self.now.net (ends_in self.now.net.horizon self.now.ended)
+            self.now.bound _i proc flow) }
+        ensures steps { IfOk result (λ flow. steps.new ≡ steps.old + flow.handled) }
+    {
+        let proc = proc.into_proc();
+        let flow = proc.step(alloc, &self.model, &self.ends, self.bound, steps)?;
+        Ok(flow)
+    }
+}
+
+impl Work for Window {
+    type In = Job;
+
+    type Out = Done;
 
     ghost use Rattle.phys_proc.specs.Gone.{ends_in};
-    ghost use Rattle.world_core.specs.Windows.{IsFlow, IsNumbered};
+    ghost use Rattle.world_core.specs.Jobs.{IsDone, IsJob, steps_of};
 
-    ghost ready = { λ w i proc. IsNumbered w.net i proc };
+    ghost ready = { λ w i job. IsJob w.net i job };
 
-    ghost answers = { λ w i proc flow. IsFlow w.net (ends_in w.net.horizon w.ended) w.bound i proc flow };
+    ghost answers = { λ w i job done. IsDone w.net (ends_in w.net.horizon w.ended) w.bound i job done };
 
-    ghost cost = { λ flow. flow.handled };
+    ghost cost = { λ done. steps_of done };
 
     fn run<L: Ledger>(
         &self,
         alloc: Global,
-        _i: u32,
-        item: TimedProc,
+        i: u32,
+        item: Job,
         steps: &mut Steps<L>,
-    ) -> Result<Flow, NoMemory> {
-        let item = item.into_proc();
-        let flow = item.step(alloc, self.model, self.ends, self.bound, steps)?;
-        Ok(flow)
+    ) -> Result<Done, NoMemory> {
+        match item {
+            Job::Step(proc) => {
+                let flow = self.stepped(alloc, i, proc, steps)?;
+                Ok(Done::Stepped(flow))
+            }
+            Job::Give(post) => {
+                let proc = post.hand_over()?;
+                Ok(Done::Given(proc))
+            }
+        }
     }
 
-    fn spent(&self, out: &Flow) -> u64 {
-        out.handled
+    fn spent(&self, out: &Done) -> u64 {
+        match out {
+            Done::Stepped(flow) => flow.handled,
+            Done::Given(_) => 0,
+        }
     }
 
     fn is_small(&self) -> bool {
@@ -149,8 +197,8 @@ fn step_place<L: Ledger>(
     outbox.one.clear();
     let gain = procs[i].advance(
         alloc,
-        work.model,
-        work.ends,
+        &work.model,
+        &work.ends,
         work.bound,
         &mut outbox.one,
         steps,
@@ -265,36 +313,72 @@ fn gathered(alloc: Global, flows: Vec<Flow>, outbox: Outbox) -> Result<Stepped, 
     })
 }
 
-/// Steps all stations to the bound. Out of memory, they are gone.
+// What the tasks of all stations answer: by the team, where there is one, else by the crew. The team comes back.
+fn answers_of<C: Crew, G: Gate, L: Ledger, R: Threads + Wait + Sync>(
+    rt: &R,
+    alloc: Global,
+    crew: &C,
+    team: Option<Team<Window>>,
+    gate: &G,
+    work: Window,
+    procs: Vec<TimedProc>,
+    steps: &mut Steps<L>,
+) -> Result<(Vec<Flow>, Option<Team<Window>>), NoMemory>
+    requires few { length procs.items ≤ 64 }
+    requires numbered { AllNumbered work.net procs.items }
+    ensures count { IfOk result (λ r. length r.0.items ≡ length procs.items) }
+    ensures flows { IfOk result (λ r. AllFlow work.net (ends_in work.net.horizon work.ended) work.bound procs.items
+        r.0.items) }
+    ensures cost { IfOk result (λ r. steps.new ≡ steps.old + all_handled r.0.items) }
+{
+    let jobs = steps_for(alloc, procs)?;
+    match team {
+        Some(team) => {
+            let work = Arc::new(alloc, work)?;
+            let (team, dones) = team.all(rt, alloc, work, jobs, gate, steps)?;
+            let flows = flows_of(alloc, dones)?;
+            Ok((flows, Some(team)))
+        }
+        None => {
+            let dones = crew.all(rt, alloc, &work, jobs, gate, steps)?;
+            let flows = flows_of(alloc, dones)?;
+            Ok((flows, None))
+        }
+    }
+}
+
+/// Steps all stations to the bound, and gives the team back. Out of memory, all are gone.
 ///
 /// `small` says that so little is due that threads would cost more than they save: then the caller's thread steps the
-/// stations where they stand. Else each is handed to the crew, and comes back in its answer. `outbox` is a buffer.
+/// stations where they stand. Else each is handed to the team, or where there is none to the crew, and comes back in
+/// its answer. `outbox` is a buffer.
 pub(crate) fn step_all<C: Crew, G: Gate, L: Ledger, R: Threads + Wait + Sync>(
     rt: &R,
     alloc: Global,
     crew: &C,
+    team: Option<Team<Window>>,
     gate: &G,
-    model: &Model,
-    ends: &CloneEnds,
+    model: &Arc<Model>,
+    ends: &SharedEnds,
     procs: Vec<TimedProc>,
     outbox: Outbox,
     bound: u64,
     small: bool,
     steps: &mut Steps<L>,
-) -> Result<Stepped, NoMemory>
-    requires step { MayStep model.now bound }
+) -> Result<(Stepped, Option<Team<Window>>), NoMemory>
+    requires step { MayStep model.now.value bound }
     requires few { length procs.items ≤ 64 }
-    requires numbered { AllNumbered model.now procs.items }
-    ensures stepped { IfOk result (λ s. AllStepped model.now (ends_in model.now.horizon ends.now) bound procs.items
-        s.procs.items s.outbox.all.items s.over steps.old steps.new) }
-    ensures few { IfOk result (λ s. IfSome s.over (λ p. p.0 < 64)) }
+    requires numbered { AllNumbered model.now.value procs.items }
+    ensures stepped { IfOk result (λ r. AllStepped model.now.value (ends_in model.now.value.horizon ends.now) bound
+        procs.items r.0.procs.items r.0.outbox.all.items r.0.over steps.old steps.new) }
+    ensures few { IfOk result (λ r. IfSome r.0.over (λ p. p.0 < 64)) }
 {
-    let work = Window { model, ends, bound };
+    let work = Window::new(model, ends, bound)?;
     if small {
         let stepped = step_in_place(rt, alloc, gate, &work, procs, outbox, steps)?;
-        return Ok(stepped);
+        return Ok((stepped, team));
     }
-    let flows = crew.all(rt, alloc, &work, procs, gate, steps)?;
-    let all = gathered(alloc, flows, outbox)?;
-    Ok(all)
+    let (flows, team) = answers_of(rt, alloc, crew, team, gate, work, procs, steps)?;
+    let stepped = gathered(alloc, flows, outbox)?;
+    Ok((stepped, team))
 }

@@ -1,4 +1,4 @@
-//! The world of all clones, and its windows.
+//! The world of all clones, its windows, and the team that steps the larger ones.
 ghost use Rattle.std.specs.Prelude.{◌≡◌, ℕ, ◌+◌, ◌<◌, ◌≤◌, ◌∷◌, [], length, IfOk, IfErr};
 ghost use Rattle.sim_base.specs.Clones.{base};
 ghost use Rattle.net_model.specs.Rules.{IsNet};
@@ -6,18 +6,21 @@ ghost use Rattle.stations.specs.Runs.{next_front};
 ghost use Rattle.world_core.specs.Worlds.{AreInNet, total_handled};
 ghost use Rattle.world_core.specs.Opening.{AreFirst};
 ghost use Rattle.world_core.specs.Overs.{IsFault, NoneBeyond};
+ghost use Rattle.world_core.specs.declared.world.WorldFault.TheVariants.{EventLimit};
 
-use crate::delivery::deliver_all;
+use crate::delivery::give_all;
+use crate::shared_ends::SharedEnds;
 use crate::shared_lists::SharedLists;
 use crate::timed_proc::TimedProc;
-use crate::windows::{Outbox, Stepped, step_all};
+use crate::windows::{Outbox, Stepped, Window, step_all};
 use crew_pool::{Crew, Gate};
 use net_model::Model;
-use phys_proc::{CloneEnds, Proc};
+use phys_proc::Proc;
 use sim_base::{Lists, NoMemory, Steps};
+use standing_crew::Team;
 use std::alloc::Global;
 use std::sync::ledger::Ledger;
-use std::sync::{Arc, Wait};
+use std::sync::{Arc, Mutex, Wait};
 use std::thread::Threads;
 
 /// All clones at a front: the copies of every station stand for them.
@@ -25,17 +28,25 @@ use std::thread::Threads;
 pub struct World {
     pub(crate) model: Arc<Model>,
     pub(crate) lists: SharedLists,
-    pub(crate) ends: CloneEnds,
+    pub(crate) ends: SharedEnds,
     pub(crate) front: u64,
     pub(crate) procs: Vec<TimedProc>,
     // how many messages the last window handled: a hint of how many the next one will
     pub(crate) last: u64,
     // for what a window sends
     pub(crate) outbox: Outbox,
+    // the workers that stay between windows, if there are any
+    // nobody takes the lock: with it, threads that write texts may read a world that has a team
+    pub(crate) team: Mutex<Option<Team<Window>>>,
 }
 
-/// Windows that handle fewer messages than this run in the caller's thread: starting threads costs more.
+/// Windows that handle fewer messages than this run in the caller's thread where there is no team: starting threads
+/// costs more.
 pub const SMALL_WINDOW: u64 = 8_000;
+
+/// Windows that handle fewer messages than this run in the caller's thread also where there is a team: waking its
+/// workers costs more.
+pub const TEAM_WINDOW: u64 = 1_000;
 
 impl std::marker::Model for World {
     ghost use Rattle.world_core.specs.Worlds.{WorldView, WorldStands};
@@ -70,6 +81,28 @@ fn open_all(alloc: Global, model: &Model) -> Result<Vec<TimedProc>, NoMemory>
     Ok(procs)
 }
 
+// The fault of a window in which the station at this place is the first with a log over the limit, and there the
+// clone is the first.
+fn beyond_limit(model: &Model, place: u32, who: u32) -> WorldFault
+    requires few { place < 64 }
+    ensures value { result ≡ EventLimit (place + 1) who model.now.limit }
+{
+    WorldFault::EventLimit {
+        station: place + 1,
+        who,
+        kept: model.limit(),
+    }
+}
+
+// Whether so little is due, as the last window tells, that threads would cost more than they save.
+fn is_small(last: u64, has_team: bool) -> bool {
+    if has_team {
+        last < TEAM_WINDOW
+    } else {
+        last < SMALL_WINDOW
+    }
+}
+
 impl World {
     /// The base clone alone, before anything is handled.
     pub fn new(alloc: Global, model: Arc<Model>) -> Result<World, NoMemory>
@@ -77,15 +110,32 @@ impl World {
     {
         let procs = open_all(alloc, &model)?;
         let lists = SharedLists::new(alloc)?;
+        let ends = SharedEnds::none(alloc)?;
         Ok(World {
             model,
             lists,
-            ends: CloneEnds::none(alloc),
+            ends,
             front: 0,
             procs,
             last: 0,
             outbox: Outbox::new(alloc),
+            team: Mutex::new(None),
         })
+    }
+
+    /// Its larger windows are stepped by this team, in place of the crew.
+    pub fn with_team(self, team: Team<Window>) -> World
+        ensures same { result ≡ self }
+    {
+        let mut world = self;
+        world.team = Mutex::new(Some(team));
+        world
+    }
+
+    /// Whether the last window handled at least `TEAM_WINDOW` messages, so that a team would step the next one. It is
+    /// a hint.
+    pub fn wants_team(&self) -> bool {
+        self.last >= TEAM_WINDOW
     }
 
     /// How far all clones have come.
@@ -114,8 +164,8 @@ impl World {
     }
 
     /// Handles what comes before the bound, at each station by itself, and gives each station what the others sent
-    /// to it. Each station is a task, whether or not something is due there: of the crew, or where little is due of
-    /// the caller's thread, which steps them where they stand.
+    /// to it. Each station is a task, whether or not something is due there: of the team, where there is one, else of
+    /// the crew. Where little is due, the caller's thread steps them where they stand.
     ///
     /// Out of memory, or where a log would get longer than the limit, the world is given up.
     pub fn window<C: Crew, G: Gate, L: Ledger, R: Threads + Wait + Sync>(
@@ -145,28 +195,27 @@ impl World {
             procs,
             last,
             outbox,
+            team,
         } = self;
-        let small = last < SMALL_WINDOW;
-        let Ok(stepped) = step_all(
-            rt, alloc, crew, gate, &model, &ends, procs, outbox, bound, small, steps,
+        let team = team.into_inner();
+        let small = is_small(last, team.is_some());
+        let Ok((stepped, team)) = step_all(
+            rt, alloc, crew, team, gate, &model, &ends, procs, outbox, bound, small, steps,
         ) else {
             return Err(WorldFault::NoMemory);
         };
         let Stepped {
-            mut procs,
+            procs,
             outbox,
             over,
             handled,
         } = stepped;
         if let Some((place, who)) = over {
-            return Err(WorldFault::EventLimit {
-                station: place + 1,
-                who,
-                kept: model.limit(),
-            });
+            return Err(beyond_limit(&model, place, who));
         }
-        match deliver_all(&mut procs, outbox.all.as_slice()) {
-            Ok(()) => Ok(World {
+        let sent = outbox.all.as_slice();
+        match give_all(rt, alloc, team, &model, &ends, bound, procs, sent, small) {
+            Ok((procs, team)) => Ok(World {
                 model,
                 lists,
                 ends,
@@ -174,6 +223,7 @@ impl World {
                 procs,
                 last: handled,
                 outbox,
+                team: Mutex::new(team),
             }),
             Err(NoMemory) => Err(WorldFault::NoMemory),
         }

@@ -1,5 +1,5 @@
 //! Many branches and many lines, and many workers.
-use super::{GOOD, PLAIN, REFUSED, RUN, Row, ended, texts};
+use super::{GOOD, PLAIN, REFUSED, RUN, Row, ended, models, texts};
 use crew_pool::{Gate, NoGate};
 use sample_models::{CLINIC, ONE_DESK};
 use sim_base::NoMemory;
@@ -159,6 +159,13 @@ fn any_number_of_workers(rt: HostRuntime) -> Result<(), Fail> {
             more
         );
     }
+    Ok(())
+}
+
+/// Windows that a team steps, and a text that several workers write.
+#[test]
+fn busy_by_four_workers(rt: HostRuntime) -> Result<(), Fail> {
+    assert!(rt; same_for_all(&rt, rt.alloc(), "4", models::BUSY, ""));
     Ok(())
 }
 

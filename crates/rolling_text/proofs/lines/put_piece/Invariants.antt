@@ -1,4 +1,4 @@
-use Rattle.std.proofs.Common.{◌≡◌, ◌+◌, ◌≤◌, ◌++◌, length, take}
+use Rattle.std.proofs.Common.{◌≡◌, ◌+◌, ◌≤◌, ◌++◌, length, take, drop}
 use Rattle.std.specs.List.{flat_map}
 use Rattle.log_chain.specs.Times.{from_time}
 use Rattle.trace_report.specs.TraceText.{entry_line}
@@ -11,7 +11,8 @@ invariant-loop-left l = record {
       ≡ length (flat_map (entry_line l.model) (from_time l.late l.fn.cursor.left));
   part : l.after ≤ l.at;
   within : l.at ≤ length l.piece;
-  left : l.left ≡ length l.cursor.left;
+  left : l.left ≤ length l.cursor.left;
+  behind : drop l.left l.cursor.left ≡ drop l.fn.left l.fn.cursor.left;
   fewer : l.left ≤ l.fn.left;
   first : l.left ≡ l.fn.left → l.at ≡ 0;
   size : length l.piece ≡ length l.fn.piece;

@@ -1,15 +1,24 @@
-use Rattle.std.proofs.Common.{◌+◌, arith}
+use Rattle.std.proofs.Common.{◌≡◌, ◌+◌, ap, arith, length}
 use Rattle.sim_base.specs.Clones.{clone_at}
-use Rattle.rolling_text.proofs.LogLaws.{log_rises_by_time, span_measured, lengths_more}
+use Rattle.net_model.specs.Net.{Net}
+use Rattle.rolling_text.proofs.LogLaws.{all_measured, log_rises_by_time, span_measured, lengths_more, lengths_none}
 use Rattle.rolling_text.proofs.logs.len_between.Goals as goal
 
 pub log_len-sum-requires-clause-rises : goal.log_len-sum-requires-clause-rises
 log_len-sum-requires-clause-rises c = log_rises_by_time c.args.world.now c.requires.over c.args.c c.requires.there
     (c.loop-s.s + 1) c.log.result.now c.log.ensures.value
 
+pub loop-s-init : goal.loop-s-init
+loop-s-init c =
+    let clone = clone_at c.args.world.now.clones c.args.c in
+    let a = lengths_none c.args.world.now.net clone c.args.from in
+    let b = lengths_none c.args.world.now.net clone c.args.until in
+    record { sum = omega (arith, a, b); bound = omega arith; within = omega arith }
+
 pub loop-s-preserved : goal.loop-s-preserved
 loop-s-preserved c =
     let world = c.args.world.now in
+    let sites = ap (λ (n : Net). length n.sites) c.model-model.ensures.value in
     let clone = clone_at world.clones c.args.c in
     let h = c.loop-s.invariant in
     let here = span_measured world c.requires.over c.args.c c.requires.there c.model-model.result.now
@@ -19,7 +28,17 @@ loop-s-preserved c =
     let second = lengths_more world.net clone c.args.until c.loop-s.s in
     record {
       sum = omega (arith, h.sum, here, first, second);
-      bound = omega (arith, h.bound, h.after, c.log_len-sum.ensures.short);
-      after = omega (arith, h.after);
-      within = omega (arith, c.loop-s-test.true, c.loop-s.auto.s-end);
+      bound = omega (arith, h.bound, c.log_len-sum.ensures.short);
+      within = omega (arith, c.loop-s-test.true, c.loop-s.auto.s-end, c.len-s-end.ensures.value, sites);
     }
+
+pub returns-clause-value : goal.returns-clause-value
+returns-clause-value c =
+    let world = c.args.world.now in
+    let sites = ap (λ (n : Net). length n.sites) c.model-model.ensures.value in
+    let many : c.loop-s.s ≡ length world.net.sites =
+    omega (arith, c.loop-s-test.false, c.loop-s.auto.s-end, c.len-s-end.ensures.value, sites) in
+    let a = all_measured world c.requires.over c.args.c c.requires.there c.loop-s.s c.args.from many in
+    let b = all_measured world c.requires.over c.args.c c.requires.there c.loop-s.s c.args.until many in
+    let h = c.loop-s.invariant in
+    omega (arith, a, b, h.sum)

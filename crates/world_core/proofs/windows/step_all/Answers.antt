@@ -1,27 +1,37 @@
-use Rattle.std.proofs.Common.{subst, get_or}
+use Rattle.std.proofs.Common.{subst, sym}
 use Rattle.phys_proc.specs.Gone.{ends_in}
-use Rattle.world_core.specs.Windows.{IsFlow}
-use Rattle.world_core.proofs.Places.{at_got, there_at}
+use Rattle.world_core.specs.Windows.{AllNumbered, WindowView}
+use Rattle.world_core.specs.Stepping.{AllStepped}
 use Rattle.world_core.proofs.windows.step_all.Goals as goal
 
-pub all-requires-clause-ready : goal.all-requires-clause-ready
-all-requires-clause-ready g c κs within = λ i d l. c.requires.numbered i (get_or c.args.procs.items i d)
-    (there_at c.args.procs.items i d l)
+pub step_in_place-requires-clause-numbered : goal.step_in_place-requires-clause-numbered
+step_in_place-requires-clause-numbered g c κs within = subst (λ (w : WindowView). AllNumbered w.net c.args.procs.items)
+    (sym c.in_ok-work.ensures.value) c.requires.numbered
+
+pub returns-then-small-clause-stepped : goal.returns-then-small-clause-stepped
+returns-then-small-clause-stepped g c =
+    let s = c.in_ok-stepped.stepped in
+    subst (λ (w : WindowView). AllStepped w.net (ends_in w.net.horizon w.ended) w.bound c.args.procs.items
+    s.procs.items s.outbox.all.items s.over c.args.steps.now c.step_in_place.new.steps)
+    c.in_ok-work.ensures.value c.in_ok-stepped.ensures.stepped
+
+pub answers_of-requires-clause-numbered : goal.answers_of-requires-clause-numbered
+answers_of-requires-clause-numbered g c κs within = subst (λ (w : WindowView). AllNumbered w.net c.args.procs.items)
+    (sym c.in_ok-work.ensures.value) c.requires.numbered
 
 pub returns-clause-stepped : goal.returns-clause-stepped
-returns-clause-stepped g c = record {
-  flows = c.in_ok-flows.flows.items;
-  count = c.in_ok-flows.ensures.count;
-  stepped = λ i p flow old got.
-      let net = c.args.model.now in
-      let ends = ends_in net.horizon c.args.ends.now in
-      let h = at_got c.in_ok-flows.flows.items i flow flow got in
-      let k = at_got c.args.procs.items i p p old in
-      subst (λ f. IsFlow net ends c.args.bound i p f) h.1
-      (subst (λ q. IsFlow net ends c.args.bound i q (get_or c.in_ok-flows.flows.items i flow)) k.1
-      (c.in_ok-flows.ensures.answers i flow h.0 p));
-  done = c.in_ok-all.ensures.procs;
-  sent_is = c.in_ok-all.ensures.sent;
-  first = c.in_ok-all.ensures.over;
-  steps_are = c.in_ok-flows.ensures.cost;
-}
+returns-clause-stepped g c =
+    let s = c.in_ok-stepped-2.stepped in
+    let flows = c.in_ok-flows.ensures in
+    let done = c.in_ok-stepped-2.ensures in
+    subst (λ (w : WindowView). AllStepped w.net (ends_in w.net.horizon w.ended) w.bound c.args.procs.items
+    s.procs.items s.outbox.all.items s.over c.args.steps.now c.answers_of.new.steps) c.in_ok-work.ensures.value
+    (record {
+      flows = c.in_ok-flows.flows.items;
+      count = flows.count;
+      stepped = flows.flows;
+      done = done.procs;
+      sent_is = done.sent;
+      first = done.over;
+      steps_are = flows.cost;
+    })

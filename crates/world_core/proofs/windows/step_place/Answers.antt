@@ -1,4 +1,4 @@
-use Rattle.std.proofs.Common.{◌≡◌, ◌++◌, sym, ap, subst, ◌∙◌, length-set, slice_set}
+use Rattle.std.proofs.Common.{◌≡◌, ◌++◌, sym, ap, ap₂, subst, ◌∙◌, length-set, slice_set}
 use Rattle.phys_proc.specs.Gone.{ends_in}
 use Rattle.phys_proc.specs.declared.proc.Flow.{Flow}
 use Rattle.world_core.specs.Windows.{WindowView, IsNumbered}
@@ -11,7 +11,9 @@ use Rattle.world_core.proofs.windows.step_place.Goals as goal
 
 pub returns-clause-stepped : goal.returns-clause-stepped
 returns-clause-stepped g c =
-    let v : WindowView = record { net = c.work.inside.model.now; ended = c.work.inside.ends.now; bound = c.work.inside.bound } in
+    let v : WindowView = record { net = c.deref.result.now; ended = c.deref-2.result.now; bound = c.work.inside.bound } in
+    let here : v ≡ c.args.work.now = ap₂ (λ n e. record { net = n; ended = e; bound = c.work.inside.bound })
+    c.deref.ensures c.deref-2.ensures ∙ c.work.view_is in
     let ends = ends_in v.net.horizon v.ended in
     let items = c.args.procs.now.items in
     let i = c.args.i in
@@ -19,12 +21,12 @@ returns-clause-stepped g c =
     let y = c.advance.new.self in
     let e = c.in_ok-gain.ensures in
     let got = got_at items i x c.requires.place c.index_mut.ensures.value in
-    let at = subst (λ (w : WindowView). IsNumbered w.net i x) (sym c.work.view_is) (c.requires.numbered x got) in
+    let at = subst (λ (w : WindowView). IsNumbered w.net i x) (sym here) (c.requires.numbered x got) in
     let flow : Flow = record { done = y; sent = c.advance.new.sent; over = c.in_ok-gain.gain.over; handled = c.in_ok-gain.gain.handled } in
     let sent : c.put_behind.new.all.items ≡ c.args.outbox.now.all.items ++ c.advance.new.sent.items =
     c.in_ok-put_behind.ensures.both ∙ ap (λ l. c.args.outbox.now.all.items ++ l) c.as_slice.ensures.value in
     subst (λ (w : WindowView). SteppedAt w.net (ends_in w.net.horizon w.ended) w.bound i items (slice_set items i y)
-    c.args.outbox.now.all.items c.put_behind.new.all.items flow.over flow.handled) c.work.view_is
+    c.args.outbox.now.all.items c.put_behind.new.all.items flow.over flow.handled) here
     (stepped_at v.net ends v.bound i items (slice_set items i y) c.args.outbox.now.all.items
     c.put_behind.new.all.items x flow got
     (is_flow v.net ends v.bound i x flow at.number e.windows e.over e.gained e.proc e.station e.living e.handled)

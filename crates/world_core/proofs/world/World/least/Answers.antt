@@ -1,4 +1,4 @@
-use Rattle.std.proofs.Common.{◌≡◌, ◌<◌, subst, arith, length}
+use Rattle.std.proofs.Common.{◌≡◌, ◌<◌, subst, arith, length, ℕ, List}
 use Rattle.net_model.specs.Net.{Net}
 use Rattle.stations.specs.Runs.{simulation}
 use Rattle.run_laws.specs.Fronts.{least}
@@ -21,8 +21,10 @@ loop-i-preserved c =
     least_next net c.self.inside.lists.clones ended c.self.inside.front procs c.self.invariant c.loop-i.i p
     c.with_least-least.result (got_at procs c.loop-i.i p l c.index.ensures)
     (least_with (ends_in net.horizon ended) p.copies c.loop-i.least c.with_least-least.result
-    (subst (λ (n : Net). IsWithLeast (ends_in n.horizon ended) p.copies c.loop-i.least c.with_least-least.result)
-    c.deref.ensures c.with_least-least.ensures.least) (TakenTo (ends_in net.horizon ended) procs c.loop-i.i)
+    (subst (λ (e : List (ℕ × ℕ)). IsWithLeast (ends_in net.horizon e) p.copies c.loop-i.least
+    c.with_least-least.result) c.ends.ensures.value
+    (subst (λ (n : Net). IsWithLeast (ends_in n.horizon c.ends.result.now) p.copies c.loop-i.least
+    c.with_least-least.result) c.deref.ensures c.with_least-least.ensures.least)) (TakenTo (ends_in net.horizon ended) procs c.loop-i.i)
     (by_words (TakenTo (ends_in net.horizon ended) procs c.loop-i.i) c.loop-i.least c.loop-i.invariant))
 
 pub returns : goal.returns

@@ -1,4 +1,4 @@
-use Rattle.std.proofs.Common.{◌≡◌, ◌<◌, sym, ◌∙◌, subst, arith, length}
+use Rattle.std.proofs.Common.{◌≡◌, ◌<◌, sym, ◌∙◌, subst, arith, length, ℕ, List}
 use Rattle.net_model.specs.Net.{Net}
 use Rattle.sim_base.specs.Clones.{clone_at}
 use Rattle.stations.specs.Runs.{simulation}
@@ -24,8 +24,10 @@ loop-i-preserved c =
       least = c.earlier-least.ensures.value ∙ least_of_next net c.self.inside.lists.clones ended c.self.inside.front
           procs c.self.invariant c.loop-i.i c.args.c p c.loop-i.least c.least_of.result
           (got_at procs c.loop-i.i p l c.index.ensures) there c.loop-i.invariant.least
-          (subst (λ (n : Net). IsLeastOf (ends_in n.horizon ended) p.copies c.args.c c.least_of.result)
-          c.deref.ensures c.least_of.ensures.least);
+          (subst (λ (e : List (ℕ × ℕ)). IsLeastOf (ends_in net.horizon e) p.copies c.args.c c.least_of.result)
+          c.ends.ensures.value
+          (subst (λ (n : Net). IsLeastOf (ends_in n.horizon c.ends.result.now) p.copies c.args.c c.least_of.result)
+          c.deref.ensures c.least_of.ensures.least));
     }
 
 pub returns : goal.returns

@@ -10,7 +10,7 @@ invariant_of-result c =
     let net = c.args.model.value in
     let procs = c.in_ok-procs.procs.items in
     let h = c.in_ok-procs.ensures in
-    subst (λ cs. WorldStands net cs c.none.result 0 procs) (sym c.in_ok-lists.ensures.value)
-    (subst (λ e. WorldStands net (base ∷ []) e 0 procs) (sym c.none.ensures.none)
+    subst (λ cs. WorldStands net cs c.in_ok-ends.ends 0 procs) (sym c.in_ok-lists.ensures.value)
+    (subst (λ e. WorldStands net (base ∷ []) e 0 procs) (sym c.in_ok-ends.ensures.none)
     (subst (λ (n : Net). WorldStands n (base ∷ []) [] 0 procs) c.deref.ensures
     (world_begins c.deref.result.now procs h.valid h.count h.first)))

@@ -1,0 +1,128 @@
+//! The engine beside the workers of a team, which step the stations of its larger windows.
+ghost use Rattle.std.specs.Prelude.{◌≡◌, IfOk, IfErr};
+ghost use Rattle.live_study.specs.Engines.{InStep, Steers, StopsAt};
+ghost use Rattle.live_study.specs.Showing.{AreShownOf};
+
+use crate::engine::drive_alone;
+use crew_pool::{Crew, Gate, Kind};
+use decision_desk::{Desk, Helm};
+use shelf::{Naming, Stocker};
+use standing_crew::{Bell, Member, Team, serve_all};
+use std::alloc::Global;
+use std::sync::Wait;
+use std::thread;
+use std::thread::Threads;
+use study_run::StudyFault;
+use world_core::{Window, World};
+
+// The engine runs to the horizon, and then tells the workers that no more windows come.
+fn drive_and_end<C: Crew, G: Gate, J: Naming, W: Wait + Drop, R: Threads + Wait + Sync>(
+    rt: &R,
+    alloc: Global,
+    crew: &C,
+    gate: &G,
+    desk: &Desk,
+    helm: Helm,
+    world: World,
+    stocker: Stocker<J, W>,
+    watched: &[bool],
+    bell: &Bell,
+) -> (Helm, Stocker<J, W>, Result<World, StudyFault>)
+    requires desk { helm.desk ≡ desk.now.table.shared.table_id }
+    requires stands { InStep helm world }
+    requires shown { AreShownOf helm world stocker.published }
+    ensures steers { Steers helm result.0 }
+    ensures stands { IfOk result.2 (λ w. InStep result.0 w × (w.front ≡ w.net.horizon)) }
+    ensures shown { IfOk result.2 (λ w. AreShownOf result.0 w result.1.published) }
+    ensures stops { IfErr result.2 (λ e. StopsAt result.0.net result.0.helm e) }
+{
+    let done = drive_alone(rt, alloc, crew, gate, desk, helm, world, stocker, watched);
+    bell.end();
+    done
+}
+
+// The engine beside the workers of the world's team.
+fn drive_beside<C: Crew, G: Gate, J: Naming, W: Wait + Drop, R: Threads + Wait + Sync>(
+    rt: &R,
+    alloc: Global,
+    crew: &C,
+    gate: &G,
+    desk: &Desk,
+    helm: Helm,
+    world: World,
+    stocker: Stocker<J, W>,
+    watched: &[bool],
+    members: Vec<Member<Window>>,
+    bell: &Bell,
+) -> (Helm, Stocker<J, W>, Result<World, StudyFault>)
+    requires desk { helm.desk ≡ desk.now.table.shared.table_id }
+    requires stands { InStep helm world }
+    requires shown { AreShownOf helm world stocker.published }
+    ensures steers { Steers helm result.0 }
+    ensures stands { IfOk result.2 (λ w. InStep result.0 w × (w.front ≡ w.net.horizon)) }
+    ensures shown { IfOk result.2 (λ w. AreShownOf result.0 w result.1.published) }
+    ensures stops { IfErr result.2 (λ e. StopsAt result.0.net result.0.helm e) }
+{
+    let (_, done) = thread::join(
+        rt,
+        move || serve_all(rt, alloc, gate, bell, members),
+        move || -> (Helm, Stocker<J, W>, Result<World, StudyFault>)
+            requires { (helm.desk ≡ desk.now.table.shared.table_id) × InStep helm world
+                × AreShownOf helm world stocker.published }
+            ensures { Steers helm result.0
+                × IfOk result.2 (λ w. InStep result.0 w × (w.front ≡ w.net.horizon))
+                × IfOk result.2 (λ w. AreShownOf result.0 w result.1.published)
+                × IfErr result.2 (λ e. StopsAt result.0.net result.0.helm e) }
+        {
+            drive_and_end(
+                rt, alloc, crew, gate, desk, helm, world, stocker, watched, bell,
+            )
+        },
+    );
+    done
+}
+
+/// The engine runs to the horizon, publishes on its way, and hands helm and stocker back in any case. Where the crew has
+/// several workers it has a team of as many; where there is no memory for one, it has none.
+pub(crate) fn drive_with_team<
+    C: Crew,
+    G: Gate,
+    J: Naming,
+    W: Wait + Drop,
+    R: Threads + Wait + Sync,
+>(
+    rt: &R,
+    alloc: Global,
+    crew: &C,
+    gate: &G,
+    desk: &Desk,
+    helm: Helm,
+    world: World,
+    stocker: Stocker<J, W>,
+    watched: &[bool],
+) -> (Helm, Stocker<J, W>, Result<World, StudyFault>)
+    requires desk { helm.desk ≡ desk.now.table.shared.table_id }
+    requires stands { InStep helm world }
+    requires shown { AreShownOf helm world stocker.published }
+    ensures steers { Steers helm result.0 }
+    ensures stands { IfOk result.2 (λ w. InStep result.0 w × (w.front ≡ w.net.horizon)) }
+    ensures shown { IfOk result.2 (λ w. AreShownOf result.0 w result.1.published) }
+    ensures stops { IfErr result.2 (λ e. StopsAt result.0.net result.0.helm e) }
+{
+    let workers = match crew.kind() {
+        Kind::Serial => {
+            return drive_alone(rt, alloc, crew, gate, desk, helm, world, stocker, watched);
+        }
+        Kind::Forked(workers) => workers,
+        Kind::Stealing(workers) => workers,
+    };
+    if let Ok((team, members)) = Team::begin(alloc, workers) {
+        if let Ok(bell) = team.bell() {
+            let world = world.with_team(team);
+            return drive_beside(
+                rt, alloc, crew, gate, desk, helm, world, stocker, watched, members, &bell,
+            );
+        }
+    }
+    drive_alone(rt, alloc, crew, gate, desk, helm, world, stocker, watched)
+}

@@ -1,0 +1,167 @@
+-- The rule of a mailbox: what its word, its slot and its seats are in each of its states.
+use Rattle.std.specs.Prelude.{◌≡◌, ℕ, List, [], ◌∷◌, nat_eq, MatchBool, Some, None}
+use Rattle.std.specs.declared.option.Option.{Option as Option'}
+use mathlib.Core.Option.{Option, some, none}
+use Rattle.atomic_table.specs.Table.{State, Me, rest}
+use Rattle.atomic_table.specs.Seated.{TableId}
+use Rattle.mailbox.specs.declared.mail.TheConstants.{EMPTY, WAITS, TAKEN, ANSWERED}
+use Rattle.mailbox.specs.declared.mail.Letter.{Letter}
+use Rattle.mailbox.specs.declared.mail.Letter.TheVariants.{Task, Answer}
+use Rattle.mailbox.specs.declared.mail.MailView.{MailView}
+use Rattle.mailbox.specs.declared.mail.MailView.TheVariants.{Alone, Opening, Holding, Sent, Idle, Working}
+
+-- what lies in the slot
+abbrev pub Slot : Type 0 → Type 0 → Type 0
+Slot T A = Option' (Letter T A)
+
+-- what a seat has: its view, and the slots that are out with it
+abbrev pub Hand : Type 0 → Type 0 → Type 0
+Hand T A = Me (Slot T A) (MailView T)
+
+-- the states of a mailbox; in the first there is no worker yet, in the second the caller has not taken the slot
+pub data Mail (T A : Type 0) : Type 0 where
+  unshared : Mail T A
+  unopened : Mail T A
+  empty : Mail T A
+  waits : T → Mail T A
+  taken : T → Mail T A
+  answered : T → A → Mail T A
+
+module _ {T A : Type 0} where
+  -- the word
+  abbrev pub stage_of : Mail T A → ℕ
+  stage_of unshared = EMPTY
+  stage_of unopened = EMPTY
+  stage_of empty = EMPTY
+  stage_of (waits t) = WAITS
+  stage_of (taken t) = TAKEN
+  stage_of (answered t a) = ANSWERED
+
+  -- what lies in the slot, where no seat has it
+  abbrev pub home_of : Mail T A → Option (Slot T A)
+  home_of unshared = some None
+  home_of unopened = some None
+  home_of empty = none
+  home_of (waits t) = some (Some (Task t))
+  home_of (taken t) = none
+  home_of (answered t a) = some (Some (Answer a))
+
+  -- what the caller knows
+  abbrev pub caller_of : Mail T A → MailView T
+  caller_of unshared = Alone
+  caller_of unopened = Opening
+  caller_of empty = Holding
+  caller_of (waits t) = Sent t
+  caller_of (taken t) = Sent t
+  caller_of (answered t a) = Sent t
+
+  -- what the worker knows, once there is one
+  abbrev pub worker_of : Mail T A → List (MailView T)
+  worker_of unshared = []
+  worker_of unopened = Idle ∷ []
+  worker_of empty = Idle ∷ []
+  worker_of (waits t) = Idle ∷ []
+  worker_of (taken t) = Working t ∷ []
+  worker_of (answered t a) = Idle ∷ []
+
+  -- all of it
+  abbrev pub state_of : Mail T A → State (Slot T A) (MailView T)
+  state_of mail = record {
+    words = stage_of mail ∷ [];
+    homes = home_of mail ∷ [];
+    views = caller_of mail ∷ worker_of mail;
+  }
+
+  -- the answer that lies there is one to the task
+  abbrev pub IsRight : (T → A → Type 0) → Mail T A → Type 0
+  IsRight answers (answered t a) = answers t a
+  IsRight answers _ = Unit {0}
+
+-- the rule: the mailbox is in one of its states, and an answer in it is one to its task
+pub record Kept {T A : Type 0} (answers : T → A → Type 0) (s : State (Slot T A) (MailView T)) : Type 0 where
+  pub mail : Mail T A
+  pub is : s ≡ state_of mail
+  pub right : IsRight answers mail
+
+-- the seat is at this table, which has one word
+abbrev pub IsSeatOf : TableId → TableId → Type 0
+IsSeatOf table seat = (seat ≡ table) × (table.words ≡ 1)
+
+-- the task that is out, of what the caller or the worker knows
+abbrev pub task_of : {T : Type 0} → MailView T → Option' T
+task_of (Sent t) = Some t
+task_of (Working t) = Some t
+task_of _ = None
+
+module _ {T A : Type 0} where
+  -- ---- what the two seats have between two calls
+
+  -- the caller has nothing out, and holds the slot, which is empty
+  abbrev pub IsHolding : Hand T A → Type 0
+  IsHolding m = m ≡ (Holding, (0, None) ∷ [])
+
+  -- the caller has this task out
+  abbrev pub IsSent : T → Hand T A → Type 0
+  IsSent t m = m ≡ (Sent t, [])
+
+  -- the worker has nothing to do
+  abbrev pub IsIdle : Hand T A → Type 0
+  IsIdle m = m ≡ (Idle, [])
+
+  -- the worker has this task, and holds the slot, which is empty
+  abbrev pub IsWorking : T → Hand T A → Type 0
+  IsWorking t m = m ≡ (Working t, (0, None) ∷ [])
+
+  -- it is the caller's seat
+  abbrev pub IsCaller : Hand T A → Type 0
+  IsCaller (Holding, slots) = slots ≡ (0, None) ∷ []
+  IsCaller (Sent t, slots) = slots ≡ []
+  IsCaller _ = ⊥
+
+  -- it is the worker's seat
+  abbrev pub IsWorker : Hand T A → Type 0
+  IsWorker (Idle, slots) = slots ≡ []
+  IsWorker (Working t, slots) = slots ≡ (0, None) ∷ []
+  IsWorker _ = ⊥
+
+  -- ---- what the steps tell, of what the seat had, the word that was found, and what the seat has then
+
+  -- the caller has the slot
+  abbrev pub Opened : Hand T A → Hand T A → Type 0
+  Opened m m' = m' ≡ (Holding, (0, None) ∷ m.1)
+
+  -- what the caller knows once it has given this
+  abbrev pub sent_with : List (ℕ × Slot T A) → MailView T
+  sent_with ((k, Some (Task t)) ∷ slots) = Sent t
+  sent_with _ = Holding
+
+  -- the caller gave the letter that it had in the slot
+  abbrev pub Given : Hand T A → Hand T A → Type 0
+  Given m m' = m' ≡ (sent_with m.1, rest m.1)
+
+  -- the letter of the task that is out
+  abbrev pub letter_of : MailView T → Slot T A
+  letter_of (Sent t) = Some (Task t)
+  letter_of _ = None
+
+  -- where the letter waited still, the caller has it back
+  abbrev pub Undone : Hand T A → ℕ → Hand T A → Type 0
+  Undone m n m' = MatchBool (nat_eq n WAITS) (m' ≡ (Holding, (0, letter_of m.0) ∷ m.1)) (m' ≡ m)
+
+  -- it is an answer to the task that is out
+  abbrev pub Answers : (T → A → Type 0) → MailView T → A → Type 0
+  Answers answers (Sent t) a = answers t a
+  Answers answers _ a = Unit {0}
+
+  -- where there was an answer, the caller has it
+  abbrev pub Collected : (T → A → Type 0) → Hand T A → ℕ → Hand T A → Type 0
+  Collected answers m n m' = MatchBool (nat_eq n ANSWERED)
+      ((a : A) × Answers answers m.0 a × (m' ≡ (Holding, (0, Some (Answer a)) ∷ m.1))) (m' ≡ m)
+
+  -- where a letter waited, the worker has it
+  abbrev pub Taken : Hand T A → ℕ → Hand T A → Type 0
+  Taken m n m' = MatchBool (nat_eq n WAITS) ((t : T) × (m' ≡ (Working t, (0, Some (Task t)) ∷ m.1))) (m' ≡ m)
+
+  -- the worker gave what it had in the slot
+  abbrev pub Left : Hand T A → Hand T A → Type 0
+  Left m m' = m' ≡ (Idle, rest m.1)

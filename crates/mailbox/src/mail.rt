@@ -1,0 +1,129 @@
+//! What lies in a mailbox, what its seats know, and the rule of its table.
+ghost use Rattle.std.specs.Prelude.{◌≡◌};
+
+use crate::errand::Errand;
+use atomic_table::{Play, Seat, Shared, Split, Table, TableRule};
+use std::alloc::Global;
+use std::marker::PhantomData;
+
+/// The word of a mailbox in which nothing is out.
+pub const EMPTY: u64 = 0;
+/// The word where a task waits.
+pub const WAITS: u64 = 1;
+/// The word where the worker has taken the task.
+pub const TAKEN: u64 = 2;
+/// The word where the worker has answered.
+pub const ANSWERED: u64 = 3;
+
+/// What lies in the slot.
+#[derive(Drop)]
+pub enum Letter<T, A> {
+    Task(T),
+    Answer(A),
+}
+
+/// What a seat knows. No value of it is made.
+pub enum MailView<T> {
+    /// The only seat, before there is a worker.
+    Alone,
+    /// The caller, before it has the slot.
+    Opening,
+    /// The caller with the slot.
+    Holding,
+    /// The caller with a task out.
+    Sent(T),
+    /// The worker with no task.
+    Idle,
+    /// The worker with this task, and the slot.
+    Working(T),
+}
+
+/// The rule of the table.
+pub struct Law<E> {
+    marker: PhantomData<E>,
+}
+
+impl<T, A, E: Errand<T, A>> TableRule<Option<Letter<T, A>>, MailView<T>, ()> for Law<E> {
+    ghost use Rattle.mailbox.specs.Mail.{Kept};
+    ghost use Rattle.mailbox.specs.declared.mail.MailView.TheVariants.{Alone};
+
+    ghost holds = { λ _ s. Kept E.answers s };
+
+    ghost first = { λ _. Alone };
+}
+
+/// The caller takes the slot.
+pub struct Open;
+
+impl<T, A> Play<Option<Letter<T, A>>, MailView<T>> for Open {
+    ghost use Rattle.mailbox.specs.Mail.{Opened};
+
+    ghost then = { λ _ m _ w. Opened m w };
+}
+
+/// The caller gives its letter.
+pub struct Give;
+
+impl<T, A> Play<Option<Letter<T, A>>, MailView<T>> for Give {
+    ghost use Rattle.mailbox.specs.Mail.{Given};
+
+    ghost then = { λ _ m _ w. Given m w };
+}
+
+/// The caller takes its letter back.
+pub struct Undo;
+
+impl<T, A> Play<Option<Letter<T, A>>, MailView<T>> for Undo {
+    ghost use Rattle.mailbox.specs.Mail.{Undone};
+
+    ghost then = { λ _ m n w. Undone m n w };
+}
+
+/// The caller takes the answer.
+pub struct Collect<E> {
+    marker: PhantomData<E>,
+}
+
+impl<T, A, E: Errand<T, A>> Play<Option<Letter<T, A>>, MailView<T>> for Collect<E> {
+    ghost use Rattle.mailbox.specs.Mail.{Collected};
+
+    ghost then = { λ _ m n w. Collected E.answers m n w };
+}
+
+/// The worker takes the letter.
+pub struct Take;
+
+impl<T, A> Play<Option<Letter<T, A>>, MailView<T>> for Take {
+    ghost use Rattle.mailbox.specs.Mail.{Taken};
+
+    ghost then = { λ _ m n w. Taken m n w };
+}
+
+/// The worker gives its answer.
+pub struct Leave;
+
+impl<T, A> Play<Option<Letter<T, A>>, MailView<T>> for Leave {
+    ghost use Rattle.mailbox.specs.Mail.{Left};
+
+    ghost then = { λ _ m _ w. Left m w };
+}
+
+/// The worker's seat is cut off the caller's.
+pub struct Hire;
+
+impl<T> Split<MailView<T>> for Hire {
+    ghost use Rattle.mailbox.specs.declared.mail.MailView.TheVariants.{Opening, Idle};
+
+    ghost left = { λ _. Opening };
+
+    ghost right = { λ _. Idle };
+}
+
+/// A seat at the table.
+pub type Chair<T, A> = Seat<Option<Letter<T, A>>, MailView<T>>;
+
+/// The table, as the seats share it.
+pub type Board<T, A, E> = Shared<Option<Letter<T, A>>, MailView<T>, (), Law<E>>;
+
+/// The table with its memory.
+pub type MailTable<T, A, E> = Table<Option<Letter<T, A>>, MailView<T>, (), Law<E>, Global>;

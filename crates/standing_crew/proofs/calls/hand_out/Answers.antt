@@ -1,0 +1,52 @@
+use Rattle.std.proofs.Common.{
+  ◌≡◌,
+  ◌++◌,
+  ◌∷◌,
+  [],
+  Some,
+  length,
+  refl,
+  sym,
+  ap,
+  ◌∙◌,
+  subst,
+  arith,
+  append_assoc,
+  length-append,
+}
+use Rattle.crew_pool.specs.Tasks.{EachReady}
+use Rattle.standing_crew.specs.Parts.{Part, EachReadyFrom, AreOutFrom, items_out}
+use Rattle.standing_crew.proofs.Runs.{EachReadyFrom-run}
+use Rattle.standing_crew.proofs.Outs.{items_out-push, AreOutFrom-push}
+use Rattle.standing_crew.proofs.calls.hand_out.Goals as goal
+
+pub give-requires-clause-ready : goal.give-requires-clause-ready
+give-requires-clause-ready g c κs within =
+    let ready = g.W.Work.ready c.args.work.now.value in
+    let before = items_out c.loop-line.busy.items in
+    let run = c.in_ok-run.run'.items in
+    let rest = c.in_ok-run.rest.items in
+    let whole : before ++ (run ++ rest) ≡ c.args.items.items =
+    ap (λ l. before ++ l) c.in_ok-run.ensures.parts ∙ c.loop-line.invariant.2 in
+    subst (λ n. EachReadyFrom ready n run) (sym c.loop-line.invariant.3)
+    (EachReadyFrom-run ready before run rest (subst (λ l. EachReady ready l) (sym whole) c.requires.ready))
+
+pub loop-line-preserved : goal.loop-line-preserved
+loop-line-preserved g c =
+    let inv = c.loop-line.invariant in
+    let busy = c.loop-line.busy.items in
+    let before = items_out busy in
+    let run = c.in_ok-run.run'.items in
+    let rest = c.in_ok-run.rest.items in
+    let work = c.args.work.now.value in
+    let part : Part _ _ = record { work = work; first = c.loop-line.first; items = run } in
+    let added : c.add-else-len-size.new.list.items ≡ busy ++ Some part ∷ [] =
+    c.in_ok-add-2.ensures.value ∙ ap (λ line. busy ++ line ∷ []) c.in_ok-line.ensures.given in
+    let longer : items_out c.add-else-len-size.new.list.items ≡ before ++ run =
+    ap (λ l. items_out l) added ∙ items_out-push busy part in (
+      subst (λ l. AreOutFrom work 0 l) (sym added) (AreOutFrom-push work 0 busy part inv.0 refl (omega (arith, inv.3))),
+      inv.1,
+      ap (λ l. l ++ rest) longer
+          ∙ (append_assoc before run rest ∙ (ap (λ l. before ++ l) c.in_ok-run.ensures.parts ∙ inv.2)),
+      omega (arith, inv.3, c.in_ok-run.ensures.size, ap length longer, length-append before run),
+    )

@@ -1,0 +1,44 @@
+use Rattle.std.proofs.Common.{◌≡◌, ◌+◌, ◌++◌, [], None, All, length, sym, ap, ◌∙◌, subst, append-nil, arith}
+use Rattle.std.proofs.lemmas.List.Elements.{All-append}
+use Rattle.crew_pool.specs.Tasks.{EachReady, AnswersTo, EachAnswers}
+use Rattle.standing_crew.specs.Parts.{EachReadyFrom, EachAnsweredFrom, items_out}
+use Rattle.standing_crew.proofs.Runs.{EachReadyFrom-run, EachAnsweredFrom-append, EachAnsweredFrom-start}
+use Rattle.standing_crew.proofs.team.Team.all.Goals as goal
+
+pub run_part-requires-clause-ready : goal.run_part-requires-clause-ready
+run_part-requires-clause-ready g c κs within =
+    let handed = c.in_ok-busy.field-0 in
+    let before = items_out handed.busy.items in
+    let own = handed.own.items in
+    let ready = g.W.Work.ready c.args.work.value in
+    let whole : before ++ (own ++ []) ≡ c.args.items.items =
+    ap (λ l. before ++ l) (append-nil own) ∙ c.in_ok-busy.ensures.items in
+    subst (λ w. EachReadyFrom (g.W.Work.ready w) handed.first own) (sym c.deref-3.ensures)
+    (subst (λ n. EachReadyFrom ready n own) (sym c.in_ok-busy.ensures.first)
+    (EachReadyFrom-run ready before own [] (subst (λ l. EachReady ready l) (sym whole) c.requires.ready)))
+
+pub invariant_of-result : goal.invariant_of-result
+invariant_of-result g c =
+    subst (λ l. All (λ line. line ≡ None) l) (sym c.in_ok-add_all.ensures.value)
+    (All-append (λ line. line ≡ None) c.in_ok-lines.lines.items c.in_ok-busy.field-0.idle.items
+    c.in_ok-lines.ensures.idle c.in_ok-busy.ensures.idle)
+
+pub returns-clause-answers : goal.returns-clause-answers
+returns-clause-answers g c =
+    let handed = c.in_ok-busy.field-0 in
+    let before = items_out handed.busy.items in
+    let own = handed.own.items in
+    let answers = g.W.Work.answers c.args.work.value in
+    let outs = c.in_ok-lines.outs.items in
+    let more = c.in_ok-own.own.items in
+    let others : EachAnsweredFrom answers 0 before outs =
+    subst (λ w. EachAnsweredFrom (g.W.Work.answers w) 0 before outs) c.deref-4.ensures c.in_ok-lines.ensures.answers in
+    let mine : EachAnsweredFrom answers handed.first own more =
+    subst (λ w. EachAnsweredFrom (g.W.Work.answers w) handed.first own more) c.deref-3.ensures
+    c.in_ok-own.ensures.answers in
+    let behind : handed.first ≡ 0 + length before = omega (arith, c.in_ok-busy.ensures.first) in
+    subst (λ l. EachAnswers (AnswersTo answers c.args.items.items) l) (sym c.in_ok-add_all-2.ensures.value)
+    (EachAnsweredFrom-start answers c.args.items.items _
+    (subst (λ l. EachAnsweredFrom answers 0 l (outs ++ more)) c.in_ok-busy.ensures.items
+    (EachAnsweredFrom-append answers 0 before own outs more others
+    (subst (λ n. EachAnsweredFrom answers n own more) behind mine))))

@@ -1,0 +1,129 @@
+//! What a call gives to the workers of a team, and what it takes back.
+ghost use Rattle.std.specs.Prelude.{◌≡◌, ◌+◌, ◌≤◌, ◌++◌, All, None, Some, length, IfOk};
+ghost use Rattle.crew_pool.specs.Tasks.{EachReady};
+ghost use Rattle.crew_pool.specs.declared.crew.TheConstants.{MOST_TASKS};
+ghost use Rattle.standing_crew.specs.Parts.{Part, EachReadyFrom, EachAnsweredFrom, AreOutFrom, items_out, IsAnsweredBy};
+
+use crate::bell::Bell;
+use crate::lists::{add, add_all, cut};
+use crate::task::{Answer, InParts, Task};
+use crew_pool::{Gate, Work};
+use mailbox::Caller;
+use sim_base::NoMemory;
+use std::alloc::Global;
+use std::sync::{Arc, Wait};
+
+/// The caller's end of one worker's mailbox.
+pub type Line<W> = Caller<Task<W>, Answer<W>, InParts>;
+
+/// What is out after a call has given its parts.
+pub(crate) struct HandedOut<W: Work> {
+    /// The lines of the workers that were given a part, in the order of the parts.
+    pub busy: Vec<Line<W>>,
+    /// The lines of the others.
+    pub idle: Vec<Line<W>>,
+    /// The number of the first task that is left to the caller.
+    pub first: u32,
+    /// The items that are left to the caller.
+    pub own: Vec<W::In>,
+}
+
+/// Gives each worker its run of neighbouring items and wakes it, as long as more items are left than one run has. What is
+/// left then is the caller's own. The idle lines stand behind the busy ones, so the workers keep their numbers.
+pub(crate) fn hand_out<W: Work + Send + Drop>(
+    alloc: Global,
+    lines: Vec<Line<W>>,
+    bell: &Bell,
+    work: &Arc<W>,
+    items: Vec<W::In>,
+    size: usize,
+) -> Result<HandedOut<W>, NoMemory>
+    requires few { length items.items ≤ MOST_TASKS }
+    requires ready { EachReady (W.ready work.now.value) items.items }
+    requires idle { All (λ line. line ≡ None) lines.items }
+    ensures out { IfOk result (λ r. AreOutFrom work.now.value 0 r.busy.items) }
+    ensures idle { IfOk result (λ r. All (λ line. line ≡ None) r.idle.items) }
+    ensures items { IfOk result (λ r. items_out r.busy.items ++ r.own.items ≡ items.items) }
+    ensures first { IfOk result (λ r. r.first ≡ length (items_out r.busy.items)) }
+{
+    let mut busy = Vec::with_capacity(alloc, lines.len())?;
+    let mut idle = Vec::with_capacity(alloc, lines.len())?;
+    let mut first = 0;
+    let mut own = items;
+    for line in lines {
+        if own.len() <= size {
+            add(&mut idle, line)?;
+        } else {
+            let (run, rest) = cut(own, size)?;
+            let line = give(line, work, first, run)?;
+            add(&mut busy, line)?;
+            bell.wake(busy.len());
+            first += size as u32;
+            own = rest;
+        }
+    }
+    Ok(HandedOut {
+        busy,
+        idle,
+        first,
+        own,
+    })
+}
+
+/// Gives one worker its part.
+fn give<W: Work + Send + Drop>(
+    mut line: Line<W>,
+    work: &Arc<W>,
+    first: u32,
+    items: Vec<W::In>,
+) -> Result<Line<W>, NoMemory>
+    requires idle { line ≡ None }
+    requires few { first + length items.items ≤ MOST_TASKS }
+    requires ready { EachReadyFrom (W.ready work.now.value) first items.items }
+    ensures given { IfOk result (λ r. r ≡ Some (record { work = work.now.value; first = first; items = items.items })) }
+{
+    let work = work.clone()?;
+    line.give(Task::new(work, first, items));
+    Ok(line)
+}
+
+/// Runs the part of one worker if it has not begun it, else waits for its answer.
+fn finish<W: Work + Send + Drop, G: Gate, R: Wait>(
+    rt: &R,
+    alloc: Global,
+    gate: &G,
+    line: &mut Line<W>,
+) -> Answer<W>
+    requires given { (part : Part W W.In) × (line.old ≡ Some part) }
+    ensures idle { line.new ≡ None }
+    ensures answers { (part : Part W W.In) → line.old ≡ Some part
+        → IfOk result (λ outs. IsAnsweredBy W.answers part outs.items) }
+{
+    match line.take_back() {
+        Some(task) => task.run(rt, alloc, gate, 0),
+        None => line.collect(rt),
+    }
+}
+
+/// The answers to all parts that are out, in their order, and the lines, which are idle again.
+pub(crate) fn gather<W: Work + Send + Drop, G: Gate, R: Wait>(
+    rt: &R,
+    alloc: Global,
+    gate: &G,
+    _work: &W,
+    busy: Vec<Line<W>>,
+) -> Result<(Vec<Line<W>>, Vec<W::Out>), NoMemory>
+    requires out { AreOutFrom _work.now 0 busy.items }
+    ensures idle { IfOk result (λ r. All (λ line. line ≡ None) r.0.items) }
+    ensures answers { IfOk result (λ r.
+        EachAnsweredFrom (W.answers _work.now) 0 (items_out busy.items) r.1.items) }
+{
+    let mut lines = Vec::with_capacity(alloc, busy.len())?;
+    let mut outs = Vec::new(alloc);
+    for mut line in busy {
+        let more = finish(rt, alloc, gate, &mut line)?;
+        add_all(&mut outs, more)?;
+        add(&mut lines, line)?;
+    }
+    Ok((lines, outs))
+}

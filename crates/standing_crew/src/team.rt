@@ -1,0 +1,99 @@
+//! The caller's part of a team.
+ghost use Rattle.std.specs.Prelude.{◌≡◌, ◌≤◌, ◌+◌, length, sum_by, IfOk};
+ghost use Rattle.crew_pool.specs.Tasks.{EachReady, AnswersTo, EachAnswers};
+ghost use Rattle.crew_pool.specs.declared.crew.TheConstants.{MOST_TASKS};
+
+use crate::bell::Bell;
+use crate::calls::{HandedOut, Line, gather, hand_out};
+use crate::lists::{add, add_all};
+use crate::member::Member;
+use crate::part::run_part;
+use crew_pool::{Gate, Work, Workers, tick_costs};
+use crossbeam_utils::sync::Parker;
+use sim_base::{NoMemory, Steps};
+use std::alloc::Global;
+use std::sync::ledger::Ledger;
+use std::sync::{Arc, Wait};
+
+/// The caller's end: workers that stay from call to call. No clause sees how many they are, or which of them ran what.
+#[derive(Drop)]
+pub struct Team<W: Work> {
+    lines: Vec<Line<W>>,
+    bell: Arc<Bell>,
+}
+
+impl<W: Work> std::marker::Model for Team<W> {
+    ghost use Rattle.std.specs.Prelude.{◌≡◌, All, None};
+
+    ghost Value = { Unit {0} };
+
+    ghost view = { λ _. tt };
+
+    ghost invariant = { λ t. All (λ line. line ≡ None) t.lines.items };
+}
+
+impl<W: Work + Send + Drop> Team<W> {
+    /// A team of so many workers, of which the caller is one, with the ends of the others.
+    pub fn begin(alloc: Global, workers: Workers) -> Result<(Team<W>, Vec<Member<W>>), NoMemory> {
+        let mut lines = Vec::new(alloc);
+        let mut members = Vec::new(alloc);
+        let mut wakers = Vec::new(alloc);
+        for number in 1..workers.count {
+            let (line, tasks) = mailbox::open(alloc)?;
+            let parker = Parker::new(alloc)?;
+            add(&mut wakers, parker.unparker().clone()?)?;
+            add(&mut lines, line)?;
+            add(&mut members, Member::new(number, tasks, parker))?;
+        }
+        let bell = Arc::new(alloc, Bell::new(wakers))?;
+        Ok((Team { lines, bell }, members))
+    }
+
+    /// The bell of this team, for whoever starts its workers.
+    pub fn bell(&self) -> Result<Arc<Bell>, NoMemory> {
+        Ok(self.bell.clone()?)
+    }
+
+    /// Hands each item to the task of its place, once, after `gate.before`, and gives each answer at that place.
+    /// Where a task is out of memory, the answer is `NoMemory`, items and team are gone, and nothing is said of the
+    /// steps. Small work runs in the caller's thread.
+    pub fn all<G: Gate, L: Ledger, R: Wait>(
+        self,
+        rt: &R,
+        alloc: Global,
+        work: Arc<W>,
+        items: Vec<W::In>,
+        gate: &G,
+        steps: &mut Steps<L>,
+    ) -> Result<(Team<W>, Vec<W::Out>), NoMemory>
+        requires few { length items.items ≤ MOST_TASKS }
+        requires ready { EachReady (W.ready work.value) items.items }
+        ensures count { IfOk result (λ r. length r.1.items ≡ length items.items) }
+        ensures answers { IfOk result (λ r. EachAnswers (AnswersTo (W.answers work.value) items.items) r.1.items) }
+        ensures cost { IfOk result (λ r. steps.new ≡ steps.old + sum_by W.cost r.1.items) }
+    {
+        let Team { lines, bell } = self;
+        let size = run_size(&*work, items.len(), lines.len());
+        let HandedOut {
+            busy,
+            idle,
+            first,
+            own,
+        } = hand_out(alloc, lines, &bell, &work, items, size)?;
+        let own = run_part(rt, alloc, gate, 0, &*work, first, own)?;
+        let (mut lines, mut outs) = gather(rt, alloc, gate, &*work, busy)?;
+        add_all(&mut lines, idle)?;
+        add_all(&mut outs, own)?;
+        tick_costs(&*work, outs.as_slice(), steps);
+        Ok((Team { lines, bell }, outs))
+    }
+}
+
+/// How many items each of the caller and the other workers is given, at most.
+fn run_size<W: Work>(work: &W, items: usize, others: usize) -> usize {
+    if work.is_small() {
+        items
+    } else {
+        items.div_ceil(others.saturating_add(1))
+    }
+}

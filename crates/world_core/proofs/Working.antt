@@ -1,0 +1,116 @@
+-- The jobs of a window and what they are answered by, place by place.
+use Rattle.std.proofs.Common.{◌≡◌, ℕ, zero, suc, ◌<◌, ◌∙◌, List, [], ◌∷◌, Some, ap, arith, get_or, length, map}
+use Rattle.std.proofs.Common.{refl, slice_get, subst, sym}
+use Rattle.std.specs.Prelude.{sum_by}
+use Rattle.std.proofs.lemmas.List.{length-map}
+use Rattle.std.proofs.lemmas.List.Sums.{sum_by-cons}
+use Rattle.net_model.specs.Net.{Net}
+use Rattle.phys_proc.specs.Own.{Marked}
+use Rattle.phys_proc.specs.Procs.{ProcView}
+use Rattle.phys_proc.specs.declared.proc.Flow.{Flow}
+use Rattle.crew_pool.specs.Tasks.{AnswersTo, EachAnswers, EachReady}
+use Rattle.world_core.specs.Jobs.{IsDone, IsJob, steps_of}
+use Rattle.world_core.specs.Posts.{ArePosts, PostView}
+use Rattle.world_core.specs.Windows.{AllDelivered, AllFlow, AllNumbered, AreNumbered, all_handled}
+use Rattle.world_core.specs.declared.jobs.Job.{Job}
+use Rattle.world_core.specs.declared.jobs.Job.TheVariants.{Step, Give}
+use Rattle.world_core.specs.declared.jobs.Done.{Done}
+use Rattle.world_core.specs.declared.jobs.Done.TheVariants.{Stepped, Given}
+use Rattle.world_core.proofs.Flows.{all_flow}
+use Rattle.world_core.proofs.Places.{at_got}
+use Rattle.world_core.proofs.Mail.{all_handed, posts_are_for}
+
+-- what stands at a place of a list of images is the image of what stands there
+mapped_at : {X Y : Type 0} (f : X → Y) (xs : List X) (i : ℕ) (d : Y) → i < length (map f xs)
+    → (x : X) × (get_or (map f xs) i d ≡ f x) × (slice_get xs i ≡ Some x)
+mapped_at f [] i d l = absurd (omega (arith, l))
+mapped_at f (x ∷ xs) zero d l = (x, refl, refl)
+mapped_at f (x ∷ xs) (suc i) d l = mapped_at f xs i d (omega (arith, l))
+
+-- and so is what is read there
+get_mapped : {X Y : Type 0} (f : X → Y) (xs : List X) (i : ℕ) (d : X) → get_or (map f xs) i (f d) ≡ f (get_or xs i d)
+get_mapped f [] i d = refl
+get_mapped f (x ∷ xs) zero d = refl
+get_mapped f (x ∷ xs) (suc i) d = get_mapped f xs i d
+
+-- stations that are numbered may be stepped
+pub steps_ready : (net : Net) (procs : List ProcView) (jobs : List Job) → jobs ≡ map (λ p. Step p) procs
+    → AllNumbered net procs → EachReady (IsJob net) jobs
+steps_ready net procs jobs is all = subst (EachReady (IsJob net)) (sym is) ready
+  where
+    ready : EachReady (IsJob net) (map (λ p. Step p) procs)
+    ready i d l = let at = mapped_at (λ p. Step p) procs i d l in subst (IsJob net i) (sym at.1) (all i at.0 at.2)
+
+-- their mail is for them
+pub mail_ready : (net : Net) (sent : Marked) (procs : List ProcView) (posts : List PostView) (jobs : List Job)
+    → jobs ≡ map (λ q. Give q) posts → AreNumbered procs → ArePosts sent procs posts → EachReady (IsJob net) jobs
+mail_ready net sent procs posts jobs is numbered all = subst (EachReady (IsJob net)) (sym is) ready
+  where
+    ready : EachReady (IsJob net) (map (λ q. Give q) posts)
+    ready i d l = let at = mapped_at (λ q. Give q) posts i d l in
+        subst (IsJob net i) (sym at.1) (posts_are_for sent procs posts numbered all i at.0 at.2)
+
+-- answers to steps are what the steps give
+pub steps_answered : (net : Net) (ends : ℕ → ℕ) (bound : ℕ) (procs : List ProcView) (jobs : List Job)
+    (flows : List Flow) (dones : List Done) → jobs ≡ map (λ p. Step p) procs → map (λ f. Stepped f) flows ≡ dones
+    → EachAnswers (AnswersTo (IsDone net ends bound) jobs) dones → AllFlow net ends bound procs flows
+steps_answered net ends bound procs jobs flows dones is are h = all_flow net ends bound procs flows each
+  where
+    told : EachAnswers (AnswersTo (IsDone net ends bound) (map (λ p. Step p) procs)) (map (λ f. Stepped f) flows)
+    told = subst (λ l. EachAnswers (AnswersTo (IsDone net ends bound) l) (map (λ f. Stepped f) flows)) is
+        (subst (λ l. EachAnswers (AnswersTo (IsDone net ends bound) jobs) l) (sym are) h)
+
+    each : (i : ℕ) (flow : Flow) → i < length flows → (p : ProcView)
+        → IsDone net ends bound i (Step (get_or procs i p)) (Stepped (get_or flows i flow))
+    each i flow l p =
+        let m = length-map flows (λ f. Stepped f) in
+        subst (λ j. IsDone net ends bound i j (Stepped (get_or flows i flow))) (get_mapped (λ p. Step p) procs i p)
+        (subst (λ o. IsDone net ends bound i (get_or (map (λ p. Step p) procs) i (Step p)) o)
+        (get_mapped (λ f. Stepped f) flows i flow) (told i (Stepped flow) (omega (arith, l, m)) (Step p)))
+
+-- and take as many steps as messages were handled
+pub steps_taken : (flows : List Flow) (dones : List Done) → map (λ f. Stepped f) flows ≡ dones
+    → sum_by steps_of dones ≡ all_handled flows
+steps_taken flows dones are = ap (sum_by steps_of) (sym are) ∙ sums flows
+  where
+    sums : (fs : List Flow) → sum_by steps_of (map (λ f. Stepped f) fs) ≡ all_handled fs
+    sums [] = refl
+    sums (f ∷ fs) =
+        let a = sum_by-cons steps_of (Stepped f) (map (λ f. Stepped f) fs) in
+        let b = sum_by-cons (λ (f : Flow). f.handled) f fs in
+        let c = sums fs in
+        omega (arith, a, b, c)
+
+-- answers to mail are copies that were given it
+pub mail_answered : (net : Net) (ends : ℕ → ℕ) (bound : ℕ) (sent : Marked) (procs : List ProcView)
+    (posts : List PostView) (jobs : List Job) (news : List ProcView) (dones : List Done)
+    → jobs ≡ map (λ q. Give q) posts → map (λ p. Given p) news ≡ dones → ArePosts sent procs posts
+    → length dones ≡ length jobs → EachAnswers (AnswersTo (IsDone net ends bound) jobs) dones
+    → AllDelivered sent procs news
+mail_answered net ends bound sent procs posts jobs news dones is are all many h =
+    all_handed sent procs posts news all long each
+  where
+    long : length news ≡ length posts
+    long =
+        let a = length-map posts (λ q. Give q) in
+        let b = length-map news (λ p. Given p) in
+        let c = ap length is in
+        let d = ap length are in
+        omega (arith, a, b, c, d, many)
+
+    told : EachAnswers (AnswersTo (IsDone net ends bound) (map (λ q. Give q) posts)) (map (λ p. Given p) news)
+    told = subst (λ l. EachAnswers (AnswersTo (IsDone net ends bound) l) (map (λ p. Given p) news)) is
+        (subst (λ l. EachAnswers (AnswersTo (IsDone net ends bound) jobs) l) (sym are) h)
+
+    each : (i : ℕ) (q : PostView) (n : ProcView) → slice_get posts i ≡ Some q → slice_get news i ≡ Some n
+        → IsDone net ends bound i (Give q) (Given n)
+    each i q n there here =
+        let post = at_got posts i q q there in
+        let new = at_got news i n n here in
+        let m = length-map news (λ p. Given p) in
+        let l = new.0 in
+        subst (λ (x : PostView). IsDone net ends bound i (Give x) (Given n)) post.1
+        (subst (λ (x : ProcView). IsDone net ends bound i (Give (get_or posts i q)) (Given x)) new.1
+        (subst (λ j. IsDone net ends bound i j (Given (get_or news i n))) (get_mapped (λ q. Give q) posts i q)
+        (subst (λ o. IsDone net ends bound i (get_or (map (λ q. Give q) posts) i (Give q)) o)
+        (get_mapped (λ p. Given p) news i n) (told i (Given n) (omega (arith, l, m)) (Give q)))))

@@ -1,0 +1,18 @@
+use Rattle.phys_proc.specs.Gone.{ends_in}
+use Rattle.world_core.proofs.Working.{mail_answered, mail_ready}
+use Rattle.world_core.proofs.delivery.give_by_team.Goals as goal
+
+pub all-requires-clause-ready : goal.all-requires-clause-ready
+all-requires-clause-ready g c κs within =
+    mail_ready c.in_ok-work.work.value.net c.args.sent.now c.args.procs.items c.in_ok-posts.posts.items
+    c.in_ok-jobs.jobs.items c.in_ok-jobs.ensures.jobs c.requires.numbered c.in_ok-posts.ensures.posts
+
+pub returns : goal.returns
+returns g c =
+    let w = c.in_ok-work.work.value in
+    record {
+      given = mail_answered w.net (ends_in w.net.horizon w.ended) w.bound c.args.sent.now c.args.procs.items
+          c.in_ok-posts.posts.items c.in_ok-jobs.jobs.items c.in_ok-given.given.items c.in_ok-team.dones.items
+          c.in_ok-jobs.ensures.jobs c.in_ok-given.ensures.procs c.in_ok-posts.ensures.posts
+          c.in_ok-team.ensures.count c.in_ok-team.ensures.answers;
+    }

@@ -1,0 +1,86 @@
+//! What the workers of a window are asked for: to step the copies of a station, and then to give them their mail.
+ghost use Rattle.std.specs.Prelude.{◌≡◌, map, IfOk, OnOk, ◌++◌, ◌∷◌, []};
+ghost use Rattle.world_core.specs.declared.jobs.Job.TheVariants.{Step as Step', Give as Give'};
+ghost use Rattle.world_core.specs.declared.jobs.Done.TheVariants.{Stepped as Stepped', Given as Given'};
+
+use crate::posts::Post;
+use crate::timed_proc::TimedProc;
+use phys_proc::Flow;
+use sim_base::NoMemory;
+use std::alloc::Global;
+
+/// What a worker is asked to do with the copies of a station.
+#[derive(Drop)]
+pub enum Job {
+    /// To step them to the bound of the window.
+    Step(TimedProc),
+    /// To give them what was sent to them.
+    Give(Post),
+}
+
+/// What it answers.
+#[derive(Drop)]
+pub enum Done {
+    /// What the step gives.
+    Stepped(Flow),
+    /// The copies, with all of their mail.
+    Given(TimedProc),
+}
+
+// Puts one more behind the others.
+fn add<X: Drop>(list: &mut Vec<X>, one: X) -> Result<(), NoMemory>
+    ensures value { OnOk result (list.new.items ≡ list.old.items ++ one ∷ []) }
+{
+    list.push(one)?;
+    Ok(())
+}
+
+/// A step for each station.
+pub(crate) fn steps_for(alloc: Global, procs: Vec<TimedProc>) -> Result<Vec<Job>, NoMemory>
+    ensures jobs { IfOk result (λ jobs. jobs.items ≡ map (λ p. Step' p) procs.items) }
+{
+    let mut jobs = Vec::with_capacity(alloc, procs.len())?;
+    for proc in procs {
+        add(&mut jobs, Job::Step(proc))?;
+    }
+    Ok(jobs)
+}
+
+/// Mail for each station.
+pub(crate) fn mail_for(alloc: Global, posts: Vec<Post>) -> Result<Vec<Job>, NoMemory>
+    ensures jobs { IfOk result (λ jobs. jobs.items ≡ map (λ q. Give' q) posts.items) }
+{
+    let mut jobs = Vec::with_capacity(alloc, posts.len())?;
+    for post in posts {
+        add(&mut jobs, Job::Give(post))?;
+    }
+    Ok(jobs)
+}
+
+/// What the steps give. No step is answered by anything else.
+pub(crate) fn flows_of(alloc: Global, dones: Vec<Done>) -> Result<Vec<Flow>, NoMemory>
+    ensures flows { IfOk result (λ flows. map (λ f. Stepped' f) flows.items ≡ dones.items) }
+{
+    let mut flows = Vec::with_capacity(alloc, dones.len())?;
+    for done in dones {
+        match done {
+            Done::Stepped(flow) => add(&mut flows, flow)?,
+            Done::Given(_) => return Err(NoMemory),
+        }
+    }
+    Ok(flows)
+}
+
+/// The copies that were given their mail. No mail is answered by anything else.
+pub(crate) fn procs_of(alloc: Global, dones: Vec<Done>) -> Result<Vec<TimedProc>, NoMemory>
+    ensures procs { IfOk result (λ procs. map (λ p. Given' p) procs.items ≡ dones.items) }
+{
+    let mut procs = Vec::with_capacity(alloc, dones.len())?;
+    for done in dones {
+        match done {
+            Done::Given(proc) => add(&mut procs, proc)?,
+            Done::Stepped(_) => return Err(NoMemory),
+        }
+    }
+    Ok(procs)
+}
