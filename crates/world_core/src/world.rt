@@ -46,7 +46,7 @@ pub const SMALL_WINDOW: u64 = 8_000;
 
 /// Windows that handle fewer messages than this run in the caller's thread also where there is a team: waking its
 /// workers costs more.
-pub const TEAM_WINDOW: u64 = 1_000;
+pub const TEAM_WINDOW: u64 = 5_000;
 
 impl std::marker::Model for World {
     ghost use Rattle.world_core.specs.Worlds.{WorldView, WorldStands};
