@@ -18,19 +18,27 @@ fn plan(at: u64, station: u32) -> Planned {
 
 #[test]
 fn forks_go_separate_ways(rt: HostRuntime) -> Result<(), Fail> {
-    let base = Name::read(b"base").expect(&rt, "base is a name");
     let left = Name::read(b"left").expect(&rt, "left is a name");
     let mut lists = Lists::new(rt.alloc())?;
-    assert_eq!(rt; lists.find(&left), None);
     lists.add(0, plan(5, 1))?;
-    assert_eq!(rt; lists.end_of(0), None);
-    lists.end(0, 90);
     assert_eq!(rt; lists.find(&left), None);
     assert_eq!(rt; lists.fork(rt.alloc(), left, 0), Ok(()));
     assert_eq!(rt; lists.add(0, plan(6, 2)), Ok(()));
     assert_eq!(rt; lists.add(1, plan(7, 3)), Ok(()));
     assert_eq!(rt; lists.list(0), [plan(5, 1), plan(6, 2)].as_slice());
     assert_eq!(rt; lists.list(1), [plan(5, 1), plan(7, 3)].as_slice());
+    Ok(())
+}
+
+#[test]
+fn a_fork_has_a_name_and_no_end(rt: HostRuntime) -> Result<(), Fail> {
+    let base = Name::read(b"base").expect(&rt, "base is a name");
+    let left = Name::read(b"left").expect(&rt, "left is a name");
+    let mut lists = Lists::new(rt.alloc())?;
+    assert_eq!(rt; lists.end_of(0), None);
+    lists.end(0, 90);
+    assert_eq!(rt; lists.find(&left), None);
+    assert_eq!(rt; lists.fork(rt.alloc(), left, 0), Ok(()));
     assert_eq!(rt; (lists.end_of(0), lists.end_of(1)), (Some(90), None));
     assert_eq!(rt;
         (lists.name(0), lists.name(1), lists.len()),

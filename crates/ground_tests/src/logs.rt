@@ -78,11 +78,20 @@ fn shared_logs_grow_apart(rt: HostRuntime) -> Result<(), Fail> {
     assert_eq!(rt; (first.segments(), second.segments()), (1, 1));
     first.push(entry(1))?;
     second.push(entry(9))?;
-    let mut third = second.copy(alloc)?;
-    third.push(entry(2))?;
     assert!(rt; walks_from(&first, 0, 3) && first.len() == 2);
     assert!(rt; second.get(0) == entry(0) && second.get(1) == entry(9) && second.len() == 2);
-    assert!(rt; third.get(1) == entry(9) && third.get(2) == entry(2) && third.len() == 3);
+    Ok(())
+}
+
+#[test]
+fn a_copied_log_grows_apart(rt: HostRuntime) -> Result<(), Fail> {
+    let alloc = rt.alloc();
+    let mut first = Log::new(alloc);
+    first.push(entry(0))?;
+    let mut second = first.copy(alloc)?;
+    second.push(entry(2))?;
+    assert!(rt; first.get(0) == entry(0) && first.len() == 1);
+    assert!(rt; second.get(0) == entry(0) && second.get(1) == entry(2) && second.len() == 2);
     Ok(())
 }
 

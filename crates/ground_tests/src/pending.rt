@@ -2,7 +2,8 @@
 ghost use Rattle.std.specs.Prelude.{bit_or, bit_and, ◌==◌, if◌then◌else◌, Option, Some, None};
 
 use crate::messages::message;
-use sim_base::{Marks, Pending};
+use sim_base::{Marks, NoMemory, Pending};
+use std::alloc::Global;
 use std::test::Fail;
 
 /// Sets of the numbers below 8, a bit for each.
@@ -32,19 +33,35 @@ fn set(bits: u8) -> Bits {
     Bits { bits }
 }
 
+/// Two messages, of which the first comes twice.
+fn with_a_message_twice(alloc: Global) -> Result<Pending<Bits>, NoMemory> {
+    let mut pending = Pending::new(alloc);
+    pending.insert(message(4, 1, 1), set(0b011))?;
+    pending.insert(message(3, 1, 0), set(0b001))?;
+    pending.insert(message(3, 1, 0), set(0b100))?;
+    Ok(pending)
+}
+
 #[test]
 fn equal_messages_join_marks(rt: HostRuntime) -> Result<(), Fail> {
-    let alloc = rt.alloc();
-    let mut pending = Pending::new(alloc);
     let m = message(3, 1, 0);
     let n = message(4, 1, 1);
-    pending.insert(n, set(0b011))?;
-    pending.insert(m, set(0b001))?;
-    pending.insert(m, set(0b100))?;
+    let mut pending = with_a_message_twice(rt.alloc())?;
     assert_eq!(rt; pending.least(), Some((m, set(0b101))));
     assert_eq!(rt; pending.least_with(set(0b010)), Some((n, set(0b010))));
     assert_eq!(rt; pending.least_with(set(0b1000)), None);
-    let mut part = pending.cut(alloc, set(0b100))?;
+    assert_eq!(rt; pending.take_least(), Some((m, set(0b101))));
+    assert_eq!(rt; pending.take_least(), Some((n, set(0b011))));
+    assert_eq!(rt; pending.least(), None);
+    Ok(())
+}
+
+#[test]
+fn marks_are_cut_and_spread(rt: HostRuntime) -> Result<(), Fail> {
+    let m = message(3, 1, 0);
+    let n = message(4, 1, 1);
+    let mut pending = with_a_message_twice(rt.alloc())?;
+    let mut part = pending.cut(rt.alloc(), set(0b100))?;
     assert_eq!(rt; part.take_least(), Some((m, set(0b100))));
     assert_eq!(rt; part.take_least(), None, "n is not for clone 2");
     pending.spread(set(0b010), set(0b1000));
@@ -54,7 +71,6 @@ fn equal_messages_join_marks(rt: HostRuntime) -> Result<(), Fail> {
         "m is not for clone 1"
     );
     assert_eq!(rt; pending.take_least(), Some((n, set(0b1011))));
-    assert_eq!(rt; pending.least(), None);
     Ok(())
 }
 
