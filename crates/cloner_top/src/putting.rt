@@ -13,6 +13,7 @@ use rolling_text::{Texts, WorldTraces, prepare, put_texts};
 use sim_base::NoMemory;
 use sim_outer::Sink;
 use std::alloc::Global;
+use std::sync::Wait;
 use std::thread::Threads;
 use study_run::report_of;
 use world_core::World;
@@ -89,7 +90,7 @@ fn prepare_run<'a>(alloc: Global, model: &Model, world: &'a World) -> Result<Run
 }
 
 // Puts the trace text of each clone, and then the report.
-fn put_prepared<'a, O: Sink, R: Threads + Sync>(
+fn put_prepared<'a, O: Sink, R: Threads + Wait + Sync>(
     rt: &R,
     alloc: Global,
     workers: u32,
@@ -117,7 +118,7 @@ fn put_prepared<'a, O: Sink, R: Threads + Sync>(
 }
 
 /// Puts the trace text of each clone of a world at the horizon, and then its report.
-pub(crate) fn put_run<O: Sink, R: Threads + Sync>(
+pub(crate) fn put_run<O: Sink, R: Threads + Wait + Sync>(
     rt: &R,
     alloc: Global,
     workers: u32,
@@ -144,7 +145,7 @@ pub(crate) fn put_run<O: Sink, R: Threads + Sync>(
 }
 
 /// Puts this text, and then those of a run.
-pub(crate) fn put_live<O: Sink, R: Threads + Sync>(
+pub(crate) fn put_live<O: Sink, R: Threads + Wait + Sync>(
     rt: &R,
     alloc: Global,
     workers: u32,

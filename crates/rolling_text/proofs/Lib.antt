@@ -8,6 +8,7 @@ pub mod Puts
 pub mod Partings
 pub mod LogLaws
 pub mod Parts
+pub mod InTurn
 pub mod ShortLists
 pub mod Keeping
 pub mod ShortLines

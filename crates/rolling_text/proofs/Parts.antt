@@ -1,10 +1,8 @@
 -- Lines that are written behind a text, in parts of their own before that.
 use Rattle.std.proofs.Common.{◌≡◌, ℕ, ◌+◌, ◌-◌, ◌<◌, ◌≤◌, refl, sym, subst, ap, ◌∙◌, arith, List, [], ◌∷◌, ◌++◌, max}
-use Rattle.std.proofs.Common.{append-nil, length, drop, get_or, length-append}
-use Rattle.std.proofs.lemmas.List.{drop_more}
+use Rattle.std.proofs.Common.{append-nil, length, drop, length-append}
 use Rattle.std.proofs.Common.{Result, Ok, Err, IfOk, OnOk}
 use Rattle.std.specs.List.{flat_map}
-use Rattle.std.proofs.lemmas.List.Concat.{flat_map-cons}
 use Rattle.sim_base.specs.Clones.{Clone, clone_at}
 use Rattle.sim_base.specs.declared.entry.Entry.{Entry}
 use Rattle.sim_base.specs.declared.entry.Line.{Line}
@@ -15,8 +13,7 @@ use Rattle.stations.specs.Runs.{simulation, trace_of}
 use Rattle.log_chain.specs.Times.{from_time}
 use Rattle.trace_report.specs.TraceText.{entry_line}
 use Rattle.world_core.specs.Worlds.{WorldView}
-use Rattle.rolling_text.specs.declared.part.Part.{Part}
-use Rattle.rolling_text.specs.Parts.{Wrote, text_of}
+use Rattle.rolling_text.specs.Parts.{Wrote}
 use Rattle.rolling_text.specs.Texts.{rest}
 use Rattle.rolling_text.specs.WorldTraces.{IsOver, TracesView}
 use Rattle.rolling_text.proofs.LogLaws.{fewer_later, left_later, lines_are, late_lines_are, none_over, no_rest_seen}
@@ -36,39 +33,16 @@ still_fits old new before behind was now e fits more =
     let d = length-append old before in
     omega (arith, a, b, d, fits, more)
 
--- ---- parts in hand, behind what is written
-
--- parts in hand fit where all lines do
-pub parts_fit : (net : Net) (c : Clone) (from made late : ℕ) (old text : List ℕ) (held given : List Part)
-    (after was now : ℕ) → Wrote net c from made late old (text ++ text_of held) after → given ≡ held
-    → length old + length (rest net c from) ≤ was → was ≤ now → length text + length (text_of given) ≤ now
-parts_fit net c from made late old text held given after was now h same fits more =
-    let a = still_fits old (text ++ text_of held) (rest net c from) (rest net c made) was now h.text fits more in
-    let b = length-append text (text_of held) in
-    let d = ap (λ ps. length (text_of ps)) same in
-    omega (arith, a, b, d)
-
--- and what is left does behind them
-pub left_fits : (net : Net) (c : Clone) (from made late : ℕ) (old text new : List ℕ) (held given : List Part)
-    (after was mid now : ℕ) → Wrote net c from made late old (text ++ text_of held) after → given ≡ held
-    → new ≡ text ++ text_of given → length old + length (rest net c from) ≤ was → was ≤ mid → mid ≤ now
-    → length new + length (rest net c made) ≤ now
-left_fits net c from made late old text new held given after was mid now h same is fits more then =
-    let whole : new ≡ text ++ text_of held = is ∙ ap (λ ps. text ++ text_of ps) same in
-    let more_now : was ≤ now = omega (arith, more, then) in
-    still_fits old new (rest net c from) (rest net c made) was now (ap (λ l. l ++ rest net c made) whole ∙ h.text) fits
-    more_now
-
--- ---- parts, one after the other
-
--- the next part, and those behind it
-parts_next : (ps : List Part) (i : ℕ) (p : Part) → i < length ps → p ≡ get_or ps i p → drop i ps ≡ p ∷ drop (i + 1) ps
-parts_next ps i p there is = drop_more ps i p there ∙ ap (λ q. q ∷ drop (i + 1) ps) (sym is)
-
-pub text_next : (ps : List Part) (i : ℕ) (p : Part) → i < length ps → p ≡ get_or ps i p
-    → text_of (drop i ps) ≡ p.bytes.items ++ text_of (drop (i + 1) ps)
-text_next ps i p there is = ap text_of (parts_next ps i p there is)
-    ∙ flat_map-cons (λ (q : Part). q.bytes.items) p (drop (i + 1) ps)
+-- a part fits where all lines do
+pub part_fits : (net : Net) (c : Clone) (from made next late : ℕ) (old text bytes given : List ℕ)
+    (after some was now : ℕ) → Wrote net c from made late old text after → Wrote net c made next late [] bytes some
+    → given ≡ bytes → length old + length (rest net c from) ≤ was → was ≤ now → length text + length given ≤ now
+part_fits net c from made next late old text bytes given after some was now h p same fits more =
+    let a = still_fits old text (rest net c from) (rest net c made) was now h.text fits more in
+    let b = ap length p.text in
+    let d = length-append bytes (rest net c next) in
+    let e = ap length same in
+    omega (arith, a, b, d, e)
 
 -- ---- a span of time
 

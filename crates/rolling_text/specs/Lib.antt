@@ -4,4 +4,6 @@ pub mod Lengths
 pub mod WorldTraces
 pub mod Texts
 pub mod Parts
+pub mod Orders
+pub mod Turns
 pub mod Counting

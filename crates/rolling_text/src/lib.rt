@@ -20,9 +20,18 @@
 //! `prepare` reserves 256 bytes a line, and no line is longer; memory that no text reaches is never touched. The
 //! name line stands at the end of the 32 bytes before the lines, so that each text is one slice, whatever its name. A
 //! line that is not shared costs its entry from the stations' logs, merged by key, and its bytes; while a clone's lines
-//! are written, those are counted that the next one drops. Long texts are written by several workers, in rounds: each
-//! merges what comes in a span of time and makes its lines in a buffer of its own, and then these are put behind the
-//! text, one after the other, while the workers make the lines of the next round.
+//! are written, those are counted that the next one drops. Long texts are written by several workers, which stay for one
+//! whole text. The text is cut into spans of about 8,192 lines. The others are makers: each merges what comes in a span
+//! and makes its lines in a buffer of its own, one span after another. The caller puts these behind the text, in order,
+//! and gives each maker its next span before it copies what that maker has made:
+//!
+//! ```text
+//!            written | span of 1 | span of 2 | span of 3 | not given yet
+//!   then 1 is done:  | copied    | span of 2 | span of 3 | span of 1 | not given yet
+//! ```
+//!
+//! A span that its maker has not begun is made by the caller. The times at which spans end are hints, and no text depends
+//! on them.
 //!
 //! The promise that it carries: **each text is the trace of its clone simulated alone**, byte for byte, and none needs
 //! memory once the first is put, so out of memory comes before any output.
@@ -32,12 +41,13 @@ mod bounds;
 pub mod laws;
 mod lines;
 mod logs;
+mod making;
 mod page;
 mod part;
 mod parting;
 mod putting;
-mod rounds;
 mod texts;
+mod turns;
 mod world_traces;
 mod writing;
 

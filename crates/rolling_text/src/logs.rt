@@ -76,29 +76,48 @@ fn time_at(log: &Log, place: u64, other: u64) -> u64 {
     }
 }
 
-/// A time at which about half of what the clone handled from a time on and before another is done: that of the entry in
-/// the middle, at the station that handled most. Beside it, how many messages it handled then. Both are hints.
-pub(crate) fn middle_of(world: &World, c: u32, from: u64, until: u64) -> (u64, u64)
+/// Where most was handled in a span of time.
+#[derive(Drop)]
+pub(crate) struct Busiest<'a> {
+    log: Option<&'a Log>,
+    place: u64,
+    count: u64,
+    /// How many messages all stations handled then: a hint.
+    pub all: u64,
+}
+
+/// The station that handled most of what a clone handled from a time on and before another.
+pub(crate) fn busiest_of<'a>(world: &'a World, c: u32, from: u64, until: u64) -> Busiest<'a>
     requires over { IsOver world.now }
     requires there { c < length world.now.clones }
-    requires order { from ≤ until }
-    ensures late { from ≤ result.0 }
-    ensures early { result.0 ≤ until }
 {
-    let mut all: u64 = 0;
-    let mut most: u64 = 0;
-    let mut time = from;
+    let mut busiest = Busiest {
+        log: None,
+        place: 0,
+        count: 0,
+        all: 0,
+    };
     for s in 0..world.model().len() {
         let log = world.log(c, s + 1);
         let place = log.place_of_time(from);
         let count = log.place_of_time(until).saturating_sub(place);
-        all = all.saturating_add(count);
-        if most < count {
-            most = count;
-            time = time_at(log, place.saturating_add(count / 2), from)
-                .max(from)
-                .min(until);
+        busiest.all = busiest.all.saturating_add(count);
+        if busiest.count < count {
+            busiest.log = Some(log);
+            busiest.place = place;
+            busiest.count = count;
         }
     }
-    (time, all)
+    busiest
+}
+
+impl<'a> Busiest<'a> {
+    /// When it had done so many of so many equal pieces, or another time where nothing was handled. It is a hint.
+    pub(crate) fn time_of(&self, piece: u64, pieces: u64, other: u64) -> u64 {
+        let done = self.count.saturating_mul(piece) / pieces.max(1);
+        match self.log {
+            Some(log) => time_at(log, self.place.saturating_add(done), other),
+            None => other,
+        }
+    }
 }

@@ -1,18 +1,19 @@
 //! A buffer whose memory is taken once, and written forward.
-ghost use Rattle.std.specs.Prelude.{◌≡◌, ◌+◌, ◌^◌, ◌<◌, ◌≤◌, [], ◌++◌, length, take, drop, IfOk};
-ghost use Rattle.std.specs.Thread.{IsSync};
+ghost use Rattle.std.specs.Prelude.{◌≡◌, ◌+◌, ◌^◌, ◌<◌, ◌≤◌, ◌++◌, length, take, drop, IfOk};
 ghost use Rattle.sim_base.specs.Clones.{clone_at};
-ghost use Rattle.rolling_text.specs.Parts.{Wrote, text_of, late_of};
+ghost use Rattle.rolling_text.specs.Parts.{Wrote};
 ghost use Rattle.rolling_text.specs.Texts.{rest};
 ghost use Rattle.rolling_text.specs.WorldTraces.{IsWalk};
 
 use crate::logs::{count_from, len_between};
-use crate::part::Part;
-use crate::rounds::ends_of_rounds;
+use crate::making::{Maker, serve_once};
+use crate::turns::Turns;
 use crate::world_traces::WorldTraces;
-use crate::writing::{make_parts, put_span};
+use crate::writing::put_span;
 use sim_base::NoMemory;
 use std::alloc::Global;
+use std::sync::Wait;
+use std::sync::atomic::{AtomicBool, Ordering};
 use std::thread::{Threads, join_mut};
 use trace_cursor::Cursor;
 
@@ -111,40 +112,30 @@ impl Page {
         }
     }
 
-    // Writes parts behind the text. Returns how many bytes of them are late.
-    fn put_parts(&mut self, parts: &[Part]) -> usize
-        requires fits { length self.old.text + length (text_of parts.now) ≤ self.old.reserved }
-        ensures text { self.new.text ≡ self.old.text ++ text_of parts.now }
-        ensures late { result ≡ late_of parts.now }
-        ensures reserved { self.old.reserved ≤ self.new.reserved }
-    {
-        let mut after = 0;
-        for part in parts {
-            self.append(&part.bytes);
-            let _all = self.len();
-            after += part.after;
-        }
-        after
-    }
-
-    // The same in rounds that end at these times: while the parts of one are put behind the text, so many workers make
-    // those of the next. Where there is no memory for them, one worker writes what is left, and takes none.
-    fn put_rounds<'a, R: Threads + Sync>(
+    // The same, where makers have the first spans of it: while a part is put behind the text, they make the next ones. Where
+    // one is out of memory, this worker writes what is left, and takes none.
+    fn put_turns<'a, R: Wait>(
         &mut self,
         rt: &R,
         alloc: Global,
         traces: &WorldTraces<'a>,
-        workers: u32,
+        turns: &mut Turns<'_>,
         walk: &mut Cursor<'a>,
         c: u32,
         from: u64,
         until: u64,
         late: u64,
-        ends: &[u64],
     ) -> usize
         requires there { c < length traces.now.clones }
         requires walk { IsWalk traces.now.net walk.old }
         requires order { from ≤ until }
+        requires turns { turns.old ≡ record {
+          net = traces.now.net;
+          list = clone_at traces.now.clones c;
+          from = from;
+          until = until;
+          late = late;
+        } }
         requires fits { length self.old.text + length (rest traces.now.net (clone_at traces.now.clones c) from)
             ≤ self.old.reserved }
         ensures wrote { Wrote traces.now.net (clone_at traces.now.clones c) from until late
@@ -154,33 +145,22 @@ impl Page {
     {
         let mut made = from;
         let mut after = 0;
-        let mut parts = Vec::new(alloc);
-        for end in ends {
-            // the times are hints, and no round ends before it begins
-            let next = (*end).max(made).min(until);
-            let (more, put) = put_beside(
-                self, rt, alloc, traces, workers, c, made, next, late, &parts,
-            );
+        for _ in 0..turns.count() {
+            let Some(part) = turns.next(rt, alloc) else {
+                break;
+            };
+            self.append(&part.bytes);
             let _all = self.len();
-            after += put;
-            match more {
-                Ok(more) => parts = more,
-                Err(_) => {
-                    let left = self.put_alone(traces, walk, c, made, until, late);
-                    let _all = self.len();
-                    return after + left;
-                }
-            }
-            made = next;
+            after += part.after;
+            made = turns.made();
         }
-        let put = self.put_parts(&parts);
         let left = self.put_alone(traces, walk, c, made, until, late);
         let _all = self.len();
-        after + put + left
+        after + left
     }
 
-    // The same by one worker, where there are few lines, and else in rounds.
-    fn put_by<'a, R: Threads + Sync>(
+    // The same by one worker, where there are few lines, and else beside makers.
+    fn put_by<'a, R: Threads + Wait + Sync>(
         &mut self,
         rt: &R,
         alloc: Global,
@@ -205,9 +185,11 @@ impl Page {
         if workers <= 1 || count_from(traces.world, c, from) < LONG {
             return self.put_alone(traces, walk, c, from, until, late);
         }
-        match ends_of_rounds(alloc, traces, c, from, until) {
-            Ok(ends) => self.put_rounds(
-                rt, alloc, traces, workers, walk, c, from, until, late, &ends,
+        // lent again, since the turns are shorter than what the traces lend
+        let mut turns = Turns::new(alloc, &*traces, c, from, until, late);
+        match turns.begin(alloc, u64::from(workers - 1)) {
+            Ok(makers) => put_beside(
+                self, rt, alloc, traces, &mut turns, makers, walk, c, from, until, late,
             ),
             Err(_) => self.put_alone(traces, walk, c, from, until, late),
         }
@@ -215,7 +197,7 @@ impl Page {
 
     /// Writes the lines of a clone from a time on behind the text, by so many workers. Returns how many bytes of its
     /// lines are of another time or later.
-    pub fn put_rest<'a, R: Threads + Sync>(
+    pub fn put_rest<'a, R: Threads + Wait + Sync>(
         &mut self,
         rt: &R,
         alloc: Global,
@@ -259,38 +241,61 @@ fn overwrite(bytes: &mut [u8], at: usize, piece: &[u8])
     bytes[at..end].copy_from_slice(piece);
 }
 
-// Writes the parts of one round behind the text, while so many workers make those of the next. Returns these, and how
-// many bytes of what was written are late.
-fn put_beside<R: Threads + Sync>(
+// Writes the lines of a clone from a time on and before another behind the text, beside the makers that make them. Then
+// these end.
+fn put_beside<'a, R: Threads + Wait + Sync>(
     page: &mut Page,
     rt: &R,
     alloc: Global,
-    traces: &WorldTraces<'_>,
-    workers: u32,
+    traces: &WorldTraces<'a>,
+    turns: &mut Turns<'_>,
+    makers: Vec<Maker<'_>>,
+    walk: &mut Cursor<'a>,
     c: u32,
     from: u64,
     until: u64,
     late: u64,
-    parts: &[Part],
-) -> (Result<Vec<Part>, NoMemory>, usize)
+) -> usize
     requires there { c < length traces.now.clones }
+    requires walk { IsWalk traces.now.net walk.old }
     requires order { from ≤ until }
-    requires fits { length page.old.text + length (text_of parts.now) ≤ page.old.reserved }
-    ensures made { IfOk result.0 (λ more. Wrote traces.now.net (clone_at traces.now.clones c) from until late
-        [] (text_of more.items) (late_of more.items)) }
-    ensures text { page.new.text ≡ page.old.text ++ text_of parts.now }
-    ensures late { result.1 ≡ late_of parts.now }
+    requires turns { turns.old ≡ record {
+      net = traces.now.net;
+      list = clone_at traces.now.clones c;
+      from = from;
+      until = until;
+      late = late;
+    } }
+    requires fits { length page.old.text + length (rest traces.now.net (clone_at traces.now.clones c) from)
+        ≤ page.old.reserved }
+    ensures wrote { Wrote traces.now.net (clone_at traces.now.clones c) from until late
+        page.old.text page.new.text result }
     ensures reserved { page.old.reserved ≤ page.new.reserved }
+    ensures walk { IsWalk traces.now.net walk.new }
 {
-    let mut make = || -> Result<Vec<Part>, NoMemory>
-        requires { IsSync R.row × (c < length traces.now.clones) × (from ≤ until) }
-        ensures { IfOk result (λ more. Wrote traces.entry.now.net (clone_at traces.entry.now.clones c) from until late
-            [] (text_of more.items) (late_of more.items)) }
-    { make_parts(rt, alloc, traces, workers, c, from, until, late) };
+    let ended = AtomicBool::new(false);
+    let mut makers = Some(makers);
+    let mut make = || serve_once(rt, alloc, &ended, &mut makers);
     let mut put = || -> usize
-        requires { length page.now.text + length (text_of parts.now) ≤ page.now.reserved }
-        ensures { (page.exit.now.text ≡ page.entry.now.text ++ text_of parts.entry.now)
-            × (result ≡ late_of parts.entry.now) × (page.entry.now.reserved ≤ page.exit.now.reserved) }
-    { page.put_parts(parts) };
-    join_mut(rt, &mut make, &mut put)
+        requires { (c < length traces.now.clones) × IsWalk traces.now.net walk.now × (from ≤ until)
+            × (turns.now ≡ record {
+              net = traces.now.net;
+              list = clone_at traces.now.clones c;
+              from = from;
+              until = until;
+              late = late;
+            })
+            × (length page.now.text + length (rest traces.now.net (clone_at traces.now.clones c) from)
+            ≤ page.now.reserved) }
+        ensures { Wrote traces.entry.now.net (clone_at traces.entry.now.clones c) from until late
+            page.entry.now.text page.exit.now.text result
+            × (page.entry.now.reserved ≤ page.exit.now.reserved)
+            × IsWalk traces.entry.now.net walk.exit.now }
+    {
+        let after = page.put_turns(rt, alloc, traces, turns, walk, c, from, until, late);
+        ended.store(true, Ordering::SeqCst);
+        after
+    };
+    let (_, after) = join_mut(rt, &mut make, &mut put);
+    after
 }

@@ -15,6 +15,7 @@ use crate::world_traces::WorldTraces;
 use sim_base::Name;
 use sim_outer::{PutFailed, Sink};
 use std::alloc::Global;
+use std::sync::Wait;
 use std::thread::Threads;
 use trace_cursor::Cursor;
 
@@ -37,7 +38,7 @@ fn put_head(page: &mut Page, name: &Name) -> usize
 
 // Makes the lines of a clone of those of the clone before, of which so many bytes are dropped. Returns how many of the
 // clone's own the next one drops, which parts from it at a time.
-fn roll<'a, R: Threads + Sync>(
+fn roll<'a, R: Threads + Wait + Sync>(
     rt: &R,
     alloc: Global,
     traces: &WorldTraces<'a>,
@@ -68,7 +69,7 @@ fn roll<'a, R: Threads + Sync>(
 }
 
 // The texts, whose buffer is given.
-fn put_all<'a, O: Sink, R: Threads + Sync>(
+fn put_all<'a, O: Sink, R: Threads + Wait + Sync>(
     rt: &R,
     alloc: Global,
     traces: &WorldTraces<'a>,
@@ -108,7 +109,7 @@ fn put_all<'a, O: Sink, R: Threads + Sync>(
 ///
 /// The lines that a clone shares with the one before it stay where they are. Long texts are written by so many workers,
 /// if there is memory for it, and else by one, which takes none.
-pub fn put_texts<'a, O: Sink, R: Threads + Sync>(
+pub fn put_texts<'a, O: Sink, R: Threads + Wait + Sync>(
     rt: &R,
     alloc: Global,
     traces: &WorldTraces<'a>,

@@ -1,23 +1,18 @@
-//! The lines of a clone, made by several workers: each makes those of a span of time, in a buffer of its own.
-//!
-//!     span     3 gate ..   7 desk ..|8 desk ..   14 out ..|15 gate .. ..
-//!     worker   first                 second                third
-ghost use Rattle.std.specs.Prelude.{◌≡◌, ◌+◌, ◌<◌, ◌≤◌, ◌∷◌, [], ◌++◌, length, drop, vec_capacity, IfOk, OnErr};
-ghost use Rattle.std.specs.Thread.{IsSync};
+//! The lines of a clone in a span of time, behind a text or in a buffer of their own.
+ghost use Rattle.std.specs.Prelude.{◌≡◌, ◌+◌, ◌<◌, ◌≤◌, [], length, drop, vec_capacity, IfOk, OnErr};
 ghost use Rattle.sim_base.specs.Clones.{clone_at};
 ghost use Rattle.stations.specs.Runs.{simulation, trace_of};
 ghost use Rattle.run_laws.specs.SharedTexts.{from_on};
-ghost use Rattle.rolling_text.specs.Parts.{Wrote, text_of, late_of};
+ghost use Rattle.rolling_text.specs.Parts.{Wrote};
 ghost use Rattle.rolling_text.specs.Texts.{rest};
 ghost use Rattle.rolling_text.specs.WorldTraces.{IsWalk};
 
 use crate::lines::{gather, put_entries};
-use crate::logs::{count_from, middle_of};
+use crate::logs::count_from;
 use crate::part::Part;
 use crate::world_traces::WorldTraces;
 use sim_base::NoMemory;
 use std::alloc::Global;
-use std::thread::{Threads, join};
 use trace_cursor::Cursor;
 
 // Gives a cursor what a clone handled from a time on. Returns how many of these entries come before another time.
@@ -74,8 +69,10 @@ pub(crate) fn put_span<'a>(
     put_entries(bytes, walk, count, model, &traces.names, late)
 }
 
-// The same in a buffer of its own, with a cursor of its own.
-fn make_part(
+/// The same in a buffer of its own, with a cursor of its own.
+///
+/// Errors: out of memory.
+pub(crate) fn make_part(
     alloc: Global,
     traces: &WorldTraces<'_>,
     c: u32,
@@ -95,80 +92,4 @@ fn make_part(
     let mut bytes = Vec::with_capacity(alloc, (count as usize).saturating_mul(256))?;
     let after = put_entries(&mut bytes, &mut walk, count, model, &traces.names, late)?;
     Ok(Part { bytes, after })
-}
-
-// A list of one part.
-fn list_of(alloc: Global, part: Part) -> Result<Vec<Part>, NoMemory>
-    ensures value { IfOk result (λ parts. parts.items ≡ part ∷ []) }
-{
-    let mut parts = Vec::with_capacity(alloc, 1)?;
-    parts.push(part)?;
-    Ok(parts)
-}
-
-// The parts of two lists, one behind the other.
-fn add_all(mut parts: Vec<Part>, mut more: Vec<Part>) -> Result<Vec<Part>, NoMemory>
-    ensures value { IfOk result (λ all. all.items ≡ parts.items ++ more.items) }
-{
-    parts.append(&mut more)?;
-    Ok(parts)
-}
-
-// The whole span as one part.
-fn make_alone(
-    alloc: Global,
-    traces: &WorldTraces<'_>,
-    c: u32,
-    from: u64,
-    until: u64,
-    late: u64,
-) -> Result<Vec<Part>, NoMemory>
-    requires there { c < length traces.now.clones }
-    requires order { from ≤ until }
-    ensures wrote { IfOk result (λ parts. Wrote traces.now.net (clone_at traces.now.clones c) from until late
-        [] (text_of parts.items) (late_of parts.items)) }
-{
-    let part = make_part(alloc, traces, c, from, until, late)?;
-    list_of(alloc, part)
-}
-
-/// Makes the lines of a clone from a time on and before another, by so many workers: a part each.
-///
-/// Errors: out of memory in some worker.
-#[cycle(halves)]
-pub(crate) fn make_parts<R: Threads + Sync>(
-    rt: &R,
-    alloc: Global,
-    traces: &WorldTraces<'_>,
-    workers: u32,
-    c: u32,
-    from: u64,
-    until: u64,
-    late: u64,
-) -> Result<Vec<Part>, NoMemory>
-    requires there { c < length traces.now.clones }
-    requires order { from ≤ until }
-    ensures wrote { IfOk result (λ parts. Wrote traces.now.net (clone_at traces.now.clones c) from until late
-        [] (text_of parts.items) (late_of parts.items)) }
-{
-    if workers <= 1 {
-        return make_alone(alloc, traces, c, from, until, late);
-    }
-    let (middle, _) = middle_of(traces.world, c, from, until);
-    let some = workers / 2;
-    let others = workers - some;
-    let early = || -> Result<Vec<Part>, NoMemory>
-        requires { IsSync R.row × (c < length traces.now.clones) × (from ≤ middle) }
-        ensures { IfOk result (λ parts. Wrote traces.entry.now.net (clone_at traces.entry.now.clones c) from middle late
-            [] (text_of parts.items) (late_of parts.items)) }
-    { make_parts(rt, alloc, traces, some, c, from, middle, late) };
-    let later = || -> Result<Vec<Part>, NoMemory>
-        requires { IsSync R.row × (c < length traces.now.clones) × (middle ≤ until) }
-        ensures { IfOk result (λ parts. Wrote traces.entry.now.net (clone_at traces.entry.now.clones c) middle until late
-            [] (text_of parts.items) (late_of parts.items)) }
-    { make_parts(rt, alloc, traces, others, c, middle, until, late) };
-    let (parts, more) = join(rt, early, later);
-    let parts = parts?;
-    let more = more?;
-    add_all(parts, more)
 }

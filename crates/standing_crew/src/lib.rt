@@ -14,10 +14,10 @@
 //! ```text
 //! let (team, members) = Team::begin(alloc, workers)?;
 //! let bell = team.bell()?;
-//! let outs = thread::join(
+//! let (_, outs) = thread::join(
 //!     &rt,
-//!     || { let outs = drive(team, ..); bell.end(); outs },    // each call: `let (team, outs) = team.all(.., work, items, ..)?`
 //!     || serve_all(&rt, alloc, &NoGate, &bell, members),
+//!     || { let outs = drive(team, ..); bell.end(); outs },    // each call: `let (team, outs) = team.all(.., work, items, ..)?`
 //! );
 //! ```
 //!

@@ -83,7 +83,8 @@ pub fn serve<W: Work + Send + Drop, G: Gate, R: Wait>(
 }
 
 /// Runs the workers' part of a team, each in a thread of its own, until the bell says that no more calls come. Where no
-/// thread can be made they run one after another: so in a join with the caller's part, put that first.
+/// thread can be made they run one after another. So in a join with the caller's part it comes first: `thread::join`
+/// runs its first closure in a new thread, or where none can be made after the second, when the bell has ended.
 pub fn serve_all<W: Work + Send + Drop, G: Gate, R: Threads + Wait + Sync>(
     rt: &R,
     alloc: Global,

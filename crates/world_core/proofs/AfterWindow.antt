@@ -34,7 +34,7 @@ use Rattle.run_laws.proofs.Stands.{stands_after_window}
 use Rattle.run_laws.proofs.Gaining.{over_is_beyond, handled_grows, handled_is_few}
 use Rattle.phys_proc.specs.Own.{StationCopy, Marked, IsCopy, given}
 use Rattle.phys_proc.specs.Procs.{ProcView}
-use Rattle.phys_proc.specs.declared.proc.Flow.{Flow}
+use Rattle.world_core.specs.declared.flow.Flow.{Flow}
 use Rattle.phys_proc.proofs.Onward.{sets_join}
 use Rattle.phys_proc.proofs.Given.{all_given}
 use Rattle.world_core.specs.Worlds.{StandsAt, copies_at, total_handled}

@@ -5,7 +5,7 @@ use Rattle.net_model.specs.Net.{Net}
 use Rattle.stations.specs.Runs.{simulation}
 use Rattle.run_laws.specs.Copies.{IsStepped, AreOver, GainTogether}
 use Rattle.phys_proc.specs.Procs.{ProcView, IsProc}
-use Rattle.phys_proc.specs.declared.proc.Flow.{Flow}
+use Rattle.world_core.specs.declared.flow.Flow.{Flow}
 use Rattle.world_core.specs.Windows.{AllFlow, IsFlow}
 use Rattle.world_core.proofs.Places.{at_got}
 

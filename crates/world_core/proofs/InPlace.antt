@@ -10,7 +10,7 @@ use Rattle.clone_sets.specs.declared.set.CloneSet.{CloneSet}
 use Rattle.net_model.specs.Net.{Net}
 use Rattle.phys_proc.specs.Own.{Marked, AreLate}
 use Rattle.phys_proc.specs.Procs.{ProcView, AreShared}
-use Rattle.phys_proc.specs.declared.proc.Flow.{Flow}
+use Rattle.world_core.specs.declared.flow.Flow.{Flow}
 use Rattle.phys_proc.proofs.AllCopies.{idle, all_stepped, all_over, all_gained}
 use Rattle.world_core.specs.Windows.{IsFlow, IsNumbered, NoneOver, all_handled, all_sent}
 use Rattle.world_core.specs.Overs.{IsFirstOver}

@@ -12,7 +12,7 @@ use Rattle.stations.specs.Runs.{simulation, IsBeyond}
 use Rattle.run_laws.specs.Fronts.{next_front}
 use Rattle.run_laws.specs.Copies.{ends_of}
 use Rattle.phys_proc.specs.Procs.{ProcView}
-use Rattle.phys_proc.specs.declared.proc.Flow.{Flow}
+use Rattle.world_core.specs.declared.flow.Flow.{Flow}
 use Rattle.world_core.specs.Worlds.{StandsAt}
 use Rattle.world_core.specs.Windows.{AllFlow, NoneOver}
 use Rattle.world_core.specs.Overs.{IsFirstBeyond, IsFirstOver, NoneBeyond}

@@ -7,7 +7,7 @@ use Rattle.std.proofs.lemmas.List.Sums.{sum_by-cons}
 use Rattle.net_model.specs.Net.{Net}
 use Rattle.phys_proc.specs.Own.{Marked}
 use Rattle.phys_proc.specs.Procs.{ProcView}
-use Rattle.phys_proc.specs.declared.proc.Flow.{Flow}
+use Rattle.world_core.specs.declared.flow.Flow.{Flow}
 use Rattle.crew_pool.specs.Tasks.{AnswersTo, EachAnswers, EachReady}
 use Rattle.world_core.specs.Jobs.{IsDone, IsJob, steps_of}
 use Rattle.world_core.specs.Posts.{ArePosts, PostView}

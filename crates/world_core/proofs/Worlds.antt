@@ -11,7 +11,7 @@ use Rattle.run_laws.specs.Copies.{Stands, ends_of}
 use Rattle.run_laws.proofs.NextFronts.{window_end-within}
 use Rattle.phys_proc.specs.Gone.{ends_in}
 use Rattle.phys_proc.specs.Procs.{ProcView}
-use Rattle.phys_proc.specs.declared.proc.Flow.{Flow}
+use Rattle.world_core.specs.declared.flow.Flow.{Flow}
 use Rattle.phys_proc.proofs.Gone.{ends_soon}
 use Rattle.world_core.specs.Worlds.{AreInNet, StandsAt, WorldStands, total_handled}
 use Rattle.world_core.specs.Windows.{MayStep, AllNumbered, AllFlow, AllDelivered, AreNumbered, NoneOver}

@@ -4,7 +4,7 @@ use Rattle.sim_base.specs.Clones.{Clone, clone_at}
 use Rattle.clone_sets.specs.Sets.{empty, IsFirst}
 use Rattle.net_model.specs.Net.{Net}
 use Rattle.stations.specs.Runs.{IsBeyond}
-use Rattle.phys_proc.specs.declared.proc.Flow.{Flow}
+use Rattle.world_core.specs.declared.flow.Flow.{Flow}
 use Rattle.world_core.specs.declared.world.WorldFault.{WorldFault}
 use Rattle.world_core.specs.declared.world.WorldFault.TheVariants.{NoMemory, EventLimit}
 use Rattle.world_core.specs.Worlds.{total_handled}

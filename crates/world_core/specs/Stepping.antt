@@ -4,7 +4,7 @@ use Rattle.clone_sets.specs.declared.set.CloneSet.{CloneSet}
 use Rattle.net_model.specs.Net.{Net}
 use Rattle.phys_proc.specs.Own.{Marked}
 use Rattle.phys_proc.specs.Procs.{ProcView}
-use Rattle.phys_proc.specs.declared.proc.Flow.{Flow}
+use Rattle.world_core.specs.declared.flow.Flow.{Flow}
 use Rattle.world_core.specs.Windows.{AllFlow, IsFlow, NoneOver, all_handled, all_sent}
 use Rattle.world_core.specs.Overs.{IsFirstOver}
 

@@ -9,7 +9,7 @@ use Rattle.stations.specs.Runs.{simulation}
 use Rattle.run_laws.specs.Copies.{IsStepped, AreOver, GainTogether}
 use Rattle.phys_proc.specs.Own.{StationCopy, Marked, given}
 use Rattle.phys_proc.specs.Procs.{ProcView, IsProc}
-use Rattle.phys_proc.specs.declared.proc.Flow.{Flow}
+use Rattle.world_core.specs.declared.flow.Flow.{Flow}
 
 -- what the tasks of a window share: the network, when clones end, and how far the window goes
 pub record WindowView : Type 0 where

@@ -3,9 +3,9 @@ ghost use Rattle.std.specs.Prelude.{◌≡◌, map, IfOk, OnOk, ◌++◌, ◌∷
 ghost use Rattle.world_core.specs.declared.jobs.Job.TheVariants.{Step as Step', Give as Give'};
 ghost use Rattle.world_core.specs.declared.jobs.Done.TheVariants.{Stepped as Stepped', Given as Given'};
 
+use crate::flow::Flow;
 use crate::posts::Post;
 use crate::timed_proc::TimedProc;
-use phys_proc::Flow;
 use sim_base::NoMemory;
 use std::alloc::Global;
 

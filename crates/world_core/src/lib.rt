@@ -40,6 +40,7 @@
 #![tactic(auto)]
 
 mod delivery;
+mod flow;
 pub mod jobs;
 mod looking;
 mod posts;

@@ -26,18 +26,14 @@ impl std::marker::Model for Post {
     ghost view = { λ p. record { proc = p.proc; mail = p.mail.items } };
 }
 
-// How many messages a station's mail has memory for from the start.
-const FEW: usize = 64;
-
 impl Post {
-    // Nothing is to be given to the copies so far.
-    fn empty(alloc: Global, proc: TimedProc) -> Result<Post, NoMemory>
-        ensures empty { IfOk result (λ post. post ≡ no_mail proc) }
+    // Nothing is to be given to the copies so far. The mail goes into the buffer that the station keeps.
+    fn empty(alloc: Global, proc: TimedProc) -> Post
+        ensures empty { result ≡ no_mail proc }
     {
-        Ok(Post {
-            proc,
-            mail: Vec::with_capacity(alloc, FEW)?,
-        })
+        let mut proc = proc;
+        let mail = proc.lend(alloc);
+        Post { proc, mail }
     }
 
     // One message more is to be given to the copies.
@@ -61,6 +57,7 @@ impl Post {
         for pair in mail.as_slice() {
             proc.deliver(pair.0, pair.1)?;
         }
+        proc.keep(mail);
         Ok(proc)
     }
 }
@@ -83,7 +80,7 @@ fn with_no_mail(alloc: Global, procs: Vec<TimedProc>) -> Result<Vec<Post>, NoMem
 {
     let mut posts = Vec::with_capacity(alloc, procs.len())?;
     for proc in procs {
-        posts.push(Post::empty(alloc, proc)?)?;
+        posts.push(Post::empty(alloc, proc))?;
     }
     Ok(posts)
 }

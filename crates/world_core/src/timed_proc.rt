@@ -17,16 +17,20 @@ use net_model::Model;
 use phys_proc::{CloneEnds, Gain, PhysCopy, Proc, Rack};
 use sim_base::{Lists, Msg, NoMemory, Steps};
 use std::alloc::Global;
+use std::mem;
 use std::sync::Arc;
 use std::sync::ledger::Ledger;
 
 /// The copies of one station, beside a lower bound of the times of their pending messages. So a station with nothing
-/// due is known by one comparison.
+/// due is known by one comparison, and little is moved where it is handed to a worker.
 #[derive(Drop)]
 pub struct TimedProc {
-    proc: Proc,
+    proc: Box<Proc>,
     // nothing is pending before it
     least: u64,
+    // for what the station sends, or is sent, in a window: it is kept from window to window, so that its memory is
+    // taken once, and no clause sees what it has
+    buffer: Vec<(Msg, CloneSet)>,
 }
 
 impl std::marker::Model for TimedProc {
@@ -35,9 +39,9 @@ impl std::marker::Model for TimedProc {
 
     ghost Value = { ProcView };
 
-    ghost view = { λ t. t.proc };
+    ghost view = { λ t. t.proc.value };
 
-    ghost invariant = { λ t. AreLate t.least t.proc.copies };
+    ghost invariant = { λ t. AreLate t.least t.proc.value.copies };
 }
 
 /// The lesser of two times, where there is one.
@@ -55,19 +59,32 @@ pub(crate) fn earlier(a: Option<u64>, b: Option<u64>) -> Option<u64>
 
 impl TimedProc {
     /// The copies, with the time that they know of.
-    pub fn of(proc: Proc) -> TimedProc
-        ensures same { result ≡ proc }
+    pub fn of(alloc: Global, proc: Proc) -> Result<TimedProc, NoMemory>
+        ensures same { IfOk result (λ timed. timed ≡ proc) }
     {
         let least = proc.earliest();
-        TimedProc { proc, least }
+        Ok(TimedProc {
+            proc: Box::new(alloc, proc)?,
+            least,
+            buffer: Vec::new(alloc),
+        })
     }
 
-    /// The copies themselves.
-    pub fn into_proc(self) -> Proc
-        ensures same { result ≡ self }
+    /// A buffer with nothing in it: the one that the station keeps, if it has it.
+    pub fn lend(&mut self, alloc: Global) -> Vec<(Msg, CloneSet)>
+        ensures none { result.items ≡ [] }
+        ensures same { self.new ≡ self.old }
     {
-        let TimedProc { proc, least: _ } = self;
-        proc
+        let mut buffer = mem::replace(&mut self.buffer, Vec::new(alloc));
+        buffer.clear();
+        buffer
+    }
+
+    /// The station keeps the buffer, whatever is in it.
+    pub fn keep(&mut self, buffer: Vec<(Msg, CloneSet)>)
+        ensures same { self.new ≡ self.old }
+    {
+        self.buffer = buffer;
     }
 
     /// Whether nothing is pending before the bound.

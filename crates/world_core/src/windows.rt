@@ -5,10 +5,11 @@ ghost use Rattle.std.specs.Prelude.{Some, None, List, length, map, slice_get, If
 ghost use Rattle.clone_sets.specs.declared.set.CloneSet.{CloneSet as CloneSet'};
 ghost use Rattle.phys_proc.specs.Gone.{ends_in};
 ghost use Rattle.phys_proc.specs.Procs.{ProcView};
-ghost use Rattle.phys_proc.specs.declared.proc.Flow.{Flow as Flow'};
+ghost use Rattle.world_core.specs.declared.flow.Flow.{Flow as Flow'};
 ghost use Rattle.world_core.specs.Windows.{AllFlow, AllNumbered, IsFlow, MayStep, IsNumbered, all_handled, all_sent};
 ghost use Rattle.world_core.specs.Stepping.{FirstOver, AllStepped, SteppedAt};
 
+use crate::flow::Flow;
 use crate::jobs::{Done, Job, flows_of, steps_for};
 use crate::racks::shared;
 use crate::shared_ends::SharedEnds;
@@ -16,7 +17,7 @@ use crate::timed_proc::TimedProc;
 use clone_sets::CloneSet;
 use crew_pool::{Crew, Gate, Work};
 use net_model::Model;
-use phys_proc::{CloneEnds, Flow, Gain};
+use phys_proc::{CloneEnds, Gain};
 use sim_base::{Msg, NoMemory, Steps};
 use standing_crew::Team;
 use std::alloc::Global;
@@ -69,9 +70,15 @@ impl Window {
             self.now.bound _i proc flow) }
         ensures steps { IfOk result (λ flow. steps.new ≡ steps.old + flow.handled) }
     {
-        let proc = proc.into_proc();
-        let flow = proc.step(alloc, &self.model, &self.ends, self.bound, steps)?;
-        Ok(flow)
+        let mut done = proc;
+        let mut sent = done.lend(alloc);
+        let gain = done.advance(alloc, &self.model, &self.ends, self.bound, &mut sent, steps)?;
+        Ok(Flow {
+            done,
+            sent,
+            over: gain.over,
+            handled: gain.handled,
+        })
     }
 }
 
@@ -258,13 +265,14 @@ fn take_apart(
     let mut procs = Vec::with_capacity(alloc, flows.len())?;
     for flow in flows {
         let Flow {
-            done,
+            mut done,
             sent: out,
             over: _,
             handled: _,
         } = flow;
-        procs.push(TimedProc::of(done))?;
         put_behind(sent, out.as_slice())?;
+        done.keep(out);
+        procs.push(done)?;
     }
     Ok(procs)
 }

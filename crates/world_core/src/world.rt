@@ -46,7 +46,7 @@ pub const SMALL_WINDOW: u64 = 8_000;
 
 /// Windows that handle fewer messages than this run in the caller's thread also where there is a team: waking its
 /// workers costs more.
-pub const TEAM_WINDOW: u64 = 5_000;
+pub const TEAM_WINDOW: u64 = 2_000;
 
 impl std::marker::Model for World {
     ghost use Rattle.world_core.specs.Worlds.{WorldView, WorldStands};
@@ -76,7 +76,7 @@ fn open_all(alloc: Global, model: &Model) -> Result<Vec<TimedProc>, NoMemory>
     let mut procs = Vec::new(alloc);
     for s in 0..model.len() {
         let proc = Proc::new(alloc, model, s + 1)?;
-        procs.push(TimedProc::of(proc))?;
+        procs.push(TimedProc::of(alloc, proc)?)?;
     }
     Ok(procs)
 }

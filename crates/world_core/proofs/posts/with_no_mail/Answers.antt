@@ -13,7 +13,7 @@ loop-proc-preserved c =
       tt,
       tt,
       ap (λ l. l ++ map no_mail rest) c.in_ok-push.ensures.items
-          ∙ append_assoc posts (c.in_ok-empty.field-0 ∷ []) (map no_mail rest)
-          ∙ ap (λ (q : PostView). posts ++ q ∷ map no_mail rest) c.in_ok-empty.ensures.empty
+          ∙ append_assoc posts (c.empty.result ∷ []) (map no_mail rest)
+          ∙ ap (λ (q : PostView). posts ++ q ∷ map no_mail rest) c.empty.ensures.empty
           ∙ ap (λ l. posts ++ map no_mail l) (sym next) ∙ i.2,
     )

@@ -1,6 +1,6 @@
 use Rattle.std.proofs.Common.{◌≡◌, inl, inr, arith, sym, ap, ◌∙◌, subst}
 use Rattle.std.proofs.lemmas.Bool.{cases_eq}
-use Rattle.phys_proc.specs.declared.proc.Flow.{Flow}
+use Rattle.world_core.specs.declared.flow.Flow.{Flow}
 use Rattle.clone_sets.specs.Sets.{IsFirst}
 use Rattle.world_core.proofs.Places.{got_at, at_got, one_got}
 use Rattle.world_core.proofs.windows.first_over.Goals as goal

@@ -1,6 +1,6 @@
 use Rattle.std.proofs.Common.{◌≡◌, ℕ, ◌<◌, Some, slice_get}
 use Rattle.clone_sets.specs.Sets.{empty}
-use Rattle.phys_proc.specs.declared.proc.Flow.{Flow}
+use Rattle.world_core.specs.declared.flow.Flow.{Flow}
 use Rattle.world_core.proofs.windows.first_over.Given as goal
 
 abbrev pub invariant-loop-i : goal.invariant-loop-i

@@ -2,7 +2,7 @@ use Rattle.std.proofs.Common.{◌<◌, None, arith, refl, sym, ap, subst, ◌∙
 use Rattle.clone_sets.specs.Sets.{empty}
 use Rattle.phys_proc.specs.Own.{AreLate}
 use Rattle.phys_proc.specs.Gone.{ends_in}
-use Rattle.phys_proc.specs.declared.proc.Flow.{Flow}
+use Rattle.world_core.specs.declared.flow.Flow.{Flow}
 use Rattle.world_core.specs.Windows.{WindowView}
 use Rattle.world_core.specs.Stepping.{SteppedTo}
 use Rattle.world_core.proofs.Places.{got_at}

@@ -1,6 +1,6 @@
 use Rattle.std.proofs.Common.{◌≡◌, ◌++◌, sym, ap, ap₂, subst, ◌∙◌, length-set, slice_set}
 use Rattle.phys_proc.specs.Gone.{ends_in}
-use Rattle.phys_proc.specs.declared.proc.Flow.{Flow}
+use Rattle.world_core.specs.declared.flow.Flow.{Flow}
 use Rattle.world_core.specs.Windows.{WindowView, IsNumbered}
 use Rattle.world_core.specs.Stepping.{SteppedAt}
 use Rattle.world_core.proofs.Delivering.{set_same, set_other}

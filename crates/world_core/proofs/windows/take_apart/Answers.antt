@@ -1,7 +1,7 @@
 use Rattle.std.proofs.Common.{◌≡◌, ◌++◌, ◌∷◌, [], sym, ap, ◌∙◌, append_assoc, map}
 use Rattle.std.specs.Vec.Iter.{into_iter_items}
 use Rattle.phys_proc.specs.Procs.{ProcView}
-use Rattle.phys_proc.specs.declared.proc.Flow.{Flow}
+use Rattle.world_core.specs.declared.flow.Flow.{Flow}
 use Rattle.world_core.specs.Windows.{all_sent}
 use Rattle.world_core.proofs.windows.take_apart.Goals as goal
 
@@ -16,8 +16,8 @@ loop-flow-preserved c =
       tt,
       tt,
       ap (λ l. l ++ map (λ (x : Flow). x.done) rest) c.in_ok-push.ensures.items
-          ∙ append_assoc procs (c.of.result ∷ []) (map (λ (x : Flow). x.done) rest)
-          ∙ ap (λ (p : ProcView). procs ++ p ∷ map (λ (x : Flow). x.done) rest) c.of.ensures.same
+          ∙ append_assoc procs (c.keep.new.self ∷ []) (map (λ (x : Flow). x.done) rest)
+          ∙ ap (λ (p : ProcView). procs ++ p ∷ map (λ (x : Flow). x.done) rest) c.keep.ensures.same
           ∙ ap (λ l. procs ++ map (λ (x : Flow). x.done) l) (sym next) ∙ i.2,
       ap (λ l. l ++ all_sent rest) (c.in_ok-put_behind.ensures.both ∙ ap (λ l. sent ++ l) c.as_slice.ensures.value)
           ∙ append_assoc sent f.sent.items (all_sent rest) ∙ ap (λ l. sent ++ all_sent l) (sym next) ∙ i.3,

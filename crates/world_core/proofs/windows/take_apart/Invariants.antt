@@ -1,6 +1,6 @@
 use Rattle.std.proofs.Common.{◌≡◌, ◌++◌, map}
 use Rattle.std.specs.Vec.Iter.{into_iter_items}
-use Rattle.phys_proc.specs.declared.proc.Flow.{Flow}
+use Rattle.world_core.specs.declared.flow.Flow.{Flow}
 use Rattle.world_core.specs.Windows.{all_sent}
 use Rattle.world_core.proofs.windows.take_apart.Given as goal
 

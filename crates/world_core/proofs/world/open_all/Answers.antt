@@ -7,7 +7,7 @@ loop-s-preserved c =
     let n = c.loop-s.invariant.count in
     let p = c.in_ok-proc in
     let l = length-append c.loop-s.procs.items (p.proc ∷ []) in
-    rw (c.in_ok-push.ensures.items, c.of.ensures.same) (record {
+    rw (c.in_ok-push.ensures.items, c.in_ok-of.ensures.same) (record {
       count = omega (arith, n, l);
       first = first_push c.args.model.now c.loop-s.procs.items p.proc c.loop-s.s n c.loop-s.invariant.first (record {
         numbered = record { proc = p.ensures.proc; number = p.ensures.station };

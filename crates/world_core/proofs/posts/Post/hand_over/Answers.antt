@@ -40,7 +40,8 @@ returns c =
     let same : c.as_slice-pair-items.result.now ≡ c.args.self.mail =
     c.as_slice-pair-items.ensures.value ∙ ap (λ (v : PostView). v.mail) c.self.view_is in
     record {
-      given = subst (λ l. IsDeliveredTo l c.args.self.proc c.loop-pair.proc)
+      given = subst (IsDeliveredTo c.args.self.mail c.args.self.proc) (sym c.keep.ensures.same)
+          (subst (λ l. IsDeliveredTo l c.args.self.proc c.loop-pair.proc)
           (take_all i c.args.self.mail (subst (λ (l : Marked). length l ≤ i) same c.loop-pair-test.false))
-          c.loop-pair.invariant;
+          c.loop-pair.invariant);
     }

@@ -13,5 +13,5 @@ returns c =
       | in_default w ↦ w.before-is
     ] in
     let least = subst (λ (p : ProcView). IsLeast (ends_in c.args.model.now.horizon c.args.ends.now) p.copies here)
-    c.self.view_is c.least.ensures.least in
+    (c.deref.ensures ∙ c.self.view_is) c.least.ensures.least in
     record { least = inr (here, least, c.earlier.ensures.value ∙ ap (λ b. earlier b here) same) }

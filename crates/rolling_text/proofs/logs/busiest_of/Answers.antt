@@ -1,6 +1,6 @@
 use Rattle.std.proofs.Common.{◌+◌}
 use Rattle.rolling_text.proofs.LogLaws.{log_rises_by_time}
-use Rattle.rolling_text.proofs.logs.middle_of.Goals as goal
+use Rattle.rolling_text.proofs.logs.busiest_of.Goals as goal
 
 pub place_of_time-place-requires : goal.place_of_time-place-requires
 place_of_time-place-requires c = record {

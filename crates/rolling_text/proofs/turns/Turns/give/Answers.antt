@@ -1,0 +1,19 @@
+use Rattle.std.proofs.Common.{◌∙◌, Some, ap, arith, subst, sym}
+use Rattle.sim_base.specs.Clones.{clone_at}
+use Rattle.rolling_text.specs.Turns.{AreInTurn}
+use Rattle.rolling_text.proofs.InTurn.{one_more}
+use Rattle.rolling_text.proofs.turns.Turns.give.Goals as goal
+
+pub invariant_of-self-2 : goal.invariant_of-self-2
+invariant_of-self-2 c =
+    let t = c.self.inside in
+    let h = c.self.invariant in
+    let net = t.traces.now.net in
+    let list = clone_at t.traces.now.clones t.c in
+    record {
+      there = h.there;
+      in_turn = subst (λ bs. AreInTurn net list t.late t.made bs c.min-until.result) (sym c.in_ok-add.ensures.ok)
+          (one_more net list t.late t.made t.busy.items t.given _ h.in_turn (c.give.ensures.given ∙ ap Some c.new.ensures.value)
+          (omega (arith, c.max.ensures, c.min-until.ensures, h.within)));
+      within = omega (arith, c.min-until.ensures);
+    }

@@ -1,0 +1,172 @@
+//! The spans of a long text, which makers make in turn.
+//!
+//! ```text
+//!   written      | span of the first | of the second | of the third | left
+//!                made                                               given  until
+//! ```
+ghost use Rattle.std.specs.Prelude.{◌≡◌, ◌<◌, ◌≤◌, [], ◌∷◌, ◌++◌, None, length, IfSome, OnOk, OnErr};
+ghost use Rattle.sim_base.specs.Clones.{clone_at};
+ghost use Rattle.rolling_text.specs.Orders.{IsMade, until_of, since};
+
+use crate::logs::{Busiest, busiest_of};
+use crate::making::{Line, Maker, Order, finish, open_line};
+use crate::part::Part;
+use crate::world_traces::WorldTraces;
+use sim_base::NoMemory;
+use std::alloc::Global;
+use std::collections::VecDeque;
+use std::sync::Wait;
+
+// A span has about so many lines: to order it costs little beside them, and its buffer stays near the processor.
+const LINES: u64 = 8_192;
+
+/// The line of a maker that has a span to make, and when that ends.
+#[derive(Drop)]
+pub(crate) struct Busy<'a> {
+    pub(crate) line: Line<'a>,
+    pub(crate) until: u64,
+}
+
+/// What is not written yet of a clone's lines. Contracts see the span that this is.
+#[derive(Drop)]
+pub(crate) struct Turns<'a> {
+    traces: &'a WorldTraces<'a>,
+    c: u32,
+    made: u64,
+    given: u64,
+    until: u64,
+    late: u64,
+    busy: VecDeque<Busy<'a>>,
+    busiest: Busiest<'a>,
+    pieces: u64,
+    piece: u64,
+}
+
+impl<'a> std::marker::Model for Turns<'a> {
+    ghost use Rattle.sim_base.specs.Clones.{clone_at};
+    ghost use Rattle.rolling_text.specs.Orders.{Span};
+    ghost use Rattle.rolling_text.specs.Turns.{AreGiven};
+
+    ghost Value = { Span };
+
+    ghost view = { λ t. record {
+      net = t.traces.now.net;
+      list = clone_at t.traces.now.clones t.c;
+      from = t.made;
+      until = t.until;
+      late = t.late;
+    } };
+
+    ghost invariant = { λ t. AreGiven t.traces.now t.c t.late t.made t.busy.items t.given t.until };
+}
+
+// A line more behind the others.
+fn add<'a>(busy: &mut VecDeque<Busy<'a>>, one: Busy<'a>) -> Result<(), NoMemory>
+    ensures ok { OnOk result (busy.new.items ≡ busy.old.items ++ one.entry ∷ []) }
+    ensures err { OnErr result (busy.new.items ≡ busy.old.items) }
+{
+    busy.push_back(one)?;
+    Ok(())
+}
+
+impl<'a> Turns<'a> {
+    /// The lines of a clone from a time on and before another, of which no maker has any yet.
+    pub(crate) fn new(
+        alloc: Global,
+        traces: &'a WorldTraces<'a>,
+        c: u32,
+        from: u64,
+        until: u64,
+        late: u64,
+    ) -> Turns<'a>
+        requires there { c < length traces.now.clones }
+        requires order { from ≤ until }
+        ensures value { result ≡ record {
+          net = traces.now.net;
+          list = clone_at traces.now.clones c;
+          from = from;
+          until = until;
+          late = late;
+        } }
+    {
+        let busiest = busiest_of(traces.world, c, from, until);
+        let pieces = busiest.all / LINES + 1;
+        Turns {
+            traces,
+            c,
+            made: from,
+            given: from,
+            until,
+            late,
+            busy: VecDeque::new(alloc),
+            busiest,
+            pieces,
+            piece: 0,
+        }
+    }
+
+    /// How many spans these are: a hint.
+    pub(crate) fn count(&self) -> u64 {
+        self.pieces
+    }
+
+    /// The time from which on the lines are not written yet.
+    pub(crate) fn made(&self) -> u64
+        ensures value { result ≡ self.now.from }
+        ensures order { result ≤ self.now.until }
+    {
+        self.made
+    }
+
+    // Gives a maker the next span, where one is left.
+    fn give(&mut self, mut line: Line<'a>) -> Result<(), NoMemory>
+        requires idle { line ≡ None }
+        ensures same { self.new ≡ self.old }
+    {
+        if self.piece >= self.pieces {
+            return Ok(());
+        }
+        self.piece += 1;
+        let from = self.given;
+        // the times are hints, and no span ends before it begins
+        let hint = self.busiest.time_of(self.piece, self.pieces, self.until);
+        let until = hint.max(from).min(self.until);
+        line.give(Order::new(self.traces, self.c, from, until, self.late));
+        add(&mut self.busy, Busy { line, until })?;
+        self.given = until;
+        Ok(())
+    }
+
+    /// Gives each of so many makers its first span, where one is left for it.
+    ///
+    /// Errors: out of memory.
+    pub(crate) fn begin(&mut self, alloc: Global, most: u64) -> Result<Vec<Maker<'a>>, NoMemory>
+        ensures same { self.new ≡ self.old }
+    {
+        let mut makers = Vec::new(alloc);
+        for _ in 0..most.min(self.pieces) {
+            let (line, maker) = open_line(alloc)?;
+            self.give(line)?;
+            makers.push(maker)?;
+        }
+        Ok(makers)
+    }
+
+    /// The lines of the first span. Its maker is given the next one at once, so that it works while these are written.
+    ///
+    /// None where no maker has a span, or where there is no memory.
+    pub(crate) fn next<R: Wait>(&mut self, rt: &R, alloc: Global) -> Option<Part>
+        ensures made { IfSome result (λ part. IsMade (until_of self.old self.new.from) part) }
+        ensures others { self.new ≡ since self.old self.new.from }
+    {
+        let Some(Busy { mut line, until }) = self.busy.pop_front() else {
+            return None;
+        };
+        let made = finish(rt, alloc, &mut line);
+        self.made = until;
+        match self.give(line) {
+            Ok(()) => made.ok(),
+            Err(_) => None,
+        }
+    }
+}

@@ -1,0 +1,17 @@
+//! What a station's step in a window gives.
+use crate::timed_proc::TimedProc;
+use clone_sets::CloneSet;
+use sim_base::Msg;
+
+/// What the step of a station gives.
+#[derive(Drop)]
+pub struct Flow {
+    /// The copies at the bound; where some clone is over the limit they mean nothing.
+    pub done: TimedProc,
+    /// The messages to other stations, each with the clones that send it: in the buffer that the station keeps.
+    pub sent: Vec<(Msg, CloneSet)>,
+    /// The clones whose logs would get longer than the limit.
+    pub over: CloneSet,
+    /// How many messages were handled, each once for all clones of a copy.
+    pub handled: u64,
+}
