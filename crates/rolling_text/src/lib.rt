@@ -38,6 +38,7 @@
 #![tactic(auto)]
 
 mod bounds;
+mod cuts;
 pub mod laws;
 mod lines;
 mod logs;

@@ -8,7 +8,7 @@ ghost use Rattle.std.specs.Prelude.{◌≡◌, ◌<◌, ◌≤◌, [], ◌∷◌
 ghost use Rattle.sim_base.specs.Clones.{clone_at};
 ghost use Rattle.rolling_text.specs.Orders.{IsMade, until_of, since};
 
-use crate::logs::{Busiest, busiest_of};
+use crate::cuts::Cuts;
 use crate::making::{Line, Maker, Order, finish, open_line};
 use crate::part::Part;
 use crate::world_traces::WorldTraces;
@@ -16,9 +16,6 @@ use sim_base::NoMemory;
 use std::alloc::Global;
 use std::collections::VecDeque;
 use std::sync::Wait;
-
-// A span has about so many lines: to order it costs little beside them, and its buffer stays near the processor.
-const LINES: u64 = 8_192;
 
 /// The line of a maker that has a span to make, and when that ends.
 #[derive(Drop)]
@@ -37,9 +34,7 @@ pub(crate) struct Turns<'a> {
     until: u64,
     late: u64,
     busy: VecDeque<Busy<'a>>,
-    busiest: Busiest<'a>,
-    pieces: u64,
-    piece: u64,
+    cuts: Cuts<'a>,
 }
 
 impl<'a> std::marker::Model for Turns<'a> {
@@ -89,8 +84,6 @@ impl<'a> Turns<'a> {
           late = late;
         } }
     {
-        let busiest = busiest_of(traces.world, c, from, until);
-        let pieces = busiest.all / LINES + 1;
         Turns {
             traces,
             c,
@@ -99,15 +92,13 @@ impl<'a> Turns<'a> {
             until,
             late,
             busy: VecDeque::new(alloc),
-            busiest,
-            pieces,
-            piece: 0,
+            cuts: Cuts::new(traces, c, from, until),
         }
     }
 
-    /// How many spans these are: a hint.
+    /// More than there will be spans, where stations do not all work one after the other: a hint.
     pub(crate) fn count(&self) -> u64 {
-        self.pieces
+        self.cuts.pieces().saturating_mul(8)
     }
 
     /// The time from which on the lines are not written yet.
@@ -123,13 +114,12 @@ impl<'a> Turns<'a> {
         requires idle { line ≡ None }
         ensures same { self.new ≡ self.old }
     {
-        if self.piece >= self.pieces {
+        if self.given >= self.until {
             return Ok(());
         }
-        self.piece += 1;
         let from = self.given;
         // the times are hints, and no span ends before it begins
-        let hint = self.busiest.time_of(self.piece, self.pieces, self.until);
+        let hint = self.cuts.next_end(self.traces, self.c, from, self.until);
         let until = hint.max(from).min(self.until);
         line.give(Order::new(self.traces, self.c, from, until, self.late));
         add(&mut self.busy, Busy { line, until })?;
@@ -144,7 +134,7 @@ impl<'a> Turns<'a> {
         ensures same { self.new ≡ self.old }
     {
         let mut makers = Vec::new(alloc);
-        for _ in 0..most.min(self.pieces) {
+        for _ in 0..most.min(self.cuts.pieces()) {
             let (line, maker) = open_line(alloc)?;
             self.give(line)?;
             makers.push(maker)?;
