@@ -3,6 +3,7 @@ use Rattle.std.proofs.Common.{◌≡◌, ◌≤◌, ℕ, ◌+◌, inl, inr, refl
 use Rattle.std.proofs.Common.{subst, ◌∙◌, arith, List, [], ◌∷◌, Option, Some, None, Ok}
 use Rattle.sim_outer.specs.Causes.{AreCounted, Rose}
 use Rattle.sim_outer.specs.Files.{Files}
+use Rattle.sim_outer.specs.Sinks.{SinkView}
 use Rattle.net_model.specs.Net.{Net}
 use Rattle.net_model.specs.Text.{model}
 use Rattle.decision_script.specs.Stating.{ScriptView}
@@ -25,7 +26,7 @@ use Rattle.cloner_top.specs.Deciding.{IsDecided, IsRefusal}
 use Rattle.cloner_top.specs.Endings.{DecidesFirst, Ending, MayCome, MayEnd, MaySimulate}
 use Rattle.cloner_top.specs.Endings.{StoppedFor, Wrote, overrun, stopped, written}
 use Rattle.cloner_top.specs.Endings as ends
-use Rattle.cloner_top.specs.Outsides.{ArePut, AreTold, IsFailed, IsFinished, IsHalted, IsNotPut, SinkView}
+use Rattle.cloner_top.specs.Outsides.{ArePut, AreTold, IsFailed, IsFinished, IsHalted, IsNotPut}
 use Rattle.cloner_top.specs.Plans.{HasModel, IsRead, IsUnreadStudy, StopsEarly}
 use Rattle.cloner_top.specs.Refusals.{Stops, line_of, status_of, words_refusal}
 use Rattle.cloner_top.specs.Stops.{stop_line, stop_status}

@@ -2,6 +2,7 @@
 use Rattle.std.proofs.Common.{◌≡◌, ◌≤◌, ℕ, ◌+◌, refl, sym, ap, ap₂, subst, ◌∙◌, arith, List, [], ◌∷◌, length}
 use Rattle.std.proofs.Common.{Result, Ok, Err, IfOk, IfErr}
 use Rattle.sim_base.specs.Clones.{clone_at}
+use Rattle.sim_outer.specs.Sinks.{SinkView}
 use Rattle.net_model.specs.Net.{Net}
 use Rattle.decision_script.specs.Stating.{ScriptView}
 use Rattle.decision_book.specs.Journal.{after}
@@ -25,7 +26,7 @@ use Rattle.cloner_top.specs.declared.refusal.Refusal.TheVariants.{OutOfMemory, U
 use Rattle.cloner_top.specs.declared.refusal.Refusal.TheVariants.{NoScript, Stopped, CannotWrite}
 use Rattle.cloner_top.specs.Endings.{MayLive, StoppedFor, at_limit, finished, limit_met, over, run_texts, written}
 use Rattle.cloner_top.specs.LiveRuns.{HaltsFor, HasRun, IsLiveWorld, IsOverrun, IsPlaced, StopsLive}
-use Rattle.cloner_top.specs.Outsides.{ArePut, IsFailed, IsFinished as IsDone, IsHalted, IsNotPut, SinkView}
+use Rattle.cloner_top.specs.Outsides.{ArePut, IsFailed, IsFinished as IsDone, IsHalted, IsNotPut}
 use Rattle.cloner_top.proofs.Endings.{all_put, not_put}
 use Rattle.cloner_top.proofs.Runs.{short_planned}
 

@@ -8,9 +8,10 @@ use Rattle.std.specs.List.{concat, flat_map}
 use Rattle.std.proofs.Math.Seq.{take-append-add}
 use Rattle.sim_outer.specs.Bytes.{Appended, PartAppended}
 use Rattle.sim_outer.specs.Causes.{AreCounted, Counted, Rose, counts_after, next_count}
+use Rattle.sim_outer.specs.Sinks.{SinkView}
 use Rattle.cloner_top.specs.declared.refusal.Refusal.{Refusal}
 use Rattle.cloner_top.specs.declared.refusal.Refusal.TheVariants.{CannotWrite}
-use Rattle.cloner_top.specs.Outsides.{AreCut, ArePut, AreTold, IsNotPut, SinkView}
+use Rattle.cloner_top.specs.Outsides.{AreCut, ArePut, AreTold, IsNotPut}
 
 appended_then : (a b : List ℕ) (old mid new : Option (List ℕ)) → Appended old a mid → Appended mid b new
     → Appended old (a ++ b) new

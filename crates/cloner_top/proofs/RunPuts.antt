@@ -4,13 +4,14 @@ use Rattle.std.proofs.Common.{◌∷◌, ◌++◌, length, map, Result, Ok, Err,
 use Rattle.sim_base.specs.Clones.{Clone}
 use Rattle.sim_outer.specs.Bytes.{Appended, PartAppended}
 use Rattle.sim_outer.specs.Causes.{AreCounted, Rose}
+use Rattle.sim_outer.specs.Sinks.{SinkView}
 use Rattle.net_model.specs.Net.{Net}
 use Rattle.trace_report.specs.Outputs.{clone_text, clone_texts, report}
 use Rattle.rolling_text.specs.Counting.{AreCountedTo}
 use Rattle.cloner_top.specs.declared.refusal.Refusal.{Refusal}
 use Rattle.cloner_top.specs.declared.refusal.Refusal.TheVariants.{CannotWrite}
 use Rattle.cloner_top.specs.Endings.{run_texts}
-use Rattle.cloner_top.specs.Outsides.{AreCut, ArePut, IsNotPut, SinkView}
+use Rattle.cloner_top.specs.Outsides.{AreCut, ArePut, IsNotPut}
 use Rattle.cloner_top.proofs.Puts.{cut_before, cut_last, cut_then, put_more, put_then}
 use Rattle.cloner_top.proofs.Runs.{on_ok}
 

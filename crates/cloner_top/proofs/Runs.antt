@@ -3,6 +3,7 @@ use Rattle.std.proofs.Common.{◌≡◌, ℕ, zero, suc, ◌+◌, arith, sym, ap
 use Rattle.std.proofs.Common.{List, [], ◌∷◌, length, Some, Result, Ok, Err, IfErr, OnOk}
 use Rattle.std.specs.List.{AllByRecursion}
 use Rattle.sim_base.specs.Clones.{Clone, clone_at, place_of}
+use Rattle.sim_outer.specs.Sinks.{SinkView}
 use Rattle.net_model.specs.Net.{Net}
 use Rattle.stations.specs.Runs.{trace_of}
 use Rattle.world_core.specs.Worlds.{total_handled}
@@ -18,7 +19,7 @@ use Rattle.command_words.specs.declared.request.Mode.{Mode}
 use Rattle.command_words.specs.Requests.{Source}
 use Rattle.cloner_top.specs.Endings.{MayRun, MayRunAlone, MaySimulate, StoppedFor, at_limit, beyond}
 use Rattle.cloner_top.specs.Endings.{fits, limit_met, over, within, written}
-use Rattle.cloner_top.specs.Outsides.{ArePut, IsFailed, IsFinished, IsNotPut, SinkView}
+use Rattle.cloner_top.specs.Outsides.{ArePut, IsFailed, IsFinished, IsNotPut}
 use Rattle.cloner_top.proofs.Endings.{all_put, not_put}
 
 -- the lists of planned clones are short

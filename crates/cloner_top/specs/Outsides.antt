@@ -4,6 +4,7 @@ use Rattle.std.specs.List.{concat}
 use Rattle.sim_outer.specs.Bytes.{Appended, PartAppended}
 use Rattle.sim_outer.specs.Causes.{AreCounted, Rose}
 use Rattle.sim_outer.specs.Files.{Files}
+use Rattle.sim_outer.specs.Sinks.{SinkView}
 use Rattle.cloner_top.specs.declared.halt.Halt.{Halt}
 use Rattle.cloner_top.specs.declared.halt.Halt.TheVariants.{Refused, Overrun}
 use Rattle.cloner_top.specs.declared.refusal.Refusal.{Refusal}
@@ -13,12 +14,6 @@ use Rattle.cloner_top.specs.Endings.{Ending, StoppedFor, Wrote}
 -- the files where they are known, the count of faults, and that of calls where it is known
 pub record InputsView : Type 0 where
   pub files : Option Files
-  pub faults : ℕ
-  pub calls : Option ℕ
-
--- what a sink took where that is known, and its counts
-pub record SinkView : Type 0 where
-  pub bytes : Option (List ℕ)
   pub faults : ℕ
   pub calls : Option ℕ
 

@@ -1,6 +1,7 @@
-//! Puts the texts of a study, each in one call, once all memory was taken.
+//! Puts the texts of a study, each in one call whose parts are put as they are made, once all memory was taken.
 ghost use Rattle.std.specs.Prelude.{◌≡◌, ◌≤◌, ◌∷◌, [], length, IfErr, IfOk, OnOk};
 ghost use Rattle.trace_report.specs.Outputs.{report};
+ghost use Rattle.trace_report.specs.TraceText.{trace_text};
 ghost use Rattle.rolling_text.specs.WorldTraces.{AreShort};
 ghost use Rattle.study_run.specs.Limits.{AreWithin};
 ghost use Rattle.cloner_top.specs.Endings.{run_texts};
@@ -8,9 +9,10 @@ ghost use Rattle.cloner_top.specs.Outsides.{AreCut, ArePut, AreTold, IsNotPut};
 ghost use Rattle.cloner_top.specs.RunTexts.{IsReadyRun};
 
 use crate::refusal::Refusal;
+use log_chain::Log;
 use net_model::Model;
-use rolling_text::{Texts, WorldTraces, prepare, put_texts};
-use sim_base::NoMemory;
+use rolling_text::{Texts, WorldTraces, prepare, put_alone, put_texts};
+use sim_base::{Name, NoMemory};
 use sim_outer::Sink;
 use std::alloc::Global;
 use std::sync::Wait;
@@ -33,6 +35,26 @@ pub(crate) fn put_text<O: Sink>(out: &mut O, text: &[u8]) -> Result<(), Refusal>
     ensures later { O.faults out.old ≤ O.faults out.new }
 {
     match out.put(text) {
+        Ok(()) => Ok(()),
+        Err(_) => Err(Refusal::CannotWrite),
+    }
+}
+
+/// Puts the text of a clone of this name that ran by itself, and handled what a log has.
+pub(crate) fn put_trace<O: Sink>(
+    model: &Model,
+    name: &Name,
+    trace: &Log,
+    out: &mut O,
+) -> Result<(), Refusal>
+    ensures ok { OnOk result (ArePut (trace_text model.now name.now trace.now ∷ [])
+        (record { bytes = O.bytes out.old; faults = O.faults out.old; calls = O.calls out.old })
+        (record { bytes = O.bytes out.new; faults = O.faults out.new; calls = O.calls out.new })) }
+    ensures err { IfErr result (λ r. IsNotPut (trace_text model.now name.now trace.now ∷ [])
+        (record { bytes = O.bytes out.old; faults = O.faults out.old; calls = O.calls out.old })
+        (record { bytes = O.bytes out.new; faults = O.faults out.new; calls = O.calls out.new }) r) }
+{
+    match put_alone(model, name, trace, out) {
         Ok(()) => Ok(()),
         Err(_) => Err(Refusal::CannotWrite),
     }

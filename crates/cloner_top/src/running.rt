@@ -13,7 +13,7 @@ ghost use Rattle.cloner_top.specs.Refusals.{Stops};
 ghost use Rattle.trace_report.specs.Outputs.{report};
 
 use crate::plan::Plan;
-use crate::putting::{put_report, put_run, put_text};
+use crate::putting::{put_report, put_run, put_trace};
 use crate::refusal::Refusal;
 use crate::stop::Stop;
 use command_words::{Mode, Request, Source};
@@ -25,7 +25,7 @@ use std::alloc::Global;
 use std::sync::Wait;
 use std::sync::ledger::Ledger;
 use std::thread::Threads;
-use study_run::{StudyCrew, StudyFault, run_study, text_alone};
+use study_run::{StudyCrew, StudyFault, run_alone, run_study};
 use world_core::World;
 
 pub(crate) fn stop_at(model: &Model, station: u32, clone: Name) -> Stop
@@ -170,8 +170,8 @@ fn write_alone<O: Sink, L: Ledger>(
     let Some(place) = lists.find(name) else {
         return Err(Refusal::Stopped(Stop::NoClone(*name)));
     };
-    match text_alone(alloc, &plan.model, lists, place, steps) {
-        Ok(text) => put_text(out, text.as_slice()),
+    match run_alone(alloc, &plan.model, lists, place, steps) {
+        Ok(solo) => put_trace(&plan.model, &lists.name(place), solo.trace(), out),
         Err(StudyFault::NoMemory) => Err(Refusal::OutOfMemory),
         Err(StudyFault::LimitMet { station, .. }) => {
             Err(Refusal::Stopped(stop_at(&plan.model, station, *name)))

@@ -5,6 +5,7 @@ ghost use Rattle.solo_run.specs.SoloView.{IsSolo};
 mod models;
 mod traces;
 
+use log_chain::Log;
 use models::{CLASSES, DRAWN_GATE, FAN_BY_TURN};
 use net_model::{Model, read_model};
 use sample_models::{NO_ROOM, ONE_DESK};
@@ -35,6 +36,17 @@ fn begun(alloc: Global, model: &Model, plan: Option<Planned>) -> Option<Solo>
     }
 }
 
+/// Whether a log has exactly these entries.
+fn holds(log: &Log, entries: &[Entry]) -> bool {
+    let mut walk = log.walk_from(0);
+    for entry in entries {
+        if walk.next() != Some(*entry) {
+            return false;
+        }
+    }
+    walk.next().is_none()
+}
+
 /// Whether the run to the horizon, in two goes, comes to this trace.
 fn comes_to<L: Ledger>(
     alloc: Global,
@@ -56,7 +68,7 @@ fn comes_to<L: Ledger>(
     let Ok(solo) = solo.run_to(&model, horizon, steps) else {
         return false;
     };
-    solo.trace() == trace
+    holds(solo.trace(), trace)
 }
 
 fn plan(at: u64, station: u32, param: Param, a: u64, b: u64) -> Option<Planned> {

@@ -84,34 +84,37 @@ fn have_fronts(book: &Book, fronts: u32, calls: usize) -> bool {
     book.calls().len() == calls
 }
 
+/// Whether three decisions at front 10 have their replies, and stand among the fronts.
+fn is_decided_at_ten<R: Abort>(rt: &R, book: &mut Book) -> bool {
+    raise_all(book, &[5, 7, 10])
+        && decided_at_ten(rt, book) == [Reply::Accepted, Reply::Accepted, Reply::Late { front: 10 }]
+        && raise_all(book, &[13, 15, 17, 20])
+        && have_fronts(book, 3, 3)
+        && book.fronts() == [5, 7, 10, 13, 15, 17, 20].as_slice()
+        && book.front() == 20
+        && book.lists().len() == 2
+}
+
 #[test]
 fn decisions_during_a_run(rt: HostRuntime) -> Result<(), Fail> {
-    let Some(mut book) = begun(rt.alloc()) else {
-        return Err(NoMemory.into());
-    };
-    assert!(rt; raise_all(&mut book, &[5, 7, 10]));
-    assert_eq!(rt;
-        decided_at_ten(&rt, &mut book),
-        [Reply::Accepted, Reply::Accepted, Reply::Late { front: 10 }]
-    );
-    assert!(rt; raise_all(&mut book, &[13, 15, 17, 20]));
-    assert!(rt; have_fronts(&book, 3, 3));
-    assert_eq!(rt; book.fronts(), [5, 7, 10, 13, 15, 17, 20].as_slice());
-    assert_eq!(rt; (book.front(), book.lists().len()), (20, 2));
+    let mut book = begun(rt.alloc()).ok_or(NoMemory)?;
+    assert!(rt; is_decided_at_ten(&rt, &mut book));
     Ok(())
+}
+
+/// Whether a book at the horizon is closed to a decision and to what is asked.
+fn is_closed(book: &mut Book, decision: &Decision) -> bool {
+    if !raise_all(book, &[5, 20]) || book.decide(1, *decision) != Reply::Closed {
+        return false;
+    }
+    let more = book.ask(2, decision);
+    more == (Reply::Closed, book.calls().last().copied()) && have_fronts(book, 2, 2)
 }
 
 #[test]
 fn a_book_at_the_horizon_is_closed(rt: HostRuntime) -> Result<(), Fail> {
-    let Some(mut book) = begun(rt.alloc()) else {
-        return Err(NoMemory.into());
-    };
-    assert!(rt; raise_all(&mut book, &[5, 20]));
-    let closed = book.decide(1, fork(&rt, b"x", b"base"));
-    assert_eq!(rt; closed, Reply::Closed);
-    let more = book.ask(2, &fork(&rt, b"x", b"base"));
-    assert_eq!(rt; more, (Reply::Closed, book.calls().last().copied()));
-    assert!(rt; have_fronts(&book, 2, 2));
+    let mut book = begun(rt.alloc()).ok_or(NoMemory)?;
+    assert!(rt; is_closed(&mut book, &fork(&rt, b"x", b"base")));
     Ok(())
 }
 
@@ -202,33 +205,40 @@ fn first_clone(book: &Book) -> (u32, usize, Option<u64>) {
     (count, lists.list(0).len(), lists.end_of(0))
 }
 
+/// Decisions that no refusal keeps out.
+fn accepted<R: Abort>(rt: &R) -> [(Decision, Reply); 3] {
+    let good = service(2, 2);
+    [
+        (set(rt, b"late", 10, b"desk", good), Reply::Accepted),
+        (set(rt, b"late", 19, b"desk", good), Reply::Accepted),
+        (end(rt, b"base", 19), Reply::Accepted),
+    ]
+}
+
+/// Whether a crowded book at front 10 has these replies, and changes by what it accepts alone.
+fn replies_so(
+    book: &mut Book,
+    by_names: &[(Decision, Reply)],
+    by_values: &[(Decision, Reply)],
+    accepted: &[(Decision, Reply)],
+) -> bool {
+    raise(book, 10)
+        && first_wrong(book, by_names).is_none()
+        && first_wrong(book, by_values).is_none()
+        && first_clone(book) == (256, 256, None)
+        && first_wrong(book, accepted).is_none()
+        && first_clone(book) == (256, 256, Some(19))
+}
+
 #[test]
 fn refusals_in_their_order(rt: HostRuntime) -> Result<(), Fail> {
-    let Some(mut book) = begun(rt.alloc()) else {
-        return Err(NoMemory.into());
-    };
-    assert!(rt; crowd(&rt, &mut book) && raise(&mut book, 10));
     let by_names = refused_by_names(&rt);
     let by_values = refused_by_values(&rt);
-    assert_eq!(rt; first_wrong(&mut book, &by_names), None);
-    assert_eq!(rt; first_wrong(&mut book, &by_values), None);
-    assert_eq!(rt; first_clone(&book), (256, 256, None));
     assert!(rt; have_numbers(&by_names, &[3, 12, 12, 4, 5, 6]));
     assert!(rt; have_numbers(&by_values, &[7, 8, 9, 10, 10, 11, 11]));
-    // no refusal holds
-    let accepted = [
-        (
-            set(&rt, b"late", 10, b"desk", service(2, 2)),
-            Reply::Accepted,
-        ),
-        (
-            set(&rt, b"late", 19, b"desk", service(2, 2)),
-            Reply::Accepted,
-        ),
-        (end(&rt, b"base", 19), Reply::Accepted),
-    ];
-    assert_eq!(rt; first_wrong(&mut book, &accepted), None);
-    assert_eq!(rt; first_clone(&book), (256, 256, Some(19)));
+    let mut book = begun(rt.alloc()).ok_or(NoMemory)?;
+    assert!(rt; crowd(&rt, &mut book));
+    assert!(rt; replies_so(&mut book, &by_names, &by_values, &accepted(&rt)));
     Ok(())
 }
 
@@ -243,15 +253,18 @@ fn fill(book: &mut Book, decision: &Decision) -> bool {
     true
 }
 
+/// Whether a book that is full has no place more.
+fn is_full(book: &mut Book, decision: &Decision) -> bool {
+    raise(book, 20)
+        && fill(book, decision)
+        && book.decide(3, *decision) == Reply::Full
+        && book.ask(3, decision) == (Reply::Full, None)
+        && book.calls().len() == 4096
+}
+
 #[test]
 fn a_full_book(rt: HostRuntime) -> Result<(), Fail> {
-    let Some(mut book) = begun(rt.alloc()) else {
-        return Err(NoMemory.into());
-    };
-    let decision = fork(&rt, b"fresh", b"nobody");
-    assert!(rt; raise(&mut book, 20) && fill(&mut book, &decision));
-    assert_eq!(rt; book.decide(3, decision), Reply::Full);
-    assert_eq!(rt; book.ask(3, &decision), (Reply::Full, None));
-    assert_eq!(rt; book.calls().len(), 4096);
+    let mut book = begun(rt.alloc()).ok_or(NoMemory)?;
+    assert!(rt; is_full(&mut book, &fork(&rt, b"fresh", b"nobody")));
     Ok(())
 }

@@ -8,7 +8,6 @@ use phys_proc::{Found, Glance};
 use sim_base::{Change, Decision, Name, Param};
 use std::alloc::Global;
 use std::process::Abort;
-use std::test::Fail;
 
 const FOUR_CALLS: &str = "journal 4 7
 # front 5
@@ -96,98 +95,94 @@ fn are_lookers(script: &Script, looks: &[Looked]) -> bool
     looks.iter().all(|l| 1 <= l.analyst && l.analyst <= many)
 }
 
-fn text_of(
+/// Whether the journal of these calls, fronts and looks is the expected text, with the analysts of this script.
+fn writes(
     alloc: Global,
-    script: &Script,
+    script: &[u8],
     calls: &[Call],
     fronts: &[u64],
     looks: &[Looked],
-) -> Option<Vec<u8>> {
-    if !are_callers(script, calls) || !are_lookers(script, looks) {
-        return None;
+    expected: &str,
+) -> bool {
+    let Ok(script) = read_script(alloc, script) else {
+        return false;
+    };
+    if !are_callers(&script, calls) || !are_lookers(&script, looks) {
+        return false;
     }
-    journal_text(alloc, script, calls, fronts, looks).ok()
+    match journal_text(alloc, &script, calls, fronts, looks) {
+        Ok(text) => text.as_slice() == expected.as_bytes(),
+        Err(_) => false,
+    }
+}
+
+fn four_calls<R: Abort>(rt: &R) -> [Call; 4] {
+    [
+        call(1, 3, fork(rt, "fast"), Reply::Accepted),
+        call(1, 3, faster(rt, 10), Reply::Accepted),
+        call(1, 3, faster(rt, 9), Reply::Late { front: 10 }),
+        call(1, 7, fork(rt, "x"), Reply::Closed),
+    ]
 }
 
 #[test]
-fn calls_stand_among_the_fronts(rt: HostRuntime) -> Result<(), Fail> {
-    let alloc = rt.alloc();
-    let Ok(script) = read_script(alloc, b"fork fast from base\n") else {
-        panic!(rt; "the script is refused");
-    };
-    let calls = [
-        call(1, 3, fork(&rt, "fast"), Reply::Accepted),
-        call(1, 3, faster(&rt, 10), Reply::Accepted),
-        call(1, 3, faster(&rt, 9), Reply::Late { front: 10 }),
-        call(1, 7, fork(&rt, "x"), Reply::Closed),
-    ];
+fn calls_stand_among_the_fronts(rt: HostRuntime) {
+    let script = b"fork fast from base\n";
     let fronts = [5, 7, 10, 12, 15, 17, 20];
-    let Some(text) = text_of(alloc, &script, &calls, &fronts, &[]) else {
-        panic!(rt; "no memory");
-    };
-    assert_eq!(rt; text.as_slice(), FOUR_CALLS.as_bytes());
-    Ok(())
+    let calls = four_calls(&rt);
+    assert!(rt; writes(rt.alloc(), script, &calls, &fronts, &[], FOUR_CALLS));
 }
 
 #[test]
-fn fronts_stand_alone(rt: HostRuntime) -> Result<(), Fail> {
-    let alloc = rt.alloc();
-    let Ok(script) = read_script(alloc, b"") else {
-        panic!(rt; "the script is refused");
-    };
+fn fronts_stand_alone(rt: HostRuntime) {
     let fronts = [5, 7, 10, 13, 15, 17, 20];
-    let Some(text) = text_of(alloc, &script, &[], &fronts, &[]) else {
-        panic!(rt; "no memory");
+    assert!(rt; writes(rt.alloc(), b"", &[], &fronts, &[], NO_CALLS));
+}
+
+fn looked<R: Abort>(
+    rt: &R,
+    analyst: u32,
+    who: &str,
+    station: &str,
+    glance: Option<Glance>,
+) -> Looked {
+    Looked {
+        analyst,
+        who: name(rt, who),
+        station: name(rt, station),
+        glance,
+    }
+}
+
+/// What is seen of a clone that has handled 3 events, and of one that is not there, and at a station that is not.
+fn three_looks<R: Abort>(rt: &R) -> [Looked; 3] {
+    let handled = Glance {
+        front: 7,
+        clones: 2,
+        found: Some(Found {
+            handled: 3,
+            shared: 2,
+        }),
     };
-    assert_eq!(rt; text.as_slice(), NO_CALLS.as_bytes());
-    Ok(())
+    let absent = Glance {
+        front: 0,
+        clones: 1,
+        found: None,
+    };
+    [
+        looked(rt, 2, "base", "desk", Some(handled)),
+        looked(rt, 1, "fast", "desk", Some(absent)),
+        looked(rt, 2, "base", "till", None),
+    ]
 }
 
 #[test]
-fn looks_tell_what_they_found(rt: HostRuntime) -> Result<(), Fail> {
-    let alloc = rt.alloc();
-    let Ok(script) = read_script(alloc, b"analyst ben\n") else {
-        panic!(rt; "the script is refused");
-    };
+fn looks_tell_what_they_found(rt: HostRuntime) {
     let end = Decision::End {
         who: name(&rt, "base"),
         at: 900,
     };
     let calls = [call(2, 0, end, Reply::Ended { at: 30 })];
-    let looks = [
-        Looked {
-            analyst: 2,
-            who: name(&rt, "base"),
-            station: name(&rt, "desk"),
-            glance: Some(Glance {
-                front: 7,
-                clones: 2,
-                found: Some(Found {
-                    handled: 3,
-                    shared: 2,
-                }),
-            }),
-        },
-        Looked {
-            analyst: 1,
-            who: name(&rt, "fast"),
-            station: name(&rt, "desk"),
-            glance: Some(Glance {
-                front: 0,
-                clones: 1,
-                found: None,
-            }),
-        },
-        Looked {
-            analyst: 2,
-            who: name(&rt, "base"),
-            station: name(&rt, "till"),
-            glance: None,
-        },
-    ];
-    let Some(text) = text_of(alloc, &script, &calls, &[], &looks) else {
-        panic!(rt; "no memory");
-    };
-    assert_eq!(rt; text.as_slice(), LOOKS.as_bytes());
-    Ok(())
+    let looks = three_looks(&rt);
+    assert!(rt; writes(rt.alloc(), b"analyst ben\n", &calls, &[], &looks, LOOKS));
 }

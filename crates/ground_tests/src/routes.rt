@@ -4,7 +4,7 @@ ghost use Rattle.std.specs.Prelude.{◌<◌};
 use clone_sets::CloneSet;
 use msg_route::{Part, cut, group};
 use sim_base::{Key, Msg, Payload};
-use std::test::Fail;
+use std::alloc::Global;
 
 fn message(time: u64, to: u32) -> Msg {
     Msg {
@@ -28,36 +28,46 @@ fn part(receiver: u32, set: CloneSet) -> Part {
     Part { receiver, set }
 }
 
-#[test]
-fn receivers_get_what_they_share(rt: HostRuntime) -> Result<(), Fail> {
-    let alloc = rt.alloc();
+/// Whether just these of three receivers get a part of a message for these clones.
+fn are_cut(alloc: Global, set: CloneSet, want: &[Part]) -> bool {
     let receivers = [CloneSet::one(0), pair(1, 3), CloneSet::one(4)];
-    let parts = cut(alloc, pair(0, 1).with(2), &receivers)?;
-    let want = [part(0, CloneSet::one(0)), part(1, CloneSet::one(1))];
-    assert_eq!(rt; parts.as_slice(), want.as_slice());
-    let last = cut(alloc, pair(2, 4), &receivers)?;
-    assert_eq!(rt; last.as_slice(), [part(2, CloneSet::one(4))].as_slice());
-    assert!(rt; cut(alloc, CloneSet::one(5), &receivers)?.is_empty());
-    Ok(())
+    match cut(alloc, set, &receivers) {
+        Ok(parts) => parts.as_slice() == want,
+        Err(_) => false,
+    }
 }
 
 #[test]
-fn equal_messages_are_joined(rt: HostRuntime) -> Result<(), Fail> {
-    let alloc = rt.alloc();
+fn receivers_get_what_they_share(rt: HostRuntime) {
+    let two = [part(0, CloneSet::one(0)), part(1, CloneSet::one(1))];
+    assert!(rt; are_cut(rt.alloc(), pair(0, 1).with(2), &two));
+    assert!(rt; are_cut(rt.alloc(), pair(2, 4), &[part(2, CloneSet::one(4))]));
+    assert!(rt; are_cut(rt.alloc(), CloneSet::one(5), &[]));
+}
+
+/// Whether these messages are joined to the wanted ones.
+fn are_joined(alloc: Global, sent: &[(Msg, CloneSet)], want: &[(Msg, CloneSet)]) -> bool {
+    let Ok(sent) = Vec::from_slice(alloc, sent) else {
+        return false;
+    };
+    match group(alloc, sent) {
+        Ok(grouped) => grouped.as_slice() == want,
+        Err(_) => false,
+    }
+}
+
+#[test]
+fn equal_messages_are_joined(rt: HostRuntime) {
     let m = message(3, 2);
     let n = message(3, 5); // the same key, another receiver
-    let sent = vec![in alloc;
+    let sent = [
         (m, CloneSet::one(0)),
         (n, pair(0, 1)),
         (m, CloneSet::one(2)),
-    ]?;
-    let grouped = group(alloc, sent)?;
-    let want = [(m, pair(0, 2)), (n, pair(0, 1))];
-    assert_eq!(rt; grouped.as_slice(), want.as_slice());
+    ];
+    assert!(rt; are_joined(rt.alloc(), &sent, &[(m, pair(0, 2)), (n, pair(0, 1))]));
     let before = message(2, 9);
-    let sent = vec![in alloc; (n, CloneSet::one(1)), (before, CloneSet::one(3))]?;
-    let grouped = group(alloc, sent)?;
+    let sent = [(n, CloneSet::one(1)), (before, CloneSet::one(3))];
     let want = [(before, CloneSet::one(3)), (n, CloneSet::one(1))];
-    assert_eq!(rt; grouped.as_slice(), want.as_slice());
-    Ok(())
+    assert!(rt; are_joined(rt.alloc(), &sent, &want));
 }

@@ -88,6 +88,21 @@ fn a_sink_takes_what_fits(rt: HostRuntime) -> Result<(), Fail> {
     Ok(())
 }
 
+#[test]
+fn parts_and_the_rest_are_one_call(rt: HostRuntime) -> Result<(), Fail> {
+    let alloc = rt.alloc();
+    let failing = vec![in alloc; (2u32, 5usize)]?;
+    let mut sink = MemSink::new(alloc, 64, failing)?;
+    assert_eq!(rt; sink.put_part(b"clone "), Ok(()));
+    assert_eq!(rt; sink.put_part(b"base"), Ok(()));
+    assert_eq!(rt; sink.put(b"\n"), Ok(()));
+    assert_eq!(rt; sink.put_part(b"3 g"), Ok(()));
+    assert_eq!(rt; sink.put_part(b"ate"), Err(PutFailed));
+    assert_eq!(rt; sink.put(b"!"), Ok(()));
+    assert_eq!(rt; sink.bytes(), b"clone base\n3 gat!".as_slice());
+    Ok(())
+}
+
 /// A path of this process alone.
 fn path_of_own(rt: &HostRuntime, name: &str) -> Result<PathBuf, Fail> {
     let alloc = rt.alloc();

@@ -1,11 +1,17 @@
 //! The live study of a model and a script.
-ghost use Rattle.std.specs.Prelude.{◌≡◌, ◌+◌, length, IfOk, IfErr, OnErr};
+ghost use Rattle.std.specs.Prelude.{◌≡◌, ◌+◌, ◌∷◌, ◌≤◌, [], length, map, IfOk, IfErr, OnErr};
+ghost use Rattle.std.specs.List.{AllByRecursion};
+ghost use Rattle.sim_base.specs.Clones.{base};
+ghost use Rattle.decision_desk.specs.Passes.{new_helm, new_passes};
+ghost use Rattle.shelf.specs.Racks.{MayOpen};
 ghost use Rattle.world_core.specs.Worlds.{total_handled};
+ghost use Rattle.live_study.specs.Closing.{HasRoomFor};
 ghost use Rattle.live_study.specs.Lives.{IsFinished, IsStopped, kept};
 ghost use Rattle.live_study.specs.Looks.{AreLooks, HasMadeLooks};
-ghost use Rattle.live_study.specs.Opening.{IsPrepared};
-ghost use Rattle.live_study.specs.Scripts.{IsJournalOf};
+ghost use Rattle.live_study.specs.Opening.{IsFresh, IsOpening, IsPrepared, numbers_to};
+ghost use Rattle.live_study.specs.Scripts.{IsJournalOf, each_acts};
 
+use crate::analyst::Analyst;
 use crate::begin::{analysts_of, opening_racks, watched_in};
 use crate::live::run_live;
 use crate::prepared::Prepared;
@@ -13,10 +19,11 @@ use crate::room::Room;
 use crate::run::LiveRun;
 use crate::work::count_run;
 use crew_pool::{Crew, Gate};
-use decision_desk::Desk;
+use decision_desk::{Desk, Helm, Pass};
 use decision_script::Script;
 use net_model::Model;
-use shelf::{Naming, Opened, begin};
+use phys_proc::Rack;
+use shelf::{Naming, Opened, Seat, Stocker, begin};
 use sim_base::{NoMemory, Steps};
 use std::alloc::Global;
 use std::marker::Brand;
@@ -25,18 +32,49 @@ use std::sync::{Arc, Wait};
 use std::thread::Threads;
 use world_core::World;
 
+// The world as it opens, and a rack of each of its stations.
+fn open_world(alloc: Global, model: &Arc<Model>) -> Result<(World, Vec<Rack>), NoMemory>
+    ensures world { IfOk result (λ r. r.0 ≡ record { net = model.now.value; clones = base ∷ []; front = 0 }) }
+    ensures racks { IfOk result (λ r. IsOpening r.0 (length model.now.value.sites) r.1.items) }
+{
+    let mut world = World::new(alloc, Arc::try_clone(model)?)?;
+    let racks = opening_racks(alloc, &mut world)?;
+    Ok((world, racks))
+}
+
+// A desk with a pass for each analyst of the script, and its helm.
+fn open_desk(
+    alloc: Global,
+    model: &Arc<Model>,
+    script: &Script,
+) -> Result<(Desk, Vec<Pass>, Helm), NoMemory>
+    ensures passes { IfOk result (λ r. r.1.items
+        ≡ new_passes r.0.table.shared.table_id model.now.value (length script.now.analysts)) }
+    ensures helm { IfOk result (λ r. r.2
+        ≡ new_helm r.0.table.shared.table_id model.now.value (length script.now.analysts)) }
+{
+    Desk::begin(alloc, Arc::try_clone(model)?, script.analysts())
+}
+
+// Room for what the analysts of the script leave.
+fn room_for(alloc: Global, script: &Script) -> Result<Room, NoMemory>
+    ensures value { IfOk result (λ r. HasRoomFor (length script.now.analysts) r) }
+{
+    let many = script.analysts() as usize;
+    Ok(Room {
+        passes: Vec::with_capacity(alloc, many)?,
+        looks: Vec::with_capacity(alloc, many)?,
+    })
+}
+
 // What the study of a model and a script begins with.
 fn prepare(alloc: Global, model: &Arc<Model>, script: &Script) -> Result<Prepared, NoMemory>
     ensures value { IfOk result (λ p. IsPrepared model.now.value (length script.now.analysts) p) }
 {
-    let mut world = World::new(alloc, Arc::try_clone(model)?)?;
-    let racks = opening_racks(alloc, &mut world)?;
+    let room = room_for(alloc, script)?;
     let watched = watched_in(alloc, model, script)?;
-    let (desk, passes, helm) = Desk::begin(alloc, Arc::try_clone(model)?, script.analysts())?;
-    let room = Room {
-        passes: Vec::with_capacity(alloc, passes.len())?,
-        looks: Vec::with_capacity(alloc, passes.len())?,
-    };
+    let (world, racks) = open_world(alloc, model)?;
+    let (desk, passes, helm) = open_desk(alloc, model, script)?;
     Ok(Prepared {
         world,
         racks,
@@ -46,6 +84,31 @@ fn prepare(alloc: Global, model: &Arc<Model>, script: &Script) -> Result<Prepare
         passes,
         room,
     })
+}
+
+// The stocker of a history that gets its name here, and the analysts of the script, each at a seat of it.
+fn take_seats<J: Naming, W: Wait + Drop>(
+    waits: W,
+    alloc: Global,
+    script: &Script,
+    opened: Opened,
+    racks: Vec<Rack>,
+    passes: Vec<Pass>,
+) -> Result<(Stocker<J, W>, Vec<(Analyst, Seat<J>)>), NoMemory>
+    requires name { opened.seen.book ≡ J.book }
+    requires opening { MayOpen racks.items }
+    requires few { length racks.items ≤ 64 }
+    requires many { length passes.items ≡ length script.now.analysts }
+    ensures published { IfOk result (λ r. r.0.published ≡ racks.items) }
+    ensures passes { IfOk result (λ r. map (λ a. a.0.pass) r.1.items ≡ passes.items) }
+    ensures numbers { IfOk result (λ r. map (λ a. a.0.number) r.1.items ≡ numbers_to (length passes.items)) }
+    ensures todo { IfOk result (λ r.
+        map (λ a. a.0.todo.items) r.1.items ≡ each_acts script.now.items (length passes.items)) }
+    ensures fresh { IfOk result (λ r. AllByRecursion (IsFresh racks.items) r.1.items) }
+{
+    let (stocker, seats) = begin::<J, W>(waits, alloc, opened, racks, script.analysts())?;
+    let seated = analysts_of(alloc, script, passes, seats)?;
+    Ok((stocker, seated))
 }
 
 // The study, over a history of racks that gets its name here.
@@ -85,8 +148,8 @@ fn run_prepared<
         room,
     } = prepared;
     let _stations = model.len();
-    let (stocker, seats) = begin::<J, W>(waits, alloc, opened, racks, script.analysts())?;
-    let seated = analysts_of(alloc, script, passes, seats)?;
+    let _valid = script.analysts();
+    let (stocker, seated) = take_seats::<J, W>(waits, alloc, script, opened, racks, passes)?;
     Ok(run_live(
         rt,
         alloc,

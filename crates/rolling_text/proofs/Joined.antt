@@ -3,39 +3,46 @@ use Rattle.std.proofs.Common.{◌≡◌, ℕ, suc, ◌+◌, ◌-◌, ◌<◌, �
 use Rattle.std.proofs.Common.{◌∙◌, ap, arith, List, ◌++◌, codes}
 use Rattle.std.proofs.Common.{get_or, append_assoc, length, take, drop, length-drop, length-append}
 use Rattle.std.proofs.lemmas.Grind.{common_steps}
-use Rattle.std.proofs.lemmas.List.{drop-append-le, drop-take, take_rest}
+use Rattle.std.proofs.lemmas.List.{drop-append-le, drop-take, take-append-le, take_rest}
 use Rattle.std.proofs.lemmas.Option.{unwrap_or-slice_get}
 use Rattle.sim_base.specs.Clones.{Clone, clone_at, nobody}
 use Rattle.net_model.specs.Net.{Net}
 use Rattle.net_model.specs.Rules.{IsNet}
 use Rattle.world_core.specs.Worlds.{AreInNet}
-use Rattle.rolling_text.specs.Texts.{body, body_before, dropped_at, parting_at, rest}
+use Rattle.rolling_text.specs.Texts.{AreLeft, body, body_before, dropped_at, parting_at, rest}
 use Rattle.rolling_text.proofs.Keeping.{IsJoined, dropped_within, joined_at}
 use Rattle.trace_report.specs.Outputs.{clone_text}
 
--- a text of which the end is dropped, that gets this clone's rest
-module _ (net : Net) (valid : IsNet net) (cs : List Clone) (in_net : AreInNet net cs) (c dropped time : ℕ)
-    (there : c < length cs) (is_dropped : dropped ≡ dropped_at net cs c) (parts : time ≡ parting_at net cs c)
-    (old : List ℕ) (margin : 32 ≤ length old) (lines : drop 32 old ≡ body_before net cs c) where
-  -- the text behind the 32 bytes has what is dropped
+-- a page with lines of the clone before this one, of which the end is dropped
+module _ (net : Net) (valid : IsNet net) (cs : List Clone) (in_net : AreInNet net cs) (c dropped : ℕ) (there : c < length cs)
+    (old : List ℕ) (margin : 32 ≤ length old) (left : AreLeft net cs c dropped (drop 32 old)) where
+  lengths : length (drop 32 old) + length left.others ≡ length (body_before net cs c)
+  lengths = sym (length-append (drop 32 old) left.others) ∙ ap length left.before
+
+  -- the page behind the 32 bytes has what is dropped
   pub can_drop : 32 + dropped ≤ length old
   can_drop =
-      let a = ap length lines in
+      let a = lengths in
       let b = length-drop 32 old in
-      let w = dropped_within net cs valid in_net dropped c there is_dropped in
-      omega (arith, a, b, w, margin)
+      let d = left.drops in
+      let w = dropped_within net cs valid in_net (dropped_at net cs c) c there refl in
+      omega (arith, a, b, d, w, margin)
+
+  abbrev time : ℕ
+  time = parting_at net cs c
 
   abbrev bytes : ℕ
   bytes = length old - dropped - 32
 
   joined : IsJoined net cs c bytes time
   joined =
-      let a = ap length lines in
+      let a = lengths in
       let b = length-drop 32 old in
+      let d = left.drops in
       let w = can_drop in
-      joined_at net cs valid in_net dropped c bytes time there is_dropped parts (omega (arith, a, b, w))
+      joined_at net cs valid in_net (dropped_at net cs c) c bytes time there refl refl (omega (arith, a, b, d, w))
 
-  module _ (cut new : List ℕ) (is_cut : cut ≡ take (length old - dropped) old) where
+  module _ (cut : List ℕ) (is_cut : cut ≡ take (length old - dropped) old) where
     long_cut : length cut ≡ length old - dropped
     long_cut =
         let b = ap length is_cut in
@@ -46,50 +53,50 @@ module _ (net : Net) (valid : IsNet net) (cs : List Clone) (in_net : AreInNet ne
     kept_lines =
         let w = can_drop in
         let e : length old - dropped ≡ 32 + bytes = omega (arith, w) in
-        ap (drop 32) (is_cut ∙ ap (λ n. take n old) e) ∙ drop-take 32 bytes old ∙ ap (take bytes) lines
+        let b = length-drop 32 old in
+        ap (drop 32) (is_cut ∙ ap (λ n. take n old) e) ∙ drop-take 32 bytes old
+        ∙ sym (ap (take bytes) (sym left.before) ∙ take-append-le bytes (drop 32 old) left.others (omega (arith, b)))
 
-    -- the rest fits
-    pub rest_fits : (reserved : ℕ) → 32 + length (body net (clone_at cs c)) ≤ reserved
-        → length cut + length (rest net (clone_at cs c) time) ≤ reserved
-    rest_fits reserved fits =
-        let a = ap length joined.joins in
-        let b = length-append (take bytes (body_before net cs c)) (rest net (clone_at cs c) time) in
-        let d : length (take bytes (body_before net cs c)) ≡ bytes = let w = joined.within in
-        grind (arith, common_steps, w) in
-        let e = long_cut in
-        let w = can_drop in
-        omega (arith, a, b, d, e, w, fits)
-
-    -- and then the lines are this clone's
-    pub rolled : new ≡ cut ++ rest net (clone_at cs c) time → drop 32 new ≡ body net (clone_at cs c)
-    rolled e =
-        ap (drop 32) e
-        ∙ drop-append-le 32 cut (rest net (clone_at cs c) time)
-        (let l = long_cut in let w = can_drop in omega (arith, l, w))
-        ∙ ap (λ x. x ++ rest net (clone_at cs c) time) kept_lines ∙ sym joined.joins
+    -- with the clone's own rest they are its lines
+    pub kept_joined : drop 32 cut ++ rest net (clone_at cs c) time ≡ body net (clone_at cs c)
+    kept_joined = ap (λ l. l ++ rest net (clone_at cs c) time) kept_lines ∙ sym joined.joins
 
     -- and there are still 32 bytes or more
-    pub margin_stays : new ≡ cut ++ rest net (clone_at cs c) time → 32 ≤ length new
-    margin_stays e =
-        let a = ap length e in
-        let b = length-append cut (rest net (clone_at cs c) time) in
-        let l = long_cut in
-        let w = can_drop in
-        omega (arith, a, b, l, w)
+    pub margin_stays : 32 ≤ length cut
+    margin_stays = let l = long_cut in let w = can_drop in omega (arith, l, w)
+
+-- a page with the first lines of a clone still has room for the others
+pub rest_fits : (page rest body : List ℕ) (reserved : ℕ) → 32 ≤ length page → drop 32 page ++ rest ≡ body
+    → 32 + length body ≤ reserved → length page + length rest ≤ reserved
+rest_fits page rest body reserved margin joined fits =
+    let a = ap length joined in
+    let b = length-append (drop 32 page) rest in
+    let d = length-drop 32 page in
+    omega (arith, a, b, d, margin, fits)
+
+-- where lines move from what is left to a page, both together stay the lines of the clone
+pub still_joined : (page now rest less body : List ℕ) → 32 ≤ length page → length page ≤ length now
+    → now ++ less ≡ page ++ rest → drop 32 page ++ rest ≡ body → drop 32 now ++ less ≡ body
+still_joined page now rest less body margin longer moved joined =
+    sym (drop-append-le 32 now less (omega (arith, margin, longer))) ∙ ap (drop 32) moved
+    ∙ drop-append-le 32 page rest margin ∙ joined
 
 -- the lines before the next clone are this one's
 pub next_before : (net : Net) (cs : List Clone) (c : ℕ) → body_before net cs (c + 1) ≡ body net (clone_at cs c)
 next_before net cs c = let e : c + 1 ≡ suc c = omega arith in ap (body_before net cs) e
 
 -- a name line and the lines are the text
-pub text_is : (net : Net) (k : Clone) (name piece lines : List ℕ)
-    → piece ≡ codes "clone " ++ (name ++ (codes "\n" ++ lines)) →
-    name ≡ k.name → lines ≡ body net k → piece ≡ clone_text net k
+pub text_is : (net : Net) (k : Clone) (name piece lines rest : List ℕ)
+    → piece ≡ codes "clone " ++ (name ++ (codes "\n" ++ lines)) → name ≡ k.name → lines ++ rest ≡ body net k
+    → piece ++ rest ≡ clone_text net k
 unfolding body
-text_is net k name piece lines e f h =
+text_is net k name piece lines rest e f h =
     let all : codes "clone " ++ (k.name ++ (codes "\n" ++ body net k)) ≡ ((codes "clone " ++ k.name) ++ codes "\n")
     ++ body net k = simp append_assoc refl in
-    e ∙ ap (λ n. codes "clone " ++ (n ++ (codes "\n" ++ lines))) f
+    let parts : (codes "clone " ++ (name ++ (codes "\n" ++ lines))) ++ rest
+    ≡ codes "clone " ++ (name ++ (codes "\n" ++ (lines ++ rest))) = simp append_assoc refl in
+    ap (λ p. p ++ rest) e ∙ parts
+    ∙ ap (λ n. codes "clone " ++ (n ++ (codes "\n" ++ (lines ++ rest)))) f
     ∙ ap (λ l. codes "clone " ++ (k.name ++ (codes "\n" ++ l))) h ∙ all
 
 -- a whole slice from a place on

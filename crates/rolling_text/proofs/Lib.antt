@@ -7,8 +7,9 @@ pub mod Calls
 pub mod Puts
 pub mod Partings
 pub mod LogLaws
-pub mod Parts
+pub mod Spans
 pub mod InTurn
 pub mod ShortLists
 pub mod Keeping
 pub mod ShortLines
+pub mod AllTexts

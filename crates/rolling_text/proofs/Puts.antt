@@ -1,41 +1,174 @@
--- One text more is put.
-use Rattle.std.proofs.Common.{◌≡◌, ℕ, ◌+◌, ◌-◌, ◌<◌, sym, ◌∙◌, subst}
-use Rattle.std.proofs.Common.{List, ◌++◌, Option, codes, length, take, drop, get_or}
-use Rattle.std.specs.List.{flat_map}
-use Rattle.sim_base.specs.Clones.{Clone, clone_at, nobody}
-use Rattle.sim_outer.specs.Bytes.{Appended, PartAppended}
-use Rattle.net_model.specs.Net.{Net}
-use Rattle.rolling_text.specs.Texts.{body}
-use Rattle.trace_report.specs.Outputs.{clone_text}
-use Rattle.rolling_text.proofs.Joined.{text_is, from_place, clone_is}
-use Rattle.rolling_text.proofs.Pieces.{appended_then, part_then, pieces_around, pieces_more}
+-- Texts that are put in parts.
+use Rattle.std.proofs.Common.{◌≡◌, ℕ, ◌+◌, ◌≤◌, refl, sym, ap, subst, ◌∙◌, arith, Bool, true, false, List, [], ◌++◌}
+use Rattle.std.proofs.Common.{append-nil, length, length-append, if◌then◌else◌}
+use Rattle.std.proofs.lemmas.List.{append_assoc}
+use Rattle.sim_outer.specs.Causes.{Counted, Rose}
+use Rattle.sim_outer.specs.Sinks.{SinkView}
+use Rattle.rolling_text.specs.Pages.{PageView}
+use Rattle.rolling_text.specs.Puts.{IsTaken, IsPut, IsCutOff, IsPutTo}
+use Rattle.rolling_text.proofs.Pieces.{appended_nothing, appended_then, part_then}
 
--- the lines that were rolled, and the name line before them: what stands from its place on is the clone's text
-module _ (net : Net) (cs : List Clone) (c : ℕ) (there : c < length cs) (name lines page slice : List ℕ) (start : ℕ)
-    (is_name : name ≡ (clone_at cs c).name) (rolled : lines ≡ body net (clone_at cs c))
-    (headed : drop start page ≡ codes "clone " ++ (name ++ (codes "\n" ++ lines))) (whole : slice ≡ page) where
-  abbrev put : List ℕ
-  put = take (length slice - start) (drop start slice)
+-- nothing was taken yet
+pub taken_none : (v : SinkView) → IsTaken [] v v
+taken_none v = record { bytes = appended_nothing v.bytes; later = omega arith; same = refl }
 
-  piece : put ≡ clone_text net (get_or cs c nobody)
-  piece = from_place slice page start whole ∙ text_is net (clone_at cs c) name (drop start page) lines headed is_name
-      rolled ∙ clone_is net cs c
+-- one part was taken, and then another
+pub taken_then : (a b : List ℕ) (old mid new : SinkView) → IsTaken a old mid → IsTaken b mid new
+    → IsTaken (a ++ b) old new
+taken_then a b old mid new h k = let x = h.later in let y = k.later in record {
+  bytes = appended_then a b old.bytes mid.bytes new.bytes h.bytes k.bytes;
+  later = omega (arith, x, y);
+  same = k.same ∙ h.same;
+}
 
-  -- where it is taken whole, the texts so far and this one are there
-  pub put_whole : (old mid new : Option (List ℕ)) → Appended old (flat_map (clone_text net) (take c cs)) mid
-      → Appended mid put new →
-      Appended old (flat_map (clone_text net) (take (c + 1) cs)) new
-  put_whole old mid new h k =
-      subst (λ t. Appended old t new) (sym (pieces_more (clone_text net) cs c nobody there))
-      (appended_then (flat_map (clone_text net) (take c cs)) (clone_text net (get_or cs c nobody)) old mid new h
-      (subst (λ t. Appended mid t new) piece k))
+-- and then the rest, which ends the call
+pub put_then : (a b : List ℕ) (old mid new : SinkView) → IsTaken a old mid → IsPut b mid new → IsPut (a ++ b) old new
+put_then a b old mid new h k = let x = h.later in let y = k.later in record {
+  bytes = appended_then a b old.bytes mid.bytes new.bytes h.bytes k.bytes;
+  later = omega (arith, x, y);
+  counted = subst (λ n. Counted n new.calls) h.same k.counted;
+}
 
-  -- where part of it is taken, part of all texts is there
-  pub put_part : (old mid new : Option (List ℕ)) → Appended old (flat_map (clone_text net) (take c cs)) mid
-      → PartAppended mid put new →
-      PartAppended old (flat_map (clone_text net) cs) new
-  put_part old mid new h k =
-      subst (λ t. PartAppended old t new) (pieces_around (clone_text net) cs c nobody there)
-      (part_then (flat_map (clone_text net) (take c cs)) (clone_text net (get_or cs c nobody))
-      (flat_map (clone_text net) (drop (c + 1) cs)) old mid new h
-      (subst (λ t. PartAppended mid t new) piece k))
+-- a count that rose from a later value on rose from an earlier one on
+rose_earlier : (a b c : ℕ) → a ≤ b → Rose b c → Rose a c
+rose_earlier a b c l r = omega (arith, l, r)
+
+-- one part was taken, and another cut off, to which more would have come
+pub cut_then : (a b c : List ℕ) (old mid new : SinkView) → IsTaken a old mid → IsCutOff b mid new
+    → IsCutOff (a ++ (b ++ c)) old new
+cut_then a b c old mid new h k = let x = h.later in let y = k.later in record {
+  bytes = part_then a b c old.bytes mid.bytes new.bytes h.bytes k.bytes;
+  failed = rose_earlier old.faults mid.faults new.faults x k.failed;
+  later = omega (arith, x, y);
+  counted = subst (λ n. Counted n new.calls) h.same k.counted;
+}
+
+-- where the first part of what is left is cut off, all that is left is
+pub cut_part : (part others left : List ℕ) (old new : SinkView) → part ++ others ≡ left → IsCutOff part old new
+    → IsCutOff left old new
+cut_part part others left old new e h =
+    subst (λ l. IsCutOff l old new) e (cut_then [] part others old old new (taken_none old) h)
+
+module _ (keeps : Bool) where
+  abbrev with_kept : List ℕ → List ℕ → List ℕ
+  with_kept text done = text ++ (if keeps then done else [])
+
+  -- nothing was put yet
+  pub put_none : (all : List ℕ) (p : PageView) (v : SinkView) → IsPutTo keeps all all p p v v
+  put_none all p v =
+      record { done = []; parts = refl; taken = taken_none v; kept = none keeps; reserved = omega arith }
+    where
+      none : (k : Bool) → p.text ≡ p.text ++ (if k then [] else [])
+      none true = sym (append-nil p.text)
+      none false = sym (append-nil p.text)
+
+  -- what is left by some that was put is put up to less
+  pub put_on : (all left less : List ℕ) (p q r : PageView) (old mid new : SinkView) → IsPutTo keeps all left p q old mid
+      → IsPutTo keeps left less q r mid new → IsPutTo keeps all less p r old new
+  put_on all left less p q r old mid new h k = let x = h.reserved in let y = k.reserved in record {
+    done = h.done ++ k.done;
+    parts = append_assoc h.done k.done less ∙ ap (λ l. h.done ++ l) k.parts ∙ h.parts;
+    taken = taken_then h.done k.done old mid new h.taken k.taken;
+    kept = both keeps h.kept k.kept;
+    reserved = omega (arith, x, y);
+  }
+    where
+      both : (b : Bool) → q.text ≡ p.text ++ (if b then h.done else []) → r.text ≡ q.text ++ (if b then k.done else [])
+          → r.text ≡ p.text ++ (if b then h.done ++ k.done else [])
+      both true e f = f ∙ ap (λ t. t ++ k.done) e ∙ append_assoc p.text h.done k.done
+      both false e f = f ∙ append-nil q.text ∙ e
+
+  -- the first part of what is left was put
+  pub put_part : (part others left : List ℕ) (p q : PageView) (old new : SinkView) → part ++ others ≡ left
+      → IsPutTo keeps part [] p q old new → IsPutTo keeps left others p q old new
+  put_part part others left p q old new e h = record {
+    done = h.done;
+    parts = ap (λ d. d ++ others) (sym (append-nil h.done) ∙ h.parts) ∙ e;
+    taken = h.taken;
+    kept = h.kept;
+    reserved = h.reserved;
+  }
+
+  -- some was put, and then what is left was cut off
+  pub put_cut : (all left : List ℕ) (p q : PageView) (old mid new : SinkView) → IsPutTo keeps all left p q old mid
+      → IsCutOff left mid new → IsCutOff all old new
+  put_cut all left p q old mid new h k =
+      subst (λ l. IsCutOff l old new) (ap (λ l. h.done ++ l) (append-nil left) ∙ h.parts)
+      (cut_then h.done left [] old mid new h.taken k)
+
+  -- what is left fits behind a page where all did
+  pub left_fits : (all left : List ℕ) (p q : PageView) (old new : SinkView) → IsPutTo keeps all left p q old new
+      → (keeps ≡ true → length p.text + length all ≤ p.reserved)
+      → keeps ≡ true → length q.text + length left ≤ q.reserved
+  left_fits all left p q old new h fits is =
+      let a = fits is in
+      let b = ap length h.parts in
+      let c = length-append h.done left in
+      let d = ap length (h.kept ∙ ap (λ k. p.text ++ (if k then h.done else [])) is) in
+      let e = length-append p.text h.done in
+      let f = h.reserved in
+      omega (arith, a, b, c, d, e, f)
+
+-- and the first part of it
+pub part_fits : (part others left text : List ℕ) (reserved : ℕ) → part ++ others ≡ left
+    → length text + length left ≤ reserved → length text + length part ≤ reserved
+part_fits part others left text reserved e h =
+    let a = ap length e in
+    let b = length-append part others in
+    omega (arith, a, b, h)
+
+-- ---- a text: its head, what is left of it, and the end of the call
+
+module _ (head rest text : List ℕ) (is : head ++ rest ≡ text) (v0 v1 v2 : SinkView) where
+  pub text_put : (v3 : SinkView) → IsTaken head v0 v1 → IsTaken rest v1 v2 → IsPut [] v2 v3 → IsPut text v0 v3
+  text_put v3 a b c = subst (λ l. IsPut l v0 v3) (append-nil (head ++ rest) ∙ is)
+      (put_then (head ++ rest) [] v0 v2 v3 (taken_then head rest v0 v1 v2 a b) c)
+
+  -- cut off behind its head
+  pub rest_cut : IsTaken head v0 v1 → IsCutOff rest v1 v2 → IsCutOff text v0 v2
+  rest_cut a b = subst (λ l. IsCutOff l v0 v2) (ap (λ l. head ++ l) (append-nil rest) ∙ is)
+      (cut_then head rest [] v0 v1 v2 a b)
+
+  -- and where it ends
+  pub end_cut : (v3 : SinkView) → IsTaken head v0 v1 → IsTaken rest v1 v2 → IsCutOff [] v2 v3 → IsCutOff text v0 v3
+  end_cut v3 a b c = subst (λ l. IsCutOff l v0 v3) (append-nil (head ++ rest) ∙ is)
+      (cut_then (head ++ rest) [] [] v0 v2 v3 (taken_then head rest v0 v1 v2 a b) c)
+
+-- some of it is kept, and what comes then is put alone
+pub both_taken : (all left less : List ℕ) (p q r : PageView) (old mid new : SinkView) → less ≡ []
+    → IsPutTo true all left p q old mid → IsPutTo false left less q r mid new → IsTaken all old new
+both_taken all left less p q r old mid new none h k =
+    subst (λ l. IsTaken l old new)
+    (ap (λ l. h.done ++ l) (sym (append-nil k.done) ∙ ap (λ l. k.done ++ l) (sym none) ∙ k.parts) ∙ h.parts)
+    (taken_then h.done k.done old mid new h.taken k.taken)
+
+-- ---- the parts of a text, without a page
+
+-- of what is to be put this is left
+pub record IsTakenTo (all left : List ℕ) (old new : SinkView) : Type 0 where
+  pub done : List ℕ
+  pub parts : done ++ left ≡ all
+  pub taken : IsTaken done old new
+
+-- nothing was taken yet
+pub taken_to_all : (all : List ℕ) (v : SinkView) → IsTakenTo all all v v
+taken_to_all all v = record { done = []; parts = refl; taken = taken_none v }
+
+module _ (all left part less : List ℕ) (old mid new : SinkView) (h : IsTakenTo all left old mid)
+    (parts : part ++ less ≡ left) where
+  -- the next part is taken
+  pub taken_more : IsTaken part mid new → IsTakenTo all less old new
+  taken_more k = record {
+    done = h.done ++ part;
+    parts = append_assoc h.done part less ∙ ap (λ l. h.done ++ l) parts ∙ h.parts;
+    taken = taken_then h.done part old mid new h.taken k;
+  }
+
+  -- or cut off
+  pub cut_more : IsCutOff part mid new → IsCutOff all old new
+  cut_more k = subst (λ l. IsCutOff l old new) (ap (λ l. h.done ++ l) parts ∙ h.parts)
+      (cut_then h.done part less old mid new h.taken k)
+
+-- nothing is left
+pub taken_whole : (all : List ℕ) (old new : SinkView) → IsTakenTo all [] old new → IsTaken all old new
+taken_whole all old new h = subst (λ l. IsTaken l old new) (sym (append-nil h.done) ∙ h.parts) h.taken

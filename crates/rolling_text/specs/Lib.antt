@@ -3,7 +3,7 @@ pub mod Pages
 pub mod Lengths
 pub mod WorldTraces
 pub mod Texts
-pub mod Parts
+pub mod Puts
 pub mod Orders
 pub mod Turns
 pub mod Counting

@@ -1,28 +1,26 @@
 -- What makers are asked for, and what the caller of them has out.
-use Rattle.std.specs.Prelude.{ℕ, []}
+use Rattle.std.specs.Prelude.{◌≡◌, ℕ, List, ◌++◌}
 use Rattle.sim_base.specs.Clones.{Clone}
 use Rattle.net_model.specs.Net.{Net}
-use Rattle.rolling_text.specs.Parts.{Wrote}
-use Rattle.rolling_text.specs.declared.part.Part.{Part}
+use Rattle.rolling_text.specs.Texts.{rest}
 
--- the lines of a clone from a time on and before another; those of `late` or later are counted
+-- the lines of a clone from a time on and before another
 pub record Span : Type 0 where
   pub net : Net
   pub list : Clone
   pub from : ℕ
   pub until : ℕ
-  pub late : ℕ
 
--- a part has the lines of a span
-abbrev pub IsMade : Span → Part → Type 0
-IsMade span part = Wrote span.net span.list span.from span.until span.late [] part.bytes.items part.after
+-- these are the lines of a span: with what comes then they are all from its begin on
+abbrev pub IsMade : Span → List ℕ → Type 0
+IsMade span lines = lines ++ rest span.net span.list span.until ≡ rest span.net span.list span.from
 
 -- a span up to another time
 abbrev pub until_of : Span → ℕ → Span
 until_of span time =
-    record { net = span.net; list = span.list; from = span.from; until = time; late = span.late }
+    record { net = span.net; list = span.list; from = span.from; until = time }
 
 -- and from another time on
 abbrev pub since : Span → ℕ → Span
 since span time =
-    record { net = span.net; list = span.list; from = time; until = span.until; late = span.late }
+    record { net = span.net; list = span.list; from = time; until = span.until }

@@ -1,5 +1,5 @@
 -- The texts of clones, each made of the one before it.
-use Rattle.std.specs.Prelude.{◌≡◌, ℕ, zero, suc, ◌+◌, ◌-◌, ◌<◌, ◌≤◌, List, [], length}
+use Rattle.std.specs.Prelude.{◌≡◌, ℕ, zero, suc, ◌+◌, ◌-◌, ◌<◌, ◌≤◌, List, [], ◌++◌, length}
 use Rattle.std.specs.List.{flat_map}
 use Rattle.sim_base.specs.Clones.{Clone, clone_at}
 use Rattle.sim_base.specs.declared.entry.Entry.{Entry}
@@ -41,6 +41,12 @@ abbrev pub dropped_at : Net → List Clone → ℕ → ℕ
 dropped_at net cs zero = 0
 dropped_at net cs (suc c) = length (rest net (clone_at cs (suc c - 1)) (shared_at net cs (suc c)))
 
+-- the lines that are kept of the clone before this one are its first, and so many bytes of them are dropped
+pub record AreLeft (net : Net) (cs : List Clone) (c dropped : ℕ) (lines : List ℕ) : Type 0 where
+  pub others : List ℕ
+  pub before : lines ++ others ≡ body_before net cs c
+  pub drops : dropped + length others ≡ dropped_at net cs c
+
 -- no line of these entries is longer than 256 bytes
 pub record HaveShortLines (net : Net) (es : List (Entry Msg Line)) : Type 0 where
   pub each : (e : Entry Msg Line) → In e es → length (entry_line net e) ≤ 256
@@ -49,8 +55,13 @@ pub record HaveShortLines (net : Net) (es : List (Entry Msg Line)) : Type 0 wher
 abbrev pub AllFit : Net → List Clone → ℕ → Type 0
 AllFit net cs reserved = (c : ℕ) → c < length cs → 32 + length (body net (clone_at cs c)) ≤ reserved
 
--- all that the texts of these clones need is there: a buffer that fits the longest, and a cursor
+-- a cursor has place for all logs, and a line has room
+pub record CanPut (net : Net) (texts : Texts) : Type 0 where
+  pub walk : IsWalk net texts.walk
+  pub line : 256 ≤ length texts.piece.items
+
+-- all that the texts of these clones need is there: a buffer that fits the longest, too
 pub record IsReady (net : Net) (cs : List Clone) (texts : Texts) : Type 0 where
   pub fits : AllFit net cs texts.page.reserved
   pub margin : length texts.page.text ≡ 32
-  pub walk : IsWalk net texts.walk
+  pub can : CanPut net texts

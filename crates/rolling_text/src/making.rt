@@ -3,9 +3,8 @@ ghost use Rattle.std.specs.Prelude.{◌≡◌, ◌+◌, ◌<◌, ◌≤◌, [], 
 ghost use Rattle.sim_base.specs.Clones.{clone_at};
 ghost use Rattle.rolling_text.specs.Orders.{Span, IsMade};
 
-use crate::part::Part;
 use crate::world_traces::WorldTraces;
-use crate::writing::make_part;
+use crate::writing::make_lines;
 use mailbox::{Caller, Errand, Worker};
 use sim_base::NoMemory;
 use std::alloc::Global;
@@ -21,7 +20,6 @@ pub(crate) struct Order<'a> {
     c: u32,
     from: u64,
     until: u64,
-    late: u64,
 }
 
 impl<'a> std::marker::Model for Order<'a> {
@@ -36,21 +34,20 @@ impl<'a> std::marker::Model for Order<'a> {
       list = clone_at o.traces.now.clones o.c;
       from = o.from;
       until = o.until;
-      late = o.late;
     } };
 
     ghost invariant = { λ o. (o.c < length o.traces.now.clones) × (o.from ≤ o.until) };
 }
 
 /// The lines, or out of memory.
-pub(crate) type Made = Result<Part, NoMemory>;
+pub(crate) type Made = Result<Vec<u8>, NoMemory>;
 
 /// What a maker owes for an order: the lines of its span.
 #[derive(Clone, Copy, Debug)]
 pub(crate) struct LinesOfSpans;
 
 impl<'a> Errand<Order<'a>, Made> for LinesOfSpans {
-    ghost answers = { λ order made. IfOk made (λ p. IsMade order p) };
+    ghost answers = { λ order made. IfOk made (λ bytes. IsMade order bytes.items) };
 }
 
 /// The caller's end of one maker's mailbox.
@@ -74,13 +71,7 @@ impl<'a> std::marker::Model for Maker<'a> {
 
 impl<'a> Order<'a> {
     /// An order for a span of time.
-    pub(crate) fn new(
-        traces: &'a WorldTraces<'a>,
-        c: u32,
-        from: u64,
-        until: u64,
-        late: u64,
-    ) -> Order<'a>
+    pub(crate) fn new(traces: &'a WorldTraces<'a>, c: u32, from: u64, until: u64) -> Order<'a>
         requires there { c < length traces.now.clones }
         requires order { from ≤ until }
         ensures value { result ≡ record {
@@ -88,7 +79,6 @@ impl<'a> Order<'a> {
           list = clone_at traces.now.clones c;
           from = from;
           until = until;
-          late = late;
         } }
     {
         Order {
@@ -96,15 +86,14 @@ impl<'a> Order<'a> {
             c,
             from,
             until,
-            late,
         }
     }
 
     // Makes the lines.
     fn make(self, alloc: Global) -> Made
-        ensures made { IfOk result (λ p. IsMade self.entry p) }
+        ensures made { IfOk result (λ bytes. IsMade self.entry bytes.items) }
     {
-        make_part(alloc, self.traces, self.c, self.from, self.until, self.late)
+        make_lines(alloc, self.traces, self.c, self.from, self.until)
     }
 }
 
@@ -154,7 +143,7 @@ fn serve_all<R: Threads + Wait + Sync>(
 pub(crate) fn finish<R: Wait>(rt: &R, alloc: Global, line: &mut Line<'_>) -> Made
     requires given { (span : Span) × (line.old ≡ Some span) }
     ensures idle { line.new ≡ None }
-    ensures made { (span : Span) → line.old ≡ Some span → IfOk result (λ p. IsMade span p) }
+    ensures made { (span : Span) → line.old ≡ Some span → IfOk result (λ bytes. IsMade span bytes.items) }
 {
     match line.take_back() {
         Some(order) => order.make(alloc),

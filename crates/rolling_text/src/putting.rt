@@ -1,14 +1,16 @@
 //! Texts into a sink, one after the other.
-ghost use Rattle.std.specs.Prelude.{◌≡◌, ◌+◌, ◌<◌, ◌≤◌, ◌++◌, length, drop, codes, OnOk, OnErr};
+ghost use Rattle.std.specs.Prelude.{◌≡◌, ◌+◌, ◌<◌, ◌≤◌, ◌++◌, length, drop, codes, IfOk, OnOk, OnErr};
 ghost use Rattle.sim_base.specs.Clones.{clone_at};
 ghost use Rattle.sim_outer.specs.Bytes.{Appended, PartAppended};
 ghost use Rattle.sim_outer.specs.Causes.{AreCounted, Rose};
 ghost use Rattle.rolling_text.specs.Counting.{AreCountedTo};
-ghost use Rattle.rolling_text.specs.Texts.{AllFit, IsReady, body, body_before, dropped_at, rest};
-ghost use Rattle.rolling_text.specs.WorldTraces.{IsWalk};
-ghost use Rattle.trace_report.specs.Outputs.{clone_texts};
+ghost use Rattle.rolling_text.specs.Puts.{IsTaken, IsPut, IsCutOff};
+ghost use Rattle.rolling_text.specs.Texts.{AllFit, AreLeft, CanPut, IsReady, body, parting_at, rest};
+ghost use Rattle.trace_report.specs.Outputs.{clone_text, clone_texts};
 
+use crate::beside::put_lines;
 use crate::bounds::parts_at;
+use crate::logs::len_between;
 use crate::page::Page;
 use crate::texts::Texts;
 use crate::world_traces::WorldTraces;
@@ -17,7 +19,6 @@ use sim_outer::{PutFailed, Sink};
 use std::alloc::Global;
 use std::sync::Wait;
 use std::thread::Threads;
-use trace_cursor::Cursor;
 
 // Puts a clone's name line before its lines, at the end of the 32 bytes there, and returns where it begins.
 fn put_head(page: &mut Page, name: &Name) -> usize
@@ -36,51 +37,124 @@ fn put_head(page: &mut Page, name: &Name) -> usize
     at - 6
 }
 
-// Makes the lines of a clone of those of the clone before, of which so many bytes are dropped. Returns how many of the
-// clone's own the next one drops, which parts from it at a time.
-fn roll<'a, R: Threads + Wait + Sync>(
+// Cuts the page to the lines that a clone has in common with the one before it, of which so many bytes are dropped, and puts
+// its name line before them. Returns where that begins.
+fn begin_text(traces: &WorldTraces<'_>, c: u32, dropped: usize, page: &mut Page) -> usize
+    requires there { c < length traces.now.clones }
+    requires margin { 32 ≤ length page.old.text }
+    requires left { AreLeft traces.now.net traces.now.clones c dropped (drop 32 page.old.text) }
+    ensures text { drop result page.new.text ++ rest traces.now.net (clone_at traces.now.clones c)
+        (parting_at traces.now.net traces.now.clones c) ≡ clone_text traces.now.net (clone_at traces.now.clones c) }
+    ensures lines { drop 32 page.new.text ++ rest traces.now.net (clone_at traces.now.clones c)
+        (parting_at traces.now.net traces.now.clones c) ≡ body traces.now.net (clone_at traces.now.clones c) }
+    ensures margin { 32 ≤ length page.new.text }
+    ensures start { result ≤ 32 }
+    ensures reserved { page.new.reserved ≡ page.old.reserved }
+{
+    let _clones = traces.len();
+    let keep = page.len() - dropped;
+    page.cut(keep);
+    put_head(page, &traces.name(c))
+}
+
+// Puts the lines of a clone from where it parts from the one before it. Those before the time at which the next one parts
+// from it are kept, and what comes then is put alone.
+fn put_rest<'a, O: Sink, R: Threads + Wait + Sync>(
     rt: &R,
     alloc: Global,
     traces: &WorldTraces<'a>,
     workers: u32,
-    walk: &mut Cursor<'a>,
+    texts: &mut Texts<'a>,
+    c: u32,
+    time: u64,
+    late: u64,
+    out: &mut O,
+) -> Result<(), PutFailed>
+    requires there { c < length traces.now.clones }
+    requires order { time ≤ late }
+    requires can { CanPut traces.now.net texts.old }
+    requires fits { length texts.old.page.text + length (rest traces.now.net (clone_at traces.now.clones c) time)
+        ≤ texts.old.page.reserved }
+    ensures ok { OnOk result (IsTaken (rest traces.now.net (clone_at traces.now.clones c) time)
+        (record { bytes = O.bytes out.old; faults = O.faults out.old; calls = O.calls out.old })
+        (record { bytes = O.bytes out.new; faults = O.faults out.new; calls = O.calls out.new })) }
+    ensures kept { OnOk result (texts.new.page.text ++ rest traces.now.net (clone_at traces.now.clones c) late
+        ≡ texts.old.page.text ++ rest traces.now.net (clone_at traces.now.clones c) time) }
+    ensures longer { OnOk result (length texts.old.page.text ≤ length texts.new.page.text) }
+    ensures reserved { OnOk result (texts.old.page.reserved ≤ texts.new.page.reserved) }
+    ensures err { OnErr result (IsCutOff (rest traces.now.net (clone_at traces.now.clones c) time)
+        (record { bytes = O.bytes out.old; faults = O.faults out.old; calls = O.calls out.old })
+        (record { bytes = O.bytes out.new; faults = O.faults out.new; calls = O.calls out.new })) }
+    ensures can { CanPut traces.now.net texts.new }
+{
+    let end = late.max(traces.world.model().horizon());
+    match put_lines(rt, alloc, traces, workers, texts, c, time, late, true, out) {
+        Ok(()) => {}
+        Err(failed) => return Err(failed),
+    }
+    match put_lines(rt, alloc, traces, workers, texts, c, late, end, false, out) {
+        Ok(()) => Ok(()),
+        Err(failed) => Err(failed),
+    }
+}
+
+// Puts the text of a clone. The page has lines of the clone before it, of which so many bytes are dropped. Returns how many
+// bytes of what is kept the next one drops, which parts from it at a time.
+fn put_text<'a, O: Sink, R: Threads + Wait + Sync>(
+    rt: &R,
+    alloc: Global,
+    traces: &WorldTraces<'a>,
+    workers: u32,
+    texts: &mut Texts<'a>,
     c: u32,
     dropped: usize,
     next: u64,
-    page: &mut Page,
-) -> usize
+    out: &mut O,
+) -> Result<usize, PutFailed>
     requires there { c < length traces.now.clones }
-    requires walk { IsWalk traces.now.net walk.old }
-    requires fits { AllFit traces.now.net traces.now.clones page.old.reserved }
-    requires dropped { dropped ≡ dropped_at traces.now.net traces.now.clones c }
-    requires margin { 32 ≤ length page.old.text }
-    requires lines { drop 32 page.old.text ≡ body_before traces.now.net traces.now.clones c }
-    ensures lines { drop 32 page.new.text ≡ body traces.now.net (clone_at traces.now.clones c) }
-    ensures dropped { result ≡ length (rest traces.now.net (clone_at traces.now.clones c) next) }
-    ensures margin { 32 ≤ length page.new.text }
-    ensures reserved { page.old.reserved ≤ page.new.reserved }
-    ensures walk { IsWalk traces.now.net walk.new }
+    requires can { CanPut traces.now.net texts.old }
+    requires fits { AllFit traces.now.net traces.now.clones texts.old.page.reserved }
+    requires margin { 32 ≤ length texts.old.page.text }
+    requires left { AreLeft traces.now.net traces.now.clones c dropped (drop 32 texts.old.page.text) }
+    ensures ok { OnOk result (IsPut (clone_text traces.now.net (clone_at traces.now.clones c))
+        (record { bytes = O.bytes out.old; faults = O.faults out.old; calls = O.calls out.old })
+        (record { bytes = O.bytes out.new; faults = O.faults out.new; calls = O.calls out.new })) }
+    ensures err { OnErr result (IsCutOff (clone_text traces.now.net (clone_at traces.now.clones c))
+        (record { bytes = O.bytes out.old; faults = O.faults out.old; calls = O.calls out.old })
+        (record { bytes = O.bytes out.new; faults = O.faults out.new; calls = O.calls out.new })) }
+    ensures left { IfOk result (λ n. next ≡ parting_at traces.now.net traces.now.clones (c + 1) →
+        AreLeft traces.now.net traces.now.clones (c + 1) n (drop 32 texts.new.page.text)) }
+    ensures margin { OnOk result (32 ≤ length texts.new.page.text) }
+    ensures reserved { OnOk result (texts.old.page.reserved ≤ texts.new.page.reserved) }
+    ensures can { CanPut traces.now.net texts.new }
 {
-    let _clones = traces.len();
     let time = parts_at(traces, c);
-    let keep = page.len() - dropped;
-    page.cut(keep);
-    page.put_rest(rt, alloc, traces, workers, walk, c, time, next)
+    let late = time.max(next);
+    let start = begin_text(traces, c, dropped, &mut texts.page);
+    match texts.page.put_from(start, out) {
+        Ok(()) => {}
+        Err(failed) => return Err(failed),
+    }
+    match put_rest(rt, alloc, traces, workers, texts, c, time, late, out) {
+        Ok(()) => {}
+        Err(failed) => return Err(failed),
+    }
+    match out.put(b"") {
+        Ok(()) => Ok(len_between(traces.world, &traces.names, c, next, late)),
+        Err(failed) => Err(failed),
+    }
 }
 
-// The texts, whose buffer is given.
+// The texts, whose memory is given.
 fn put_all<'a, O: Sink, R: Threads + Wait + Sync>(
     rt: &R,
     alloc: Global,
     traces: &WorldTraces<'a>,
     workers: u32,
-    walk: &mut Cursor<'a>,
-    page: &mut Page,
+    texts: &mut Texts<'a>,
     out: &mut O,
 ) -> Result<(), PutFailed>
-    requires walk { IsWalk traces.now.net walk.old }
-    requires fits { AllFit traces.now.net traces.now.clones page.old.reserved }
-    requires fresh { length page.old.text ≡ 32 }
+    requires ready { IsReady traces.now.net traces.now.clones texts.old }
     ensures ok { OnOk result (Appended (O.bytes out.old) (clone_texts traces.now.net traces.now.clones)
         (O.bytes out.new)) }
     ensures part { OnErr result (PartAppended (O.bytes out.old) (clone_texts traces.now.net traces.now.clones)
@@ -95,19 +169,17 @@ fn put_all<'a, O: Sink, R: Threads + Wait + Sync>(
     for c in 0..clones {
         // where there is no next clone, nobody asks what it drops
         let next = parts_at(traces, (c + 1).min(clones - 1));
-        dropped = roll(rt, alloc, traces, workers, walk, c, dropped, next, page);
-        let start = put_head(page, &traces.name(c));
-        match out.put(&page.as_bytes()[start..]) {
-            Ok(()) => {}
+        match put_text(rt, alloc, traces, workers, texts, c, dropped, next, out) {
+            Ok(drops) => dropped = drops,
             Err(failed) => return Err(failed),
         }
     }
     Ok(())
 }
 
-/// Puts the text of each clone, its name line and its lines, in one piece.
+/// Puts the text of each clone, its name line and its lines, in one call whose parts are put as they are made.
 ///
-/// The lines that a clone shares with the one before it stay where they are. Long texts are written by so many workers,
+/// The lines that a clone shares with the one before it are kept, and not made again. Long texts are made by so many workers,
 /// if there is memory for it, and else by one, which takes none.
 pub fn put_texts<'a, O: Sink, R: Threads + Wait + Sync>(
     rt: &R,
@@ -127,6 +199,6 @@ pub fn put_texts<'a, O: Sink, R: Threads + Wait + Sync>(
     ensures each { OnOk result (AreCounted (length traces.now.clones) (O.calls out.old) (O.calls out.new)) }
     ensures some { OnErr result (AreCountedTo (length traces.now.clones) (O.calls out.old) (O.calls out.new)) }
 {
-    let Texts { mut page, mut walk } = texts;
-    put_all(rt, alloc, traces, workers, &mut walk, &mut page, out)
+    let mut texts = texts;
+    put_all(rt, alloc, traces, workers, &mut texts, out)
 }

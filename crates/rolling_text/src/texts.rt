@@ -12,11 +12,15 @@ use trace_cursor::Cursor;
 /// A name line is `clone `, at most 16 bytes and a line feed.
 pub(crate) const MARGIN: usize = 32;
 
-/// All that the texts of clones need: a buffer for the longest, and a cursor.
+// How many bytes of lines are put at once: they stay near the processor from when they are made to when they are taken.
+const PIECE: usize = 32_768;
+
+/// All that the texts of clones need: a buffer for what texts have in common, a cursor, and room for some lines.
 #[derive(Drop)]
 pub struct Texts<'a> {
     pub(crate) page: Page,
     pub(crate) walk: Cursor<'a>,
+    pub(crate) piece: Vec<u8>,
 }
 
 /// Takes all memory that the texts need. Writing them needs no more.
@@ -26,5 +30,7 @@ pub fn prepare<'a>(alloc: Global, traces: &WorldTraces<'a>) -> Result<Texts<'a>,
     let page = Page::new(alloc, MARGIN, MARGIN + greatest_bound(traces))?;
     let stations = traces.world.model().len();
     let walk = Cursor::new(alloc, stations as usize)?;
-    Ok(Texts { page, walk })
+    let mut piece = Vec::with_capacity(alloc, PIECE)?;
+    piece.resize(PIECE, b' ')?;
+    Ok(Texts { page, walk, piece })
 }

@@ -1,27 +1,36 @@
 //! The spans of a long text, which makers make in turn.
 //!
 //! ```text
-//!   written      | span of the first | of the second | of the third | left
-//!                made                                               given  until
+//!   written      | span of the first | of the second | the caller's own | left
+//!                made                                                   given  until
 //! ```
-ghost use Rattle.std.specs.Prelude.{◌≡◌, ◌<◌, ◌≤◌, [], ◌∷◌, ◌++◌, None, length, IfSome, OnOk, OnErr};
+ghost use Rattle.std.specs.Prelude.{◌≡◌, ◌<◌, ◌≤◌, [], ◌∷◌, ◌++◌, None, Some, length, IfSome, OnOk, OnErr};
 ghost use Rattle.sim_base.specs.Clones.{clone_at};
-ghost use Rattle.rolling_text.specs.Orders.{IsMade, until_of, since};
+ghost use Rattle.rolling_text.specs.Orders.{until_of, since};
+ghost use Rattle.rolling_text.specs.Turns.{IsTurn};
 
 use crate::cuts::Cuts;
 use crate::making::{Line, Maker, Order, finish, open_line};
-use crate::part::Part;
 use crate::world_traces::WorldTraces;
 use sim_base::NoMemory;
 use std::alloc::Global;
 use std::collections::VecDeque;
 use std::sync::Wait;
 
-/// The line of a maker that has a span to make, and when that ends.
+/// The line of a maker that has a span to make, or none where it is the caller's own to put, and when that ends.
 #[derive(Drop)]
 pub(crate) struct Busy<'a> {
-    pub(crate) line: Line<'a>,
+    pub(crate) line: Option<Line<'a>>,
     pub(crate) until: u64,
+}
+
+/// Whose the next span is.
+#[derive(Drop)]
+pub(crate) enum Turn {
+    /// A maker's, which has made these lines.
+    Made(Vec<u8>),
+    /// The caller's, of which nothing is made.
+    Own,
 }
 
 /// What is not written yet of a clone's lines. Contracts see the span that this is.
@@ -32,7 +41,6 @@ pub(crate) struct Turns<'a> {
     made: u64,
     given: u64,
     until: u64,
-    late: u64,
     busy: VecDeque<Busy<'a>>,
     cuts: Cuts<'a>,
 }
@@ -49,10 +57,9 @@ impl<'a> std::marker::Model for Turns<'a> {
       list = clone_at t.traces.now.clones t.c;
       from = t.made;
       until = t.until;
-      late = t.late;
     } };
 
-    ghost invariant = { λ t. AreGiven t.traces.now t.c t.late t.made t.busy.items t.given t.until };
+    ghost invariant = { λ t. AreGiven t.traces.now t.c t.made t.busy.items t.given t.until };
 }
 
 // A line more behind the others.
@@ -64,6 +71,18 @@ fn add<'a>(busy: &mut VecDeque<Busy<'a>>, one: Busy<'a>) -> Result<(), NoMemory>
     Ok(())
 }
 
+// The line of a maker, if there is one, that is given an order.
+fn ordered<'a>(line: Option<Line<'a>>, order: Order<'a>) -> Option<Line<'a>>
+    requires idle { IfSome line (λ l. l ≡ None) }
+    ensures given { IfSome result (λ l. l ≡ Some order.entry) }
+{
+    let Some(mut line) = line else {
+        return None;
+    };
+    line.give(order);
+    Some(line)
+}
+
 impl<'a> Turns<'a> {
     /// The lines of a clone from a time on and before another, of which no maker has any yet.
     pub(crate) fn new(
@@ -72,7 +91,6 @@ impl<'a> Turns<'a> {
         c: u32,
         from: u64,
         until: u64,
-        late: u64,
     ) -> Turns<'a>
         requires there { c < length traces.now.clones }
         requires order { from ≤ until }
@@ -81,7 +99,6 @@ impl<'a> Turns<'a> {
           list = clone_at traces.now.clones c;
           from = from;
           until = until;
-          late = late;
         } }
     {
         Turns {
@@ -90,7 +107,6 @@ impl<'a> Turns<'a> {
             made: from,
             given: from,
             until,
-            late,
             busy: VecDeque::new(alloc),
             cuts: Cuts::new(traces, c, from, until),
         }
@@ -109,9 +125,9 @@ impl<'a> Turns<'a> {
         self.made
     }
 
-    // Gives a maker the next span, where one is left.
-    fn give(&mut self, mut line: Line<'a>) -> Result<(), NoMemory>
-        requires idle { line ≡ None }
+    // Gives a maker the next span, or leaves it to the caller, where one is left.
+    fn give(&mut self, line: Option<Line<'a>>) -> Result<(), NoMemory>
+        requires idle { IfSome line (λ l. l ≡ None) }
         ensures same { self.new ≡ self.old }
     {
         if self.given >= self.until {
@@ -121,13 +137,14 @@ impl<'a> Turns<'a> {
         // the times are hints, and no span ends before it begins
         let hint = self.cuts.next_end(self.traces, self.c, from, self.until);
         let until = hint.max(from).min(self.until);
-        line.give(Order::new(self.traces, self.c, from, until, self.late));
+        let order = Order::new(self.traces, self.c, from, until);
+        let line = ordered(line, order);
         add(&mut self.busy, Busy { line, until })?;
         self.given = until;
         Ok(())
     }
 
-    /// Gives each of so many makers its first span, where one is left for it.
+    /// Gives each of so many makers its first span, where one is left for it, and leaves the next to the caller.
     ///
     /// Errors: out of memory.
     pub(crate) fn begin(&mut self, alloc: Global, most: u64) -> Result<Vec<Maker<'a>>, NoMemory>
@@ -136,26 +153,38 @@ impl<'a> Turns<'a> {
         let mut makers = Vec::new(alloc);
         for _ in 0..most.min(self.cuts.pieces()) {
             let (line, maker) = open_line(alloc)?;
-            self.give(line)?;
+            self.give(Some(line))?;
             makers.push(maker)?;
         }
+        self.give(None)?;
         Ok(makers)
     }
 
-    /// The lines of the first span. Its maker is given the next one at once, so that it works while these are written.
+    /// Whose the first span is, with its lines where a maker has made them. A maker is given the next one at once, so that
+    /// it works while these are put.
     ///
-    /// None where no maker has a span, or where there is no memory.
-    pub(crate) fn next<R: Wait>(&mut self, rt: &R, alloc: Global) -> Option<Part>
-        ensures made { IfSome result (λ part. IsMade (until_of self.old self.new.from) part) }
+    /// None where no span is given, or where there is no memory.
+    pub(crate) fn next<R: Wait>(&mut self, rt: &R, alloc: Global) -> Option<Turn>
+        ensures made { IfSome result (λ turn. IsTurn (until_of self.old self.new.from) turn) }
         ensures others { self.new ≡ since self.old self.new.from }
+        ensures later { self.old.from ≤ self.new.from }
     {
-        let Some(Busy { mut line, until }) = self.busy.pop_front() else {
+        let Some(Busy { line, until }) = self.busy.pop_front() else {
             return None;
         };
-        let made = finish(rt, alloc, &mut line);
         self.made = until;
-        match self.give(line) {
-            Ok(()) => made.ok(),
+        let Some(mut line) = line else {
+            return match self.give(None) {
+                Ok(()) => Some(Turn::Own),
+                Err(_) => None,
+            };
+        };
+        let made = finish(rt, alloc, &mut line);
+        match self.give(Some(line)) {
+            Ok(()) => match made {
+                Ok(lines) => Some(Turn::Made(lines)),
+                Err(_) => None,
+            },
             Err(_) => None,
         }
     }

@@ -1,17 +1,18 @@
-//! The lines of a clone in a span of time, behind a text or in a buffer of their own.
-ghost use Rattle.std.specs.Prelude.{◌≡◌, ◌+◌, ◌<◌, ◌≤◌, [], length, drop, vec_capacity, IfOk, OnErr};
+//! The lines of a clone in a span of time: put, or in a buffer of their own.
+ghost use Rattle.std.specs.Prelude.{◌≡◌, ◌+◌, ◌<◌, ◌≤◌, ◌++◌, true, length, drop, IfOk, OnOk, OnErr};
 ghost use Rattle.sim_base.specs.Clones.{clone_at};
 ghost use Rattle.stations.specs.Runs.{simulation, trace_of};
 ghost use Rattle.run_laws.specs.SharedTexts.{from_on};
-ghost use Rattle.rolling_text.specs.Parts.{Wrote};
-ghost use Rattle.rolling_text.specs.Texts.{rest};
+ghost use Rattle.rolling_text.specs.Puts.{IsPutTo, IsCutOff};
+ghost use Rattle.rolling_text.specs.Texts.{CanPut, rest};
 ghost use Rattle.rolling_text.specs.WorldTraces.{IsWalk};
 
-use crate::lines::{gather, put_entries};
+use crate::lines::{add_entries, gather, put_entries};
 use crate::logs::count_from;
-use crate::part::Part;
+use crate::texts::Texts;
 use crate::world_traces::WorldTraces;
 use sim_base::NoMemory;
+use sim_outer::{PutFailed, Sink};
 use std::alloc::Global;
 use trace_cursor::Cursor;
 
@@ -41,55 +42,64 @@ fn gather_span<'a>(
     all - count_from(traces.world, c, until)
 }
 
-/// Writes the lines of a clone from a time on and before another behind the bytes. Returns how many bytes of them are
-/// of a time `late` or later.
-///
-/// Errors: out of memory, which never comes where all lines of the clone from that time on fit what is reserved.
-pub(crate) fn put_span<'a>(
-    bytes: &mut Vec<u8>,
-    traces: &WorldTraces<'a>,
-    walk: &mut Cursor<'a>,
-    c: u32,
-    from: u64,
-    until: u64,
-    late: u64,
-) -> Result<usize, NoMemory>
-    requires there { c < length traces.now.clones }
-    requires walk { IsWalk traces.now.net walk.old }
-    requires order { from ≤ until }
-    ensures wrote { IfOk result (λ after. Wrote traces.now.net (clone_at traces.now.clones c) from until late
-        bytes.old.items bytes.new.items after) }
-    ensures full { OnErr result (vec_capacity bytes.old < length bytes.old.items
-        + length (rest traces.now.net (clone_at traces.now.clones c) from)) }
-    ensures reserved { vec_capacity bytes.old ≤ vec_capacity bytes.new }
-    ensures walk { IsWalk traces.now.net walk.new }
-{
-    let count = gather_span(traces, walk, c, from, until);
-    let model = traces.world.model();
-    put_entries(bytes, walk, count, model, &traces.names, late)
-}
-
-/// The same in a buffer of its own, with a cursor of its own.
+/// The lines of a clone from a time on and before another, in a buffer of their own and with a cursor of its own.
 ///
 /// Errors: out of memory.
-pub(crate) fn make_part(
+pub(crate) fn make_lines(
     alloc: Global,
     traces: &WorldTraces<'_>,
     c: u32,
     from: u64,
     until: u64,
-    late: u64,
-) -> Result<Part, NoMemory>
+) -> Result<Vec<u8>, NoMemory>
     requires there { c < length traces.now.clones }
     requires order { from ≤ until }
-    ensures wrote { IfOk result (λ p. Wrote traces.now.net (clone_at traces.now.clones c) from until late
-        [] p.bytes.items p.after) }
+    ensures made { IfOk result (λ bytes. bytes.items ++ rest traces.now.net (clone_at traces.now.clones c) until
+        ≡ rest traces.now.net (clone_at traces.now.clones c) from) }
 {
     let model = traces.world.model();
     let mut walk = Cursor::new(alloc, model.len() as usize)?;
     let count = gather_span(traces, &mut walk, c, from, until);
     // no line is longer than 256 bytes, so that the buffer never grows
     let mut bytes = Vec::with_capacity(alloc, (count as usize).saturating_mul(256))?;
-    let after = put_entries(&mut bytes, &mut walk, count, model, &traces.names, late)?;
-    Ok(Part { bytes, after })
+    add_entries(&mut bytes, &mut walk, count, model, &traces.names)?;
+    Ok(bytes)
+}
+
+/// Puts the lines of a clone from a time on and before another, and keeps them if that is asked for.
+pub(crate) fn put_span<'a, O: Sink>(
+    traces: &WorldTraces<'a>,
+    texts: &mut Texts<'a>,
+    c: u32,
+    from: u64,
+    until: u64,
+    keeps: bool,
+    out: &mut O,
+) -> Result<(), PutFailed>
+    requires there { c < length traces.now.clones }
+    requires order { from ≤ until }
+    requires can { CanPut traces.now.net texts.old }
+    requires fits { keeps ≡ true → length texts.old.page.text
+        + length (rest traces.now.net (clone_at traces.now.clones c) from) ≤ texts.old.page.reserved }
+    ensures ok { OnOk result (IsPutTo keeps (rest traces.now.net (clone_at traces.now.clones c) from)
+        (rest traces.now.net (clone_at traces.now.clones c) until) texts.old.page texts.new.page
+        (record { bytes = O.bytes out.old; faults = O.faults out.old; calls = O.calls out.old })
+        (record { bytes = O.bytes out.new; faults = O.faults out.new; calls = O.calls out.new })) }
+    ensures err { OnErr result (IsCutOff (rest traces.now.net (clone_at traces.now.clones c) from)
+        (record { bytes = O.bytes out.old; faults = O.faults out.old; calls = O.calls out.old })
+        (record { bytes = O.bytes out.new; faults = O.faults out.new; calls = O.calls out.new })) }
+    ensures can { CanPut traces.now.net texts.new }
+{
+    let count = gather_span(traces, &mut texts.walk, c, from, until);
+    let model = traces.world.model();
+    put_entries(
+        &mut texts.walk,
+        count,
+        model,
+        &traces.names,
+        &mut texts.piece,
+        &mut texts.page,
+        keeps,
+        out,
+    )
 }

@@ -1,5 +1,6 @@
 pub mod Bytes
 pub mod Causes
+pub mod Sinks
 pub mod Files
 pub mod MemSinkView
 pub mod MemInputsView

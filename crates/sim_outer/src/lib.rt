@@ -4,7 +4,9 @@
 //! clause can say; so a count of faults stands in its place. `Inputs` and `Sink` say what a caller may rely on:
 //! a fetch that fails raised the count, or the file is known not to exist; a put that fails raised the count,
 //! and a prefix of the piece was taken. Calls are counted too, where the contract knows the count, so that a
-//! caller can promise how often it fetches and puts. The top call is written over these two traits:
+//! caller can promise how often it fetches and puts. A piece may be put in parts (`put_part`), which end with a
+//! `put` of the rest and are one call with it, so a long text need not be held whole. The top call is written over
+//! these two traits:
 //!
 //! ```text
 //!              Inputs                        Sink
@@ -17,7 +19,8 @@
 //!
 //! ```text
 //! let mut out = MemSink::new(alloc, 4_096, failing)?;   // call 2 takes 10 bytes and fails
-//! out.put(text)?;
+//! out.put(text)?;                                       // call 1
+//! out.put_part(b"clone base\n")?;                       // call 2, which fails here, since that has 11 bytes
 //! let written = out.bytes();
 //! ```
 //!

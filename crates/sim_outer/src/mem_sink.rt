@@ -1,9 +1,9 @@
 //! Sinks in memory.
-ghost use Rattle.std.specs.Prelude.{◌≡◌, ◌≤◌, ◌↔◌, ◌&&◌, [], true, min, nat_le};
-ghost use Rattle.std.specs.Prelude.{length, is_none, unwrap_or, Some, OnOk, OnErr, IfOk, IsOk};
+ghost use Rattle.std.specs.Prelude.{◌≡◌, ◌≤◌, ◌+◌, ◌↔◌, ◌++◌, [], true, length, take, Some, OnOk, OnErr, IfOk, IsOk};
 ghost use Rattle.sim_outer.specs.Bytes.{Appended, PartAppended};
 ghost use Rattle.sim_outer.specs.Causes.{Counted, Rose};
-ghost use Rattle.sim_outer.specs.MemSinkView.{stop_of, next_is_whole, after_put};
+ghost use Rattle.sim_outer.specs.MemSinkView.{stop_of as stop_of', share as share', with_share, fits_whole, left_of, next_stop};
+ghost use Rattle.sim_outer.specs.MemSinkView.{after_call, next_is_whole, after_put, next_part_is_whole, after_part};
 
 use crate::sink::{PutFailed, Sink};
 use sim_base::NoMemory;
@@ -16,6 +16,7 @@ pub struct MemSink {
     taken: Vec<u8>,
     capacity: usize,
     failing: Vec<(u32, usize)>,
+    begun: usize,
     calls: u64,
     faults: u64,
 }
@@ -31,11 +32,13 @@ impl Model for MemSink {
       taken = s.taken.items;
       capacity = s.capacity;
       failing = s.failing.items;
+      begun = s.begun;
       calls = s.calls;
       faults = s.faults;
     } };
 
-    ghost invariant = { λ s. (length s.taken.items ≤ s.capacity) × (s.capacity ≤ vec_capacity s.taken) };
+    ghost invariant = { λ s. (s.begun ≤ length s.taken.items) × (length s.taken.items ≤ s.capacity)
+        × (s.capacity ≤ vec_capacity s.taken) };
 }
 
 impl MemSink {
@@ -50,6 +53,7 @@ impl MemSink {
           taken = [];
           capacity = capacity;
           failing = failing.items;
+          begun = 0;
           calls = 0;
           faults = 0;
         }) }
@@ -58,6 +62,7 @@ impl MemSink {
             taken: Vec::with_capacity(alloc, capacity)?,
             capacity,
             failing,
+            begun: 0,
             calls: 0,
             faults: 0,
         })
@@ -68,6 +73,44 @@ impl MemSink {
         ensures value { result.now ≡ self.now.taken }
     {
         self.taken.as_slice()
+    }
+
+    // How many more bytes the next call takes at most, if it is one that fails.
+    fn stop(&self) -> Option<usize>
+        ensures value { result ≡ next_stop self.now }
+    {
+        let call = self.calls.saturating_add(1);
+        let stop = stop_of(self.failing.as_slice(), call);
+        stop.map(|stop| stop.saturating_sub(self.begun))
+    }
+
+    // Takes what fits of a piece, up to a stop, and tells whether that is all of it.
+    fn keep(&mut self, piece: &[u8], stop: Option<usize>) -> bool
+        ensures whole { result ≡ fits_whole stop (left_of self.old) (length piece.now) }
+        ensures after { self.new ≡ with_share self.old stop piece.now }
+    {
+        let left = self.capacity - self.taken.len();
+        let (count, whole) = share(stop, piece.len(), left);
+        let Ok(()) = self.taken.extend_from_slice(&piece[..count]) else {
+            unreachable!()
+        };
+        self.begun += count;
+        whole
+    }
+
+    // Counts a call that ends, and a fault where it was not taken whole.
+    fn end(&mut self, whole: bool) -> Result<(), PutFailed>
+        ensures whole { IsOk result ↔ (whole ≡ true) }
+        ensures later { self.old.faults ≤ self.new.faults }
+        ensures after { self.new ≡ after_call self.old whole }
+    {
+        self.begun = 0;
+        self.calls = self.calls.saturating_add(1);
+        if whole {
+            return Ok(());
+        }
+        self.faults = self.faults.saturating_add(1);
+        Err(PutFailed)
     }
 }
 
@@ -89,35 +132,45 @@ impl Sink for MemSink {
         ensures succeeds { IsOk result ↔ (next_is_whole self.old (length piece.now) ≡ true) }
         ensures after { self.new ≡ after_put self.old piece.now }
     {
-        self.calls = self.calls.saturating_add(1);
-        let stop = stop_at(self.failing.as_slice(), self.calls);
-        let left = self.capacity - self.taken.len();
-        let (count, whole) = share(stop, piece.len(), left);
-        let Ok(()) = self.taken.extend_from_slice(&piece[..count]) else {
-            unreachable!()
-        };
-        if whole {
+        let stop = self.stop();
+        let whole = self.keep(piece, stop);
+        self.end(whole && stop.is_none())
+    }
+
+    fn put_part(&mut self, part: &[u8]) -> Result<(), PutFailed>
+        ensures ok { OnOk result (Appended (Some self.old.taken) part.now (Some self.new.taken)) }
+        ensures part { OnErr result (PartAppended (Some self.old.taken) part.now (Some self.new.taken)) }
+        ensures cause { OnErr result (Rose self.old.faults self.new.faults) }
+        ensures later { self.old.faults ≤ self.new.faults }
+        ensures same { OnOk result (Some self.new.calls ≡ Some self.old.calls) }
+        ensures counted { OnErr result (Counted (Some self.old.calls) (Some self.new.calls)) }
+
+        // exactly when it succeeds, what is taken, and when the count rises
+        ensures succeeds { IsOk result ↔ (next_part_is_whole self.old (length part.now) ≡ true) }
+        ensures after { self.new ≡ after_part self.old part.now }
+    {
+        let stop = self.stop();
+        if self.keep(part, stop) {
             return Ok(());
         }
-        self.faults = self.faults.saturating_add(1);
-        Err(PutFailed)
+        self.end(false)
     }
 }
 
 // Where the call of this number stops, if it is one that fails.
-fn stop_at(failing: &[(u32, usize)], call: u64) -> Option<usize>
-    ensures value { result ≡ stop_of failing.now call }
+fn stop_of(failing: &[(u32, usize)], call: u64) -> Option<usize>
+    ensures value { result ≡ stop_of' failing.now call }
 {
     failing.iter().find(|f| u64::from(f.0) == call).map(|f| f.1)
 }
 
-// How many bytes of a piece of this size are taken, and whether that is no fault.
+// How many bytes of a piece of this size are taken, and whether these are all.
 fn share(stop: Option<usize>, size: usize, left: usize) -> (usize, bool)
-    ensures count { result.0 ≡ min (unwrap_or stop size) (min size left) }
-    ensures whole { result.1 ≡ (is_none stop && nat_le size left) }
+    ensures count { result.0 ≡ share' stop left size }
+    ensures whole { result.1 ≡ fits_whole stop left size }
 {
     (
         stop.unwrap_or(size).min(size).min(left),
-        stop.is_none() && size <= left,
+        size <= stop.unwrap_or(size) && size <= left,
     )
 }

@@ -19,4 +19,10 @@ impl Sink for NullSink {
     {
         Ok(())
     }
+
+    fn put_part(&mut self, _part: &[u8]) -> Result<(), PutFailed>
+        ensures takes { IsOk result }
+    {
+        Ok(())
+    }
 }

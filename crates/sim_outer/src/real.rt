@@ -92,6 +92,10 @@ impl<'a, R: Print> Sink for OutSink<'a, R> {
         }
         put
     }
+
+    fn put_part(&mut self, part: &[u8]) -> Result<(), PutFailed> {
+        self.put(part)
+    }
 }
 
 /// Standard error. It takes text alone: of a piece that is no UTF-8 it takes nothing. A value is
@@ -132,6 +136,10 @@ impl<'a, R: Eprint> Sink for ErrSink<'a, R> {
             self.faults = self.faults.saturating_add(1);
         }
         put
+    }
+
+    fn put_part(&mut self, part: &[u8]) -> Result<(), PutFailed> {
+        self.put(part)
     }
 }
 

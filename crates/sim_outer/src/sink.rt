@@ -1,5 +1,5 @@
 //! Sinks.
-ghost use Rattle.std.specs.Prelude.{◌≤◌, ℕ, List, Option, OnOk, OnErr};
+ghost use Rattle.std.specs.Prelude.{◌≡◌, ◌≤◌, ℕ, List, Option, OnOk, OnErr};
 ghost use Rattle.sim_outer.specs.Bytes.{Appended, PartAppended};
 ghost use Rattle.sim_outer.specs.Causes.{Counted, Rose};
 
@@ -26,4 +26,14 @@ pub trait Sink {
         ensures cause { OnErr result (Rose (faults self.old) (faults self.new)) }
         ensures later { faults self.old ≤ faults self.new }
         ensures counted { Counted (calls self.old) (calls self.new) };
+
+    /// Takes a part of the next piece, whose rest a `put` gives, or fails and has taken a prefix of the part. All parts
+    /// and the rest are one call, and a part that fails ends it. It takes no memory.
+    fn put_part(&mut self, part: &[u8]) -> Result<(), PutFailed>
+        ensures ok { OnOk result (Appended (bytes self.old) part.now (bytes self.new)) }
+        ensures part { OnErr result (PartAppended (bytes self.old) part.now (bytes self.new)) }
+        ensures cause { OnErr result (Rose (faults self.old) (faults self.new)) }
+        ensures later { faults self.old ≤ faults self.new }
+        ensures same { OnOk result (calls self.new ≡ calls self.old) }
+        ensures counted { OnErr result (Counted (calls self.old) (calls self.new)) };
 }

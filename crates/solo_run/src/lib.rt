@@ -10,10 +10,11 @@
 //!
 //!     let solo = Solo::new(alloc, &model, clone.list())?;             // the decisions are messages too
 //!     let solo = solo.run_to(&model, model.horizon(), &mut steps)?;   // Err(SoloFault::Limit { .. }) at the limit
-//!     let trace = solo.trace();                                       // what was handled, in order
+//!     let trace = solo.trace();                                       // the log of what was handled, in order
 //!
 //! A turn costs the handling, one look at the future event list and an insert for each message that is sent; one
-//! buffer serves all turns. A run of n messages keeps n entries of trace.
+//! buffer serves all turns. A run of n messages keeps n entries of trace in a `Log`: 32 bytes each where packed, as the
+//! numbers of a run within the model's limits let them be.
 //!
 //! It is the measure of all sharing: `run_to` comes to exactly the run that the definitions give for the clone
 //! (`ok`), and where a station would handle more messages than the limit, it names the station of the first such

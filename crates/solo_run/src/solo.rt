@@ -11,6 +11,7 @@ ghost use Rattle.solo_run.specs.Turns.{Stops, run_from};
 use crate::opening::{open_all, plan_all};
 use crate::turn::SoloFault;
 use arrayvec::ArrayVec;
+use log_chain::Log;
 use net_model::Model;
 use sim_base::{Entry, NoMemory, Pending, Planned, Steps};
 use stations::State;
@@ -22,7 +23,7 @@ use std::sync::ledger::Ledger;
 pub struct Solo {
     pub(crate) states: Vec<State>,
     pub(crate) pending: Pending<()>,
-    pub(crate) trace: Vec<Entry>,
+    pub(crate) trace: Log,
 }
 
 impl std::marker::Model for Solo {
@@ -30,7 +31,7 @@ impl std::marker::Model for Solo {
 
     ghost Value = { SoloView };
 
-    ghost view = { λ s. record { states = s.states.items; pending = s.pending; trace = s.trace.items } };
+    ghost view = { λ s. record { states = s.states.items; pending = s.pending; trace = s.trace } };
 }
 
 impl Solo {
@@ -48,7 +49,7 @@ impl Solo {
         Ok(Solo {
             states,
             pending,
-            trace: Vec::new(alloc),
+            trace: Log::new(alloc),
         })
     }
 
@@ -85,18 +86,19 @@ impl Solo {
         ensures { IfOk result (λ log. log.items ≡ log_of receiver station self.now.trace) }
     {
         let mut log = Vec::new(alloc);
-        for entry in self.trace.as_slice() {
+        let mut walk = self.trace.walk_from(0);
+        while let Some(entry) = walk.next() {
             if entry.msg.to == station {
-                log.push(*entry)?;
+                log.push(entry)?;
             }
         }
         Ok(log)
     }
 
-    /// The messages that were handled, in order.
-    pub fn trace(&self) -> &[Entry]
+    /// The log of the messages that were handled, in order.
+    pub fn trace(&self) -> &Log
         ensures { result.now ≡ self.now.trace }
     {
-        self.trace.as_slice()
+        &self.trace
     }
 }

@@ -1,21 +1,18 @@
 //! The run of one clone by itself, on one thread.
-ghost use Rattle.std.specs.Prelude.{◌≡◌, ◌+◌, ◌<◌, ◌≤◌, [], length, min, unwrap_or, IfOk, IfErr, OnOk, None};
+ghost use Rattle.std.specs.Prelude.{◌≡◌, ◌+◌, ◌<◌, ◌≤◌, length, min, unwrap_or, IfOk, IfErr, OnOk};
 ghost use Rattle.sim_base.specs.Clones.{clone_at};
 ghost use Rattle.stations.specs.Runs.{trace_of};
-ghost use Rattle.solo_run.specs.Limit.{first_beyond};
 ghost use Rattle.decision_book.specs.Plans.{ArePlanned};
 ghost use Rattle.study_run.specs.Faults.{IsFaultAlone};
 ghost use Rattle.study_run.specs.Limits.{IsWithin};
-ghost use Rattle.trace_report.specs.Outputs.{clone_text};
 ghost use Rattle.study_run.specs.Work.{IsFew};
 
 use crate::fault::StudyFault;
 use net_model::Model;
-use sim_base::{Lists, NoMemory, Steps};
+use sim_base::{Lists, Steps};
 use solo_run::{Solo, SoloFault};
 use std::alloc::Global;
 use std::sync::ledger::Ledger;
-use trace_report::trace_text;
 
 // How far a clone runs: to its end, or else to the horizon.
 fn last_front(model: &Model, end: Option<u64>) -> u64
@@ -56,31 +53,5 @@ pub fn run_alone<L: Ledger>(
         Ok(solo) => Ok(solo),
         Err(SoloFault::NoMemory) => Err(StudyFault::NoMemory),
         Err(SoloFault::Limit { station, .. }) => Err(StudyFault::LimitMet { station, who: c }),
-    }
-}
-
-/// The text of the trace of the clone at a place, run by itself.
-pub fn text_alone<L: Ledger>(
-    alloc: Global,
-    model: &Model,
-    lists: &Lists,
-    c: u32,
-    steps: &mut Steps<L>,
-) -> Result<Vec<u8>, StudyFault>
-    requires there { c < length lists.now.clones }
-    requires planned { ArePlanned model.now lists.now.clones }
-    ensures text { IfOk result (λ text. text.items ≡ clone_text model.now (clone_at lists.now.clones c)) }
-    ensures steps { OnOk result (steps.new ≡ steps.old + length (trace_of model.now (clone_at lists.now.clones c))) }
-    ensures within { OnOk result (IsWithin model.now (clone_at lists.now.clones c)) }
-    ensures few { OnOk result (IsFew model.now 1 steps.old steps.new) }
-    ensures fault { IfErr result (λ e. IsFaultAlone model.now lists.now.clones c steps.old steps.new e) }
-{
-    let solo = match run_alone(alloc, model, lists, c, steps) {
-        Ok(solo) => solo,
-        Err(fault) => return Err(fault),
-    };
-    match trace_text(alloc, model, &lists.name(c), solo.trace()) {
-        Ok(text) => Ok(text),
-        Err(NoMemory) => Err(StudyFault::NoMemory),
     }
 }

@@ -34,7 +34,7 @@ pub mod report;
 pub mod study;
 
 pub use accepted::accepted_calls;
-pub use alone::{run_alone, text_alone};
+pub use alone::run_alone;
 pub use crew::StudyCrew;
 pub use fault::StudyFault;
 pub use report::report_of;

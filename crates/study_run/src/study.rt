@@ -182,6 +182,10 @@ fn go_to_horizon<C: Crew, G: Gate, L: Ledger, R: Threads + Wait + Sync>(
         Ok(large) => large,
         Err(fault) => return Err(fault),
     };
+    // No window is left that a team could share out, so none is started.
+    if large.front() >= model.horizon() {
+        return Ok(large);
+    }
     go_on_with_team(rt, alloc, crew, gate, model, large, workers, steps)
 }
 

@@ -1,7 +1,7 @@
+use Rattle.sim_outer.specs.Sinks.{SinkView}
 use Rattle.cloner_top.proofs.FactLaws.{completes, cut_cause, finished, formless, idle}
 use Rattle.cloner_top.proofs.FactLaws.{kept, stop_cause, told_for, unread_cause, usage_cause}
 use Rattle.std.proofs.Common.{ap}
-use Rattle.cloner_top.specs.Outsides.{SinkView}
 use Rattle.cloner_top.proofs.program.cloner.Goals as goal
 
 pub returns-clause-finished : goal.returns-clause-finished

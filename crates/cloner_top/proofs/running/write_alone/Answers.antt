@@ -1,6 +1,7 @@
-use Rattle.std.proofs.Common.{◌∙◌, ap, refl, sym}
+use Rattle.std.proofs.Common.{◌≡◌, ◌∙◌, ap, ap₂, refl, subst, sym}
 use Rattle.sim_base.specs.Clones.{place_of}
 use Rattle.net_model.specs.Net.{Net}
+use Rattle.trace_report.specs.TraceText.{trace_text}
 use Rattle.cloner_top.specs.Endings.{at_once, limit_met, missing}
 use Rattle.cloner_top.proofs.Runs.{alone_not_put, alone_put, alone_stops}
 use Rattle.cloner_top.proofs.running.write_alone.Goals as goal
@@ -16,22 +17,25 @@ pub returns-in-Ok-clause-ok : goal.returns-in-Ok-clause-ok
 returns-in-Ok-clause-ok g c =
     alone_put _ _ _ _ c.args.name.now c.in-Some.place _ _ c.deref.ensures c.lists-lists.ensures.value
     (ap (place_of c.args.name.now) (sym c.lists-lists.ensures.value) ∙ sym c.in-Some.ensures.value) _ _ _
-    (c.as_slice.ensures.value ∙ c.in-Ok.ensures.text) c.in-Ok.ensures.within c.in-Ok.ensures.steps _
-    c.put_text.ensures.ok
+    (ap (λ (n : Net). trace_text n c.name.result c.trace.result.now) (c.deref-in-Ok.ensures ∙ sym c.deref.ensures)
+    ∙ ap₂ (trace_text c.deref.result.now) c.name.ensures.value (c.trace.ensures ∙ c.in-Ok.ensures.trace)) c.in-Ok.ensures.within c.in-Ok.ensures.steps _
+    c.put_trace.ensures.ok
 
 pub returns-in-Ok-clause-err : goal.returns-in-Ok-clause-err
 returns-in-Ok-clause-err g c =
     alone_not_put _ _ _ _ c.args.name.now c.in-Some.place _ _ c.deref.ensures c.lists-lists.ensures.value
     (ap (place_of c.args.name.now) (sym c.lists-lists.ensures.value) ∙ sym c.in-Some.ensures.value) _ _ _
-    (c.as_slice.ensures.value ∙ c.in-Ok.ensures.text) c.in-Ok.ensures.within c.in-Ok.ensures.steps _
-    c.put_text.ensures.err
+    (ap (λ (n : Net). trace_text n c.name.result c.trace.result.now) (c.deref-in-Ok.ensures ∙ sym c.deref.ensures)
+    ∙ ap₂ (trace_text c.deref.result.now) c.name.ensures.value (c.trace.ensures ∙ c.in-Ok.ensures.trace)) c.in-Ok.ensures.within c.in-Ok.ensures.steps _
+    c.put_trace.ensures.err
 
 pub returns-in-Err-LimitMet-clause-err : goal.returns-in-Err-LimitMet-clause-err
 returns-in-Err-LimitMet-clause-err g c = (
   alone_stops _ _ _ _ c.args.name.now c.in-Some.place _ _ c.deref.ensures c.lists-lists.ensures.value
-      (ap (place_of c.args.name.now) (sym c.lists-lists.ensures.value) ∙ sym c.in-Some.ensures.value) _ _ _
+      (ap (place_of c.args.name.now) (sym c.lists-lists.ensures.value) ∙ sym c.in-Some.ensures.value)
+      c.in-Err-LimitMet.station c.in-Err-LimitMet.field-0-1 c.stop_at.result
       (rw c.in-Err-LimitMet.field-0-is at c.in-Err-LimitMet.ensures.fault)
-      (c.stop_at.ensures ∙ ap (λ (n : Net). limit_met n c.in-Err-LimitMet.station c.args.name.now)
-      (c.deref-in-Err-LimitMet.ensures ∙ sym c.deref.ensures)),
+      (subst (λ (n : Net). c.stop_at.result ≡ limit_met n c.in-Err-LimitMet.station c.args.name.now)
+      (c.deref-in-Err-LimitMet.ensures ∙ sym c.deref.ensures) (rw c.in-Err-LimitMet.field-0-is at c.stop_at.ensures)),
   refl,
 )

@@ -1,5 +1,4 @@
 use Rattle.std.proofs.Common.{arith, length, subst}
-use Rattle.std.proofs.lemmas.Option.{slice_get_within}
 use Rattle.std.proofs.lemmas.Result.{IfErr-weaker, IfOk-weaker}
 use Rattle.net_model.specs.Net.{Net}
 use Rattle.live_study.specs.Lives.{AreTold, IsFinished, IsStopped, kept}
@@ -9,23 +8,17 @@ use Rattle.live_study.proofs.Preparing.{all_parts, each_ready, enough_room, helm
 use Rattle.live_study.proofs.Preparing.{looks_are, made_are, many_passes, may_begin, shown_first}
 use Rattle.live_study.proofs.study.run_prepared.Goals as goal
 
-pub begin-requires-clause-opening : goal.begin-requires-clause-opening
-begin-requires-clause-opening g c =
+pub take_seats-requires-clause-opening : goal.take_seats-requires-clause-opening
+take_seats-requires-clause-opening g c =
     may_begin c.args.model.now (length c.args.script.now.analysts) c.args.prepared c.requires.prepared
 
-pub begin-requires-clause-few : goal.begin-requires-clause-few
-begin-requires-clause-few g c =
+pub take_seats-requires-clause-few : goal.take_seats-requires-clause-few
+take_seats-requires-clause-few g c =
     omega (arith, c.requires.prepared.racks.many_is, c.len-stations.ensures.valid.few)
 
-pub begin-requires-clause-some : goal.begin-requires-clause-some
-begin-requires-clause-some g c =
-    let valid = c.analysts.ensures.valid in
-    omega (arith, slice_get_within c.args.script.now.analysts 0 _ valid.first, c.analysts.ensures.value)
-
-pub analysts_of-requires : goal.analysts_of-requires
-analysts_of-requires g c =
-    let many = many_passes c.args.model.now (length c.args.script.now.analysts) c.args.prepared c.requires.prepared in
-    record { few = omega (arith, many, c.analysts.ensures.valid.few_analysts) }
+pub take_seats-requires-clause-many : goal.take_seats-requires-clause-many
+take_seats-requires-clause-many g c =
+    many_passes c.args.model.now (length c.args.script.now.analysts) c.args.prepared c.requires.prepared
 
 pub run_live-requires-clause-net : goal.run_live-requires-clause-net
 run_live-requires-clause-net g c κs within =
@@ -33,8 +26,8 @@ run_live-requires-clause-net g c κs within =
 
 pub run_live-requires-clause-parts : goal.run_live-requires-clause-parts
 run_live-requires-clause-parts g c κs within =
-    all_parts c.args.model.now (length c.args.script.now.analysts) c.args.prepared c.in_ok-seated.seated.items
-    c.requires.prepared c.analysts.ensures.valid.few_analysts c.in_ok-seated.ensures.passes
+    all_parts c.args.model.now (length c.args.script.now.analysts) c.args.prepared c.in_ok-stocker.seated.items
+    c.requires.prepared c.analysts-valid.ensures.valid.few_analysts c.in_ok-stocker.ensures.passes
 
 pub run_live-requires-clause-stands : goal.run_live-requires-clause-stands
 run_live-requires-clause-stands g c κs within =
@@ -49,29 +42,29 @@ run_live-requires-clause-shown g c κs within =
 
 pub run_live-requires-clause-ready : goal.run_live-requires-clause-ready
 run_live-requires-clause-ready g c κs within k d less =
-    each_ready c.args.model.now (length c.args.script.now.analysts) c.args.prepared c.in_ok-seated.seated.items
-    c.requires.prepared c.in_ok-seated.ensures.passes
-    (c.in_ok-seated.ensures.fresh c.args.prepared.racks.items c.in_ok-stocker.ensures.seats) k d less
+    each_ready c.args.model.now (length c.args.script.now.analysts) c.args.prepared c.in_ok-stocker.seated.items
+    c.requires.prepared c.in_ok-stocker.ensures.passes
+    c.in_ok-stocker.ensures.fresh k d less
 
 pub run_live-requires-clause-few : goal.run_live-requires-clause-few
 run_live-requires-clause-few g c κs within =
-    little_todo c.args.model.now c.args.script.now c.args.prepared c.in_ok-seated.seated.items c.requires.prepared
-    c.analysts.ensures.valid.few_items c.in_ok-seated.ensures.todo
+    little_todo c.args.model.now c.args.script.now c.args.prepared c.in_ok-stocker.seated.items c.requires.prepared
+    c.analysts-valid.ensures.valid.few_items c.in_ok-stocker.ensures.todo
 
 pub run_live-requires-clause-room : goal.run_live-requires-clause-room
 run_live-requires-clause-room g c κs within =
-    enough_room c.args.model.now (length c.args.script.now.analysts) c.args.prepared c.in_ok-seated.seated.items
-    c.requires.prepared c.in_ok-seated.ensures.passes
+    enough_room c.args.model.now (length c.args.script.now.analysts) c.args.prepared c.in_ok-stocker.seated.items
+    c.requires.prepared c.in_ok-stocker.ensures.passes
 
 pub returns-clause-journal : goal.returns-clause-journal
 returns-clause-journal g c =
-    journal_is c.args.model.now c.args.script.now c.args.prepared c.in_ok-seated.seated.items c.run_live.result.book
-    c.requires.prepared c.in_ok-seated.ensures.passes c.in_ok-seated.ensures.todo c.run_live.ensures.asked
+    journal_is c.args.model.now c.args.script.now c.args.prepared c.in_ok-stocker.seated.items c.run_live.result.book
+    c.requires.prepared c.in_ok-stocker.ensures.passes c.in_ok-stocker.ensures.todo c.run_live.ensures.asked
 
 pub returns-clause-made : goal.returns-clause-made
 returns-clause-made g c =
-    made_are c.args.model.now c.args.script.now c.args.prepared c.in_ok-seated.seated.items
-    c.run_live.result.looks.items c.requires.prepared c.in_ok-seated.ensures.numbers c.in_ok-seated.ensures.todo
+    made_are c.args.model.now c.args.script.now c.args.prepared c.in_ok-stocker.seated.items
+    c.run_live.result.looks.items c.requires.prepared c.in_ok-stocker.ensures.numbers c.in_ok-stocker.ensures.todo
     c.run_live.ensures.made
 
 pub returns-clause-looks : goal.returns-clause-looks
@@ -79,8 +72,8 @@ returns-clause-looks g c =
     let r = c.run_live.result in
     IfOk-weaker r.run (λ w. AreTold c.args.prepared.helm.net r.book.events r.looks.items)
     (λ w. AreLooks c.args.model.now c.args.script.now r.book.events (kept r.looks.items))
-    (λ w told. looks_are c.args.model.now c.args.script.now c.args.prepared c.in_ok-seated.seated.items r.book.events
-    r.looks.items c.requires.prepared c.in_ok-seated.ensures.numbers c.in_ok-seated.ensures.todo
+    (λ w told. looks_are c.args.model.now c.args.script.now c.args.prepared c.in_ok-stocker.seated.items r.book.events
+    r.looks.items c.requires.prepared c.in_ok-stocker.ensures.numbers c.in_ok-stocker.ensures.todo
     c.run_live.ensures.made told) c.run_live.ensures.looked
 
 pub returns-clause-finished : goal.returns-clause-finished

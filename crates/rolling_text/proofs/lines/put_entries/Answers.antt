@@ -1,18 +1,27 @@
-use Rattle.std.proofs.Common.{ap, arith, length, take, length-append}
-use Rattle.std.specs.List.{flat_map}
-use Rattle.trace_report.specs.TraceText.{entry_line}
+use Rattle.std.proofs.Common.{◌∙◌}
+use Rattle.rolling_text.proofs.Puts.{cut_part, part_fits, left_fits, put_cut, put_on, put_part}
 use Rattle.rolling_text.proofs.lines.put_entries.Goals as goal
 
-pub returns-in-Err-clause-full : goal.returns-in-Err-clause-full
-returns-in-Err-clause-full c =
-    let net = c.args.model.now in
+pub put_part-requires : goal.put_part-requires
+put_part-requires g c = record {
+  fits = λ is. part_fits _ _ _ _ _ c.make_piece-len.ensures.text
+      (left_fits c.args.keeps _ _ _ _ _ _ c.loop-left.invariant.put c.requires.fits is);
+}
+
+pub loop-left-preserved : goal.loop-left-preserved
+loop-left-preserved g c =
     let h = c.loop-left.invariant in
-    let put = c.put_piece-len in
-    let a = ap length h.text in
-    let b = length-append c.loop-left.bytes.items (flat_map (entry_line net) c.loop-left.cursor.left) in
-    let d = length-append c.args.bytes.now.items (flat_map (entry_line net) c.args.cursor.now.left) in
-    let e = ap length put.ensures.text in
-    let f = length-append (take put.result.0 put.new.piece) (flat_map (entry_line net) put.new.cursor.left) in
-    let full = c.in-Err.ensures.full in
-    let len = c.loop-left.bytes.ok in
-    omega (arith, a, b, d, e, f, full, len.0, h.reserved)
+    let made = c.make_piece-len.ensures in
+    record {
+      put = put_on c.args.keeps _ _ _ _ _ _ _ _ _ h.put
+          (put_part c.args.keeps _ _ _ _ _ _ _ made.text c.in-Ok.ensures.ok);
+      left = made.left;
+      behind = made.behind ∙ h.behind;
+      size = made.size ∙ h.size;
+      most = made.most ∙ h.most;
+    }
+
+pub returns-in-Err-clause-err : goal.returns-in-Err-clause-err
+returns-in-Err-clause-err g c =
+    put_cut c.args.keeps _ _ _ _ _ _ _ c.loop-left.invariant.put
+    (cut_part _ _ _ _ _ c.make_piece-len.ensures.text c.in-Err.ensures.err)

@@ -1,6 +1,6 @@
 use Rattle.std.proofs.Common.{ap, arith}
 use Rattle.net_model.specs.Net.{Net}
-use Rattle.rolling_text.proofs.Parts.{span_over, span_seen}
+use Rattle.rolling_text.proofs.Spans.{span_over, span_seen}
 use Rattle.rolling_text.proofs.writing.gather_span.Goals as goal
 
 pub overflow_sub-result : goal.overflow_sub-result

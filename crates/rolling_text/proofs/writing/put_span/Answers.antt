@@ -1,27 +1,45 @@
-use Rattle.std.proofs.Common.{◌∙◌, ap, arith, length}
+use Rattle.std.proofs.Common.{◌∙◌, ap, arith, length, subst}
 use Rattle.std.proofs.lemmas.Result.{on_err_weaker}
 use Rattle.sim_base.specs.Clones.{clone_at}
+use Rattle.rolling_text.specs.Puts.{IsCutOff}
 use Rattle.rolling_text.specs.WorldTraces.{TracesView}
 use Rattle.rolling_text.proofs.LogLaws.{lines_are}
-use Rattle.rolling_text.proofs.Parts.{all_ok, wrote_span}
+use Rattle.rolling_text.proofs.Spans.{both_ok, span_put}
 use Rattle.rolling_text.proofs.writing.put_span.Goals as goal
 
-pub returns-clause-wrote : goal.returns-clause-wrote
-returns-clause-wrote c =
-    let put = c.put_entries in
-    let span = c.gather_span-count in
-    let view = c.args.traces.now in
-    all_ok put.result _ _ _ _ _ put.ensures.text put.ensures.left put.ensures.late put.ensures.part
-    (λ after text left late part. wrote_span view.net c.model-model.result.now (clone_at view.clones c.args.c)
-    c.args.from c.args.until c.args.late span.result after span.new.walk.left put.new.cursor.left
-    c.args.bytes.now.items put.new.bytes.items
-    (c.model-model.ensures.value ∙ ap (λ (v : TracesView). v.net) c.traces.view_is) span.ensures.left
-    span.ensures.behind left text late part)
-
-pub returns-clause-full : goal.returns-clause-full
-returns-clause-full c =
+pub put_entries-requires-clause-fits : goal.put_entries-requires-clause-fits
+put_entries-requires-clause-fits g c is =
     let view = c.args.traces.now in
     let lines = ap length (lines_are view.net c.model-model.result.now (clone_at view.clones c.args.c) c.args.from
     c.gather_span-count.new.walk.left (c.model-model.ensures.value ∙ ap (λ (v : TracesView). v.net) c.traces.view_is)
     c.gather_span-count.ensures.left) in
-    on_err_weaker c.put_entries.result (λ few. omega (arith, few, lines)) c.put_entries.ensures.full
+    let fits = c.requires.fits is in
+    omega (arith, lines, fits)
+
+pub returns-clause-ok : goal.returns-clause-ok
+returns-clause-ok g c =
+    let view = c.args.traces.now in
+    let span = c.gather_span-count in
+    let put = c.put_entries in
+    both_ok put.result _ _ _ put.ensures.ok put.ensures.left
+    (λ ok left. span_put view.net c.model-model.result.now (clone_at view.clones c.args.c) c.args.from c.args.until
+    span.result span.new.walk.left put.new.cursor.left
+    (c.model-model.ensures.value ∙ ap (λ (v : TracesView). v.net) c.traces.view_is) span.ensures.left
+    span.ensures.behind left c.args.keeps _ _ _ _ ok)
+
+pub returns-clause-err : goal.returns-clause-err
+returns-clause-err g c =
+    let view = c.args.traces.now in
+    let lines = lines_are view.net c.model-model.result.now (clone_at view.clones c.args.c) c.args.from
+    c.gather_span-count.new.walk.left (c.model-model.ensures.value ∙ ap (λ (v : TracesView). v.net) c.traces.view_is)
+    c.gather_span-count.ensures.left in
+    on_err_weaker c.put_entries.result (λ cut. subst (λ l. IsCutOff l (record {
+      bytes = g.O.Sink.bytes c.args.out.now;
+      faults = g.O.Sink.faults c.args.out.now;
+      calls = g.O.Sink.calls c.args.out.now;
+    })
+    (record {
+      bytes = g.O.Sink.bytes c.put_entries.new.out;
+      faults = g.O.Sink.faults c.put_entries.new.out;
+      calls = g.O.Sink.calls c.put_entries.new.out;
+    })) lines cut) c.put_entries.ensures.err

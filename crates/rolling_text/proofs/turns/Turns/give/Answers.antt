@@ -1,4 +1,4 @@
-use Rattle.std.proofs.Common.{◌∙◌, Some, ap, arith, subst, sym}
+use Rattle.std.proofs.Common.{◌≡◌, Some, IfSome, arith, subst, sym}
 use Rattle.sim_base.specs.Clones.{clone_at}
 use Rattle.rolling_text.specs.Turns.{AreInTurn}
 use Rattle.rolling_text.proofs.InTurn.{one_more}
@@ -10,10 +10,12 @@ invariant_of-self-2 c =
     let h = c.self.invariant in
     let net = t.traces.now.net in
     let list = clone_at t.traces.now.clones t.c in
+    let given = subst (λ o. IfSome c.ordered-line.result (λ l. l ≡ Some o)) c.new-order.ensures.value
+    c.ordered-line.ensures.given in
     record {
       there = h.there;
-      in_turn = subst (λ bs. AreInTurn net list t.late t.made bs c.min-until.result) (sym c.in_ok-add.ensures.ok)
-          (one_more net list t.late t.made t.busy.items t.given _ h.in_turn (c.give.ensures.given ∙ ap Some c.new.ensures.value)
+      in_turn = subst (λ bs. AreInTurn net list t.made bs c.min-until.result) (sym c.in_ok-add.ensures.ok)
+          (one_more net list t.made t.busy.items t.given _ h.in_turn given
           (omega (arith, c.max.ensures, c.min-until.ensures, h.within)));
       within = omega (arith, c.min-until.ensures);
     }

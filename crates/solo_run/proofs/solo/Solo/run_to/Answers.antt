@@ -14,7 +14,7 @@ turn-requires-clause-solo g c =
     let taken = ap (λ p. let v : SoloView = record {
       states = c.self.inside.states.items;
       pending = p;
-      trace = c.self.inside.trace.items;
+      trace = c.self.inside.trace;
     } in v) c.in-Some.ensures.some.0 in
     subst (λ (v : SoloView). IsSolo c.args.model.now v) (sym c.self.view_is ∙ taken) c.loop-due.invariant.solo
 
@@ -32,12 +32,12 @@ loop-due-preserved g c =
     let w : SoloView = record {
       states = c.self.inside.states.items;
       pending = c.take_before.new.self;
-      trace = c.self.inside.trace.items;
+      trace = c.self.inside.trace;
     } in
     let taken = ap (λ p. let v : SoloView = record {
       states = c.self.inside.states.items;
       pending = p;
-      trace = c.self.inside.trace.items;
+      trace = c.self.inside.trace;
     } in v) some.0 in
     let ran = subst (λ (v : SoloView). Reach msg_cmp (λ m. m.key.time) (step_of net) c.args.front
     (config_of net c.args.self) (config_of net v)) (sym c.self.view_is ∙ taken) inv.ran in
@@ -57,12 +57,12 @@ returns-in-Err-clause-stops g c =
     let w : SoloView = record {
       states = c.self.inside.states.items;
       pending = c.take_before.new.self;
-      trace = c.self.inside.trace.items;
+      trace = c.self.inside.trace;
     } in
     let taken = ap (λ p. let v : SoloView = record {
       states = c.self.inside.states.items;
       pending = p;
-      trace = c.self.inside.trace.items;
+      trace = c.self.inside.trace;
     } in v) some.0 in
     let is = sym c.self.view_is ∙ taken in
     let here = subst (λ (v : SoloView). IsSolo net v) is inv.solo in
@@ -81,7 +81,7 @@ returns-clause-ok g c =
     let w : SoloView = record {
       states = c.self.inside.states.items;
       pending = c.self.inside.pending;
-      trace = c.self.inside.trace.items;
+      trace = c.self.inside.trace;
     } in
     let back = sym c.self.view_is in
     let here = subst (λ (v : SoloView). IsSolo net v) back inv.solo in
@@ -90,6 +90,6 @@ returns-clause-ok g c =
     ap (λ p. let v : SoloView = record {
       states = c.self.inside.states.items;
       pending = p;
-      trace = c.self.inside.trace.items;
+      trace = c.self.inside.trace;
     } in config_of net v) none.0
     ∙ run_ends net c.requires.solo.valid c.args.front c.args.self w c.requires.solo here ran none.1

@@ -23,16 +23,16 @@ returns-clause-turned g c =
     let v : SoloView = record {
       states = c.self.inside.states.items;
       pending = c.self.inside.pending;
-      trace = c.self.inside.trace.items;
+      trace = c.self.inside.trace;
     } in
     let solo = subst (λ (w : SoloView). IsSolo net (with_due m w)) (sym c.self.view_is) c.requires.solo in
     let new : SoloView = record {
       states = c.handle_at.new.states.items;
       pending = c.put_all.new.pending;
-      trace = c.push.new.self.items;
+      trace = c.push.new.self;
     } in
     subst (λ (w : SoloView). Turned net w m new) c.self.view_is
-    (rw c.in-Ok-push.ensures.items
+    (rw c.in-Ok-push.ensures.ok
     (turned net solo.valid v m c.handle_at.new.states.items c.put_all.new.pending _ _ c.requires.early solo
     c.in_ok-line.ensures.ok (rw c.as_slice.ensures.value at c.in-Ok.ensures)))
 
@@ -43,8 +43,8 @@ returns-clause-solo g c =
     let v : SoloView = record {
       states = c.self.inside.states.items;
       pending = c.self.inside.pending;
-      trace = c.self.inside.trace.items;
+      trace = c.self.inside.trace;
     } in
     let solo = subst (λ (w : SoloView). IsSolo net (with_due m w)) (sym c.self.view_is) c.requires.solo in
-    rw c.in-Ok-push.ensures.items (solo_is net solo.valid v m c.handle_at.new.states.items c.put_all.new.pending _ _
+    rw c.in-Ok-push.ensures.ok (solo_is net solo.valid v m c.handle_at.new.states.items c.put_all.new.pending _ _
     c.requires.early solo c.in_ok-line.ensures.ok (rw c.as_slice.ensures.value at c.in-Ok.ensures))

@@ -1,0 +1,23 @@
+use Rattle.std.proofs.Common.{◌≡◌, ◌∙◌, ◌∷◌, [], ap, length, sym, subst}
+use Rattle.sim_base.specs.Clones.{base}
+use Rattle.net_model.specs.Net.{Net}
+use Rattle.world_core.specs.Worlds.{WorldView}
+use Rattle.live_study.specs.Opening.{IsOpening}
+use Rattle.live_study.proofs.study.open_world.Goals as goal
+
+-- a world that begins
+abbrev begun : Net → WorldView
+begun net = record { net = net; clones = base ∷ []; front = 0 }
+
+pub returns : goal.returns
+returns c =
+    let racks = c.in_ok-racks.racks.items in
+    let same = c.opening_racks.ensures.same in
+    let world : c.opening_racks.new.world ≡ begun c.args.model.now.value = same ∙ c.in_ok-world.ensures.begins
+    ∙ ap begun c.in_ok-try_clone.ensures in
+    record {
+      world = world;
+      racks = subst (λ (n : Net). IsOpening c.opening_racks.new.world (length n.sites) racks)
+          (ap (λ (w : WorldView). w.net) world)
+          (subst (λ (w : WorldView). IsOpening w (length w.net.sites) racks) (sym same) c.in_ok-racks.ensures.opening);
+    }

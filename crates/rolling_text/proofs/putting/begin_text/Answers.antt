@@ -1,0 +1,50 @@
+use Rattle.std.proofs.Common.{◌-◌, ◌++◌, ◌∙◌, ap, arith, take}
+use Rattle.sim_base.specs.Clones.{clone_at}
+use Rattle.rolling_text.specs.Texts.{parting_at, rest}
+use Rattle.rolling_text.proofs.Joined.{can_drop, kept_joined, margin_stays, text_is}
+use Rattle.rolling_text.proofs.putting.begin_text.Goals as goal
+
+pub overflow_sub-keep : goal.overflow_sub-keep
+overflow_sub-keep c =
+    let v = c.args.traces.now in
+    let is = c.len-clones.ensures in
+    let a = can_drop v.net is.valid v.clones is.in_net c.args.c c.args.dropped c.requires.there c.args.page.now.text
+    c.requires.margin c.requires.left in
+    omega (arith, a, c.len.ensures.value)
+
+pub put_head-requires : goal.put_head-requires
+put_head-requires c =
+    let v = c.args.traces.now in
+    let is = c.len-clones.ensures in
+    record {
+      margin = margin_stays v.net is.valid v.clones is.in_net c.args.c c.args.dropped c.requires.there
+          c.args.page.now.text c.requires.margin c.requires.left c.cut.new.self.text
+          (c.cut.ensures.text ∙ ap (λ n. take (n - c.args.dropped) c.args.page.now.text) c.len.ensures.value);
+    }
+
+pub returns-clause-text : goal.returns-clause-text
+returns-clause-text c =
+    let v = c.args.traces.now in
+    let is = c.len-clones.ensures in
+    text_is v.net (clone_at v.clones c.args.c) _ _ _ _ c.put_head.ensures.text c.name.ensures.value
+    (kept_joined v.net is.valid v.clones is.in_net c.args.c c.args.dropped c.requires.there c.args.page.now.text
+    c.requires.margin c.requires.left c.cut.new.self.text
+    (c.cut.ensures.text ∙ ap (λ n. take (n - c.args.dropped) c.args.page.now.text) c.len.ensures.value))
+
+pub returns-clause-lines : goal.returns-clause-lines
+returns-clause-lines c =
+    let v = c.args.traces.now in
+    let is = c.len-clones.ensures in
+    ap (λ l. l ++ rest v.net (clone_at v.clones c.args.c) (parting_at v.net v.clones c.args.c)) c.put_head.ensures.lines
+    ∙ kept_joined v.net is.valid v.clones is.in_net c.args.c c.args.dropped c.requires.there c.args.page.now.text
+    c.requires.margin c.requires.left c.cut.new.self.text
+    (c.cut.ensures.text ∙ ap (λ n. take (n - c.args.dropped) c.args.page.now.text) c.len.ensures.value)
+
+pub returns-clause-margin : goal.returns-clause-margin
+returns-clause-margin c =
+    let v = c.args.traces.now in
+    let is = c.len-clones.ensures in
+    let a = margin_stays v.net is.valid v.clones is.in_net c.args.c c.args.dropped c.requires.there
+    c.args.page.now.text c.requires.margin c.requires.left c.cut.new.self.text
+    (c.cut.ensures.text ∙ ap (λ n. take (n - c.args.dropped) c.args.page.now.text) c.len.ensures.value) in
+    omega (arith, a, c.put_head.ensures.size)

@@ -1,0 +1,16 @@
+use Rattle.std.proofs.Common.{arith, ap}
+use Rattle.net_model.specs.Net.{Net}
+use Rattle.rolling_text.proofs.Puts.{both_taken, put_cut}
+use Rattle.rolling_text.proofs.Spans.{no_rest}
+use Rattle.rolling_text.proofs.putting.put_rest.Goals as goal
+
+pub returns-in-Ok-put_lines-clause-ok : goal.returns-in-Ok-put_lines-clause-ok
+returns-in-Ok-put_lines-clause-ok g c =
+    let n = ap (λ (n : Net). n.horizon) c.model.ensures.value in
+    both_taken _ _ _ _ _ _ _ _ _
+    (no_rest c.traces.inside.world.now c.traces.invariant.over c.args.traces.now c.traces.view_is c.args.c
+    c.requires.there c.max-end.result (omega (arith, n, c.max-end.ensures, c.horizon.ensures.value)))
+    c.in-Ok.ensures.ok c.in-Ok-put_lines.ensures.ok
+
+pub returns-in-Err-put_lines-clause-err : goal.returns-in-Err-put_lines-clause-err
+returns-in-Err-put_lines-clause-err g c = put_cut _ _ _ _ _ _ _ _ c.in-Ok.ensures.ok c.in-Err-put_lines.ensures.err

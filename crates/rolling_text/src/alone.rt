@@ -1,0 +1,118 @@
+//! The text of a clone that ran by itself, whose trace stands in one log.
+ghost use Rattle.std.specs.Prelude.{◌≡◌, ◌<◌, ◌≤◌, ◌++◌, length, take, drop, codes, OnOk, OnErr};
+ghost use Rattle.std.specs.List.{flat_map};
+ghost use Rattle.trace_report.specs.Slots.{AreNames};
+ghost use Rattle.trace_report.specs.TraceText.{entry_line, trace_text};
+ghost use Rattle.rolling_text.specs.Puts.{IsTaken, IsPut, IsCutOff};
+
+use log_chain::{Log, Walk};
+use net_model::Model;
+use sim_base::Name;
+use sim_outer::{PutFailed, Sink};
+use trace_report::{Names, write_line};
+
+// How many bytes of lines are put at once.
+const PIECE: usize = 16_384;
+
+// Makes lines of the next entries of a walk, `left` of them, as long as there is place, and counts them down. Returns how
+// many bytes they have.
+fn make_piece(
+    walk: &mut Walk<'_>,
+    left: &mut u64,
+    model: &Model,
+    names: &Names,
+    piece: &mut [u8],
+) -> usize
+    requires names { AreNames model.now names.now }
+    requires left { left.old ≡ length walk.old }
+    requires place { 256 ≤ length piece.old }
+    ensures text { take result piece.new ++ flat_map (entry_line model.now) walk.new
+        ≡ flat_map (entry_line model.now) walk.old }
+    ensures within { result ≤ length piece.new }
+    ensures left { left.new ≡ length walk.new }
+    ensures fewer { 1 ≤ left.old → left.new < left.old }
+    ensures size { length piece.new ≡ length piece.old }
+{
+    let mut at = 0;
+    while *left > 0 && piece.len() - at >= 256 {
+        let entry = walk.take();
+        at = write_line(piece, at, model, names, &entry);
+        *left -= 1;
+    }
+    at
+}
+
+// Puts the name line as parts of a text.
+fn put_name_line<O: Sink>(name: &Name, out: &mut O) -> Result<(), PutFailed>
+    ensures ok { OnOk result (IsTaken (codes "clone " ++ name.now ++ codes "\n")
+        (record { bytes = O.bytes out.old; faults = O.faults out.old; calls = O.calls out.old })
+        (record { bytes = O.bytes out.new; faults = O.faults out.new; calls = O.calls out.new })) }
+    ensures err { OnErr result (IsCutOff (codes "clone " ++ name.now ++ codes "\n")
+        (record { bytes = O.bytes out.old; faults = O.faults out.old; calls = O.calls out.old })
+        (record { bytes = O.bytes out.new; faults = O.faults out.new; calls = O.calls out.new })) }
+{
+    match out.put_part(b"clone ") {
+        Ok(()) => {}
+        Err(failed) => return Err(failed),
+    }
+    match out.put_part(name.as_bytes()) {
+        Ok(()) => {}
+        Err(failed) => return Err(failed),
+    }
+    match out.put_part(b"\n") {
+        Ok(()) => Ok(()),
+        Err(failed) => Err(failed),
+    }
+}
+
+// Puts the lines of a log as parts of a text.
+fn put_log<O: Sink>(model: &Model, log: &Log, out: &mut O) -> Result<(), PutFailed>
+    ensures ok { OnOk result (IsTaken (flat_map (entry_line model.now) log.now)
+        (record { bytes = O.bytes out.old; faults = O.faults out.old; calls = O.calls out.old })
+        (record { bytes = O.bytes out.new; faults = O.faults out.new; calls = O.calls out.new })) }
+    ensures err { OnErr result (IsCutOff (flat_map (entry_line model.now) log.now)
+        (record { bytes = O.bytes out.old; faults = O.faults out.old; calls = O.calls out.old })
+        (record { bytes = O.bytes out.new; faults = O.faults out.new; calls = O.calls out.new })) }
+{
+    let names = Names::of(model);
+    let mut piece = [0; PIECE];
+    let mut walk = log.walk_from(0);
+    let mut left = log.len();
+    while left > 0 {
+        let len = make_piece(&mut walk, &mut left, model, &names, &mut piece);
+        match out.put_part(&piece[..len]) {
+            Ok(()) => {}
+            Err(failed) => return Err(failed),
+        }
+    }
+    Ok(())
+}
+
+/// Puts the text of a clone of this name that handled what a log has, in one call whose parts are put as they are made. It
+/// takes no memory.
+pub fn put_alone<O: Sink>(
+    model: &Model,
+    name: &Name,
+    log: &Log,
+    out: &mut O,
+) -> Result<(), PutFailed>
+    ensures ok { OnOk result (IsPut (trace_text model.now name.now log.now)
+        (record { bytes = O.bytes out.old; faults = O.faults out.old; calls = O.calls out.old })
+        (record { bytes = O.bytes out.new; faults = O.faults out.new; calls = O.calls out.new })) }
+    ensures err { OnErr result (IsCutOff (trace_text model.now name.now log.now)
+        (record { bytes = O.bytes out.old; faults = O.faults out.old; calls = O.calls out.old })
+        (record { bytes = O.bytes out.new; faults = O.faults out.new; calls = O.calls out.new })) }
+{
+    match put_name_line(name, out) {
+        Ok(()) => {}
+        Err(failed) => return Err(failed),
+    }
+    match put_log(model, log, out) {
+        Ok(()) => {}
+        Err(failed) => return Err(failed),
+    }
+    match out.put(b"") {
+        Ok(()) => Ok(()),
+        Err(failed) => Err(failed),
+    }
+}
