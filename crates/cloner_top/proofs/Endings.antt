@@ -1,9 +1,9 @@
 -- How the steps of a study join to an ending, and endings to an answer.
-use Rattle.std.proofs.Common.{◌≡◌, ◌≤◌, ℕ, ◌+◌, inl, inr, refl, sym, ap}
-use Rattle.std.proofs.Common.{subst, ◌∙◌, arith, List, [], ◌∷◌, Option, Some, None, Ok}
+use Rattle.std.proofs.Common.{◌≡◌, ℕ, ◌+◌, refl, sym, ap}
+use Rattle.std.proofs.Common.{subst, ◌∙◌, List, [], ◌∷◌, Option, Some, None, Ok}
 use Rattle.sim_outer.specs.Causes.{AreCounted, Rose}
 use Rattle.sim_outer.specs.Files.{Files}
-use Rattle.sim_outer.specs.Sinks.{SinkView}
+use Rattle.sim_outer.specs.Views.{SinkView}
 use Rattle.net_model.specs.Net.{Net}
 use Rattle.net_model.specs.Text.{model}
 use Rattle.decision_script.specs.Stating.{ScriptView}
@@ -27,19 +27,13 @@ use Rattle.cloner_top.specs.Endings.{DecidesFirst, Ending, MayCome, MayEnd, MayS
 use Rattle.cloner_top.specs.Endings.{StoppedFor, Wrote, overrun, stopped, written}
 use Rattle.cloner_top.specs.Endings as ends
 use Rattle.cloner_top.specs.Outsides.{ArePut, AreTold, IsFailed, IsFinished, IsHalted, IsNotPut}
-use Rattle.cloner_top.specs.Plans.{HasModel, IsRead, IsUnreadStudy, StopsEarly}
+use Rattle.cloner_top.specs.Plans.{IsRead, IsUnreadStudy, StopsEarly}
 use Rattle.cloner_top.specs.Refusals.{Stops, line_of, status_of, words_refusal}
 use Rattle.cloner_top.specs.Stops.{stop_line, stop_status}
-use Rattle.cloner_top.specs.Texts.{AreTexts, IsBadModel, IsBadScript, IsNotRead, IsText}
-use Rattle.cloner_top.specs.Texts.{IsUnread, all_fetches, fetches_of, text_of}
+use Rattle.cloner_top.specs.Texts.{AreTexts, IsBadModel, IsBadScript, IsText}
+use Rattle.cloner_top.specs.Texts.{all_fetches, fetches_of, text_of}
 
 -- ---- the texts of a study
-
-unread_on : (a b c : ℕ) (source : Source) (files : Option Files) → a ≤ b → IsUnread (Rose b c) source Script files
-    → IsUnread (Rose a c) source Script files
-unread_on a b c (named m s) files le (inl rose) = inl (omega (arith, rose, le))
-unread_on a b c (named m s) files le (inr lacks) = inr lacks
-unread_on a b c (made n) files le h = h
 
 bad_model_stops : (source : Source) (files : Option Files) (m : List ℕ) (stop : Stop)
     → IsText (text_of source Model files) m → IsBadModel m stop → StopsEarly source files stop

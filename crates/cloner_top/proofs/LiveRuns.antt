@@ -2,7 +2,7 @@
 use Rattle.std.proofs.Common.{◌≡◌, ◌≤◌, ℕ, ◌+◌, refl, sym, ap, ap₂, subst, ◌∙◌, arith, List, [], ◌∷◌, length}
 use Rattle.std.proofs.Common.{Result, Ok, Err, IfOk, IfErr}
 use Rattle.sim_base.specs.Clones.{clone_at}
-use Rattle.sim_outer.specs.Sinks.{SinkView}
+use Rattle.sim_outer.specs.Views.{SinkView}
 use Rattle.net_model.specs.Net.{Net}
 use Rattle.decision_script.specs.Stating.{ScriptView}
 use Rattle.decision_book.specs.Journal.{after}

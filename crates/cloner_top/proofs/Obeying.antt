@@ -1,9 +1,9 @@
 -- From the plan of a study and its run to what the program answers.
-use Rattle.std.proofs.Common.{◌≡◌, ◌≤◌, ℕ, refl, sym, ap, subst, ◌∙◌, arith}
+use Rattle.std.proofs.Common.{◌≡◌, ℕ, refl, sym, ap, subst, ◌∙◌, arith}
 use Rattle.std.proofs.Common.{[], ◌∷◌, Option, Some, None, Result, Ok, Err, IfErr, OnOk}
 use Rattle.sim_outer.specs.Causes.{AreCounted}
 use Rattle.sim_outer.specs.Files.{Files}
-use Rattle.sim_outer.specs.Sinks.{SinkView}
+use Rattle.sim_outer.specs.Views.{SinkView}
 use Rattle.net_model.specs.Net.{Net}
 use Rattle.decision_script.specs.Stating.{ScriptView}
 use Rattle.decision_book.specs.Books.{BookView}
@@ -18,11 +18,10 @@ use Rattle.cloner_top.specs.declared.refusal.Refusal.{Refusal}
 use Rattle.cloner_top.specs.Answers.{Comes, IsAnswer, IsDisobeyed, Outside}
 use Rattle.cloner_top.specs.Deciding.{IsDecided}
 use Rattle.cloner_top.specs.Endings.{Ending, MayEnd, MayLive, MaySimulate, live}
-use Rattle.cloner_top.specs.Facts.{AreFewFetches, fetches_for}
+use Rattle.cloner_top.specs.Facts.{AreFewFetches}
 use Rattle.cloner_top.specs.Outsides.{AreTold, IsFailed, IsFinished, IsHalted}
 use Rattle.cloner_top.specs.Plans.{IsRead}
 use Rattle.cloner_top.specs.Refusals.{line_of, status_of, words_refusal}
-use Rattle.cloner_top.specs.Texts.{all_fetches}
 use Rattle.cloner_top.proofs.Endings.{comes, decided_end, failed_on, finished_on, halted_is, halted_on, unread_words}
 use Rattle.cloner_top.proofs.Runs.{on_err, on_ok}
 

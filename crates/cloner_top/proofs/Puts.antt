@@ -8,15 +8,11 @@ use Rattle.std.specs.List.{concat, flat_map}
 use Rattle.std.proofs.Math.Seq.{take-append-add}
 use Rattle.sim_outer.specs.Bytes.{Appended, PartAppended}
 use Rattle.sim_outer.specs.Causes.{AreCounted, Counted, Rose, counts_after, next_count}
-use Rattle.sim_outer.specs.Sinks.{SinkView}
+use Rattle.sim_outer.specs.Views.{SinkView}
+use Rattle.rolling_text.proofs.Pieces.{appended_then}
 use Rattle.cloner_top.specs.declared.refusal.Refusal.{Refusal}
 use Rattle.cloner_top.specs.declared.refusal.Refusal.TheVariants.{CannotWrite}
 use Rattle.cloner_top.specs.Outsides.{AreCut, ArePut, AreTold, IsNotPut}
-
-appended_then : (a b : List ℕ) (old mid new : Option (List ℕ)) → Appended old a mid → Appended mid b new
-    → Appended old (a ++ b) new
-appended_then a b None mid new h k = let m : mid ≡ None = h in (rw m at k)
-appended_then a b (Some o) mid new h k = (rw h at k) ∙ ap Some (append_assoc o a b)
 
 -- a prefix of the first text is one of both
 part_first : (a b : List ℕ) (old new : Option (List ℕ)) → PartAppended old a new → PartAppended old (a ++ b) new

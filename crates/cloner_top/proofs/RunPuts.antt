@@ -4,7 +4,7 @@ use Rattle.std.proofs.Common.{◌∷◌, ◌++◌, length, map, Result, Ok, Err,
 use Rattle.sim_base.specs.Clones.{Clone}
 use Rattle.sim_outer.specs.Bytes.{Appended, PartAppended}
 use Rattle.sim_outer.specs.Causes.{AreCounted, Rose}
-use Rattle.sim_outer.specs.Sinks.{SinkView}
+use Rattle.sim_outer.specs.Views.{SinkView}
 use Rattle.net_model.specs.Net.{Net}
 use Rattle.trace_report.specs.Outputs.{clone_text, clone_texts, report}
 use Rattle.rolling_text.specs.Counting.{AreCountedTo}

@@ -3,7 +3,7 @@ use Rattle.std.proofs.Common.{◌≡◌, ℕ, zero, suc, ◌+◌, arith, sym, ap
 use Rattle.std.proofs.Common.{List, [], ◌∷◌, length, Some, Result, Ok, Err, IfErr, OnOk}
 use Rattle.std.specs.List.{AllByRecursion}
 use Rattle.sim_base.specs.Clones.{Clone, clone_at, place_of}
-use Rattle.sim_outer.specs.Sinks.{SinkView}
+use Rattle.sim_outer.specs.Views.{SinkView}
 use Rattle.net_model.specs.Net.{Net}
 use Rattle.stations.specs.Runs.{trace_of}
 use Rattle.world_core.specs.Worlds.{total_handled}

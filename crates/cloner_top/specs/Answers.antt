@@ -2,7 +2,7 @@
 use Rattle.std.specs.Prelude.{◌≡◌, ℕ, List, [], ◌∷◌, ◌++◌, Option, Some, None, option_map}
 use Rattle.sim_outer.specs.Causes.{AreCounted, Rose}
 use Rattle.sim_outer.specs.Files.{Files}
-use Rattle.sim_outer.specs.Sinks.{SinkView}
+use Rattle.sim_outer.specs.Views.{InputsView, SinkView}
 use Rattle.command_words.specs.Requests.{Asked, form}
 use Rattle.cloner_top.specs.declared.reading.Text.TheVariants.{Model, Script}
 use Rattle.cloner_top.specs.declared.halt.Halt.{Halt}
@@ -12,7 +12,7 @@ use Rattle.cloner_top.specs.declared.refusal.Refusal.TheVariants.{OutOfMemory, U
 use Rattle.cloner_top.specs.declared.refusal.Refusal.TheVariants.{NoScript, Stopped, CannotWrite}
 use Rattle.cloner_top.specs.declared.stop.Stop.{Stop}
 use Rattle.cloner_top.specs.Endings.{Ending, MayCome, StoppedFor}
-use Rattle.cloner_top.specs.Outsides.{AreTold, InputsView, IsCutOff, IsFailed, IsFinished}
+use Rattle.cloner_top.specs.Outsides.{AreTold, IsCutOff, IsFailed, IsFinished}
 use Rattle.cloner_top.specs.Plans.{HasModel}
 use Rattle.cloner_top.specs.Refusals.{line_of}
 use Rattle.cloner_top.specs.Stops.{stop_status}

@@ -1,21 +1,14 @@
 -- The outside of the program: what contracts see of inputs and sinks, and what becomes of them.
-use Rattle.std.specs.Prelude.{◌≡◌, ◌⊎◌, ℕ, ◌≤◌, List, [], ◌∷◌, Option, length}
+use Rattle.std.specs.Prelude.{◌≡◌, ◌⊎◌, ℕ, ◌≤◌, List, [], ◌∷◌, length}
 use Rattle.std.specs.List.{concat}
 use Rattle.sim_outer.specs.Bytes.{Appended, PartAppended}
 use Rattle.sim_outer.specs.Causes.{AreCounted, Rose}
-use Rattle.sim_outer.specs.Files.{Files}
-use Rattle.sim_outer.specs.Sinks.{SinkView}
+use Rattle.sim_outer.specs.Views.{SinkView}
 use Rattle.cloner_top.specs.declared.halt.Halt.{Halt}
 use Rattle.cloner_top.specs.declared.halt.Halt.TheVariants.{Refused, Overrun}
 use Rattle.cloner_top.specs.declared.refusal.Refusal.{Refusal}
 use Rattle.cloner_top.specs.declared.refusal.Refusal.TheVariants.{OutOfMemory, Stopped, CannotWrite}
 use Rattle.cloner_top.specs.Endings.{Ending, StoppedFor, Wrote}
-
--- the files where they are known, the count of faults, and that of calls where it is known
-pub record InputsView : Type 0 where
-  pub files : Option Files
-  pub faults : ℕ
-  pub calls : Option ℕ
 
 -- each text was put, in one call
 pub record ArePut (texts : List (List ℕ)) (old new : SinkView) : Type 0 where

@@ -17,8 +17,8 @@
 //!
 //! A run costs a step for each message that differs, and a line, merged from the logs of the stations, for each message
 //! of each branch that it does not share with the branch before; the memory is that of the world, and of what a text
-//! has in common with the next one. The promises of the README stand on the contract of `cloner`: right traces, the first refusal, all or nothing,
-//! bounded work, each text in one put, each file fetched once.
+//! has in common with the next one. The promises of the README stand on the contract of `cloner`: right traces, the
+//! first refusal, all or nothing, bounded work, each text in one call, each file fetched once.
 #![tactic(auto)]
 
 mod deciding;

@@ -104,11 +104,9 @@ pub(crate) fn write_live<O: Sink, G: Gate, L: Ledger, R: Threads + Wait + Sync>(
     steps: &mut Steps<L>,
 ) -> Result<(), Halt>
     ensures ok { OnOk result (IsFinished (MayLive study.now.model.value study.now.script) steps.old steps.new
-        (record { bytes = O.bytes out.old; faults = O.faults out.old; calls = O.calls out.old })
-        (record { bytes = O.bytes out.new; faults = O.faults out.new; calls = O.calls out.new })) }
+        (O.seen out.old) (O.seen out.new)) }
     ensures err { IfErr result (λ h. IsHalted (MayLive study.now.model.value study.now.script) steps.old steps.new
-        (record { bytes = O.bytes out.old; faults = O.faults out.old; calls = O.calls out.old })
-        (record { bytes = O.bytes out.new; faults = O.faults out.new; calls = O.calls out.new }) h) }
+        (O.seen out.old) (O.seen out.new) h) }
 {
     let (world, journal) = match run_live(rt, alloc, gate, request, study, steps) {
         Ok(ran) => ran,

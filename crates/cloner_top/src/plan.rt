@@ -56,17 +56,17 @@ pub(crate) fn read_study<I: Inputs>(
     inputs: &mut I,
     source: &Source,
 ) -> Result<Study, Refusal>
-    ensures ok { IfOk result (λ study. IsRead (source_view source.now) (I.files inputs.old) study.model.value
+    ensures ok { IfOk result (λ study. IsRead (source_view source.now) (I.seen inputs.old).files study.model.value
         study.script) }
     ensures err { IfErr result (λ r.
-        IsUnreadStudy (Rose (I.faults inputs.old) (I.faults inputs.new)) (source_view source.now)
-        (I.files inputs.old) r) }
-    ensures later { I.faults inputs.old ≤ I.faults inputs.new }
-    ensures same { I.files inputs.new ≡ I.files inputs.old }
-    ensures fetched { OnOk result (AreCounted (all_fetches (source_view source.now)) (I.calls inputs.old)
-        (I.calls inputs.new)) }
+        IsUnreadStudy (Rose (I.seen inputs.old).faults (I.seen inputs.new).faults) (source_view source.now)
+        (I.seen inputs.old).files r) }
+    ensures later { (I.seen inputs.old).faults ≤ (I.seen inputs.new).faults }
+    ensures same { (I.seen inputs.new).files ≡ (I.seen inputs.old).files }
+    ensures fetched { OnOk result (AreCounted (all_fetches (source_view source.now)) (I.seen inputs.old).calls
+        (I.seen inputs.new).calls) }
     ensures few { (n : ℕ) × ((n ≤ all_fetches (source_view source.now))
-        × AreCounted n (I.calls inputs.old) (I.calls inputs.new)) }
+        × AreCounted n (I.seen inputs.old).calls (I.seen inputs.new).calls) }
 {
     let text = match fetch_text(alloc, inputs, source, Text::Model) {
         Ok(text) => text,

@@ -40,12 +40,10 @@ fn decide_and_write<O: Sink, G: Gate, L: Ledger, R: Threads + Wait + Sync>(
     requires first { DecidesFirst request.now.mode }
     ensures ok { OnOk result (IsFinished
         (MayEnd (request_view request.now).asked study.now.model.value study.now.script) steps.old steps.new
-        (record { bytes = O.bytes out.old; faults = O.faults out.old; calls = O.calls out.old })
-        (record { bytes = O.bytes out.new; faults = O.faults out.new; calls = O.calls out.new })) }
+        (O.seen out.old) (O.seen out.new)) }
     ensures err { IfErr result (λ r. IsFailed
         (MayEnd (request_view request.now).asked study.now.model.value study.now.script) steps.old steps.new
-        (record { bytes = O.bytes out.old; faults = O.faults out.old; calls = O.calls out.old })
-        (record { bytes = O.bytes out.new; faults = O.faults out.new; calls = O.calls out.new }) r) }
+        (O.seen out.old) (O.seen out.new) r) }
 {
     match plan_study(alloc, study) {
         Ok(plan) => write_study(rt, alloc, gate, request, &plan, out, steps),
@@ -75,12 +73,10 @@ fn write_read<O: Sink, G: Gate, L: Ledger, R: Threads + Wait + Sync>(
 ) -> Result<(), Halt>
     ensures ok { OnOk result (IsFinished
         (MayEnd (request_view request.now).asked study.now.model.value study.now.script) steps.old steps.new
-        (record { bytes = O.bytes out.old; faults = O.faults out.old; calls = O.calls out.old })
-        (record { bytes = O.bytes out.new; faults = O.faults out.new; calls = O.calls out.new })) }
+        (O.seen out.old) (O.seen out.new)) }
     ensures err { IfErr result (λ h. IsHalted
         (MayEnd (request_view request.now).asked study.now.model.value study.now.script) steps.old steps.new
-        (record { bytes = O.bytes out.old; faults = O.faults out.old; calls = O.calls out.old })
-        (record { bytes = O.bytes out.new; faults = O.faults out.new; calls = O.calls out.new }) h) }
+        (O.seen out.old) (O.seen out.new) h) }
 {
     if !decides_first(&request.mode) {
         return write_live(rt, alloc, gate, request, study, out, steps);
@@ -101,20 +97,17 @@ fn obey<I: Inputs, O: Sink, G: Gate, L: Ledger, R: Threads + Wait + Sync>(
     gate: &G,
     steps: &mut Steps<L>,
 ) -> Result<(), Halt>
-    ensures ok { OnOk result (IsFinished (Comes (I.files inputs.old) (request_view request.now).asked) steps.old
-        steps.new
-        (record { bytes = O.bytes out.old; faults = O.faults out.old; calls = O.calls out.old })
-        (record { bytes = O.bytes out.new; faults = O.faults out.new; calls = O.calls out.new })) }
-    ensures err { IfErr result (λ h. IsDisobeyed (Rose (I.faults inputs.old) (I.faults inputs.new))
-        (I.files inputs.old) (request_view request.now).asked steps.old steps.new
-        (record { bytes = O.bytes out.old; faults = O.faults out.old; calls = O.calls out.old })
-        (record { bytes = O.bytes out.new; faults = O.faults out.new; calls = O.calls out.new }) h) }
-    ensures later { I.faults inputs.old ≤ I.faults inputs.new }
-    ensures same { I.files inputs.new ≡ I.files inputs.old }
-    ensures fetched { OnOk result (AreCounted (all_fetches (source_view request.now.source)) (I.calls inputs.old)
-        (I.calls inputs.new)) }
+    ensures ok { OnOk result (IsFinished (Comes (I.seen inputs.old).files (request_view request.now).asked) steps.old
+        steps.new (O.seen out.old) (O.seen out.new)) }
+    ensures err { IfErr result (λ h. IsDisobeyed (Rose (I.seen inputs.old).faults (I.seen inputs.new).faults)
+        (I.seen inputs.old).files (request_view request.now).asked steps.old steps.new
+        (O.seen out.old) (O.seen out.new) h) }
+    ensures later { (I.seen inputs.old).faults ≤ (I.seen inputs.new).faults }
+    ensures same { (I.seen inputs.new).files ≡ (I.seen inputs.old).files }
+    ensures fetched { OnOk result (AreCounted (all_fetches (source_view request.now.source)) (I.seen inputs.old).calls
+        (I.seen inputs.new).calls) }
     ensures few { (n : ℕ) × ((n ≤ all_fetches (source_view request.now.source))
-        × AreCounted n (I.calls inputs.old) (I.calls inputs.new)) }
+        × AreCounted n (I.seen inputs.old).calls (I.seen inputs.new).calls) }
 {
     match read_study(alloc, inputs, &request.source) {
         Ok(study) => write_read(rt, alloc, gate, request, &study, out, steps),
@@ -125,9 +118,7 @@ fn obey<I: Inputs, O: Sink, G: Gate, L: Ledger, R: Threads + Wait + Sync>(
 // Tells the error sink why. Its faults change nothing else.
 fn complain<E: Sink>(err: &mut E, refusal: &Refusal) -> u8
     ensures status { result ≡ status_of refusal.now }
-    ensures told { AreTold (line_of refusal.now ∷ [])
-        (record { bytes = E.bytes err.old; faults = E.faults err.old; calls = E.calls err.old })
-        (record { bytes = E.bytes err.new; faults = E.faults err.new; calls = E.calls err.new }) }
+    ensures told { AreTold (line_of refusal.now ∷ []) (E.seen err.old) (E.seen err.new) }
 {
     let line = refusal.line();
     let _ = put_text(err, line.text().as_bytes());
@@ -138,9 +129,7 @@ fn complain<E: Sink>(err: &mut E, refusal: &Refusal) -> u8
 // cut off, nothing follows it.
 fn complain_of_limit<E: Sink>(err: &mut E, journal: &[u8], stop: &Stop) -> u8
     ensures status { result ≡ stop_status stop.now }
-    ensures told { AreTold (journal.now ∷ stop_line stop.now ∷ [])
-        (record { bytes = E.bytes err.old; faults = E.faults err.old; calls = E.calls err.old })
-        (record { bytes = E.bytes err.new; faults = E.faults err.new; calls = E.calls err.new }) }
+    ensures told { AreTold (journal.now ∷ stop_line stop.now ∷ []) (E.seen err.old) (E.seen err.new) }
 {
     let line = stop.line();
     let Ok(()) = put_text(err, journal) else {
@@ -172,33 +161,13 @@ fn answer<I: Inputs, O: Sink, E: Sink, G: Gate, L: Ledger, R: Threads + Wait + S
     steps: &mut Steps<L>,
 ) -> u8
     ensures answer { IsAnswer (asked_by words.now)
-        (record {
-          inputs = record { files = I.files inputs.old; faults = I.faults inputs.old; calls = I.calls inputs.old };
-          output = record { bytes = O.bytes out.old; faults = O.faults out.old; calls = O.calls out.old };
-          errors = record { bytes = E.bytes err.old; faults = E.faults err.old; calls = E.calls err.old };
-          steps = steps.old;
-        })
-        (record {
-          inputs = record { files = I.files inputs.new; faults = I.faults inputs.new; calls = I.calls inputs.new };
-          output = record { bytes = O.bytes out.new; faults = O.faults out.new; calls = O.calls out.new };
-          errors = record { bytes = E.bytes err.new; faults = E.faults err.new; calls = E.calls err.new };
-          steps = steps.new;
-        }) result }
-    ensures later { I.faults inputs.old ≤ I.faults inputs.new }
-    ensures same { I.files inputs.new ≡ I.files inputs.old }
+        (record { inputs = I.seen inputs.old; output = O.seen out.old; errors = E.seen err.old; steps = steps.old })
+        (record { inputs = I.seen inputs.new; output = O.seen out.new; errors = E.seen err.new; steps = steps.new }) result }
+    ensures later { (I.seen inputs.old).faults ≤ (I.seen inputs.new).faults }
+    ensures same { (I.seen inputs.new).files ≡ (I.seen inputs.old).files }
     ensures fetches { AreFewFetches (asked_by words.now)
-        (record {
-          inputs = record { files = I.files inputs.old; faults = I.faults inputs.old; calls = I.calls inputs.old };
-          output = record { bytes = O.bytes out.old; faults = O.faults out.old; calls = O.calls out.old };
-          errors = record { bytes = E.bytes err.old; faults = E.faults err.old; calls = E.calls err.old };
-          steps = steps.old;
-        })
-        (record {
-          inputs = record { files = I.files inputs.new; faults = I.faults inputs.new; calls = I.calls inputs.new };
-          output = record { bytes = O.bytes out.new; faults = O.faults out.new; calls = O.calls out.new };
-          errors = record { bytes = E.bytes err.new; faults = E.faults err.new; calls = E.calls err.new };
-          steps = steps.new;
-        }) }
+        (record { inputs = I.seen inputs.old; output = O.seen out.old; errors = E.seen err.old; steps = steps.old })
+        (record { inputs = I.seen inputs.new; output = O.seen out.new; errors = E.seen err.new; steps = steps.new }) }
 {
     let request = match read_words(alloc, words) {
         Ok(request) => request,
@@ -217,7 +186,7 @@ fn answer<I: Inputs, O: Sink, E: Sink, G: Gate, L: Ledger, R: Threads + Wait + S
 /// of each and then the report; `live MODEL SCRIPT` has the analysts of the script decide and look while that world
 /// runs, and writes their journal before the rest; `gen NUMBER` runs the model and the script made of the number, and
 /// writes the report alone; `solo MODEL SCRIPT --clone NAME` runs one clone by itself and writes its trace text. Each
-/// text is one put, and all memory is taken before the first. The status is 0 where all is written. Otherwise the error
+/// text is put in one call, and all memory is taken before the first. The status is 0 where all is written. Otherwise the error
 /// sink is told why in one line; where the limit is met in a live study, its journal is told before the line:
 ///
 /// 1. memory was refused, at any place before the first put;
@@ -242,120 +211,40 @@ pub fn cloner<R: Threads + Wait + Sync, I: Inputs, O: Sink, E: Sink, G: Gate, L:
 ) -> u8
     // What each status says.
     ensures finished { result ≡ 0 → IsWritten (asked_by words.now)
-        (record {
-          inputs = record { files = I.files inputs.old; faults = I.faults inputs.old; calls = I.calls inputs.old };
-          output = record { bytes = O.bytes out.old; faults = O.faults out.old; calls = O.calls out.old };
-          errors = record { bytes = E.bytes err.old; faults = E.faults err.old; calls = E.calls err.old };
-          steps = steps.old;
-        })
-        (record {
-          inputs = record { files = I.files inputs.new; faults = I.faults inputs.new; calls = I.calls inputs.new };
-          output = record { bytes = O.bytes out.new; faults = O.faults out.new; calls = O.calls out.new };
-          errors = record { bytes = E.bytes err.new; faults = E.faults err.new; calls = E.calls err.new };
-          steps = steps.new;
-        }) }
+        (record { inputs = I.seen inputs.old; output = O.seen out.old; errors = E.seen err.old; steps = steps.old })
+        (record { inputs = I.seen inputs.new; output = O.seen out.new; errors = E.seen err.new; steps = steps.new }) }
     ensures usage { (result ≡ 2 → asked_by words.now ≡ None)
         × (asked_by words.now ≡ None → (result ≡ 1) ⊎ (result ≡ 2)) }
     ensures unread { result ≡ 3 → IsUnreadFor (asked_by words.now)
-        (record {
-          inputs = record { files = I.files inputs.old; faults = I.faults inputs.old; calls = I.calls inputs.old };
-          output = record { bytes = O.bytes out.old; faults = O.faults out.old; calls = O.calls out.old };
-          errors = record { bytes = E.bytes err.old; faults = E.faults err.old; calls = E.calls err.old };
-          steps = steps.old;
-        })
-        (record {
-          inputs = record { files = I.files inputs.new; faults = I.faults inputs.new; calls = I.calls inputs.new };
-          output = record { bytes = O.bytes out.new; faults = O.faults out.new; calls = O.calls out.new };
-          errors = record { bytes = E.bytes err.new; faults = E.faults err.new; calls = E.calls err.new };
-          steps = steps.new;
-        }) }
+        (record { inputs = I.seen inputs.old; output = O.seen out.old; errors = E.seen err.old; steps = steps.old })
+        (record { inputs = I.seen inputs.new; output = O.seen out.new; errors = E.seen err.new; steps = steps.new }) }
     ensures refused { 4 ≤ result → result ≤ 7 → IsStoppedFor (asked_by words.now)
-        (record {
-          inputs = record { files = I.files inputs.old; faults = I.faults inputs.old; calls = I.calls inputs.old };
-          output = record { bytes = O.bytes out.old; faults = O.faults out.old; calls = O.calls out.old };
-          errors = record { bytes = E.bytes err.old; faults = E.faults err.old; calls = E.calls err.old };
-          steps = steps.old;
-        })
-        (record {
-          inputs = record { files = I.files inputs.new; faults = I.faults inputs.new; calls = I.calls inputs.new };
-          output = record { bytes = O.bytes out.new; faults = O.faults out.new; calls = O.calls out.new };
-          errors = record { bytes = E.bytes err.new; faults = E.faults err.new; calls = E.calls err.new };
-          steps = steps.new;
-        }) result }
+        (record { inputs = I.seen inputs.old; output = O.seen out.old; errors = E.seen err.old; steps = steps.old })
+        (record { inputs = I.seen inputs.new; output = O.seen out.new; errors = E.seen err.new; steps = steps.new }) result }
     ensures cut { result ≡ 8 → IsCutFor (asked_by words.now)
-        (record {
-          inputs = record { files = I.files inputs.old; faults = I.faults inputs.old; calls = I.calls inputs.old };
-          output = record { bytes = O.bytes out.old; faults = O.faults out.old; calls = O.calls out.old };
-          errors = record { bytes = E.bytes err.old; faults = E.faults err.old; calls = E.calls err.old };
-          steps = steps.old;
-        })
-        (record {
-          inputs = record { files = I.files inputs.new; faults = I.faults inputs.new; calls = I.calls inputs.new };
-          output = record { bytes = O.bytes out.new; faults = O.faults out.new; calls = O.calls out.new };
-          errors = record { bytes = E.bytes err.new; faults = E.faults err.new; calls = E.calls err.new };
-          steps = steps.new;
-        }) }
+        (record { inputs = I.seen inputs.old; output = O.seen out.old; errors = E.seen err.old; steps = steps.old })
+        (record { inputs = I.seen inputs.new; output = O.seen out.new; errors = E.seen err.new; steps = steps.new }) }
 
     // What stays as it was, what is told, and how much is done.
     ensures kept { result ≢ 0 → result ≢ 8 →
-        (O.bytes out.new ≡ O.bytes out.old) × (O.calls out.new ≡ O.calls out.old) }
+        ((O.seen out.new).bytes ≡ (O.seen out.old).bytes) × ((O.seen out.new).calls ≡ (O.seen out.old).calls) }
     ensures told { result ≢ 0 → IsToldFor (asked_by words.now)
-        (record {
-          inputs = record { files = I.files inputs.old; faults = I.faults inputs.old; calls = I.calls inputs.old };
-          output = record { bytes = O.bytes out.old; faults = O.faults out.old; calls = O.calls out.old };
-          errors = record { bytes = E.bytes err.old; faults = E.faults err.old; calls = E.calls err.old };
-          steps = steps.old;
-        })
-        (record {
-          inputs = record { files = I.files inputs.new; faults = I.faults inputs.new; calls = I.calls inputs.new };
-          output = record { bytes = O.bytes out.new; faults = O.faults out.new; calls = O.calls out.new };
-          errors = record { bytes = E.bytes err.new; faults = E.faults err.new; calls = E.calls err.new };
-          steps = steps.new;
-        }) result }
+        (record { inputs = I.seen inputs.old; output = O.seen out.old; errors = E.seen err.old; steps = steps.old })
+        (record { inputs = I.seen inputs.new; output = O.seen out.new; errors = E.seen err.new; steps = steps.new }) result }
     ensures idle { 2 ≤ result → result ≤ 6 → steps.new ≡ steps.old }
     ensures fetches { AreFewFetches (asked_by words.now)
-        (record {
-          inputs = record { files = I.files inputs.old; faults = I.faults inputs.old; calls = I.calls inputs.old };
-          output = record { bytes = O.bytes out.old; faults = O.faults out.old; calls = O.calls out.old };
-          errors = record { bytes = E.bytes err.old; faults = E.faults err.old; calls = E.calls err.old };
-          steps = steps.old;
-        })
-        (record {
-          inputs = record { files = I.files inputs.new; faults = I.faults inputs.new; calls = I.calls inputs.new };
-          output = record { bytes = O.bytes out.new; faults = O.faults out.new; calls = O.calls out.new };
-          errors = record { bytes = E.bytes err.new; faults = E.faults err.new; calls = E.calls err.new };
-          steps = steps.new;
-        }) }
-    ensures same { I.files inputs.new ≡ I.files inputs.old }
-    ensures later { I.faults inputs.old ≤ I.faults inputs.new }
+        (record { inputs = I.seen inputs.old; output = O.seen out.old; errors = E.seen err.old; steps = steps.old })
+        (record { inputs = I.seen inputs.new; output = O.seen out.new; errors = E.seen err.new; steps = steps.new }) }
+    ensures same { (I.seen inputs.new).files ≡ (I.seen inputs.old).files }
+    ensures later { (I.seen inputs.old).faults ≤ (I.seen inputs.new).faults }
 
     // That a lawful ending comes, and all of this at once.
     ensures complete { Completes (asked_by words.now)
-        (record {
-          inputs = record { files = I.files inputs.old; faults = I.faults inputs.old; calls = I.calls inputs.old };
-          output = record { bytes = O.bytes out.old; faults = O.faults out.old; calls = O.calls out.old };
-          errors = record { bytes = E.bytes err.old; faults = E.faults err.old; calls = E.calls err.old };
-          steps = steps.old;
-        })
-        (record {
-          inputs = record { files = I.files inputs.new; faults = I.faults inputs.new; calls = I.calls inputs.new };
-          output = record { bytes = O.bytes out.new; faults = O.faults out.new; calls = O.calls out.new };
-          errors = record { bytes = E.bytes err.new; faults = E.faults err.new; calls = E.calls err.new };
-          steps = steps.new;
-        }) result }
+        (record { inputs = I.seen inputs.old; output = O.seen out.old; errors = E.seen err.old; steps = steps.old })
+        (record { inputs = I.seen inputs.new; output = O.seen out.new; errors = E.seen err.new; steps = steps.new }) result }
     ensures answer { IsAnswer (asked_by words.now)
-        (record {
-          inputs = record { files = I.files inputs.old; faults = I.faults inputs.old; calls = I.calls inputs.old };
-          output = record { bytes = O.bytes out.old; faults = O.faults out.old; calls = O.calls out.old };
-          errors = record { bytes = E.bytes err.old; faults = E.faults err.old; calls = E.calls err.old };
-          steps = steps.old;
-        })
-        (record {
-          inputs = record { files = I.files inputs.new; faults = I.faults inputs.new; calls = I.calls inputs.new };
-          output = record { bytes = O.bytes out.new; faults = O.faults out.new; calls = O.calls out.new };
-          errors = record { bytes = E.bytes err.new; faults = E.faults err.new; calls = E.calls err.new };
-          steps = steps.new;
-        }) result }
+        (record { inputs = I.seen inputs.old; output = O.seen out.old; errors = E.seen err.old; steps = steps.old })
+        (record { inputs = I.seen inputs.new; output = O.seen out.new; errors = E.seen err.new; steps = steps.new }) result }
 {
     answer(rt, alloc, words, inputs, out, err, gate, steps)
 }

@@ -22,17 +22,11 @@ use world_core::World;
 
 /// Puts one text.
 pub(crate) fn put_text<O: Sink>(out: &mut O, text: &[u8]) -> Result<(), Refusal>
-    ensures ok { OnOk result (ArePut (text.now ∷ [])
-        (record { bytes = O.bytes out.old; faults = O.faults out.old; calls = O.calls out.old })
-        (record { bytes = O.bytes out.new; faults = O.faults out.new; calls = O.calls out.new })) }
-    ensures err { IfErr result (λ r. IsNotPut (text.now ∷ [])
-        (record { bytes = O.bytes out.old; faults = O.faults out.old; calls = O.calls out.old })
-        (record { bytes = O.bytes out.new; faults = O.faults out.new; calls = O.calls out.new }) r) }
+    ensures ok { OnOk result (ArePut (text.now ∷ []) (O.seen out.old) (O.seen out.new)) }
+    ensures err { IfErr result (λ r. IsNotPut (text.now ∷ []) (O.seen out.old) (O.seen out.new) r) }
     ensures cause { IfErr result (λ r. r ≡ Refusal.CannotWrite) }
-    ensures told { AreTold (text.now ∷ [])
-        (record { bytes = O.bytes out.old; faults = O.faults out.old; calls = O.calls out.old })
-        (record { bytes = O.bytes out.new; faults = O.faults out.new; calls = O.calls out.new }) }
-    ensures later { O.faults out.old ≤ O.faults out.new }
+    ensures told { AreTold (text.now ∷ []) (O.seen out.old) (O.seen out.new) }
+    ensures later { (O.seen out.old).faults ≤ (O.seen out.new).faults }
 {
     match out.put(text) {
         Ok(()) => Ok(()),
@@ -47,12 +41,9 @@ pub(crate) fn put_trace<O: Sink>(
     trace: &Log,
     out: &mut O,
 ) -> Result<(), Refusal>
-    ensures ok { OnOk result (ArePut (trace_text model.now name.now trace.now ∷ [])
-        (record { bytes = O.bytes out.old; faults = O.faults out.old; calls = O.calls out.old })
-        (record { bytes = O.bytes out.new; faults = O.faults out.new; calls = O.calls out.new })) }
+    ensures ok { OnOk result (ArePut (trace_text model.now name.now trace.now ∷ []) (O.seen out.old) (O.seen out.new)) }
     ensures err { IfErr result (λ r. IsNotPut (trace_text model.now name.now trace.now ∷ [])
-        (record { bytes = O.bytes out.old; faults = O.faults out.old; calls = O.calls out.old })
-        (record { bytes = O.bytes out.new; faults = O.faults out.new; calls = O.calls out.new }) r) }
+        (O.seen out.old) (O.seen out.new) r) }
 {
     match put_alone(model, name, trace, out) {
         Ok(()) => Ok(()),
@@ -71,12 +62,9 @@ pub(crate) fn put_report<O: Sink>(
     requires ended { world.now.front ≡ model.now.horizon }
     requires few { length world.now.clones ≤ 256 }
     requires within { AreWithin model.now world.now.clones }
-    ensures ok { OnOk result (ArePut (report model.now world.now.clones ∷ [])
-        (record { bytes = O.bytes out.old; faults = O.faults out.old; calls = O.calls out.old })
-        (record { bytes = O.bytes out.new; faults = O.faults out.new; calls = O.calls out.new })) }
+    ensures ok { OnOk result (ArePut (report model.now world.now.clones ∷ []) (O.seen out.old) (O.seen out.new)) }
     ensures err { IfErr result (λ r. IsNotPut (report model.now world.now.clones ∷ [])
-        (record { bytes = O.bytes out.old; faults = O.faults out.old; calls = O.calls out.old })
-        (record { bytes = O.bytes out.new; faults = O.faults out.new; calls = O.calls out.new }) r) }
+        (O.seen out.old) (O.seen out.new) r) }
 {
     match report_of(alloc, model, world) {
         Ok(text) => put_text(out, text.as_slice()),
@@ -121,11 +109,9 @@ fn put_prepared<'a, O: Sink, R: Threads + Wait + Sync>(
 ) -> Result<(), Refusal>
     requires ready { IsReadyRun run.traces.net run.traces.clones run }
     ensures ok { OnOk result (ArePut (run_texts run.entry.traces.net run.entry.traces.clones)
-        (record { bytes = O.bytes out.old; faults = O.faults out.old; calls = O.calls out.old })
-        (record { bytes = O.bytes out.new; faults = O.faults out.new; calls = O.calls out.new })) }
+        (O.seen out.old) (O.seen out.new)) }
     ensures err { IfErr result (λ r. IsNotPut (run_texts run.entry.traces.net run.entry.traces.clones)
-        (record { bytes = O.bytes out.old; faults = O.faults out.old; calls = O.calls out.old })
-        (record { bytes = O.bytes out.new; faults = O.faults out.new; calls = O.calls out.new }) r) }
+        (O.seen out.old) (O.seen out.new) r) }
     ensures cause { IfErr result (λ r. r ≡ Refusal.CannotWrite) }
 {
     let RunTexts {
@@ -153,12 +139,9 @@ pub(crate) fn put_run<O: Sink, R: Threads + Wait + Sync>(
     requires few { length world.now.clones ≤ 256 }
     requires within { AreWithin model.now world.now.clones }
     requires short { AreShort world.now.clones }
-    ensures ok { OnOk result (ArePut (run_texts model.now world.now.clones)
-        (record { bytes = O.bytes out.old; faults = O.faults out.old; calls = O.calls out.old })
-        (record { bytes = O.bytes out.new; faults = O.faults out.new; calls = O.calls out.new })) }
+    ensures ok { OnOk result (ArePut (run_texts model.now world.now.clones) (O.seen out.old) (O.seen out.new)) }
     ensures err { IfErr result (λ r. IsNotPut (run_texts model.now world.now.clones)
-        (record { bytes = O.bytes out.old; faults = O.faults out.old; calls = O.calls out.old })
-        (record { bytes = O.bytes out.new; faults = O.faults out.new; calls = O.calls out.new }) r) }
+        (O.seen out.old) (O.seen out.new) r) }
 {
     match prepare_run(alloc, model, world) {
         Ok(run) => put_prepared(rt, alloc, workers, run, out),
@@ -182,11 +165,9 @@ pub(crate) fn put_live<O: Sink, R: Threads + Wait + Sync>(
     requires within { AreWithin model.now world.now.clones }
     requires short { AreShort world.now.clones }
     ensures ok { OnOk result (ArePut (journal.now ∷ run_texts model.now world.now.clones)
-        (record { bytes = O.bytes out.old; faults = O.faults out.old; calls = O.calls out.old })
-        (record { bytes = O.bytes out.new; faults = O.faults out.new; calls = O.calls out.new })) }
+        (O.seen out.old) (O.seen out.new)) }
     ensures err { IfErr result (λ r. IsNotPut (journal.now ∷ run_texts model.now world.now.clones)
-        (record { bytes = O.bytes out.old; faults = O.faults out.old; calls = O.calls out.old })
-        (record { bytes = O.bytes out.new; faults = O.faults out.new; calls = O.calls out.new }) r) }
+        (O.seen out.old) (O.seen out.new) r) }
 {
     let run = match prepare_run(alloc, model, world) {
         Ok(run) => run,

@@ -76,12 +76,12 @@ pub(crate) fn fetch_text<I: Inputs>(
     source: &Source,
     text: Text,
 ) -> Result<Vec<u8>, Refusal>
-    ensures ok { IfOk result (λ v. IsText (text_of (source_view source.now) text (I.files inputs.old)) v.items) }
-    ensures err { IfErr result (λ r. IsNotRead (Rose (I.faults inputs.old) (I.faults inputs.new))
-        (source_view source.now) text (I.files inputs.old) r) }
-    ensures later { I.faults inputs.old ≤ I.faults inputs.new }
-    ensures same { I.files inputs.new ≡ I.files inputs.old }
-    ensures counted { AreCounted (fetches_of (source_view source.now)) (I.calls inputs.old) (I.calls inputs.new) }
+    ensures ok { IfOk result (λ v. IsText (text_of (source_view source.now) text (I.seen inputs.old).files) v.items) }
+    ensures err { IfErr result (λ r. IsNotRead (Rose (I.seen inputs.old).faults (I.seen inputs.new).faults)
+        (source_view source.now) text (I.seen inputs.old).files r) }
+    ensures later { (I.seen inputs.old).faults ≤ (I.seen inputs.new).faults }
+    ensures same { (I.seen inputs.new).files ≡ (I.seen inputs.old).files }
+    ensures counted { AreCounted (fetches_of (source_view source.now)) (I.seen inputs.old).calls (I.seen inputs.new).calls }
 {
     let name = match *source {
         Source::Named { model, script } => name_of(text, model, script),

@@ -103,13 +103,11 @@ fn write_run<O: Sink, G: Gate, L: Ledger, R: Threads + Wait + Sync>(
     ensures ok { OnOk result (IsFinished
         (MayRun plan.now.model.value (after plan.now.book.net plan.now.book.events).clones
         (run_texts plan.now.model.value (after plan.now.book.net plan.now.book.events).clones)) steps.old steps.new
-        (record { bytes = O.bytes out.old; faults = O.faults out.old; calls = O.calls out.old })
-        (record { bytes = O.bytes out.new; faults = O.faults out.new; calls = O.calls out.new })) }
+        (O.seen out.old) (O.seen out.new)) }
     ensures err { IfErr result (λ r. IsFailed
         (MayRun plan.now.model.value (after plan.now.book.net plan.now.book.events).clones
         (run_texts plan.now.model.value (after plan.now.book.net plan.now.book.events).clones)) steps.old steps.new
-        (record { bytes = O.bytes out.old; faults = O.faults out.old; calls = O.calls out.old })
-        (record { bytes = O.bytes out.new; faults = O.faults out.new; calls = O.calls out.new }) r) }
+        (O.seen out.old) (O.seen out.new) r) }
 {
     match run_world(rt, alloc, gate, request, plan, steps) {
         Ok(world) => put_run(rt, alloc, request.workers, &plan.model, &world, out),
@@ -132,13 +130,11 @@ fn write_report<O: Sink, G: Gate, L: Ledger, R: Threads + Wait + Sync>(
     ensures ok { OnOk result (IsFinished
         (MayRun plan.now.model.value (after plan.now.book.net plan.now.book.events).clones
         (report plan.now.model.value (after plan.now.book.net plan.now.book.events).clones ∷ [])) steps.old steps.new
-        (record { bytes = O.bytes out.old; faults = O.faults out.old; calls = O.calls out.old })
-        (record { bytes = O.bytes out.new; faults = O.faults out.new; calls = O.calls out.new })) }
+        (O.seen out.old) (O.seen out.new)) }
     ensures err { IfErr result (λ r. IsFailed
         (MayRun plan.now.model.value (after plan.now.book.net plan.now.book.events).clones
         (report plan.now.model.value (after plan.now.book.net plan.now.book.events).clones ∷ [])) steps.old steps.new
-        (record { bytes = O.bytes out.old; faults = O.faults out.old; calls = O.calls out.old })
-        (record { bytes = O.bytes out.new; faults = O.faults out.new; calls = O.calls out.new }) r) }
+        (O.seen out.old) (O.seen out.new) r) }
 {
     match run_world(rt, alloc, gate, request, plan, steps) {
         Ok(world) => put_report(alloc, &plan.model, &world, out),
@@ -157,14 +153,10 @@ fn write_alone<O: Sink, L: Ledger>(
     requires net { plan.now.book.net ≡ plan.now.model.value }
     ensures ok { OnOk result (IsFinished
         (MayRunAlone plan.now.model.value (after plan.now.book.net plan.now.book.events).clones name.now)
-        steps.old steps.new
-        (record { bytes = O.bytes out.old; faults = O.faults out.old; calls = O.calls out.old })
-        (record { bytes = O.bytes out.new; faults = O.faults out.new; calls = O.calls out.new })) }
+        steps.old steps.new (O.seen out.old) (O.seen out.new)) }
     ensures err { IfErr result (λ r. IsFailed
         (MayRunAlone plan.now.model.value (after plan.now.book.net plan.now.book.events).clones name.now)
-        steps.old steps.new
-        (record { bytes = O.bytes out.old; faults = O.faults out.old; calls = O.calls out.old })
-        (record { bytes = O.bytes out.new; faults = O.faults out.new; calls = O.calls out.new }) r) }
+        steps.old steps.new (O.seen out.old) (O.seen out.new) r) }
 {
     let lists = plan.book.lists();
     let Some(place) = lists.find(name) else {
@@ -194,14 +186,11 @@ pub(crate) fn write_study<O: Sink, G: Gate, L: Ledger, R: Threads + Wait + Sync>
     requires accepted { AllAccepted plan.now.book.net plan.now.book.events }
     ensures ok { OnOk result (IsFinished
         (MaySimulate request.now.mode (source_view request.now.source) plan.now.model.value
-        (after plan.now.book.net plan.now.book.events).clones) steps.old steps.new
-        (record { bytes = O.bytes out.old; faults = O.faults out.old; calls = O.calls out.old })
-        (record { bytes = O.bytes out.new; faults = O.faults out.new; calls = O.calls out.new })) }
+        (after plan.now.book.net plan.now.book.events).clones) steps.old steps.new (O.seen out.old) (O.seen out.new)) }
     ensures err { IfErr result (λ r. IsFailed
         (MaySimulate request.now.mode (source_view request.now.source) plan.now.model.value
         (after plan.now.book.net plan.now.book.events).clones) steps.old steps.new
-        (record { bytes = O.bytes out.old; faults = O.faults out.old; calls = O.calls out.old })
-        (record { bytes = O.bytes out.new; faults = O.faults out.new; calls = O.calls out.new }) r) }
+        (O.seen out.old) (O.seen out.new) r) }
 {
     match (request.mode, request.source) {
         (Mode::All, Source::Named { .. }) => write_run(rt, alloc, gate, request, plan, out, steps),

@@ -13,7 +13,7 @@
 //!
 //! They show what no clause says: that calls find memory, and that clauses mean what they should, by values from
 //! outside. A table has a row for each case, and its test goes over the rows: the text or the decision first, and then
-//! what comes of it, as the number, the place and the key of a refusal. So a row reads: *this change to the small model
+//! the result, as the number, the place and the key of a refusal. So a row reads: *this change to the small model
 //! is refused so*.
 #![tactic(auto)]
 

@@ -9,7 +9,7 @@
 //! ```
 //!
 //! They show what no clause says: that calls find memory, and that clauses mean what they should, by values from
-//! outside. A row has a name, the words and the texts of a run, and what comes of it: its status, and each byte that is
+//! outside. A row has a name, the words and the texts of a run, and its result: the status, and each byte that is
 //! written. Where threads run side by side, what is said of the answer must hold under every schedule.
 #![tactic(auto)]
 

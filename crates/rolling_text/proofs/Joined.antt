@@ -3,7 +3,7 @@ use Rattle.std.proofs.Common.{◌≡◌, ℕ, suc, ◌+◌, ◌-◌, ◌<◌, �
 use Rattle.std.proofs.Common.{◌∙◌, ap, arith, List, ◌++◌, codes}
 use Rattle.std.proofs.Common.{get_or, append_assoc, length, take, drop, length-drop, length-append}
 use Rattle.std.proofs.lemmas.Grind.{common_steps}
-use Rattle.std.proofs.lemmas.List.{drop-append-le, drop-take, take-append-le, take_rest}
+use Rattle.std.proofs.lemmas.List.{drop-append-le, drop-take, take-append-le}
 use Rattle.std.proofs.lemmas.Option.{unwrap_or-slice_get}
 use Rattle.sim_base.specs.Clones.{Clone, clone_at, nobody}
 use Rattle.net_model.specs.Net.{Net}
@@ -98,10 +98,6 @@ text_is net k name piece lines rest e f h =
     ap (λ p. p ++ rest) e ∙ parts
     ∙ ap (λ n. codes "clone " ++ (n ++ (codes "\n" ++ (lines ++ rest)))) f
     ∙ ap (λ l. codes "clone " ++ (k.name ++ (codes "\n" ++ l))) h ∙ all
-
--- a whole slice from a place on
-pub from_place : (xs ys : List ℕ) (i : ℕ) → xs ≡ ys → take (length xs - i) (drop i xs) ≡ drop i ys
-from_place xs ys i e = take_rest xs i ∙ ap (drop i) e
 
 -- the clone at a place, as lists of pieces have it
 pub clone_is : (net : Net) (cs : List Clone) (c : ℕ)

@@ -8,7 +8,7 @@ pub mod Puts
 pub mod Partings
 pub mod LogLaws
 pub mod Spans
-pub mod InTurn
+pub mod InOrder
 pub mod ShortLists
 pub mod Keeping
 pub mod ShortLines

@@ -1,12 +1,12 @@
 -- The logs of a world at the horizon: their keys fit words, they rise, and merged or measured they are a clone's rest.
 use Rattle.std.proofs.Common.{◌≡◌, ℕ, zero, suc, ◌+◌, ◌<◌, ◌≤◌, Bool, true, false, not, nat_lt, if◌then◌else◌, List, [], ◌∷◌}
 use Rattle.std.proofs.Common.{◌++◌, refl, sym, ap, ap₂, ◌∙◌, subst, arith, length, sum_by, length-append}
-use Rattle.std.proofs.Common.{drop, max, ◌-◌, inl, inr}
+use Rattle.std.proofs.Common.{drop, ◌-◌}
 use Rattle.std.proofs.Math.Seq.{drop-append_seam}
 use Rattle.std.specs.List.{AllByRecursion, filter, flat_map}
 use Rattle.std.specs.declared.cmp.Ordering.{Ordering}
 use Rattle.std.specs.declared.cmp.Ordering.TheVariants.{Less, Equal, Greater}
-use Rattle.std.proofs.lemmas.Bool.{cases_lt, ltb-true, ltb-false}
+use Rattle.std.proofs.lemmas.Bool.{ltb-true, ltb-false}
 use Rattle.sim_base.specs.Clones.{Clone, clone_at}
 use Rattle.sim_base.specs.declared.entry.Entry.{Entry}
 use Rattle.sim_base.specs.declared.entry.Line.{Line}
@@ -366,21 +366,6 @@ module _ (world : WorldView) (over : IsOver world) (view : TracesView)
   pub no_rest_seen : (t : ℕ) → world.net.horizon ≤ t → length (rest view.net (clone_at view.clones c) t) ≡ 0
   no_rest_seen t late = subst (λ (v : TracesView). length (rest v.net (clone_at v.clones c) t) ≡ 0) seen
       (no_rest world over c there_too t late)
-
--- the lines from a later time on of what a cursor was given are the clone's rest from the later of the two on
-pub late_lines_are : (net model : Net) (c : Clone) (t late : ℕ) (left : List (Entry Msg Line)) → model ≡ net
-    → left ≡ from_on (simulation net) t (trace_of net c)
-    → flat_map (entry_line model) (from_time late left) ≡ rest net c (max t late)
-unfolding rest
-late_lines_are net model c t late left is e =
-    ap₂ (λ n es. flat_map (entry_line n) es) is (ap (from_time late) e ∙ elim (cases_lt late t) [
-      | inl less ↦
-          late_twice late t (trace_of net c) (omega (arith, less))
-          ∙ ap (λ n. from_time n (trace_of net c)) (omega (arith, less))
-      | inr not_less ↦
-          later_of_rest t late (trace_of net c) (omega (arith, not_less))
-          ∙ ap (λ n. from_time n (trace_of net c)) (omega (arith, not_less))
-    ])
 
 -- the lines of what a cursor was given are the clone's rest
 pub lines_are : (net model : Net) (c : Clone) (t : ℕ) (left : List (Entry Msg Line)) → model ≡ net

@@ -3,7 +3,7 @@ use Rattle.std.proofs.Common.{◌≡◌, ℕ, ◌+◌, ◌≤◌, refl, sym, ap,
 use Rattle.std.proofs.Common.{append-nil, length, length-append, if◌then◌else◌}
 use Rattle.std.proofs.lemmas.List.{append_assoc}
 use Rattle.sim_outer.specs.Causes.{Counted, Rose}
-use Rattle.sim_outer.specs.Sinks.{SinkView}
+use Rattle.sim_outer.specs.Views.{SinkView}
 use Rattle.rolling_text.specs.Pages.{PageView}
 use Rattle.rolling_text.specs.Puts.{IsTaken, IsPut, IsCutOff, IsPutTo}
 use Rattle.rolling_text.proofs.Pieces.{appended_nothing, appended_then, part_then}
@@ -50,9 +50,6 @@ cut_part part others left old new e h =
     subst (λ l. IsCutOff l old new) e (cut_then [] part others old old new (taken_none old) h)
 
 module _ (keeps : Bool) where
-  abbrev with_kept : List ℕ → List ℕ → List ℕ
-  with_kept text done = text ++ (if keeps then done else [])
-
   -- nothing was put yet
   pub put_none : (all : List ℕ) (p : PageView) (v : SinkView) → IsPutTo keeps all all p p v v
   put_none all p v =
@@ -150,10 +147,6 @@ pub record IsTakenTo (all left : List ℕ) (old new : SinkView) : Type 0 where
   pub parts : done ++ left ≡ all
   pub taken : IsTaken done old new
 
--- nothing was taken yet
-pub taken_to_all : (all : List ℕ) (v : SinkView) → IsTakenTo all all v v
-taken_to_all all v = record { done = []; parts = refl; taken = taken_none v }
-
 module _ (all left part less : List ℕ) (old mid new : SinkView) (h : IsTakenTo all left old mid)
     (parts : part ++ less ≡ left) where
   -- the next part is taken
@@ -168,7 +161,3 @@ module _ (all left part less : List ℕ) (old mid new : SinkView) (h : IsTakenTo
   pub cut_more : IsCutOff part mid new → IsCutOff all old new
   cut_more k = subst (λ l. IsCutOff l old new) (ap (λ l. h.done ++ l) parts ∙ h.parts)
       (cut_then h.done part less old mid new h.taken k)
-
--- nothing is left
-pub taken_whole : (all : List ℕ) (old new : SinkView) → IsTakenTo all [] old new → IsTaken all old new
-taken_whole all old new h = subst (λ l. IsTaken l old new) (sym (append-nil h.done) ∙ h.parts) h.taken

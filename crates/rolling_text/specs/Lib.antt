@@ -5,5 +5,6 @@ pub mod WorldTraces
 pub mod Texts
 pub mod Puts
 pub mod Orders
-pub mod Turns
+pub mod GivenSpans
 pub mod Counting
+pub mod TextSpans

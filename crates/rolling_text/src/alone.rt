@@ -5,14 +5,12 @@ ghost use Rattle.trace_report.specs.Slots.{AreNames};
 ghost use Rattle.trace_report.specs.TraceText.{entry_line, trace_text};
 ghost use Rattle.rolling_text.specs.Puts.{IsTaken, IsPut, IsCutOff};
 
+use crate::texts::PIECE;
 use log_chain::{Log, Walk};
 use net_model::Model;
 use sim_base::Name;
 use sim_outer::{PutFailed, Sink};
 use trace_report::{Names, write_line};
-
-// How many bytes of lines are put at once.
-const PIECE: usize = 16_384;
 
 // Makes lines of the next entries of a walk, `left` of them, as long as there is place, and counts them down. Returns how
 // many bytes they have.
@@ -25,7 +23,7 @@ fn make_piece(
 ) -> usize
     requires names { AreNames model.now names.now }
     requires left { left.old ≡ length walk.old }
-    requires place { 256 ≤ length piece.old }
+    requires free { 256 ≤ length piece.old }
     ensures text { take result piece.new ++ flat_map (entry_line model.now) walk.new
         ≡ flat_map (entry_line model.now) walk.old }
     ensures within { result ≤ length piece.new }
@@ -44,12 +42,8 @@ fn make_piece(
 
 // Puts the name line as parts of a text.
 fn put_name_line<O: Sink>(name: &Name, out: &mut O) -> Result<(), PutFailed>
-    ensures ok { OnOk result (IsTaken (codes "clone " ++ name.now ++ codes "\n")
-        (record { bytes = O.bytes out.old; faults = O.faults out.old; calls = O.calls out.old })
-        (record { bytes = O.bytes out.new; faults = O.faults out.new; calls = O.calls out.new })) }
-    ensures err { OnErr result (IsCutOff (codes "clone " ++ name.now ++ codes "\n")
-        (record { bytes = O.bytes out.old; faults = O.faults out.old; calls = O.calls out.old })
-        (record { bytes = O.bytes out.new; faults = O.faults out.new; calls = O.calls out.new })) }
+    ensures ok { OnOk result (IsTaken (codes "clone " ++ name.now ++ codes "\n") (O.seen out.old) (O.seen out.new)) }
+    ensures err { OnErr result (IsCutOff (codes "clone " ++ name.now ++ codes "\n") (O.seen out.old) (O.seen out.new)) }
 {
     match out.put_part(b"clone ") {
         Ok(()) => {}
@@ -67,12 +61,8 @@ fn put_name_line<O: Sink>(name: &Name, out: &mut O) -> Result<(), PutFailed>
 
 // Puts the lines of a log as parts of a text.
 fn put_log<O: Sink>(model: &Model, log: &Log, out: &mut O) -> Result<(), PutFailed>
-    ensures ok { OnOk result (IsTaken (flat_map (entry_line model.now) log.now)
-        (record { bytes = O.bytes out.old; faults = O.faults out.old; calls = O.calls out.old })
-        (record { bytes = O.bytes out.new; faults = O.faults out.new; calls = O.calls out.new })) }
-    ensures err { OnErr result (IsCutOff (flat_map (entry_line model.now) log.now)
-        (record { bytes = O.bytes out.old; faults = O.faults out.old; calls = O.calls out.old })
-        (record { bytes = O.bytes out.new; faults = O.faults out.new; calls = O.calls out.new })) }
+    ensures ok { OnOk result (IsTaken (flat_map (entry_line model.now) log.now) (O.seen out.old) (O.seen out.new)) }
+    ensures err { OnErr result (IsCutOff (flat_map (entry_line model.now) log.now) (O.seen out.old) (O.seen out.new)) }
 {
     let names = Names::of(model);
     let mut piece = [0; PIECE];
@@ -96,12 +86,8 @@ pub fn put_alone<O: Sink>(
     log: &Log,
     out: &mut O,
 ) -> Result<(), PutFailed>
-    ensures ok { OnOk result (IsPut (trace_text model.now name.now log.now)
-        (record { bytes = O.bytes out.old; faults = O.faults out.old; calls = O.calls out.old })
-        (record { bytes = O.bytes out.new; faults = O.faults out.new; calls = O.calls out.new })) }
-    ensures err { OnErr result (IsCutOff (trace_text model.now name.now log.now)
-        (record { bytes = O.bytes out.old; faults = O.faults out.old; calls = O.calls out.old })
-        (record { bytes = O.bytes out.new; faults = O.faults out.new; calls = O.calls out.new })) }
+    ensures ok { OnOk result (IsPut (trace_text model.now name.now log.now) (O.seen out.old) (O.seen out.new)) }
+    ensures err { OnErr result (IsCutOff (trace_text model.now name.now log.now) (O.seen out.old) (O.seen out.new)) }
 {
     match put_name_line(name, out) {
         Ok(()) => {}

@@ -1,14 +1,14 @@
 //! The lines of a clone in a span of time, put by one worker or beside makers.
-ghost use Rattle.std.specs.Prelude.{◌≡◌, ◌+◌, ◌<◌, ◌≤◌, true, length, OnOk, OnErr};
-ghost use Rattle.sim_base.specs.Clones.{clone_at};
-ghost use Rattle.rolling_text.specs.Puts.{IsPutTo, IsCutOff};
-ghost use Rattle.rolling_text.specs.Texts.{CanPut, rest};
-ghost use Rattle.rolling_text.specs.Turns.{IsTurn};
+ghost use Rattle.std.specs.Prelude.{◌≡◌, ◌<◌, length, OnOk, OnErr};
+ghost use Rattle.rolling_text.specs.TextSpans.{IsSpanCutOff, IsSpanPut, MayPut, span_of};
+ghost use Rattle.rolling_text.specs.Texts.{CanPut};
+ghost use Rattle.rolling_text.specs.GivenSpans.{IsNextSpan};
 
+use crate::given_spans::{GivenSpans, NextSpan};
 use crate::logs::count_from;
 use crate::making::{Maker, serve_once};
+use crate::text_span::TextSpan;
 use crate::texts::Texts;
-use crate::turns::{Turn, Turns};
 use crate::world_traces::WorldTraces;
 use crate::writing::put_span;
 use sim_outer::{PutFailed, Sink};
@@ -20,95 +20,67 @@ use std::thread::{Threads, join_mut};
 // One worker puts what has fewer lines, since a thread costs more.
 const LONG: u64 = 32_768;
 
-// Puts the lines of a clone from a time on and before another, whose turn it is: those that a maker has made, or else those
-// that this worker makes itself.
-fn put_turn<'a, O: Sink>(
+// Puts the next span: the lines that a maker has made, or else those that this worker makes itself.
+fn put_next<'a, O: Sink>(
     traces: &WorldTraces<'a>,
-    turn: Turn,
+    next: NextSpan,
     texts: &mut Texts<'a>,
-    c: u32,
-    from: u64,
-    until: u64,
-    keeps: bool,
+    span: TextSpan,
     out: &mut O,
 ) -> Result<(), PutFailed>
-    requires there { c < length traces.now.clones }
-    requires order { from ≤ until }
-    requires turn { IsTurn (record {
-      net = traces.now.net;
-      list = clone_at traces.now.clones c;
-      from = from;
-      until = until;
-    }) turn }
-    requires can { CanPut traces.now.net texts.old }
-    requires fits { keeps ≡ true → length texts.old.page.text
-        + length (rest traces.now.net (clone_at traces.now.clones c) from) ≤ texts.old.page.reserved }
-    ensures ok { OnOk result (IsPutTo keeps (rest traces.now.net (clone_at traces.now.clones c) from)
-        (rest traces.now.net (clone_at traces.now.clones c) until) texts.old.page texts.new.page
-        (record { bytes = O.bytes out.old; faults = O.faults out.old; calls = O.calls out.old })
-        (record { bytes = O.bytes out.new; faults = O.faults out.new; calls = O.calls out.new })) }
-    ensures err { OnErr result (IsCutOff (rest traces.now.net (clone_at traces.now.clones c) from)
-        (record { bytes = O.bytes out.old; faults = O.faults out.old; calls = O.calls out.old })
-        (record { bytes = O.bytes out.new; faults = O.faults out.new; calls = O.calls out.new })) }
+    requires next { IsNextSpan (span_of traces.now span) next }
+    requires may { MayPut traces.now span texts.old }
+    ensures ok { OnOk result (IsSpanPut traces.now span texts.old.page texts.new.page
+        (O.seen out.old) (O.seen out.new)) }
+    ensures err { OnErr result (IsSpanCutOff traces.now span (O.seen out.old) (O.seen out.new)) }
     ensures can { CanPut traces.now.net texts.new }
 {
-    match turn {
-        Turn::Made(lines) => match texts.page.put_part(&lines, keeps, out) {
+    match next {
+        NextSpan::Made(lines) => match texts.page.put_part(&lines, span.keeps, out) {
             Ok(()) => Ok(()),
             Err(failed) => Err(failed),
         },
-        Turn::Own => put_span(traces, texts, c, from, until, keeps, out),
+        NextSpan::Own => put_span(traces, texts, span, out),
     }
 }
 
-// Puts the lines of a clone from a time on and before another, of which makers have the first spans, and this worker the one
-// behind them: while it puts its own, they make the next ones. Where one is out of memory, it puts what is left, and takes
-// none.
-fn put_turns<'a, O: Sink, R: Wait>(
+// Puts a span that is given to makers piece by piece, and every so often to this worker: while it puts its own piece, they
+// make the next ones. Where one is out of memory, it puts what is left, and takes none.
+fn put_given<'a, O: Sink, R: Wait>(
     rt: &R,
     alloc: Global,
     traces: &WorldTraces<'a>,
-    turns: &mut Turns<'_>,
+    given: &mut GivenSpans<'_>,
     texts: &mut Texts<'a>,
-    c: u32,
-    from: u64,
-    until: u64,
-    keeps: bool,
+    span: TextSpan,
     out: &mut O,
 ) -> Result<(), PutFailed>
-    requires there { c < length traces.now.clones }
-    requires order { from ≤ until }
-    requires turns { turns.old ≡ record {
-      net = traces.now.net;
-      list = clone_at traces.now.clones c;
-      from = from;
-      until = until;
-    } }
-    requires can { CanPut traces.now.net texts.old }
-    requires fits { keeps ≡ true → length texts.old.page.text
-        + length (rest traces.now.net (clone_at traces.now.clones c) from) ≤ texts.old.page.reserved }
-    ensures ok { OnOk result (IsPutTo keeps (rest traces.now.net (clone_at traces.now.clones c) from)
-        (rest traces.now.net (clone_at traces.now.clones c) until) texts.old.page texts.new.page
-        (record { bytes = O.bytes out.old; faults = O.faults out.old; calls = O.calls out.old })
-        (record { bytes = O.bytes out.new; faults = O.faults out.new; calls = O.calls out.new })) }
-    ensures err { OnErr result (IsCutOff (rest traces.now.net (clone_at traces.now.clones c) from)
-        (record { bytes = O.bytes out.old; faults = O.faults out.old; calls = O.calls out.old })
-        (record { bytes = O.bytes out.new; faults = O.faults out.new; calls = O.calls out.new })) }
+    requires given { given.old ≡ span_of traces.now span }
+    requires may { MayPut traces.now span texts.old }
+    ensures ok { OnOk result (IsSpanPut traces.now span texts.old.page texts.new.page
+        (O.seen out.old) (O.seen out.new)) }
+    ensures err { OnErr result (IsSpanCutOff traces.now span (O.seen out.old) (O.seen out.new)) }
     ensures can { CanPut traces.now.net texts.new }
 {
-    let mut made = from;
-    for _ in 0..turns.count() {
-        let Some(turn) = turns.next(rt, alloc) else {
+    let mut made = span.from;
+    for _ in 0..given.count() {
+        let Some(next) = given.next(rt, alloc) else {
             break;
         };
-        let next = turns.made();
-        match put_turn(traces, turn, texts, c, made, next, keeps, out) {
+        let until = given.made();
+        let first = TextSpan {
+            from: made,
+            until,
+            ..span
+        };
+        match put_next(traces, next, texts, first, out) {
             Ok(()) => {}
             Err(failed) => return Err(failed),
         }
-        made = next;
+        made = until;
     }
-    put_span(traces, texts, c, made, until, keeps, out)
+    let left = TextSpan { from: made, ..span };
+    put_span(traces, texts, left, out)
 }
 
 // The same beside the makers, which end then.
@@ -116,60 +88,30 @@ fn put_beside<'a, O: Sink, R: Threads + Wait + Sync>(
     rt: &R,
     alloc: Global,
     traces: &WorldTraces<'a>,
-    turns: &mut Turns<'_>,
+    given: &mut GivenSpans<'_>,
     makers: Vec<Maker<'_>>,
     texts: &mut Texts<'a>,
-    c: u32,
-    from: u64,
-    until: u64,
-    keeps: bool,
+    span: TextSpan,
     out: &mut O,
 ) -> Result<(), PutFailed>
-    requires there { c < length traces.now.clones }
-    requires order { from ≤ until }
-    requires turns { turns.old ≡ record {
-      net = traces.now.net;
-      list = clone_at traces.now.clones c;
-      from = from;
-      until = until;
-    } }
-    requires can { CanPut traces.now.net texts.old }
-    requires fits { keeps ≡ true → length texts.old.page.text
-        + length (rest traces.now.net (clone_at traces.now.clones c) from) ≤ texts.old.page.reserved }
-    ensures ok { OnOk result (IsPutTo keeps (rest traces.now.net (clone_at traces.now.clones c) from)
-        (rest traces.now.net (clone_at traces.now.clones c) until) texts.old.page texts.new.page
-        (record { bytes = O.bytes out.old; faults = O.faults out.old; calls = O.calls out.old })
-        (record { bytes = O.bytes out.new; faults = O.faults out.new; calls = O.calls out.new })) }
-    ensures err { OnErr result (IsCutOff (rest traces.now.net (clone_at traces.now.clones c) from)
-        (record { bytes = O.bytes out.old; faults = O.faults out.old; calls = O.calls out.old })
-        (record { bytes = O.bytes out.new; faults = O.faults out.new; calls = O.calls out.new })) }
+    requires given { given.old ≡ span_of traces.now span }
+    requires may { MayPut traces.now span texts.old }
+    ensures ok { OnOk result (IsSpanPut traces.now span texts.old.page texts.new.page
+        (O.seen out.old) (O.seen out.new)) }
+    ensures err { OnErr result (IsSpanCutOff traces.now span (O.seen out.old) (O.seen out.new)) }
     ensures can { CanPut traces.now.net texts.new }
 {
     let ended = AtomicBool::new(false);
     let mut makers = Some(makers);
     let mut make = || serve_once(rt, alloc, &ended, &mut makers);
     let mut put = || -> Result<(), PutFailed>
-        requires { (c < length traces.now.clones) × (from ≤ until)
-            × (turns.now ≡ record {
-              net = traces.now.net;
-              list = clone_at traces.now.clones c;
-              from = from;
-              until = until;
-            })
-            × CanPut traces.now.net texts.now
-            × (keeps ≡ true → length texts.now.page.text
-            + length (rest traces.now.net (clone_at traces.now.clones c) from) ≤ texts.now.page.reserved) }
-        ensures { OnOk result (IsPutTo keeps (rest traces.entry.now.net (clone_at traces.entry.now.clones c) from)
-            (rest traces.entry.now.net (clone_at traces.entry.now.clones c) until)
-            texts.entry.now.page texts.exit.now.page
-            (record { bytes = O.bytes out.entry.now; faults = O.faults out.entry.now; calls = O.calls out.entry.now })
-            (record { bytes = O.bytes out.exit.now; faults = O.faults out.exit.now; calls = O.calls out.exit.now }))
-            × OnErr result (IsCutOff (rest traces.entry.now.net (clone_at traces.entry.now.clones c) from)
-            (record { bytes = O.bytes out.entry.now; faults = O.faults out.entry.now; calls = O.calls out.entry.now })
-            (record { bytes = O.bytes out.exit.now; faults = O.faults out.exit.now; calls = O.calls out.exit.now }))
+        requires { (given.now ≡ span_of traces.now span) × MayPut traces.now span texts.now }
+        ensures { OnOk result (IsSpanPut traces.entry.now span texts.entry.now.page texts.exit.now.page
+            (O.seen out.entry.now) (O.seen out.exit.now))
+            × OnErr result (IsSpanCutOff traces.entry.now span (O.seen out.entry.now) (O.seen out.exit.now))
             × CanPut traces.entry.now.net texts.exit.now }
     {
-        let done = put_turns(rt, alloc, traces, turns, texts, c, from, until, keeps, out);
+        let done = put_given(rt, alloc, traces, given, texts, span, out);
         ended.store(true, Ordering::SeqCst);
         done
     };
@@ -177,51 +119,37 @@ fn put_beside<'a, O: Sink, R: Threads + Wait + Sync>(
     done
 }
 
-// Whether a clone has few lines from a time on and before another.
-fn is_short(traces: &WorldTraces<'_>, c: u32, from: u64, until: u64) -> bool
-    requires there { c < length traces.now.clones }
+// Whether a span has few lines.
+fn is_short(traces: &WorldTraces<'_>, span: TextSpan) -> bool
+    requires there { span.c < length traces.now.clones }
 {
-    let all = count_from(traces.world, c, from);
-    all.saturating_sub(count_from(traces.world, c, until)) < LONG
+    let all = count_from(traces.world, span.c, span.from);
+    all.saturating_sub(count_from(traces.world, span.c, span.until)) < LONG
 }
 
-/// Puts the lines of a clone from a time on and before another, and keeps them if that is asked for: by one worker, where
-/// there are few lines, and else beside makers.
+/// Puts a span: by one worker, where it has few lines, and else beside makers.
 pub(crate) fn put_lines<'a, O: Sink, R: Threads + Wait + Sync>(
     rt: &R,
     alloc: Global,
     traces: &WorldTraces<'a>,
     workers: u32,
     texts: &mut Texts<'a>,
-    c: u32,
-    from: u64,
-    until: u64,
-    keeps: bool,
+    span: TextSpan,
     out: &mut O,
 ) -> Result<(), PutFailed>
-    requires there { c < length traces.now.clones }
-    requires order { from ≤ until }
-    requires can { CanPut traces.now.net texts.old }
-    requires fits { keeps ≡ true → length texts.old.page.text
-        + length (rest traces.now.net (clone_at traces.now.clones c) from) ≤ texts.old.page.reserved }
-    ensures ok { OnOk result (IsPutTo keeps (rest traces.now.net (clone_at traces.now.clones c) from)
-        (rest traces.now.net (clone_at traces.now.clones c) until) texts.old.page texts.new.page
-        (record { bytes = O.bytes out.old; faults = O.faults out.old; calls = O.calls out.old })
-        (record { bytes = O.bytes out.new; faults = O.faults out.new; calls = O.calls out.new })) }
-    ensures err { OnErr result (IsCutOff (rest traces.now.net (clone_at traces.now.clones c) from)
-        (record { bytes = O.bytes out.old; faults = O.faults out.old; calls = O.calls out.old })
-        (record { bytes = O.bytes out.new; faults = O.faults out.new; calls = O.calls out.new })) }
+    requires may { MayPut traces.now span texts.old }
+    ensures ok { OnOk result (IsSpanPut traces.now span texts.old.page texts.new.page
+        (O.seen out.old) (O.seen out.new)) }
+    ensures err { OnErr result (IsSpanCutOff traces.now span (O.seen out.old) (O.seen out.new)) }
     ensures can { CanPut traces.now.net texts.new }
 {
-    if workers <= 1 || is_short(traces, c, from, until) {
-        return put_span(traces, texts, c, from, until, keeps, out);
+    if workers <= 1 || is_short(traces, span) {
+        return put_span(traces, texts, span, out);
     }
-    // lent again, since the turns are shorter than what the traces lend
-    let mut turns = Turns::new(alloc, &*traces, c, from, until);
-    match turns.begin(alloc, u64::from(workers - 1)) {
-        Ok(makers) => put_beside(
-            rt, alloc, traces, &mut turns, makers, texts, c, from, until, keeps, out,
-        ),
-        Err(_) => put_span(traces, texts, c, from, until, keeps, out),
+    // lent again, since the spans live shorter than what the traces lend
+    let mut given = GivenSpans::new(alloc, &*traces, span.c, span.from, span.until);
+    match given.begin(alloc, u64::from(workers - 1)) {
+        Ok(makers) => put_beside(rt, alloc, traces, &mut given, makers, texts, span, out),
+        Err(_) => put_span(traces, texts, span, out),
     }
 }

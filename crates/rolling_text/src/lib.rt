@@ -18,7 +18,7 @@
 //! ```
 //!
 //! A text is put in one call, whose parts are put as they are made: the name line and what is kept of the text before it,
-//! and then its own lines, 32 KiB at a time. Of these the next text's are kept, in a buffer for which `prepare` reserves
+//! and then its own lines, 16 KiB at a time. Of these the next text's are kept, in a buffer for which `prepare` reserves
 //! 256 bytes a line, and no line is longer; memory that nothing kept reaches is never touched. So the text of a clone that
 //! no other follows takes hardly any memory. A line that is not kept costs its entry from the stations' logs, merged by
 //! key, and its bytes. `put_alone` puts the text of one log in the same way.
@@ -44,6 +44,7 @@ mod alone;
 mod beside;
 mod bounds;
 mod cuts;
+mod given_spans;
 pub mod laws;
 mod lines;
 mod logs;
@@ -51,8 +52,8 @@ mod making;
 mod page;
 mod parting;
 mod putting;
+mod text_span;
 mod texts;
-mod turns;
 mod world_traces;
 mod writing;
 

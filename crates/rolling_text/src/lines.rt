@@ -10,6 +10,7 @@ ghost use Rattle.rolling_text.specs.Puts.{IsPutTo, IsCutOff};
 ghost use Rattle.rolling_text.specs.WorldTraces.{IsOver};
 
 use crate::page::Page;
+use crate::texts::PIECE;
 use net_model::Model;
 use sim_base::NoMemory;
 use sim_outer::{PutFailed, Sink};
@@ -17,18 +18,15 @@ use trace_cursor::Cursor;
 use trace_report::{Names, write_line};
 use world_core::World;
 
-// How many bytes of lines a maker makes at once: beside its buffer, since a line's pieces reach past its end.
-const PIECE: usize = 8192;
-
 /// Gives a cursor what the logs of a clone have from a time on. Returns how many entries that is.
 pub(crate) fn gather<'a>(cursor: &mut Cursor<'a>, world: &'a World, c: u32, time: u64) -> u64
     requires over { IsOver world.now }
     requires there { c < length world.now.clones }
-    requires place { cursor.old.most ≡ length world.now.net.sites }
+    requires most { cursor.old.most ≡ length world.now.net.sites }
     ensures left { cursor.new.left ≡ from_on (simulation world.now.net) time
         (trace_of world.now.net (clone_at world.now.clones c)) }
     ensures count { result ≡ length cursor.new.left }
-    ensures place { cursor.new.most ≡ cursor.old.most }
+    ensures most { cursor.new.most ≡ cursor.old.most }
 {
     cursor.clear();
     let mut count: u64 = 0;
@@ -52,7 +50,7 @@ fn make_piece(
 ) -> usize
     requires names { AreNames model.now names.now }
     requires left { left.old ≤ length cursor.old.left }
-    requires place { 256 ≤ length piece.old }
+    requires free { 256 ≤ length piece.old }
     ensures text { take result piece.new ++ flat_map (entry_line model.now) cursor.new.left
         ≡ flat_map (entry_line model.now) cursor.old.left }
     ensures within { result ≤ length piece.new }
@@ -87,6 +85,7 @@ pub(crate) fn add_entries(
         ≡ bytes.old.items ++ flat_map (entry_line model.now) cursor.old.left) }
     ensures left { OnOk result (cursor.new.left ≡ drop count cursor.old.left) }
 {
+    // beside the buffer, since a line's pieces reach past its end
     let mut piece = [0; PIECE];
     let mut left = count;
     while left > 0 {
@@ -112,16 +111,13 @@ pub(crate) fn put_entries<O: Sink>(
 ) -> Result<(), PutFailed>
     requires names { AreNames model.now names.now }
     requires count { count ≤ length cursor.old.left }
-    requires place { 256 ≤ length piece.old }
+    requires free { 256 ≤ length piece.old }
     requires fits { keeps ≡ true → length page.old.text + length (flat_map (entry_line model.now) cursor.old.left)
         ≤ page.old.reserved }
     ensures ok { OnOk result (IsPutTo keeps (flat_map (entry_line model.now) cursor.old.left)
-        (flat_map (entry_line model.now) cursor.new.left) page.old page.new
-        (record { bytes = O.bytes out.old; faults = O.faults out.old; calls = O.calls out.old })
-        (record { bytes = O.bytes out.new; faults = O.faults out.new; calls = O.calls out.new })) }
+        (flat_map (entry_line model.now) cursor.new.left) page.old page.new (O.seen out.old) (O.seen out.new)) }
     ensures err { OnErr result (IsCutOff (flat_map (entry_line model.now) cursor.old.left)
-        (record { bytes = O.bytes out.old; faults = O.faults out.old; calls = O.calls out.old })
-        (record { bytes = O.bytes out.new; faults = O.faults out.new; calls = O.calls out.new })) }
+        (O.seen out.old) (O.seen out.new)) }
     ensures left { OnOk result (cursor.new.left ≡ drop count cursor.old.left) }
     ensures size { length piece.new ≡ length piece.old }
     ensures most { cursor.new.most ≡ cursor.old.most }

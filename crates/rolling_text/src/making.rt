@@ -51,7 +51,7 @@ impl<'a> Errand<Order<'a>, Made> for LinesOfSpans {
 }
 
 /// The caller's end of one maker's mailbox.
-pub(crate) type Line<'a> = Caller<Order<'a>, Made, LinesOfSpans>;
+pub(crate) type CallerEnd<'a> = Caller<Order<'a>, Made, LinesOfSpans>;
 
 /// A maker's end of its mailbox.
 #[derive(Drop)]
@@ -98,11 +98,11 @@ impl<'a> Order<'a> {
 }
 
 /// A maker, and the caller's end of its mailbox.
-pub(crate) fn open_line<'a>(alloc: Global) -> Result<(Line<'a>, Maker<'a>), NoMemory>
+pub(crate) fn open_maker<'a>(alloc: Global) -> Result<(CallerEnd<'a>, Maker<'a>), NoMemory>
     ensures idle { IfOk result (λ ends. ends.0 ≡ None) }
 {
-    let (line, orders) = mailbox::open(alloc)?;
-    Ok((line, Maker { orders }))
+    let (caller, orders) = mailbox::open(alloc)?;
+    Ok((caller, Maker { orders }))
 }
 
 // A maker's part: it makes what is ordered, until no more comes.
@@ -140,14 +140,14 @@ fn serve_all<R: Threads + Wait + Sync>(
 }
 
 /// Makes what was ordered if the maker has not begun it, else waits for its answer.
-pub(crate) fn finish<R: Wait>(rt: &R, alloc: Global, line: &mut Line<'_>) -> Made
-    requires given { (span : Span) × (line.old ≡ Some span) }
-    ensures idle { line.new ≡ None }
-    ensures made { (span : Span) → line.old ≡ Some span → IfOk result (λ bytes. IsMade span bytes.items) }
+pub(crate) fn finish<R: Wait>(rt: &R, alloc: Global, mailbox: &mut CallerEnd<'_>) -> Made
+    requires given { (span : Span) × (mailbox.old ≡ Some span) }
+    ensures idle { mailbox.new ≡ None }
+    ensures made { (span : Span) → mailbox.old ≡ Some span → IfOk result (λ bytes. IsMade span bytes.items) }
 {
-    match line.take_back() {
+    match mailbox.take_back() {
         Some(order) => order.make(alloc),
-        None => line.collect(rt),
+        None => mailbox.collect(rt),
     }
 }
 

@@ -1,5 +1,6 @@
 //! A buffer whose memory is taken once, and written forward.
-ghost use Rattle.std.specs.Prelude.{◌≡◌, ◌+◌, ◌^◌, ◌<◌, ◌≤◌, ◌++◌, [], true, if◌then◌else◌, length, take, drop, IfOk, OnOk, OnErr};
+ghost use Rattle.std.specs.Prelude.{◌≡◌, ◌+◌, ◌^◌, ◌<◌, ◌≤◌, ◌++◌, [], true, if◌then◌else◌};
+ghost use Rattle.std.specs.Prelude.{length, take, drop, IfOk, OnOk, OnErr};
 ghost use Rattle.rolling_text.specs.Puts.{IsTaken, IsPutTo, IsCutOff};
 
 use sim_base::NoMemory;
@@ -82,12 +83,8 @@ impl Page {
         out: &mut O,
     ) -> Result<(), PutFailed>
         requires fits { keeps ≡ true → length self.old.text + length part.now ≤ self.old.reserved }
-        ensures ok { OnOk result (IsPutTo keeps part.now [] self.old self.new
-            (record { bytes = O.bytes out.old; faults = O.faults out.old; calls = O.calls out.old })
-            (record { bytes = O.bytes out.new; faults = O.faults out.new; calls = O.calls out.new })) }
-        ensures err { OnErr result (IsCutOff part.now
-            (record { bytes = O.bytes out.old; faults = O.faults out.old; calls = O.calls out.old })
-            (record { bytes = O.bytes out.new; faults = O.faults out.new; calls = O.calls out.new })) }
+        ensures ok { OnOk result (IsPutTo keeps part.now [] self.old self.new (O.seen out.old) (O.seen out.new)) }
+        ensures err { OnErr result (IsCutOff part.now (O.seen out.old) (O.seen out.new)) }
     {
         self.keep(part, keeps);
         match out.put_part(part) {
@@ -99,12 +96,8 @@ impl Page {
     /// Puts this text from a place on, as a part.
     pub fn put_from<O: Sink>(&self, start: usize, out: &mut O) -> Result<(), PutFailed>
         requires within { start ≤ length self.now.text }
-        ensures ok { OnOk result (IsTaken (drop start self.now.text)
-            (record { bytes = O.bytes out.old; faults = O.faults out.old; calls = O.calls out.old })
-            (record { bytes = O.bytes out.new; faults = O.faults out.new; calls = O.calls out.new })) }
-        ensures err { OnErr result (IsCutOff (drop start self.now.text)
-            (record { bytes = O.bytes out.old; faults = O.faults out.old; calls = O.calls out.old })
-            (record { bytes = O.bytes out.new; faults = O.faults out.new; calls = O.calls out.new })) }
+        ensures ok { OnOk result (IsTaken (drop start self.now.text) (O.seen out.old) (O.seen out.new)) }
+        ensures err { OnErr result (IsCutOff (drop start self.now.text) (O.seen out.old) (O.seen out.new)) }
     {
         match out.put_part(&self.bytes[start..]) {
             Ok(()) => Ok(()),

@@ -12,6 +12,7 @@ use crate::beside::put_lines;
 use crate::bounds::parts_at;
 use crate::logs::len_between;
 use crate::page::Page;
+use crate::text_span::TextSpan;
 use crate::texts::Texts;
 use crate::world_traces::WorldTraces;
 use sim_base::Name;
@@ -37,16 +38,17 @@ fn put_head(page: &mut Page, name: &Name) -> usize
     at - 6
 }
 
-// Cuts the page to the lines that a clone has in common with the one before it, of which so many bytes are dropped, and puts
-// its name line before them. Returns where that begins.
-fn begin_text(traces: &WorldTraces<'_>, c: u32, dropped: usize, page: &mut Page) -> usize
+// Cuts the page to the lines that a clone has in common with the one before it, from which it parts at a time, so that so
+// many bytes are dropped, and puts its name line before them. Returns where that begins.
+fn begin_text(traces: &WorldTraces<'_>, c: u32, time: u64, dropped: usize, page: &mut Page) -> usize
     requires there { c < length traces.now.clones }
+    requires time { time ≡ parting_at traces.now.net traces.now.clones c }
     requires margin { 32 ≤ length page.old.text }
     requires left { AreLeft traces.now.net traces.now.clones c dropped (drop 32 page.old.text) }
-    ensures text { drop result page.new.text ++ rest traces.now.net (clone_at traces.now.clones c)
-        (parting_at traces.now.net traces.now.clones c) ≡ clone_text traces.now.net (clone_at traces.now.clones c) }
-    ensures lines { drop 32 page.new.text ++ rest traces.now.net (clone_at traces.now.clones c)
-        (parting_at traces.now.net traces.now.clones c) ≡ body traces.now.net (clone_at traces.now.clones c) }
+    ensures text { drop result page.new.text ++ rest traces.now.net (clone_at traces.now.clones c) time
+        ≡ clone_text traces.now.net (clone_at traces.now.clones c) }
+    ensures lines { drop 32 page.new.text ++ rest traces.now.net (clone_at traces.now.clones c) time
+        ≡ body traces.now.net (clone_at traces.now.clones c) }
     ensures margin { 32 ≤ length page.new.text }
     ensures start { result ≤ 32 }
     ensures reserved { page.new.reserved ≡ page.old.reserved }
@@ -76,23 +78,33 @@ fn put_rest<'a, O: Sink, R: Threads + Wait + Sync>(
     requires fits { length texts.old.page.text + length (rest traces.now.net (clone_at traces.now.clones c) time)
         ≤ texts.old.page.reserved }
     ensures ok { OnOk result (IsTaken (rest traces.now.net (clone_at traces.now.clones c) time)
-        (record { bytes = O.bytes out.old; faults = O.faults out.old; calls = O.calls out.old })
-        (record { bytes = O.bytes out.new; faults = O.faults out.new; calls = O.calls out.new })) }
+        (O.seen out.old) (O.seen out.new)) }
     ensures kept { OnOk result (texts.new.page.text ++ rest traces.now.net (clone_at traces.now.clones c) late
         ≡ texts.old.page.text ++ rest traces.now.net (clone_at traces.now.clones c) time) }
     ensures longer { OnOk result (length texts.old.page.text ≤ length texts.new.page.text) }
     ensures reserved { OnOk result (texts.old.page.reserved ≤ texts.new.page.reserved) }
     ensures err { OnErr result (IsCutOff (rest traces.now.net (clone_at traces.now.clones c) time)
-        (record { bytes = O.bytes out.old; faults = O.faults out.old; calls = O.calls out.old })
-        (record { bytes = O.bytes out.new; faults = O.faults out.new; calls = O.calls out.new })) }
+        (O.seen out.old) (O.seen out.new)) }
     ensures can { CanPut traces.now.net texts.new }
 {
     let end = late.max(traces.world.model().horizon());
-    match put_lines(rt, alloc, traces, workers, texts, c, time, late, true, out) {
+    let kept = TextSpan {
+        c,
+        from: time,
+        until: late,
+        keeps: true,
+    };
+    match put_lines(rt, alloc, traces, workers, texts, kept, out) {
         Ok(()) => {}
         Err(failed) => return Err(failed),
     }
-    match put_lines(rt, alloc, traces, workers, texts, c, late, end, false, out) {
+    let others = TextSpan {
+        c,
+        from: late,
+        until: end,
+        keeps: false,
+    };
+    match put_lines(rt, alloc, traces, workers, texts, others, out) {
         Ok(()) => Ok(()),
         Err(failed) => Err(failed),
     }
@@ -117,11 +129,9 @@ fn put_text<'a, O: Sink, R: Threads + Wait + Sync>(
     requires margin { 32 ≤ length texts.old.page.text }
     requires left { AreLeft traces.now.net traces.now.clones c dropped (drop 32 texts.old.page.text) }
     ensures ok { OnOk result (IsPut (clone_text traces.now.net (clone_at traces.now.clones c))
-        (record { bytes = O.bytes out.old; faults = O.faults out.old; calls = O.calls out.old })
-        (record { bytes = O.bytes out.new; faults = O.faults out.new; calls = O.calls out.new })) }
+        (O.seen out.old) (O.seen out.new)) }
     ensures err { OnErr result (IsCutOff (clone_text traces.now.net (clone_at traces.now.clones c))
-        (record { bytes = O.bytes out.old; faults = O.faults out.old; calls = O.calls out.old })
-        (record { bytes = O.bytes out.new; faults = O.faults out.new; calls = O.calls out.new })) }
+        (O.seen out.old) (O.seen out.new)) }
     ensures left { IfOk result (λ n. next ≡ parting_at traces.now.net traces.now.clones (c + 1) →
         AreLeft traces.now.net traces.now.clones (c + 1) n (drop 32 texts.new.page.text)) }
     ensures margin { OnOk result (32 ≤ length texts.new.page.text) }
@@ -130,7 +140,7 @@ fn put_text<'a, O: Sink, R: Threads + Wait + Sync>(
 {
     let time = parts_at(traces, c);
     let late = time.max(next);
-    let start = begin_text(traces, c, dropped, &mut texts.page);
+    let start = begin_text(traces, c, time, dropped, &mut texts.page);
     match texts.page.put_from(start, out) {
         Ok(()) => {}
         Err(failed) => return Err(failed),
@@ -155,14 +165,14 @@ fn put_all<'a, O: Sink, R: Threads + Wait + Sync>(
     out: &mut O,
 ) -> Result<(), PutFailed>
     requires ready { IsReady traces.now.net traces.now.clones texts.old }
-    ensures ok { OnOk result (Appended (O.bytes out.old) (clone_texts traces.now.net traces.now.clones)
-        (O.bytes out.new)) }
-    ensures part { OnErr result (PartAppended (O.bytes out.old) (clone_texts traces.now.net traces.now.clones)
-        (O.bytes out.new)) }
-    ensures cause { OnErr result (Rose (O.faults out.old) (O.faults out.new)) }
-    ensures later { O.faults out.old ≤ O.faults out.new }
-    ensures each { OnOk result (AreCounted (length traces.now.clones) (O.calls out.old) (O.calls out.new)) }
-    ensures some { OnErr result (AreCountedTo (length traces.now.clones) (O.calls out.old) (O.calls out.new)) }
+    ensures ok { OnOk result (Appended (O.seen out.old).bytes (clone_texts traces.now.net traces.now.clones)
+        (O.seen out.new).bytes) }
+    ensures part { OnErr result (PartAppended (O.seen out.old).bytes (clone_texts traces.now.net traces.now.clones)
+        (O.seen out.new).bytes) }
+    ensures cause { OnErr result (Rose (O.seen out.old).faults (O.seen out.new).faults) }
+    ensures later { (O.seen out.old).faults ≤ (O.seen out.new).faults }
+    ensures each { OnOk result (AreCounted (length traces.now.clones) (O.seen out.old).calls (O.seen out.new).calls) }
+    ensures some { OnErr result (AreCountedTo (length traces.now.clones) (O.seen out.old).calls (O.seen out.new).calls) }
 {
     let clones = traces.len();
     let mut dropped = 0;
@@ -190,14 +200,14 @@ pub fn put_texts<'a, O: Sink, R: Threads + Wait + Sync>(
     out: &mut O,
 ) -> Result<(), PutFailed>
     requires ready { IsReady traces.now.net traces.now.clones texts }
-    ensures ok { OnOk result (Appended (O.bytes out.old) (clone_texts traces.now.net traces.now.clones)
-        (O.bytes out.new)) }
-    ensures part { OnErr result (PartAppended (O.bytes out.old) (clone_texts traces.now.net traces.now.clones)
-        (O.bytes out.new)) }
-    ensures cause { OnErr result (Rose (O.faults out.old) (O.faults out.new)) }
-    ensures later { O.faults out.old ≤ O.faults out.new }
-    ensures each { OnOk result (AreCounted (length traces.now.clones) (O.calls out.old) (O.calls out.new)) }
-    ensures some { OnErr result (AreCountedTo (length traces.now.clones) (O.calls out.old) (O.calls out.new)) }
+    ensures ok { OnOk result (Appended (O.seen out.old).bytes (clone_texts traces.now.net traces.now.clones)
+        (O.seen out.new).bytes) }
+    ensures part { OnErr result (PartAppended (O.seen out.old).bytes (clone_texts traces.now.net traces.now.clones)
+        (O.seen out.new).bytes) }
+    ensures cause { OnErr result (Rose (O.seen out.old).faults (O.seen out.new).faults) }
+    ensures later { (O.seen out.old).faults ≤ (O.seen out.new).faults }
+    ensures each { OnOk result (AreCounted (length traces.now.clones) (O.seen out.old).calls (O.seen out.new).calls) }
+    ensures some { OnErr result (AreCountedTo (length traces.now.clones) (O.seen out.old).calls (O.seen out.new).calls) }
 {
     let mut texts = texts;
     put_all(rt, alloc, traces, workers, &mut texts, out)

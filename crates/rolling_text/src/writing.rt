@@ -1,14 +1,15 @@
 //! The lines of a clone in a span of time: put, or in a buffer of their own.
-ghost use Rattle.std.specs.Prelude.{◌≡◌, ◌+◌, ◌<◌, ◌≤◌, ◌++◌, true, length, drop, IfOk, OnOk, OnErr};
+ghost use Rattle.std.specs.Prelude.{◌≡◌, ◌<◌, ◌≤◌, ◌++◌, length, drop, IfOk, OnOk, OnErr};
 ghost use Rattle.sim_base.specs.Clones.{clone_at};
 ghost use Rattle.stations.specs.Runs.{simulation, trace_of};
 ghost use Rattle.run_laws.specs.SharedTexts.{from_on};
-ghost use Rattle.rolling_text.specs.Puts.{IsPutTo, IsCutOff};
+ghost use Rattle.rolling_text.specs.TextSpans.{IsSpanCutOff, IsSpanPut, MayPut};
 ghost use Rattle.rolling_text.specs.Texts.{CanPut, rest};
 ghost use Rattle.rolling_text.specs.WorldTraces.{IsWalk};
 
 use crate::lines::{add_entries, gather, put_entries};
 use crate::logs::count_from;
+use crate::text_span::TextSpan;
 use crate::texts::Texts;
 use crate::world_traces::WorldTraces;
 use sim_base::NoMemory;
@@ -66,31 +67,20 @@ pub(crate) fn make_lines(
     Ok(bytes)
 }
 
-/// Puts the lines of a clone from a time on and before another, and keeps them if that is asked for.
+/// Puts a span.
 pub(crate) fn put_span<'a, O: Sink>(
     traces: &WorldTraces<'a>,
     texts: &mut Texts<'a>,
-    c: u32,
-    from: u64,
-    until: u64,
-    keeps: bool,
+    span: TextSpan,
     out: &mut O,
 ) -> Result<(), PutFailed>
-    requires there { c < length traces.now.clones }
-    requires order { from ≤ until }
-    requires can { CanPut traces.now.net texts.old }
-    requires fits { keeps ≡ true → length texts.old.page.text
-        + length (rest traces.now.net (clone_at traces.now.clones c) from) ≤ texts.old.page.reserved }
-    ensures ok { OnOk result (IsPutTo keeps (rest traces.now.net (clone_at traces.now.clones c) from)
-        (rest traces.now.net (clone_at traces.now.clones c) until) texts.old.page texts.new.page
-        (record { bytes = O.bytes out.old; faults = O.faults out.old; calls = O.calls out.old })
-        (record { bytes = O.bytes out.new; faults = O.faults out.new; calls = O.calls out.new })) }
-    ensures err { OnErr result (IsCutOff (rest traces.now.net (clone_at traces.now.clones c) from)
-        (record { bytes = O.bytes out.old; faults = O.faults out.old; calls = O.calls out.old })
-        (record { bytes = O.bytes out.new; faults = O.faults out.new; calls = O.calls out.new })) }
+    requires may { MayPut traces.now span texts.old }
+    ensures ok { OnOk result (IsSpanPut traces.now span texts.old.page texts.new.page
+        (O.seen out.old) (O.seen out.new)) }
+    ensures err { OnErr result (IsSpanCutOff traces.now span (O.seen out.old) (O.seen out.new)) }
     ensures can { CanPut traces.now.net texts.new }
 {
-    let count = gather_span(traces, &mut texts.walk, c, from, until);
+    let count = gather_span(traces, &mut texts.walk, span.c, span.from, span.until);
     let model = traces.world.model();
     put_entries(
         &mut texts.walk,
@@ -99,7 +89,7 @@ pub(crate) fn put_span<'a, O: Sink>(
         &traces.names,
         &mut texts.piece,
         &mut texts.page,
-        keeps,
+        span.keeps,
         out,
     )
 }

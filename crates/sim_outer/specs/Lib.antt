@@ -1,6 +1,6 @@
 pub mod Bytes
 pub mod Causes
-pub mod Sinks
+pub mod Views
 pub mod Files
 pub mod MemSinkView
 pub mod MemInputsView

@@ -1,7 +1,8 @@
 //! Inputs.
-ghost use Rattle.std.specs.Prelude.{◌≡◌, ◌≤◌, ◌⊎◌, ℕ, Option, IfOk, IfErr};
+ghost use Rattle.std.specs.Prelude.{◌≡◌, ◌≤◌, ◌⊎◌, IfOk, IfErr};
 ghost use Rattle.sim_outer.specs.Causes.{Counted, Rose};
-ghost use Rattle.sim_outer.specs.Files.{Files, Fetched, Lacks};
+ghost use Rattle.sim_outer.specs.Views.{InputsView};
+ghost use Rattle.sim_outer.specs.Files.{Fetched, Lacks};
 
 use std::alloc::{AllocError, Global};
 
@@ -30,24 +31,18 @@ impl From<AllocError> for FetchFault {
 
 /// Files that are fetched by name.
 pub trait Inputs {
-    // the files by their names, where the contract knows them
-    ghost files: { Self → Option Files };
-
-    // how many faults there were
-    ghost faults: { Self → ℕ };
-
-    // how many calls there were, where the contract knows it
-    ghost calls: { Self → Option ℕ };
+    // the files by their names and the calls that there were, where the contract knows them, and the faults
+    ghost seen: { Self → InputsView };
 
     /// The first [`MOST_FETCHED`] bytes of the file of this name, or the whole file if it is shorter.
     ///
     /// It fails only where the count of faults rises in this call, or where the contract knows the files and
     /// none has this name.
     fn fetch(&mut self, alloc: Global, name: &str) -> Result<Vec<u8>, FetchFault>
-        ensures bytes { IfOk result (λ v. Fetched (files self.old) name.now v.items) }
+        ensures bytes { IfOk result (λ v. Fetched (seen self.old).files name.now v.items) }
         ensures cause { IfErr result (λ e. e ≡ FetchFault.Failed →
-            Rose (faults self.old) (faults self.new) ⊎ Lacks (files self.old) name.now) }
-        ensures later { faults self.old ≤ faults self.new }
-        ensures same { files self.new ≡ files self.old }
-        ensures counted { Counted (calls self.old) (calls self.new) };
+            Rose (seen self.old).faults (seen self.new).faults ⊎ Lacks (seen self.old).files name.now) }
+        ensures later { (seen self.old).faults ≤ (seen self.new).faults }
+        ensures same { (seen self.new).files ≡ (seen self.old).files }
+        ensures counted { Counted (seen self.old).calls (seen self.new).calls };
 }

@@ -115,11 +115,7 @@ impl MemSink {
 }
 
 impl Sink for MemSink {
-    ghost bytes = { λ s. Some s.taken };
-
-    ghost faults = { λ s. s.faults };
-
-    ghost calls = { λ s. Some s.calls };
+    ghost seen = { λ s. record { bytes = Some s.taken; faults = s.faults; calls = Some s.calls } };
 
     fn put(&mut self, piece: &[u8]) -> Result<(), PutFailed>
         ensures ok { OnOk result (Appended (Some self.old.taken) piece.now (Some self.new.taken)) }

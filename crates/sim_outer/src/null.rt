@@ -8,11 +8,7 @@ use crate::sink::{PutFailed, Sink};
 pub struct NullSink;
 
 impl Sink for NullSink {
-    ghost bytes = { λ _. None };
-
-    ghost faults = { λ _. 0 };
-
-    ghost calls = { λ _. None };
+    ghost seen = { λ _. record { bytes = None; faults = 0; calls = None } };
 
     fn put(&mut self, _piece: &[u8]) -> Result<(), PutFailed>
         ensures takes { IsOk result }

@@ -1,4 +1,4 @@
-use Rattle.sim_outer.specs.Sinks.{SinkView}
+use Rattle.sim_outer.specs.Views.{SinkView}
 use Rattle.cloner_top.proofs.FactLaws.{completes, cut_cause, finished, formless, idle}
 use Rattle.cloner_top.proofs.FactLaws.{kept, stop_cause, told_for, unread_cause, usage_cause}
 use Rattle.std.proofs.Common.{ap}

@@ -10,7 +10,7 @@ loop-left-preserved g c =
       taken = taken_more _ _ _ _ _ _ _ c.loop-left.invariant.taken made.text
           (record { bytes = put.ok; later = put.later; same = put.same });
       left = made.left;
-      place = omega (arith, made.size, c.loop-left.invariant.place);
+      free = omega (arith, made.size, c.loop-left.invariant.free);
     }
 
 pub returns-in-Err-clause-err : goal.returns-in-Err-clause-err

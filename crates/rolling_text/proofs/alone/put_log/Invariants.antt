@@ -7,10 +7,9 @@ use Rattle.rolling_text.proofs.alone.put_log.Given as goal
 abbrev pub invariant-loop-left : goal.invariant-loop-left
 invariant-loop-left g l = record {
   taken : IsTakenTo (flat_map (entry_line l.model) l.log) (flat_map (entry_line l.model) l.walk)
-      (record { bytes = g.O.Sink.bytes l.fn.out; faults = g.O.Sink.faults l.fn.out; calls = g.O.Sink.calls l.fn.out })
-      (record { bytes = g.O.Sink.bytes l.out; faults = g.O.Sink.faults l.out; calls = g.O.Sink.calls l.out });
+      (g.O.Sink.seen l.fn.out) (g.O.Sink.seen l.out);
   left : l.left ≡ length l.walk;
-  place : 256 ≤ length l.piece;
+  free : 256 ≤ length l.piece;
 }
 
 abbrev pub decreases-loop-left : goal.decreases-loop-left

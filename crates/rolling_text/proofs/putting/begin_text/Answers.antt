@@ -1,6 +1,6 @@
-use Rattle.std.proofs.Common.{◌-◌, ◌++◌, ◌∙◌, ap, arith, take}
+use Rattle.std.proofs.Common.{◌≡◌, ◌-◌, ◌++◌, ◌∙◌, ap, arith, drop, take}
 use Rattle.sim_base.specs.Clones.{clone_at}
-use Rattle.rolling_text.specs.Texts.{parting_at, rest}
+use Rattle.rolling_text.specs.Texts.{body, rest}
 use Rattle.rolling_text.proofs.Joined.{can_drop, kept_joined, margin_stays, text_is}
 use Rattle.rolling_text.proofs.putting.begin_text.Goals as goal
 
@@ -11,6 +11,18 @@ overflow_sub-keep c =
     let a = can_drop v.net is.valid v.clones is.in_net c.args.c c.args.dropped c.requires.there c.args.page.now.text
     c.requires.margin c.requires.left in
     omega (arith, a, c.len.ensures.value)
+
+-- what is kept and the clone's own rest are its lines
+joined : (c : goal.After-put_head) → drop 32 c.cut.new.self.text
+    ++ rest c.args.traces.now.net (clone_at c.args.traces.now.clones c.args.c) c.args.time
+    ≡ body c.args.traces.now.net (clone_at c.args.traces.now.clones c.args.c)
+joined c =
+    let v = c.args.traces.now in
+    let is = c.len-clones.ensures in
+    ap (λ t. drop 32 c.cut.new.self.text ++ rest v.net (clone_at v.clones c.args.c) t) c.requires.time
+    ∙ kept_joined v.net is.valid v.clones is.in_net c.args.c c.args.dropped c.requires.there c.args.page.now.text
+    c.requires.margin c.requires.left c.cut.new.self.text
+    (c.cut.ensures.text ∙ ap (λ n. take (n - c.args.dropped) c.args.page.now.text) c.len.ensures.value)
 
 pub put_head-requires : goal.put_head-requires
 put_head-requires c =
@@ -25,20 +37,12 @@ put_head-requires c =
 pub returns-clause-text : goal.returns-clause-text
 returns-clause-text c =
     let v = c.args.traces.now in
-    let is = c.len-clones.ensures in
-    text_is v.net (clone_at v.clones c.args.c) _ _ _ _ c.put_head.ensures.text c.name.ensures.value
-    (kept_joined v.net is.valid v.clones is.in_net c.args.c c.args.dropped c.requires.there c.args.page.now.text
-    c.requires.margin c.requires.left c.cut.new.self.text
-    (c.cut.ensures.text ∙ ap (λ n. take (n - c.args.dropped) c.args.page.now.text) c.len.ensures.value))
+    text_is v.net (clone_at v.clones c.args.c) _ _ _ _ c.put_head.ensures.text c.name.ensures.value (joined c)
 
 pub returns-clause-lines : goal.returns-clause-lines
 returns-clause-lines c =
     let v = c.args.traces.now in
-    let is = c.len-clones.ensures in
-    ap (λ l. l ++ rest v.net (clone_at v.clones c.args.c) (parting_at v.net v.clones c.args.c)) c.put_head.ensures.lines
-    ∙ kept_joined v.net is.valid v.clones is.in_net c.args.c c.args.dropped c.requires.there c.args.page.now.text
-    c.requires.margin c.requires.left c.cut.new.self.text
-    (c.cut.ensures.text ∙ ap (λ n. take (n - c.args.dropped) c.args.page.now.text) c.len.ensures.value)
+    ap (λ l. l ++ rest v.net (clone_at v.clones c.args.c) c.args.time) c.put_head.ensures.lines ∙ joined c
 
 pub returns-clause-margin : goal.returns-clause-margin
 returns-clause-margin c =

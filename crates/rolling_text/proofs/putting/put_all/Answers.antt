@@ -17,9 +17,9 @@ loop-c-init g c = record {
         ∙ drop_of_length-le c.args.texts.now.page.text {i = 32} (omega (arith, c.requires.ready.margin));
     drops = refl;
   };
-  appended = appended_nothing (g.O.Sink.bytes c.args.out.now);
+  appended = appended_nothing (g.O.Sink.seen c.args.out.now).bytes;
   later = omega arith;
-  counted = none_counted (g.O.Sink.calls c.args.out.now);
+  counted = none_counted (g.O.Sink.seen c.args.out.now).calls;
 }
 
 pub put_text-requires-clause-fits : goal.put_text-requires-clause-fits
@@ -34,8 +34,8 @@ returns-in-Err-clause-part g c =
 
 pub returns-in-Err-clause-some : goal.returns-in-Err-clause-some
 returns-in-Err-clause-some g c =
-    counted_to c.loop-c.c (length (c.args.traces.now.clones)) (g.O.Sink.calls c.args.out.now)
-    (g.O.Sink.calls c.loop-c.out) (g.O.Sink.calls c.put_text.new.out)
+    counted_to c.loop-c.c (length (c.args.traces.now.clones)) (g.O.Sink.seen c.args.out.now).calls
+    (g.O.Sink.seen c.loop-c.out).calls (g.O.Sink.seen c.put_text.new.out).calls
     (omega (arith, c.loop-c-test.true, c.len-clones.ensures.value)) c.loop-c.invariant.counted
     c.in-Err.ensures.err.counted
 
@@ -54,6 +54,6 @@ loop-c-preserved g c =
       left = λ more. put.left (c.parts_at-next.ensures.value ∙ ap (parting_at net cs) (omega (arith, more, c.min.ensures)));
       appended = put_whole net cs c.loop-c.c there _ _ _ h.appended put.ok.bytes;
       later = omega (arith, h.later, more_faults);
-      counted = counted_more c.loop-c.c (g.O.Sink.calls c.args.out.now) (g.O.Sink.calls c.loop-c.out)
-          (g.O.Sink.calls c.put_text.new.out) h.counted put.ok.counted;
+      counted = counted_more c.loop-c.c (g.O.Sink.seen c.args.out.now).calls (g.O.Sink.seen c.loop-c.out).calls
+          (g.O.Sink.seen c.put_text.new.out).calls h.counted put.ok.counted;
     }

@@ -13,9 +13,9 @@ invariant-loop-c g l = record {
   margin : 32 ≤ length l.texts.page.text;
   reserved : l.fn.texts.page.reserved ≤ l.texts.page.reserved;
   left : l.c < l.clones → AreLeft l.traces.net l.traces.clones l.c l.dropped (drop 32 l.texts.page.text);
-  appended : Appended (g.O.Sink.bytes l.fn.out)
+  appended : Appended (g.O.Sink.seen l.fn.out).bytes
       (flat_map (clone_text l.traces.net) (take l.c l.traces.clones))
-      (g.O.Sink.bytes l.out);
-  later : g.O.Sink.faults l.fn.out ≤ g.O.Sink.faults l.out;
-  counted : AreCounted l.c (g.O.Sink.calls l.fn.out) (g.O.Sink.calls l.out);
+      (g.O.Sink.seen l.out).bytes;
+  later : (g.O.Sink.seen l.fn.out).faults ≤ (g.O.Sink.seen l.out).faults;
+  counted : AreCounted l.c (g.O.Sink.seen l.fn.out).calls (g.O.Sink.seen l.out).calls;
 }

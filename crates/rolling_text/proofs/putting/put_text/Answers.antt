@@ -1,4 +1,4 @@
-use Rattle.std.proofs.Common.{◌≡◌, ◌+◌, ◌++◌, ◌∙◌, ap, arith, drop, length, subst, sym}
+use Rattle.std.proofs.Common.{◌≡◌, ◌+◌, ◌∙◌, arith, length, subst, sym}
 use Rattle.sim_base.specs.Clones.{clone_at}
 use Rattle.rolling_text.specs.Texts.{body, rest}
 use Rattle.rolling_text.specs.WorldTraces.{TracesView}
@@ -18,22 +18,20 @@ put_rest-requires-clause-fits g c κs within =
     let fits = c.requires.fits c.args.c c.requires.there in
     rest_fits begun.new.page.text (rest v.net clone c.parts_at-time.result) (body v.net clone) begun.new.page.reserved
     begun.ensures.margin
-    (ap (λ t. drop 32 begun.new.page.text ++ rest v.net clone t) c.parts_at-time.ensures.value ∙ begun.ensures.lines)
+    begun.ensures.lines
     (omega (arith, fits, begun.ensures.reserved))
 
 pub returns-in-Err-put_rest-clause-err : goal.returns-in-Err-put_rest-clause-err
 returns-in-Err-put_rest-clause-err g c =
     let v = c.args.traces.now in
     let begun = c.begin_text-start in
-    rest_cut _ _ _ (ap (λ t. drop begun.result begun.new.page.text ++ rest v.net (clone_at v.clones c.args.c) t)
-    c.parts_at-time.ensures.value ∙ begun.ensures.text) _ _ _ c.in-Ok.ensures.ok c.in-Err-put_rest.ensures.err
+    rest_cut _ _ _ begun.ensures.text _ _ _ c.in-Ok.ensures.ok c.in-Err-put_rest.ensures.err
 
 pub returns-in-Ok-put-clause-ok : goal.returns-in-Ok-put-clause-ok
 returns-in-Ok-put-clause-ok g c =
     let v = c.args.traces.now in
     let begun = c.begin_text-start in
-    text_put _ _ _ (ap (λ t. drop begun.result begun.new.page.text ++ rest v.net (clone_at v.clones c.args.c) t)
-    c.parts_at-time.ensures.value ∙ begun.ensures.text) _ _ _ _ c.in-Ok.ensures.ok c.in-Ok-put_rest.ensures.ok
+    text_put _ _ _ begun.ensures.text _ _ _ _ c.in-Ok.ensures.ok c.in-Ok-put_rest.ensures.ok
     (record { bytes = c.in-Ok-put.ensures.ok; later = c.in-Ok-put.ensures.later; counted = c.in-Ok-put.ensures.counted })
 
 pub returns-in-Ok-put-clause-left : goal.returns-in-Ok-put-clause-left
@@ -42,8 +40,6 @@ returns-in-Ok-put-clause-left g c next =
     let clone = clone_at v.clones c.args.c in
     let begun = c.begin_text-start in
     let put = c.in-Ok-put_rest.ensures in
-    let lines = ap (λ t. drop 32 begun.new.page.text ++ rest v.net clone t) c.parts_at-time.ensures.value
-    ∙ begun.ensures.lines in
     let len = subst (λ (v : TracesView). c.len_between.result + length (rest v.net (clone_at v.clones c.args.c)
     c.max-late.result) ≡ length (rest v.net (clone_at v.clones c.args.c) c.args.next)) c.traces.view_is
     c.len_between.ensures.value in
@@ -51,7 +47,7 @@ returns-in-Ok-put-clause-left g c next =
       others = rest v.net clone c.max-late.result;
       before = still_joined begun.new.page.text c.put_rest.new.texts.page.text
           (rest v.net clone c.parts_at-time.result) (rest v.net clone c.max-late.result) (body v.net clone)
-          begun.ensures.margin put.longer put.kept lines ∙ sym (next_before v.net v.clones c.args.c);
+          begun.ensures.margin put.longer put.kept begun.ensures.lines ∙ sym (next_before v.net v.clones c.args.c);
       drops = dropped_next v.net v.clones c.args.c (c.len_between.result + length (rest v.net clone c.max-late.result))
           c.args.next len next;
     }
@@ -60,8 +56,7 @@ pub returns-in-Err-put-clause-err : goal.returns-in-Err-put-clause-err
 returns-in-Err-put-clause-err g c =
     let v = c.args.traces.now in
     let begun = c.begin_text-start in
-    end_cut _ _ _ (ap (λ t. drop begun.result begun.new.page.text ++ rest v.net (clone_at v.clones c.args.c) t)
-    c.parts_at-time.ensures.value ∙ begun.ensures.text) _ _ _ _ c.in-Ok.ensures.ok c.in-Ok-put_rest.ensures.ok
+    end_cut _ _ _ begun.ensures.text _ _ _ _ c.in-Ok.ensures.ok c.in-Ok-put_rest.ensures.ok
     (record {
       bytes = c.in-Err-put.ensures.part;
       failed = c.in-Err-put.ensures.cause;

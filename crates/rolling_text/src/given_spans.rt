@@ -1,4 +1,4 @@
-//! The spans of a long text, which makers make in turn.
+//! The spans of a long text, which makers make one after another.
 //!
 //! ```text
 //!   written      | span of the first | of the second | the caller's own | left
@@ -7,26 +7,26 @@
 ghost use Rattle.std.specs.Prelude.{◌≡◌, ◌<◌, ◌≤◌, [], ◌∷◌, ◌++◌, None, Some, length, IfSome, OnOk, OnErr};
 ghost use Rattle.sim_base.specs.Clones.{clone_at};
 ghost use Rattle.rolling_text.specs.Orders.{until_of, since};
-ghost use Rattle.rolling_text.specs.Turns.{IsTurn};
+ghost use Rattle.rolling_text.specs.GivenSpans.{IsNextSpan};
 
 use crate::cuts::Cuts;
-use crate::making::{Line, Maker, Order, finish, open_line};
+use crate::making::{CallerEnd, Maker, Order, finish, open_maker};
 use crate::world_traces::WorldTraces;
 use sim_base::NoMemory;
 use std::alloc::Global;
 use std::collections::VecDeque;
 use std::sync::Wait;
 
-/// The line of a maker that has a span to make, or none where it is the caller's own to put, and when that ends.
+/// The mailbox of the maker that has a span to make, or none where it is the caller's own to put, and when that ends.
 #[derive(Drop)]
-pub(crate) struct Busy<'a> {
-    pub(crate) line: Option<Line<'a>>,
+pub(crate) struct GivenSpan<'a> {
+    pub(crate) mailbox: Option<CallerEnd<'a>>,
     pub(crate) until: u64,
 }
 
 /// Whose the next span is.
 #[derive(Drop)]
-pub(crate) enum Turn {
+pub(crate) enum NextSpan {
     /// A maker's, which has made these lines.
     Made(Vec<u8>),
     /// The caller's, of which nothing is made.
@@ -35,20 +35,20 @@ pub(crate) enum Turn {
 
 /// What is not written yet of a clone's lines. Contracts see the span that this is.
 #[derive(Drop)]
-pub(crate) struct Turns<'a> {
+pub(crate) struct GivenSpans<'a> {
     traces: &'a WorldTraces<'a>,
     c: u32,
     made: u64,
     given: u64,
     until: u64,
-    busy: VecDeque<Busy<'a>>,
+    spans: VecDeque<GivenSpan<'a>>,
     cuts: Cuts<'a>,
 }
 
-impl<'a> std::marker::Model for Turns<'a> {
+impl<'a> std::marker::Model for GivenSpans<'a> {
     ghost use Rattle.sim_base.specs.Clones.{clone_at};
     ghost use Rattle.rolling_text.specs.Orders.{Span};
-    ghost use Rattle.rolling_text.specs.Turns.{AreGiven};
+    ghost use Rattle.rolling_text.specs.GivenSpans.{AreGiven};
 
     ghost Value = { Span };
 
@@ -59,31 +59,31 @@ impl<'a> std::marker::Model for Turns<'a> {
       until = t.until;
     } };
 
-    ghost invariant = { λ t. AreGiven t.traces.now t.c t.made t.busy.items t.given t.until };
+    ghost invariant = { λ t. AreGiven t.traces.now t.c t.made t.spans.items t.given t.until };
 }
 
-// A line more behind the others.
-fn add<'a>(busy: &mut VecDeque<Busy<'a>>, one: Busy<'a>) -> Result<(), NoMemory>
-    ensures ok { OnOk result (busy.new.items ≡ busy.old.items ++ one.entry ∷ []) }
-    ensures err { OnErr result (busy.new.items ≡ busy.old.items) }
+// A span more behind the others.
+fn add<'a>(spans: &mut VecDeque<GivenSpan<'a>>, one: GivenSpan<'a>) -> Result<(), NoMemory>
+    ensures ok { OnOk result (spans.new.items ≡ spans.old.items ++ one.entry ∷ []) }
+    ensures err { OnErr result (spans.new.items ≡ spans.old.items) }
 {
-    busy.push_back(one)?;
+    spans.push_back(one)?;
     Ok(())
 }
 
-// The line of a maker, if there is one, that is given an order.
-fn ordered<'a>(line: Option<Line<'a>>, order: Order<'a>) -> Option<Line<'a>>
-    requires idle { IfSome line (λ l. l ≡ None) }
+// The mailbox of a mailbox, if there is one, that is given an order.
+fn ordered<'a>(mailbox: Option<CallerEnd<'a>>, order: Order<'a>) -> Option<CallerEnd<'a>>
+    requires idle { IfSome mailbox (λ l. l ≡ None) }
     ensures given { IfSome result (λ l. l ≡ Some order.entry) }
 {
-    let Some(mut line) = line else {
+    let Some(mut mailbox) = mailbox else {
         return None;
     };
-    line.give(order);
-    Some(line)
+    mailbox.give(order);
+    Some(mailbox)
 }
 
-impl<'a> Turns<'a> {
+impl<'a> GivenSpans<'a> {
     /// The lines of a clone from a time on and before another, of which no maker has any yet.
     pub(crate) fn new(
         alloc: Global,
@@ -91,7 +91,7 @@ impl<'a> Turns<'a> {
         c: u32,
         from: u64,
         until: u64,
-    ) -> Turns<'a>
+    ) -> GivenSpans<'a>
         requires there { c < length traces.now.clones }
         requires order { from ≤ until }
         ensures value { result ≡ record {
@@ -101,13 +101,13 @@ impl<'a> Turns<'a> {
           until = until;
         } }
     {
-        Turns {
+        GivenSpans {
             traces,
             c,
             made: from,
             given: from,
             until,
-            busy: VecDeque::new(alloc),
+            spans: VecDeque::new(alloc),
             cuts: Cuts::new(traces, c, from, until),
         }
     }
@@ -126,8 +126,8 @@ impl<'a> Turns<'a> {
     }
 
     // Gives a maker the next span, or leaves it to the caller, where one is left.
-    fn give(&mut self, line: Option<Line<'a>>) -> Result<(), NoMemory>
-        requires idle { IfSome line (λ l. l ≡ None) }
+    fn give(&mut self, mailbox: Option<CallerEnd<'a>>) -> Result<(), NoMemory>
+        requires idle { IfSome mailbox (λ l. l ≡ None) }
         ensures same { self.new ≡ self.old }
     {
         if self.given >= self.until {
@@ -138,8 +138,8 @@ impl<'a> Turns<'a> {
         let hint = self.cuts.next_end(self.traces, self.c, from, self.until);
         let until = hint.max(from).min(self.until);
         let order = Order::new(self.traces, self.c, from, until);
-        let line = ordered(line, order);
-        add(&mut self.busy, Busy { line, until })?;
+        let mailbox = ordered(mailbox, order);
+        add(&mut self.spans, GivenSpan { mailbox, until })?;
         self.given = until;
         Ok(())
     }
@@ -152,8 +152,8 @@ impl<'a> Turns<'a> {
     {
         let mut makers = Vec::new(alloc);
         for _ in 0..most.min(self.cuts.pieces()) {
-            let (line, maker) = open_line(alloc)?;
-            self.give(Some(line))?;
+            let (mailbox, maker) = open_maker(alloc)?;
+            self.give(Some(mailbox))?;
             makers.push(maker)?;
         }
         self.give(None)?;
@@ -164,25 +164,25 @@ impl<'a> Turns<'a> {
     /// it works while these are put.
     ///
     /// None where no span is given, or where there is no memory.
-    pub(crate) fn next<R: Wait>(&mut self, rt: &R, alloc: Global) -> Option<Turn>
-        ensures made { IfSome result (λ turn. IsTurn (until_of self.old self.new.from) turn) }
+    pub(crate) fn next<R: Wait>(&mut self, rt: &R, alloc: Global) -> Option<NextSpan>
+        ensures made { IfSome result (λ next. IsNextSpan (until_of self.old self.new.from) next) }
         ensures others { self.new ≡ since self.old self.new.from }
         ensures later { self.old.from ≤ self.new.from }
     {
-        let Some(Busy { line, until }) = self.busy.pop_front() else {
+        let Some(GivenSpan { mailbox, until }) = self.spans.pop_front() else {
             return None;
         };
         self.made = until;
-        let Some(mut line) = line else {
+        let Some(mut mailbox) = mailbox else {
             return match self.give(None) {
-                Ok(()) => Some(Turn::Own),
+                Ok(()) => Some(NextSpan::Own),
                 Err(_) => None,
             };
         };
-        let made = finish(rt, alloc, &mut line);
-        match self.give(Some(line)) {
+        let made = finish(rt, alloc, &mut mailbox);
+        match self.give(Some(mailbox)) {
             Ok(()) => match made {
-                Ok(lines) => Some(Turn::Made(lines)),
+                Ok(lines) => Some(NextSpan::Made(lines)),
                 Err(_) => None,
             },
             Err(_) => None,

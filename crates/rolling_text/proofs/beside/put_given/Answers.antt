@@ -1,0 +1,68 @@
+use Rattle.std.proofs.Common.{◌≡◌, ◌∙◌, ap, arith}
+use Rattle.std.proofs.lemmas.Result.{on_err_weaker, on_ok_weaker}
+use Rattle.rolling_text.specs.Orders.{Span}
+use Rattle.rolling_text.specs.TextSpans.{span_of}
+use Rattle.rolling_text.proofs.Puts.{left_fits, put_cut, put_none, put_on}
+use Rattle.rolling_text.proofs.beside.put_given.Goals as goal
+
+pub loop-init : goal.loop-init
+loop-init g c = record {
+  order = c.requires.may.order;
+  given = c.requires.given;
+  put = put_none c.args.span.keeps _ _ _;
+  can = c.requires.may.can;
+}
+
+pub put_next-requires-clause-may : goal.put_next-requires-clause-may
+put_next-requires-clause-may g c =
+    let h = c.loop.invariant in
+    let from = ap (λ (s : Span). s.from) h.given in
+    let later = c.in-Some.ensures.later in
+    let value = c.made-until.ensures.value in
+    record {
+      there = c.requires.may.there;
+      order = omega (arith, from, later, value);
+      can = h.can;
+      fits = left_fits c.args.span.keeps _ _ _ _ _ _ h.put c.requires.may.fits;
+    }
+
+pub returns-in-Err-clause-err : goal.returns-in-Err-clause-err
+returns-in-Err-clause-err g c = put_cut c.args.span.keeps _ _ _ _ _ _ _ c.loop.invariant.put c.in-Err.ensures.err
+
+pub loop-preserved : goal.loop-preserved
+loop-preserved g c =
+    let given : c.next.new.self ≡ span_of c.args.traces.now (record c.args.span { from = c.next.new.self.from }) =
+    c.in-Some.ensures.others ∙ ap (λ (s : Span). record {
+      net = s.net;
+      list = s.list;
+      from = c.next.new.self.from;
+      until = s.until;
+    }) c.loop.invariant.given in
+    let until = ap (λ (s : Span). s.until) given in
+    let order = c.made-until.ensures.order in
+    record {
+      order = omega (arith, order, until);
+      given = rw c.made-until.ensures.value given;
+      put = put_on c.args.span.keeps _ _ _ _ _ _ _ _ _ c.loop.invariant.put c.in-Ok.ensures.ok;
+      can = c.in-Ok.ensures.can;
+    }
+
+pub put_span-requires : goal.put_span-requires
+put_span-requires g c = record {
+  may = record {
+    there = c.requires.may.there;
+    order = c.loop.invariant.order;
+    can = c.loop.invariant.can;
+    fits = left_fits c.args.span.keeps _ _ _ _ _ _ c.loop.invariant.put c.requires.may.fits;
+  };
+}
+
+pub returns-clause-ok : goal.returns-clause-ok
+returns-clause-ok g c =
+    on_ok_weaker c.put_span.result (λ put. put_on c.args.span.keeps _ _ _ _ _ _ _ _ _ c.loop.invariant.put put)
+    c.put_span.ensures.ok
+
+pub returns-clause-err : goal.returns-clause-err
+returns-clause-err g c =
+    on_err_weaker c.put_span.result (λ cut. put_cut c.args.span.keeps _ _ _ _ _ _ _ c.loop.invariant.put cut)
+    c.put_span.ensures.err
