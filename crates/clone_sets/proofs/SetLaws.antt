@@ -7,7 +7,7 @@ use Rattle.std.proofs.lemmas.Bool.{cases_eq, ne_eqb, cases_lt, false≢true}
 use Rattle.std.proofs.lemmas.Option.{none-some}
 use Rattle.std.proofs.lemmas.Nat.Bits.{bit_at_and, bit_at_or, bit_at_xor, bit_at-lt, bit_at-zero}
 use Rattle.std.proofs.lemmas.Nat.Bits.{bit_at-pow_same, bit_at-pow_other, bit_at_above, same_from_bits}
-use Rattle.clone_sets.specs.Sets.{has, empty, one, union, meet, minus, with, without, met}
+use Rattle.clone_sets.specs.Sets.{has, empty, one, union, meet, minus, with, without, common}
 
 -- ---- one bit
 
@@ -138,31 +138,31 @@ below_limit s k c p h = elim (cases_lt c k) [ inl l ↦ l | inr m ↦ absurd (fa
 -- ---- what two sets have in common
 
 -- an empty meet is None
-met_off : (a b : ℕ) → meet a b ≡ 0 → met a b ≡ None
-met_off a b z = ap (λ t. if t then None else Some (meet a b)) (eq-eqb (meet a b) 0 z)
+common_off : (a b : ℕ) → meet a b ≡ 0 → common a b ≡ None
+common_off a b z = ap (λ t. if t then None else Some (meet a b)) (eq-eqb (meet a b) 0 z)
 
 -- another is given
-met_on : (a b : ℕ) → meet a b ≢ 0 → met a b ≡ Some (meet a b)
-met_on a b ne = ap (λ t. if t then None else Some (meet a b)) (ne_eqb (meet a b) 0 ne)
+common_on : (a b : ℕ) → meet a b ≢ 0 → common a b ≡ Some (meet a b)
+common_on a b ne = ap (λ t. if t then None else Some (meet a b)) (ne_eqb (meet a b) 0 ne)
 
 -- where nothing is given, no clone is in both
-pub met_none : (a b : ℕ) → met a b ≡ None → (c : ℕ) → (has a c && has b c) ≡ false
-met_none a b e c = elim (cases_eq (meet a b) 0) [
+pub common_none : (a b : ℕ) → common a b ≡ None → (c : ℕ) → (has a c && has b c) ≡ false
+common_none a b e c = elim (cases_eq (meet a b) 0) [
   | inl z ↦ sym (has-meet a b c) ∙ ap (λ s. has s c) z ∙ has-empty c
-  | inr ne ↦ absurd (none-some _ (sym e ∙ met_on a b ne))
+  | inr ne ↦ absurd (none-some _ (sym e ∙ common_on a b ne))
 ]
 
 -- what is given is the meet, and not empty
-pub met_is : (a b k : ℕ) → met a b ≡ Some k → (k ≡ meet a b) × (k ≢ empty)
-met_is a b k e =
+pub common_is : (a b k : ℕ) → common a b ≡ Some k → (k ≡ meet a b) × (k ≢ empty)
+common_is a b k e =
     elim (cases_eq (meet a b) 0) [
-      | inl z ↦ absurd (none-some _ (sym (met_off a b z) ∙ e))
+      | inl z ↦ absurd (none-some _ (sym (common_off a b z) ∙ e))
       | inr ne ↦
-          let given : Some (meet a b) ≡ Some k = sym (met_on a b ne) ∙ e in
+          let given : Some (meet a b) ≡ Some k = sym (common_on a b ne) ∙ e in
           let is : k ≡ meet a b = cc in
           (is, λ z. ne (sym is ∙ z))
     ]
 
 -- what is given has the clones that are in both
-pub met_some : (a b k : ℕ) → met a b ≡ Some k → (c : ℕ) → has k c ≡ (has a c && has b c)
-met_some a b k e c = ap (λ s. has s c) (met_is a b k e).0 ∙ has-meet a b c
+pub common_some : (a b k : ℕ) → common a b ≡ Some k → (c : ℕ) → has k c ≡ (has a c && has b c)
+common_some a b k e c = ap (λ s. has s c) (common_is a b k e).0 ∙ has-meet a b c

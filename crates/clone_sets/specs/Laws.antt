@@ -2,7 +2,7 @@
 use Rattle.std.specs.Prelude.{◌≡◌, ◌≢◌, ℕ, ◌+◌, true}
 use Rattle.sim_base.specs.Counts.{IsCount}
 use Rattle.sim_base.specs.Marked.{JoinsMarks, MeetsMarks}
-use Rattle.clone_sets.specs.Sets.{has, empty, union, meet, minus, met, size}
+use Rattle.clone_sets.specs.Sets.{has, empty, union, meet, minus, common, size}
 use Rattle.clone_sets.specs.declared.set.CloneSet.{CloneSet}
 
 -- a union has the clones of both sets
@@ -10,8 +10,8 @@ abbrev pub UnionJoinsMarks : Type 0
 UnionJoinsMarks = JoinsMarks has union
 
 -- two sets have in common the clones that are in both, and nothing where there are none
-abbrev pub MetMeetsMarks : Type 0
-MetMeetsMarks = MeetsMarks has met
+abbrev pub CommonMeetsMarks : Type 0
+CommonMeetsMarks = MeetsMarks has common
 
 -- a set's size is the number of its clones
 abbrev pub SizeIsCount : Type 0

@@ -50,6 +50,6 @@ pub record IsFirst (s : CloneSet) (c : ℕ) : Type 0 where
   pub in_set : has s c ≡ true
   pub least : (d : ℕ) → d < c → has s d ≡ false
 
--- what two sets have in common, or None where that is nothing
-abbrev pub met : CloneSet → CloneSet → Option CloneSet
-met a b = if meet a b == empty then None else Some (meet a b)
+-- the clones that two sets have in common, or None where there are none
+abbrev pub common : CloneSet → CloneSet → Option CloneSet
+common a b = if meet a b == empty then None else Some (meet a b)

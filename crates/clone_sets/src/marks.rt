@@ -1,5 +1,5 @@
 //! A set of clones as the marks of a message: the clones that it is for.
-ghost use Rattle.clone_sets.specs.Sets.{union, met};
+ghost use Rattle.clone_sets.specs.Sets.{union, common};
 
 use crate::set::CloneSet;
 use sim_base::Marks;
@@ -7,7 +7,7 @@ use sim_base::Marks;
 impl Marks for CloneSet {
     ghost joined = { union };
 
-    ghost met = { met };
+    ghost met = { common };
 
     fn join(self, other: CloneSet) -> CloneSet {
         self.union(other)

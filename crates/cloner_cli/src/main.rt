@@ -1,4 +1,5 @@
-//! The program `cloner`: `main` hands the words of the command line, the real files and the real streams to `cloner_top`.
+//! The program `cloner`: `main` hands the words of the command line, the real files and the real streams to
+//! `cloner_top`.
 //!
 //! A planner starts it with a model, a script and a mode. Everything that it does stands in the contract of
 //! `cloner_top::cloner`, which takes files and sinks by their traits and gives a status; here they are the system's:
@@ -8,8 +9,8 @@
 //! output  standard output                              errors   standard error
 //! ```
 //!
-//! Where the arguments are no text, `cloner` is given none, and answers that the command line has no known form. The only
-//! thing that `main` says by itself is the line of status 1, where memory is refused while it makes the words.
+//! Where the arguments are no text, `cloner` is given none, and answers that the command line has no known form. The
+//! only thing that `main` says by itself is the line of status 1, where memory is refused while it makes the words.
 //!
 //! It costs what `cloner` costs; the counter of steps is one that nobody reads. The streams' own bytes are known to no
 //! clause, so what is proved of the texts is proved of `cloner` over every sink whose bytes are known.

@@ -12,7 +12,7 @@ use Rattle.decision_script.specs.declared.item.Act.{Act}
 use Rattle.decision_script.specs.declared.item.Act.TheVariants.{Decide, Look}
 use Rattle.decision_script.specs.declared.item.Item.{Item}
 use Rattle.decision_book.specs.Books.{BookView}
-use Rattle.decision_book.specs.Journal.{Situation, after, opening}
+use Rattle.decision_book.specs.Journal.{Situation, after, outset}
 use Rattle.decision_book.specs.Replies.{reply}
 use Rattle.decision_book.specs.Right.{journal_with}
 use Rattle.decision_book.specs.Scripts.{Question, after_all, first_refusal, journal_of_script}
@@ -23,7 +23,7 @@ use Rattle.cloner_top.specs.declared.stop.Stop.TheVariants.{Refused}
 use Rattle.study_run.proofs.Accepting.{none_asked}
 use Rattle.study_run.specs.Accepted.{AllAccepted}
 use Rattle.cloner_top.specs.Deciding.{AcceptsAct, IsDecided, IsRefusal, RefusesAct, by_line, decision_lines}
-use Rattle.cloner_top.specs.Deciding.{journal_after, lines_onto, questions, questions_onto, scripted}
+use Rattle.cloner_top.specs.Deciding.{journal_after, lines_onto, questions, questions_onto, script_journal}
 
 -- ---- items that stand before others
 
@@ -90,10 +90,10 @@ module _ (is : List Item) (i : ℕ) (item : Item) (there : slice_get is i ≡ So
   first_are = sym (take_more is i item (slice_get_within is i item there)
       ∙ ap (λ x. take i is ++ x ∷ []) (get_or_from_slice_get is i item item there))
 
--- how things stand after the items up to one
-stands : (net : Net) (is : List Item) → after net (journal_of_script net (questions is)) ≡ after_all (opening net)
-    (decisions is)
-stands net is = script_stands net (questions is) ∙ ap (after_all (opening net)) (asked-decisions is)
+-- the situation after the items up to one
+after-journal_of_script : (net : Net) (is : List Item)
+    → after net (journal_of_script net (questions is)) ≡ after_all (outset net) (decisions is)
+after-journal_of_script net is = script_stands net (questions is) ∙ ap (after_all (outset net)) (asked-decisions is)
 
 journal-more : (net : Net) (is : List Item) (item : Item) → journal_of_script net (questions (is ++ item ∷ []))
     ≡ journal_after net (journal_of_script net (questions is)) item.analyst item.act
@@ -113,7 +113,7 @@ none-more net is item none accepts = ap (first_refusal net) (decisions-append is
     of_act : (act : Act) → AcceptsAct (after net (journal_of_script net (questions is))) act
         → first_refusal net (decisions is ++ decisions_onto act []) ≡ None
     of_act (Decide d) ok = accepted_goes_on net (decisions is) d none
-        (subst (λ s. reply s d ≡ Accepted) (stands net is) ok)
+        (subst (λ s. reply s d ≡ Accepted) (after-journal_of_script net is) ok)
     of_act (Look who station) ok = ap (first_refusal net) (append-nil (decisions is)) ∙ none
 
 -- the element behind others
@@ -134,10 +134,10 @@ refused_at net is more item stop stated whole none h = of_act item.act refl h
         → RefusesAct (after net (journal_of_script net (questions is))) item.line act stop → IsRefusal net stated stop
     of_act (Look who station) e h = absurd h
     of_act (Decide d) e h =
-        let other : reply (after_all (opening net) (decisions is)) d ≢ Accepted =
-        subst (λ s. reply s d ≢ Accepted) (stands net is) h.0 in
-        let stop_is : Refused (reply (after_all (opening net) (decisions is)) d) item.line ≡ stop =
-        ap (λ s. Refused (reply s d) item.line) (sym (stands net is)) ∙ sym h.1 in
+        let other : reply (after_all (outset net) (decisions is)) d ≢ Accepted =
+        subst (λ s. reply s d ≢ Accepted) (after-journal_of_script net is) h.0 in
+        let stop_is : Refused (reply (after_all (outset net) (decisions is)) d) item.line ≡ stop =
+        ap (λ s. Refused (reply s d) item.line) (sym (after-journal_of_script net is)) ∙ sym h.1 in
         let ds : decisions stated.items ≡ decisions is ++ d ∷ decisions more =
         ap decisions whole ∙ (decisions-append is (item ∷ more)
         ∙ ap (λ a. decisions is ++ decisions_onto a (decisions more)) e) in
@@ -145,7 +145,7 @@ refused_at net is more item stop stated whole none h = of_act item.act refl h
         ap decision_lines whole ∙ (lines-append is (item ∷ more)
         ∙ ap (λ a. decision_lines is ++ lines_onto item.line a (decision_lines more)) e) in
         let first : first_refusal net (decisions stated.items)
-        ≡ Some (length (decisions is), reply (after_all (opening net) (decisions is)) d) =
+        ≡ Some (length (decisions is), reply (after_all (outset net) (decisions is)) d) =
         ap (first_refusal net) ds ∙ refused_is_first net (decisions is) d (decisions more) none other in
         let line : slice_get (decision_lines stated.items) (length (decisions is)) ≡ Some item.line =
         ap (λ l. slice_get l (length (decisions is))) ls
@@ -153,7 +153,7 @@ refused_at net is more item stop stated whole none h = of_act item.act refl h
         (sym (lines-length is)) in
         subst (IsRefusal net stated) stop_is
         (ap (option_map (by_line (decision_lines stated.items))) first
-        ∙ ap (λ o. Some (reply (after_all (opening net) (decisions is)) d, unwrap_or o 0)) line)
+        ∙ ap (λ o. Some (reply (after_all (outset net) (decisions is)) d, unwrap_or o 0)) line)
 
 -- ---- a book that has come to an item
 
@@ -206,12 +206,13 @@ pub ends : (net : Net) (stated : ScriptView) (i : ℕ) (book : BookView) → len
     → IsAt net stated.items i book → IsDecided net stated book
 ends net stated i book last at =
     let all : take i stated.items ≡ stated.items = take_all i stated.items last in
-    let events : book.events ≡ scripted net stated = at.events ∙ ap (λ l. journal_of_script net (questions l)) all in
+    let events : book.events ≡ script_journal net stated =
+    at.events ∙ ap (λ l. journal_of_script net (questions l)) all in
     record {
       net_is = at.net_is;
       events = events;
       none = ap (option_map (by_line (decision_lines stated.items)))
           (ap (λ l. first_refusal net (decisions l)) (sym all) ∙ at.none);
       accepted = subst (λ n. AllAccepted n book.events) at.net_is at.accepted;
-      clones = ap (λ (s : Situation). s.clones) (ap (after net) events ∙ stands net stated.items);
+      clones = ap (λ (s : Situation). s.clones) (ap (after net) events ∙ after-journal_of_script net stated.items);
     }

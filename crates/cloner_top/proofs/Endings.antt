@@ -1,7 +1,7 @@
 -- How the steps of a study join to an ending, and endings to an answer.
 use Rattle.std.proofs.Common.{◌≡◌, ℕ, ◌+◌, refl, sym, ap}
 use Rattle.std.proofs.Common.{subst, ◌∙◌, List, [], ◌∷◌, Option, Some, None, Ok}
-use Rattle.sim_outer.specs.Causes.{AreCounted, Rose}
+use Rattle.sim_outer.specs.Causes.{AreCounted, HasRisen}
 use Rattle.sim_outer.specs.Files.{Files}
 use Rattle.sim_outer.specs.Views.{SinkView}
 use Rattle.net_model.specs.Net.{Net}
@@ -11,7 +11,7 @@ use Rattle.decision_book.specs.Books.{BookView}
 use Rattle.decision_book.specs.Journal.{after}
 use Rattle.command_words.specs.declared.request.WordsFault.{WordsFault}
 use Rattle.command_words.specs.declared.request.WordsFault.TheVariants as fault
-use Rattle.command_words.specs.Requests.{Asked, Source, made, named}
+use Rattle.command_words.specs.Requests.{Assignment, Source, made, named}
 use Rattle.cloner_top.specs.declared.reading.Text.TheVariants.{Model, Script}
 use Rattle.cloner_top.specs.declared.halt.Halt.{Halt}
 use Rattle.cloner_top.specs.declared.halt.Halt.TheVariants as halt
@@ -26,7 +26,7 @@ use Rattle.cloner_top.specs.Deciding.{IsDecided, IsRefusal}
 use Rattle.cloner_top.specs.Endings.{DecidesFirst, Ending, MayCome, MayEnd, MaySimulate}
 use Rattle.cloner_top.specs.Endings.{StoppedFor, Wrote, overrun, stopped, written}
 use Rattle.cloner_top.specs.Endings as ends
-use Rattle.cloner_top.specs.Outsides.{ArePut, AreTold, IsFailed, IsFinished, IsHalted, IsNotPut}
+use Rattle.cloner_top.specs.Outsides.{ArePut, ArePutOrCut, IsFailed, IsStudyPut, IsHalted, IsNotPut}
 use Rattle.cloner_top.specs.Plans.{IsRead, IsUnreadStudy, StopsEarly}
 use Rattle.cloner_top.specs.Refusals.{Stops, line_of, status_of, words_refusal}
 use Rattle.cloner_top.specs.Stops.{stop_line, stop_status}
@@ -84,7 +84,7 @@ no_script rose source files m s net (Stopped stop) texts is h = bad_script_stops
 no_script rose source files m s net CannotWrite texts is h = absurd h
 
 -- a refused decision ends a study whose decisions are all made first
-pub refused_end : (a : Asked) (net : Net) (stated : ScriptView) (steps : ℕ) (out : SinkView) (r : Refusal)
+pub refused_end : (a : Assignment) (net : Net) (stated : ScriptView) (steps : ℕ) (out : SinkView) (r : Refusal)
     → DecidesFirst a.mode → Stops (IsRefusal net stated) r → IsFailed (MayEnd a net stated) steps steps out out r
 refused_end a net stated steps out OutOfMemory first h = refl
 refused_end a net stated steps out Usage first h = absurd h
@@ -126,8 +126,8 @@ module _ (P Q : Ending → Type 0) (on : (end : Ending) → P end → Q end) (ol
   stopped_on told stop (ends.at_limit most may few) = ends.at_limit most (on (overrun told stop most) may) few
 
   -- where every ending of one kind is of another, a study written for the one is written for the other
-  pub finished_on : (old new : SinkView) → IsFinished P old_steps new_steps old new
-      → IsFinished Q old_steps new_steps old new
+  pub finished_on : (old new : SinkView) → IsStudyPut P old_steps new_steps old new
+      → IsStudyPut Q old_steps new_steps old new
   finished_on old new f = record { texts = f.texts; wrote = wrote_on f.texts f.wrote; put = f.put }
 
   -- and a cause for which it was not written, with a line alone told, is one for the other
@@ -147,24 +147,24 @@ module _ (P Q : Ending → Type 0) (on : (end : Ending) → P end → Q end) (ol
   halted_on old new (halt.Overrun journal stop) h = (stopped_on (journal.items ∷ []) stop h.0, h.1)
 
 -- what the simulation of decided clones comes to ends the study
-pub decided_end : (a : Asked) (net : Net) (stated : ScriptView) (book : BookView) → IsDecided net stated book
+pub decided_end : (a : Assignment) (net : Net) (stated : ScriptView) (book : BookView) → IsDecided net stated book
     → (end : Ending) → MaySimulate a.mode a.source net (after book.net book.events).clones end → MayEnd a net stated end
 decided_end a net stated book is end may =
-    ends.decided end is.none (subst (λ cs. MaySimulate a.mode a.source net cs end)
+    ends.simulation end is.none (subst (λ cs. MaySimulate a.mode a.source net cs end)
     (ap (λ n. (after n book.events).clones) is.net_is ∙ is.clones) may)
 
 -- how the study of its texts ends is what is asked
-pub comes : (files : Option Files) (a : Asked) (net : Net) (stated : ScriptView) → IsRead a.source files net stated
+pub comes : (files : Option Files) (a : Assignment) (net : Net) (stated : ScriptView) → IsRead a.source files net stated
     → (end : Ending) → MayEnd a net stated end → Comes files a end
 comes files a net stated read end may = record {
   m = read.m;
   s = read.s;
   texts = read.texts;
-  may = ends.studied net stated end read.is_model read.is_script may;
+  may = ends.study net stated end read.is_model read.is_script may;
 }
 
 -- why the study was not written is why what is asked was not written
-pub failed_is : (rose : Type 0) (files : Option Files) (a : Asked) (old_steps new_steps : ℕ) (old new : SinkView)
+pub failed_is : (rose : Type 0) (files : Option Files) (a : Assignment) (old_steps new_steps : ℕ) (old new : SinkView)
     (r : Refusal)
     → IsFailed (Comes files a) old_steps new_steps old new r → IsUnobeyed rose files a old_steps new_steps old new r
 failed_is rose files a old_steps new_steps old new OutOfMemory h = h
@@ -175,7 +175,7 @@ failed_is rose files a old_steps new_steps old new (Stopped stop) h = h
 failed_is rose files a old_steps new_steps old new CannotWrite h = h
 
 -- the same, with what is told before the line
-pub halted_is : (rose : Type 0) (files : Option Files) (a : Asked) (old_steps new_steps : ℕ) (old new : SinkView)
+pub halted_is : (rose : Type 0) (files : Option Files) (a : Assignment) (old_steps new_steps : ℕ) (old new : SinkView)
     (h : Halt) → IsHalted (Comes files a) old_steps new_steps old new h
     → IsDisobeyed rose files a old_steps new_steps old new h
 halted_is rose files a old_steps new_steps old new (halt.Refused r) h =
@@ -183,7 +183,7 @@ halted_is rose files a old_steps new_steps old new (halt.Refused r) h =
 halted_is rose files a old_steps new_steps old new (halt.Overrun journal stop) h = h
 
 -- a study that is not read is not written
-pub unread_is : (rose : Type 0) (files : Option Files) (a : Asked) (steps : ℕ) (out : SinkView) (r : Refusal)
+pub unread_is : (rose : Type 0) (files : Option Files) (a : Assignment) (steps : ℕ) (out : SinkView) (r : Refusal)
     → IsUnreadStudy rose a.source files r → IsUnobeyed rose files a steps steps out out r
 unread_is rose files a steps out OutOfMemory h = refl
 unread_is rose files a steps out Usage h = h
@@ -198,7 +198,7 @@ unread_is rose files a steps out CannotWrite h = absurd h
 module _ (P : Ending → Type 0) (old_steps new_steps work : ℕ) (texts : List (List ℕ)) (may : P (written texts work))
     (steps : new_steps ≡ old_steps + work) (old new : SinkView) where
   -- where the texts of a lawful ending were put, the study is written
-  pub all_put : ArePut texts old new → IsFinished P old_steps new_steps old new
+  pub all_put : ArePut texts old new → IsStudyPut P old_steps new_steps old new
   all_put put = record { texts = texts; wrote = record { work = work; may = may; steps = steps }; put = put }
 
   -- where they were not put, the cause is why the study is not written
@@ -222,7 +222,7 @@ stops_failed P old_steps new_steps out CannotWrite h = absurd h
 
 -- ---- answers
 
-module _ (words : Option Asked) (before after : Outside) where
+module _ (words : Option Assignment) (before after : Outside) where
   by_fault : (f : WordsFault) → (f ≡ fault.Usage → words ≡ None) → IsRefused before after [] (words_refusal f)
       → after.inputs ≡ before.inputs → after.steps ≡ before.steps
       → IsAnswer words before after (status_of (words_refusal f))
@@ -236,10 +236,10 @@ module _ (words : Option Asked) (before after : Outside) where
   unread_words f status none refused inputs steps is =
       subst (IsAnswer words before after) (sym is) (by_fault f none refused inputs steps)
 
-  by_refusal : (a : Asked) (r : Refusal) → words ≡ Some a
-      → IsUnobeyed (Rose before.inputs.faults after.inputs.faults) before.inputs.files a before.steps after.steps
+  by_refusal : (a : Assignment) (r : Refusal) → words ≡ Some a
+      → IsUnobeyed (HasRisen before.inputs.faults after.inputs.faults) before.inputs.files a before.steps after.steps
       before.output after.output r
-      → AreTold (line_of r ∷ []) before.errors after.errors → IsAnswer words before after (status_of r)
+      → ArePutOrCut (line_of r ∷ []) before.errors after.errors → IsAnswer words before after (status_of r)
   by_refusal a OutOfMemory is h told = answer.memory (record { output = h; told_is = told })
   by_refusal a Usage is h told = absurd h
   by_refusal a NoModel is h told = answer.no_model a is h.0 (record { output = h.1; told_is = told }) h.2
@@ -248,16 +248,17 @@ module _ (words : Option Asked) (before after : Outside) where
   by_refusal a CannotWrite is h told = answer.cut a is h told
 
   -- where what is asked was not written, and a line was told, the status of that cause is the answer
-  pub unobeyed : (a : Asked) (r : Refusal) (status : ℕ) → words ≡ Some a
-      → IsUnobeyed (Rose before.inputs.faults after.inputs.faults) before.inputs.files a before.steps after.steps
+  pub unobeyed : (a : Assignment) (r : Refusal) (status : ℕ) → words ≡ Some a
+      → IsUnobeyed (HasRisen before.inputs.faults after.inputs.faults) before.inputs.files a before.steps after.steps
       before.output after.output r
-      → AreTold (line_of r ∷ []) before.errors after.errors → status ≡ status_of r → IsAnswer words before after status
+      → ArePutOrCut (line_of r ∷ []) before.errors after.errors → status ≡ status_of r
+      → IsAnswer words before after status
   unobeyed a r status asks h told is = subst (IsAnswer words before after) (sym is) (by_refusal a r asks h told)
 
   -- the limit of a live study, of which the journal is told
-  pub overrun_is : (a : Asked) (journal : List ℕ) (stop : Stop) (status : ℕ) → words ≡ Some a
+  pub overrun_is : (a : Assignment) (journal : List ℕ) (stop : Stop) (status : ℕ) → words ≡ Some a
       → StoppedFor (Comes before.inputs.files a) before.steps after.steps (journal ∷ []) stop
-      → after.output ≡ before.output → AreTold (journal ∷ stop_line stop ∷ []) before.errors after.errors
+      → after.output ≡ before.output → ArePutOrCut (journal ∷ stop_line stop ∷ []) before.errors after.errors
       → status ≡ stop_status stop → IsAnswer words before after status
   overrun_is a journal stop status asks h output told is = subst (IsAnswer words before after) (sym is)
       (answer.stopped a asks (journal ∷ []) stop h (record { output = output; told_is = told }))

@@ -2,7 +2,7 @@
 use Rattle.std.proofs.Common.{◌≡◌, ◌≢◌, ◌⊎◌, inl, inr, refl, sym, subst, ◌∙◌, ℕ}
 use Rattle.std.proofs.Common.{◌≤◌, ◌+◌, arith, List, [], ◌∷◌, length, Option, Some, None, Ok}
 use Rattle.sim_base.specs.Clones.{Clone}
-use Rattle.sim_outer.specs.Causes.{Rose}
+use Rattle.sim_outer.specs.Causes.{HasRisen}
 use Rattle.sim_outer.specs.Files.{Files}
 use Rattle.trace_report.specs.Outputs.{report}
 use Rattle.net_model.specs.Net.{Net}
@@ -11,7 +11,7 @@ use Rattle.decision_script.specs.Reading.{script}
 use Rattle.decision_script.specs.Stating.{ScriptView}
 use Rattle.command_words.specs.declared.request.Mode.{Mode}
 use Rattle.command_words.specs.declared.request.Mode.TheVariants.{All, One, Live}
-use Rattle.command_words.specs.Requests.{Asked, Source, made, named}
+use Rattle.command_words.specs.Requests.{Assignment, Source, made, named}
 use Rattle.cloner_top.specs.declared.reading.Text.{Text}
 use Rattle.cloner_top.specs.declared.reading.Text.TheVariants.{Model, Script}
 use Rattle.cloner_top.specs.declared.refusal.Refusal.{Refusal}
@@ -25,7 +25,7 @@ use Rattle.cloner_top.specs.Deciding.{clones_of}
 use Rattle.cloner_top.specs.Endings.{Ending, MayCome, MayEnd, MayLive, MayRun, MayRunAlone, MaySimulate}
 use Rattle.cloner_top.specs.Endings.{StoppedFor, overrun, run_texts, study_texts, stopped, written}
 use Rattle.cloner_top.specs.Endings as ends
-use Rattle.cloner_top.specs.Outsides.{ArePut, AreTold}
+use Rattle.cloner_top.specs.Outsides.{ArePut, ArePutOrCut}
 use Rattle.cloner_top.specs.Plans.{IsRead}
 use Rattle.cloner_top.specs.Refusals.{line_of, status_of}
 use Rattle.cloner_top.specs.Facts.{ArePreceded, Completes, IsCutFor, IsStoppedFor, IsStudy, IsToldFor, IsUnreadFor}
@@ -33,7 +33,7 @@ use Rattle.cloner_top.specs.Facts.{IsWritten, Meets, Writes, WritesAll, WritesLi
 use Rattle.cloner_top.specs.Stops.{stop_status}
 use Rattle.cloner_top.specs.Texts.{AreTexts, IsUnread}
 
-module _ (words : Option Asked) (before after : Outside) where
+module _ (words : Option Assignment) (before after : Outside) where
   -- status 2 means that the command line has no known form
   pub usage_cause : (status : ℕ) → IsAnswer words before after status → status ≡ 2 → words ≡ None
   usage_cause _ (writes a is finished fetches quiet) two = absurd (omega (arith, two))
@@ -51,7 +51,7 @@ module _ (words : Option Asked) (before after : Outside) where
       not_two (LimitMet limit station clone) h = omega (arith, h)
   usage_cause _ (cut a is off told) two = absurd (omega (arith, two))
 
-  none_is : (a : Asked) → words ≡ Some a → words ≡ None → ⊥
+  none_is : (a : Assignment) → words ≡ Some a → words ≡ None → ⊥
   none_is a is none = let h = sym is ∙ none in cc
 
   -- a command line of no known form gets status 1 or 2
@@ -79,7 +79,7 @@ high (Refused reply line) = omega arith
 high (NoClone name) = omega arith
 high (LimitMet limit station clone) = omega arith
 
-module _ (words : Option Asked) (before after : Outside) where
+module _ (words : Option Assignment) (before after : Outside) where
   -- status 3 means that a text was not read
   pub unread_cause : (status : ℕ) → IsAnswer words before after status → status ≡ 3 → IsUnreadFor words before after
   unread_cause _ (writes a is finished fetches quiet) three = absurd (omega (arith, three))
@@ -113,14 +113,15 @@ module _ (words : Option Asked) (before after : Outside) where
   cut_cause _ (cut a is off told) eight = record { a = a; asks = is; cut = off }
 
   -- where the status is neither 0 nor 8, the output is as before
-  pub kept : (status : ℕ) → IsAnswer words before after status → status ≢ 0 → status ≢ 8 → after.output ≡ before.output
-  kept _ (writes a is finished fetches quiet) not_0 not_8 = absurd (not_0 refl)
-  kept _ (memory refused) not_0 not_8 = refused.output
-  kept _ (usage none refused inputs steps) not_0 not_8 = refused.output
-  kept _ (no_model a is unread refused steps) not_0 not_8 = refused.output
-  kept _ (no_script a is has unread refused steps) not_0 not_8 = refused.output
-  kept _ (stops a is told stop why refused) not_0 not_8 = refused.output
-  kept _ (cut a is off told) not_0 not_8 = absurd (not_8 refl)
+  pub output_same : (status : ℕ) → IsAnswer words before after status → status ≢ 0 → status ≢ 8
+      → after.output ≡ before.output
+  output_same _ (writes a is finished fetches quiet) not_0 not_8 = absurd (not_0 refl)
+  output_same _ (memory refused) not_0 not_8 = refused.output
+  output_same _ (usage none refused inputs steps) not_0 not_8 = refused.output
+  output_same _ (no_model a is unread refused steps) not_0 not_8 = refused.output
+  output_same _ (no_script a is has unread refused steps) not_0 not_8 = refused.output
+  output_same _ (stops a is told stop why refused) not_0 not_8 = refused.output
+  output_same _ (cut a is off told) not_0 not_8 = absurd (not_8 refl)
 
 -- ---- only status 7 comes after work
 
@@ -142,17 +143,17 @@ simulation_7 All source net clones told stop most h = run_7 net clones (study_te
 simulation_7 (One name) source net clones told stop most h = alone_7 net clones name told stop most h
 simulation_7 Live source net clones told stop most h = absurd h
 
-end_7 : (a : Asked) (net : Net) (s : ScriptView) (told : List (List ℕ)) (stop : Stop) (most : ℕ)
+end_7 : (a : Assignment) (net : Net) (s : ScriptView) (told : List (List ℕ)) (stop : Stop) (most : ℕ)
     → MayEnd a net s (overrun told stop most) → stop_status stop ≡ 7
-end_7 a net s told stop most (ends.decided end none may) =
+end_7 a net s told stop most (ends.simulation end none may) =
     simulation_7 a.mode a.source net (clones_of net s) told stop most may
 end_7 a net s told stop most (ends.live end is may) = live_7 net s told stop most may
 
-come_7 : (a : Asked) (m s : List ℕ) (told : List (List ℕ)) (stop : Stop) (most : ℕ)
+come_7 : (a : Assignment) (m s : List ℕ) (told : List (List ℕ)) (stop : Stop) (most : ℕ)
     → MayCome a m s (overrun told stop most) → stop_status stop ≡ 7
-come_7 a m s told stop most (ends.studied net stated end is_model is_script may) = end_7 a net stated told stop most may
+come_7 a m s told stop most (ends.study net stated end is_model is_script may) = end_7 a net stated told stop most may
 
-idle_stop : (files : Option Files) (a : Asked) (old new : ℕ) (told : List (List ℕ)) (stop : Stop)
+idle_stop : (files : Option Files) (a : Assignment) (old new : ℕ) (told : List (List ℕ)) (stop : Stop)
     → StoppedFor (Comes files a) old new told stop → stop_status stop ≤ 6 → new ≡ old
 idle_stop files a old new told stop (ends.at_once none may same) h = same
 idle_stop files a old new told stop (ends.at_limit most may few) h =
@@ -179,18 +180,19 @@ live_told : (net : Net) (s : ScriptView) (told : List (List ℕ)) (stop : Stop) 
     → MayLive net s (overrun told stop most) → length told ≡ 1
 live_told net s told stop most (ends.over book looks station who journal all meets) = refl
 
-end_told : (a : Asked) (net : Net) (s : ScriptView) (told : List (List ℕ)) (stop : Stop) (most : ℕ)
+end_told : (a : Assignment) (net : Net) (s : ScriptView) (told : List (List ℕ)) (stop : Stop) (most : ℕ)
     → MayEnd a net s (overrun told stop most) → (told ≡ []) ⊎ ((length told ≡ 1) × (a.mode ≡ Live))
-end_told a net s told stop most (ends.decided end none may) =
+end_told a net s told stop most (ends.simulation end none may) =
     inl (simulation_told a.mode a.source net (clones_of net s) told stop most may)
 end_told a net s told stop most (ends.live end is may) = inr (live_told net s told stop most may, is)
 
-come_told : (a : Asked) (m s : List ℕ) (told : List (List ℕ)) (stop : Stop) (most : ℕ)
+come_told : (a : Assignment) (m s : List ℕ) (told : List (List ℕ)) (stop : Stop) (most : ℕ)
     → MayCome a m s (overrun told stop most) → (told ≡ []) ⊎ ((length told ≡ 1) × (a.mode ≡ Live))
-come_told a m s told stop most (ends.studied net stated end is_model is_script may) =
+come_told a m s told stop most (ends.study net stated end is_model is_script may) =
     end_told a net stated told stop most may
 
-preceded : (words : Option Asked) (files : Option Files) (a : Asked) (old new : ℕ) (told : List (List ℕ)) (stop : Stop)
+preceded : (words : Option Assignment) (files : Option Files) (a : Assignment) (old new : ℕ) (told : List (List ℕ))
+    (stop : Stop)
     → words ≡ Some a → StoppedFor (Comes files a) old new told stop → ArePreceded words (stop_status stop) told
 preceded words files a old new told stop is (ends.at_once none may same) = inl none
 preceded words files a old new told stop is (ends.at_limit most may few) =
@@ -200,8 +202,8 @@ preceded words files a old new told stop is (ends.at_limit most may few) =
     by_kind (inl none) = inl none
     by_kind (inr one) = inr (come_7 a may.m may.s told stop most may.may, (one.0, (a, (is, one.1))))
 
-module _ (words : Option Asked) (before after : Outside) where
-  one_line : (r : Refusal) → AreTold (line_of r ∷ []) before.errors after.errors
+module _ (words : Option Assignment) (before after : Outside) where
+  one_line : (r : Refusal) → ArePutOrCut (line_of r ∷ []) before.errors after.errors
       → IsToldFor words before after (status_of r)
   one_line r told = record { told = []; refusal = r; is = refl; preceded = inl refl; told_is = told }
 
@@ -221,7 +223,7 @@ module _ (words : Option Asked) (before after : Outside) where
   }
   told_for _ (cut a is off told) not_0 = one_line CannotWrite told
 
-module _ (words : Option Asked) (before after : Outside) where
+module _ (words : Option Assignment) (before after : Outside) where
   -- where the status is 2 to 6, no message was handled
   pub idle : (status : ℕ) → IsAnswer words before after status → 2 ≤ status → status ≤ 6 → after.steps ≡ before.steps
   idle _ (writes a is finished fetches quiet) l h = absurd (omega (arith, l))
@@ -234,7 +236,7 @@ module _ (words : Option Asked) (before after : Outside) where
 
 -- ---- what is written
 
-writes_all : (before after : Outside) (a : Asked) (net : Net) (s : ScriptView) (texts : Net → List Clone
+writes_all : (before after : Outside) (a : Assignment) (net : Net) (s : ScriptView) (texts : Net → List Clone
     → List (List ℕ)) (put : List (List ℕ)) (work : ℕ)
     → IsStudy before.inputs.files a net s
     → MayRun net (clones_of net s) (texts net (clones_of net s)) (written put work)
@@ -242,14 +244,15 @@ writes_all : (before after : Outside) (a : Asked) (net : Net) (s : ScriptView) (
 writes_all before after a net s texts put work study (ends.within within) are steps =
     record { net = net; stated = s; study = study; within = within; put = are; steps = steps }
 
-writes_one : (before after : Outside) (a : Asked) (net : Net) (s : ScriptView) (name : List ℕ) (put : List (List ℕ))
+writes_one : (before after : Outside) (a : Assignment) (net : Net) (s : ScriptView) (name : List ℕ)
+    (put : List (List ℕ))
     (work : ℕ)
     → IsStudy before.inputs.files a net s → MayRunAlone net (clones_of net s) name (written put work)
     → ArePut put before.output after.output → after.steps ≡ before.steps + work → WritesOne name before after a
 writes_one before after a net s name put work study (ends.fits k is within) are steps =
     record { net = net; stated = s; study = study; place = k; named = is; within = within; put = are; steps = steps }
 
-writes_by : (before after : Outside) (a : Asked) (net : Net) (s : ScriptView) (put : List (List ℕ)) (work : ℕ)
+writes_by : (before after : Outside) (a : Assignment) (net : Net) (s : ScriptView) (put : List (List ℕ)) (work : ℕ)
     (mode : Mode) (source : Source)
     → IsStudy before.inputs.files a net s → MaySimulate mode source net (clones_of net s) (written put work)
     → ArePut put before.output after.output → after.steps ≡ before.steps + work → Writes mode source before after a
@@ -261,7 +264,7 @@ writes_by before after a net s put work (One name) source study may are steps =
     writes_one before after a net s name put work study may are steps
 writes_by before after a net s put work Live source study may are steps = absurd may
 
-writes_live : (before after : Outside) (a : Asked) (net : Net) (s : ScriptView) (put : List (List ℕ)) (work : ℕ)
+writes_live : (before after : Outside) (a : Assignment) (net : Net) (s : ScriptView) (put : List (List ℕ)) (work : ℕ)
     → IsRead a.source before.inputs.files net s → MayLive net s (written put work)
     → ArePut put before.output after.output → after.steps ≡ before.steps + work → WritesLive before after a
 writes_live before after a net s put work read (ends.finished book looks journal last seen within) are steps = record {
@@ -271,19 +274,19 @@ writes_live before after a net s put work read (ends.finished book looks journal
   book = book;
   looks = looks;
   journal = journal;
-  ended = last;
-  seen = seen;
+  at_horizon = last;
+  looks_are = seen;
   within = within;
   put = are;
   steps = steps;
 }
 
-writes_end : (before after : Outside) (a : Asked) (m s : List ℕ) (net : Net) (stated : ScriptView)
+writes_end : (before after : Outside) (a : Assignment) (m s : List ℕ) (net : Net) (stated : ScriptView)
     (put : List (List ℕ)) (work : ℕ)
     → AreTexts a.source before.inputs.files m s → model m ≡ Ok net → script s ≡ Ok stated
     → MayEnd a net stated (written put work)
     → ArePut put before.output after.output → after.steps ≡ before.steps + work → Writes a.mode a.source before after a
-writes_end before after a m s net stated put work texts is_model is_script (ends.decided end none may) are steps =
+writes_end before after a m s net stated put work texts is_model is_script (ends.simulation end none may) are steps =
     writes_by before after a net stated put work a.mode a.source (record {
       read = record { m = m; s = s; texts = texts; is_model = is_model; is_script = is_script };
       accepted = none;
@@ -293,13 +296,13 @@ writes_end before after a m s net stated put work texts is_model is_script (ends
     (writes_live before after a net stated put work
     (record { m = m; s = s; texts = texts; is_model = is_model; is_script = is_script }) may are steps)
 
-writes_come : (before after : Outside) (a : Asked) (m s : List ℕ) (put : List (List ℕ)) (work : ℕ)
+writes_come : (before after : Outside) (a : Assignment) (m s : List ℕ) (put : List (List ℕ)) (work : ℕ)
     → AreTexts a.source before.inputs.files m s → MayCome a m s (written put work)
     → ArePut put before.output after.output → after.steps ≡ before.steps + work → Writes a.mode a.source before after a
-writes_come before after a m s put work texts (ends.studied net stated end is_model is_script may) are steps =
+writes_come before after a m s put work texts (ends.study net stated end is_model is_script may) are steps =
     writes_end before after a m s net stated put work texts is_model is_script may are steps
 
-module _ (words : Option Asked) (before after : Outside) where
+module _ (words : Option Assignment) (before after : Outside) where
   -- status 0 means that the whole output is written, and nothing told
   pub finished : (status : ℕ) → IsAnswer words before after status → status ≡ 0 → IsWritten words before after
   finished _ (writes a is done fetches quiet) is_0 = record {
@@ -321,26 +324,27 @@ module _ (words : Option Asked) (before after : Outside) where
 -- ---- an ending comes
 
 module _ (before after : Outside) where
-  comes_stopped : (a : Asked) (told : List (List ℕ)) (stop : Stop)
+  comes_stopped : (a : Assignment) (told : List (List ℕ)) (stop : Stop)
       → StoppedFor (Comes before.inputs.files a) before.steps after.steps told stop
-      → (end : Ending) × (Comes before.inputs.files a end × Meets end (Rose before.output.faults after.output.faults)
+      → (end : Ending) × (Comes before.inputs.files a end × Meets end
+      (HasRisen before.output.faults after.output.faults)
       (stop_status stop))
   comes_stopped a told stop (ends.at_once none may same) = (stopped stop, (may, refl))
   comes_stopped a told stop (ends.at_limit most may few) = (overrun told stop most, (may, refl))
 
-  without : (a : Asked) (text : Text) (source : Source) → ¬ (InputsFailed before after)
+  without : (a : Assignment) (text : Text) (source : Source) → ¬ (InputsFailed before after)
       → IsUnread (InputsFailed before after) source text before.inputs.files
       → IsUnread ⊥ source text before.inputs.files
   without a text (named m s) none (inl failed) = absurd (none failed)
   without a text (named m s) none (inr lacks) = inr lacks
   without a text (made n) none h = h
 
-  of_memory : (words : Option Asked) → Completes words before after 1
+  of_memory : (words : Option Assignment) → Completes words before after 1
   of_memory None = inl refl
   of_memory (Some a) = λ well. inl refl
 
   -- where no input failed, the answer is out of memory, usage, a text that is not there, or a lawful ending
-  pub completes : (words : Option Asked) (status : ℕ) → IsAnswer words before after status
+  pub completes : (words : Option Assignment) (status : ℕ) → IsAnswer words before after status
       → Completes words before after status
   completes words _ (writes a is done fetches quiet) =
       subst (λ w. Completes w before after 0) (sym is)

@@ -11,21 +11,21 @@ use Rattle.decision_script.specs.declared.item.Act.TheVariants.{Decide, Look}
 use Rattle.decision_script.specs.declared.item.Item.{Item}
 use Rattle.decision_book.specs.declared.call.Call.{Call}
 use Rattle.decision_book.specs.Journal.{after, calls_of}
-use Rattle.decision_desk.specs.Accounts.{numbered}
+use Rattle.decision_desk.specs.Accounts.{calls_from}
 use Rattle.journal_text.specs.Laws.{IsCallOf, IsScriptOf}
 use Rattle.journal_text.proofs.ReadsAsScript.{journal_reads_as_script}
-use Rattle.live_study.specs.Asking.{decided, decisions_in}
+use Rattle.live_study.specs.Asking.{decisions_asked, decisions_in}
 use Rattle.live_study.specs.Scripts.{acts_by}
 use Rattle.live_study.proofs.Texts.{callers_within}
 use Rattle.cloner_top.specs.Deciding.{by_line, decision_lines, first_refused}
-use Rattle.cloner_top.specs.Endings.{MayRun, decided as ends_decided, run_texts, within, written}
+use Rattle.cloner_top.specs.Endings.{MayRun, run_texts, simulation, within, written}
 use Rattle.cloner_top.specs.Journals.{JournalRunsTheSame}
 use Rattle.world_core.specs.Worlds.{total_handled}
 
 -- ---- the decisions of a script's calls are those that a script can state
 
 -- the decisions among acts
-acts_decide : (acts : List Act) → AllByRecursion IsAct acts → AllByRecursion IsDecision (decided acts)
+acts_decide : (acts : List Act) → AllByRecursion IsAct acts → AllByRecursion IsDecision (decisions_asked acts)
 acts_decide [] all = tt
 acts_decide (Decide d ∷ acts) all = (all.0, acts_decide acts all.1)
 acts_decide (Look who station ∷ acts) all = acts_decide acts all.1
@@ -58,18 +58,18 @@ others_are false n c ps all = all
 -- where the calls of each caller are such, all are
 calls_are : (many n : ℕ) (calls : List Call)
     → AllByRecursion (λ (c : Call). (1 ≤ c.caller) × (c.caller ≤ many)) calls
-    → ((a : ℕ) → 1 ≤ a → a ≤ many → AllByRecursion IsDecision (decisions_in (numbered a n calls)))
+    → ((a : ℕ) → 1 ≤ a → a ≤ many → AllByRecursion IsDecision (decisions_in (calls_from a n calls)))
     → AllByRecursion (IsCallOf many) calls
 calls_are many n [] callers each = tt
 calls_are many n (c ∷ calls) callers each = (
   record {
     low = callers.0.0;
     high = callers.0.1;
-    decision = first_is (nat_eq c.caller c.caller) n c (numbered c.caller (n + 1) calls) (grind arith)
+    decision = first_is (nat_eq c.caller c.caller) n c (calls_from c.caller (n + 1) calls) (grind arith)
         (each c.caller callers.0.0 callers.0.1);
   },
   calls_are many (n + 1) calls callers.1 (λ a low high.
-      others_are (nat_eq c.caller a) n c (numbered a (n + 1) calls) (each a low high)),
+      others_are (nat_eq c.caller a) n c (calls_from a (n + 1) calls) (each a low high)),
 )
 
 -- ---- the law
@@ -93,7 +93,7 @@ journal_runs net s book model text valid stated journal short =
     record {
       again = r.again;
       read = r.read;
-      may = ends_decided (written (run_texts net (after net book.events).clones)
+      may = simulation (written (run_texts net (after net book.events).clones)
           (total_handled net (after net book.events).clones net.horizon)) none
           (subst (λ (cs : List Clone). MayRun net cs (run_texts net cs) (written (run_texts net (after net book.events).clones)
           (total_handled net (after net book.events).clones net.horizon))) (sym r.clones) (within short));

@@ -2,6 +2,7 @@
 use Rattle.std.proofs.Common.{◌≡◌, ◌≤◌, ℕ, ◌+◌, refl, sym, ap, ap₂, subst, ◌∙◌, arith, List, [], ◌∷◌, length}
 use Rattle.std.proofs.Common.{Result, Ok, Err, IfOk, IfErr}
 use Rattle.sim_base.specs.Clones.{clone_at}
+use Rattle.sim_base.specs.declared.lists.TheConstants.{MOST_CLONES}
 use Rattle.sim_outer.specs.Views.{SinkView}
 use Rattle.net_model.specs.Net.{Net}
 use Rattle.decision_script.specs.Stating.{ScriptView}
@@ -16,7 +17,7 @@ use Rattle.study_run.specs.Work.{most_handled}
 use Rattle.study_run.proofs.Meeting.{none_within}
 use Rattle.rolling_text.specs.WorldTraces.{AreShort}
 use Rattle.journal_text.specs.JournalText.{journal_text}
-use Rattle.live_study.specs.Lives.{IsFinished, IsStopped, kept}
+use Rattle.live_study.specs.Lives.{IsAtHorizon, IsStopped, all_looks}
 use Rattle.live_study.specs.Looks.{AreLooks}
 use Rattle.live_study.specs.declared.run.LiveRun.{LiveRun}
 use Rattle.cloner_top.specs.declared.halt.Halt.{Halt}
@@ -26,7 +27,7 @@ use Rattle.cloner_top.specs.declared.refusal.Refusal.TheVariants.{OutOfMemory, U
 use Rattle.cloner_top.specs.declared.refusal.Refusal.TheVariants.{NoScript, Stopped, CannotWrite}
 use Rattle.cloner_top.specs.Endings.{MayLive, StoppedFor, at_limit, finished, limit_met, over, run_texts, written}
 use Rattle.cloner_top.specs.LiveRuns.{HaltsFor, HasRun, IsLiveWorld, IsOverrun, IsPlaced, StopsLive}
-use Rattle.cloner_top.specs.Outsides.{ArePut, IsFailed, IsFinished as IsDone, IsHalted, IsNotPut}
+use Rattle.cloner_top.specs.Outsides.{ArePut, IsFailed, IsHalted, IsNotPut, IsStudyPut}
 use Rattle.cloner_top.proofs.Endings.{all_put, not_put}
 use Rattle.cloner_top.proofs.Runs.{short_planned}
 
@@ -55,8 +56,8 @@ module _ (net : Net) (s : ScriptView) (old_steps new_steps : ℕ) (live : LiveRu
 
   -- the world at the horizon, with the text
   module _ (w : WorldView) (is : live.run ≡ Ok w) where
-    ends : IsFinished net live.book w
-    ends = of_ok (IsFinished net live.book) live.run w is ran.finished
+    ends : IsAtHorizon net live.book w
+    ends = of_ok (IsAtHorizon net live.book) live.run w is ran.finished
 
     clones_are : w.clones ≡ (after net live.book.events).clones
     clones_are = ap (λ (v : WorldView). v.clones) ends.world_is
@@ -68,7 +69,7 @@ module _ (net : Net) (s : ScriptView) (old_steps new_steps : ℕ) (live : LiveRu
     front_is = ap (λ (v : WorldView). v.front) ends.world_is
 
     -- a live run leaves a live study's world, where its clones are few and planned, and no log is beyond the limit
-    pub live_world : (t : List ℕ) → t ≡ text → length w.clones ≤ 256 → NoneBeyond w.net w.clones w.front
+    pub live_world : (t : List ℕ) → t ≡ text → length w.clones ≤ MOST_CLONES → NoneBeyond w.net w.clones w.front
         → ArePlanned live.book.net (after live.book.net live.book.events).clones
         → IsLiveWorld net s old_steps new_steps w t
     live_world t same few none planned =
@@ -79,16 +80,17 @@ module _ (net : Net) (s : ScriptView) (old_steps new_steps : ℕ) (live : LiveRu
         subst (λ (n : Net). ArePlanned n (after n live.book.events).clones) ran.journal.net_is planned in
         record {
           net_is = net_is;
-          ended = front_is;
+          at_horizon = front_is;
           few = few;
           within = within;
           short = subst AreShort (sym clones_are) (short_planned net (after net live.book.events).clones all);
           may = subst (λ x. MayLive net s (written (x ∷ run_texts net w.clones)
               (total_handled net w.clones net.horizon))) (sym (same ∙ ran.text_is))
               (subst (λ cs. MayLive net s (written
-              (journal_text s.analysts live.book.events (kept live.looks.items) ∷ run_texts net cs)
+              (journal_text s.analysts live.book.events (all_looks live.looks.items) ∷ run_texts net cs)
               (total_handled net cs net.horizon))) (sym clones_are)
-              (finished live.book (kept live.looks.items) ran.journal ends.last (of_ok (λ v. AreLooks net s live.book.events (kept live.looks.items)) live.run w is ran.looks)
+              (finished live.book (all_looks live.looks.items) ran.journal ends.last (of_ok
+              (λ v. AreLooks net s live.book.events (all_looks live.looks.items)) live.run w is ran.looks)
               (subst (λ cs. AreWithin net cs) clones_are within)));
           steps = of_ok (λ (v : WorldView). new_steps ≡ old_steps + total_handled net v.clones net.horizon) live.run w is
               ran.steps;
@@ -96,7 +98,7 @@ module _ (net : Net) (s : ScriptView) (old_steps new_steps : ℕ) (live : LiveRu
 
   -- the same of what is handed on
   pub live_ok : {X : Type 0} (world : X → WorldView) (told : X → List ℕ) (r : Result X Halt)
-      → IfOk r (λ x. (live.run ≡ Ok (world x)) × (told x ≡ text)) → IfOk r (λ x. length (world x).clones ≤ 256)
+      → IfOk r (λ x. (live.run ≡ Ok (world x)) × (told x ≡ text)) → IfOk r (λ x. length (world x).clones ≤ MOST_CLONES)
       → IfOk r (λ x. NoneBeyond (world x).net (world x).clones (world x).front)
       → IfOk r (λ x. ArePlanned live.book.net (after live.book.net live.book.events).clones)
       → IfOk r (λ x. IsLiveWorld net s old_steps new_steps (world x) (told x))
@@ -118,9 +120,9 @@ module _ (net : Net) (s : ScriptView) (old_steps new_steps : ℕ) (live : LiveRu
       told_limit station who (halt.Overrun journal stop) stopped idle is =
           subst (λ x. StoppedFor (MayLive net s) old_steps new_steps (x ∷ []) stop) (sym (is.0 ∙ ran.text_is))
           (subst (λ x. StoppedFor (MayLive net s) old_steps new_steps
-          (journal_text s.analysts live.book.events (kept live.looks.items) ∷ []) x) (sym is.1)
+          (journal_text s.analysts live.book.events (all_looks live.looks.items) ∷ []) x) (sym is.1)
           (at_limit (most_handled net (length (after net live.book.events).clones))
-          (over live.book (kept live.looks.items) station who ran.journal ran.made stopped) (omega (arith, idle))))
+          (over live.book (all_looks live.looks.items) station who ran.journal ran.made stopped) (omega (arith, idle))))
 
       by_fault : (e : StudyFault) (h : Halt) → IsStopped net live.book e → new_steps ≡ old_steps
           → HaltsFor net live.book.events text e h → StopsLive net s old_steps new_steps h
@@ -147,7 +149,7 @@ module _ (net told : Net) (s : ScriptView) (old_steps new_steps : ℕ) (w : Worl
 
   -- where the journal and the texts of the run were put, the live study is written
   pub live_finished : ArePut (put ∷ run_texts told w.clones) old new
-      → IsDone (MayLive net s) old_steps new_steps old new
+      → IsStudyPut (MayLive net s) old_steps new_steps old new
   live_finished are = all_put (MayLive net s) old_steps new_steps (total_handled net w.clones net.horizon)
       (text ∷ run_texts net w.clones) is.may is.steps old new (subst (λ t. ArePut t old new) texts_same are)
 

@@ -11,7 +11,7 @@ use Rattle.decision_book.specs.Journal.{after}
 use Rattle.command_words.specs.declared.request.Mode.TheVariants.{Live}
 use Rattle.command_words.specs.declared.request.WordsFault.{WordsFault}
 use Rattle.command_words.specs.declared.request.WordsFault.TheVariants as fault
-use Rattle.command_words.specs.Requests.{Asked}
+use Rattle.command_words.specs.Requests.{Assignment}
 use Rattle.study_run.specs.Accepted.{AllAccepted}
 use Rattle.cloner_top.specs.declared.halt.Halt.{Halt}
 use Rattle.cloner_top.specs.declared.refusal.Refusal.{Refusal}
@@ -19,13 +19,13 @@ use Rattle.cloner_top.specs.Answers.{Comes, IsAnswer, IsDisobeyed, Outside}
 use Rattle.cloner_top.specs.Deciding.{IsDecided}
 use Rattle.cloner_top.specs.Endings.{Ending, MayEnd, MayLive, MaySimulate, live}
 use Rattle.cloner_top.specs.Facts.{AreFewFetches}
-use Rattle.cloner_top.specs.Outsides.{AreTold, IsFailed, IsFinished, IsHalted}
+use Rattle.cloner_top.specs.Outsides.{ArePutOrCut, IsFailed, IsStudyPut, IsHalted}
 use Rattle.cloner_top.specs.Plans.{IsRead}
 use Rattle.cloner_top.specs.Refusals.{line_of, status_of, words_refusal}
 use Rattle.cloner_top.proofs.Endings.{comes, decided_end, failed_on, finished_on, halted_is, halted_on, unread_words}
 use Rattle.cloner_top.proofs.Runs.{on_err, on_ok}
 
-module _ (a : Asked) (net told : Net) (stated : ScriptView) (book : BookView) (is : IsDecided net stated book)
+module _ (a : Assignment) (net told : Net) (stated : ScriptView) (book : BookView) (is : IsDecided net stated book)
     (same : told ≡ net) where
   -- the book is of the network
   pub plan_net : book.net ≡ told
@@ -42,9 +42,9 @@ module _ (a : Asked) (net told : Net) (stated : ScriptView) (book : BookView) (i
 
   -- what is written of a planned study ends it
   pub decided_put : (old_steps new_steps : ℕ) (old new : SinkView) {T : Type 0} (r : Result T Refusal)
-      → OnOk r (IsFinished (MaySimulate a.mode a.source told (after book.net book.events).clones) old_steps new_steps
+      → OnOk r (IsStudyPut (MaySimulate a.mode a.source told (after book.net book.events).clones) old_steps new_steps
       old new)
-      → OnOk r (IsFinished (MayEnd a net stated) old_steps new_steps old new)
+      → OnOk r (IsStudyPut (MayEnd a net stated) old_steps new_steps old new)
   decided_put old_steps new_steps old new r h =
       on_ok r (finished_on (MaySimulate a.mode a.source told (after book.net book.events).clones) (MayEnd a net stated)
       to_end old_steps new_steps old new) h
@@ -59,11 +59,11 @@ module _ (a : Asked) (net told : Net) (stated : ScriptView) (book : BookView) (i
       to_end old_steps new_steps old new) h
 
 -- what is written while analysts decide ends a live study
-module _ (a : Asked) (net : Net) (stated : ScriptView) (is : a.mode ≡ Live) (old_steps new_steps : ℕ)
+module _ (a : Assignment) (net : Net) (stated : ScriptView) (is : a.mode ≡ Live) (old_steps new_steps : ℕ)
     (old new : SinkView) where
   -- what is written for an ending of the live study is written for one of the study that is asked
-  pub live_put : {T : Type 0} (r : Result T Halt) → OnOk r (IsFinished (MayLive net stated) old_steps new_steps old new)
-      → OnOk r (IsFinished (MayEnd a net stated) old_steps new_steps old new)
+  pub live_put : {T : Type 0} (r : Result T Halt) → OnOk r (IsStudyPut (MayLive net stated) old_steps new_steps old new)
+      → OnOk r (IsStudyPut (MayEnd a net stated) old_steps new_steps old new)
   live_put r h = on_ok r (finished_on (MayLive net stated) (MayEnd a net stated) (λ end may. live end is may)
       old_steps new_steps old new) h
 
@@ -74,12 +74,12 @@ module _ (a : Asked) (net : Net) (stated : ScriptView) (is : a.mode ≡ Live) (o
   live_not_put r h = on_err r (halted_on (MayLive net stated) (MayEnd a net stated) (λ end may. live end is may)
       old_steps new_steps old new) h
 
-module _ (files : Option Files) (a : Asked) (net : Net) (stated : ScriptView)
+module _ (files : Option Files) (a : Assignment) (net : Net) (stated : ScriptView)
     (read : IsRead a.source files net stated) where
   -- how the study of its texts ends is what is asked
   pub obeyed : (old_steps new_steps : ℕ) (old new : SinkView) {T : Type 0} (r : Result T Halt)
-      → OnOk r (IsFinished (MayEnd a net stated) old_steps new_steps old new)
-      → OnOk r (IsFinished (Comes files a) old_steps new_steps old new)
+      → OnOk r (IsStudyPut (MayEnd a net stated) old_steps new_steps old new)
+      → OnOk r (IsStudyPut (Comes files a) old_steps new_steps old new)
   obeyed old_steps new_steps old new r h =
       on_ok r (finished_on (MayEnd a net stated) (Comes files a) (comes files a net stated read) old_steps new_steps
       old new) h
@@ -103,16 +103,21 @@ pub not_counted : (calls : Option ℕ) → AreCounted 0 calls calls
 not_counted None = refl
 not_counted (Some n) = refl
 
-module _ (words : Option Asked) (before after : Outside) where
+module _ (words : Option Assignment) (before after : Outside) where
   -- the words were not read, and one line tells why
   pub words_answer : (f : WordsFault) (r : Refusal) (status : ℕ) → (f ≡ fault.Usage → words ≡ None)
       → r ≡ words_refusal f → after.output ≡ before.output
-      → AreTold (line_of r ∷ []) before.errors after.errors → after.inputs ≡ before.inputs → after.steps ≡ before.steps
+      → ArePutOrCut (line_of r ∷ []) before.errors after.errors → after.inputs ≡ before.inputs
+      → after.steps ≡ before.steps
       → status ≡ status_of r
       → IsAnswer words before after status
   words_answer f r status none same output told inputs steps is =
       unread_words words before after f status none
-      (record { output = output; told_is = subst (λ x. AreTold (line_of x ∷ []) before.errors after.errors) same told })
+      (record {
+        output = output;
+        told_is = subst (λ x. ArePutOrCut
+            (line_of x ∷ []) before.errors after.errors) same told;
+      })
       inputs steps (is ∙ ap status_of same)
 
   -- nothing was fetched

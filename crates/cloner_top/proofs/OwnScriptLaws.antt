@@ -18,7 +18,7 @@ use Rattle.command_words.specs.declared.request.Mode.TheVariants.{One, Live}
 use Rattle.command_words.specs.Requests.{Source}
 use Rattle.cloner_top.specs.declared.stop.Stop.TheVariants.{NoClone}
 use Rattle.cloner_top.specs.Deciding.{by_line, clones_of, decision_lines, first_refused}
-use Rattle.cloner_top.specs.Endings.{Ending, MayEnd, MayRunAlone, beyond, decided, fits}
+use Rattle.cloner_top.specs.Endings.{Ending, MayEnd, MayRunAlone, beyond, fits, simulation}
 use Rattle.cloner_top.specs.Endings.{limit_met, live, missing, overrun, refused, stopped, written}
 use Rattle.cloner_top.specs.OwnScripts.{OwnScriptWritesTheSame}
 
@@ -66,7 +66,7 @@ module _ (net : Net) (source : Source) (who : List ℕ) where
   run_of_end : (s : ScriptView) (end : Ending) → first_refused net s ≡ None
       → MayEnd (record { mode = One who; source = source }) net s end → MayRunAlone net (clones_of net s) who end
   run_of_end s _ none (refused reply line first is) = absurd (let e = sym none ∙ is in cc)
-  run_of_end s _ none (decided end n may) = may
+  run_of_end s _ none (simulation end n may) = may
   run_of_end s _ none (live end is may) = absurd (not_live is)
     where
       not_live : One who ≡ Live → ⊥
@@ -79,7 +79,7 @@ same_end : (net : Net) (source : Source) (who : List ℕ) (s t : ScriptView) (en
     → MayEnd (record { mode = One who; source = source }) net s end
     → MayEnd (record { mode = One who; source = source }) net t end
 same_end net source who s t end none_s none_t same h =
-    decided end none_t (of_it net who (clones_of net t) end (place_of who (clones_of net t)) refl
+    simulation end none_t (of_it net who (clones_of net t) end (place_of who (clones_of net t)) refl
     (subst (λ o. MayRunIt net who o end) same
     (to_it net who (clones_of net s) end (run_of_end net source who s end none_s h))))
 

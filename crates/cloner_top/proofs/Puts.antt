@@ -6,16 +6,16 @@ use Rattle.std.proofs.lemmas.List.Concat.{concat_is}
 use Rattle.std.proofs.lemmas.List.Folds.{concat-append, flat_map-map}
 use Rattle.std.specs.List.{concat, flat_map}
 use Rattle.std.proofs.Math.Seq.{take-append-add}
-use Rattle.sim_outer.specs.Bytes.{Appended, PartAppended}
-use Rattle.sim_outer.specs.Causes.{AreCounted, Counted, Rose, counts_after, next_count}
+use Rattle.sim_outer.specs.Bytes.{IsAppended, IsPrefixAppended}
+use Rattle.sim_outer.specs.Causes.{AreCounted, Counted, HasRisen, counts_after, next_count}
 use Rattle.sim_outer.specs.Views.{SinkView}
 use Rattle.rolling_text.proofs.Pieces.{appended_then}
 use Rattle.cloner_top.specs.declared.refusal.Refusal.{Refusal}
 use Rattle.cloner_top.specs.declared.refusal.Refusal.TheVariants.{CannotWrite}
-use Rattle.cloner_top.specs.Outsides.{AreCut, ArePut, AreTold, IsNotPut}
+use Rattle.cloner_top.specs.Outsides.{AreCut, ArePut, ArePutOrCut, IsNotPut}
 
 -- a prefix of the first text is one of both
-part_first : (a b : List ℕ) (old new : Option (List ℕ)) → PartAppended old a new → PartAppended old (a ++ b) new
+part_first : (a b : List ℕ) (old new : Option (List ℕ)) → IsPrefixAppended old a new → IsPrefixAppended old (a ++ b) new
 part_first a b None new h = h
 part_first a b (Some o) new h = (min h.0 (length a), h.1 ∙ ap (λ t. Some (o ++ t)) (sym (take_front h.0 a b)))
   where
@@ -23,11 +23,11 @@ part_first a b (Some o) new h = (min h.0 (length a), h.1 ∙ ap (λ t. Some (o +
     take_front n b c = grind (arith, take-append-le (min n (length b)) b c, take_all)
 
 -- the first text, and a prefix of the second
-part_second : (a b : List ℕ) (old mid new : Option (List ℕ)) → Appended old a mid → PartAppended mid b new
-    → PartAppended old (a ++ b) new
+part_second : (a b : List ℕ) (old mid new : Option (List ℕ)) → IsAppended old a mid → IsPrefixAppended mid b new
+    → IsPrefixAppended old (a ++ b) new
 part_second a b None mid new h k = let m : mid ≡ None = h in (rw m at k)
 part_second a b (Some o) mid new h k =
-    let k2 : PartAppended (Some (o ++ a)) b new = rw h at k in (
+    let k2 : IsPrefixAppended (Some (o ++ a)) b new = rw h at k in (
       length a + k2.0,
       k2.1 ∙ (ap Some (append_assoc o a (take k2.0 b)
           ∙ ap (λ t. o ++ t) (sym (take-append-add a b k2.0)))),
@@ -46,18 +46,18 @@ one (Some o) new h = h
 -- ---- one text
 
 -- a text that was appended in one call was put
-pub put_one : (text : List ℕ) (old new : SinkView) → Appended old.bytes text new.bytes → Counted old.calls new.calls
+pub put_one : (text : List ℕ) (old new : SinkView) → IsAppended old.bytes text new.bytes → Counted old.calls new.calls
     → ArePut (text ∷ []) old new
 put_one text old new bytes calls = record {
-  bytes = subst (λ t. Appended old.bytes t new.bytes) (sym (append-nil text)) bytes;
+  bytes = subst (λ t. IsAppended old.bytes t new.bytes) (sym (append-nil text)) bytes;
   calls = one old.calls new.calls calls;
 }
 
 -- a text of which a prefix was appended, in a call that failed, was cut off
-pub cut_one : (text : List ℕ) (old new : SinkView) → PartAppended old.bytes text new.bytes
-    → Rose old.faults new.faults → Counted old.calls new.calls → AreCut (text ∷ []) old new
+pub cut_one : (text : List ℕ) (old new : SinkView) → IsPrefixAppended old.bytes text new.bytes
+    → HasRisen old.faults new.faults → Counted old.calls new.calls → AreCut (text ∷ []) old new
 cut_one text old new bytes failed calls = record {
-  bytes = subst (λ t. PartAppended old.bytes t new.bytes) (sym (append-nil text)) bytes;
+  bytes = subst (λ t. IsPrefixAppended old.bytes t new.bytes) (sym (append-nil text)) bytes;
   failed = failed;
   puts = 1;
   some = omega arith;
@@ -77,12 +77,12 @@ module _ {X : Type 0} (f : X → List ℕ) (xs : List X) (last : List ℕ) where
 
   module _ (old mid new : SinkView) where
     -- where all but the last were taken, a call for each, and the last was put, all were put
-    pub put_more : Appended old.bytes (flat_map f xs) mid.bytes → AreCounted (length xs) old.calls mid.calls
+    pub put_more : IsAppended old.bytes (flat_map f xs) mid.bytes → AreCounted (length xs) old.calls mid.calls
         → ArePut (last ∷ []) mid new → ArePut (map f xs ++ last ∷ []) old new
     put_more bytes calls put = record {
-      bytes = subst (λ t. Appended old.bytes t new.bytes) (sym all_texts)
+      bytes = subst (λ t. IsAppended old.bytes t new.bytes) (sym all_texts)
           (appended_then (flat_map f xs) last old.bytes mid.bytes new.bytes bytes
-          (subst (λ t. Appended mid.bytes t new.bytes) (append-nil last) put.bytes));
+          (subst (λ t. IsAppended mid.bytes t new.bytes) (append-nil last) put.bytes));
       calls = subst (λ n. AreCounted n old.calls new.calls) (sym how_many)
           (one_more (length xs) old.calls mid.calls new.calls calls (of_one mid.calls new.calls put.calls));
     }
@@ -92,13 +92,13 @@ module _ {X : Type 0} (f : X → List ℕ) (xs : List X) (last : List ℕ) where
         of_one (Some o) b h = h
 
     -- where all but the last were taken, and the last was cut off, the texts were cut off
-    pub cut_last : Appended old.bytes (flat_map f xs) mid.bytes → AreCounted (length xs) old.calls mid.calls
+    pub cut_last : IsAppended old.bytes (flat_map f xs) mid.bytes → AreCounted (length xs) old.calls mid.calls
         → old.faults ≤ mid.faults → AreCut (last ∷ []) mid new
         → AreCut (map f xs ++ last ∷ []) old new
     cut_last bytes calls later cut = record {
-      bytes = subst (λ t. PartAppended old.bytes t new.bytes) (sym all_texts)
+      bytes = subst (λ t. IsPrefixAppended old.bytes t new.bytes) (sym all_texts)
           (part_second (flat_map f xs) last old.bytes mid.bytes new.bytes bytes
-          (subst (λ t. PartAppended mid.bytes t new.bytes) (append-nil last) cut.bytes));
+          (subst (λ t. IsPrefixAppended mid.bytes t new.bytes) (append-nil last) cut.bytes));
       failed = let r = cut.failed in omega (arith, r, later);
       puts = length xs + 1;
       some = omega arith;
@@ -112,10 +112,11 @@ module _ {X : Type 0} (f : X → List ℕ) (xs : List X) (last : List ℕ) where
         of_some (Some o) b n low high h = let e : n ≡ 1 = omega (arith, low, high) in (rw e at h)
 
   -- where a call before the last failed, and a part was taken, the texts were cut off
-  pub cut_before : (old new : SinkView) → PartAppended old.bytes (flat_map f xs) new.bytes → Rose old.faults new.faults
+  pub cut_before : (old new : SinkView) → IsPrefixAppended old.bytes (flat_map f xs) new.bytes
+      → HasRisen old.faults new.faults
       → (n : ℕ) → 1 ≤ n → n ≤ length xs → AreCounted n old.calls new.calls → AreCut (map f xs ++ last ∷ []) old new
   cut_before old new bytes failed n some few calls = record {
-    bytes = subst (λ t. PartAppended old.bytes t new.bytes) (sym all_texts)
+    bytes = subst (λ t. IsPrefixAppended old.bytes t new.bytes) (sym all_texts)
         (part_first (flat_map f xs) last old.bytes new.bytes bytes);
     failed = failed;
     puts = n;
@@ -143,7 +144,7 @@ module _ (first : List ℕ) (texts : List (List ℕ)) where
     -- where the first was put, and then the others, all were put
     pub put_then : ArePut (first ∷ []) old mid → ArePut texts mid new → ArePut (first ∷ texts) old new
     put_then h k = record {
-      bytes = subst (λ t. Appended old.bytes t new.bytes) (sym both_are)
+      bytes = subst (λ t. IsAppended old.bytes t new.bytes) (sym both_are)
           (appended_then (concat (first ∷ [])) (concat texts) old.bytes mid.bytes new.bytes h.bytes k.bytes);
       calls = counted_then (length texts) old.calls mid.calls new.calls h.calls k.calls;
     }
@@ -152,7 +153,7 @@ module _ (first : List ℕ) (texts : List (List ℕ)) where
     pub cut_then : ArePut (first ∷ []) old mid → old.faults ≤ mid.faults → AreCut texts mid new
         → AreCut (first ∷ texts) old new
     cut_then h later k = record {
-      bytes = subst (λ t. PartAppended old.bytes t new.bytes) (sym both_are)
+      bytes = subst (λ t. IsPrefixAppended old.bytes t new.bytes) (sym both_are)
           (part_second (concat (first ∷ [])) (concat texts) old.bytes mid.bytes new.bytes h.bytes k.bytes);
       failed = let r = k.failed in omega (arith, r, later);
       puts = suc k.puts;
@@ -162,15 +163,15 @@ module _ (first : List ℕ) (texts : List (List ℕ)) where
     }
 
     -- where the first was put, and the others were told, all together were told
-    pub told_then : ArePut (first ∷ []) old mid → old.faults ≤ mid.faults → AreTold texts mid new
-        → AreTold (first ∷ texts) old new
+    pub told_then : ArePut (first ∷ []) old mid → old.faults ≤ mid.faults → ArePutOrCut texts mid new
+        → ArePutOrCut (first ∷ texts) old new
     told_then h later (inl k) = inl (put_then h k)
     told_then h later (inr k) = inr (cut_then h later k)
 
   -- where the first was cut off, all together were
   pub cut_first : (old new : SinkView) → AreCut (first ∷ []) old new → AreCut (first ∷ texts) old new
   cut_first old new h = record {
-    bytes = subst (λ t. PartAppended old.bytes t new.bytes) (sym both_are)
+    bytes = subst (λ t. IsPrefixAppended old.bytes t new.bytes) (sym both_are)
         (part_first (concat (first ∷ [])) (concat texts) old.bytes new.bytes h.bytes);
     failed = h.failed;
     puts = h.puts;

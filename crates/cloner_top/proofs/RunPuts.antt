@@ -2,8 +2,8 @@
 use Rattle.std.proofs.Common.{◌≡◌, ◌≤◌, ℕ, refl, sym, ap, subst, ◌∙◌, List, []}
 use Rattle.std.proofs.Common.{◌∷◌, ◌++◌, length, map, Result, Ok, Err, IfErr, OnOk}
 use Rattle.sim_base.specs.Clones.{Clone}
-use Rattle.sim_outer.specs.Bytes.{Appended, PartAppended}
-use Rattle.sim_outer.specs.Causes.{AreCounted, Rose}
+use Rattle.sim_outer.specs.Bytes.{IsAppended, IsPrefixAppended}
+use Rattle.sim_outer.specs.Causes.{AreCounted, HasRisen}
 use Rattle.sim_outer.specs.Views.{SinkView}
 use Rattle.net_model.specs.Net.{Net}
 use Rattle.trace_report.specs.Outputs.{clone_text, clone_texts, report}
@@ -31,18 +31,18 @@ module _ (told net : Net) (those cs : List Clone) (same_net : told ≡ net) (sam
   module _ (last : List ℕ) (last_is : last ≡ report net cs) (old mid new : SinkView) {T : Type 0}
       (r : Result T Refusal) where
     -- the traces were put, and then the report
-    pub all_texts_put : OnOk r (ArePut (last ∷ []) mid new) → Appended old.bytes (clone_texts told those) mid.bytes
+    pub all_texts_put : OnOk r (ArePut (last ∷ []) mid new) → IsAppended old.bytes (clone_texts told those) mid.bytes
         → AreCounted (length those) old.calls mid.calls
         → OnOk r (ArePut (run_texts net cs) old new)
     all_texts_put h bytes calls =
         on_ok r (λ put. subst (λ t. ArePut t old new) (texts_are net cs last last_is)
         (put_more (clone_text net) cs last old mid new
-        (subst (λ t. Appended old.bytes t mid.bytes) (same_texts told net those cs same_net same_clones) bytes)
+        (subst (λ t. IsAppended old.bytes t mid.bytes) (same_texts told net those cs same_net same_clones) bytes)
         (subst (λ l. AreCounted (length l) old.calls mid.calls) same_clones calls) put)) h
 
     -- the report was cut off
     pub report_cut : IfErr r (λ e. IsNotPut (last ∷ []) mid new e) → IfErr r (λ e. e ≡ CannotWrite)
-        → Appended old.bytes (clone_texts told those) mid.bytes
+        → IsAppended old.bytes (clone_texts told those) mid.bytes
         → AreCounted (length those) old.calls mid.calls → old.faults ≤ mid.faults
         → IfErr r (λ e. IsNotPut (run_texts net cs) old new e)
     report_cut h cause bytes calls later = of_result r h cause
@@ -50,7 +50,7 @@ module _ (told net : Net) (those cs : List Clone) (same_net : told ≡ net) (sam
         cut : AreCut (last ∷ []) mid new → AreCut (run_texts net cs) old new
         cut off = subst (λ t. AreCut t old new) (texts_are net cs last last_is)
             (cut_last (clone_text net) cs last old mid new
-            (subst (λ t. Appended old.bytes t mid.bytes) (same_texts told net those cs same_net same_clones) bytes)
+            (subst (λ t. IsAppended old.bytes t mid.bytes) (same_texts told net those cs same_net same_clones) bytes)
             (subst (λ l. AreCounted (length l) old.calls mid.calls) same_clones calls) later off)
 
         of_result : {T : Type 0} (r : Result T Refusal) → IfErr r (λ e. IsNotPut (last ∷ []) mid new e)
@@ -61,15 +61,15 @@ module _ (told net : Net) (those cs : List Clone) (same_net : told ≡ net) (sam
             (cut (subst (λ x. IsNotPut (last ∷ []) mid new x) k h))
 
   -- the traces were cut off
-  pub traces_cut : (old new : SinkView) → PartAppended old.bytes (clone_texts told those) new.bytes
-      → Rose old.faults new.faults
+  pub traces_cut : (old new : SinkView) → IsPrefixAppended old.bytes (clone_texts told those) new.bytes
+      → HasRisen old.faults new.faults
       → AreCountedTo (length those) old.calls new.calls → AreCut (run_texts net cs) old new
   traces_cut old new part failed counted =
       let calls : AreCountedTo (length cs) old.calls new.calls =
       subst (λ l. AreCountedTo (length l) old.calls new.calls) same_clones counted in
       subst (λ t. AreCut t old new) (texts_are net cs (report net cs) refl)
       (cut_before (clone_text net) cs (report net cs) old new
-      (subst (λ t. PartAppended old.bytes t new.bytes) (same_texts told net those cs same_net same_clones) part)
+      (subst (λ t. IsPrefixAppended old.bytes t new.bytes) (same_texts told net those cs same_net same_clones) part)
       failed calls.calls calls.some calls.few calls.counted)
 
 -- a journal was put, and then the texts of a run

@@ -19,7 +19,7 @@ use Rattle.command_words.specs.declared.request.Mode.{Mode}
 use Rattle.command_words.specs.Requests.{Source}
 use Rattle.cloner_top.specs.Endings.{MayRun, MayRunAlone, MaySimulate, StoppedFor, at_limit, beyond}
 use Rattle.cloner_top.specs.Endings.{fits, limit_met, over, within, written}
-use Rattle.cloner_top.specs.Outsides.{ArePut, IsFailed, IsFinished, IsNotPut}
+use Rattle.cloner_top.specs.Outsides.{ArePut, IsFailed, IsStudyPut, IsNotPut}
 use Rattle.cloner_top.proofs.Endings.{all_put, not_put}
 
 -- the lists of planned clones are short
@@ -58,7 +58,7 @@ module _ (texts_of : Net → List Clone → List (List ℕ)) (net told : Net) (c
 
   -- where no log is beyond the limit, and the texts of the run were put, the run is written
   pub run_put : {T : Type 0} (r : Result T Refusal) → OnOk r (ArePut (texts_of told those) old new)
-      → OnOk r (IsFinished (MayRun net cs (texts_of net cs)) old_steps new_steps old new)
+      → OnOk r (IsStudyPut (MayRun net cs (texts_of net cs)) old_steps new_steps old new)
   run_put r h = on_ok r (λ put. all_put (MayRun net cs (texts_of net cs)) old_steps new_steps
       (total_handled net cs net.horizon) (texts_of net cs) may_run steps_same old new
       (subst (λ t. ArePut t old new) texts_same put)) h
@@ -108,7 +108,7 @@ module _ (net told : Net) (cs those : List Clone) (name : List ℕ) (k old_steps
 
     -- where no log of the clone is beyond the limit, and its text was put, its run by itself is written
     pub alone_put : {T : Type 0} (r : Result T Refusal) → OnOk r (ArePut (text ∷ []) old new)
-        → OnOk r (IsFinished (MayRunAlone net cs name) old_steps new_steps old new)
+        → OnOk r (IsStudyPut (MayRunAlone net cs name) old_steps new_steps old new)
     alone_put r h = on_ok r (λ put. all_put (MayRunAlone net cs name) old_steps new_steps
         (length (trace_of net (clone_at cs k))) (clone_text net (clone_at cs k) ∷ []) may_alone steps_alone old new
         (subst (λ t. ArePut t old new) is_text put)) h

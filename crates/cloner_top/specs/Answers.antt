@@ -1,9 +1,9 @@
 -- What the program answers: its status, with what became of the outside.
 use Rattle.std.specs.Prelude.{◌≡◌, ℕ, List, [], ◌∷◌, ◌++◌, Option, Some, None, option_map}
-use Rattle.sim_outer.specs.Causes.{AreCounted, Rose}
+use Rattle.sim_outer.specs.Causes.{AreCounted, HasRisen}
 use Rattle.sim_outer.specs.Files.{Files}
 use Rattle.sim_outer.specs.Views.{InputsView, SinkView}
-use Rattle.command_words.specs.Requests.{Asked, form}
+use Rattle.command_words.specs.Requests.{Assignment, form}
 use Rattle.cloner_top.specs.declared.reading.Text.TheVariants.{Model, Script}
 use Rattle.cloner_top.specs.declared.halt.Halt.{Halt}
 use Rattle.cloner_top.specs.declared.halt.Halt.TheVariants.{Refused, Overrun}
@@ -12,14 +12,14 @@ use Rattle.cloner_top.specs.declared.refusal.Refusal.TheVariants.{OutOfMemory, U
 use Rattle.cloner_top.specs.declared.refusal.Refusal.TheVariants.{NoScript, Stopped, CannotWrite}
 use Rattle.cloner_top.specs.declared.stop.Stop.{Stop}
 use Rattle.cloner_top.specs.Endings.{Ending, MayCome, StoppedFor}
-use Rattle.cloner_top.specs.Outsides.{AreTold, IsCutOff, IsFailed, IsFinished}
+use Rattle.cloner_top.specs.Outsides.{ArePutOrCut, IsStudyCut, IsFailed, IsStudyPut}
 use Rattle.cloner_top.specs.Plans.{HasModel}
 use Rattle.cloner_top.specs.Refusals.{line_of}
 use Rattle.cloner_top.specs.Stops.{stop_status}
 use Rattle.cloner_top.specs.Texts.{AreTexts, IsUnread, all_fetches}
 
 -- what the words ask for, whoever does it, if the command line has a known form
-abbrev pub asked_by : List (List ℕ) → Option Asked
+abbrev pub asked_by : List (List ℕ) → Option Assignment
 asked_by words = option_map (λ r. r.asked) (form words)
 
 -- the inputs, the output, the error sink, and how many messages were handled
@@ -30,7 +30,7 @@ pub record Outside : Type 0 where
   pub steps : ℕ
 
 -- a lawful ending of what is asked, by two texts that are those of the study as far as the files are known
-pub record Comes (files : Option Files) (a : Asked) (end : Ending) : Type 0 where
+pub record Comes (files : Option Files) (a : Assignment) (end : Ending) : Type 0 where
   pub m : List ℕ
   pub s : List ℕ
   pub texts : AreTexts a.source files m s
@@ -39,17 +39,17 @@ pub record Comes (files : Option Files) (a : Asked) (end : Ending) : Type 0 wher
 -- nothing is written, and a line tells why, behind these texts
 pub record IsRefused (before after : Outside) (told : List (List ℕ)) (refusal : Refusal) : Type 0 where
   pub output : after.output ≡ before.output
-  pub told_is : AreTold (told ++ line_of refusal ∷ []) before.errors after.errors
+  pub told_is : ArePutOrCut (told ++ line_of refusal ∷ []) before.errors after.errors
 
 -- the inputs had a fault
 abbrev pub InputsFailed : Outside → Outside → Type 0
-InputsFailed before after = Rose before.inputs.faults after.inputs.faults
+InputsFailed before after = HasRisen before.inputs.faults after.inputs.faults
 
 -- how the program ends, by its status
-pub data IsAnswer (words : Option Asked) (before after : Outside) : ℕ → Type 0 where
+pub data IsAnswer (words : Option Assignment) (before after : Outside) : ℕ → Type 0 where
   -- all is written: each text was put, and each file was fetched, once
-  written : (a : Asked) → words ≡ Some a
-      → IsFinished (Comes before.inputs.files a) before.steps after.steps before.output after.output
+  written : (a : Assignment) → words ≡ Some a
+      → IsStudyPut (Comes before.inputs.files a) before.steps after.steps before.output after.output
       → AreCounted (all_fetches a.source) before.inputs.calls after.inputs.calls → after.errors ≡ before.errors
       → IsAnswer words before after 0
   -- out of memory
@@ -58,23 +58,23 @@ pub data IsAnswer (words : Option Asked) (before after : Outside) : ℕ → Type
   usage : words ≡ None → IsRefused before after [] Usage → after.inputs ≡ before.inputs → after.steps ≡ before.steps
       → IsAnswer words before after 2
   -- the model's text was not read
-  no_model : (a : Asked) → words ≡ Some a → IsUnread (InputsFailed before after) a.source Model before.inputs.files
+  no_model : (a : Assignment) → words ≡ Some a → IsUnread (InputsFailed before after) a.source Model before.inputs.files
       → IsRefused before after [] NoModel → after.steps ≡ before.steps → IsAnswer words before after 3
   -- the script's text was not read
-  no_script : (a : Asked) → words ≡ Some a → HasModel a.source before.inputs.files
+  no_script : (a : Assignment) → words ≡ Some a → HasModel a.source before.inputs.files
       → IsUnread (InputsFailed before after) a.source Script before.inputs.files
       → IsRefused before after [] NoScript → after.steps ≡ before.steps → IsAnswer words before after 3
   -- the study stops; at the limit of a live one, its journal is told before the line
-  stopped : (a : Asked) → words ≡ Some a → (told : List (List ℕ)) (stop : Stop)
+  stopped : (a : Assignment) → words ≡ Some a → (told : List (List ℕ)) (stop : Stop)
       → StoppedFor (Comes before.inputs.files a) before.steps after.steps told stop
       → IsRefused before after told (Stopped stop) → IsAnswer words before after (stop_status stop)
   -- the output was cut off
-  cut : (a : Asked) → words ≡ Some a
-      → IsCutOff (Comes before.inputs.files a) before.steps after.steps before.output after.output
-      → AreTold (line_of CannotWrite ∷ []) before.errors after.errors → IsAnswer words before after 8
+  cut : (a : Assignment) → words ≡ Some a
+      → IsStudyCut (Comes before.inputs.files a) before.steps after.steps before.output after.output
+      → ArePutOrCut (line_of CannotWrite ∷ []) before.errors after.errors → IsAnswer words before after 8
 
 -- why what is asked was not written
-abbrev pub IsUnobeyed : Type 0 → Option Files → Asked → ℕ → ℕ → SinkView → SinkView → Refusal → Type 0
+abbrev pub IsUnobeyed : Type 0 → Option Files → Assignment → ℕ → ℕ → SinkView → SinkView → Refusal → Type 0
 IsUnobeyed rose files a old_steps new_steps old new NoModel = IsUnread rose a.source Model files × (new ≡ old)
     × (new_steps ≡ old_steps)
 IsUnobeyed rose files a old_steps new_steps old new NoScript =
@@ -83,7 +83,7 @@ IsUnobeyed rose files a old_steps new_steps old new refusal =
     IsFailed (Comes files a) old_steps new_steps old new refusal
 
 -- the same, with what is told before the line
-abbrev pub IsDisobeyed : Type 0 → Option Files → Asked → ℕ → ℕ → SinkView → SinkView → Halt → Type 0
+abbrev pub IsDisobeyed : Type 0 → Option Files → Assignment → ℕ → ℕ → SinkView → SinkView → Halt → Type 0
 IsDisobeyed rose files a old_steps new_steps old new (Refused refusal) =
     IsUnobeyed rose files a old_steps new_steps old new refusal
 IsDisobeyed rose files a old_steps new_steps old new (Overrun journal stop) =

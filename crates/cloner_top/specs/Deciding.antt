@@ -39,8 +39,8 @@ decision_lines [] = []
 decision_lines (i ∷ is) = lines_onto i.line i.act (decision_lines is)
 
 -- the journal that a script leaves, where each decision is asked by its analyst
-abbrev pub scripted : Net → ScriptView → List Event
-scripted net s = journal_of_script net (questions s.items)
+abbrev pub script_journal : Net → ScriptView → List Event
+script_journal net s = journal_of_script net (questions s.items)
 
 -- the clones that the decisions of a script leave
 abbrev pub clones_of : Net → ScriptView → List Clone
@@ -77,7 +77,7 @@ IsRefusal net s stop = ⊥
 -- a book in which the decisions of a script were all accepted
 pub record IsDecided (net : Net) (s : ScriptView) (book : BookView) : Type 0 where
   pub net_is : book.net ≡ net
-  pub events : book.events ≡ scripted net s
+  pub events : book.events ≡ script_journal net s
   pub none : first_refused net s ≡ None
   pub accepted : AllAccepted net book.events
   pub clones : (after net book.events).clones ≡ clones_of net s

@@ -22,7 +22,7 @@ use Rattle.live_study.specs.Looks.{AreLooks, HasMadeLooks}
 use Rattle.live_study.specs.Scripts.{IsJournalOf}
 use Rattle.command_words.specs.declared.request.Mode.{Mode}
 use Rattle.command_words.specs.declared.request.Mode.TheVariants.{All, One, Live}
-use Rattle.command_words.specs.Requests.{Asked, Source, made, named}
+use Rattle.command_words.specs.Requests.{Assignment, Source, made, named}
 use Rattle.cloner_top.specs.declared.stop.Stop.{Stop}
 use Rattle.cloner_top.specs.declared.stop.Stop.TheVariants.{BadModel, BadScript, Refused, NoClone, LimitMet}
 use Rattle.cloner_top.specs.Deciding.{clones_of, first_refused}
@@ -91,19 +91,19 @@ DecidesFirst (One name) = Unit {0}
 DecidesFirst Live = ⊥
 
 -- how a script's study of a model may end
-pub data MayEnd (a : Asked) (net : Net) (s : ScriptView) : Ending → Type 0 where
+pub data MayEnd (a : Assignment) (net : Net) (s : ScriptView) : Ending → Type 0 where
   refused : (reply : Reply) (line : ℕ) → DecidesFirst a.mode → first_refused net s ≡ Some (reply, line)
       → MayEnd a net s (stopped (Refused reply line))
-  decided : (end : Ending) → first_refused net s ≡ None → MaySimulate a.mode a.source net (clones_of net s) end
+  simulation : (end : Ending) → first_refused net s ≡ None → MaySimulate a.mode a.source net (clones_of net s) end
       → MayEnd a net s end
   live : (end : Ending) → a.mode ≡ Live → MayLive net s end → MayEnd a net s end
 
 -- how the study of two texts may end
-pub data MayCome (a : Asked) (m s : List ℕ) : Ending → Type 0 where
+pub data MayCome (a : Assignment) (m s : List ℕ) : Ending → Type 0 where
   bad_model : (fault : ModelFault) → model m ≡ Err fault → MayCome a m s (stopped (BadModel fault))
   bad_script : (net : Net) (fault : ScriptFault) → model m ≡ Ok net → script s ≡ Err fault
       → MayCome a m s (stopped (BadScript fault))
-  studied : (net : Net) (stated : ScriptView) (end : Ending) → model m ≡ Ok net → script s ≡ Ok stated
+  study : (net : Net) (stated : ScriptView) (end : Ending) → model m ≡ Ok net → script s ≡ Ok stated
       → MayEnd a net stated end
       → MayCome a m s end
 

@@ -1,7 +1,7 @@
 -- What an answer of the program says, one fact at a time.
 use Rattle.std.specs.Prelude.{◌≡◌, ◌⊎◌, ℕ, ◌+◌, ◌≤◌, List, [], ◌∷◌, ◌++◌, length, Option, Some, None}
 use Rattle.sim_base.specs.Clones.{Clone, clone_at, place_of}
-use Rattle.sim_outer.specs.Causes.{AreCounted, Rose}
+use Rattle.sim_outer.specs.Causes.{AreCounted, HasRisen}
 use Rattle.sim_outer.specs.Files.{Files}
 use Rattle.net_model.specs.Net.{Net}
 use Rattle.decision_script.specs.Stating.{ScriptView}
@@ -17,27 +17,27 @@ use Rattle.live_study.specs.Looks.{AreLooks}
 use Rattle.live_study.specs.Scripts.{IsJournalOf}
 use Rattle.command_words.specs.declared.request.Mode.{Mode}
 use Rattle.command_words.specs.declared.request.Mode.TheVariants.{All, One, Live}
-use Rattle.command_words.specs.Requests.{Asked, Source, made, named}
+use Rattle.command_words.specs.Requests.{Assignment, Source, made, named}
 use Rattle.cloner_top.specs.declared.reading.Text.TheVariants.{Model, Script}
 use Rattle.cloner_top.specs.declared.refusal.Refusal.{Refusal}
 use Rattle.cloner_top.specs.declared.stop.Stop.{Stop}
 use Rattle.cloner_top.specs.Answers.{Comes, InputsFailed, Outside}
 use Rattle.cloner_top.specs.Deciding.{clones_of, first_refused}
 use Rattle.cloner_top.specs.Endings.{Ending, StoppedFor, overrun, run_texts, stopped, written}
-use Rattle.cloner_top.specs.Outsides.{ArePut, AreTold, IsCutOff}
+use Rattle.cloner_top.specs.Outsides.{ArePut, ArePutOrCut, IsStudyCut}
 use Rattle.cloner_top.specs.Plans.{IsRead}
 use Rattle.cloner_top.specs.Refusals.{line_of, status_of}
 use Rattle.cloner_top.specs.Stops.{stop_line, stop_status}
 use Rattle.cloner_top.specs.Texts.{IsUnread, all_fetches}
 
 -- the study's two texts are a model and a script whose decisions are all accepted
-pub record IsStudy (files : Option Files) (a : Asked) (net : Net) (stated : ScriptView) : Type 0 where
+pub record IsStudy (files : Option Files) (a : Assignment) (net : Net) (stated : ScriptView) : Type 0 where
   pub read : IsRead a.source files net stated
   pub accepted : first_refused net stated ≡ None
 
 -- all clones were run, no log of any is beyond the limit, and these texts were put, each in one call; a step for each
 -- message that the clones do not share
-pub record WritesAll (texts : Net → List Clone → List (List ℕ)) (before after : Outside) (a : Asked) : Type 0 where
+pub record WritesAll (texts : Net → List Clone → List (List ℕ)) (before after : Outside) (a : Assignment) : Type 0 where
   pub net : Net
   pub stated : ScriptView
   pub study : IsStudy before.inputs.files a net stated
@@ -46,7 +46,7 @@ pub record WritesAll (texts : Net → List Clone → List (List ℕ)) (before af
   pub steps : after.steps ≡ before.steps + total_handled net (clones_of net stated) net.horizon
 
 -- the clone of this name was run by itself, none of its logs is beyond the limit, and its trace text was put
-pub record WritesOne (name : List ℕ) (before after : Outside) (a : Asked) : Type 0 where
+pub record WritesOne (name : List ℕ) (before after : Outside) (a : Assignment) : Type 0 where
   pub net : Net
   pub stated : ScriptView
   pub study : IsStudy before.inputs.files a net stated
@@ -59,15 +59,15 @@ pub record WritesOne (name : List ℕ) (before after : Outside) (a : Asked) : Ty
 -- analysts decided and looked while all clones were run: the journal is legal, each analyst's decisions stand in it in
 -- order and no others, it comes to the horizon, and what was seen at each look of the script is true; its text was put,
 -- and then what a run of the clones that it leaves writes
-pub record WritesLive (before after : Outside) (a : Asked) : Type 0 where
+pub record WritesLive (before after : Outside) (a : Assignment) : Type 0 where
   pub net : Net
   pub stated : ScriptView
   pub read : IsRead a.source before.inputs.files net stated
   pub book : BookView
   pub looks : List Looked
   pub journal : IsJournalOf net stated book
-  pub ended : (after_events net book.events).front ≡ net.horizon
-  pub seen : AreLooks net stated book.events looks
+  pub at_horizon : (after_events net book.events).front ≡ net.horizon
+  pub looks_are : AreLooks net stated book.events looks
   pub within : AreWithin net (after_events net book.events).clones
   pub put : ArePut (journal_text stated.analysts book.events looks ∷ run_texts net (after_events net book.events).clones)
       before.output after.output
@@ -75,56 +75,56 @@ pub record WritesLive (before after : Outside) (a : Asked) : Type 0 where
 
 -- what is written: `run` each clone's trace text and then the report, `live` the journal before them, `gen` the report
 -- alone, `solo` one trace text
-abbrev pub Writes : Mode → Source → Outside → Outside → Asked → Type 0
+abbrev pub Writes : Mode → Source → Outside → Outside → Assignment → Type 0
 Writes All (named model script) before after a = WritesAll run_texts before after a
 Writes All (made n) before after a = WritesAll (λ net clones. report net clones ∷ []) before after a
 Writes (One name) source before after a = WritesOne name before after a
 Writes Live source before after a = WritesLive before after a
 
 -- status 0: the whole output is written, and nothing told
-pub record IsWritten (words : Option Asked) (before after : Outside) : Type 0 where
-  pub a : Asked
+pub record IsWritten (words : Option Assignment) (before after : Outside) : Type 0 where
+  pub a : Assignment
   pub asks : words ≡ Some a
   pub writes : Writes a.mode a.source before after a
   pub fetches : AreCounted (all_fetches a.source) before.inputs.calls after.inputs.calls
   pub quiet : after.errors ≡ before.errors
 
 -- status 3: a text was not read
-pub record IsUnreadFor (words : Option Asked) (before after : Outside) : Type 0 where
-  pub a : Asked
+pub record IsUnreadFor (words : Option Assignment) (before after : Outside) : Type 0 where
+  pub a : Assignment
   pub asks : words ≡ Some a
   pub unread : IsUnread (InputsFailed before after) a.source Model before.inputs.files
       ⊎ IsUnread (InputsFailed before after) a.source Script before.inputs.files
 
 -- statuses 4 to 7: the study stops, and at most so many messages were handled as the limit allows; a line is told, and
 -- before it the journal of a live study that met the limit
-pub record IsStoppedFor (words : Option Asked) (before after : Outside) (status : ℕ) : Type 0 where
-  pub a : Asked
+pub record IsStoppedFor (words : Option Assignment) (before after : Outside) (status : ℕ) : Type 0 where
+  pub a : Assignment
   pub asks : words ≡ Some a
   pub told : List (List ℕ)
   pub stop : Stop
   pub is : status ≡ stop_status stop
   pub stops : StoppedFor (Comes before.inputs.files a) before.steps after.steps told stop
-  pub told_is : AreTold (told ++ stop_line stop ∷ []) before.errors after.errors
+  pub told_is : ArePutOrCut (told ++ stop_line stop ∷ []) before.errors after.errors
 
 -- status 8: a prefix of the output was written, and the output had a fault
-pub record IsCutFor (words : Option Asked) (before after : Outside) : Type 0 where
-  pub a : Asked
+pub record IsCutFor (words : Option Assignment) (before after : Outside) : Type 0 where
+  pub a : Assignment
   pub asks : words ≡ Some a
-  pub cut : IsCutOff (Comes before.inputs.files a) before.steps after.steps before.output after.output
+  pub cut : IsStudyCut (Comes before.inputs.files a) before.steps after.steps before.output after.output
 
 -- this many texts are told before the line: none, or one, at the limit of a live study
-abbrev pub ArePreceded : Option Asked → ℕ → List (List ℕ) → Type 0
+abbrev pub ArePreceded : Option Assignment → ℕ → List (List ℕ) → Type 0
 ArePreceded words status told = (told ≡ [])
-    ⊎ ((status ≡ 7) × ((length told ≡ 1) × ((a : Asked) × ((words ≡ Some a) × (a.mode ≡ Live)))))
+    ⊎ ((status ≡ 7) × ((length told ≡ 1) × ((a : Assignment) × ((words ≡ Some a) × (a.mode ≡ Live)))))
 
 -- after any status but 0 a line tells why
-pub record IsToldFor (words : Option Asked) (before after : Outside) (status : ℕ) : Type 0 where
+pub record IsToldFor (words : Option Assignment) (before after : Outside) (status : ℕ) : Type 0 where
   pub told : List (List ℕ)
   pub refusal : Refusal
   pub is : status ≡ status_of refusal
   pub preceded : ArePreceded words status told
-  pub told_is : AreTold (told ++ line_of refusal ∷ []) before.errors after.errors
+  pub told_is : ArePutOrCut (told ++ line_of refusal ∷ []) before.errors after.errors
 
 -- an ending comes, or the output's fault
 abbrev pub Meets : Ending → Type 0 → ℕ → Type 0
@@ -133,21 +133,21 @@ Meets (stopped stop) output_failed status = status ≡ stop_status stop
 Meets (overrun told stop most) output_failed status = status ≡ stop_status stop
 
 -- where the inputs have no fault a lawful ending comes, or out of memory; or the files are known, and one is not there
-abbrev pub Completes : Option Asked → Outside → Outside → ℕ → Type 0
+abbrev pub Completes : Option Assignment → Outside → Outside → ℕ → Type 0
 Completes None before after status = (status ≡ 1) ⊎ (status ≡ 2)
 Completes (Some a) before after status = ¬ (InputsFailed before after)
     → (status ≡ 1)
     ⊎ (((status ≡ 3) × (IsUnread ⊥ a.source Model before.inputs.files ⊎ IsUnread ⊥ a.source Script before.inputs.files))
     ⊎ ((end : Ending) × (Comes before.inputs.files a end
-    × Meets end (Rose before.output.faults after.output.faults) status)))
+    × Meets end (HasRisen before.output.faults after.output.faults) status)))
 
 -- how many fetches the words ask for
-abbrev pub fetches_for : Option Asked → ℕ
+abbrev pub fetches_for : Option Assignment → ℕ
 fetches_for None = 0
 fetches_for (Some a) = all_fetches a.source
 
 -- there were at most so many fetches
-pub record AreFewFetches (words : Option Asked) (before after : Outside) : Type 0 where
+pub record AreFewFetches (words : Option Assignment) (before after : Outside) : Type 0 where
   pub fetches : ℕ
   pub few : fetches ≤ fetches_for words
   pub calls : AreCounted fetches before.inputs.calls after.inputs.calls

@@ -15,8 +15,8 @@ use Rattle.command_words.specs.declared.request.Mode.TheVariants.{All}
 use Rattle.command_words.specs.Requests.{named}
 use Rattle.cloner_top.specs.Endings.{MayEnd, run_texts, written}
 
--- the lines of a journal's calls and fronts, without comments, are read as a script, with which `run` may end by writing
--- the texts of the clones that the journal leaves
+-- the lines of a journal's calls and fronts, without comments, are read as a script, with which `run` may end by
+-- writing the texts of the clones that the journal leaves
 pub record IsRunAgain (net : Net) (s : ScriptView) (book : BookView) (model text : List ℕ) : Type 0 where
   pub again : ScriptView
   pub read : script (without_comments (events_text s.analysts book.events)) ≡ Ok again

@@ -1,6 +1,7 @@
 -- What a live study leaves, for its texts.
 use Rattle.std.specs.Prelude.{◌≡◌, ℕ, ◌+◌, ◌<◌, ◌≤◌, List, [], ◌∷◌, length, IfOk, IfErr}
 use Rattle.sim_base.specs.Clones.{clone_at}
+use Rattle.sim_base.specs.declared.lists.TheConstants.{MOST_CLONES}
 use Rattle.net_model.specs.Net.{Net}
 use Rattle.decision_script.specs.Stating.{ScriptView}
 use Rattle.decision_book.specs.Journal.{Event, after}
@@ -10,7 +11,7 @@ use Rattle.study_run.specs.declared.fault.StudyFault.{StudyFault}
 use Rattle.study_run.specs.declared.fault.StudyFault.TheVariants.{NoMemory, LimitMet}
 use Rattle.rolling_text.specs.WorldTraces.{AreShort}
 use Rattle.journal_text.specs.JournalText.{journal_text}
-use Rattle.live_study.specs.Lives.{IsFinished, IsStopped, kept}
+use Rattle.live_study.specs.Lives.{IsAtHorizon, IsStopped, all_looks}
 use Rattle.live_study.specs.Looks.{AreLooks, HasMadeLooks}
 use Rattle.live_study.specs.Scripts.{IsJournalOf}
 use Rattle.live_study.specs.declared.run.LiveRun.{LiveRun}
@@ -23,13 +24,13 @@ use Rattle.cloner_top.specs.Endings.{MayLive, StoppedFor, limit_met, run_texts, 
 -- a live study of a script was run, and this is the text of its journal
 pub record HasRun (net : Net) (s : ScriptView) (old_steps new_steps : ℕ) (live : LiveRun) (text : List ℕ) : Type 0 where
   pub journal : IsJournalOf net s live.book
-  pub made : HasMadeLooks s (kept live.looks.items)
-  pub looks : IfOk live.run (λ w. AreLooks net s live.book.events (kept live.looks.items))
-  pub finished : IfOk live.run (λ w. IsFinished net live.book w)
+  pub made : HasMadeLooks s (all_looks live.looks.items)
+  pub looks : IfOk live.run (λ w. AreLooks net s live.book.events (all_looks live.looks.items))
+  pub finished : IfOk live.run (λ w. IsAtHorizon net live.book w)
   pub stopped : IfErr live.run (λ e. IsStopped net live.book e)
   pub steps : IfOk live.run (λ w. new_steps ≡ old_steps + total_handled net w.clones net.horizon)
   pub idle : IfErr live.run (λ e. new_steps ≡ old_steps)
-  pub text_is : text ≡ journal_text s.analysts live.book.events (kept live.looks.items)
+  pub text_is : text ≡ journal_text s.analysts live.book.events (all_looks live.looks.items)
 
 -- the station and the clone of a limit are there
 abbrev pub IsPlaced : Net → List Event → StudyFault → Type 0
@@ -52,8 +53,8 @@ HaltsFor net events text (LimitMet station who) halt =
 pub record IsLiveWorld (net : Net) (s : ScriptView) (old_steps new_steps : ℕ) (world : WorldView) (text : List ℕ) :
     Type 0 where
   pub net_is : world.net ≡ net
-  pub ended : world.front ≡ net.horizon
-  pub few : length world.clones ≤ 256
+  pub at_horizon : world.front ≡ net.horizon
+  pub few : length world.clones ≤ MOST_CLONES
   pub within : AreWithin net world.clones
   pub short : AreShort world.clones
   pub may : MayLive net s (written (text ∷ run_texts net world.clones) (total_handled net world.clones net.horizon))

@@ -1,8 +1,8 @@
--- The outside of the program: what contracts see of inputs and sinks, and what becomes of them.
+-- The outside of the program: what contracts see of sinks, and what was put into them.
 use Rattle.std.specs.Prelude.{◌≡◌, ◌⊎◌, ℕ, ◌≤◌, List, [], ◌∷◌, length}
 use Rattle.std.specs.List.{concat}
-use Rattle.sim_outer.specs.Bytes.{Appended, PartAppended}
-use Rattle.sim_outer.specs.Causes.{AreCounted, Rose}
+use Rattle.sim_outer.specs.Bytes.{IsAppended, IsPrefixAppended}
+use Rattle.sim_outer.specs.Causes.{AreCounted, HasRisen}
 use Rattle.sim_outer.specs.Views.{SinkView}
 use Rattle.cloner_top.specs.declared.halt.Halt.{Halt}
 use Rattle.cloner_top.specs.declared.halt.Halt.TheVariants.{Refused, Overrun}
@@ -12,30 +12,30 @@ use Rattle.cloner_top.specs.Endings.{Ending, StoppedFor, Wrote}
 
 -- each text was put, in one call
 pub record ArePut (texts : List (List ℕ)) (old new : SinkView) : Type 0 where
-  pub bytes : Appended old.bytes (concat texts) new.bytes
+  pub bytes : IsAppended old.bytes (concat texts) new.bytes
   pub calls : AreCounted (length texts) old.calls new.calls
 
 -- the texts were cut off: a call failed, and a prefix of them all was taken
 pub record AreCut (texts : List (List ℕ)) (old new : SinkView) : Type 0 where
-  pub bytes : PartAppended old.bytes (concat texts) new.bytes
-  pub failed : Rose old.faults new.faults
+  pub bytes : IsPrefixAppended old.bytes (concat texts) new.bytes
+  pub failed : HasRisen old.faults new.faults
   pub puts : ℕ
   pub some : 1 ≤ puts
   pub few : puts ≤ length texts
   pub calls : AreCounted puts old.calls new.calls
 
--- texts were told, each in one call: the sink took them all, or failed and took a prefix of them
-abbrev pub AreTold : List (List ℕ) → SinkView → SinkView → Type 0
-AreTold texts old new = ArePut texts old new ⊎ AreCut texts old new
+-- each text was put, in one call, or they were cut off: the sink took them all, or failed and took a prefix of them
+abbrev pub ArePutOrCut : List (List ℕ) → SinkView → SinkView → Type 0
+ArePutOrCut texts old new = ArePut texts old new ⊎ AreCut texts old new
 
 -- a study of which an ending is lawful was written
-pub record IsFinished (P : Ending → Type 0) (old_steps new_steps : ℕ) (old new : SinkView) : Type 0 where
+pub record IsStudyPut (P : Ending → Type 0) (old_steps new_steps : ℕ) (old new : SinkView) : Type 0 where
   pub texts : List (List ℕ)
   pub wrote : Wrote P old_steps new_steps texts
   pub put : ArePut texts old new
 
 -- or it was cut off
-pub record IsCutOff (P : Ending → Type 0) (old_steps new_steps : ℕ) (old new : SinkView) : Type 0 where
+pub record IsStudyCut (P : Ending → Type 0) (old_steps new_steps : ℕ) (old new : SinkView) : Type 0 where
   pub texts : List (List ℕ)
   pub wrote : Wrote P old_steps new_steps texts
   pub cut : AreCut texts old new
@@ -44,7 +44,7 @@ pub record IsCutOff (P : Ending → Type 0) (old_steps new_steps : ℕ) (old new
 abbrev pub IsFailed : (Ending → Type 0) → ℕ → ℕ → SinkView → SinkView → Refusal → Type 0
 IsFailed P old_steps new_steps old new OutOfMemory = new ≡ old
 IsFailed P old_steps new_steps old new (Stopped stop) = StoppedFor P old_steps new_steps [] stop × (new ≡ old)
-IsFailed P old_steps new_steps old new CannotWrite = IsCutOff P old_steps new_steps old new
+IsFailed P old_steps new_steps old new CannotWrite = IsStudyCut P old_steps new_steps old new
 IsFailed P old_steps new_steps old new refusal = ⊥
 
 -- why it was not written, and what is told before the line

@@ -5,7 +5,7 @@ use Rattle.net_model.specs.Net.{Net}
 use Rattle.net_model.specs.Text.{model}
 use Rattle.decision_script.specs.Reading.{script}
 use Rattle.decision_script.specs.Stating.{ScriptView}
-use Rattle.command_words.specs.Requests.{Asked, Source}
+use Rattle.command_words.specs.Requests.{Assignment, Source}
 use Rattle.cloner_top.specs.declared.reading.Text.TheVariants.{Model, Script}
 use Rattle.cloner_top.specs.declared.refusal.Refusal.{Refusal}
 use Rattle.cloner_top.specs.declared.refusal.Refusal.TheVariants.{OutOfMemory, NoModel, NoScript, Stopped}
@@ -33,7 +33,7 @@ pub record StopsEarly (source : Source) (files : Option Files) (stop : Stop) : T
   pub m : List ℕ
   pub s : List ℕ
   pub texts : AreTexts source files m s
-  pub may : (a : Asked) → MayCome a m s (stopped stop)
+  pub may : (a : Assignment) → MayCome a m s (stopped stop)
 
 -- why a study is not read
 abbrev pub IsUnreadStudy : Type 0 → Source → Option Files → Refusal → Type 0

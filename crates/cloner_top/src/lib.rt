@@ -5,8 +5,8 @@
 //! steps, each with a definition of its own in `specs/`:
 //!
 //! ```text
-//! words -command_words-> what is asked -plan-> model, decisions -running-> all branches at the horizon -putting-> output
-//!                                    each step may end in a refusal with a status and a line of its own
+//! words -command_words-> request -plan-> model, decisions -running-> all branches at the horizon -putting-> output
+//!                              each step may end in a refusal with a status and a line of its own
 //! ```
 //!
 //! An example, over files and sinks in memory:

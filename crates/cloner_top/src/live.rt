@@ -1,11 +1,12 @@
 //! Runs a study while its analysts decide and look, and puts its texts.
 ghost use Rattle.std.specs.Prelude.{◌≡◌, ◌≤◌, Ok, Err, length, IfErr, IfOk, OnOk};
+ghost use Rattle.sim_base.specs.declared.lists.TheConstants.{MOST_CLONES};
 ghost use Rattle.decision_book.specs.Journal.{after};
 ghost use Rattle.decision_book.specs.Plans.{ArePlanned};
 ghost use Rattle.world_core.specs.Overs.{NoneBeyond};
 ghost use Rattle.cloner_top.specs.Endings.{MayLive};
 ghost use Rattle.cloner_top.specs.LiveRuns.{HaltsFor, HasRun, IsLiveWorld, IsPlaced, StopsLive};
-ghost use Rattle.cloner_top.specs.Outsides.{IsFinished, IsHalted};
+ghost use Rattle.cloner_top.specs.Outsides.{IsStudyPut, IsHalted};
 
 use crate::halt::Halt;
 use crate::plan::Study;
@@ -26,11 +27,11 @@ use study_run::{StudyCrew, StudyFault};
 use world_core::World;
 
 // The world at the horizon with the text of the journal, or why there is none.
-fn ended(model: &Model, live: LiveRun, journal: Vec<u8>) -> Result<(World, Vec<u8>), Halt>
+fn world_or_halt(model: &Model, live: LiveRun, journal: Vec<u8>) -> Result<(World, Vec<u8>), Halt>
     requires net { live.book.net ≡ model.now }
     requires there { IfErr live.run (λ e. IsPlaced model.now live.book.events e) }
     ensures ok { IfOk result (λ r. (live.run ≡ Ok r.0) × (r.1.items ≡ journal.items)) }
-    ensures few { IfOk result (λ r. length r.0.clones ≤ 256) }
+    ensures few { IfOk result (λ r. length r.0.clones ≤ MOST_CLONES) }
     ensures within { IfOk result (λ r. NoneBeyond r.0.net r.0.clones r.0.front) }
     ensures planned { IfOk result (λ r. ArePlanned live.book.net (after live.book.net live.book.events).clones) }
     ensures err { IfErr result (λ h. (e : _) × ((live.run ≡ Err e)
@@ -84,11 +85,12 @@ fn run_live<G: Gate, L: Ledger, R: Threads + Wait + Sync>(
     study: &Study,
     steps: &mut Steps<L>,
 ) -> Result<(World, Vec<u8>), Halt>
-    ensures ok { IfOk result (λ r. IsLiveWorld study.now.model.value study.now.script steps.old steps.new r.0 r.1.items) }
+    ensures ok { IfOk result (λ r. IsLiveWorld study.now.model.value study.now.script steps.old steps.new r.0
+        r.1.items) }
     ensures err { IfErr result (λ h. StopsLive study.now.model.value study.now.script steps.old steps.new h) }
 {
     match journaled(rt, alloc, gate, request, study, steps) {
-        Ok((live, journal)) => ended(&study.model, live, journal),
+        Ok((live, journal)) => world_or_halt(&study.model, live, journal),
         Err(NoMemory) => Err(Halt::Refused(Refusal::OutOfMemory)),
     }
 }
@@ -103,7 +105,7 @@ pub(crate) fn write_live<O: Sink, G: Gate, L: Ledger, R: Threads + Wait + Sync>(
     out: &mut O,
     steps: &mut Steps<L>,
 ) -> Result<(), Halt>
-    ensures ok { OnOk result (IsFinished (MayLive study.now.model.value study.now.script) steps.old steps.new
+    ensures ok { OnOk result (IsStudyPut (MayLive study.now.model.value study.now.script) steps.old steps.new
         (O.seen out.old) (O.seen out.new)) }
     ensures err { IfErr result (λ h. IsHalted (MayLive study.now.model.value study.now.script) steps.old steps.new
         (O.seen out.old) (O.seen out.new) h) }

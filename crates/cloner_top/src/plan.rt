@@ -1,6 +1,6 @@
 //! Reads a study, and plans it: makes its decisions.
 ghost use Rattle.std.specs.Prelude.{◌≡◌, ◌≤◌, ℕ, IfErr, IfOk, OnOk};
-ghost use Rattle.sim_outer.specs.Causes.{AreCounted, Rose};
+ghost use Rattle.sim_outer.specs.Causes.{AreCounted, HasRisen};
 ghost use Rattle.command_words.specs.Requests.{source_view};
 ghost use Rattle.cloner_top.specs.Deciding.{IsDecided, IsRefusal};
 ghost use Rattle.cloner_top.specs.Plans.{IsRead, IsUnreadStudy};
@@ -35,7 +35,7 @@ pub(crate) struct Plan {
 /// The plan of a study: all its decisions are made at front 0, before the simulation begins. Nothing is simulated.
 pub(crate) fn plan_study(alloc: Global, study: &Study) -> Result<Plan, Refusal>
     ensures model { IfOk result (λ plan. plan.model.value ≡ study.now.model.value) }
-    ensures decided { IfOk result (λ plan. IsDecided study.now.model.value study.now.script plan.book) }
+    ensures book { IfOk result (λ plan. IsDecided study.now.model.value study.now.script plan.book) }
     ensures err { IfErr result (λ r. Stops (IsRefusal study.now.model.value study.now.script) r) }
 {
     let Ok(model) = Arc::try_clone(&study.model) else {
@@ -59,7 +59,7 @@ pub(crate) fn read_study<I: Inputs>(
     ensures ok { IfOk result (λ study. IsRead (source_view source.now) (I.seen inputs.old).files study.model.value
         study.script) }
     ensures err { IfErr result (λ r.
-        IsUnreadStudy (Rose (I.seen inputs.old).faults (I.seen inputs.new).faults) (source_view source.now)
+        IsUnreadStudy (HasRisen (I.seen inputs.old).faults (I.seen inputs.new).faults) (source_view source.now)
         (I.seen inputs.old).files r) }
     ensures later { (I.seen inputs.old).faults ≤ (I.seen inputs.new).faults }
     ensures same { (I.seen inputs.new).files ≡ (I.seen inputs.old).files }

@@ -1,12 +1,12 @@
 //! The program.
 ghost use Rattle.std.specs.Prelude.{◌≡◌, ◌≢◌, ◌⊎◌, ◌≤◌, ◌∷◌, [], ℕ, IfErr, None, MatchBool, OnOk};
-ghost use Rattle.sim_outer.specs.Causes.{AreCounted, Rose};
+ghost use Rattle.sim_outer.specs.Causes.{AreCounted, HasRisen};
 ghost use Rattle.command_words.specs.Requests.{request_view, source_view};
 ghost use Rattle.cloner_top.specs.Answers.{Comes, IsAnswer, IsDisobeyed, asked_by};
 ghost use Rattle.cloner_top.specs.Endings.{DecidesFirst, MayEnd};
 ghost use Rattle.cloner_top.specs.Facts.{AreFewFetches, Completes, IsCutFor, IsStoppedFor};
 ghost use Rattle.cloner_top.specs.Facts.{IsToldFor, IsUnreadFor, IsWritten};
-ghost use Rattle.cloner_top.specs.Outsides.{AreTold, IsFailed, IsFinished, IsHalted};
+ghost use Rattle.cloner_top.specs.Outsides.{ArePutOrCut, IsFailed, IsStudyPut, IsHalted};
 ghost use Rattle.cloner_top.specs.Refusals.{line_of, status_of, words_refusal};
 ghost use Rattle.cloner_top.specs.Stops.{stop_line, stop_status};
 ghost use Rattle.cloner_top.specs.Texts.{all_fetches};
@@ -38,7 +38,7 @@ fn decide_and_write<O: Sink, G: Gate, L: Ledger, R: Threads + Wait + Sync>(
     steps: &mut Steps<L>,
 ) -> Result<(), Refusal>
     requires first { DecidesFirst request.now.mode }
-    ensures ok { OnOk result (IsFinished
+    ensures ok { OnOk result (IsStudyPut
         (MayEnd (request_view request.now).asked study.now.model.value study.now.script) steps.old steps.new
         (O.seen out.old) (O.seen out.new)) }
     ensures err { IfErr result (λ r. IsFailed
@@ -71,7 +71,7 @@ fn write_read<O: Sink, G: Gate, L: Ledger, R: Threads + Wait + Sync>(
     out: &mut O,
     steps: &mut Steps<L>,
 ) -> Result<(), Halt>
-    ensures ok { OnOk result (IsFinished
+    ensures ok { OnOk result (IsStudyPut
         (MayEnd (request_view request.now).asked study.now.model.value study.now.script) steps.old steps.new
         (O.seen out.old) (O.seen out.new)) }
     ensures err { IfErr result (λ h. IsHalted
@@ -97,9 +97,9 @@ fn obey<I: Inputs, O: Sink, G: Gate, L: Ledger, R: Threads + Wait + Sync>(
     gate: &G,
     steps: &mut Steps<L>,
 ) -> Result<(), Halt>
-    ensures ok { OnOk result (IsFinished (Comes (I.seen inputs.old).files (request_view request.now).asked) steps.old
+    ensures ok { OnOk result (IsStudyPut (Comes (I.seen inputs.old).files (request_view request.now).asked) steps.old
         steps.new (O.seen out.old) (O.seen out.new)) }
-    ensures err { IfErr result (λ h. IsDisobeyed (Rose (I.seen inputs.old).faults (I.seen inputs.new).faults)
+    ensures err { IfErr result (λ h. IsDisobeyed (HasRisen (I.seen inputs.old).faults (I.seen inputs.new).faults)
         (I.seen inputs.old).files (request_view request.now).asked steps.old steps.new
         (O.seen out.old) (O.seen out.new) h) }
     ensures later { (I.seen inputs.old).faults ≤ (I.seen inputs.new).faults }
@@ -118,7 +118,7 @@ fn obey<I: Inputs, O: Sink, G: Gate, L: Ledger, R: Threads + Wait + Sync>(
 // Tells the error sink why. Its faults change nothing else.
 fn complain<E: Sink>(err: &mut E, refusal: &Refusal) -> u8
     ensures status { result ≡ status_of refusal.now }
-    ensures told { AreTold (line_of refusal.now ∷ []) (E.seen err.old) (E.seen err.new) }
+    ensures told { ArePutOrCut (line_of refusal.now ∷ []) (E.seen err.old) (E.seen err.new) }
 {
     let line = refusal.line();
     let _ = put_text(err, line.text().as_bytes());
@@ -129,7 +129,7 @@ fn complain<E: Sink>(err: &mut E, refusal: &Refusal) -> u8
 // cut off, nothing follows it.
 fn complain_of_limit<E: Sink>(err: &mut E, journal: &[u8], stop: &Stop) -> u8
     ensures status { result ≡ stop_status stop.now }
-    ensures told { AreTold (journal.now ∷ stop_line stop.now ∷ []) (E.seen err.old) (E.seen err.new) }
+    ensures told { ArePutOrCut (journal.now ∷ stop_line stop.now ∷ []) (E.seen err.old) (E.seen err.new) }
 {
     let line = stop.line();
     let Ok(()) = put_text(err, journal) else {
@@ -162,7 +162,8 @@ fn answer<I: Inputs, O: Sink, E: Sink, G: Gate, L: Ledger, R: Threads + Wait + S
 ) -> u8
     ensures answer { IsAnswer (asked_by words.now)
         (record { inputs = I.seen inputs.old; output = O.seen out.old; errors = E.seen err.old; steps = steps.old })
-        (record { inputs = I.seen inputs.new; output = O.seen out.new; errors = E.seen err.new; steps = steps.new }) result }
+        (record { inputs = I.seen inputs.new; output = O.seen out.new; errors = E.seen err.new; steps = steps.new })
+        result }
     ensures later { (I.seen inputs.old).faults ≤ (I.seen inputs.new).faults }
     ensures same { (I.seen inputs.new).files ≡ (I.seen inputs.old).files }
     ensures fetches { AreFewFetches (asked_by words.now)
@@ -186,8 +187,8 @@ fn answer<I: Inputs, O: Sink, E: Sink, G: Gate, L: Ledger, R: Threads + Wait + S
 /// of each and then the report; `live MODEL SCRIPT` has the analysts of the script decide and look while that world
 /// runs, and writes their journal before the rest; `gen NUMBER` runs the model and the script made of the number, and
 /// writes the report alone; `solo MODEL SCRIPT --clone NAME` runs one clone by itself and writes its trace text. Each
-/// text is put in one call, and all memory is taken before the first. The status is 0 where all is written. Otherwise the error
-/// sink is told why in one line; where the limit is met in a live study, its journal is told before the line:
+/// text is put in one call, and all memory is taken before the first. The status is 0 where all is written. Otherwise
+/// the error sink is told why in one line; where the limit is met in a live study, its journal is told before the line:
 ///
 /// 1. memory was refused, at any place before the first put;
 /// 2. the command line has no known form;
@@ -220,17 +221,19 @@ pub fn cloner<R: Threads + Wait + Sync, I: Inputs, O: Sink, E: Sink, G: Gate, L:
         (record { inputs = I.seen inputs.new; output = O.seen out.new; errors = E.seen err.new; steps = steps.new }) }
     ensures refused { 4 ≤ result → result ≤ 7 → IsStoppedFor (asked_by words.now)
         (record { inputs = I.seen inputs.old; output = O.seen out.old; errors = E.seen err.old; steps = steps.old })
-        (record { inputs = I.seen inputs.new; output = O.seen out.new; errors = E.seen err.new; steps = steps.new }) result }
+        (record { inputs = I.seen inputs.new; output = O.seen out.new; errors = E.seen err.new; steps = steps.new })
+        result }
     ensures cut { result ≡ 8 → IsCutFor (asked_by words.now)
         (record { inputs = I.seen inputs.old; output = O.seen out.old; errors = E.seen err.old; steps = steps.old })
         (record { inputs = I.seen inputs.new; output = O.seen out.new; errors = E.seen err.new; steps = steps.new }) }
 
     // What stays as it was, what is told, and how much is done.
-    ensures kept { result ≢ 0 → result ≢ 8 →
+    ensures output_same { result ≢ 0 → result ≢ 8 →
         ((O.seen out.new).bytes ≡ (O.seen out.old).bytes) × ((O.seen out.new).calls ≡ (O.seen out.old).calls) }
     ensures told { result ≢ 0 → IsToldFor (asked_by words.now)
         (record { inputs = I.seen inputs.old; output = O.seen out.old; errors = E.seen err.old; steps = steps.old })
-        (record { inputs = I.seen inputs.new; output = O.seen out.new; errors = E.seen err.new; steps = steps.new }) result }
+        (record { inputs = I.seen inputs.new; output = O.seen out.new; errors = E.seen err.new; steps = steps.new })
+        result }
     ensures idle { 2 ≤ result → result ≤ 6 → steps.new ≡ steps.old }
     ensures fetches { AreFewFetches (asked_by words.now)
         (record { inputs = I.seen inputs.old; output = O.seen out.old; errors = E.seen err.old; steps = steps.old })
@@ -241,10 +244,12 @@ pub fn cloner<R: Threads + Wait + Sync, I: Inputs, O: Sink, E: Sink, G: Gate, L:
     // That a lawful ending comes, and all of this at once.
     ensures complete { Completes (asked_by words.now)
         (record { inputs = I.seen inputs.old; output = O.seen out.old; errors = E.seen err.old; steps = steps.old })
-        (record { inputs = I.seen inputs.new; output = O.seen out.new; errors = E.seen err.new; steps = steps.new }) result }
+        (record { inputs = I.seen inputs.new; output = O.seen out.new; errors = E.seen err.new; steps = steps.new })
+        result }
     ensures answer { IsAnswer (asked_by words.now)
         (record { inputs = I.seen inputs.old; output = O.seen out.old; errors = E.seen err.old; steps = steps.old })
-        (record { inputs = I.seen inputs.new; output = O.seen out.new; errors = E.seen err.new; steps = steps.new }) result }
+        (record { inputs = I.seen inputs.new; output = O.seen out.new; errors = E.seen err.new; steps = steps.new })
+        result }
 {
     answer(rt, alloc, words, inputs, out, err, gate, steps)
 }

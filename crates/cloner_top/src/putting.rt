@@ -1,11 +1,12 @@
 //! Puts the texts of a study, each in one call whose parts are put as they are made, once all memory was taken.
 ghost use Rattle.std.specs.Prelude.{◌≡◌, ◌≤◌, ◌∷◌, [], length, IfErr, IfOk, OnOk};
+ghost use Rattle.sim_base.specs.declared.lists.TheConstants.{MOST_CLONES};
 ghost use Rattle.trace_report.specs.Outputs.{report};
 ghost use Rattle.trace_report.specs.TraceText.{trace_text};
 ghost use Rattle.rolling_text.specs.WorldTraces.{AreShort};
 ghost use Rattle.study_run.specs.Limits.{AreWithin};
 ghost use Rattle.cloner_top.specs.Endings.{run_texts};
-ghost use Rattle.cloner_top.specs.Outsides.{AreCut, ArePut, AreTold, IsNotPut};
+ghost use Rattle.cloner_top.specs.Outsides.{AreCut, ArePut, ArePutOrCut, IsNotPut};
 ghost use Rattle.cloner_top.specs.RunTexts.{IsReadyRun};
 
 use crate::refusal::Refusal;
@@ -25,7 +26,7 @@ pub(crate) fn put_text<O: Sink>(out: &mut O, text: &[u8]) -> Result<(), Refusal>
     ensures ok { OnOk result (ArePut (text.now ∷ []) (O.seen out.old) (O.seen out.new)) }
     ensures err { IfErr result (λ r. IsNotPut (text.now ∷ []) (O.seen out.old) (O.seen out.new) r) }
     ensures cause { IfErr result (λ r. r ≡ Refusal.CannotWrite) }
-    ensures told { AreTold (text.now ∷ []) (O.seen out.old) (O.seen out.new) }
+    ensures told { ArePutOrCut (text.now ∷ []) (O.seen out.old) (O.seen out.new) }
     ensures later { (O.seen out.old).faults ≤ (O.seen out.new).faults }
 {
     match out.put(text) {
@@ -59,8 +60,8 @@ pub(crate) fn put_report<O: Sink>(
     out: &mut O,
 ) -> Result<(), Refusal>
     requires net { world.now.net ≡ model.now }
-    requires ended { world.now.front ≡ model.now.horizon }
-    requires few { length world.now.clones ≤ 256 }
+    requires at_horizon { world.now.front ≡ model.now.horizon }
+    requires few { length world.now.clones ≤ MOST_CLONES }
     requires within { AreWithin model.now world.now.clones }
     ensures ok { OnOk result (ArePut (report model.now world.now.clones ∷ []) (O.seen out.old) (O.seen out.new)) }
     ensures err { IfErr result (λ r. IsNotPut (report model.now world.now.clones ∷ [])
@@ -83,8 +84,8 @@ struct RunTexts<'a> {
 // Takes all memory that the texts of a world at the horizon need.
 fn prepare_run<'a>(alloc: Global, model: &Model, world: &'a World) -> Result<RunTexts<'a>, NoMemory>
     requires net { world.now.net ≡ model.now }
-    requires ended { world.now.front ≡ model.now.horizon }
-    requires few { length world.now.clones ≤ 256 }
+    requires at_horizon { world.now.front ≡ model.now.horizon }
+    requires few { length world.now.clones ≤ MOST_CLONES }
     requires within { AreWithin model.now world.now.clones }
     requires short { AreShort world.now.clones }
     ensures ready { IfOk result (λ run. IsReadyRun model.now world.now.clones run) }
@@ -135,8 +136,8 @@ pub(crate) fn put_run<O: Sink, R: Threads + Wait + Sync>(
     out: &mut O,
 ) -> Result<(), Refusal>
     requires net { world.now.net ≡ model.now }
-    requires ended { world.now.front ≡ model.now.horizon }
-    requires few { length world.now.clones ≤ 256 }
+    requires at_horizon { world.now.front ≡ model.now.horizon }
+    requires few { length world.now.clones ≤ MOST_CLONES }
     requires within { AreWithin model.now world.now.clones }
     requires short { AreShort world.now.clones }
     ensures ok { OnOk result (ArePut (run_texts model.now world.now.clones) (O.seen out.old) (O.seen out.new)) }
@@ -160,8 +161,8 @@ pub(crate) fn put_live<O: Sink, R: Threads + Wait + Sync>(
     out: &mut O,
 ) -> Result<(), Refusal>
     requires net { world.now.net ≡ model.now }
-    requires ended { world.now.front ≡ model.now.horizon }
-    requires few { length world.now.clones ≤ 256 }
+    requires at_horizon { world.now.front ≡ model.now.horizon }
+    requires few { length world.now.clones ≤ MOST_CLONES }
     requires within { AreWithin model.now world.now.clones }
     requires short { AreShort world.now.clones }
     ensures ok { OnOk result (ArePut (journal.now ∷ run_texts model.now world.now.clones)

@@ -1,6 +1,6 @@
 //! Reads the two texts of a study: out of files, or made of a number.
 ghost use Rattle.std.specs.Prelude.{◌≡◌, ◌≤◌, IfErr, IfOk, Ok, Err};
-ghost use Rattle.sim_outer.specs.Causes.{AreCounted, Rose};
+ghost use Rattle.sim_outer.specs.Causes.{AreCounted, HasRisen};
 ghost use Rattle.net_model.specs.Text.{model};
 ghost use Rattle.decision_script.specs.Reading.{script};
 ghost use Rattle.command_words.specs.Requests.{source_view};
@@ -77,11 +77,12 @@ pub(crate) fn fetch_text<I: Inputs>(
     text: Text,
 ) -> Result<Vec<u8>, Refusal>
     ensures ok { IfOk result (λ v. IsText (text_of (source_view source.now) text (I.seen inputs.old).files) v.items) }
-    ensures err { IfErr result (λ r. IsNotRead (Rose (I.seen inputs.old).faults (I.seen inputs.new).faults)
+    ensures err { IfErr result (λ r. IsNotRead (HasRisen (I.seen inputs.old).faults (I.seen inputs.new).faults)
         (source_view source.now) text (I.seen inputs.old).files r) }
     ensures later { (I.seen inputs.old).faults ≤ (I.seen inputs.new).faults }
     ensures same { (I.seen inputs.new).files ≡ (I.seen inputs.old).files }
-    ensures counted { AreCounted (fetches_of (source_view source.now)) (I.seen inputs.old).calls (I.seen inputs.new).calls }
+    ensures counted { AreCounted (fetches_of (source_view source.now)) (I.seen inputs.old).calls
+        (I.seen inputs.new).calls }
 {
     let name = match *source {
         Source::Named { model, script } => name_of(text, model, script),

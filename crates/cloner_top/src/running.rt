@@ -1,5 +1,6 @@
 //! Runs a planned study, and puts its texts.
 ghost use Rattle.std.specs.Prelude.{◌≡◌, ◌+◌, ◌≤◌, ℕ, List, [], ◌∷◌, length, IfErr, IfOk, OnOk};
+ghost use Rattle.sim_base.specs.declared.lists.TheConstants.{MOST_CLONES};
 ghost use Rattle.decision_book.specs.Journal.{after};
 ghost use Rattle.rolling_text.specs.WorldTraces.{AreShort};
 ghost use Rattle.world_core.specs.Worlds.{total_handled};
@@ -8,7 +9,7 @@ ghost use Rattle.study_run.specs.Accepted.{AllAccepted};
 ghost use Rattle.command_words.specs.Requests.{source_view};
 ghost use Rattle.cloner_top.specs.Endings.{DecidesFirst, MayRun, MayRunAlone, MaySimulate};
 ghost use Rattle.cloner_top.specs.Endings.{StoppedFor, limit_met, run_texts};
-ghost use Rattle.cloner_top.specs.Outsides.{IsFailed, IsFinished};
+ghost use Rattle.cloner_top.specs.Outsides.{IsFailed, IsStudyPut};
 ghost use Rattle.cloner_top.specs.Refusals.{Stops};
 ghost use Rattle.trace_report.specs.Outputs.{report};
 
@@ -54,7 +55,7 @@ fn run_world<G: Gate, L: Ledger, R: Threads + Wait + Sync>(
     ensures net { IfOk result (λ w. w.net ≡ plan.now.model.value) }
     ensures clones { IfOk result (λ w. w.clones ≡ (after plan.now.book.net plan.now.book.events).clones) }
     ensures front { IfOk result (λ w. w.front ≡ plan.now.model.value.horizon) }
-    ensures few { IfOk result (λ w. length w.clones ≤ 256) }
+    ensures few { IfOk result (λ w. length w.clones ≤ MOST_CLONES) }
     ensures within { IfOk result (λ w. AreWithin plan.now.model.value w.clones) }
     ensures short { IfOk result (λ w. AreShort w.clones) }
     ensures steps { IfOk result (λ w.
@@ -100,7 +101,7 @@ fn write_run<O: Sink, G: Gate, L: Ledger, R: Threads + Wait + Sync>(
 ) -> Result<(), Refusal>
     requires net { plan.now.book.net ≡ plan.now.model.value }
     requires accepted { AllAccepted plan.now.book.net plan.now.book.events }
-    ensures ok { OnOk result (IsFinished
+    ensures ok { OnOk result (IsStudyPut
         (MayRun plan.now.model.value (after plan.now.book.net plan.now.book.events).clones
         (run_texts plan.now.model.value (after plan.now.book.net plan.now.book.events).clones)) steps.old steps.new
         (O.seen out.old) (O.seen out.new)) }
@@ -127,7 +128,7 @@ fn write_report<O: Sink, G: Gate, L: Ledger, R: Threads + Wait + Sync>(
 ) -> Result<(), Refusal>
     requires net { plan.now.book.net ≡ plan.now.model.value }
     requires accepted { AllAccepted plan.now.book.net plan.now.book.events }
-    ensures ok { OnOk result (IsFinished
+    ensures ok { OnOk result (IsStudyPut
         (MayRun plan.now.model.value (after plan.now.book.net plan.now.book.events).clones
         (report plan.now.model.value (after plan.now.book.net plan.now.book.events).clones ∷ [])) steps.old steps.new
         (O.seen out.old) (O.seen out.new)) }
@@ -151,7 +152,7 @@ fn write_alone<O: Sink, L: Ledger>(
     steps: &mut Steps<L>,
 ) -> Result<(), Refusal>
     requires net { plan.now.book.net ≡ plan.now.model.value }
-    ensures ok { OnOk result (IsFinished
+    ensures ok { OnOk result (IsStudyPut
         (MayRunAlone plan.now.model.value (after plan.now.book.net plan.now.book.events).clones name.now)
         steps.old steps.new (O.seen out.old) (O.seen out.new)) }
     ensures err { IfErr result (λ r. IsFailed
@@ -184,7 +185,7 @@ pub(crate) fn write_study<O: Sink, G: Gate, L: Ledger, R: Threads + Wait + Sync>
     requires first { DecidesFirst request.now.mode }
     requires net { plan.now.book.net ≡ plan.now.model.value }
     requires accepted { AllAccepted plan.now.book.net plan.now.book.events }
-    ensures ok { OnOk result (IsFinished
+    ensures ok { OnOk result (IsStudyPut
         (MaySimulate request.now.mode (source_view request.now.source) plan.now.model.value
         (after plan.now.book.net plan.now.book.events).clones) steps.old steps.new (O.seen out.old) (O.seen out.new)) }
     ensures err { IfErr result (λ r. IsFailed

@@ -17,8 +17,8 @@ use Rattle.clap.specs.declared.error.kind.ErrorKind.{ErrorKind}
 use Rattle.clap.specs.declared.error.kind.ErrorKind.TheVariants as kind
 use Rattle.command_words.specs.Application.{cloner}
 use Rattle.command_words.specs.Clap.{ClapFindsTheValues, clap_values, unless_fault, up_to_three, values_in}
-use Rattle.command_words.specs.Rules.{Dashed, OptionName, after_dashed, clone, dashed, ending, is_dashed, named, read}
-use Rattle.command_words.specs.Rules.{unknown, valued, values, with_positionals, with_value, workers}
+use Rattle.command_words.specs.Rules.{Dashed, OptionName, after_dashed, clone, dashed_word, ending, is_dashed}
+use Rattle.command_words.specs.Rules.{named, read, unknown, valued, values, with_positionals, with_value, workers}
 use Rattle.command_words.specs.Values.{Values}
 use Rattle.command_words.proofs.ClapRows.{Stage, Stands, at_start, fault-missing, fault-twice}
 use Rattle.command_words.proofs.ClapRows.{no_fault-option}
@@ -72,9 +72,9 @@ many_dashed unknown rest w c x y z u more again = refl
 -- nor any word where nothing is due
 many_free : (t : Bool) (word : Text) (rest : List Text) (w c : Option Text) (x y z u : Text) (more : List Text)
     → StaysMany rest x y z u
-    → option_and_then up_to_three (cond t (after_dashed (dashed word) rest (read rest) (many w c x y z u more))
+    → option_and_then up_to_three (cond t (after_dashed (dashed_word word) rest (read rest) (many w c x y z u more))
     (read rest None (with_positionals (word ∷ []) (many w c x y z u more)))) ≡ None
-many_free true word rest w c x y z u more again = many_dashed (dashed word) rest w c x y z u more again
+many_free true word rest w c x y z u more again = many_dashed (dashed_word word) rest w c x y z u more again
 many_free false word rest w c x y z u more again = again None w c (more ++ (word ∷ []))
 
 -- nor any word where a value is due
@@ -220,7 +220,7 @@ doomed : (words : List Text) → AllByRecursion IsUtf8 words → (rows : List Ro
 doomed [] u rows p s k ks fault = doomed_end rows p idle (place s) false k ks fault
 doomed (word ∷ rest) u rows p s k ks fault = ⊎_elim
     (λ (yes : is_dashed word ≡ true).
-    doomed_dashed (dashed word) word rest rows p idle s k ks (says word u.0 yes) fault)
+    doomed_dashed (dashed_word word) word rest rows p idle s k ks (says word u.0 yes) fault)
     (λ (no : is_dashed word ≡ false). doomed_plain word rest rows p s k ks (plain word no) fault)
     (cases_Bool (is_dashed word))
 
@@ -333,11 +333,11 @@ free_plain word rest free is rows p w c (three a b d) clear st =
 -- any word, where nothing is due
 free_step : (word : Text) (rest : List Text) → IsUtf8 word → Free rest → Due rest → Free (word ∷ rest)
 free_step word rest u free due rows p w c s clear st =
-    let dash : Option Values = after_dashed (dashed word) rest (read rest) (values_at w c s) in
+    let dash : Option Values = after_dashed (dashed_word word) rest (read rest) (values_at w c s) in
     let text : Option Values = read rest None (with_positionals (word ∷ []) (values_at w c s)) in
     ⊎_elim
     (λ (yes : is_dashed word ≡ true).
-    free_dashed (dashed word) word rest free due (says word u yes) rows p w c s clear st
+    free_dashed (dashed_word word) word rest free due (says word u yes) rows p w c s clear st
     ∙ ap (λ (t : Bool). option_and_then up_to_three (cond t dash text)) (sym yes))
     (λ (no : is_dashed word ≡ false). free_plain word rest free (plain word no) rows p w c s clear st
     ∙ ap (λ (t : Bool). option_and_then up_to_three (cond t dash text)) (sym no))
@@ -380,7 +380,7 @@ due_step word rest u us free name rows w c s st =
     let text : Option Values = option_and_then (read rest None) (with_value name word (values_at w c s)) in
     ⊎_elim
     (λ (yes : is_dashed word ≡ true).
-    doomed_dashed (dashed word) word rest rows (Some (id_of name, [])) (option (id_of name)) s kind.InvalidValue []
+    doomed_dashed (dashed_word word) word rest rows (Some (id_of name, [])) (option (id_of name)) s kind.InvalidValue []
     (says word u yes) (fault-missing name rows)
     ∙ ap (λ (t : Bool). option_and_then up_to_three (cond t None text)) (sym yes))
     (λ (no : is_dashed word ≡ false). due_plain name word rest us free (plain word no) rows w c s st

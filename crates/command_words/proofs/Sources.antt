@@ -19,10 +19,11 @@ IsNamedIfLive r = r.asked.mode ≡ Live → (model : List ℕ) × (script : List
 abbrev AreNamedIfLive : Option RequestView → Type 0
 AreNamedIfLive asked = IfSome asked IsNamedIfLive
 
--- by either way
-either : (b : Bool) (x y : Option RequestView) → AreNamedIfLive x → AreNamedIfLive y → AreNamedIfLive (cond b x y)
-either true x y h k = h
-either false x y h k = k
+-- ---- if
+-- a choice of two, where both are so
+cond-named : (b : Bool) (x y : Option RequestView) → AreNamedIfLive x → AreNamedIfLive y → AreNamedIfLive (cond b x y)
+cond-named true x y h k = h
+cond-named false x y h k = k
 
 -- ---- a study of two files, or of a number by all clones
 
@@ -44,14 +45,16 @@ study : (mode : Mode) (model script : List ℕ) (workers clone : Option (List �
     → AreNamedIfLive (study_form mode model script workers clone)
 study mode model script workers (Some clone) = tt
 study mode model script workers None =
-    either (is_text model && is_text script) (option_map (study_of mode (named model script)) (workers_of workers)) None
+    cond-named (is_text model && is_text script)
+    (option_map (study_of mode (named model script)) (workers_of workers)) None
     (of_files mode model script (workers_of workers)) tt
 
 -- `solo`
 solo : (model script : List ℕ) (workers clone : Option (List ℕ))
     → AreNamedIfLive (solo_form model script workers clone)
 solo model script None (Some clone) =
-    either ((is_text model && is_text script) && is_name clone) (Some (study_of (One clone) (named model script) 1)) None
+    cond-named ((is_text model && is_text script) && is_name clone)
+    (Some (study_of (One clone) (named model script) 1)) None
     (λ _. (model, script, refl)) tt
 solo model script None None = tt
 solo model script (Some workers) clone = tt
@@ -71,13 +74,13 @@ gen number workers None = gen_by (number_to 999999 number) (workers_of workers)
 two : (mode model script : List ℕ) (workers clone : Option (List ℕ))
     → AreNamedIfLive (of_two mode model script workers clone)
 two mode model script workers clone =
-    either (bytes_eq mode (codes "run")) _ _ (study All model script workers clone)
-    (either (bytes_eq mode (codes "solo")) _ _ (solo model script workers clone)
-    (either (bytes_eq mode (codes "live")) _ None (study Live model script workers clone) tt))
+    cond-named (bytes_eq mode (codes "run")) _ _ (study All model script workers clone)
+    (cond-named (bytes_eq mode (codes "solo")) _ _ (solo model script workers clone)
+    (cond-named (bytes_eq mode (codes "live")) _ None (study Live model script workers clone) tt))
 
 -- the mode of one positional more
 one : (mode number : List ℕ) (workers clone : Option (List ℕ)) → AreNamedIfLive (of_one mode number workers clone)
-one mode number workers clone = either (bytes_eq mode (codes "gen")) _ None (gen number workers clone) tt
+one mode number workers clone = cond-named (bytes_eq mode (codes "gen")) _ None (gen number workers clone) tt
 
 -- any positionals
 positionals : (words : List (List ℕ)) (workers clone : Option (List ℕ))

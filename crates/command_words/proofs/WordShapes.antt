@@ -15,7 +15,7 @@ use Rattle.std.proofs.lemmas.Slice.Eq.{bytes_eq-Decides, starts_is}
 use Rattle.std.proofs.lemmas.Str.{IsUtf8-past_char, chars-encodes, encode_ascii}
 use Rattle.clap.specs.Lexer.{long_of_rest, short_of_rest, strip_byte}
 use Rattle.clap.specs.Walk.{Text}
-use Rattle.command_words.specs.Rules.{Dashed, OptionName, clone, dashed, ending, is_dashed, named, unknown}
+use Rattle.command_words.specs.Rules.{Dashed, OptionName, clone, dashed_word, ending, is_dashed, named, unknown}
 use Rattle.command_words.specs.Rules.{valued, workers}
 use Rattle.command_words.proofs.ClapSteps.{IsPlain, IsRefused, id_of, long, long_name, refused_long, refused_short}
 
@@ -145,7 +145,7 @@ Says (valued name v) word = word ≡ long name ++ (61 ∷ v)
 Says unknown word = IsRefused word
 
 -- what the rules say of it is what clap makes of it
-pub says : (word : Text) → IsUtf8 word → is_dashed word ≡ true → Says (dashed word) word
+pub says : (word : Text) → IsUtf8 word → is_dashed word ≡ true → Says (dashed_word word) word
 says word u h = at_end (bytes_eq word (codes "--")) refl
   where
     at_clone_value : (t : Bool) → bytes_eq word (codes "--") ≡ false → bytes_eq word (codes "--workers") ≡ false

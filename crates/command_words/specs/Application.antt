@@ -14,11 +14,11 @@ abbrev pub positional : List ℕ → Rule
 positional name = new_rule name
 
 -- the command without options and positionals: its name is not among the words, and there is no help
-abbrev pub bare : App
-bare = on_top (λ s. record s { no_binary_name = true; disable_help_flag = true }) (new_app (codes "cloner"))
+abbrev pub bare_app : App
+bare_app = on_top (λ s. record s { no_binary_name = true; disable_help_flag = true }) (new_app (codes "cloner"))
 
 -- the command with its two options and its three positionals
 abbrev pub cloner : App
 cloner =
-    with_rule (with_rule (with_rule (with_rule (with_rule bare (option (codes "workers"))) (option (codes "clone")))
+    with_rule (with_rule (with_rule (with_rule (with_rule bare_app (option (codes "workers"))) (option (codes "clone")))
     (positional (codes "mode"))) (positional (codes "first"))) (positional (codes "second"))

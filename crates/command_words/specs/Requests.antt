@@ -17,14 +17,14 @@ pub data Source : Type 0 where
   named : List ℕ → List ℕ → Source
   made : ℕ → Source
 
--- what is to be done, whoever does it: of which clones, and from which texts
-pub record Asked : Type 0 where
+-- an assignment: which clones are run, and from which texts, whoever does it
+pub record Assignment : Type 0 where
   pub mode : Mode
   pub source : Source
 
 -- what is asked, and by how many workers it is done
 pub record RequestView : Type 0 where
-  pub asked : Asked
+  pub asked : Assignment
   pub workers : ℕ
 
 -- where a request's texts come from, as plain data

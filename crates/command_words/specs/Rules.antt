@@ -28,8 +28,8 @@ pub data Dashed : Type 0 where
   unknown : Dashed
 
 -- what such a word says: `--`, or an option with or without its value in the word, and else unknown
-abbrev pub dashed : List ℕ → Dashed
-dashed word =
+abbrev pub dashed_word : List ℕ → Dashed
+dashed_word word =
     if bytes_eq word (codes "--") then ending
     else if bytes_eq word (codes "--workers") then named workers
     else if bytes_eq word (codes "--clone") then named clone
@@ -54,12 +54,13 @@ after_dashed (valued name value) rest read_on v = option_and_then (read_on None)
 after_dashed unknown rest read_on v = None
 
 -- The words from here on, where those before them gave v. Where nothing is due, a word without a dash is a positional.
--- Where the value of an option is due, the next word is the value, unless it begins with `-` and is more than `-` itself.
+-- Where the value of an option is due, the next word is the value, unless it begins with `-` and is more than `-`
+-- itself.
 abbrev pub read : List (List ℕ) → Option OptionName → Values → Option Values
 read [] None v = Some v
 read [] (Some due) v = None
 read (word ∷ rest) None v =
-    if is_dashed word then after_dashed (dashed word) rest (read rest) v
+    if is_dashed word then after_dashed (dashed_word word) rest (read rest) v
     else read rest None (with_positionals (word ∷ []) v)
 read (word ∷ rest) (Some due) v =
     if is_dashed word then None else option_and_then (read rest None) (with_value due word v)

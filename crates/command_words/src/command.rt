@@ -1,7 +1,7 @@
 //! The command that the words are read by.
 ghost use Rattle.std.specs.Prelude.{◌≡◌, IfOk, false};
 ghost use Rattle.clap.specs.Words.{app_of, rule_of, with_rule};
-ghost use Rattle.command_words.specs.Application.{cloner, bare, option, positional};
+ghost use Rattle.command_words.specs.Application.{cloner, bare_app, option, positional};
 
 use clap::{Arg, ArgAction, Command};
 use std::alloc::{AllocError, Global};
@@ -21,7 +21,7 @@ fn positional_arg<'a>(alloc: Global, name: &'a str) -> Arg<'a>
 }
 
 fn bare_command<'a>(alloc: Global) -> Command<'a>
-    ensures value { app_of result ≡ bare }
+    ensures value { app_of result ≡ bare_app }
 {
     Command::new(alloc, "cloner")
         .no_binary_name(true)

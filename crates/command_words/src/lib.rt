@@ -10,7 +10,7 @@
 //! ```
 //!
 //! `read_words` gives a `Request`: the clones that are run, where the two texts come from, and the workers.
-//! What is asked (`Asked`) has no workers, so that no promise about the output can speak of them. An example:
+//! What is to be done (`Assignment`) has no workers, so that no promise about the output can speak of them. An example:
 //!
 //! ```text
 //! let request = read_words(alloc, words)?;      // run m.toml s.txt --workers=4
@@ -32,5 +32,5 @@ pub mod request;
 pub mod usage;
 
 pub use reading::read_words;
-pub use request::{MOST_NUMBER, MOST_WORKERS, Mode, Request, Source, WordsFault};
+pub use request::{MOST_WORKERS, Mode, Request, Source, WordsFault};
 pub use usage::usage_line;

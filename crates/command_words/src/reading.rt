@@ -1,4 +1,4 @@
-//! The reading of a command line.
+//! The reading of a command line: from its words to a request.
 ghost use Rattle.std.specs.Prelude.{◌≡◌, ◌⊎◌, ◌≤◌, IfOk, IfSome, None, Err, option_map};
 ghost use Rattle.command_words.specs.Requests.{form, form_of, is_text as is_text_of, of_one, of_two};
 ghost use Rattle.command_words.specs.Requests.{gen_form, solo_form, study_form, request_view, workers_of as workers_in};
@@ -143,7 +143,9 @@ fn request_of<'a>(given: &Given<'a>) -> Option<Request<'a>>
 }
 
 /// What the words ask for: `run MODEL SCRIPT [--workers N]`, `solo MODEL SCRIPT --clone NAME`,
-/// `live MODEL SCRIPT [--workers N]` or `gen NUMBER [--workers N]`. Words of no other form give `Usage`; reading takes memory, and may be refused it.
+/// `live MODEL SCRIPT [--workers N]` or `gen NUMBER [--workers N]`.
+///
+/// Words of no known form give `Usage`; reading takes memory, and may be refused it.
 pub fn read_words<'a>(alloc: Global, words: &'a [Word]) -> Result<Request<'a>, WordsFault>
     // what is given is what the words ask for
     ensures value { IfOk result (λ r. form words.entry.now ≡ Some (request_view r)) }

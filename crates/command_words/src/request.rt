@@ -1,4 +1,4 @@
-//! What a command line asks for.
+//! What a command line asks for: which clones are run, from which texts, and by how many workers.
 ghost use Rattle.std.specs.Prelude.{◌≤◌};
 ghost use Rattle.command_words.specs.declared.request.TheConstants.{MOST_WORKERS};
 
@@ -8,7 +8,7 @@ use sim_base::Name;
 pub const MOST_WORKERS: u32 = 16;
 
 /// The greatest number that a workload may be made of.
-pub const MOST_NUMBER: u32 = 999_999;
+pub(crate) const MOST_NUMBER: u32 = 999_999;
 
 /// Which of a script's clones are run.
 #[derive(Clone, Copy, Debug, PartialEq, Eq)]

@@ -9,7 +9,7 @@ use Rattle.std.specs.Str.{bytes_eq}
 use Rattle.std.proofs.lemmas.Bool.Decides.{nat_tests}
 use Rattle.sim_base.specs.declared.decision.Decision.{Decision}
 use Rattle.sim_base.specs.declared.decision.Decision.TheVariants.{Fork, Set, End}
-use Rattle.sim_base.specs.Clones.{Clone, clone_at, place_of, forked, base}
+use Rattle.sim_base.specs.Clones.{Clone, clone_at, place_of, clones_with_fork, base}
 use Rattle.sim_base.specs.declared.lists.TheConstants.{MOST_CLONES}
 use Rattle.net_model.specs.Net.{Net}
 use Rattle.decision_book.specs.declared.call.TheConstants.{MOST_CALLS}
@@ -25,10 +25,10 @@ use Rattle.decision_book.proofs.ClonesByName.{placed, place_of-none, clone_named
 use Rattle.decision_book.proofs.ClonesByName.{clone_named-push, clone_named-set, same_name, name_itself, name_at}
 use Rattle.decision_book.proofs.Scripts.{accepted_first, next_accepted}
 
-passed : (b : Bool) (r : Reply) (more : List (Option Reply)) → (r ≡ Accepted → ⊥)
+first_row-Accepted : (b : Bool) (r : Reply) (more : List (Option Reply)) → (r ≡ Accepted → ⊥)
     → first_row (row b r ∷ more) ≡ Accepted → (b ≡ false) × (first_row more ≡ Accepted)
-passed true r more other h = absurd (other h)
-passed false r more other h = (refl, h)
+first_row-Accepted true r more other h = absurd (other h)
+first_row-Accepted false r more other h = (refl, h)
 
 -- what an accepted decision found
 pub record IsOpen (j : Situation) (d : Decision) : Type 0 where
@@ -60,10 +60,10 @@ open_clone j d few running (Some clone) e h =
 -- an accepted decision found room, a front that is not the horizon, and its clone without an end
 pub opened : (j : Situation) (d : Decision) → reply j d ≡ Accepted → IsOpen j d
 opened j d h =
-    let one = passed (nat_le MOST_CALLS j.calls) Full
+    let one = first_row-Accepted (nat_le MOST_CALLS j.calls) Full
     (row (j.front == j.net.horizon) Closed ∷ clone_rows j d (place_of (subject d) j.clones)) not_full h in
-    let two = passed (j.front == j.net.horizon) Closed (clone_rows j d (place_of (subject d) j.clones)) not_closed
-    one.1 in
+    let two = first_row-Accepted (j.front == j.net.horizon) Closed
+    (clone_rows j d (place_of (subject d) j.clones)) not_closed one.1 in
     open_clone j d one.0 two.0 (place_of (subject d) j.clones) refl two.1
 
 -- and one that finds all this is accepted
@@ -110,9 +110,9 @@ pub record IsFresh (clones : List Clone) (new : List ℕ) : Type 0 where
 
 fresh_from : (clones : List Clone) (new : List ℕ) → first_row (fork_rows clones new) ≡ Accepted → IsFresh clones new
 fresh_from clones new h =
-    let one = passed (is_some (place_of new clones)) NameTaken
+    let one = first_row-Accepted (is_some (place_of new clones)) NameTaken
     (row (nat_le MOST_CLONES (length clones)) TooManyClones ∷ []) not_taken h in
-    let two = passed (nat_le MOST_CLONES (length clones)) TooManyClones [] not_many one.1 in
+    let two = first_row-Accepted (nat_le MOST_CLONES (length clones)) TooManyClones [] not_many one.1 in
     record { fresh = is_none_from (place_of new clones) one.0; few = two.0 }
 
 fresh_again : {t : List ℕ} (full own : List Clone) (new : List ℕ) → Same t full own → IsFresh full new → IsFresh own new
@@ -176,7 +176,7 @@ set_none true k o h = absurd cc
 set_none false k o h = refl
 
 fork_effect : (net : Net) (clones : List Clone) (new old : List ℕ) (i : ℕ) → place_of new clones ≡ None
-    → Effect net (Fork new old) clones (forked clones new i) i
+    → Effect net (Fork new old) clones (clones_with_fork clones new i) i
 fork_effect net clones new old i fresh =
     let k : Clone = record { name = new; plans = (clone_at clones i).plans; end = None } in
     record {
@@ -209,7 +209,7 @@ effect : (net : Net) (n : ℕ) (clones : List Clone) (d : Decision) (o : IsOpen 
     → Effect net d clones (clones_after net clones d) o.clone
 effect net n clones (Fork new old) o =
     let f = fresh_from clones new o.rest in
-    subst (λ (i : ℕ). Effect net (Fork new old) clones (forked clones new i) o.clone)
+    subst (λ (i : ℕ). Effect net (Fork new old) clones (clones_with_fork clones new i) o.clone)
     (sym (ap (λ p. unwrap_or p 0) o.place)) (fork_effect net clones new old o.clone f.fresh)
 effect net n clones (Set who at station change) o =
     let d : Decision = Set who at station change in

@@ -41,7 +41,7 @@ answered_in : (net : Net) (lists : ListsView) (calls : ReservedView Call) (front
     → IsAnswered net (journal_of calls.items fronts.items) call
 answered_in net lists calls fronts last call h n = record {
   fronts = n.stamp ∙ ap length (sym (fronts_of-journal_from 0 calls.items fronts.items));
-  answer = n.answer ∙ ap (λ (s : Situation). reply s call.decision) (sym h.stands);
+  answer = n.answer ∙ ap (λ (s : Situation). reply s call.decision) (sym h.situation);
   not_full = not_full call.reply n.not_full;
 }
 
@@ -55,7 +55,7 @@ called net lists then calls fronts last call h n e planned =
     let more = journal_from-call 0 (length fronts.items) calls.items fronts.items call (omega arith) h.stamps n.stamp in
     let before = journal_of calls.items fronts.items in
     record {
-      stands = rw (more, fold_push) (ap (λ s. after_event s (asked call)) h.stands
+      situation = rw (more, fold_push) (ap (λ s. after_event s (asked call)) h.situation
           ∙ (λ i. record {
             net = net;
             clones = ap (λ l. l.clones) (sym e) i;
@@ -68,7 +68,7 @@ called net lists then calls fronts last call h n e planned =
       few = h.few;
       early = h.early;
       soon = h.soon;
-      planned = planned;
+      plans = planned;
       reserved_clones = ap (λ l. l.reserved_clones) e ∙ h.reserved_clones;
       reserved_plans = ap (λ l. l.reserved_plans) e ∙ h.reserved_plans;
       reserved_calls = h.reserved_calls;
@@ -101,13 +101,13 @@ advanced net lists calls fronts last front h above within =
     let before = journal_of calls.items fronts.items in
     let longer = length_push fronts.items front in
     record {
-      stands = rw (more, fold_push) (ap (λ s. after_event s (raised front)) h.stands);
-      right = rw more (each_push (MayFollow net) [] before (raised front) h.right (rw h.stands above, within));
+      situation = rw (more, fold_push) (ap (λ s. after_event s (raised front)) h.situation);
+      right = rw more (each_push (MayFollow net) [] before (raised front) h.right (rw h.situation above, within));
       stamps = rw longer (stamped_more 0 (length fronts.items) calls.items h.stamps);
       few = omega (arith, longer, h.few, above);
       early = within;
       soon = h.soon;
-      planned = h.planned;
+      plans = h.plans;
       reserved_clones = h.reserved_clones;
       reserved_plans = h.reserved_plans;
       reserved_calls = h.reserved_calls;

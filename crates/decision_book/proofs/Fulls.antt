@@ -20,7 +20,7 @@ use Rattle.decision_book.specs.declared.call.Reply.TheVariants.{UnknownStation, 
 use Rattle.decision_book.specs.Journal.{Event, Situation, asked, call_of, calls_of}
 use Rattle.decision_book.specs.Journal.{fronts_of, with_reply, after, is_full}
 use Rattle.decision_book.specs.Right.{journal_with}
-use Rattle.decision_book.specs.Books.{BookView, IsBook, IsTold, journal_of}
+use Rattle.decision_book.specs.Books.{BookView, IsBook, IsCallUnlessFull, journal_of}
 use Rattle.decision_book.specs.Replies.{row, first_row, time_rows, fault_row, change_row, rows, clone_rows, reply}
 use Rattle.decision_book.proofs.Scripts.{journal_stands}
 use Rattle.decision_book.proofs.Growing.{fronts_of-journal_from}
@@ -80,7 +80,7 @@ at_row : (b : Bool) (os : List (Option Reply)) → NoneFull os → first_row (ro
 at_row true os h e = refl
 at_row false os h e = absurd (first_not_full os h e)
 
--- a reply that is Full comes of a full journal
+-- a reply that is Full is that of a full journal
 full_is_full : (s : Situation) (d : Decision) → reply s d ≡ Full → MOST_CALLS ≤ s.calls
 full_is_full s d e =
     let b = at_row (nat_le MOST_CALLS s.calls)
@@ -119,7 +119,7 @@ pub replied : (net : Net) (lists : ListsView) (calls : ReservedView Call) (front
     → r ≡ reply (record { net = net; clones = lists.clones; front = last; calls = length calls.items }) d
     → r ≡ reply (after v.net v.events) d
 replied net lists calls fronts last d r v h is e = subst (λ (w : BookView). r ≡ reply (after w.net w.events) d) is
-    (e ∙ ap (λ (s : Situation). reply s d) (sym h.stands))
+    (e ∙ ap (λ (s : Situation). reply s d) (sym h.situation))
 
 -- a book with the call of a decision that isn't answered Full
 pub kept_of : (old new : BookView) (caller : ℕ) (d : Decision) (r : Reply) → r ≡ reply (after old.net old.events) d
@@ -132,14 +132,14 @@ kept_of old new caller d r is then not =
 not_full : (r : Reply) → is_full r ≡ false → r ≢ Full
 not_full r h e = let bad : is_full r ≡ true = ap is_full e in cc
 
--- the call that is told of it, where so many fronts stood before
-pub told_call : (old new : BookView) (caller : ℕ) (d : Decision) (r : Reply) (n : ℕ)
+-- the call that is made of it, where so many fronts stood before
+pub call_unless_full : (old new : BookView) (caller : ℕ) (d : Decision) (r : Reply) (n : ℕ)
     → n ≡ length (fronts_of old.events) → r ≡ reply (after old.net old.events) d
     → new ≡ record old { events = journal_with old.net old.events caller d } → is_full r ≡ false
-    → IsTold old caller d r (Some (record { caller = caller; fronts = n; decision = d; reply = r })) new
-told_call old new caller d r n stamp is then room =
-    subst (λ (k : ℕ). IsTold old caller d r (Some (record { caller = caller; fronts = k; decision = d; reply = r }))
-    new) (sym stamp)
+    → IsCallUnlessFull old caller d r (Some (record { caller = caller; fronts = n; decision = d; reply = r })) new
+call_unless_full old new caller d r n stamp is then room =
+    subst (λ (k : ℕ). IsCallUnlessFull old caller d r
+    (Some (record { caller = caller; fronts = k; decision = d; reply = r })) new) (sym stamp)
     (not_full r room, record { call_is = refl; new_is = kept_of old new caller d r is then (not_full r room) })
 
 -- so many fronts stand in the journal of a book

@@ -11,7 +11,7 @@ use Rattle.decision_book.specs.declared.call.TheConstants.{MOST_CALLS}
 use Rattle.decision_book.specs.declared.call.Reply.{Reply}
 use Rattle.decision_book.specs.declared.call.Reply.TheVariants.{Accepted, PastHorizon, Late}
 use Rattle.decision_book.specs.Journal.{Event, Situation, raised, asked, after}
-use Rattle.decision_book.specs.Journal.{after_event, opening, clones_after, if_accepted, calls_of}
+use Rattle.decision_book.specs.Journal.{after_event, outset, clones_after, if_accepted, calls_of}
 use Rattle.decision_book.specs.Replies.{row, first_row, rows, reply}
 use Rattle.decision_book.specs.Right.{MayFollow, EachAfter}
 use Rattle.decision_book.specs.Scripts.{next, after_all, refusal_or, first_refusal_from, if_taken, accepted_of}
@@ -112,10 +112,10 @@ from_here : (net : Net) (before es : List Event) (s : Situation) (m place : ℕ)
 from_here net before [] s m place is right some_time few = (refl, refl)
 from_here net before (raised f ∷ es) s m place is right some_time few =
     from_here net (before ++ raised f ∷ []) es (after_event s (raised f)) m place
-    (fold_append (opening net) before (raised f ∷ []) ∙ ap (λ (x : Situation). after_event x (raised f)) is)
+    (fold_append (outset net) before (raised f ∷ []) ∙ ap (λ (x : Situation). after_event x (raised f)) is)
     right.1 some_time few
 from_here net before (asked c ∷ es) s m place is right some_time few =
-    let then = fold_append (opening net) before (asked c ∷ []) ∙ ap (λ (x : Situation). after_event x (asked c)) is in
+    let then = fold_append (outset net) before (asked c ∷ []) ∙ ap (λ (x : Situation). after_event x (asked c)) is in
     let answer : c.reply ≡ reply s c.decision = right.0.answer ∙ ap (λ (x : Situation). reply x c.decision) is in
     ⊎_elim
     (λ (h : c.reply ≡ Accepted).
@@ -147,7 +147,7 @@ from_here net before (asked c ∷ es) s m place is right some_time few =
 -- where the horizon is above 0, the accepted decisions of a right journal are a script that leaves its clones
 pub journal_is_script : (net : Net) → JournalIsScript net
 journal_is_script net events right some_time =
-    let l = from_here net [] events (opening net) 0 0 refl right some_time (omega arith) in
+    let l = from_here net [] events (outset net) 0 0 refl right some_time (omega arith) in
     record { accepted = l.0; lists = l.1 }
 
 -- what holds of each event of a journal holds of its later part behind the earlier one
@@ -166,7 +166,7 @@ closed_from : (net : Net) (before : List Event) (calls : List Call) (s : Situati
     → (fold after_event s (map asked calls)).clones ≡ s.clones
 closed_from net before [] s is closed right = refl
 closed_from net before (c ∷ cs) s is closed right =
-    let then = fold_append (opening net) before (asked c ∷ []) ∙ ap (λ (x : Situation). after_event x (asked c)) is in
+    let then = fold_append (outset net) before (asked c ∷ []) ∙ ap (λ (x : Situation). after_event x (asked c)) is in
     let answer : c.reply ≡ reply s c.decision = right.0.answer ∙ ap (λ (x : Situation). reply x c.decision) is in
     let at_end : (s.front == s.net.horizon) ≡ true = same_number s.front s.net.horizon closed in
     ⊎_elim
@@ -185,7 +185,7 @@ net_stays s (asked c ∷ es) = net_stays (after_event s (asked c)) es
 -- in a right journal, calls at the horizon leave the clones as they are
 pub closed_changes_nothing : (net : Net) → ClosedChangesNothing net
 closed_changes_nothing net before calls closed right =
-    ap (λ (s : Situation). s.clones) (fold_append (opening net) before (map asked calls))
+    ap (λ (s : Situation). s.clones) (fold_append (outset net) before (map asked calls))
     ∙ closed_from net before calls (after net before) refl
-    (closed ∙ ap (λ (n : Net). n.horizon) (sym (net_stays (opening net) before)))
+    (closed ∙ ap (λ (n : Net). n.horizon) (sym (net_stays (outset net) before)))
     (each_later (MayFollow net) [] before (map asked calls) right)

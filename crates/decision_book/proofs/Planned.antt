@@ -4,7 +4,7 @@ use Rattle.std.proofs.Common.{slice_set, length-set, true, Option, option_map, R
 use Rattle.std.specs.List.{AllByRecursion}
 use Rattle.std.proofs.lemmas.List.{length_push}
 use Rattle.sim_base.specs.declared.decision.Planned.{Planned}
-use Rattle.sim_base.specs.Clones.{Clone, clone_at, forked, added, ended}
+use Rattle.sim_base.specs.Clones.{Clone, clone_at, clones_with_fork, clones_with_plan, clones_with_end}
 use Rattle.sim_base.specs.declared.lists.TheConstants.{MOST_CLONES, MOST_DECISIONS}
 use Rattle.sim_base.proofs.ListLaws.{all_push, all_set}
 use Rattle.std.specs.Str.{bytes_eq}
@@ -23,7 +23,7 @@ planned_at net (k ∷ ks) (suc c) h = planned_at net ks c h.1
 
 -- a fork keeps the lists as planned, where there is room for one clone more
 pub planned_forked : (net : Net) (clones : List Clone) (new : List ℕ) (old : ℕ) → ArePlanned net clones
-    → length clones < MOST_CLONES → ArePlanned net (forked clones new old)
+    → length clones < MOST_CLONES → ArePlanned net (clones_with_fork clones new old)
 planned_forked net clones new old h few =
     let from = planned_at net clones old h.each in
     let fork : Clone = record { name = new; plans = (clone_at clones old).plans; end = None } in
@@ -38,7 +38,7 @@ replaced net clones c k h p = record { few = rw length-set h.few; each = all_set
 
 -- so does an end before the horizon
 pub planned_ended : (net : Net) (clones : List Clone) (c at : ℕ) → ArePlanned net clones → at < net.horizon
-    → ArePlanned net (ended clones c at)
+    → ArePlanned net (clones_with_end clones c at)
 planned_ended net clones c at h early =
     let from = planned_at net clones c h.each in
     replaced net clones c (record (clone_at clones c) { end = Some at }) h
@@ -46,7 +46,8 @@ planned_ended net clones c at h early =
 
 -- and so does one set more that may be planned, where the clone's list has room
 pub planned_added : (net : Net) (clones : List Clone) (c : ℕ) (plan : Planned) → ArePlanned net clones
-    → length (clone_at clones c).plans < MOST_DECISIONS → IsPlan net plan → ArePlanned net (added clones c plan)
+    → length (clone_at clones c).plans < MOST_DECISIONS → IsPlan net plan
+    → ArePlanned net (clones_with_plan clones c plan)
 planned_added net clones c plan h s p =
     let from = planned_at net clones c h.each in
     replaced net clones c (record (clone_at clones c) { plans = (clone_at clones c).plans ++ plan ∷ [] }) h

@@ -7,13 +7,13 @@ use Rattle.sim_base.specs.declared.decision.Decision.{Decision}
 use Rattle.net_model.specs.Net.{Net}
 use Rattle.decision_book.specs.declared.call.Reply.{Reply}
 use Rattle.decision_book.specs.declared.call.Reply.TheVariants.{Accepted, Full}
-use Rattle.decision_book.specs.Journal.{Event, asked, calls_of, fronts_of, Situation, opening}
+use Rattle.decision_book.specs.Journal.{Event, asked, calls_of, fronts_of, Situation, outset}
 use Rattle.decision_book.specs.Journal.{after_event, after, clones_after_reply, clones_after, with_reply}
 use Rattle.decision_book.specs.Replies.{reply}
 use Rattle.decision_book.specs.Right.{journal_with, MayFollow, IsRight}
 use Rattle.decision_book.specs.Scripts.{Question, calls_after, next, after_all}
 use Rattle.decision_book.specs.Scripts.{refusal_or, first_refusal_from, first_refusal}
-use Rattle.decision_book.specs.Laws.{last_of, JournalStands, AskingIsNext, ScriptStands, ScriptIsRight}
+use Rattle.decision_book.specs.Laws.{last_of, SituationOfJournal, AskingIsNext, SituationOfScript, ScriptIsRight}
 use Rattle.decision_book.specs.Laws.{AcceptedAdds, RefusedFirst, AcceptedGoesOn, RefusedIsFirst}
 use Rattle.decision_book.proofs.Growing.{each_push, stands_by}
 
@@ -25,7 +25,7 @@ after-with_reply : (net : Net) (es : List Event) (caller : ℕ) (d : Decision) (
     → after net (with_reply es caller d r) ≡ by_reply (after net es) d r
 after-with_reply net es caller d Full = refl
 after-with_reply net es caller d r =
-    fold_push after_event (opening net) es
+    fold_push after_event (outset net) es
     (asked (record { caller = caller; fronts = length (fronts_of es); decision = d; reply = r }))
 
 -- asking a decision takes things to where they stand next, whoever asks
@@ -33,9 +33,9 @@ pub asking_is_next : (net : Net) → AskingIsNext net
 asking_is_next net es caller d = after-with_reply net es caller d (reply (after net es) d)
 
 -- after a journal the front is its last one, or 0, and the number of calls is how many it has
-pub journal_stands : (net : Net) → JournalStands net
+pub journal_stands : (net : Net) → SituationOfJournal net
 journal_stands net es = let none : 0 + length (calls_of es) ≡ length (calls_of es) = omega arith in
-    stands_by (opening net) es ∙ ap
+    stands_by (outset net) es ∙ ap
     (λ n. record { net = net; clones = (after net es).clones; front = last_of (fronts_of es); calls = n }) none
 
 stands_from : (net : Net) (es : List Event) (s : Situation) (qs : List Question) → after net es ≡ s
@@ -46,8 +46,8 @@ stands_from net es s (q ∷ qs) h = stands_from net (journal_with net es q.calle
     (asking_is_next net es q.caller q.decision ∙ ap (λ t. next t q.decision) h)
 
 -- after the journal of a script, things stand where its decisions lead
-pub script_stands : (net : Net) → ScriptStands net
-script_stands net qs = stands_from net [] (opening net) qs refl
+pub script_stands : (net : Net) → SituationOfScript net
+script_stands net qs = stands_from net [] (outset net) qs refl
 
 right_reply : (net : Net) (es : List Event) (caller : ℕ) (d : Decision) (r : Reply) → r ≡ reply (after net es) d
     → IsRight net es → IsRight net (with_reply es caller d r)
@@ -79,9 +79,9 @@ net_stays s (d ∷ ds) = net_stays (next s d) ds
 -- one decision more that is accepted does to the clones what it says
 pub accepted_adds : (net : Net) → AcceptedAdds net
 accepted_adds net ds d h =
-    let s = after_all (opening net) ds in
-    ap (λ t. t.clones) (fold_push next (opening net) ds d ∙ next_accepted s d h)
-    ∙ ap (λ n. clones_after n s.clones d) (net_stays (opening net) ds)
+    let s = after_all (outset net) ds in
+    ap (λ t. t.clones) (fold_push next (outset net) ds d ∙ next_accepted s d h)
+    ∙ ap (λ n. clones_after n s.clones d) (net_stays (outset net) ds)
 
 refusal_or-or : (place : ℕ) (r : Reply) (x y : Option (ℕ × Reply))
     → refusal_or place r (option_or x y) ≡ option_or (refusal_or place r x) y
@@ -105,8 +105,8 @@ refused_first_from s place (d ∷ ds) more =
 pub refused_first : (net : Net) → RefusedFirst net
 refused_first net ds more =
     let none : 0 + length ds ≡ length ds = omega arith in
-    refused_first_from (opening net) 0 ds more
-    ∙ ap (λ p. option_or (first_refusal net ds) (first_refusal_from (after_all (opening net) ds) p more)) none
+    refused_first_from (outset net) 0 ds more
+    ∙ ap (λ p. option_or (first_refusal net ds) (first_refusal_from (after_all (outset net) ds) p more)) none
 
 -- where none is refused, the first is accepted and none of the others is refused
 pub accepted_first : (place : ℕ) (r : Reply) (later : Option (ℕ × Reply)) → refusal_or place r later ≡ None
@@ -121,9 +121,9 @@ refusal_or-refusal place r later other = refl
 
 -- where none is refused, the first refusal is among the others
 first_refusal-none : (net : Net) (ds more : List Decision) → first_refusal net ds ≡ None
-    → first_refusal net (ds ++ more) ≡ first_refusal_from (after_all (opening net) ds) (length ds) more
+    → first_refusal net (ds ++ more) ≡ first_refusal_from (after_all (outset net) ds) (length ds) more
 first_refusal-none net ds more none = refused_first net ds more
-    ∙ ap (λ o. option_or o (first_refusal_from (after_all (opening net) ds) (length ds) more)) none
+    ∙ ap (λ o. option_or o (first_refusal_from (after_all (outset net) ds) (length ds) more)) none
 
 -- where none is refused, one more that is accepted leaves none refused
 pub accepted_goes_on : (net : Net) → AcceptedGoesOn net
@@ -133,6 +133,6 @@ accepted_goes_on net ds d none accepted = first_refusal-none net ds (d ∷ []) n
 -- and one more that is refused is the first refusal, whatever comes after it
 pub refused_is_first : (net : Net) → RefusedIsFirst net
 refused_is_first net ds d more none other =
-    let s = after_all (opening net) ds in
+    let s = after_all (outset net) ds in
     first_refusal-none net ds (d ∷ more) none ∙ refusal_or-refusal (length ds) (reply s d)
     (first_refusal_from (next s d) (length ds + 1) more) other

@@ -3,6 +3,7 @@ use Rattle.std.specs.Prelude.{◌≡◌, ◌≢◌, ℕ, ◌-◌, ◌≤◌, Opt
 use Rattle.sim_base.specs.Reserved.{ReservedView}
 use Rattle.sim_base.specs.Clones.{ListsView}
 use Rattle.sim_base.specs.declared.lists.TheConstants.{MOST_CLONES, MOST_DECISIONS}
+use Rattle.net_model.specs.declared.limits.TheConstants.{MOST_HORIZON}
 use Rattle.net_model.specs.Net.{Net}
 use Rattle.decision_book.specs.declared.call.Call.{Call}
 use Rattle.decision_book.specs.declared.call.TheConstants.{MOST_CALLS}
@@ -38,7 +39,7 @@ AreStamped n all (c ∷ cs) = (n ≤ c.fronts) × AreStamped c.fronts all cs
 -- clones and decisions
 pub record IsBook (net : Net) (lists : ListsView) (calls : ReservedView Call) (fronts : ReservedView ℕ) (last : ℕ) :
     Type 0 where
-  pub stands : after net (journal_of calls.items fronts.items) ≡ record {
+  pub situation : after net (journal_of calls.items fronts.items) ≡ record {
     net = net;
     clones = lists.clones;
     front = last;
@@ -48,8 +49,8 @@ pub record IsBook (net : Net) (lists : ListsView) (calls : ReservedView Call) (f
   pub stamps : AreStamped 0 (length fronts.items) calls.items
   pub few : length fronts.items ≤ last
   pub early : last ≤ net.horizon
-  pub soon : net.horizon ≤ 1000000000
-  pub planned : ArePlanned net lists.clones
+  pub soon : net.horizon ≤ MOST_HORIZON
+  pub plans : ArePlanned net lists.clones
   pub reserved_clones : lists.reserved_clones ≡ MOST_CLONES
   pub reserved_plans : lists.reserved_plans ≡ MOST_DECISIONS
   pub reserved_calls : calls.reserved ≡ MOST_CALLS
@@ -60,7 +61,7 @@ pub record IsEntered (old : BookView) (caller : ℕ) (d : Decision) (reply : Rep
   pub call_is : call ≡ call_of caller old.events d reply
   pub new_is : new ≡ record old { events = old.events ++ asked call ∷ [] }
 
--- the call is told, and is the last entry; or the reply is Full, no call is told, and the book stays as it was
-abbrev pub IsTold : BookView → ℕ → Decision → Reply → Option Call → BookView → Type 0
-IsTold old caller d reply told new = MatchOption told
+-- the call is the last entry of the journal; or the reply is Full, there is no call, and the book stays as it was
+abbrev pub IsCallUnlessFull : BookView → ℕ → Decision → Reply → Option Call → BookView → Type 0
+IsCallUnlessFull old caller d reply given new = MatchOption given
     ((reply ≡ Full) × (new ≡ old)) (λ call. (reply ≢ Full) × IsEntered old caller d reply call new)

@@ -4,7 +4,7 @@ use Rattle.sim_base.specs.declared.decision.Decision.{Decision}
 use Rattle.sim_base.specs.declared.decision.Decision.TheVariants.{Fork, Set, End}
 use Rattle.sim_base.specs.declared.decision.Planned.{Planned}
 use Rattle.sim_base.specs.declared.message.Change.{Change}
-use Rattle.sim_base.specs.Clones.{Clone, base, forked, added, ended, place_of}
+use Rattle.sim_base.specs.Clones.{Clone, base, clones_with_fork, clones_with_plan, clones_with_end, place_of}
 use Rattle.net_model.specs.Net.{Net, number_of}
 use Rattle.decision_book.specs.declared.call.Call.{Call}
 use Rattle.decision_book.specs.declared.call.Reply.{Reply}
@@ -35,8 +35,8 @@ pub record Situation : Type 0 where
   pub calls : ℕ
 
 -- before all decisions: the base clone alone, at front 0
-abbrev pub opening : Net → Situation
-opening net = record { net = net; clones = base ∷ []; front = 0; calls = 0 }
+abbrev pub outset : Net → Situation
+outset net = record { net = net; clones = base ∷ []; front = 0; calls = 0 }
 
 -- the place of the clone of a name (0 where there is none)
 abbrev pub clone_place : List ℕ → List Clone → ℕ
@@ -48,10 +48,10 @@ plan_of_set net at station change = record { at = at; station = unwrap_or (numbe
 
 -- what an accepted decision makes of the clones
 abbrev pub clones_after : Net → List Clone → Decision → List Clone
-clones_after net clones (Fork new old) = forked clones new (clone_place old clones)
+clones_after net clones (Fork new old) = clones_with_fork clones new (clone_place old clones)
 clones_after net clones (Set who at station change) =
-    added clones (clone_place who clones) (plan_of_set net at station change)
-clones_after net clones (End who at) = ended clones (clone_place who clones) at
+    clones_with_plan clones (clone_place who clones) (plan_of_set net at station change)
+clones_after net clones (End who at) = clones_with_end clones (clone_place who clones) at
 
 -- the new clones where a decision is accepted: a refusal leaves them as they are
 abbrev pub if_accepted : Reply → List Clone → List Clone → List Clone
@@ -72,7 +72,7 @@ after_event s (asked call) = record s {
 
 -- how things stand after a journal
 abbrev pub after : Net → List Event → Situation
-after net events = fold after_event (opening net) events
+after net events = fold after_event (outset net) events
 
 -- the call of a decision that had this reply behind these events
 abbrev pub call_of : ℕ → List Event → Decision → Reply → Call

@@ -10,7 +10,7 @@ use Rattle.decision_book.specs.declared.call.Call.{Call}
 use Rattle.decision_book.specs.declared.call.Reply.TheVariants.{Accepted}
 use Rattle.decision_script.specs.Alone.{alone, alone_of, decisions}
 use Rattle.decision_script.specs.Stating.{ScriptView}
-use Rattle.decision_book.specs.Journal.{Event, asked, opening, clones_after, after, calls_of, fronts_of}
+use Rattle.decision_book.specs.Journal.{Event, asked, outset, clones_after, after, calls_of, fronts_of}
 use Rattle.decision_book.specs.Plans.{ArePlanned}
 use Rattle.decision_book.specs.Replies.{reply}
 use Rattle.decision_book.specs.Right.{journal_with, IsRight}
@@ -22,8 +22,8 @@ abbrev pub last_of : List ℕ → ℕ
 last_of ns = fold (λ last n. n) 0 ns
 
 -- the front after a journal is its last one, or 0, and the number of calls is how many it has
-abbrev pub JournalStands : Net → Type 0
-JournalStands net = (events : List Event)
+abbrev pub SituationOfJournal : Net → Type 0
+SituationOfJournal net = (events : List Event)
     → after net events ≡ record {
       net = net;
       clones = (after net events).clones;
@@ -42,9 +42,9 @@ AskingIsNext net = (events : List Event) (caller : ℕ) (d : Decision)
     → after net (journal_with net events caller d) ≡ next (after net events) d
 
 -- after the journal of a script, things stand where its decisions lead
-abbrev pub ScriptStands : Net → Type 0
-ScriptStands net = (questions : List Question) → after net (journal_of_script net questions) ≡ after_all (opening net)
-    (map (λ q. q.decision) questions)
+abbrev pub SituationOfScript : Net → Type 0
+SituationOfScript net = (questions : List Question)
+    → after net (journal_of_script net questions) ≡ after_all (outset net) (map (λ q. q.decision) questions)
 
 -- the journal of a script is right
 abbrev pub ScriptIsRight : Net → Type 0
@@ -52,25 +52,25 @@ ScriptIsRight net = (questions : List Question) → IsRight net (journal_of_scri
 
 -- a decision more that is accepted does to the lists what it says
 abbrev pub AcceptedAdds : Net → Type 0
-AcceptedAdds net = (ds : List Decision) (d : Decision) → reply (after_all (opening net) ds) d ≡ Accepted
+AcceptedAdds net = (ds : List Decision) (d : Decision) → reply (after_all (outset net) ds) d ≡ Accepted
     → lists_of net (ds ++ d ∷ []) ≡ clones_after net (lists_of net ds) d
 
 -- the first refusal among more decisions is the first among those before, if there is one, and else the first among
 -- the others
 abbrev pub RefusedFirst : Net → Type 0
 RefusedFirst net = (ds more : List Decision) → first_refusal net (ds ++ more) ≡ option_or (first_refusal net ds)
-    (first_refusal_from (after_all (opening net) ds) (length ds) more)
+    (first_refusal_from (after_all (outset net) ds) (length ds) more)
 
 -- so a decision more that is accepted leaves no refusal, where there was none
 abbrev pub AcceptedGoesOn : Net → Type 0
 AcceptedGoesOn net = (ds : List Decision) (d : Decision) → first_refusal net ds ≡ None
-    → reply (after_all (opening net) ds) d ≡ Accepted → first_refusal net (ds ++ d ∷ []) ≡ None
+    → reply (after_all (outset net) ds) d ≡ Accepted → first_refusal net (ds ++ d ∷ []) ≡ None
 
 -- and one that is refused is the first, whatever comes after it
 abbrev pub RefusedIsFirst : Net → Type 0
 RefusedIsFirst net = (ds : List Decision) (d : Decision) (more : List Decision) → first_refusal net ds ≡ None
-    → reply (after_all (opening net) ds) d ≢ Accepted
-    → first_refusal net (ds ++ d ∷ more) ≡ Some (length ds, reply (after_all (opening net) ds) d)
+    → reply (after_all (outset net) ds) d ≢ Accepted
+    → first_refusal net (ds ++ d ∷ more) ≡ Some (length ds, reply (after_all (outset net) ds) d)
 
 -- the clone of a name
 abbrev pub clone_named : List ℕ → List Clone → Option Clone

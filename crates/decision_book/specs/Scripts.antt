@@ -6,7 +6,7 @@ use Rattle.net_model.specs.Net.{Net}
 use Rattle.decision_book.specs.declared.call.Reply.{Reply}
 use Rattle.decision_book.specs.declared.call.Reply.TheVariants.{Accepted, Full}
 use Rattle.decision_book.specs.declared.call.Call.{Call}
-use Rattle.decision_book.specs.Journal.{Event, Situation, opening, clones_after_reply, calls_of}
+use Rattle.decision_book.specs.Journal.{Event, Situation, outset, clones_after_reply, calls_of}
 use Rattle.decision_book.specs.Replies.{reply}
 use Rattle.decision_book.specs.Right.{journal_with}
 
@@ -37,7 +37,7 @@ after_all s ds = fold next s ds
 
 -- the clones that the decisions of a script leave
 abbrev pub lists_of : Net → List Decision → List Clone
-lists_of net ds = (after_all (opening net) ds).clones
+lists_of net ds = (after_all (outset net) ds).clones
 
 -- the refusal at this place, or else one of a later place
 abbrev pub refusal_or : ℕ → Reply → Option (ℕ × Reply) → Option (ℕ × Reply)
@@ -51,7 +51,7 @@ first_refusal_from s place (d ∷ ds) = refusal_or place (reply s d) (first_refu
 
 -- the first decision of a script that is refused: its place, from 0, and the refusal
 abbrev pub first_refusal : Net → List Decision → Option (ℕ × Reply)
-first_refusal net ds = first_refusal_from (opening net) 0 ds
+first_refusal net ds = first_refusal_from (outset net) 0 ds
 
 -- a call before others, where this reply is Accepted
 abbrev pub if_taken : Reply → Call → List Call → List Call

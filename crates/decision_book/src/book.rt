@@ -43,7 +43,7 @@ impl Book {
     ghost use Rattle.decision_book.specs.declared.call.Reply.TheVariants.{Full};
     ghost use Rattle.decision_book.specs.declared.call.TheConstants.{MOST_CALLS};
     ghost use Rattle.decision_book.specs.Journal.{after, asked, call_of, calls_of, fronts_of, raised};
-    ghost use Rattle.decision_book.specs.Books.{journal_of, IsTold};
+    ghost use Rattle.decision_book.specs.Books.{journal_of, IsCallUnlessFull};
     ghost use Rattle.decision_book.specs.Replies.{reply};
     ghost use Rattle.decision_book.specs.Right.{journal_with, IsRight};
     ghost use Rattle.decision_book.specs.Plans.{ArePlanned};
@@ -104,7 +104,7 @@ impl Book {
     /// where the reply is Full. Takes no memory.
     pub fn ask(&mut self, caller: u32, d: &Decision) -> (Reply, Option<Call>)
         ensures reply { result.0 ≡ reply (after self.old.net self.old.events) d.now }
-        ensures told { IsTold self.old caller d.now result.0 result.1 self.new }
+        ensures call { IsCallUnlessFull self.old caller d.now result.0 result.1 self.new }
         ensures full { (result.0 ≡ Full) ↔ (MOST_CALLS ≤ length (calls_of self.old.events)) }
     {
         let fronts = self.fronts.len() as u32;

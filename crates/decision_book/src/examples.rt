@@ -29,7 +29,7 @@ pub fn decisions_of_one_clone()
     ensures { alone (codes "b") script ≡ script_of_b }
 {}
 
-/// Of the decisions that are refused the first is told, by its place from 0.
+/// The first decision that is refused, by its place from 0, and its refusal.
 pub fn first_refusal()
     ensures { first_refusal one_desk refused_script ≡ Some (2, UnknownClone) }
 {}

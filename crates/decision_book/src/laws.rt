@@ -2,14 +2,14 @@
 //!
 //! `specs/Laws.antt` has the laws in words.
 ghost use Rattle.net_model.specs.Net.{Net};
-ghost use Rattle.decision_book.specs.Laws.{JournalStands, PlansAreForStations, AskingIsNext, ScriptStands};
+ghost use Rattle.decision_book.specs.Laws.{SituationOfJournal, PlansAreForStations, AskingIsNext, SituationOfScript};
 ghost use Rattle.decision_book.specs.Laws.{ScriptIsRight, AcceptedAdds, RefusedFirst, AcceptedGoesOn, RefusedIsFirst};
 ghost use Rattle.decision_book.specs.Laws.{AloneSuffices, OwnScriptSuffices, JournalIsScript, ClosedChangesNothing};
 
 /// How things stand after a journal, and how a decision changes that.
 #[tactic(auto, using(crate::proofs::Scripts::journal_stands, crate::proofs::Scripts::asking_is_next))]
 pub fn journals_stand()
-    ensures stands { (net : Net) → JournalStands net }
+    ensures situation { (net : Net) → SituationOfJournal net }
     ensures journal_with { (net : Net) → AskingIsNext net }
 {}
 
@@ -22,7 +22,7 @@ pub fn plans_are_for_stations()
 /// Where things stand after the decisions of a script, made in order at front 0.
 #[tactic(auto, using(crate::proofs::Scripts::script_stands, crate::proofs::Scripts::script_is_right, crate::proofs::Scripts::accepted_adds, crate::proofs::Scripts::refused_first, crate::proofs::Scripts::accepted_goes_on, crate::proofs::Scripts::refused_is_first))]
 pub fn scripts_are_decided()
-    ensures stands { (net : Net) → ScriptStands net }
+    ensures situation { (net : Net) → SituationOfScript net }
     ensures right { (net : Net) → ScriptIsRight net }
     ensures accepted { (net : Net) → AcceptedAdds net }
     ensures refused { (net : Net) → RefusedFirst net }

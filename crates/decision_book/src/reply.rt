@@ -1,6 +1,6 @@
 //! The reply to a decision, and what the decision does to the lists.
 ghost use Rattle.std.specs.Prelude.{◌≡◌, ◌<◌, ◌≤◌, length, IsTrue};
-ghost use Rattle.sim_base.specs.Clones.{clone_at, place_of, forked, added, ended};
+ghost use Rattle.sim_base.specs.Clones.{clone_at, place_of, clones_with_fork, clones_with_plan, clones_with_end};
 ghost use Rattle.decision_book.specs.Journal.{clones_after_reply, if_accepted, plan_of_set, Situation};
 ghost use Rattle.decision_book.specs.Plans.{ArePlanned};
 ghost use Rattle.decision_book.specs.Replies.{first_row, fork_rows, set_rows, time_rows, reply as reply_of};
@@ -19,7 +19,7 @@ fn decide_fork(model: &Model, lists: &mut Lists, clone: u32, new: Name) -> Reply
     ensures reply { result ≡ first_row (fork_rows lists.old.clones new) }
     // the lists, which stay as they are where it is refused
     ensures lists { lists.new ≡ record lists.old {
-      clones = if_accepted result (forked lists.old.clones new clone) lists.old.clones;
+      clones = if_accepted result (clones_with_fork lists.old.clones new clone) lists.old.clones;
     } }
     ensures planned { ArePlanned model.now lists.new.clones }
 {
@@ -53,7 +53,7 @@ fn decide_end(model: &Model, lists: &mut Lists, front: u64, clone: u32, at: u64)
     ensures reply { result ≡ first_row (time_rows model.now front at) }
     // the lists, which stay as they are where it is refused
     ensures lists { lists.new ≡ record lists.old {
-      clones = if_accepted result (ended lists.old.clones clone at) lists.old.clones;
+      clones = if_accepted result (clones_with_end lists.old.clones clone at) lists.old.clones;
     } }
     ensures planned { ArePlanned model.now lists.new.clones }
 {
@@ -82,7 +82,7 @@ fn decide_set(
     // the lists, which stay as they are where it is refused
     ensures lists { lists.new ≡ record lists.old {
       clones = if_accepted result
-          (added lists.old.clones clone (plan_of_set model.now at station.now change.now)) lists.old.clones;
+          (clones_with_plan lists.old.clones clone (plan_of_set model.now at station.now change.now)) lists.old.clones;
     } }
     ensures planned { ArePlanned model.now lists.new.clones }
 {

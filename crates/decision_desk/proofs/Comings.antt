@@ -5,13 +5,14 @@ use Rattle.std.proofs.Common.{◌∙◌, subst, arith, map, true≢false, is_som
 use Rattle.atomic_table.specs.Table.{Me}
 use Rattle.sim_base.specs.declared.decision.Decision.{Decision}
 use Rattle.decision_book.specs.declared.call.Call.{Call}
+use Rattle.decision_book.specs.declared.call.TheConstants.{MOST_CALLS}
 use Rattle.decision_book.specs.declared.call.Reply.TheVariants.{Full}
 use Rattle.decision_book.specs.Journal.{call_of, Event, asked, calls_of}
 use Rattle.decision_desk.specs.declared.view.View.{View}
 use Rattle.decision_desk.specs.declared.pass.Receipt.{Receipt}
 use Rattle.sim_base.specs.Reserved.{ReservedView}
 use Rattle.atomic_table.specs.Seated.{TableId}
-use Rattle.decision_desk.specs.Accounts.{Account, AreAccounts, Begins, OnlyCalls, front_of, numbered, calls_by}
+use Rattle.decision_desk.specs.Accounts.{Account, AreAccounts, Begins, OnlyCalls, front_of, calls_from, calls_by}
 use Rattle.decision_desk.specs.Turns.{Slot, book_of, turned_to, pass_view, helm_view, with_call, full_account}
 use Rattle.decision_desk.specs.Passes.{first_account, turn_view, HelmHasTurn, HasTurn, IsTurn, IsPass, receipt_of}
 
@@ -36,7 +37,7 @@ served m m1 m2 a t j rest drew turn =
 -- so a pass at rest that has drawn a ticket and is served has come to its turn
 pub has_turn : (m m1 m2 : Seen) (a : Account) (t : ℕ) (j : List Event) → m ≡ (pass_view m.0.net m.0.seen a, [])
     → m1 ≡ (turned_to m.0 true t false m.0.seen, m.1)
-    → Begins m1.0.seen j → length (calls_of j) ≤ 4096 → AreAccounts j m1.0.accounts
+    → Begins m1.0.seen j → length (calls_of j) ≤ MOST_CALLS → AreAccounts j m1.0.accounts
     → m2 ≡ (turned_to m1.0 true m1.0.ticket true j, (0, book_of m1.0.net j) ∷ m1.1) → front_of m1.0.seen ≤ front_of j
     → HasTurn m.0.net m.0.seen a m2 j
 has_turn m m1 m2 a t j rest drew begins few right turn rises =
@@ -56,24 +57,25 @@ short_or true n c xs k h = omega (arith, h)
 short_or false n c xs k h = omega (arith, h)
 
 -- a caller has no more calls than there are
-pub by_short : (x n : ℕ) (cs : List Call) → length (numbered x n cs) ≤ length cs
+pub by_short : (x n : ℕ) (cs : List Call) → length (calls_from x n cs) ≤ length cs
 by_short x n [] = omega arith
 by_short x n (c ∷ cs) =
-    let h = short_or (nat_eq c.caller x) n c (numbered x (n + 1) cs) (length cs) (by_short x (n + 1) cs) in
+    let h = short_or (nat_eq c.caller x) n c (calls_from x (n + 1) cs) (length cs) (by_short x (n + 1) cs) in
     let e : length cs + 1 ≡ suc (length cs) = omega arith in
-    subst (λ k. length (if nat_eq c.caller x then (n, c) ∷ numbered x (n + 1) cs else numbered x (n + 1) cs) ≤ k) e h
+    subst (λ k. length (if nat_eq c.caller x then (n, c) ∷ calls_from x (n + 1) cs else calls_from x (n + 1) cs) ≤ k)
+    e h
 
 map_length : (ps : List (ℕ × Call)) → length (map receipt_of ps) ≡ length ps
 map_length [] = refl
 map_length (p ∷ ps) = ap suc (map_length ps)
 
--- a pass has room for the receipt of a call that is in the journal
-pub room_left : (caller : ℕ) (receipts : ReservedView Receipt) (desk : TableId) (m new : Seen) (d : Decision)
+-- a pass has a free place for the receipt of a call that is in the journal
+pub places_left : (caller : ℕ) (receipts : ReservedView Receipt) (desk : TableId) (m new : Seen) (d : Decision)
     (receipt : Receipt) (j : List Event)
     → IsPass caller receipts desk m → IsTurn m.0.net m.0.seen (first_account m.0.accounts) d receipt new j
     → is_some receipt.entry ≡ true → length receipts.items < receipts.reserved
-room_left caller receipts desk m new d receipt j p t some_entry = ⊎_elim
-    (λ (h : (receipt.reply ≢ Full) × (receipt.entry ≡ Some (length (calls_of j))) × (length (calls_of j) < 4096)
+places_left caller receipts desk m new d receipt j p t some_entry = ⊎_elim
+    (λ (h : (receipt.reply ≢ Full) × (receipt.entry ≡ Some (length (calls_of j))) × (length (calls_of j) < MOST_CALLS)
     × (new ≡ (
       pass_view m.0.net (j ++ asked (call_of (first_account m.0.accounts).caller j d receipt.reply) ∷ [])
           (with_call (first_account m.0.accounts) j (call_of (first_account m.0.accounts).caller j d receipt.reply)),
@@ -82,11 +84,11 @@ room_left caller receipts desk m new d receipt j p t some_entry = ⊎_elim
     let a = first_account m.0.accounts in
     let items : length receipts.items ≡ length a.calls = ap length p.receipts_are ∙ map_length a.calls in
     let own : length a.calls ≡ length (calls_by a.caller j) = ap length t.right.0.calls in
-    omega (arith, items, own, by_short a.caller 0 (calls_of j), h.2, p.room))
-    (λ (h : (receipt.reply ≡ Full) × (receipt.entry ≡ None) × (length (calls_of j) ≡ 4096)
+    omega (arith, items, own, by_short a.caller 0 (calls_of j), h.2, p.reserved))
+    (λ (h : (receipt.reply ≡ Full) × (receipt.entry ≡ None) × (length (calls_of j) ≡ MOST_CALLS)
     × (new ≡ (pass_view m.0.net j (full_account (first_account m.0.accounts)), []))).
     absurd (true≢false (sym some_entry ∙ ap is_some h.1)))
-    t.kept
+    t.outcome
 
 -- the same for the helm
 helm_drawn : (m m1 : Seen) (t : ℕ) → m ≡ (helm_view m.0.net m.0.parts m.0.seen m.0.helm m.0.made m.0.accounts, [])

@@ -3,8 +3,9 @@ use Rattle.std.proofs.Common.{◌≡◌, ◌≢◌, ℕ, suc, ◌+◌, ◌<◌, 
 use Rattle.std.proofs.Common.{false, List, [], ◌∷◌, ◌++◌, length, map, nat_eq, if◌then◌else◌}
 use Rattle.std.proofs.Common.{refl, sym, ap, ◌∙◌, subst, arith, append_assoc, append-nil, length-append}
 use Rattle.decision_book.specs.declared.call.Call.{Call}
+use Rattle.decision_book.specs.declared.call.TheConstants.{MOST_CALLS}
 use Rattle.decision_book.specs.Journal.{Event, raised, asked, calls_of}
-use Rattle.decision_desk.specs.Accounts.{Account, numbered, calls_by, front_from, front_of, RisesFrom, Begins}
+use Rattle.decision_desk.specs.Accounts.{Account, calls_from, calls_by, front_from, front_of, RisesFrom, Begins}
 use Rattle.decision_desk.specs.Accounts.{OnlyCalls, IsFrontOf, EachFront, IsAccount, AreAccounts, accounts_of}
 
 -- a call that is asked is the last of the calls of the journal
@@ -45,30 +46,30 @@ calls_longer es c = ap length (calls_asked es c) ∙ omega (arith, length-append
 abbrev pub mine : ℕ → ℕ → Call → List (ℕ × Call)
 mine x n c = if nat_eq c.caller x then (n, c) ∷ [] else []
 
-numbered_here : (b : Bool) (k : ℕ) (c d : Call) (xs ys zs : List (ℕ × Call)) → xs ≡ ys ++ zs
+calls_from_here : (b : Bool) (k : ℕ) (c d : Call) (xs ys zs : List (ℕ × Call)) → xs ≡ ys ++ zs
     → (if b then (k, d) ∷ xs else xs) ≡ (if b then (k, d) ∷ ys else ys) ++ zs
-numbered_here true k c d xs ys zs e = ap (λ l. (k, d) ∷ l) e
-numbered_here false k c d xs ys zs e = e
+calls_from_here true k c d xs ys zs e = ap (λ l. (k, d) ∷ l) e
+calls_from_here false k c d xs ys zs e = e
 
-numbered_more : (x n : ℕ) (cs : List Call) (c : Call) → numbered x n (cs ++ c ∷ []) ≡ numbered x n cs
+calls_from_more : (x n : ℕ) (cs : List Call) (c : Call) → calls_from x n (cs ++ c ∷ []) ≡ calls_from x n cs
     ++ mine x (n + length cs) c
-numbered_more x n [] c = let e : n ≡ n + 0 = omega arith in ap (λ k. mine x k c) e
-numbered_more x n (d ∷ cs) c =
+calls_from_more x n [] c = let e : n ≡ n + 0 = omega arith in ap (λ k. mine x k c) e
+calls_from_more x n (d ∷ cs) c =
     let e : (n + 1) + length cs ≡ n + suc (length cs) = omega arith in
-    numbered_here (nat_eq d.caller x) n c d (numbered x (n + 1) (cs ++ c ∷ [])) (numbered x (n + 1) cs)
+    calls_from_here (nat_eq d.caller x) n c d (calls_from x (n + 1) (cs ++ c ∷ [])) (calls_from x (n + 1) cs)
     (mine x (n + suc (length cs)) c)
-    (numbered_more x (n + 1) cs c ∙ ap (λ k. numbered x (n + 1) cs ++ mine x k c) e)
+    (calls_from_more x (n + 1) cs c ∙ ap (λ k. calls_from x (n + 1) cs ++ mine x k c) e)
 
 by_asked : (x : ℕ) (es : List Event) (c : Call) → calls_by x (es ++ asked c ∷ []) ≡ calls_by x es
     ++ mine x (length (calls_of es)) c
 by_asked x es c =
     let e : 0 + length (calls_of es) ≡ length (calls_of es) = omega arith in
-    ap (λ l. numbered x 0 l) (calls_asked es c)
-    ∙ (numbered_more x 0 (calls_of es) c ∙ ap (λ k. calls_by x es ++ mine x k c) e)
+    ap (λ l. calls_from x 0 l) (calls_asked es c)
+    ∙ (calls_from_more x 0 (calls_of es) c ∙ ap (λ k. calls_by x es ++ mine x k c) e)
 
 -- a front that is raised leaves the calls of each caller as they are
 pub by_raised : (x : ℕ) (es : List Event) (f : ℕ) → calls_by x (es ++ raised f ∷ []) ≡ calls_by x es
-by_raised x es f = ap (λ l. numbered x 0 l) (calls_raised es f)
+by_raised x es f = ap (λ l. calls_from x 0 l) (calls_raised es f)
 
 -- a call of another caller is none of this one's
 pub by_other : (x : ℕ) (es : List Event) (c : Call) → c.caller ≢ x → calls_by x (es ++ asked c ∷ []) ≡ calls_by x es
@@ -133,25 +134,25 @@ account_raised es f a i = record {
 }
 
 -- and when another caller asks, where the journal is not full
-pub account_other : (es : List Event) (c : Call) (a : Account) → c.caller ≢ a.caller → length (calls_of es) < 4096
+pub account_other : (es : List Event) (c : Call) (a : Account) → c.caller ≢ a.caller → length (calls_of es) < MOST_CALLS
     → IsAccount es a → IsAccount (es ++ asked c ∷ []) a
-account_other es c a other room i = record {
+account_other es c a other free i = record {
   calls = i.calls ∙ sym (by_other a.caller es c other);
   fronts = fronts_on es (es ++ asked c ∷ []) a.fronts (begins_one es (asked c)) i.fronts;
-  full = λ full. absurd (omega (arith, room, i.full full));
+  full = λ full. absurd (omega (arith, free, i.full full));
 }
 
 -- and when its own caller asks, with the call and the front added to it, where the journal is not full
-pub account_called : (es : List Event) (c : Call) (a : Account) → c.caller ≡ a.caller → length (calls_of es) < 4096
-    → IsAccount es a
+pub account_called : (es : List Event) (c : Call) (a : Account) → c.caller ≡ a.caller
+    → length (calls_of es) < MOST_CALLS → IsAccount es a
     → IsAccount (es ++ asked c ∷ [])
     (record a { calls = a.calls ++ (length (calls_of es), c) ∷ []; fronts = a.fronts ++ front_of es ∷ [] })
-account_called es c a same room i = record {
+account_called es c a same free i = record {
   calls = ap (λ l. l ++ (length (calls_of es), c) ∷ []) i.calls ∙ sym (by_caller a.caller es c same);
   fronts = fronts_snoc (es ++ asked c ∷ []) a.fronts (front_of es)
       (fronts_on es (es ++ asked c ∷ []) a.fronts (begins_one es (asked c)) i.fronts)
       (es, begins_one es (asked c), refl);
-  full = λ full. absurd (omega (arith, room, i.full full));
+  full = λ full. absurd (omega (arith, free, i.full full));
 }
 
 -- accounts stay right when a front is raised
@@ -166,12 +167,12 @@ not_counted false n e = (refl, omega (arith, e))
 
 -- and when a caller asks that has none of them, where the journal is not full
 pub accounts_other : (es : List Event) (c : Call) (as' : List Account) → accounts_of c.caller as' ≡ 0
-    → length (calls_of es) < 4096 → AreAccounts es as' → AreAccounts (es ++ asked c ∷ []) as'
-accounts_other es c [] none room all = tt
-accounts_other es c (a ∷ as') none room all =
+    → length (calls_of es) < MOST_CALLS → AreAccounts es as' → AreAccounts (es ++ asked c ∷ []) as'
+accounts_other es c [] none free all = tt
+accounts_other es c (a ∷ as') none free all =
     let n = not_counted (nat_eq a.caller c.caller) (accounts_of c.caller as') none in
     let other : c.caller ≢ a.caller = λ e. absurd (grind (arith, e, n.0)) in
-    (account_other es c a other room all.0, accounts_other es c as' n.1 room all.1)
+    (account_other es c a other free all.0, accounts_other es c as' n.1 free all.1)
 
 -- an account by itself is one account of its caller's
 pub one_account : (a : Account) (x : ℕ) → a.caller ≡ x → accounts_of x (a ∷ []) ≡ 1
@@ -188,7 +189,7 @@ account_looked es a i = record {
 }
 
 -- and the mark of Full, where the journal is full
-pub account_full : (es : List Event) (a : Account) → length (calls_of es) ≡ 4096 → IsAccount es a
+pub account_full : (es : List Event) (a : Account) → length (calls_of es) ≡ MOST_CALLS → IsAccount es a
     → IsAccount es (record a { full = true })
 account_full es a whole i = record { calls = i.calls; fronts = i.fronts; full = λ _. whole }
 

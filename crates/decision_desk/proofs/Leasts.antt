@@ -28,7 +28,7 @@ use Rattle.decision_book.specs.declared.call.Call.{Call}
 use Rattle.decision_book.specs.declared.call.Reply.{Reply}
 use Rattle.decision_book.specs.declared.call.Reply.TheVariants.{Accepted, PastHorizon, Late, UnknownStation, ListFull}
 use Rattle.decision_book.specs.Journal.{Event, Situation, asked, raised, after, after_event}
-use Rattle.decision_book.specs.Journal.{opening, clones_after, if_accepted, clone_place, plan_of_set, calls_of}
+use Rattle.decision_book.specs.Journal.{outset, clones_after, if_accepted, clone_place, plan_of_set, calls_of}
 use Rattle.decision_book.specs.Replies.{row, first_row, rows, reply, time_rows, fault_row, change_row}
 use Rattle.decision_book.specs.Right.{IsRight, MayFollow, EachAfter}
 use Rattle.decision_book.specs.Scripts.{if_taken, accepted_of}
@@ -36,7 +36,7 @@ use Rattle.decision_book.proofs.AloneLaw.{opened, IsOpen}
 use Rattle.decision_book.proofs.ClonesByName.{place_of-cons}
 use Rattle.decision_book.proofs.JournalScripts.{Passes, kind_of, fold_append, each_later, net_stays}
 use Rattle.decision_desk.specs.Accounts.{front_of, front_from}
-use Rattle.decision_desk.specs.Leasts.{leasts_of, earliest, changed, changed_at, changed_by, helm_at, calls_at}
+use Rattle.decision_desk.specs.Leasts.{leasts_of, earliest, leasts_with, changed_at, changed_by, helm_at, calls_at}
 use Rattle.decision_desk.specs.Passes.{IsSince, IsAhead, IsGoneOn}
 use Rattle.decision_desk.specs.declared.helm.Turn.{Turn}
 use Rattle.decision_desk.proofs.Journals.{front_calls}
@@ -209,7 +209,7 @@ leads net before [] s all valid is right end = ap (λ cl. leasts_of s.net cl s.f
 leads net before (c ∷ cs) s all valid is right end =
     let d = c.decision in
     let ts = leasts_of s.net s.clones s.front in
-    let then = fold_append (opening net) before (asked c ∷ []) ∙ ap (λ (x : Situation). after_event x (asked c)) is in
+    let then = fold_append (outset net) before (asked c ∷ []) ∙ ap (λ (x : Situation). after_event x (asked c)) is in
     let answer : c.reply ≡ reply s d = right.0.answer ∙ ap (λ (x : Situation). reply x d) is in
     let more = leads net (before ++ asked c ∷ []) cs (after_event s (asked c)) all valid then right.1 end in
     ⊎_elim
@@ -217,8 +217,8 @@ leads net before (c ∷ cs) s all valid is right end =
     let o = opened s d (sym answer ∙ h) in
     let place : place_of (subject d) all ≡ Some o.clone = ap (place_of (subject d)) end
     ∙ place_of-calls (subject d) s (c ∷ cs) o.clone o.place in
-    let one : changed (place_of (subject d) all) ts d ≡ leasts_of s.net (clones_after s.net s.clones d) s.front =
-    ap (λ q. changed q ts d) place
+    let one : leasts_with (place_of (subject d) all) ts d ≡ leasts_of s.net (clones_after s.net s.clones d) s.front =
+    ap (λ q. leasts_with q ts d) place
     ∙ (ap (λ t. changed_at o.clone t ts d)
     (least_at s.net s.front s.clones o.clone (inside (subject d) s.clones o.clone o.place))
     ∙ changes s d valid o) in
@@ -240,7 +240,7 @@ front_stands s (asked c ∷ es) = front_stands (after_event s (asked c)) es
 
 -- the front after a journal is the last that was raised in it, or 0
 pub front_is : (net : Net) (es : List Event) → (after net es).front ≡ front_of es
-front_is net es = front_stands (opening net) es
+front_is net es = front_stands (outset net) es
 
 -- the least times after the calls since the helm's last turn
 pub leasts_after : (net : Net) (helm : List Event) (cs : List Call) → IsNet net → IsRight net (helm ++ map asked cs)
@@ -249,10 +249,10 @@ pub leasts_after : (net : Net) (helm : List Event) (cs : List Call) → IsNet ne
 leasts_after net helm cs valid right =
     let s = after net helm in
     let all = (after net (helm ++ map asked cs)).clones in
-    let same : s.net ≡ net = net_stays (opening net) helm in
+    let same : s.net ≡ net = net_stays (outset net) helm in
     let l = leads net helm cs s all (subst (λ n. IsNet n) (sym same) valid) refl
     (each_later (MayFollow net) [] helm (map asked cs) right)
-    (ap (λ (x : Situation). x.clones) (fold_append (opening net) helm (map asked cs))) in
+    (ap (λ (x : Situation). x.clones) (fold_append (outset net) helm (map asked cs))) in
     subst (λ f. changed_by all (leasts_of net s.clones f) (accepted_of cs) ≡ leasts_of net all f) (front_is net helm)
     (subst (λ n. changed_by all (leasts_of n s.clones s.front) (accepted_of cs) ≡ leasts_of n all s.front) same l)
 

@@ -1,7 +1,7 @@
 -- A legal journal goes on.
 use Rattle.std.proofs.Common.{◌≡◌, List, ◌++◌, ◌∷◌, [], ℕ, subst, sym}
 use Rattle.std.proofs.Common.{Option, Some, None, Result, Ok, Err, OnOk, OnErr}
-use Rattle.decision_book.specs.Books.{BookView, IsTold}
+use Rattle.decision_book.specs.Books.{BookView, IsCallUnlessFull}
 use Rattle.sim_base.specs.declared.decision.Decision.{Decision}
 use Rattle.net_model.specs.Net.{Net}
 use Rattle.decision_book.specs.declared.call.Call.{Call}
@@ -16,7 +16,7 @@ goes_on_asked net es c h = each_push (IsNext net) [] es (asked c) h tt
 
 -- so does one that a decision was asked of
 pub goes_on_told : (old new : BookView) (caller : ℕ) (d : Decision) (r : Reply) (told : Option Call)
-    → GoesOn old.net old.events → IsTold old caller d r told new → GoesOn new.net new.events
+    → GoesOn old.net old.events → IsCallUnlessFull old caller d r told new → GoesOn new.net new.events
 goes_on_told old new caller d r None h t = subst (λ (b : BookView). GoesOn b.net b.events) (sym t.1) h
 goes_on_told old new caller d r (Some c) h t = subst (λ (b : BookView). GoesOn b.net b.events) (sym t.1.new_is)
     (goes_on_asked old.net old.events c h)

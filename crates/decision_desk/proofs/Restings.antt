@@ -10,16 +10,18 @@ use lib.ListN.{get_elem?}
 use Rattle.atomic_table.specs.Table.{Me, Allows, carried_after, Splits, Joins, opening, Final, Seen, rest, keeps, gives}
 use Rattle.atomic_table.proofs.Lists.{at_set, at_snoc, at_longer, set_else}
 use Rattle.net_model.specs.Net.{Net}
+use Rattle.decision_book.specs.declared.call.TheConstants.{MOST_CALLS}
 use Rattle.decision_book.specs.Journal.{Event, calls_of}
 use Rattle.decision_desk.specs.declared.view.View.{View}
 use Rattle.atomic_table.specs.Seated.{TableId}
 use Rattle.decision_book.specs.Books.{BookView}
-use Rattle.decision_desk.specs.Passes.{Helmed, helmed, IsClosed}
+use Rattle.decision_desk.specs.Passes.{HelmView, view_of_helm, IsClosed}
 use Rattle.decision_desk.specs.Accounts.{Account, AreAccounts, IsAccount, accounts_of}
 use Rattle.decision_desk.specs.Accounts.{calls_by, front_of, Begins, OnlyCalls}
-use Rattle.decision_desk.specs.Turns.{Slot, book_of, total, waiting, has_ticket, has_caller, Fits}
-use Rattle.decision_desk.specs.Turns.{EachFits, NoTurn, Housed, OneHelm, Kept, turned_to, new_account}
-use Rattle.decision_desk.specs.Turns.{pass_view, helm_view, spent_view, after_look, Looked, full_account, LeftFull}
+use Rattle.decision_desk.specs.Turns.{Slot, book_of, total, ticket_count, has_ticket, has_caller, Fits}
+use Rattle.decision_desk.specs.Turns.{EachFits, NoTurn, BookIsHomeOrInTurn, OneHelm, IsDesk, turned_to, new_account}
+use Rattle.decision_desk.specs.Turns.{pass_view, helm_view, spent_view, after_look, full_account}
+use Rattle.decision_desk.specs.Turns.{HasSeenFront, HasEndedFullTurn}
 use Rattle.decision_desk.proofs.Journals.{begins_refl, seen_front}
 use Rattle.decision_desk.proofs.Journals.{account_looked, account_full, accounts_append, counted_append}
 use Rattle.decision_desk.proofs.Turnings.{Becomes, Alike, heads_same, total_set, two_below, each_set, no_turn_set}
@@ -31,7 +33,7 @@ at_rest : (net : Net) (serve : ℕ) (j : List Event) (v w : View) → w.waits �
     → w.net ≡ v.net → Begins w.seen j → (w.steers ≡ true → OnlyCalls w.helm j)
     → (v.parts ≡ 0 → w.accounts ≡ []) → AreAccounts j w.accounts → Fits net serve j v → Fits net serve j w
 at_rest net serve j v w idle still parts about seen helm unowned accounts f = record {
-  part = let e : waiting w ≡ 0 = ap (λ b. if b then 1 else 0) idle in omega (arith, e);
+  part = let e : ticket_count w ≡ 0 = ap (λ b. if b then 1 else 0) idle in omega (arith, e);
   idle = λ z. unowned (sym parts ∙ z);
   about = λ some_part. about ∙ f.about (omega (arith, parts, some_part));
   seen = seen;
@@ -43,13 +45,13 @@ at_rest net serve j v w idle still parts about seen helm unowned accounts f = re
 no_tickets : (x : ℕ) (v : View) → v.waits ≡ false → has_ticket x v ≡ 0
 no_tickets x v idle = ap (λ b. if b then (if nat_eq v.ticket x then 1 else 0) else 0) idle
 
-none_waiting : (v : View) → v.waits ≡ false → waiting v ≡ 0
+none_waiting : (v : View) → v.waits ≡ false → ticket_count v ≡ 0
 none_waiting v idle = ap (λ b. if b then 1 else 0) idle
 
 -- a pass at rest may read the front: it sees the journal up to there, and its account notes the front
 pub looks : (slots id : ℕ) (m : Me Slot View) → m.0.waits ≡ false → m.0.turn ≡ false → 0 < m.0.parts
     → m.0.steers ≡ false → (a : Account) → m.0.accounts ≡ a ∷ []
-    → Allows Kept slots id m 0 (λ n. n) (λ n m'. (j : List Event) × Begins m.0.seen j × (n ≡ front_of j)
+    → Allows IsDesk slots id m 0 (λ n. n) (λ n m'. (j : List Event) × Begins m.0.seen j × (n ≡ front_of j)
     × (m' ≡ (after_look m.0 a j, m.1)) × (front_of m.0.seen ≤ n))
 looks slots id m idle still some_part plain a mine s k one at small =
     let v : View = m.0 in
@@ -74,7 +76,7 @@ looks slots id m idle still some_part plain a mine s k one at small =
         few = k.few;
         rising = k.rising;
         parts = parts_stay s k id v w at same;
-        line = omega (arith, total_set waiting s.views id v w at, k.line);
+        line = omega (arith, total_set ticket_count s.views id v w at, k.line);
         each_once = λ x. omega (arith, total_set (has_ticket x) s.views id v w at, k.each_once x);
         fits = each_set k.net k.serve k.journal s.views id w
             (at_rest k.net k.serve k.journal v w idle still refl refl (begins_refl k.journal)
@@ -99,8 +101,8 @@ looks slots id m idle still some_part plain a mine s k one at small =
 
 -- a pass may end its turn with its account marked Full, where the journal is full
 pub leaves_full : (slots id : ℕ) (v : View) → 0 < v.parts → v.turn ≡ true → (a : Account) → v.accounts ≡ a ∷ []
-    → length (calls_of v.seen) ≡ 4096
-    → Allows Kept slots id (v, (0, book_of v.net v.seen) ∷ []) 2 (λ n. (n + 1) % 2 ^ 64)
+    → length (calls_of v.seen) ≡ MOST_CALLS
+    → Allows IsDesk slots id (v, (0, book_of v.net v.seen) ∷ []) 2 (λ n. (n + 1) % 2 ^ 64)
     (λ _ m'. m' ≡ (record (turned_to v false 0 false v.seen) { accounts = full_account a ∷ [] }, []))
 leaves_full slots id v some_part turn a mine whole s k one at small =
     let w : View = record (turned_to v false 0 false v.seen) { accounts = full_account a ∷ [] } in
@@ -115,8 +117,8 @@ leaves_full slots id v some_part turn a mine whole s k one at small =
     let idle = others_idle s k id v at t.0 t.1 in
     let line = stands s k id v at t.0 in
     let right : IsAccount k.journal a = (subst (AreAccounts k.journal) mine f.accounts).0 in
-    let whole' : length (calls_of k.journal) ≡ 4096 = ap (λ l. length (calls_of l)) (sym t.2) ∙ whole in
-    let was_waiting : waiting v ≡ 1 = ap (λ b. if b then 1 else 0) t.0 in
+    let whole' : length (calls_of k.journal) ≡ MOST_CALLS = ap (λ l. length (calls_of l)) (sym t.2) ∙ whole in
+    let was_waiting : ticket_count v ≡ 1 = ap (λ b. if b then 1 else 0) t.0 in
     let had : (y : ℕ) → has_ticket y v ≡ (if nat_eq k.serve y then 1 else 0) =
     λ y. ap (λ b. if b then (if nat_eq v.ticket y then 1 else 0) else 0) t.0
     ∙ ap (λ z. if nat_eq z y then 1 else 0) t.1 in (
@@ -134,7 +136,7 @@ leaves_full slots id v some_part turn a mine whole s k one at small =
         few = k.few;
         rising = k.rising;
         parts = parts_stay s k id v w at same;
-        line = omega (arith, total_set waiting s.views id v w at, k.line, was_waiting);
+        line = omega (arith, total_set ticket_count s.views id v w at, k.line, was_waiting);
         each_once = λ y. omega (
           arith,
           total_set (has_ticket y) s.views id v w at,
@@ -180,7 +182,7 @@ each_more net serve j views w mine others i u e =
     ⊎_elim (λ x. others i u x) (λ (x : w ≡ u). subst (λ (y : View). Fits net serve j y) x mine) (at_snoc views w u i e)
 
 more_home : (net : Net) (j : List Event) (homes : List (Option Slot)) (views : List View) (w : View) → w.turn ≡ false
-    → Housed net j homes views → Housed net j homes (views ++ w ∷ [])
+    → BookIsHomeOrInTurn net j homes views → BookIsHomeOrInTurn net j homes (views ++ w ∷ [])
 more_home net j homes views w still home = ⊎_elim
     (λ (h : (homes ≡ some (book_of net j) ∷ []) × NoTurn views). inl (
       h.0,
@@ -193,7 +195,7 @@ more_home net j homes views w still home = ⊎_elim
 
 -- a seat of the list after a split: the helm, one that was there, or the new pass
 pub splits : (id : ℕ) (v : View) → v.waits ≡ false → v.turn ≡ false → v.steers ≡ true → 1 < v.parts
-    → Splits Kept id v (record v { parts = v.parts - 1; made = v.made + 1 })
+    → Splits IsDesk id v (record v { parts = v.parts - 1; made = v.made + 1 })
     (pass_view v.net v.seen (new_account (v.made + 1)))
 splits id v idle still steers two s k at =
     let l : View = record v { parts = v.parts - 1; made = v.made + 1 } in
@@ -220,7 +222,13 @@ splits id v idle still steers two s k at =
       few = k.few;
       rising = k.rising;
       parts = omega (arith, total_set (λ u. u.parts) s.views id v l at, total_more (λ u. u.parts) vs r, k.parts, two);
-      line = omega (arith, total_set waiting s.views id v l at, total_more waiting vs r, k.line, none_waiting v idle);
+      line = omega (
+        arith,
+        total_set ticket_count s.views id v l at,
+        total_more ticket_count vs r,
+        k.line,
+        none_waiting v idle,
+      );
       each_once = λ x. omega (
         arith,
         total_set (has_ticket x) s.views id v l at,
@@ -280,7 +288,7 @@ splits id v idle still steers two s k at =
 -- a seat at rest may take the parts and accounts of another at rest that does not steer, and leave it spent
 pub joins : (id : ℕ) (v : View) (other : ℕ) (u : View) → v.waits ≡ false → v.turn ≡ false → 0 < v.parts
     → u.waits ≡ false → u.turn ≡ false → u.steers ≡ false
-    → Joins Kept id v other u (record v { parts = v.parts + u.parts; accounts = v.accounts ++ u.accounts }) spent_view
+    → Joins IsDesk id v other u (record v { parts = v.parts + u.parts; accounts = v.accounts ++ u.accounts }) spent_view
 joins id v other u idle still some_part idle' still' plain s k at apart at' =
     let b : View = record v { parts = v.parts + u.parts; accounts = v.accounts ++ u.accounts } in
     let e : View = spent_view in
@@ -325,8 +333,8 @@ joins id v other u idle still some_part idle' still' plain s k at apart at' =
       );
       line = omega (
         arith,
-        total_set waiting s.views id v b at,
-        total_set waiting vs other u e at',
+        total_set ticket_count s.views id v b at,
+        total_set ticket_count vs other u e at',
         k.line,
         none_waiting v idle,
         none_waiting u idle',
@@ -371,7 +379,7 @@ joins id v other u idle still some_part idle' still' plain s k at apart at' =
     }
 
 -- a new desk keeps the rule: the journal is empty, the book at home, and the helm alone has all parts
-pub begins : (net : Net) → Kept (opening (0 ∷ 0 ∷ 0 ∷ 0 ∷ []) (book_of net [] ∷ []) (helm_view net 17 [] [] 0 []))
+pub begins : (net : Net) → IsDesk (opening (0 ∷ 0 ∷ 0 ∷ 0 ∷ []) (book_of net [] ∷ []) (helm_view net 17 [] [] 0 []))
 begins net = record {
   net = net;
   journal = [];
@@ -435,10 +443,10 @@ pub record Ended (v : View) (slots : List Slot) : Type 0 where
 
 -- this is so of a seat without the turn that has all 17 parts, when the desk ends
 pub ends : (id : ℕ) (v : View) (ws : List ℕ) (xs : List Slot) → v.parts ≡ 17 → v.turn ≡ false
-    → Final (Seen Kept id v) ws xs → Ended v xs
+    → Final (Seen IsDesk id v) ws xs → Ended v xs
 ends id v ws xs whole still final =
     let s = final.0 in
-    let k : Kept s = final.1.0 in
+    let k : IsDesk s = final.1.0 in
     let at : get_elem? s.views id ≡ some v = final.1.1 in
     let f = k.fits id v at in
     let partless : (j : ℕ) (u : View) → j ≢ id → get_elem? s.views j ≡ some u → u.parts ≡ 0 =
@@ -448,7 +456,7 @@ ends id v ws xs whole still final =
     (sym turn ∙ (ap (λ (y : View). y.turn)
     (some-injective u v (sym e ∙ (ap (λ (i : ℕ). get_elem? s.views i) same ∙ at))) ∙ still)) in
     let g = k.fits j u e in
-    let w : waiting u ≡ 1 = ap (λ b. if b then 1 else 0) (g.turn turn).0 in
+    let w : ticket_count u ≡ 1 = ap (λ b. if b then 1 else 0) (g.turn turn).0 in
     omega (arith, partless j u apart e, g.part, w) in
     let home : s.homes ≡ some (book_of k.net k.journal) ∷ [] =
     ⊎_elim (λ (h : (s.homes ≡ some (book_of k.net k.journal) ∷ []) × NoTurn s.views). h.0)
@@ -476,9 +484,9 @@ ends id v ws xs whole still final =
 pub only_one : (xs : List (ℕ × Slot)) (y : Slot) → xs ≡ (0, y) ∷ [] → xs ≡ (0, y) ∷ rest xs
 only_one xs y e = e ∙ ap (λ (r : List (ℕ × Slot)). (0, y) ∷ r) (sym (ap rest e))
 
--- a pass at rest may read the front, and becomes what Looked tells of each account that it has
+-- a pass at rest may read the front, and becomes what HasSeenFront tells of each account that it has
 pub looks_said : (slots id : ℕ) (m : Me Slot View) → m.0.waits ≡ false → m.0.turn ≡ false → 0 < m.0.parts
-    → m.0.steers ≡ false → (a : Account) → m.0.accounts ≡ a ∷ [] → Allows Kept slots id m 0 (λ n. n) (Looked m)
+    → m.0.steers ≡ false → (a : Account) → m.0.accounts ≡ a ∷ [] → Allows IsDesk slots id m 0 (λ n. n) (HasSeenFront m)
 looks_said slots id m idle still some_part plain a mine s k one at small =
     let r = looks slots id m idle still some_part plain a mine s k one at small in (
       r.0,
@@ -495,11 +503,11 @@ looks_said slots id m idle still some_part plain a mine s k one at small =
       ),
     )
 
--- and it may end its turn over a full journal, and becomes what LeftFull tells of each such account
+-- and it may end its turn over a full journal, and becomes what HasEndedFullTurn tells of each such account
 pub leaves_full_said : (slots id : ℕ) (v : View) → 0 < v.parts → v.turn ≡ true → (a : Account) → v.accounts ≡ a ∷ []
-    → length (calls_of v.seen) ≡ 4096
-    → Allows Kept slots id (v, (0, book_of v.net v.seen) ∷ []) 2 (λ n. (n + 1) % 2 ^ 64)
-    (LeftFull (v, (0, book_of v.net v.seen) ∷ []))
+    → length (calls_of v.seen) ≡ MOST_CALLS
+    → Allows IsDesk slots id (v, (0, book_of v.net v.seen) ∷ []) 2 (λ n. (n + 1) % 2 ^ 64)
+    (HasEndedFullTurn (v, (0, book_of v.net v.seen) ∷ []))
 leaves_full_said slots id v some_part turn a mine whole s k one at small =
     let c : List (ℕ × Slot) = (0, book_of v.net v.seen) ∷ [] in
     let r = leaves_full slots id v some_part turn a mine whole s k one at small in (
@@ -520,11 +528,11 @@ some_book a b e = ap {B = BookView} inside e
     inside None = a
 
 -- the book that comes out of the slot at the end
-pub closed : (h : Helmed) (t : TableId) (v : View) (xs : List Slot) (o : Slot) (b : BookView) → helmed t v ≡ h
+pub closed : (h : HelmView) (t : TableId) (v : View) (xs : List Slot) (o : Slot) (b : BookView) → view_of_helm t v ≡ h
     → v.steers ≡ true → Ended v xs → get_elem? xs 0 ≡ some o → o ≡ Some b → IsClosed h b
 closed h t v xs o b is steers e at out =
     let same : b ≡ record { net = v.net; events = e.journal } =
     some_book b (record { net = v.net; events = e.journal })
     (sym out ∙ some-injective o (book_of v.net e.journal) (sym at ∙ e.book)) in
-    subst (λ (k : Helmed). IsClosed k b) is (subst (λ (x : BookView). IsClosed (helmed t v) x) (sym same)
+    subst (λ (k : HelmView). IsClosed k b) is (subst (λ (x : BookView). IsClosed (view_of_helm t v) x) (sym same)
     (record { net = refl; seen = e.seen; only_calls = e.helm steers; accounts = e.accounts; others = e.others }))

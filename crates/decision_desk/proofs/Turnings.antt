@@ -9,13 +9,15 @@ use Rattle.atomic_table.specs.Table.{State, Me, Allows, Act, Valid, stepped, car
 use Rattle.atomic_table.proofs.Lists.{at_set, set_else, set_here, set_again, one_turn}
 use Rattle.net_model.specs.Net.{Net}
 use Rattle.decision_book.specs.declared.call.Call.{Call}
+use Rattle.decision_book.specs.declared.call.TheConstants.{MOST_CALLS}
 use Rattle.decision_book.specs.Journal.{Event, raised, asked, calls_of}
 use Rattle.decision_desk.specs.declared.view.View.{View}
 use Rattle.decision_desk.specs.Accounts.{Account, AreAccounts, IsAccount, accounts_of}
 use Rattle.decision_desk.specs.Accounts.{calls_by, front_of, RisesFrom, OnlyCalls}
-use Rattle.decision_desk.specs.Turns.{Slot, book_of, total, waiting, has_ticket, has_caller, in_line, Fits}
-use Rattle.decision_desk.specs.Turns.{EachFits, NoTurn, Housed, Unmade, OneHelm, Kept, turned_to, Drew}
-use Rattle.decision_desk.specs.Turns.{Served, ServedIf, after_call, Called, after_front, Left}
+use Rattle.decision_desk.specs.Turns.{Slot, book_of, total, ticket_count, has_ticket, has_caller, in_line, Fits}
+use Rattle.decision_desk.specs.Turns.{EachFits, NoTurn, BookIsHomeOrInTurn, NoAccountAboveMade, OneHelm, IsDesk}
+use Rattle.decision_desk.specs.Turns.{turned_to, after_call, after_front, HasDrawnTicket, HasTurnIf, HasTurnIfServed}
+use Rattle.decision_desk.specs.Turns.{HasAddedCall, HasEndedTurn}
 use Rattle.decision_desk.proofs.Journals.{calls_raised, front_asked, front_raised, calls_longer, by_other}
 use Rattle.decision_desk.proofs.Journals.{by_raised, begins_refl, begins_more, only_calls_refl, only_calls_more}
 use Rattle.decision_desk.proofs.Journals.{account_called, accounts_raised, accounts_other, one_account, rises_asked}
@@ -97,7 +99,7 @@ pub alike_refl : (v w : View) → w.parts ≡ v.parts → w.accounts ≡ v.accou
 alike_refl v w p a s m = record { parts = p; callers = λ x. ap (accounts_of x) a; steers = s; made = m }
 
 -- what stays where one seat changes to one that is alike
-module _ (s : State Slot View) (k : Kept s) (id : ℕ) (v w : View) (at : get_elem? s.views id ≡ some v)
+module _ (s : State Slot View) (k : IsDesk s) (id : ℕ) (v w : View) (at : get_elem? s.views id ≡ some v)
     (same : Alike v w) where
   -- there are 17 parts in all
   pub parts_stay : total (λ u. u.parts) (set s.views id w) ≡ 17
@@ -112,7 +114,7 @@ module _ (s : State Slot View) (k : Kept s) (id : ℕ) (v w : View) (at : get_el
   once_stays x = omega (arith, callers_stay x, k.once x)
 
   -- and no caller above the number of passes made has any
-  pub unmade_stays : Unmade (set s.views id w)
+  pub unmade_stays : NoAccountAboveMade (set s.views id w)
   unmade_stays i u e steers x above = callers_stay x ∙ ⊎_elim
       (λ (h : (i ≡ id) × (w ≡ u)). k.unmade id v at (sym same.steers ∙ (ap (λ (y : View). y.steers) h.1 ∙ steers)) x
       (omega (arith, above, same.made, ap (λ (y : View). y.made) h.1)))
@@ -141,7 +143,7 @@ module _ (s : State Slot View) (k : Kept s) (id : ℕ) (v w : View) (at : get_el
   others_stay x nobody = k.others x (omega (arith, nobody, callers_stay x))
 
 -- beside a seat that waits with the ticket that is served, no other has the turn
-module _ (s : State Slot View) (k : Kept s) (id : ℕ) (v : View) (at : get_elem? s.views id ≡ some v)
+module _ (s : State Slot View) (k : IsDesk s) (id : ℕ) (v : View) (at : get_elem? s.views id ≡ some v)
     (waits : v.waits ≡ true) where
   -- its ticket is in line
   pub stands : (k.serve ≤ v.ticket) × (v.ticket < k.next)
@@ -175,8 +177,8 @@ once_less x from to h = grind (arith, h)
 
 -- the book is still at home or with the turn, where a seat changes that neither had nor gets the turn
 pub rest_home : (net : Net) (j : List Event) (homes : List (Option Slot)) (views : List View) (id : ℕ) (v w : View)
-    → get_elem? views id ≡ some v → v.turn ≡ false → w.turn ≡ false → Housed net j homes views
-    → Housed net j homes (set views id w)
+    → get_elem? views id ≡ some v → v.turn ≡ false → w.turn ≡ false → BookIsHomeOrInTurn net j homes views
+    → BookIsHomeOrInTurn net j homes (set views id w)
 rest_home net j homes views id v w at still still' home = ⊎_elim
     (λ (h : (homes ≡ some (book_of net j) ∷ []) × NoTurn views). inl
     (h.0, no_turn_set views id w still' (λ i u n e. h.1 i u e)))
@@ -197,13 +199,13 @@ rest_home net j homes views id v w at still still' home = ⊎_elim
 
 -- a seat at rest that has a part may draw the next ticket
 pub draws : (slots id : ℕ) (m : Me Slot View) → m.0.waits ≡ false → m.0.turn ≡ false → 0 < m.0.parts
-    → Allows Kept slots id m 1 (λ n. (n + 1) % 2 ^ 64) (Drew m)
+    → Allows IsDesk slots id m 1 (λ n. (n + 1) % 2 ^ 64) (HasDrawnTicket m)
 draws slots id m idle still some_part s k one at small =
     let v : View = m.0 in
     let w : View = turned_to v true k.next false v.seen in
     let f = k.fits id v at in
     let same : Alike v w = alike_refl v w refl refl refl refl in
-    let none_waiting : waiting v ≡ 0 = ap (λ b. if b then 1 else 0) idle in
+    let none_waiting : ticket_count v ≡ 0 = ap (λ b. if b then 1 else 0) idle in
     let no_ticket : (x : ℕ) → has_ticket x v ≡ 0 =
     λ x. ap (λ b. if b then (if nat_eq v.ticket x then 1 else 0) else 0) idle in (
       w,
@@ -220,7 +222,7 @@ draws slots id m idle still some_part s k one at small =
         few = k.few;
         rising = k.rising;
         parts = parts_stay s k id v w at same;
-        line = omega (arith, total_set waiting s.views id v w at, k.line, none_waiting);
+        line = omega (arith, total_set ticket_count s.views id v w at, k.line, none_waiting);
         each_once = λ x. omega (
           arith,
           total_set (has_ticket x) s.views id v w at,
@@ -254,14 +256,14 @@ same_place from x to n low high near a b =
     sym (one_turn from x (2 ^ 64) low (omega (arith, low, high, near)) (sym a ∙ b))
 
 -- there are no more in line than there are parts
-near : (s : State Slot View) (k : Kept s) → k.next ≤ k.serve + 17
-near s k = omega (arith, k.line, k.parts, total_le waiting (λ u. u.parts) s.views (λ i u e. (k.fits i u e).part))
+near : (s : State Slot View) (k : IsDesk s) → k.next ≤ k.serve + 17
+near s k = omega (arith, k.line, k.parts, total_le ticket_count (λ u. u.parts) s.views (λ i u e. (k.fits i u e).part))
 
 serves_at : (id : ℕ) (m : Me Slot View) → 0 < m.0.parts → m.0.waits ≡ true → m.0.turn ≡ false
-    → (s : State Slot View) (k : Kept s) → get_elem? s.views id ≡ some m.0
+    → (s : State Slot View) (k : IsDesk s) → get_elem? s.views id ≡ some m.0
     → (b : Bool) → nat_eq (slice_index s.words 2) (m.0.ticket % 2 ^ 64) ≡ b
-    → (w : View) × (a : Act Slot) × Valid s.homes m.1 a × Kept (stepped s 2 (slice_index s.words 2) id m.1 w a)
-    × ServedIf b m (w, carried_after m.1 a)
+    → (w : View) × (a : Act Slot) × Valid s.homes m.1 a × IsDesk (stepped s 2 (slice_index s.words 2) id m.1 w a)
+    × HasTurnIf b m (w, carried_after m.1 a)
 serves_at id m some_part waits still s k at false is = (
   m.0,
   keeps,
@@ -275,14 +277,14 @@ serves_at id m some_part waits still s k at false is = (
     few = k.few;
     rising = k.rising;
     parts = ap (total (λ u. u.parts)) (set_again s.views id m.0 at) ∙ k.parts;
-    line = ap (λ vs. k.serve + total waiting vs) (set_again s.views id m.0 at) ∙ k.line;
+    line = ap (λ vs. k.serve + total ticket_count vs) (set_again s.views id m.0 at) ∙ k.line;
     each_once = λ x. ap (total (has_ticket x)) (set_again s.views id m.0 at) ∙ k.each_once x;
     fits = subst (λ vs. EachFits k.net k.serve k.journal vs) (sym (set_again s.views id m.0 at)) k.fits;
-    home = subst (λ vs. Housed k.net k.journal s.homes vs) (sym (set_again s.views id m.0 at)) k.home;
+    home = subst (λ vs. BookIsHomeOrInTurn k.net k.journal s.homes vs) (sym (set_again s.views id m.0 at)) k.home;
     once = subst (λ vs. (x : ℕ) → total (has_caller x) vs ≤ 1) (sym (set_again s.views id m.0 at)) k.once;
     others = subst (λ vs. (x : ℕ) → total (has_caller x) vs ≡ 0 → calls_by x k.journal ≡ [])
         (sym (set_again s.views id m.0 at)) k.others;
-    unmade = subst Unmade (sym (set_again s.views id m.0 at)) k.unmade;
+    unmade = subst NoAccountAboveMade (sym (set_again s.views id m.0 at)) k.unmade;
     one_helm = subst OneHelm (sym (set_again s.views id m.0 at)) k.one_helm;
   },
   refl,
@@ -307,7 +309,7 @@ serves_at id m some_part waits still s k at true is =
     absurd (true≢false (sym h.1.3 ∙ idle h.1.0 h.1.1 apart h.1.2))) k.home in
     let as_before : (x : ℕ) → has_ticket x v ≡ has_ticket x w =
     λ x. ap (λ b. if b then (if nat_eq v.ticket x then 1 else 0) else 0) waits in
-    let was_waiting : waiting v ≡ 1 = ap (λ b. if b then 1 else 0) waits in
+    let was_waiting : ticket_count v ≡ 1 = ap (λ b. if b then 1 else 0) waits in
     let net : k.net ≡ v.net = sym (f.about some_part) in (
       w,
       takes 0 (book_of v.net k.journal),
@@ -321,7 +323,7 @@ serves_at id m some_part waits still s k at true is =
         few = k.few;
         rising = k.rising;
         parts = parts_stay s k id v w at same;
-        line = omega (arith, total_set waiting s.views id v w at, k.line, was_waiting);
+        line = omega (arith, total_set ticket_count s.views id v w at, k.line, was_waiting);
         each_once = λ x. omega (arith, total_set (has_ticket x) s.views id v w at, k.each_once x, as_before x);
         fits = each_set k.net k.serve k.journal s.views id w
             (record {
@@ -345,12 +347,12 @@ serves_at id m some_part waits still s k at true is =
 
 -- a seat that waits may look who is served, and has the turn and the book where it is its own ticket
 pub serves : (slots id : ℕ) (m : Me Slot View) → 0 < m.0.parts → m.0.waits ≡ true → m.0.turn ≡ false
-    → Allows Kept slots id m 2 (λ n. n) (Served m)
+    → Allows IsDesk slots id m 2 (λ n. n) (HasTurnIfServed m)
 serves slots id m some_part waits still s k one at small =
     serves_at id m some_part waits still s k at (nat_eq (slice_index s.words 2) (m.0.ticket % 2 ^ 64)) refl
 
 -- in its turn a seat knows the journal, and the slot is out
-pub in_turn : (s : State Slot View) (k : Kept s) (id : ℕ) (v : View) → get_elem? s.views id ≡ some v → v.turn ≡ true
+pub in_turn : (s : State Slot View) (k : IsDesk s) (id : ℕ) (v : View) → get_elem? s.views id ≡ some v → v.turn ≡ true
     → s.homes ≡ none ∷ []
 in_turn s k id v at turn = ⊎_elim (λ (h : (s.homes ≡ some (book_of k.net k.journal) ∷ []) × NoTurn s.views).
     absurd (true≢false (sym turn ∙ h.1 id v at)))
@@ -359,16 +361,16 @@ in_turn s k id v at turn = ⊎_elim (λ (h : (s.homes ≡ some (book_of k.net k.
 
 -- another seat's facts where the journal has one call more, of a caller whose account it hasn't
 fits_called : (net : Net) (serve : ℕ) (j : List Event) (c : Call) (u : View) → u.turn ≡ false
-    → accounts_of c.caller u.accounts ≡ 0 → length (calls_of j) < 4096 → Fits net serve j u
+    → accounts_of c.caller u.accounts ≡ 0 → length (calls_of j) < MOST_CALLS → Fits net serve j u
     → Fits net serve (j ++ asked c ∷ []) u
-fits_called net serve j c u still nobody room f = record {
+fits_called net serve j c u still nobody free f = record {
   part = f.part;
   idle = f.idle;
   about = f.about;
   seen = begins_more u.seen j (asked c) f.seen;
   turn = λ turn. absurd (true≢false (sym turn ∙ still));
   helm = λ steers. only_calls_more u.helm j c (f.helm steers);
-  accounts = accounts_other j c u.accounts nobody room f.accounts;
+  accounts = accounts_other j c u.accounts nobody free f.accounts;
 }
 
 fits_raised : (net : Net) (serve : ℕ) (j : List Event) (f : ℕ) (u : View) → u.turn ≡ false → ¬ (u.steers ≡ true)
@@ -396,12 +398,12 @@ fits_served net serve j u still f = record {
   accounts = f.accounts;
 }
 
--- a pass in its turn may add a call of its caller to the journal and its account, where there is room
+-- a pass in its turn may add a call of its caller to the journal and its account, where the journal is not full
 pub calls : (said : List Call) (a : Account) (c : Call) (slots id : ℕ) (m : Me Slot View) → said ≡ c ∷ []
-    → m.0.accounts ≡ a ∷ [] → c.caller ≡ a.caller → m.0.turn ≡ true → length (calls_of m.0.seen) < 4096
-    → Allows Kept slots id m 3 (λ n. (n + 1) % 2 ^ 64) (λ n m'. (n ≡ length (calls_of m.0.seen))
+    → m.0.accounts ≡ a ∷ [] → c.caller ≡ a.caller → m.0.turn ≡ true → length (calls_of m.0.seen) < MOST_CALLS
+    → Allows IsDesk slots id m 3 (λ n. (n + 1) % 2 ^ 64) (λ n m'. (n ≡ length (calls_of m.0.seen))
     × (m' ≡ (after_call m.0 a c, m.1)))
-calls said a c slots id m is_said mine by turn room s k one at small =
+calls said a c slots id m is_said mine by turn free s k one at small =
     let v : View = m.0 in
     let w : View = after_call v a c in
     let f = k.fits id v at in
@@ -418,7 +420,7 @@ calls said a c slots id m is_said mine by turn room s k one at small =
     λ i u n e.
     omega (arith, k.once c.caller, two_below (has_caller c.caller) s.views id i v u n at e, here) in
     let as_before : (y : ℕ) → has_ticket y v ≡ has_ticket y w = λ y. refl in
-    let was_waiting : waiting v ≡ 1 = ap (λ b. if b then 1 else 0) t.0 in
+    let was_waiting : ticket_count v ≡ 1 = ap (λ b. if b then 1 else 0) t.0 in
     let longer : (length (calls_of k.journal) + 1) % 2 ^ 64 ≡ length (calls_of (j ++ asked c ∷ [])) =
     mod-eq_of_lt (omega (arith, k.few)) ∙ (ap (λ l. length (calls_of l) + 1) (sym is) ∙ sym (calls_longer j c)) in
     let front : front_of k.journal ≡ front_of (j ++ asked c ∷ []) = ap front_of (sym is) ∙ sym (front_asked j c) in
@@ -436,10 +438,10 @@ calls said a c slots id m is_said mine by turn room s k one at small =
             ∙ (ap (λ (z : ℕ). front_of k.journal ∷ k.next % 2 ^ 64 ∷ k.serve % 2 ^ 64 ∷ z ∷ []) longer
             ∙ ap (λ (z : ℕ). z ∷ k.next % 2 ^ 64 ∷ k.serve % 2 ^ 64 ∷ length (calls_of (j ++ asked c ∷ [])) ∷ [])
             front);
-        few = omega (arith, calls_longer j c, room);
+        few = omega (arith, calls_longer j c, free);
         rising = rises_asked j c (subst (RisesFrom 0) (sym is) k.rising);
         parts = parts_stay s k id v w at same;
-        line = omega (arith, total_set waiting s.views id v w at, k.line);
+        line = omega (arith, total_set ticket_count s.views id v w at, k.line);
         each_once = λ y. omega (arith, total_set (has_ticket y) s.views id v w at, k.each_once y, as_before y);
         fits = λ i u e. ⊎_elim
             (λ (x : (i ≡ id) × (w ≡ u)). subst (λ (y : View). Fits k.net k.serve (j ++ asked c ∷ []) y) x.1
@@ -450,10 +452,10 @@ calls said a c slots id m is_said mine by turn room s k one at small =
               seen = begins_refl (j ++ asked c ∷ []);
               turn = λ _. (t.0, t.1, refl);
               helm = λ steers. only_calls_more v.helm j c (subst (OnlyCalls v.helm) (sym is) (f.helm steers));
-              accounts = (account_called j c a by room right, tt);
+              accounts = (account_called j c a by free right, tt);
             }))
             (λ (x : (i ≢ id) × (get_elem? s.views i ≡ some u)). fits_called k.net k.serve j c u (idle i u x.0 x.1)
-            (nobody i u x.0 x.1) room (fits_j i u x.1)) (at_set s.views id i w u e);
+            (nobody i u x.0 x.1) free (fits_j i u x.1)) (at_set s.views id i w u e);
         home = inr (in_turn s k id v at turn, (id, w, set_here s.views id w (at_below s.views id v at), turn));
         once = once_stays s k id v w at same;
         others = λ x no.
@@ -475,7 +477,7 @@ calls said a c slots id m is_said mine by turn room s k one at small =
 
 -- the helm in its turn may raise the front to one above the last
 pub raises : (f slots id : ℕ) (m : Me Slot View) → m.0.turn ≡ true → m.0.steers ≡ true → front_of m.0.seen < f
-    → Allows Kept slots id m 0 (λ _. f) (λ _ m'. m' ≡ (after_front m.0 f, m.1))
+    → Allows IsDesk slots id m 0 (λ _. f) (λ _ m'. m' ≡ (after_front m.0 f, m.1))
 raises g slots id m turn steers above s k one at small =
     let v : View = m.0 in
     let w : View = after_front v g in
@@ -504,7 +506,7 @@ raises g slots id m turn steers above s k one at small =
         few = omega (arith, k.few, calls_same);
         rising = rises_raised j g (subst (RisesFrom 0) (sym is) k.rising) above;
         parts = parts_stay s k id v w at same;
-        line = omega (arith, total_set waiting s.views id v w at, k.line);
+        line = omega (arith, total_set ticket_count s.views id v w at, k.line);
         each_once = λ y. omega (arith, total_set (has_ticket y) s.views id v w at, k.each_once y);
         fits = λ i u e. ⊎_elim
             (λ (x : (i ≡ id) × (w ≡ u)). subst (λ (y : View). Fits k.net k.serve (j ++ raised g ∷ []) y) x.1
@@ -531,8 +533,8 @@ raises g slots id m turn steers above s k one at small =
 
 -- a seat may end its turn and give back the book, and the next ticket is served
 pub leaves : (slots id : ℕ) (v : View) → 0 < v.parts → v.turn ≡ true
-    → Allows Kept slots id (v, (0, book_of v.net v.seen) ∷ []) 2 (λ n. (n + 1) % 2 ^ 64)
-    (Left (v, (0, book_of v.net v.seen) ∷ []))
+    → Allows IsDesk slots id (v, (0, book_of v.net v.seen) ∷ []) 2 (λ n. (n + 1) % 2 ^ 64)
+    (HasEndedTurn (v, (0, book_of v.net v.seen) ∷ []))
 leaves slots id v some_part turn s k one at small =
     let w : View = turned_to v false 0 false v.seen in
     let f = k.fits id v at in
@@ -540,7 +542,7 @@ leaves slots id v some_part turn s k one at small =
     let same : Alike v w = alike_refl v w refl refl refl refl in
     let idle = others_idle s k id v at t.0 t.1 in
     let line = stands s k id v at t.0 in
-    let was_waiting : waiting v ≡ 1 = ap (λ b. if b then 1 else 0) t.0 in
+    let was_waiting : ticket_count v ≡ 1 = ap (λ b. if b then 1 else 0) t.0 in
     let had : (y : ℕ) → has_ticket y v ≡ (if nat_eq k.serve y then 1 else 0) =
     λ y. ap (λ b. if b then (if nat_eq v.ticket y then 1 else 0) else 0) t.0
     ∙ ap (λ z. if nat_eq z y then 1 else 0) t.1 in (
@@ -558,7 +560,7 @@ leaves slots id v some_part turn s k one at small =
         few = k.few;
         rising = k.rising;
         parts = parts_stay s k id v w at same;
-        line = omega (arith, total_set waiting s.views id v w at, k.line, was_waiting);
+        line = omega (arith, total_set ticket_count s.views id v w at, k.line, was_waiting);
         each_once = λ y. omega (
           arith,
           total_set (has_ticket y) s.views id v w at,
@@ -613,12 +615,12 @@ said_same c d cs e f = ap first (sym e ∙ f)
 abbrev pub Becomes : Me Slot View → Me Slot View → Type 0
 Becomes m n = m ≡ n
 
--- a pass in its turn may add a call, and becomes what Called tells of each such account and call
+-- a pass in its turn may add a call, and becomes what HasAddedCall tells of each such account and call
 pub calls_said : (said : List Call) (a : Account) (c : Call) (slots id : ℕ) (m : Me Slot View) → said ≡ c ∷ []
-    → m.0.accounts ≡ a ∷ [] → c.caller ≡ a.caller → m.0.turn ≡ true → length (calls_of m.0.seen) < 4096
-    → Allows Kept slots id m 3 (λ n. (n + 1) % 2 ^ 64) (Called said m)
-calls_said said a c slots id m is_said mine by turn room s k one at small =
-    let r = calls said a c slots id m is_said mine by turn room s k one at small in (
+    → m.0.accounts ≡ a ∷ [] → c.caller ≡ a.caller → m.0.turn ≡ true → length (calls_of m.0.seen) < MOST_CALLS
+    → Allows IsDesk slots id m 3 (λ n. (n + 1) % 2 ^ 64) (HasAddedCall said m)
+calls_said said a c slots id m is_said mine by turn free s k one at small =
+    let r = calls said a c slots id m is_said mine by turn free s k one at small in (
       r.0,
       r.1,
       r.2,

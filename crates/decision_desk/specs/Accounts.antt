@@ -1,6 +1,7 @@
 -- What the desk keeps of each caller, over a journal.
 use Rattle.std.specs.Prelude.{◌≡◌, ℕ, ◌+◌, ◌<◌, Bool, true, List, [], ◌∷◌, ◌++◌, length, map, nat_eq, if◌then◌else◌}
 use Rattle.decision_book.specs.declared.call.Call.{Call}
+use Rattle.decision_book.specs.declared.call.TheConstants.{MOST_CALLS}
 use Rattle.decision_book.specs.Journal.{Event, raised, asked, calls_of}
 
 -- a caller: its calls, each with its place in the journal, the fronts that it saw, and whether it was answered Full
@@ -11,13 +12,13 @@ pub record Account : Type 0 where
   pub full : Bool
 
 -- the calls of one caller among these, each with its place; the first has this place
-abbrev pub numbered : ℕ → ℕ → List Call → List (ℕ × Call)
-numbered x n [] = []
-numbered x n (c ∷ cs) = if nat_eq c.caller x then (n, c) ∷ numbered x (n + 1) cs else numbered x (n + 1) cs
+abbrev pub calls_from : ℕ → ℕ → List Call → List (ℕ × Call)
+calls_from x n [] = []
+calls_from x n (c ∷ cs) = if nat_eq c.caller x then (n, c) ∷ calls_from x (n + 1) cs else calls_from x (n + 1) cs
 
 -- the calls of one caller in a journal, each with its place among all calls, from 0
 abbrev pub calls_by : ℕ → List Event → List (ℕ × Call)
-calls_by x events = numbered x 0 (calls_of events)
+calls_by x events = calls_from x 0 (calls_of events)
 
 -- the last front of a journal, or this one where it has none
 abbrev pub front_from : ℕ → List Event → ℕ
@@ -57,7 +58,7 @@ EachFront events (f ∷ fs) = IsFrontOf events f × EachFront events fs
 pub record IsAccount (events : List Event) (a : Account) : Type 0 where
   pub calls : a.calls ≡ calls_by a.caller events
   pub fronts : EachFront events a.fronts
-  pub full : a.full ≡ true → length (calls_of events) ≡ 4096
+  pub full : a.full ≡ true → length (calls_of events) ≡ MOST_CALLS
 
 -- each of these accounts is right
 abbrev pub AreAccounts : List Event → List Account → Type 0

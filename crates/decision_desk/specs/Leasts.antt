@@ -30,13 +30,13 @@ changed_at p (Some t) ts (Set who at station change) = slice_set ts p (earlier (
 changed_at p (Some t) ts (End who at) = slice_set ts p (time_before at t)
 
 -- an accepted decision on the clone that has this place, if any
-abbrev pub changed : Option ℕ → List (Option ℕ) → Decision → List (Option ℕ)
-changed None ts d = ts
-changed (Some p) ts d = changed_at p (slice_get ts p) ts d
+abbrev pub leasts_with : Option ℕ → List (Option ℕ) → Decision → List (Option ℕ)
+leasts_with None ts d = ts
+leasts_with (Some p) ts d = changed_at p (slice_get ts p) ts d
 
 -- accepted calls, where the clones are these at last
 abbrev pub changed_by : List Clone → List (Option ℕ) → List Call → List (Option ℕ)
-changed_by clones ts calls = fold (λ us c. changed (place_of (subject c.decision) clones) us c.decision) ts calls
+changed_by clones ts calls = fold (λ us c. leasts_with (place_of (subject c.decision) clones) us c.decision) ts calls
 
 -- a journal as it stood when so many calls were known, where only calls came since
 abbrev pub helm_at : ℕ → List Event → List Event

@@ -7,6 +7,7 @@ use Rattle.sim_base.specs.Reserved.{ReservedView}
 use Rattle.sim_base.specs.declared.decision.Decision.{Decision}
 use Rattle.net_model.specs.Net.{Net}
 use Rattle.decision_book.specs.declared.call.Call.{Call}
+use Rattle.decision_book.specs.declared.call.TheConstants.{MOST_CALLS}
 use Rattle.decision_book.specs.declared.call.Reply.{Reply}
 use Rattle.decision_book.specs.declared.call.Reply.TheVariants.{Full}
 use Rattle.decision_book.specs.Journal.{Event, asked, raised, call_of, calls_of, after}
@@ -24,7 +25,7 @@ use Rattle.decision_desk.specs.declared.pass.Receipt.{Receipt}
 use Rattle.decision_desk.specs.declared.helm.Turn.{Turn}
 
 -- what contracts see of a pass: its desk and network, the journal as far as it was seen, and the caller's account
-pub record Passed : Type 0 where
+pub record PassView : Type 0 where
   pub desk : TableId
   pub net : Net
   pub seen : List Event
@@ -36,35 +37,36 @@ first_account [] = new_account 0
 first_account (a ∷ as') = a
 
 -- what contracts see of the pass of a desk that has this view
-abbrev pub passed : TableId → View → Passed
-passed desk v = record { desk = desk; net = v.net; seen = v.seen; account = first_account v.accounts }
+abbrev pub view_of_pass : TableId → View → PassView
+view_of_pass desk v = record { desk = desk; net = v.net; seen = v.seen; account = first_account v.accounts }
 
 -- the receipt of a call that is in the journal
 abbrev pub receipt_of : ℕ × Call → Receipt
 receipt_of p = record { entry = Some p.0; reply = p.1.reply }
 
--- a pass at rest: one part of the desk, its account, the receipts of its calls, and room for 4,096 of them
+-- a pass at rest: one part of the desk, its account, the receipts of its calls, and memory reserved for as many as a
+-- journal may hold
 pub record IsPass (caller : ℕ) (receipts : ReservedView Receipt) (desk : TableId) (me : Me Slot View) : Type 0 where
   pub words : desk.words ≡ 4
   pub slots : desk.slots ≡ 1
   pub rest : me ≡ (pass_view me.0.net me.0.seen (first_account me.0.accounts), [])
   pub caller_is : (first_account me.0.accounts).caller ≡ caller
   pub receipts_are : receipts.items ≡ map receipt_of (first_account me.0.accounts).calls
-  pub room : receipts.reserved ≡ 4096
+  pub reserved : receipts.reserved ≡ MOST_CALLS
 
 -- a decision has the reply of the table, and is the last call of the book; or the book is full, and stays as it was
-pub record IsKept (old : BookView) (caller : ℕ) (d : Decision) (answer : Reply) (call : Call) (new : BookView) :
+pub record IsLastEntry (old : BookView) (caller : ℕ) (d : Decision) (answer : Reply) (call : Call) (new : BookView) :
     Type 0 where
   pub is : call ≡ call_of caller old.events d answer
   pub new_is : new ≡ record old { events = old.events ++ asked call ∷ [] }
-  pub room : length (calls_of old.events) < 4096
+  pub free : length (calls_of old.events) < MOST_CALLS
   pub not_full : answer ≢ Full
 
--- the reply of the table to a decision, with its call kept, or with none where the book is full
-abbrev pub Asked : BookView → ℕ → Decision → Reply → Option Call → BookView → Type 0
-Asked old caller d answer kept new = (answer ≡ reply (after old.net old.events) d)
-    × MatchOption kept ((answer ≡ Full) × (4096 ≤ length (calls_of old.events)) × (new ≡ old))
-    (λ call. IsKept old caller d answer call new)
+-- the reply of the table to a decision, with its call as the last of the book, or with none where the book is full
+abbrev pub HasAnswered : BookView → ℕ → Decision → Reply → Option Call → BookView → Type 0
+HasAnswered old caller d answer told new = (answer ≡ reply (after old.net old.events) d)
+    × MatchOption told ((answer ≡ Full) × (MOST_CALLS ≤ length (calls_of old.events)) × (new ≡ old))
+    (λ call. IsLastEntry old caller d answer call new)
 
 -- the view of a pass in its turn
 abbrev pub turn_view : Net → List Event → Account → ℕ → View
@@ -76,7 +78,7 @@ pub record HasTurn (net : Net) (seen : List Event) (a : Account) (me : Me Slot V
   pub begins : Begins seen j
   pub rises : front_of seen ≤ front_of j
   pub right : AreAccounts j (a ∷ [])
-  pub few : length (calls_of j) ≤ 4096
+  pub few : length (calls_of j) ≤ MOST_CALLS
   pub is : me ≡ (turn_view net j a ticket, (0, book_of net j) ∷ [])
 
 -- what became of a pass in its turn, behind the events j: the call is in the journal, or it was Full
@@ -85,37 +87,37 @@ pub record IsTurn (net : Net) (seen : List Event) (a : Account) (d : Decision) (
   pub begins : Begins seen j
   pub rises : front_of seen ≤ front_of j
   pub right : AreAccounts j (a ∷ [])
-  pub few : length (calls_of j) ≤ 4096
+  pub few : length (calls_of j) ≤ MOST_CALLS
   pub reply_is : receipt.reply ≡ reply (after net j) d
-  pub kept :
-      ((receipt.reply ≢ Full) × (receipt.entry ≡ Some (length (calls_of j))) × (length (calls_of j) < 4096)
+  pub outcome :
+      ((receipt.reply ≢ Full) × (receipt.entry ≡ Some (length (calls_of j))) × (length (calls_of j) < MOST_CALLS)
       × (new ≡ (
         pass_view net (j ++ asked (call_of a.caller j d receipt.reply) ∷ [])
             (with_call a j (call_of a.caller j d receipt.reply)),
         [],
       )))
-      ⊎ ((receipt.reply ≡ Full) × (receipt.entry ≡ None) × (length (calls_of j) ≡ 4096)
+      ⊎ ((receipt.reply ≡ Full) × (receipt.entry ≡ None) × (length (calls_of j) ≡ MOST_CALLS)
       × (new ≡ (pass_view net j (full_account a), [])))
 
 -- the same, as contracts see it
-pub record IsAsked (old : Passed) (d : Decision) (receipt : Receipt) (new : Passed) (j : List Event) : Type 0 where
+pub record IsAsked (old : PassView) (d : Decision) (receipt : Receipt) (new : PassView) (j : List Event) : Type 0 where
   pub begins : Begins old.seen j
   -- the front that it was decided at is at least the one that was seen
   pub rises : front_of old.seen ≤ front_of j
   pub reply_is : receipt.reply ≡ reply (after old.net j) d
   -- it is in the journal, at the place that the receipt names; or it is full
-  pub kept :
+  pub outcome :
       ((receipt.reply ≢ Full) × (receipt.entry ≡ Some (length (calls_of j)))
       × (new ≡ record old {
         seen = j ++ asked (call_of old.account.caller j d receipt.reply) ∷ [];
         account = with_call old.account j (call_of old.account.caller j d receipt.reply);
       }))
-      ⊎ ((receipt.reply ≡ Full) × (receipt.entry ≡ None) × (length (calls_of j) ≡ 4096)
+      ⊎ ((receipt.reply ≡ Full) × (receipt.entry ≡ None) × (length (calls_of j) ≡ MOST_CALLS)
       × (new ≡ record old { seen = j; account = full_account old.account }))
 
 -- what contracts see of a helm: the journal as far as it was seen, the journal when it last raised the front, its
 -- parts, how many passes were made, and the accounts that came back
-pub record Helmed : Type 0 where
+pub record HelmView : Type 0 where
   pub desk : TableId
   pub net : Net
   pub parts : ℕ
@@ -125,8 +127,8 @@ pub record Helmed : Type 0 where
   pub accounts : List Account
 
 -- what contracts see of the helm of a desk that has this view
-abbrev pub helmed : TableId → View → Helmed
-helmed desk v = record {
+abbrev pub view_of_helm : TableId → View → HelmView
+view_of_helm desk v = record {
   desk = desk;
   net = v.net;
   parts = v.parts;
@@ -149,20 +151,20 @@ pub record IsHelm (made known front : ℕ) (desk : TableId) (me : Me Slot View) 
   pub front_is : front ≡ front_of me.0.helm
 
 -- the pass of a caller that has asked nothing
-abbrev pub new_pass : TableId → Net → ℕ → Passed
+abbrev pub new_pass : TableId → Net → ℕ → PassView
 new_pass desk net x = record { desk = desk; net = net; seen = []; account = new_account x }
 
 -- those of the callers from 1 to n
-abbrev pub new_passes : TableId → Net → ℕ → List Passed
+abbrev pub new_passes : TableId → Net → ℕ → List PassView
 new_passes desk net zero = []
 new_passes desk net (suc n) = new_passes desk net n ++ new_pass desk net (n + 1) ∷ []
 
 -- the helm, once so many passes were made
-abbrev pub new_helm : TableId → Net → ℕ → Helmed
+abbrev pub new_helm : TableId → Net → ℕ → HelmView
 new_helm desk net n = record { desk = desk; net = net; parts = 17 - n; seen = []; helm = []; made = n; accounts = [] }
 
 -- the front was seen, behind the events j
-abbrev pub looked_at : Passed → List Event → Passed
+abbrev pub looked_at : PassView → List Event → PassView
 looked_at p j = record p { seen = j; account = record p.account { fronts = p.account.fronts ++ front_of j ∷ [] } }
 
 -- the front, where this time is below it, and else none
@@ -170,7 +172,7 @@ abbrev pub late_front : ℕ → ℕ → Option ℕ
 late_front front time = if nat_lt time front then Some front else None
 
 -- what the book is that a desk leaves
-pub record IsClosed (helm : Helmed) (book : BookView) : Type 0 where
+pub record IsClosed (helm : HelmView) (book : BookView) : Type 0 where
   pub net : book.net ≡ helm.net
   pub seen : Begins helm.seen book.events
   pub only_calls : OnlyCalls helm.helm book.events
@@ -220,7 +222,7 @@ pub record IsGoneOn (old : BookView) (helm : List Event) (cs : List Call) (turn 
   pub new_is : new ≡ record old { events = old.events ++ raised turn.front ∷ [] }
 
 -- a turn of the helm, behind the events j: only calls were made since its last, and the front is the next one
-pub record IsNextTurn (old : Helmed) (turn : Turn) (new : Helmed) (cs : List Call) : Type 0 where
+pub record IsNextTurn (old : HelmView) (turn : Turn) (new : HelmView) (cs : List Call) : Type 0 where
   pub fresh : turn.fresh.items ≡ accepted_of cs
   pub front : turn.front ≡ next_front old.net (after old.net (old.helm ++ map asked cs)).clones (front_of old.helm)
   pub above : front_of (old.helm ++ map asked cs) < turn.front
@@ -233,5 +235,5 @@ pub record IsNextTurn (old : Helmed) (turn : Turn) (new : Helmed) (cs : List Cal
   }
 
 -- a turn that found no memory
-abbrev pub IsMissed : Helmed → Helmed → Type 0
+abbrev pub IsMissed : HelmView → HelmView → Type 0
 IsMissed old new = (j : List Event) × OnlyCalls old.helm j × (new ≡ record old { seen = j })

@@ -7,6 +7,7 @@ use lib.ListN.{get_elem?}
 use Rattle.atomic_table.specs.Table.{State, Me}
 use Rattle.net_model.specs.Net.{Net}
 use Rattle.decision_book.specs.declared.call.Call.{Call}
+use Rattle.decision_book.specs.declared.call.TheConstants.{MOST_CALLS}
 use Rattle.decision_book.specs.Journal.{Event, raised, asked, calls_of}
 use Rattle.decision_book.specs.Books.{BookView}
 use Rattle.decision_desk.specs.Accounts.{Account, AreAccounts, accounts_of, calls_by}
@@ -26,9 +27,9 @@ abbrev pub total : (View → ℕ) → List View → ℕ
 total f [] = 0
 total f (v ∷ vs) = f v + total f vs
 
--- 1 where the seat waits with a ticket
-abbrev pub waiting : View → ℕ
-waiting v = if v.waits then 1 else 0
+-- the tickets that a seat waits with, one or none
+abbrev pub ticket_count : View → ℕ
+ticket_count v = if v.waits then 1 else 0
 
 -- 1 where the seat waits with this ticket
 abbrev pub has_ticket : ℕ → View → ℕ
@@ -44,7 +45,7 @@ in_line x from to = if nat_lt x from then 0 else (if nat_lt x to then 1 else 0)
 
 -- what holds of a seat by itself, where this ticket is served, over this journal
 pub record Fits (net : Net) (serve : ℕ) (journal : List Event) (v : View) : Type 0 where
-  pub part : waiting v ≤ v.parts
+  pub part : ticket_count v ≤ v.parts
   pub idle : v.parts ≡ 0 → v.accounts ≡ []
   pub about : 0 < v.parts → v.net ≡ net
   pub seen : Begins v.seen journal
@@ -61,13 +62,13 @@ abbrev pub NoTurn : List View → Type 0
 NoTurn views = (id : ℕ) (v : View) → get_elem? views id ≡ some v → v.turn ≡ false
 
 -- the book is at home with the journal, or some seat has the turn
-abbrev pub Housed : Net → List Event → List (Option Slot) → List View → Type 0
-Housed net journal homes views = ((homes ≡ some (book_of net journal) ∷ []) × NoTurn views)
+abbrev pub BookIsHomeOrInTurn : Net → List Event → List (Option Slot) → List View → Type 0
+BookIsHomeOrInTurn net journal homes views = ((homes ≡ some (book_of net journal) ∷ []) × NoTurn views)
     ⊎ ((homes ≡ none ∷ []) × ((id : ℕ) × (v : View) × (get_elem? views id ≡ some v) × (v.turn ≡ true)))
 
 -- no caller above the number of passes made has an account
-abbrev pub Unmade : List View → Type 0
-Unmade views = (id : ℕ) (v : View) → get_elem? views id ≡ some v → v.steers ≡ true → (x : ℕ) → v.made < x
+abbrev pub NoAccountAboveMade : List View → Type 0
+NoAccountAboveMade views = (id : ℕ) (v : View) → get_elem? views id ≡ some v → v.steers ≡ true → (x : ℕ) → v.made < x
     → total (has_caller x) views ≡ 0
 
 -- one seat at most steers
@@ -76,43 +77,43 @@ OneHelm views = (i j : ℕ) (u v : View) → get_elem? views i ≡ some u → ge
     → v.steers ≡ true → i ≡ j
 
 -- the rule of the desk: what the words count, where the book is, and what holds of all seats together
-pub record Kept (s : State Slot View) : Type 0 where
+pub record IsDesk (s : State Slot View) : Type 0 where
   pub net : Net
   pub journal : List Event
   pub next : ℕ
   pub serve : ℕ
   pub words : s.words ≡ front_of journal ∷ next % 2 ^ 64 ∷ serve % 2 ^ 64 ∷ length (calls_of journal) ∷ []
-  pub few : length (calls_of journal) ≤ 4096
+  pub few : length (calls_of journal) ≤ MOST_CALLS
   pub rising : RisesFrom 0 journal
   pub parts : total (λ v. v.parts) s.views ≡ 17
-  pub line : serve + total waiting s.views ≡ next
+  pub line : serve + total ticket_count s.views ≡ next
   pub each_once : (x : ℕ) → total (has_ticket x) s.views ≡ in_line x serve next
   pub fits : EachFits net serve journal s.views
-  pub home : Housed net journal s.homes s.views
+  pub home : BookIsHomeOrInTurn net journal s.homes s.views
   pub once : (x : ℕ) → total (has_caller x) s.views ≤ 1
   pub others : (x : ℕ) → total (has_caller x) s.views ≡ 0 → calls_by x journal ≡ []
-  pub unmade : Unmade s.views
+  pub unmade : NoAccountAboveMade s.views
   pub one_helm : OneHelm s.views
 
 -- a seat that changes in the course of a turn: what its ticket, turn and knowledge become
 abbrev pub turned_to : View → Bool → ℕ → Bool → List Event → View
 turned_to v waits ticket turn seen = record v { waits = waits; ticket = ticket; turn = turn; seen = seen }
 
--- what the steps tell: a seat that drew a ticket waits with it, and the number read is the ticket modulo 2 ^ 64
-abbrev pub Drew : Me Slot View → ℕ → Me Slot View → Type 0
-Drew m n m' = (t : ℕ) × (n ≡ t % 2 ^ 64) × (m' ≡ (turned_to m.0 true t false m.0.seen, m.1))
+-- what the steps do: a seat that drew a ticket waits with it, and the number read is the ticket modulo 2 ^ 64
+abbrev pub HasDrawnTicket : Me Slot View → ℕ → Me Slot View → Type 0
+HasDrawnTicket m n m' = (t : ℕ) × (n ≡ t % 2 ^ 64) × (m' ≡ (turned_to m.0 true t false m.0.seen, m.1))
 
 -- where it is so, a seat has the turn, the journal as it then stands and the book; else it is as it was
-abbrev pub ServedIf : Bool → Me Slot View → Me Slot View → Type 0
-ServedIf b m m' = MatchBool b
-    ((j : List Event) × Begins m.0.seen j × (length (calls_of j) ≤ 4096) × (m.0.steers ≡ true → OnlyCalls m.0.helm j)
-    × AreAccounts j m.0.accounts
+abbrev pub HasTurnIf : Bool → Me Slot View → Me Slot View → Type 0
+HasTurnIf b m m' = MatchBool b
+    ((j : List Event) × Begins m.0.seen j × (length (calls_of j) ≤ MOST_CALLS)
+    × (m.0.steers ≡ true → OnlyCalls m.0.helm j) × AreAccounts j m.0.accounts
     × (m' ≡ (turned_to m.0 true m.0.ticket true j, (0, book_of m.0.net j) ∷ m.1)) × (front_of m.0.seen ≤ front_of j))
     (m' ≡ m)
 
 -- a seat looked who is served, and it is so where the number read is that of its ticket
-abbrev pub Served : Me Slot View → ℕ → Me Slot View → Type 0
-Served m n m' = ServedIf (nat_eq n (m.0.ticket % 2 ^ 64)) m m'
+abbrev pub HasTurnIfServed : Me Slot View → ℕ → Me Slot View → Type 0
+HasTurnIfServed m n m' = HasTurnIf (nat_eq n (m.0.ticket % 2 ^ 64)) m m'
 
 -- the call joins the account of its caller, with its place and the front
 abbrev pub with_call : Account → List Event → Call → Account
@@ -126,8 +127,8 @@ abbrev pub after_call : View → Account → Call → View
 after_call v a c = record v { seen = v.seen ++ asked c ∷ []; accounts = with_call a v.seen c ∷ [] }
 
 -- the step that adds a call tells the call's place, and the seat has it in its journal and account
-abbrev pub Called : List Call → Me Slot View → ℕ → Me Slot View → Type 0
-Called said m n m' = (a : Account) (c : Call) → said ≡ c ∷ [] → m.0.accounts ≡ a ∷ []
+abbrev pub HasAddedCall : List Call → Me Slot View → ℕ → Me Slot View → Type 0
+HasAddedCall said m n m' = (a : Account) (c : Call) → said ≡ c ∷ [] → m.0.accounts ≡ a ∷ []
     → (n ≡ length (calls_of m.0.seen)) × (m' ≡ (after_call m.0 a c, m.1))
 
 -- the front joins the journal
@@ -135,12 +136,12 @@ abbrev pub after_front : View → ℕ → View
 after_front v f = record v { seen = v.seen ++ raised f ∷ []; helm = v.seen ++ raised f ∷ [] }
 
 -- a seat that raised the front has it in its journal
-abbrev pub Raised : Me Slot View → ℕ → Me Slot View → Type 0
-Raised m n m' = m' ≡ (after_front m.0 n, m.1)
+abbrev pub HasRaisedFront : Me Slot View → ℕ → Me Slot View → Type 0
+HasRaisedFront m n m' = m' ≡ (after_front m.0 n, m.1)
 
 -- a seat that left its turn is at rest, and carries nothing
-abbrev pub Left : Me Slot View → ℕ → Me Slot View → Type 0
-Left m n m' = m' ≡ (turned_to m.0 false 0 false m.0.seen, [])
+abbrev pub HasEndedTurn : Me Slot View → ℕ → Me Slot View → Type 0
+HasEndedTurn m n m' = m' ≡ (turned_to m.0 false 0 false m.0.seen, [])
 
 -- the account of a caller whose pass was just made
 abbrev pub new_account : ℕ → Account
@@ -201,8 +202,8 @@ abbrev pub after_look : View → Account → List Event → View
 after_look v a j = record v { seen = j; accounts = record a { fronts = a.fronts ++ front_of j ∷ [] } ∷ [] }
 
 -- the step that looks at the front tells the front of the journal then, which is no less than the one seen before
-abbrev pub Looked : Me Slot View → ℕ → Me Slot View → Type 0
-Looked m n m' = (a : Account) → m.0.accounts ≡ a ∷ [] → (j : List Event) × Begins m.0.seen j × (n ≡ front_of j)
+abbrev pub HasSeenFront : Me Slot View → ℕ → Me Slot View → Type 0
+HasSeenFront m n m' = (a : Account) → m.0.accounts ≡ a ∷ [] → (j : List Event) × Begins m.0.seen j × (n ≡ front_of j)
     × (m' ≡ (after_look m.0 a j, m.1)) × (front_of m.0.seen ≤ n)
 
 -- the turn ends, and the caller was answered Full
@@ -210,6 +211,6 @@ abbrev pub full_account : Account → Account
 full_account a = record a { full = true }
 
 -- a seat that left its turn so is at rest with this account, and carries nothing
-abbrev pub LeftFull : Me Slot View → ℕ → Me Slot View → Type 0
-LeftFull m n m' = (a : Account) → m.0.accounts ≡ a ∷ []
+abbrev pub HasEndedFullTurn : Me Slot View → ℕ → Me Slot View → Type 0
+HasEndedFullTurn m n m' = (a : Account) → m.0.accounts ≡ a ∷ []
     → m' ≡ (record (turned_to m.0 false 0 false m.0.seen) { accounts = full_account a ∷ [] }, [])

@@ -1,4 +1,4 @@
-//! The desk.
+//! The desk: one book of decisions that threads share.
 ghost use Rattle.std.specs.Prelude.{◌≡◌, ℕ, ◌+◌, ◌-◌, ◌<◌, ◌≤◌, ◌++◌, ◌∷◌, []};
 ghost use Rattle.std.specs.Prelude.{List, All, Some, length, map, IfOk, OnOk, OnErr};
 ghost use Rattle.decision_book.specs.Journal.{Event};
@@ -26,7 +26,7 @@ pub struct Desk {
 }
 
 impl Desk {
-    /// A desk with an empty book, a pass for each analyst, with room for all its receipts, and the helm.
+    /// A desk with an empty book, a pass for each analyst, with memory reserved for all its receipts, and the helm.
     pub fn begin(
         alloc: Global,
         model: Arc<Model>,
@@ -70,7 +70,7 @@ impl Desk {
         }
     }
 
-    // A pass for the next caller, with room for all its receipts.
+    // A pass for the next caller, with memory reserved for all its receipts.
     fn another(&self, alloc: Global, helm: &mut Helm) -> Result<Pass, NoMemory>
         requires desk { helm.old.desk ≡ self.now.table.shared.table_id }
         requires parts { 1 < helm.old.parts }

@@ -36,11 +36,11 @@ pub struct Helm {
 }
 
 impl std::marker::Model for Helm {
-    ghost use Rattle.decision_desk.specs.Passes.{Helmed, helmed, IsHelm};
+    ghost use Rattle.decision_desk.specs.Passes.{HelmView, view_of_helm, IsHelm};
 
-    ghost Value = { Helmed };
+    ghost Value = { HelmView };
 
-    ghost view = { λ h. helmed h.seat.table_id h.seat.me.0 };
+    ghost view = { λ h. view_of_helm h.seat.table_id h.seat.me.0 };
 
     ghost invariant = { λ h. IsHelm h.made h.known h.front h.seat.table_id h.seat.me };
 }

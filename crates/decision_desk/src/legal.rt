@@ -5,7 +5,7 @@ ghost use Rattle.decision_book.specs.Journal.{after, raised, asked, calls_of, fr
 ghost use Rattle.decision_book.specs.Replies.{reply};
 ghost use Rattle.decision_book.specs.Right.{IsRight};
 ghost use Rattle.decision_desk.specs.Legal.{GoesOn};
-ghost use Rattle.decision_desk.specs.Passes.{Asked};
+ghost use Rattle.decision_desk.specs.Passes.{HasAnswered};
 
 use decision_book::{Book, Call, Reply};
 use net_model::Model;
@@ -62,7 +62,7 @@ impl LegalBook {
 
     /// Asks a decision, and tells the call that this adds; none where the journal is full.
     pub fn ask(&mut self, caller: u32, d: &Decision) -> (Reply, Option<Call>)
-        ensures asked { Asked self.old caller d.now result.0 result.1 self.new }
+        ensures asked { HasAnswered self.old caller d.now result.0 result.1 self.new }
     {
         self.book.ask(caller, d)
     }

@@ -4,34 +4,22 @@ ghost use Rattle.std.specs.Prelude.{map, drop, length, IfOk, OnOk, MatchResult, 
 ghost use Rattle.sim_base.specs.Clones.{place_of};
 ghost use Rattle.sim_base.specs.Decisions.{subject};
 ghost use Rattle.net_model.specs.Rules.{IsNet};
-ghost use Rattle.run_laws.specs.Fronts.{earlier as earlier', window_end};
+ghost use Rattle.run_laws.specs.Fronts.{window_end};
 ghost use Rattle.run_laws.specs.FrontLaws.{time_before as time_before'};
 ghost use Rattle.stations.specs.Runs.{simulation};
 ghost use Rattle.decision_book.specs.Journal.{Event, asked, calls_of};
 ghost use Rattle.decision_book.specs.Scripts.{if_taken, accepted_of};
 ghost use Rattle.decision_book.specs.declared.call.Call.{Call};
 ghost use Rattle.decision_desk.specs.Passes.{IsGoneOn, IsAhead, IsSince};
-ghost use Rattle.decision_desk.specs.Leasts.{earliest as earliest', changed, changed_by, helm_at, calls_at};
+ghost use Rattle.decision_desk.specs.Leasts.{earliest as earliest', leasts_with, changed_by, helm_at, calls_at};
 
 use crate::helm::Turn;
 use crate::legal::LegalBook;
 use decision_book::{Call, Reply};
 use net_model::Model;
 use sim_base::{Decision, Lists, NoMemory};
+use stations::due::earlier;
 use std::alloc::Global;
-
-// The lesser of two times, where there is one.
-fn earlier(a: Option<u64>, b: Option<u64>) -> Option<u64>
-    ensures value { result ≡ earlier' a b }
-{
-    match a {
-        Some(first) => match b {
-            Some(second) => Some(first.min(second)),
-            None => Some(first),
-        },
-        None => b,
-    }
-}
 
 // A time, where it comes before another.
 fn time_before(at: u64, time: Option<u64>) -> Option<u64>
@@ -76,7 +64,7 @@ fn accepted_from(alloc: Global, calls: &[Call], known: usize) -> Result<Vec<Call
 
 // The least times after an accepted decision on the clone at this place.
 fn change(times: &mut Vec<Option<u64>>, place: Option<u32>, d: &Decision) -> Result<(), NoMemory>
-    ensures ok { OnOk result (times.new.items ≡ changed place times.old.items d.now) }
+    ensures ok { OnOk result (times.new.items ≡ leasts_with place times.old.items d.now) }
 {
     let Some(place) = place else {
         return Ok(());

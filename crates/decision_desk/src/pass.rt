@@ -1,6 +1,7 @@
 //! Passes: what an analyst asks the desk with.
 ghost use Rattle.std.specs.Prelude.{◌≡◌, ◌++◌, ◌∷◌, [], ℕ, List, ◌<◌, ◌≤◌, length, Some, None, false};
 ghost use Rattle.atomic_table.specs.Table.{rest};
+ghost use Rattle.decision_book.specs.declared.call.TheConstants.{MOST_CALLS};
 ghost use Rattle.decision_book.specs.Journal.{Event, asked, calls_of};
 ghost use Rattle.decision_desk.specs.Accounts.{Account, front_of, Begins};
 ghost use Rattle.decision_desk.specs.Turns.{book_of, pass_view, with_call, full_account};
@@ -29,11 +30,11 @@ pub struct Pass {
 }
 
 impl Model for Pass {
-    ghost use Rattle.decision_desk.specs.Passes.{Passed, passed, IsPass};
+    ghost use Rattle.decision_desk.specs.Passes.{PassView, view_of_pass, IsPass};
 
-    ghost Value = { Passed };
+    ghost Value = { PassView };
 
-    ghost view = { λ p. passed p.seat.table_id p.seat.me.0 };
+    ghost view = { λ p. view_of_pass p.seat.table_id p.seat.me.0 };
 
     ghost invariant = { λ p. IsPass p.caller p.receipts p.seat.table_id p.seat.me };
 }
@@ -79,7 +80,7 @@ pub(crate) fn come_to_turn<R: Wait>(rt: &R, board: &Board, seat: &mut Chair)
     wait_turn(rt, board, seat, ticket);
 }
 
-/// Tells of a call, and ends the turn.
+/// Counts a call, puts the book back and ends the turn; gives the call's place in the journal.
 pub(crate) fn tell_and_leave(board: &Board, seat: &mut Chair, book: LegalBook, call: &Call) -> u64
     requires table { (seat.old.table_id ≡ board.now.table_id) × (board.now.table_id.words ≡ 4)
         × (board.now.table_id.slots ≡ 1) }
@@ -88,7 +89,7 @@ pub(crate) fn tell_and_leave(board: &Board, seat: &mut Chair, book: LegalBook, c
           (first_account seat.old.me.0.accounts) seat.old.me.0.ticket,
       (0, None) ∷ [],
     ) }
-    requires room { length (calls_of seat.old.me.0.seen) < 4096 }
+    requires free { length (calls_of seat.old.me.0.seen) < MOST_CALLS }
     requires caller { call.now.caller ≡ (first_account seat.old.me.0.accounts).caller }
     requires book { book ≡ record { net = seat.old.me.0.net; events = seat.old.me.0.seen ++ asked call.now ∷ [] } }
     ensures table { seat.new.table_id ≡ seat.old.table_id }
@@ -114,7 +115,7 @@ pub(crate) fn leave_full(board: &Board, seat: &mut Chair, book: LegalBook)
           (first_account seat.old.me.0.accounts) seat.old.me.0.ticket,
       (0, None) ∷ [],
     ) }
-    requires full { length (calls_of seat.old.me.0.seen) ≡ 4096 }
+    requires full { length (calls_of seat.old.me.0.seen) ≡ MOST_CALLS }
     requires book { book ≡ record { net = seat.old.me.0.net; events = seat.old.me.0.seen } }
     ensures table { seat.new.table_id ≡ seat.old.table_id }
     ensures rest { seat.new.me ≡ (
@@ -149,8 +150,8 @@ pub(crate) fn take_turn<R: Wait>(
 {
     come_to_turn(rt, board, seat);
     let mut book = take_book(board, seat);
-    let (reply, kept) = book.ask(caller, d);
-    match kept {
+    let (reply, told) = book.ask(caller, d);
+    match told {
         Some(call) => {
             let entry = tell_and_leave(board, seat, book, &call);
             Receipt {

@@ -1,8 +1,9 @@
-//! The steps of a turn.
+//! The steps of a turn: a ticket lock over the words and the slot of a table.
 ghost use Rattle.std.specs.Prelude.{◌≡◌, ℕ, ◌+◌, ◌-◌, ◌%◌, ◌^◌, ◌<◌, ◌≤◌, []};
 ghost use Rattle.std.specs.Prelude.{◌∷◌, ◌++◌, List, length, Some, None, true, false, MatchBool};
 ghost use Rattle.decision_book.specs.Journal.{Event, calls_of};
 ghost use Rattle.decision_book.specs.declared.call.Call.{Call};
+ghost use Rattle.decision_book.specs.declared.call.TheConstants.{MOST_CALLS};
 ghost use Rattle.decision_desk.specs.Accounts.{Account, AreAccounts, Begins, OnlyCalls, front_of};
 ghost use Rattle.decision_desk.specs.Turns.{book_of, turned_to, after_call, after_front, after_look, full_account};
 
@@ -15,63 +16,70 @@ use std::marker::{Brand, PhantomData};
 use std::sync::Wait;
 use std::thread;
 
+/// The rule that each step of a seat keeps, `IsDesk` in `specs/Turns.antt`.
 pub struct Law;
 
 impl TableRule<Option<LegalBook>, View, Model> for Law {
     ghost use Rattle.std.specs.Prelude.{[]};
-    ghost use Rattle.decision_desk.specs.Turns.{helm_view, Kept};
+    ghost use Rattle.decision_desk.specs.Turns.{helm_view, IsDesk};
 
-    ghost holds = { λ _ s. Kept s };
+    ghost holds = { λ _ s. IsDesk s };
 
     ghost first = { λ net. helm_view net 17 [] [] 0 [] };
 }
 
+/// The step that draws a ticket.
 pub struct Draw;
 
 impl Play<Option<LegalBook>, View> for Draw {
-    ghost use Rattle.decision_desk.specs.Turns.{Drew};
+    ghost use Rattle.decision_desk.specs.Turns.{HasDrawnTicket};
 
-    ghost then = { λ _ m n w. Drew m n w };
+    ghost then = { λ _ m n w. HasDrawnTicket m n w };
 }
 
+/// The step that looks which ticket is served: where it is the seat's, it has the turn and the book.
 pub struct Serve;
 
 impl Play<Option<LegalBook>, View> for Serve {
-    ghost use Rattle.decision_desk.specs.Turns.{Served};
+    ghost use Rattle.decision_desk.specs.Turns.{HasTurnIfServed};
 
-    ghost then = { λ _ m n w. Served m n w };
+    ghost then = { λ _ m n w. HasTurnIfServed m n w };
 }
 
+/// The step that ends a turn and serves the next ticket. The book is back by then.
 pub struct Leave;
 
 impl Play<Option<LegalBook>, View> for Leave {
-    ghost use Rattle.decision_desk.specs.Turns.{Left};
+    ghost use Rattle.decision_desk.specs.Turns.{HasEndedTurn};
 
-    ghost then = { λ _ m n w. Left m n w };
+    ghost then = { λ _ m n w. HasEndedTurn m n w };
 }
 
+/// The same for a caller that was answered Full.
 pub struct LeaveFull;
 
 impl Play<Option<LegalBook>, View> for LeaveFull {
-    ghost use Rattle.decision_desk.specs.Turns.{LeftFull};
+    ghost use Rattle.decision_desk.specs.Turns.{HasEndedFullTurn};
 
-    ghost then = { λ _ m n w. LeftFull m n w };
+    ghost then = { λ _ m n w. HasEndedFullTurn m n w };
 }
 
+/// The step that loads the front.
 pub struct Look;
 
 impl Play<Option<LegalBook>, View> for Look {
-    ghost use Rattle.decision_desk.specs.Turns.{Looked};
+    ghost use Rattle.decision_desk.specs.Turns.{HasSeenFront};
 
-    ghost then = { λ _ m n w. Looked m n w };
+    ghost then = { λ _ m n w. HasSeenFront m n w };
 }
 
+/// The step that stores a later front.
 pub struct RaiseFront;
 
 impl Play<Option<LegalBook>, View> for RaiseFront {
-    ghost use Rattle.decision_desk.specs.Turns.{Raised};
+    ghost use Rattle.decision_desk.specs.Turns.{HasRaisedFront};
 
-    ghost then = { λ _ m n w. Raised m n w };
+    ghost then = { λ _ m n w. HasRaisedFront m n w };
 }
 
 /// The call that a step tells of. Each use picks it.
@@ -88,14 +96,15 @@ impl Said for Brand {
     ghost said = { [] };
 }
 
+/// The step that counts a call, and adds it to the journal.
 pub struct RaiseCount<E: Said> {
     of: PhantomData<E>,
 }
 
 impl<E: Said> Play<Option<LegalBook>, View> for RaiseCount<E> {
-    ghost use Rattle.decision_desk.specs.Turns.{Called};
+    ghost use Rattle.decision_desk.specs.Turns.{HasAddedCall};
 
-    ghost then = { λ _ m n w. Called E.said m n w };
+    ghost then = { λ _ m n w. HasAddedCall E.said m n w };
 }
 
 /// A pass that is cut off the helm's seat, and one that is taken in.
@@ -119,11 +128,13 @@ impl Join<View> for Share {
     ghost spent = { spent_view };
 }
 
+/// A seat at the desk, of a pass or of the helm.
 pub type Chair = Seat<Option<LegalBook>, View>;
 
+/// What all seats share: the words front, ticket, serving and count, and the slot of the book.
 pub type Board = Shared<Option<LegalBook>, View, Model, Law>;
 
-/// Draws a ticket.
+/// Draws a ticket, and gives its number modulo 2^64.
 pub fn draw_ticket(board: &Board, seat: &mut Chair) -> u64
     requires table { (seat.old.table_id ≡ board.now.table_id) × (board.now.table_id.words ≡ 4)
         × (board.now.table_id.slots ≡ 1) }
@@ -143,8 +154,13 @@ pub fn is_served(board: &Board, seat: &mut Chair, ticket: u64) -> bool
     requires ticket { ticket ≡ seat.old.me.0.ticket % 2 ^ 64 }
     ensures table { seat.new.table_id ≡ seat.old.table_id }
     ensures turn { MatchBool result
-        ((j : List Event) × Begins seat.old.me.0.seen j × (length (calls_of j) ≤ 4096) × (seat.old.me.0.steers ≡ true → OnlyCalls seat.old.me.0.helm j) × AreAccounts j seat.old.me.0.accounts
-        × (seat.new.me ≡ (turned_to seat.old.me.0 true seat.old.me.0.ticket true j, (0, book_of seat.old.me.0.net j) ∷ seat.old.me.1)) × (front_of seat.old.me.0.seen ≤ front_of j))
+        ((j : List Event) × Begins seat.old.me.0.seen j × (length (calls_of j) ≤ MOST_CALLS)
+        × (seat.old.me.0.steers ≡ true → OnlyCalls seat.old.me.0.helm j) × AreAccounts j seat.old.me.0.accounts
+        × (seat.new.me ≡ (
+          turned_to seat.old.me.0 true seat.old.me.0.ticket true j,
+          (0, book_of seat.old.me.0.net j) ∷ seat.old.me.1,
+        ))
+        × (front_of seat.old.me.0.seen ≤ front_of j))
         (seat.new.me ≡ seat.old.me) }
 {
     board.load::<Serve>(seat, 2) == ticket
@@ -157,9 +173,13 @@ pub fn wait_turn<R: Wait>(rt: &R, board: &Board, seat: &mut Chair, ticket: u64)
     requires waits { (seat.old.me.0.waits ≡ true) × (seat.old.me.0.turn ≡ false) × (0 < seat.old.me.0.parts) }
     requires ticket { ticket ≡ seat.old.me.0.ticket % 2 ^ 64 }
     ensures table { seat.new.table_id ≡ seat.old.table_id }
-    ensures turn { (j : List Event) × Begins seat.old.me.0.seen j × (length (calls_of j) ≤ 4096)
+    ensures turn { (j : List Event) × Begins seat.old.me.0.seen j × (length (calls_of j) ≤ MOST_CALLS)
         × (seat.old.me.0.steers ≡ true → OnlyCalls seat.old.me.0.helm j) × AreAccounts j seat.old.me.0.accounts
-        × (seat.new.me ≡ (turned_to seat.old.me.0 true seat.old.me.0.ticket true j, (0, book_of seat.old.me.0.net j) ∷ seat.old.me.1)) × (front_of seat.old.me.0.seen ≤ front_of j) }
+        × (seat.new.me ≡ (
+          turned_to seat.old.me.0 true seat.old.me.0.ticket true j,
+          (0, book_of seat.old.me.0.net j) ∷ seat.old.me.1,
+        ))
+        × (front_of seat.old.me.0.seen ≤ front_of j) }
 {
     for _ in rt.forever() {
         if is_served(board, seat, ticket) {
@@ -169,12 +189,12 @@ pub fn wait_turn<R: Wait>(rt: &R, board: &Board, seat: &mut Chair, ticket: u64)
     }
 }
 
-/// Tells of a call.
+/// Counts a call, and gives its place in the journal.
 pub fn raise_count<E: Said>(board: &Board, seat: &mut Chair, call: &Call) -> u64
     requires table { (seat.old.table_id ≡ board.now.table_id) × (board.now.table_id.words ≡ 4)
         × (board.now.table_id.slots ≡ 1) }
     requires said { E.said ≡ call.now ∷ [] }
-    requires turn { (seat.old.me.0.turn ≡ true) × (length (calls_of seat.old.me.0.seen) < 4096) }
+    requires turn { (seat.old.me.0.turn ≡ true) × (length (calls_of seat.old.me.0.seen) < MOST_CALLS) }
     requires account { (a : Account) × (seat.old.me.0.accounts ≡ a ∷ []) × (call.now.caller ≡ a.caller) }
     ensures table { seat.new.table_id ≡ seat.old.table_id }
     ensures count { result ≡ length (calls_of seat.old.me.0.seen) }
@@ -214,7 +234,7 @@ pub fn end_full_turn(board: &Board, seat: &mut Chair)
         × (board.now.table_id.slots ≡ 1) }
     requires turn { (seat.old.me.0.turn ≡ true) × (0 < seat.old.me.0.parts) }
     requires home { seat.old.me.1 ≡ (0, book_of seat.old.me.0.net seat.old.me.0.seen) ∷ [] }
-    requires full { length (calls_of seat.old.me.0.seen) ≡ 4096 }
+    requires full { length (calls_of seat.old.me.0.seen) ≡ MOST_CALLS }
     requires account { (a : Account) × (seat.old.me.0.accounts ≡ a ∷ []) }
     ensures table { seat.new.table_id ≡ seat.old.table_id }
     ensures rest { (a : Account) → seat.old.me.0.accounts ≡ a ∷ []

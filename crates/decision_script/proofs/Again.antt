@@ -12,8 +12,8 @@ use Rattle.decision_script.specs.declared.item.Item.{Item}
 use Rattle.sim_base.specs.Chain.{◌>>=◌}
 use Rattle.decision_script.specs.Sentences.{saying}
 use Rattle.decision_script.specs.Stating.{IsNamed, IsAct, IsItem, analyst_name}
-use Rattle.decision_script.specs.Reading.{Reading, after_line, after_lines, after_saying}
-use Rattle.decision_script.specs.Reading.{at_line, place_of, in_section, opening}
+use Rattle.decision_script.specs.Reading.{ReaderView, after_line, after_lines, after_saying}
+use Rattle.decision_script.specs.Reading.{at_line, place_of, in_section, new_reader}
 use Rattle.decision_script.specs.Printing.{words_of_act, words_of_section, item_lines, canonical_text}
 use Rattle.decision_script.specs.Laws.{without_line}
 use Rattle.decision_script.proofs.Words.{IsWord, line_saying-join, lines-text}
@@ -25,13 +25,15 @@ abbrev pub AreNew : List (List ℕ) → List (List ℕ) → Type 0
 AreNew before [] = Unit {0}
 AreNew before (name ∷ more) = IsNamed name × (place_of name before ≡ None) × AreNew (before ++ name ∷ []) more
 
--- one line that is written of words
-after_words : (line : ℕ) (r : Reading) (ws : List (List ℕ)) → AllByRecursion IsWord ws
+-- ---- after_line
+-- a line that is written of words
+after_words : (line : ℕ) (r : ReaderView) (ws : List (List ℕ)) → AllByRecursion IsWord ws
     → after_line line r (join_with_byte 32 ws) ≡ (at_line line (saying ws) >>= after_saying line r)
 unfolding after_line
 after_words line r ws h = ap (λ x. at_line line x >>= after_saying line r) (line_saying-join ws h)
 
-after_act : (line : ℕ) (r : Reading) (act : Act) → IsAct act → length r.items < 4096
+-- the line of an act
+pub after_act : (line : ℕ) (r : ReaderView) (act : Act) → IsAct act → length r.items < 4096
     → after_line line r (join_with_byte 32 (words_of_act act))
     ≡ Ok (record r { items = r.items ++ (record { line = line; analyst = r.current; act = act }) ∷ [] })
 after_act line r act h few =
@@ -39,13 +41,14 @@ after_act line r act h few =
     after_words line r (words_of_act act) (act_words act h) ∙ ap (λ x. at_line line x >>= after_saying line r)
     (saying-act act h) ∙ rw lt refl
 
-after_section : (line : ℕ) (r : Reading) (name : List ℕ) → IsNamed name
+-- the line of a section
+pub after_section : (line : ℕ) (r : ReaderView) (name : List ℕ) → IsNamed name
     → after_line line r (join_with_byte 32 (words_of_section name)) ≡ in_section line r name (place_of name r.analysts)
 after_section line r name h = after_words line r (words_of_section name) (section_words name h)
     ∙ ap (λ x. at_line line x >>= after_saying line r) (saying-section name h)
 
 -- a new name
-after_new : (line : ℕ) (r : Reading) (name : List ℕ) → IsNamed name → place_of name r.analysts ≡ None
+after_new : (line : ℕ) (r : ReaderView) (name : List ℕ) → IsNamed name → place_of name r.analysts ≡ None
     → length r.analysts < 16
     → after_line line r (join_with_byte 32 (words_of_section name))
     ≡ Ok (record { analysts = r.analysts ++ name ∷ []; current = length r.analysts + 1; items = r.items })
@@ -54,15 +57,15 @@ after_new line r name h new few =
     after_section line r name h ∙ ap (in_section line r name) new ∙ rw lt refl
 
 -- a known one
-after_known : (line : ℕ) (r : Reading) (name : List ℕ) (i : ℕ) → IsNamed name → place_of name r.analysts ≡ Some i
+after_known : (line : ℕ) (r : ReaderView) (name : List ℕ) (i : ℕ) → IsNamed name → place_of name r.analysts ≡ Some i
     → after_line line r (join_with_byte 32 (words_of_section name)) ≡ Ok (record r { current = i + 1 })
 after_known line r name i h known = after_section line r name h ∙ ap (in_section line r name) known
 
 -- a line that is read, and the lines after it
-then : (line : ℕ) (r next : Reading) (l : List ℕ) (ls : List (List ℕ)) → after_line line r l ≡ Ok next
+pub after_lines-Ok : (line : ℕ) (r next : ReaderView) (l : List ℕ) (ls : List (List ℕ)) → after_line line r l ≡ Ok next
     → after_lines line r (l ∷ ls) ≡ after_lines (line + 1) next ls
 unfolding after_lines
-then line r next l ls one = ap (λ x. x >>= λ next. after_lines (line + 1) next ls) one
+after_lines-Ok line r next l ls one = ap (λ x. x >>= λ next. after_lines (line + 1) next ls) one
 
 -- the sections at the top
 headers_read : (line c : ℕ) (before more : List (List ℕ)) (items : List Item) (rest : List (List ℕ))
@@ -80,11 +83,11 @@ headers_read line c before (name ∷ more) items rest e h few =
     ∙ ap (λ n. Ok (record { analysts = before ++ name ∷ []; current = n + 1; items = items })) (sym e) in
     let (end, again) = headers_read (line + 1) (c + 1) (before ++ name ∷ []) more items rest longer h.2
     (omega (arith, length-append before (name ∷ []))) in
-    (end, then line _ _ _ _ new ∙ rw append_assoc at again)
+    (end, after_lines-Ok line _ _ _ _ new ∙ rw append_assoc at again)
 
--- what came of it
-pub record Read (before : Reading) (given : Result Reading ScriptFault) (more : List Item) : Type 0 where
-  pub after : Reading
+-- the result of reading these items
+pub record Read (before : ReaderView) (given : Result ReaderView ScriptFault) (more : List Item) : Type 0 where
+  pub after : ReaderView
   pub read : given ≡ Ok after
   pub analysts : after.analysts ≡ before.analysts
   pub items : map without_line after.items ≡ map without_line before.items ++ map without_line more
@@ -94,7 +97,7 @@ pub record AreKnown (analysts : List (List ℕ)) : Type 0 where
   pub known : (a : ℕ) → 1 ≤ a → a ≤ length analysts → place_of (analyst_name analysts a) analysts ≡ Some (a - 1)
   pub named : (a : ℕ) → 1 ≤ a → a ≤ length analysts → IsNamed (analyst_name analysts a)
 
-act_read : (line : ℕ) (r : Reading) (item : Item) (more : List Item) (rest : List (List ℕ)) → IsAct item.act
+act_read : (line : ℕ) (r : ReaderView) (item : Item) (more : List Item) (rest : List (List ℕ)) → IsAct item.act
     → length r.items < 4096 → r.current ≡ item.analyst
     → Read (record r { items = r.items ++ (record { line = line; analyst = r.current; act = item.act }) ∷ [] })
     (after_lines (line + 1) (record r {
@@ -104,7 +107,7 @@ act_read : (line : ℕ) (r : Reading) (item : Item) (more : List Item) (rest : L
     → Read r (after_lines line r (join_with_byte 32 (words_of_act item.act) ∷ rest)) (item ∷ more)
 act_read line r item more rest h few same read = record {
   after = read.after;
-  read = then line _ _ _ _ (after_act line r item.act h few) ∙ read.read;
+  read = after_lines-Ok line _ _ _ _ (after_act line r item.act h few) ∙ read.read;
   analysts = read.analysts;
   items = read.items ∙ ap (λ front. front ++ map without_line more)
       (map-append without_line r.items (record { line = line; analyst = r.current; act = item.act } ∷ []))
@@ -113,7 +116,7 @@ act_read line r item more rest h few same read = record {
 }
 
 -- the lines of one item, where the analyst in force is its own or not
-item_read : (line force : ℕ) (r : Reading) (item : Item) (more : List Item) (rest : List (List (List ℕ)))
+item_read : (line force : ℕ) (r : ReaderView) (item : Item) (more : List Item) (rest : List (List (List ℕ)))
     → AreKnown r.analysts → r.current ≡ force → IsItem (length r.analysts) item → length r.items < 4096
     → ((n c : ℕ) → c ≡ item.analyst
     → Read (record r { current = c })
@@ -131,13 +134,13 @@ item_read line force r item more rest known e h few go false other =
     let read = go (line + 1) (item.analyst - 1 + 1) back in
     record {
       after = read.after;
-      read = then line _ _ _ _ section ∙ read.read;
+      read = after_lines-Ok line _ _ _ _ section ∙ read.read;
       analysts = read.analysts;
       items = read.items;
     }
 
 -- the lines that are written of items are read as these items, but for the numbers of the lines
-pub items_read : (line force : ℕ) (r : Reading) (items : List Item) → AreKnown r.analysts → r.current ≡ force
+pub items_read : (line force : ℕ) (r : ReaderView) (items : List Item) → AreKnown r.analysts → r.current ≡ force
     → AllByRecursion (IsItem (length r.analysts)) items → length r.items + length items ≤ 4096
     → Read r (after_lines line r (map (join_with_byte 32) (item_lines r.analysts force items) ++ ([] ∷ []))) items
 unfolding after_lines after_line
@@ -183,7 +186,7 @@ item_words analysts force (item ∷ items) known h =
 pub text_read : (more : List (List ℕ)) (items : List Item) → AreNew (codes "main" ∷ []) more
     → AreKnown (codes "main" ∷ more) → length more ≤ 15 → length items ≤ 4096
     → AllByRecursion (IsItem (length (codes "main" ∷ more))) items
-    → (t : Reading) × (after_lines 1 opening
+    → (t : ReaderView) × (after_lines 1 new_reader
     (lines (canonical_text (record { analysts = codes "main" ∷ more; items = items }))) ≡ Ok t)
     × (t.analysts ≡ codes "main" ∷ more) × (map without_line t.items ≡ map without_line items)
 unfolding canonical_text

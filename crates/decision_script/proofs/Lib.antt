@@ -1,5 +1,4 @@
 pub mod OwnDecisions
-pub mod Digits
 pub mod OneLine
 pub mod Readings
 pub mod OwnScript

@@ -6,14 +6,14 @@ use Rattle.std.proofs.lemmas.List.{at_drop_more, get_or-map, length-map, drop_al
 use Rattle.decision_script.specs.declared.fault.ScriptFault.{ScriptFault}
 use Rattle.decision_script.specs.Lines.{lines, is_newline}
 use Rattle.sim_base.specs.Chain.{◌>>=◌}
-use Rattle.decision_script.specs.Reading.{Reading, after_line, after_lines}
+use Rattle.decision_script.specs.Reading.{ReaderView, after_line, after_lines}
 
 -- the part at n of the text is this one
 pub record IsPart (text : List ℕ) (n : ℕ) (part : List ℕ) : Type 0 where
   pub within : n < length (slice_split is_newline text)
   pub at : part ≡ get_or (slice_split is_newline text) n part
 
-turn : (text : List ℕ) (n : ℕ) (part : List ℕ) → IsPart text n part → (r : Reading)
+turn : (text : List ℕ) (n : ℕ) (part : List ℕ) → IsPart text n part → (r : ReaderView)
     → after_lines (n + 1) r (drop n (lines text)) ≡ (after_line (n + 1) r (strip_carriage_return part) >>= λ next.
     after_lines (n + 1 + 1) next (drop (n + 1) (lines text)))
 unfolding after_lines
@@ -27,7 +27,7 @@ turn text n part h r =
 
 -- where a line is read, what all lines from it on give is what those after it give from there
 pub line_read : (text : List ℕ) (n : ℕ) (part : List ℕ) → IsPart text n part
-    → (r next : Reading) (all : Result Reading ScriptFault)
+    → (r next : ReaderView) (all : Result ReaderView ScriptFault)
     → after_lines (n + 1) r (drop n (lines text)) ≡ all → after_line (n + 1) r (strip_carriage_return part) ≡ Ok next
     → after_lines (n + 1 + 1) next (drop (n + 1) (lines text)) ≡ all
 line_read text n part h r next all same read =
@@ -36,14 +36,14 @@ line_read text n part h r next all same read =
 
 -- where a line is refused, all lines from it on give this refusal
 pub line_refused : (text : List ℕ) (n : ℕ) (part : List ℕ) → IsPart text n part
-    → (r : Reading) (e : ScriptFault) (all : Result Reading ScriptFault)
+    → (r : ReaderView) (e : ScriptFault) (all : Result ReaderView ScriptFault)
     → after_lines (n + 1) r (drop n (lines text)) ≡ all → after_line (n + 1) r (strip_carriage_return part) ≡ Err e
     → all ≡ Err e
 line_refused text n part h r e all same refused = sym same ∙ turn text n part h r
     ∙ ap (λ x. x >>= λ next. after_lines (n + 1 + 1) next (drop (n + 1) (lines text))) refused
 
 -- where no line is left, the rest gives the reading as it is
-pub lines_read : (text : List ℕ) (n : ℕ) (r : Reading) (all : Result Reading ScriptFault)
+pub lines_read : (text : List ℕ) (n : ℕ) (r : ReaderView) (all : Result ReaderView ScriptFault)
     → n ≡ length (slice_split is_newline text) → after_lines (n + 1) r (drop n (lines text)) ≡ all → all ≡ Ok r
 unfolding after_lines
 lines_read text n r all end same =

@@ -33,8 +33,8 @@ use Rattle.decision_script.specs.Sentences.{change_of, section, look, fork, end,
 use Rattle.decision_script.specs.Sentences.{after_analyst, after_look, after_fork, after_end, after_set, sentence}
 use Rattle.decision_script.specs.Sentences.{begins_comment, saying, line_saying}
 use Rattle.decision_script.specs.Stating.{IsNamed, IsChange, IsAct, IsItem, IsScript}
-use Rattle.decision_script.specs.Reading.{Reading, at_line, place_of, in_section, after_saying}
-use Rattle.decision_script.specs.Reading.{after_line, after_lines, opening, script_of}
+use Rattle.decision_script.specs.Reading.{ReaderView, at_line, place_of, in_section, after_saying}
+use Rattle.decision_script.specs.Reading.{after_line, after_lines, new_reader, script_of}
 
 -- names that a line says are names, and its numbers fit 32 bits
 abbrev IsSaid : Said → Type 0
@@ -47,10 +47,10 @@ formed : {A : Type 0} (P : A → Type 0) (b : Bool) (r : Result A LineFault) →
 formed P true r h = h refl
 formed P false r h = tt
 
-either : {A F : Type 0} (P : A → Type 0) (b : Bool) (r s : Result A F) → (b ≡ true → IfOk r P) → IfOk s P
+cond-IfOk : {A F : Type 0} (P : A → Type 0) (b : Bool) (r s : Result A F) → (b ≡ true → IfOk r P) → IfOk s P
     → IfOk (cond b r s) P
-either P true r s h k = h refl
-either P false r s h k = k
+cond-IfOk P true r s h k = h refl
+cond-IfOk P false r s h k = k
 
 -- a number fits 32 bits
 abbrev Fits32 : ℕ → Type 0
@@ -177,25 +177,25 @@ after_set_holds (a ∷ b ∷ c ∷ d ∷ e ∷ ws) = set_holds a b c d e ws
 
 sentence_holds : (verb : List ℕ) (rest : List (List ℕ)) → IfOk (sentence verb rest) IsSaid
 sentence_holds verb rest =
-    either IsSaid (bytes_eq verb (codes "analyst")) (after_analyst rest) _ (λ h. after_analyst_holds rest)
-    (either IsSaid (bytes_eq verb (codes "fork")) (after_fork rest) _ (λ h. after_fork_holds rest)
-    (either IsSaid (bytes_eq verb (codes "set")) (after_set rest) _ (λ h. after_set_holds rest)
-    (either IsSaid (bytes_eq verb (codes "end")) (after_end rest) _ (λ h. after_end_holds rest)
-    (either IsSaid (bytes_eq verb (codes "look")) (after_look rest) (Err BadLine) (λ h. after_look_holds rest) tt))))
+    cond-IfOk IsSaid (bytes_eq verb (codes "analyst")) (after_analyst rest) _ (λ h. after_analyst_holds rest)
+    (cond-IfOk IsSaid (bytes_eq verb (codes "fork")) (after_fork rest) _ (λ h. after_fork_holds rest)
+    (cond-IfOk IsSaid (bytes_eq verb (codes "set")) (after_set rest) _ (λ h. after_set_holds rest)
+    (cond-IfOk IsSaid (bytes_eq verb (codes "end")) (after_end rest) _ (λ h. after_end_holds rest)
+    (cond-IfOk IsSaid (bytes_eq verb (codes "look")) (after_look rest) (Err BadLine) (λ h. after_look_holds rest) tt))))
 
 saying_holds : (ws : List (List ℕ)) → IfOk (saying ws) IsSaid
 saying_holds [] = tt
-saying_holds (w ∷ ws) = either IsSaid (begins_comment w) (Ok Nothing) (sentence w ws) (λ h. tt) (sentence_holds w ws)
+saying_holds (w ∷ ws) = cond-IfOk IsSaid (begins_comment w) (Ok Nothing) (sentence w ws) (λ h. tt) (sentence_holds w ws)
 
 line_holds : (line : List ℕ) → IfOk (line_saying line) IsSaid
-line_holds line = either IsSaid (is_ascii line) (saying (words line)) _ (λ h. saying_holds (words line)) tt
+line_holds line = cond-IfOk IsSaid (is_ascii line) (saying (words line)) _ (λ h. saying_holds (words line)) tt
 
 at_line_holds : (n : ℕ) (r : Result Said LineFault) → IfOk r IsSaid → IfOk (at_line n r) IsSaid
 at_line_holds n (Ok s) h = h
 at_line_holds n (Err e) h = tt
 
 -- what has been read is a script, and its analyst in force is there
-record IsReading (r : Reading) : Type 0 where
+record IsReading (r : ReaderView) : Type 0 where
   pub script : IsScript (script_of r)
   pub low : 1 ≤ r.current
   pub high : r.current ≤ length r.analysts
@@ -208,7 +208,7 @@ first_stays (z ∷ zs) y x h = h
 more_analysts : (n : ℕ) (i : Item) → IsItem n i → IsItem (n + 1) i
 more_analysts n i h = record { low = h.low; high = omega (arith, h.high); act = h.act }
 
-new_analyst : (r : Reading) (name : List ℕ) → IsReading r → IsNamed name → place_of name r.analysts ≡ None
+new_analyst : (r : ReaderView) (name : List ℕ) → IsReading r → IsNamed name → place_of name r.analysts ≡ None
     → length r.analysts < 16
     → IsReading (record { analysts = r.analysts ++ name ∷ []; current = length r.analysts + 1; items = r.items })
 new_analyst r name h n none few =
@@ -228,22 +228,23 @@ new_analyst r name h n none few =
       high = omega (arith, long);
     }
 
-known_analyst : (r : Reading) (i : ℕ) → IsReading r → i < length r.analysts → IsReading (record r { current = i + 1 })
+known_analyst : (r : ReaderView) (i : ℕ) → IsReading r → i < length r.analysts
+    → IsReading (record r { current = i + 1 })
 known_analyst r i h there = record {
   script = h.script;
   low = omega arith;
   high = omega arith;
 }
 
-section_keeps : (line : ℕ) (r : Reading) (name : List ℕ) (o : Option ℕ) → IsReading r → IsNamed name
+section_keeps : (line : ℕ) (r : ReaderView) (name : List ℕ) (o : Option ℕ) → IsReading r → IsNamed name
     → place_of name r.analysts ≡ o → IfOk (in_section line r name o) IsReading
 section_keeps line r name (Some i) h n is =
     known_analyst r i h (position-Some (λ x. bytes_eq x name) r.analysts i [] is).0
 section_keeps line r name None h n is =
-    either IsReading (nat_lt (length r.analysts) 16) (Ok _) (Err (TooManyAnalysts line))
+    cond-IfOk IsReading (nat_lt (length r.analysts) 16) (Ok _) (Err (TooManyAnalysts line))
     (λ few. new_analyst r name h n is (grind (arith, nat_tests))) tt
 
-new_item : (line : ℕ) (r : Reading) (act : Act) → IsReading r → IsAct act → length r.items < 4096
+new_item : (line : ℕ) (r : ReaderView) (act : Act) → IsReading r → IsAct act → length r.items < 4096
     → IsReading (record r { items = r.items ++ (record { line = line; analyst = r.current; act = act }) ∷ [] })
 new_item line r act h is few =
     let item : Item = record { line = line; analyst = r.current; act = act } in
@@ -262,26 +263,27 @@ new_item line r act h is few =
       high = h.high;
     }
 
-saying_keeps : (line : ℕ) (r : Reading) (s : Said) → IsReading r → IsSaid s → IfOk (after_saying line r s) IsReading
+saying_keeps : (line : ℕ) (r : ReaderView) (s : Said) → IsReading r → IsSaid s → IfOk (after_saying line r s) IsReading
 saying_keeps line r Nothing h is = h
 saying_keeps line r (Section name) h is = section_keeps line r name (place_of name r.analysts) h is refl
-saying_keeps line r (Says act) h is = either IsReading (nat_lt (length r.items) 4096) (Ok _) (Err (TooManyLines line))
+saying_keeps line r (Says act) h is =
+    cond-IfOk IsReading (nat_lt (length r.items) 4096) (Ok _) (Err (TooManyLines line))
     (λ few. new_item line r act h is (grind (arith, nat_tests))) tt
 
-line_keeps : (line : ℕ) (r : Reading) (text : List ℕ) → IsReading r → IfOk (after_line line r text) IsReading
+line_keeps : (line : ℕ) (r : ReaderView) (text : List ℕ) → IsReading r → IfOk (after_line line r text) IsReading
 unfolding after_line
 line_keeps line r text h = bind-IfOk IsSaid IsReading (at_line line (line_saying text)) (after_saying line r)
     (at_line_holds line (line_saying text) (line_holds text)) (λ s is. saying_keeps line r s h is)
 
-lines_keep : (line : ℕ) (r : Reading) (ls : List (List ℕ)) → IsReading r → IfOk (after_lines line r ls) IsReading
+lines_keep : (line : ℕ) (r : ReaderView) (ls : List (List ℕ)) → IsReading r → IfOk (after_lines line r ls) IsReading
 unfolding after_lines
 lines_keep line r [] h = h
 lines_keep line r (l ∷ ls) h =
     bind-IfOk IsReading IsReading (after_line line r l) (λ next. after_lines (line + 1) next ls)
     (line_keeps line r l h) (λ next k. lines_keep (line + 1) next ls k)
 
-opening_is_reading : IsReading opening
-opening_is_reading = record {
+new_reader_is_reading : IsReading new_reader
+new_reader_is_reading = record {
   script = record {
     first = refl;
     named = All-cons IsNamed (codes "main") [] refl (All-nil IsNamed);
@@ -295,6 +297,7 @@ opening_is_reading = record {
 }
 
 -- what a text states is a script
-pub read_is_script : (text : List ℕ) (r : Reading) → after_lines 1 opening (lines text) ≡ Ok r → IsScript (script_of r)
+pub read_is_script : (text : List ℕ) (r : ReaderView) → after_lines 1 new_reader (lines text) ≡ Ok r
+    → IsScript (script_of r)
 read_is_script text r h = let read : IsReading r =
-    subst (λ x. IfOk x IsReading) h (lines_keep 1 opening (lines text) opening_is_reading) in read.script
+    subst (λ x. IfOk x IsReading) h (lines_keep 1 new_reader (lines text) new_reader_is_reading) in read.script

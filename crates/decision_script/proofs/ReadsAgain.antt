@@ -9,7 +9,7 @@ use Rattle.decision_script.specs.declared.item.Item.{Item}
 use Rattle.decision_script.specs.Lines.{lines}
 use Rattle.decision_script.specs.Laws.{ReadAgain, CanonicalTextReadsAgain}
 use Rattle.decision_script.specs.Printing.{canonical_text, item_lines, line_text, words_of_section}
-use Rattle.decision_script.specs.Reading.{Reading, after_lines, opening, script, script_of}
+use Rattle.decision_script.specs.Reading.{ReaderView, after_lines, new_reader, script, script_of}
 use Rattle.sim_base.specs.Chain.{◌>>=◌}
 use Rattle.decision_script.specs.Stating.{IsItem, IsNamed, IsScript, ScriptView}
 use Rattle.decision_script.proofs.Again.{text_read}
@@ -17,11 +17,12 @@ use Rattle.decision_script.proofs.Lengths.{items_length, sections_length}
 use Rattle.decision_script.proofs.Names.{are_known, are_new}
 use Rattle.decision_script.proofs.TextParts.{text_in_parts}
 
-read_of_text : (text : List ℕ) (t : Reading) → length text ≤ 1048576 → after_lines 1 opening (lines text) ≡ Ok t
-    → script text ≡ Ok (script_of t)
+-- a text that is not too long states what its lines give
+pub read_of_text : (text : List ℕ) (t : ReaderView) → length text ≤ 1048576
+    → after_lines 1 new_reader (lines text) ≡ Ok t → script text ≡ Ok (script_of t)
 read_of_text text t short read =
     let fits : nat_lt 1048576 (length text) ≡ false = grind (arith, nat_tests) in
-    ap (λ b. cond b (Err TooLong) (after_lines 1 opening (lines text) >>= λ r. Ok (script_of r))) fits
+    ap (λ b. cond b (Err TooLong) (after_lines 1 new_reader (lines text) >>= λ r. Ok (script_of r))) fits
     ∙ ap (λ x. x >>= λ r. Ok (script_of r)) read
 
 -- with main first

@@ -1,4 +1,4 @@
--- What is told of a fault.
+-- The number of a fault, and its line.
 use Rattle.std.specs.Prelude.{ℕ}
 use Rattle.decision_script.specs.declared.fault.ScriptFault.{ScriptFault}
 use Rattle.decision_script.specs.declared.fault.ScriptFault.TheVariants.{TooLong, NotAscii, BadLine, BadNumber}

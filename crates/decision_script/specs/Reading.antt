@@ -18,7 +18,7 @@ use Rattle.decision_script.specs.Sentences.{line_saying}
 use Rattle.decision_script.specs.Stating.{ScriptView}
 
 -- how far the reading has come: analysts and items up to here, and the number of the analyst in force
-pub record Reading : Type 0 where
+pub record ReaderView : Type 0 where
   pub analysts : List (List ℕ)
   pub current : ℕ
   pub items : List Item
@@ -40,42 +40,42 @@ abbrev pub place_of : List ℕ → List (List ℕ) → Option ℕ
 place_of name analysts = position (λ other. bytes_eq other name) analysts
 
 -- a section of a known analyst goes on with that one; a new name makes the next analyst, where there are not too many
-abbrev pub in_section : ℕ → Reading → List ℕ → Option ℕ → Result Reading ScriptFault
+abbrev pub in_section : ℕ → ReaderView → List ℕ → Option ℕ → Result ReaderView ScriptFault
 in_section line r name (Some i) = Ok (record r { current = i + 1 })
 in_section line r name None = if nat_lt (length r.analysts) MOST_ANALYSTS
     then Ok (record { analysts = r.analysts ++ name ∷ []; current = length r.analysts + 1; items = r.items })
     else Err (TooManyAnalysts line)
 
 -- a decision or look is an item of the analyst in force, where there are not too many
-abbrev pub with_act : ℕ → Reading → Act → Result Reading ScriptFault
+abbrev pub with_act : ℕ → ReaderView → Act → Result ReaderView ScriptFault
 with_act line r act = if nat_lt (length r.items) MOST_ITEMS
     then Ok (record r { items = r.items ++ (record { line = line; analyst = r.current; act = act }) ∷ [] })
     else Err (TooManyLines line)
 
 -- after the line of this number, by what it says
-abbrev pub after_saying : ℕ → Reading → Said → Result Reading ScriptFault
+abbrev pub after_saying : ℕ → ReaderView → Said → Result ReaderView ScriptFault
 after_saying line r Nothing = Ok r
 after_saying line r (Section name) = in_section line r name (place_of name r.analysts)
 after_saying line r (Says act) = with_act line r act
 
 -- after the line of this number
-unfoldable pub after_line : ℕ → Reading → List ℕ → Result Reading ScriptFault
+unfoldable pub after_line : ℕ → ReaderView → List ℕ → Result ReaderView ScriptFault
 after_line line r text = at_line line (line_saying text) >>= after_saying line r
 
 -- after these lines, the first of which has this number
-unfoldable pub after_lines : ℕ → Reading → List (List ℕ) → Result Reading ScriptFault
+unfoldable pub after_lines : ℕ → ReaderView → List (List ℕ) → Result ReaderView ScriptFault
 after_lines line r [] = Ok r
 after_lines line r (l ∷ ls) = after_line line r l >>= λ next. after_lines (line + 1) next ls
 
 -- before the first line the analyst main is in force
-abbrev pub opening : Reading
-opening = record { analysts = codes "main" ∷ []; current = 1; items = [] }
+abbrev pub new_reader : ReaderView
+new_reader = record { analysts = codes "main" ∷ []; current = 1; items = [] }
 
 -- the analysts and items that were read, as a script
-abbrev pub script_of : Reading → ScriptView
+abbrev pub script_of : ReaderView → ScriptView
 script_of r = record { analysts = r.analysts; items = r.items }
 
 -- what a text states, or the first rule that it breaks
 abbrev pub script : List ℕ → Result ScriptView ScriptFault
-script text = if nat_lt MOST_BYTES (length text) then Err TooLong else (after_lines 1 opening (lines text) >>= λ r.
+script text = if nat_lt MOST_BYTES (length text) then Err TooLong else (after_lines 1 new_reader (lines text) >>= λ r.
     Ok (script_of r))

@@ -1,5 +1,6 @@
 -- What a line says, by its words.
-use Rattle.std.specs.Prelude.{◌&&◌, ◌==◌, ℕ, Bool, true, false, codes, if◌then◌else◌, List, [], ◌∷◌, length, Result, Ok, Err, Option, Some, None}
+use Rattle.std.specs.Prelude.{◌&&◌, ◌==◌, ℕ, Bool, true, false, codes, if◌then◌else◌, List, [], ◌∷◌, length}
+use Rattle.std.specs.Prelude.{Result, Ok, Err, Option, Some, None}
 use Rattle.std.specs.Option.{ok_or}
 use Rattle.std.specs.Str.{bytes_eq}
 use Rattle.sim_base.specs.Chain.{◌>>=◌}
@@ -62,7 +63,8 @@ look who station = where_form (is_name who && is_name station) (Ok (Says (Look w
 
 -- fork NEW from OLD
 unfoldable pub fork : List ℕ → List ℕ → List ℕ → Result Said LineFault
-fork new link old = where_form ((bytes_eq link (codes "from") && is_name new) && is_name old) (Ok (Says (Decide (Fork new old))))
+fork new link old =
+    where_form ((bytes_eq link (codes "from") && is_name new) && is_name old) (Ok (Says (Decide (Fork new old))))
 
 -- end CLONE at TIME
 unfoldable pub end : List ℕ → List ℕ → List ℕ → Result Said LineFault

@@ -2,7 +2,7 @@
 ghost use Rattle.std.specs.Prelude.{◌≡◌, ◌≢◌, ◌≤◌, length, codes, Ok, Err, IfOk, IfErr};
 ghost use Rattle.std.specs.Str.Lines.{strip_carriage_return};
 ghost use Rattle.decision_script.specs.Lines.{is_newline, lines};
-ghost use Rattle.decision_script.specs.Reading.{after_lines, fault_at, script, opening};
+ghost use Rattle.decision_script.specs.Reading.{after_lines, fault_at, script, new_reader};
 
 use crate::fault::{LineFault, ScriptFault};
 use crate::item::{Act, Item, push_item};
@@ -23,10 +23,10 @@ struct Reader {
 
 impl Model for Reader {
     ghost use Rattle.std.specs.Prelude.{◌≤◌, length};
-    ghost use Rattle.decision_script.specs.Reading.{Reading};
+    ghost use Rattle.decision_script.specs.Reading.{ReaderView};
     ghost use Rattle.decision_script.specs.declared.script.TheConstants.{MOST_ANALYSTS};
 
-    ghost Value = { Reading };
+    ghost Value = { ReaderView };
 
     ghost view = { λ r. record { analysts = r.analysts.items; current = r.current; items = r.items.items } };
 
@@ -37,10 +37,10 @@ impl Reader {
     ghost use Rattle.std.specs.Prelude.{◌≡◌, ◌≢◌, Ok, Err, OnOk, IfOk, IfErr};
     ghost use Rattle.decision_script.specs.Stating.{IsScript};
     ghost use Rattle.decision_script.specs.Reading.{place_of, in_section, with_act, after_saying};
-    ghost use Rattle.decision_script.specs.Reading.{after_line, opening, script_of};
+    ghost use Rattle.decision_script.specs.Reading.{after_line, new_reader, script_of};
 
     fn new(alloc: Global) -> Result<Reader, ScriptFault>
-        ensures ok { IfOk result (λ r. r ≡ opening) }
+        ensures ok { IfOk result (λ r. r ≡ new_reader) }
         ensures refused { IfErr result (λ e. e ≡ ScriptFault.NoMemory) }
     {
         let mut analysts = Vec::new(alloc);
@@ -159,8 +159,8 @@ fn ends_line(byte: u8) -> bool
 
 fn read_lines(alloc: Global, text: &[u8]) -> Result<Reader, ScriptFault>
     requires short { length text.now ≤ MOST_BYTES }
-    ensures ok { IfOk result (λ r. after_lines 1 opening (lines text.now) ≡ Ok r) }
-    ensures refused { IfErr result (λ e. e ≢ ScriptFault.NoMemory → after_lines 1 opening (lines text.now) ≡ Err e) }
+    ensures ok { IfOk result (λ r. after_lines 1 new_reader (lines text.now) ≡ Ok r) }
+    ensures refused { IfErr result (λ e. e ≢ ScriptFault.NoMemory → after_lines 1 new_reader (lines text.now) ≡ Err e) }
 {
     let mut reader = Reader::new(alloc)?;
     let mut line: u32 = 0;

@@ -3,7 +3,7 @@ use Rattle.std.proofs.Common.{◌≡◌, ℕ, zero, suc, ◌+◌, [], ◌∷◌,
 use Rattle.std.proofs.lemmas.List.Elements.{All-nil, All-push}
 use Rattle.atomic_table.specs.Seated.{TableId}
 use Rattle.net_model.specs.Net.{Net}
-use Rattle.decision_desk.specs.Passes.{Passed, new_pass, new_passes}
+use Rattle.decision_desk.specs.Passes.{PassView, new_pass, new_passes}
 
 -- there are as many as were asked for
 pub new_count : (desk : TableId) (net : Net) (n : ℕ) → length (new_passes desk net n) ≡ n
@@ -15,7 +15,7 @@ new_count desk net (suc n) = omega (
 )
 
 -- and each is of this desk
-pub new_desks : (desk : TableId) (net : Net) (n : ℕ) → All (λ (p : Passed). p.desk ≡ desk) (new_passes desk net n)
-new_desks desk net zero = All-nil (λ (p : Passed). p.desk ≡ desk)
-new_desks desk net (suc n) = All-push (λ (p : Passed). p.desk ≡ desk) (new_passes desk net n)
+pub new_desks : (desk : TableId) (net : Net) (n : ℕ) → All (λ (p : PassView). p.desk ≡ desk) (new_passes desk net n)
+new_desks desk net zero = All-nil (λ (p : PassView). p.desk ≡ desk)
+new_desks desk net (suc n) = All-push (λ (p : PassView). p.desk ≡ desk) (new_passes desk net n)
     (new_pass desk net (n + 1)) (new_desks desk net n) refl

@@ -4,7 +4,7 @@ ghost use Rattle.phys_proc.specs.Procs.{IsProc};
 
 use clone_sets::CloneSet;
 use net_model::{Model, read_model};
-use phys_proc::{CloneEnds, Flow, Proc};
+use phys_proc::{CloneEnds, Gain, Proc};
 use sample_models::ONE_DESK;
 use sim_base::{Change, Job, Key, Msg, Param, Payload, Steps};
 use std::alloc::Global;
@@ -117,7 +117,42 @@ fn opened(
     given(proc, model, msgs)
 }
 
-/// What comes of a station with these messages at the horizon, for two clones.
+/// A station that was stepped, and what that gave.
+#[derive(Drop)]
+struct Flow {
+    done: Proc,
+    sent: Vec<(Msg, CloneSet)>,
+    over: CloneSet,
+    handled: u64,
+}
+
+/// Steps a station to the bound.
+fn step_to<L: Ledger>(
+    alloc: Global,
+    proc: Proc,
+    model: &Model,
+    ends: &CloneEnds,
+    bound: u64,
+    steps: &mut Steps<L>,
+) -> Option<Flow>
+    requires proc { IsProc model.now proc }
+    requires early { bound ≤ model.now.horizon }
+    ensures proc { IfSome result (λ f. IsProc model.now f.done) }
+{
+    let mut done = proc;
+    let mut sent = Vec::new(alloc);
+    match done.advance(alloc, model, ends, bound, &mut sent, steps) {
+        Ok(Gain { over, handled }) => Some(Flow {
+            done,
+            sent,
+            over,
+            handled,
+        }),
+        Err(_) => None,
+    }
+}
+
+/// The flow of a station with these messages at the horizon, for two clones.
 fn stepped<L: Ledger>(
     alloc: Global,
     text: &str,
@@ -128,7 +163,7 @@ fn stepped<L: Ledger>(
 ) -> Option<Flow> {
     let model = read_model(alloc, text.as_bytes()).ok()?;
     let proc = opened(alloc, &model, station, 2, msgs)?;
-    proc.step(alloc, &model, ends, model.horizon(), steps).ok()
+    step_to(alloc, proc, &model, ends, model.horizon(), steps)
 }
 
 /// How long the log of the clone is, and how many clones share it.
@@ -243,7 +278,7 @@ fn all_clones_handle_once<L: Ledger>(alloc: Global, steps: &mut Steps<L>) -> boo
         return false;
     };
     let ends = CloneEnds::none(alloc);
-    let Ok(flow) = proc.step(alloc, &model, &ends, model.horizon(), steps) else {
+    let Some(flow) = step_to(alloc, proc, &model, &ends, model.horizon(), steps) else {
         return false;
     };
     flow.handled == 4
@@ -278,13 +313,13 @@ fn splits_when_it_is_handled<L: Ledger>(alloc: Global, steps: &mut Steps<L>) -> 
         return false;
     };
     let ends = CloneEnds::none(alloc);
-    let Ok(flow) = proc.step(alloc, &model, &ends, 8, steps) else {
+    let Some(flow) = step_to(alloc, proc, &model, &ends, 8, steps) else {
         return false;
     };
     if flow.handled != 1 || shared(&flow.done, 1) != (1, 3) {
         return false;
     }
-    let Ok(flow) = flow.done.step(alloc, &model, &ends, 20, steps) else {
+    let Some(flow) = step_to(alloc, flow.done, &model, &ends, 20, steps) else {
         return false;
     };
     flow.handled == 7
@@ -331,7 +366,7 @@ fn window_stepped<L: Ledger>(
         return None;
     }
     let ends = CloneEnds::none(alloc);
-    let Ok(flow) = proc.step(alloc, model, &ends, start + 10, steps) else {
+    let Some(flow) = step_to(alloc, proc, model, &ends, start + 10, steps) else {
         return None;
     };
     if flow.handled != 3 || !has_few_segments(&flow.done) {

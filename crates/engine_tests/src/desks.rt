@@ -64,7 +64,7 @@ fn begun(alloc: Global, analysts: u32) -> Result<(Desk, Vec<Pass>, Helm, Option<
     Ok((desk, passes, helm, least))
 }
 
-/// What came of calls: how many were accepted, whether their entries rise, and the sum of these.
+/// The results of calls: how many were accepted, whether their entries rise, and the sum of these.
 #[derive(Clone, Copy, Debug, PartialEq, Eq)]
 struct Outcome {
     accepted: u32,

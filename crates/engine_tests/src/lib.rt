@@ -1,7 +1,7 @@
 //! The tests of the engine and of what runs beside it. The library is empty.
 //!
-//! A crate's tests are proved together with the crate, so a crate with tests is proved twice. Those of these crates stand
-//! here, where they are proved once, and so are their crates. Each module tests one crate by what is public of it:
+//! A crate's tests are proved together with the crate, so a crate with tests is proved twice. Those of these crates
+//! stand here, where they are proved once, and so are their crates. Each module tests one crate by its public items:
 //!
 //! ```text
 //! crews     crew_pool         desks           decision_desk

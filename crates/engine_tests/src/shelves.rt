@@ -18,7 +18,7 @@ use std::thread::Threads;
 use world_core::World;
 
 /// A source, a server and a sink, one after the other, in ten thousand windows.
-const ONE_DESK: &str = r#"lookahead = 1
+const MANY_WINDOWS: &str = r#"lookahead = 1
 horizon = 10010
 limit = 65536
 [[station]]
@@ -53,7 +53,7 @@ fn opening(alloc: Global) -> Result<(World, Vec<Rack>), NoMemory>
     ensures seen { IfOk result (λ p. AreSeenUpTo p.0.net p.0.front p.1.items) }
     ensures there { IfOk result (λ p. HasRack 2 p.1.items) }
 {
-    let Ok(model) = read_model(alloc, ONE_DESK.as_bytes()) else {
+    let Ok(model) = read_model(alloc, MANY_WINDOWS.as_bytes()) else {
         return Err(NoMemory);
     };
     let model = Arc::new(alloc, model)?;

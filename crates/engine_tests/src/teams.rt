@@ -67,7 +67,8 @@ fn answers_stand<R: Abort>(rt: &R, outs: &[Vec<u64>], tasks: u32) -> Result<(), 
     Ok(())
 }
 
-/// Calls of no task, of one, of five and of the most, one after the other, and then one in which a task is refused memory.
+/// Calls of no task, of one, of five and of the most, one after the other, and then one in which a task is refused
+/// memory.
 fn all_sizes<G: Gate, R: Threads + Wait + Abort + Sync>(
     rt: &R,
     alloc: Global,
@@ -87,7 +88,7 @@ fn all_sizes<G: Gate, R: Threads + Wait + Abort + Sync>(
     Ok(())
 }
 
-/// All these calls, and then the bell rings, whatever came of them.
+/// All these calls, and then the bell rings, whatever their results.
 fn lead<G: Gate, R: Threads + Wait + Abort + Sync>(
     rt: &R,
     alloc: Global,

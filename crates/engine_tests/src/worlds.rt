@@ -1,4 +1,5 @@
-//! The two clones of the worked example, window by window, and what comes of other cuttings, crews, forks, looks and ends.
+//! The two clones of the worked example, window by window, and the results of other cuttings, crews, forks, looks and
+//! ends.
 ghost use Rattle.std.specs.Prelude.{◌≡◌, ◌<◌, ◌≤◌, ◌∷◌, [], IfOk, IfSome};
 ghost use Rattle.sim_base.specs.Clones.{base};
 ghost use Rattle.decision_book.specs.Journal.{after};
@@ -21,7 +22,8 @@ use std::thread;
 use std::thread::Threads;
 use world_core::{Window, World, WorldFault};
 
-/// The fronts, and after each the copies, the messages handled once and those alone, of the gate, the desk and the exit.
+/// The fronts, and after each the copies, the messages handled once and those alone, of the gate, the desk and the
+/// exit.
 const WINDOWS: [(u64, [u64; 3], [u64; 3], [u64; 3]); 7] = [
     (5, [1, 1, 2], [1, 0, 0], [1, 0, 0]),
     (7, [1, 2, 4], [1, 1, 2], [1, 0, 0]),
@@ -409,8 +411,8 @@ fn three_busy_windows<G: Gate, R: Threads + Wait + Sync>(
     three_windows::<G, Brand, R>(rt, alloc, gate, team, Blank::new(1))
 }
 
-/// Which workers ran a task. The caller's task is held until the other worker has begun one, but for the first two tasks,
-/// those of the first window, which is always small.
+/// Which workers ran a task. The caller's task is held until the other worker has begun one, but for the first two
+/// tasks, those of the first window, which is always small.
 #[derive(Drop)]
 struct Helped {
     calls: AtomicU64,
@@ -444,7 +446,7 @@ fn come_alike(one: &World, other: &World) -> bool {
         && one.figures(2) == other.figures(2)
 }
 
-/// The same with a team, and then the bell rings, whatever came of it.
+/// The same with a team, and then the bell rings, whatever the result.
 fn three_windows_of<G: Gate, R: Threads + Wait + Sync>(
     rt: &R,
     alloc: Global,
@@ -550,7 +552,7 @@ fn all_is_shared<R: Threads + Wait + Sync>(rt: &R, alloc: Global) -> Option<bool
 }
 
 /// Whether a clone that ends at 13 handles nothing from then on.
-fn end_is_kept<R: Threads + Wait + Sync>(rt: &R, alloc: Global) -> Option<bool> {
+fn ended_clone_rests<R: Threads + Wait + Sync>(rt: &R, alloc: Global) -> Option<bool> {
     let decisions = [fork("fast")?, faster(8)?, end(13)?];
     let world = opened(alloc, ONE_DESK, &decisions)?;
     let world = run_all(rt, alloc, world, 20)?;
@@ -746,7 +748,7 @@ fn busy_windows_run_by_a_team(rt: HostRuntime) -> Result<(), Fail> {
 #[test]
 fn other_cuttings_and_ends(rt: HostRuntime) -> Result<(), Fail> {
     let short = short_windows_are(&rt, rt.alloc());
-    let ended = end_is_kept(&rt, rt.alloc());
+    let ended = ended_clone_rests(&rt, rt.alloc());
     assert!(rt; short && ended == Some(true));
     Ok(())
 }

@@ -5,6 +5,7 @@ use decision_book::{Call, Reply};
 use decision_script::{Script, read_script};
 use journal_text::{Looked, journal_text};
 use phys_proc::{Found, Glance};
+use sample_models::QUIET_JOURNAL;
 use sim_base::{Change, Decision, Name, Param};
 use std::alloc::Global;
 use std::process::Abort;
@@ -25,17 +26,6 @@ analyst main
 # front 20
 analyst main
 # refused 2: fork x from base
-looks 0
-";
-
-const NO_CALLS: &str = "journal 0 7
-# front 5
-# front 7
-# front 10
-# front 13
-# front 15
-# front 17
-# front 20
 looks 0
 ";
 
@@ -136,7 +126,7 @@ fn calls_stand_among_the_fronts(rt: HostRuntime) {
 #[test]
 fn fronts_stand_alone(rt: HostRuntime) {
     let fronts = [5, 7, 10, 13, 15, 17, 20];
-    assert!(rt; writes(rt.alloc(), b"", &[], &fronts, &[], NO_CALLS));
+    assert!(rt; writes(rt.alloc(), b"", &[], &fronts, &[], QUIET_JOURNAL));
 }
 
 fn looked<R: Abort>(

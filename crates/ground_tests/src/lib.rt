@@ -1,7 +1,7 @@
 //! The tests of the crates that the engine stands on, and of the texts. The library is empty.
 //!
-//! A crate's tests are proved together with the crate, so a crate with tests is proved twice. Those of these crates stand
-//! here, where they are proved once, and so are their crates. Each module tests one crate by what is public of it:
+//! A crate's tests are proved together with the crate, so a crate with tests is proved twice. Those of these crates
+//! stand here, where they are proved once, and so are their crates. Each module tests one crate by its public items:
 //!
 //! ```text
 //! messages, pending, lists    sim_base          scripts    decision_script    routes      msg_route
@@ -10,6 +10,8 @@
 //! models                      net_model         alone      solo_run           journals    journal_text
 //! handling                    stations          sinks      sim_outer
 //! ```
+//!
+//! `counts` is none of them: the tables of three modules are written with it.
 //!
 //! They show what no clause says: that calls find memory, and that clauses mean what they should, by values from
 //! outside. A table has a row for each case, and its test goes over the rows: the text or the decision first, and then
@@ -21,6 +23,8 @@
 mod alone;
 #[cfg(test)]
 mod books;
+#[cfg(test)]
+mod counts;
 #[cfg(test)]
 mod cursors;
 #[cfg(test)]

@@ -101,7 +101,7 @@ fn places(alloc: Global, script: &Script) -> Result<Vec<(u32, u32)>, AllocError>
     Ok(places)
 }
 
-// What comes of a text's script, for one clone or for all: its canonical text and its places.
+// The two results of a text's script, for one clone or for all: its canonical text and its places.
 fn own_text(alloc: Global, own: &Own) -> Result<Option<(Vec<u8>, Vec<(u32, u32)>)>, NoMemory> {
     let Ok(script) = read_script(alloc, own.text.as_bytes()) else {
         return Ok(None);

@@ -1,9 +1,10 @@
 //! The texts of traces and reports, as people expect them.
 ghost use Rattle.std.specs.Prelude.{◌≡◌, ◌<◌, ◌^◌, sum_by};
 
+use crate::counts::change;
 use net_model::read_model;
 use sample_models::ONE_DESK;
-use sim_base::{Change, Entry, Figures, Job, Key, Line, Msg, Name, Param, Payload};
+use sim_base::{Entry, Figures, Job, Key, Line, Msg, Name, Param, Payload};
 use std::alloc::Global;
 use std::test::Fail;
 use trace_report::{Names, line_len, report_text, trace_text, write_line};
@@ -55,10 +56,6 @@ fn job(source: u32, count: u64) -> Job {
     }
 }
 
-fn set(param: Param, a: u64, b: u64) -> Payload {
-    Payload::Set(Change { param, a, b })
-}
-
 /// Whether the trace text of these entries is the expected one.
 fn writes(alloc: Global, model: &str, entries: &[Entry], expected: &str) -> bool {
     let Ok(model) = read_model(alloc, model.as_bytes()) else {
@@ -107,12 +104,12 @@ fn each_payload_and_each_count_has_its_words(rt: HostRuntime) {
             Payload::Done(job(1, 10)),
             Line::Sink { got: 2, stay: 17 },
         ),
-        entry(0, set(Param::Every, 2, 30), passed),
-        entry(0, set(Param::Service, 4, 5), passed),
-        entry(0, set(Param::Hold, 0, 9), passed),
-        entry(0, set(Param::Weight, 2, 1000), passed),
-        entry(0, set(Param::Servers, 16, 0), passed),
-        entry(0, set(Param::Room, 5, 0), passed),
+        entry(0, change(Param::Every, 2, 30), passed),
+        entry(0, change(Param::Service, 4, 5), passed),
+        entry(0, change(Param::Hold, 0, 9), passed),
+        entry(0, change(Param::Weight, 2, 1000), passed),
+        entry(0, change(Param::Servers, 16, 0), passed),
+        entry(0, change(Param::Room, 5, 0), passed),
     ];
     let expected = "clone fast
 5 desk gate 7 tick sent=2
@@ -177,7 +174,7 @@ fn the_longest_lines_are_whole(rt: HostRuntime) {
             msg: Msg {
                 key,
                 to: 1,
-                payload: set(Param::Service, most, most),
+                payload: change(Param::Service, most, most),
             },
             line: server,
         },
@@ -205,12 +202,12 @@ fn each_kind_of_line_holds_the_greatest_numbers(rt: HostRuntime) {
         ),
         entry(
             0,
-            set(Param::Weight, most, most),
+            change(Param::Weight, most, most),
             Line::Passed { passed: most },
         ),
         entry(
             0,
-            set(Param::Servers, most, 0),
+            change(Param::Servers, most, 0),
             Line::Passed {
                 passed: 9_999_999_999,
             },

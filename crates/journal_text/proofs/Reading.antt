@@ -1,20 +1,19 @@
 -- The lines of a journal that are no comments are read as the accepted decisions.
-use Rattle.std.proofs.Common.{◌≡◌, ⊎_elim, ℕ, ◌+◌, ◌<◌, ◌≤◌, true, nat_lt, List, [], ◌∷◌, ◌++◌, length}
+use Rattle.std.proofs.Common.{◌≡◌, ⊎_elim, ℕ, ◌+◌, ◌<◌, ◌≤◌, List, [], ◌∷◌, ◌++◌, length}
 use Rattle.std.proofs.Common.{map, Result, Ok, refl, sym, ap, ap₂, ◌∙◌, subst, arith, append_assoc, append-nil}
 use Rattle.std.specs.List.{AllByRecursion, join_with_byte}
-use Rattle.std.proofs.lemmas.Bool.Decides.{nat_tests}
 use Rattle.std.proofs.lemmas.List.{length_push}
-use Rattle.sim_base.specs.Chain.{◌>>=◌}
 use Rattle.sim_base.specs.declared.decision.Decision.{Decision}
 use Rattle.decision_script.specs.declared.fault.ScriptFault.{ScriptFault}
 use Rattle.decision_script.specs.declared.item.Act.{Act}
 use Rattle.decision_script.specs.declared.item.Act.TheVariants.{Decide}
 use Rattle.decision_script.specs.declared.item.Item.{Item}
-use Rattle.decision_script.specs.Stating.{IsAct, IsDecision, IsNamed, analyst_name}
-use Rattle.decision_script.specs.Reading.{Reading, after_line, after_lines, after_saying, at_line}
-use Rattle.decision_script.specs.Printing.{words_of_act, words_of_decision, words_of_section}
+use Rattle.decision_script.specs.Stating.{IsDecision, IsNamed, analyst_name}
+use Rattle.decision_script.specs.Reading.{ReaderView, after_line, after_lines}
+use Rattle.decision_script.specs.Printing.{words_of_decision, words_of_section}
 use Rattle.decision_script.specs.Alone.{decisions, decisions_onto}
-use Rattle.decision_script.proofs.Saying.{act_words, saying-act, section_words}
+use Rattle.decision_script.proofs.Again.{after_act, after_lines-Ok}
+use Rattle.decision_script.proofs.Saying.{act_words, section_words}
 use Rattle.decision_script.proofs.Words.{IsWord}
 use Rattle.decision_book.specs.declared.call.Call.{Call}
 use Rattle.decision_book.specs.declared.call.Reply.TheVariants.{Accepted}
@@ -22,21 +21,13 @@ use Rattle.decision_book.specs.Journal.{Event, raised, asked, calls_of}
 use Rattle.decision_book.specs.Scripts.{accepted_of, if_taken}
 use Rattle.journal_text.specs.Laws.{who_does, who_decided}
 use Rattle.journal_text.proofs.Lines.{IsRefused, kind_of, if_decided, said_lines, not_decided}
-use Rattle.journal_text.proofs.Sections.{IsInForce, after_words, missing, name_kept, section_read, then}
+use Rattle.journal_text.proofs.Sections.{IsInForce, missing, name_kept, section_read}
 
--- ---- after_line
-after_act : (line : ℕ) (r : Reading) (act : Act) → IsAct act → length r.items < 4096
-    → after_line line r (join_with_byte 32 (words_of_act act))
-    ≡ Ok (record r { items = r.items ++ (record { line = line; analyst = r.current; act = act }) ∷ [] })
-after_act line r act h few =
-    let lt : nat_lt (length r.items) 4096 ≡ true = grind (arith, nat_tests) in
-    after_words line r (words_of_act act) (act_words act h) ∙ ap (λ x. at_line line x >>= after_saying line r)
-    (saying-act act h) ∙ rw lt refl
-
--- what comes of reading: analysts and items behind those of before, the items being these calls
-pub record ReadOn (analysts : List (List ℕ)) (r : Reading) (given : Result Reading ScriptFault) (calls : List Call) :
-    Type 0 where
-  pub after : Reading
+-- ---- after_lines
+-- the result of reading: analysts and items behind those of before, the items being these calls
+pub record ReadOn (analysts : List (List ℕ)) (r : ReaderView) (given : Result ReaderView ScriptFault)
+    (calls : List Call) : Type 0 where
+  pub after : ReaderView
   pub names : List (List ℕ)
   pub new : List Item
   pub read : given ≡ Ok after
@@ -45,7 +36,7 @@ pub record ReadOn (analysts : List (List ℕ)) (r : Reading) (given : Result Rea
   pub said : map (who_does after.analysts) new ≡ map (who_decided analysts) calls
 
 -- behind a section
-over_section : (analysts : List (List ℕ)) (line : ℕ) (r : Reading) (name l : List ℕ) (rest : List (List ℕ))
+over_section : (analysts : List (List ℕ)) (line : ℕ) (r : ReaderView) (name l : List ℕ) (rest : List (List ℕ))
     (calls : List Call) → (s : IsInForce analysts r name (after_line line r l))
     → ReadOn analysts s.next (after_lines (line + 1) s.next rest) calls
     → ReadOn analysts r (after_lines line r (l ∷ rest)) calls
@@ -53,18 +44,18 @@ over_section analysts line r name l rest calls s m = record {
   after = m.after;
   names = s.names ++ m.names;
   new = m.new;
-  read = then line r s.next l rest s.read ∙ m.read;
+  read = after_lines-Ok line r s.next l rest s.read ∙ m.read;
   analysts_are = m.analysts_are ∙ ap (λ a. a ++ m.names) s.analysts_are ∙ append_assoc r.analysts s.names m.names;
   items_are = m.items_are ∙ ap (λ i. i ++ m.new) s.items;
   said = m.said;
 }
 
 -- with the item of a line
-abbrev with_item : ℕ → Reading → Act → Reading
+abbrev with_item : ℕ → ReaderView → Act → ReaderView
 with_item line r act = record r { items = r.items ++ (record { line = line; analyst = r.current; act = act }) ∷ [] }
 
 -- behind a decision
-over_decision : (analysts : List (List ℕ)) (line : ℕ) (r : Reading) (c : Call) (rest : List (List ℕ))
+over_decision : (analysts : List (List ℕ)) (line : ℕ) (r : ReaderView) (c : Call) (rest : List (List ℕ))
     (calls : List Call) → IsDecision c.decision → length r.items < 4096
     → 1 ≤ r.current → r.current ≤ length r.analysts → analyst_name r.analysts r.current ≡ analyst_name analysts c.caller
     → ReadOn analysts (with_item line r (Decide c.decision))
@@ -79,7 +70,8 @@ over_decision analysts line r c rest calls h few low high name m =
       after = m.after;
       names = m.names;
       new = item ∷ m.new;
-      read = then line r (with_item line r (Decide c.decision)) (join_with_byte 32 (words_of_decision c.decision))
+      read = after_lines-Ok line r (with_item line r (Decide c.decision))
+          (join_with_byte 32 (words_of_decision c.decision))
           rest (after_act line r (Decide c.decision) h few) ∙ m.read;
       analysts_are = m.analysts_are;
       items_are = m.items_are ∙ append_assoc r.items (item ∷ []) m.new;
@@ -97,7 +89,7 @@ abbrev joined : List (List (List ℕ)) → List (List ℕ)
 joined ls = map (join_with_byte 32) ls ++ ([] ∷ [])
 
 -- the lines of events, up to the end of the text
-pub events_read : (analysts : List (List ℕ)) (line : ℕ) (r : Reading) (es : List Event) → length analysts ≤ 16
+pub events_read : (analysts : List (List ℕ)) (line : ℕ) (r : ReaderView) (es : List Event) → length analysts ≤ 16
     → length r.analysts + missing r.analysts analysts ≤ length analysts
     → AllByRecursion (IsCallBy analysts) (calls_of es) → length r.items + length (calls_of es) ≤ 4096
     → ReadOn analysts r (after_lines line r (joined (said_lines analysts es))) (accepted_of (calls_of es))
@@ -122,7 +114,7 @@ events_read analysts line r (asked c ∷ es) most fits h few =
     (if_taken c.reply c (accepted_of (calls_of es))) s
     (⊎_elim
     (λ (e : c.reply ≡ Accepted).
-    let next : Reading = with_item (line + 1) s.next (Decide c.decision) in
+    let next : ReaderView = with_item (line + 1) s.next (Decide c.decision) in
     let longer = length_push s.next.items
     (record { line = line + 1; analyst = s.next.current; act = Decide c.decision }) in
     let more = events_read analysts (line + 1 + 1) next es most s.fits h.1 (omega (arith, longer, len, few)) in

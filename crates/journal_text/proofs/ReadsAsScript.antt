@@ -1,18 +1,15 @@
 -- The text of a right journal is read as the script of its accepted decisions.
-use Rattle.std.proofs.Common.{◌≡◌, ℕ, ◌<◌, ◌≤◌, ◌^◌, false, nat_lt, cond, List, [], ◌∷◌, length}
-use Rattle.std.proofs.Common.{map, Ok, Err, Some, codes, slice_get, sym, ap, ◌∙◌, subst, arith}
+use Rattle.std.proofs.Common.{◌≡◌, ℕ, ◌<◌, ◌≤◌, ◌^◌, List, [], ◌∷◌, length}
+use Rattle.std.proofs.Common.{map, Ok, Some, codes, slice_get, sym, ap, ◌∙◌, subst, arith}
 use Rattle.std.specs.List.{AllByRecursion, flat_map}
-use Rattle.std.proofs.lemmas.Bool.Decides.{nat_tests}
-use Rattle.sim_base.specs.Chain.{◌>>=◌}
 use Rattle.net_model.specs.Net.{Net}
-use Rattle.decision_script.specs.declared.fault.ScriptFault.TheVariants.{TooLong}
-use Rattle.decision_script.specs.Lines.{lines}
 use Rattle.decision_script.specs.Stating.{analyst_name}
 use Rattle.decision_script.specs.Printing.{line_text}
-use Rattle.decision_script.specs.Reading.{Reading, after_lines, opening, script, script_of as script_read}
+use Rattle.decision_script.specs.Reading.{after_lines, new_reader, script, script_of as script_read}
 use Rattle.decision_script.specs.Alone.{decisions}
 use Rattle.decision_script.proofs.Again.{AreKnown}
 use Rattle.decision_script.proofs.Names.{are_known}
+use Rattle.decision_script.proofs.ReadsAgain.{read_of_text}
 use Rattle.decision_script.proofs.Words.{lines-text}
 use Rattle.decision_book.specs.declared.call.Call.{Call}
 use Rattle.decision_book.specs.Journal.{Event, raised, asked, calls_of}
@@ -25,13 +22,6 @@ use Rattle.journal_text.proofs.Reading.{IsCallBy, events_read, said_words, same_
 use Rattle.journal_text.proofs.Rightly.{HasSmallFronts, few_calls, small_fronts}
 use Rattle.journal_text.proofs.Sections.{main_is_there}
 use Rattle.journal_text.proofs.Sizes.{said_length}
-
-read_of_text : (text : List ℕ) (t : Reading) → length text ≤ 1048576 → after_lines 1 opening (lines text) ≡ Ok t
-    → script text ≡ Ok (script_read t)
-read_of_text text t short read =
-    let fits : nat_lt 1048576 (length text) ≡ false = grind (arith, nat_tests) in
-    ap (λ b. cond b (Err TooLong) (after_lines 1 opening (lines text) >>= λ r. Ok (script_read r))) fits
-    ∙ ap (λ x. x >>= λ r. Ok (script_read r)) read
 
 calls_by : (analysts : List (List ℕ)) (cs : List Call) → AreKnown analysts
     → AllByRecursion (IsCallOf (length analysts)) cs → AllByRecursion (IsCallBy analysts) cs
@@ -61,12 +51,12 @@ of_main net more es known most right some_time small h =
     let by = calls_by analysts (calls_of es) known h in
     let few = few_calls net es right in
     let said = text_said analysts es (writable analysts es by (small_fronts net es right small)) in
-    let r = events_read analysts 1 opening es most (main_is_there (codes "main") more) by (omega (arith, few)) in
+    let r = events_read analysts 1 new_reader es most (main_is_there (codes "main") more) by (omega (arith, few)) in
     let text = flat_map line_text (said_lines analysts es) in
     let short : length text ≤ 1048576 = omega (arith, few, said_length analysts es known by) in
     let read : script text ≡ Ok (script_read r.after) =
     read_of_text text r.after short
-    (ap (after_lines 1 opening) (lines-text (said_lines analysts es) (said_words analysts es by)) ∙ r.read) in
+    (ap (after_lines 1 new_reader) (lines-text (said_lines analysts es) (said_words analysts es by)) ∙ r.read) in
     let items : map (λ i. (analyst_name r.after.analysts i.analyst, i.act)) r.after.items
     ≡ map (λ i. (analyst_name r.after.analysts i.analyst, i.act)) r.new =
     ap (map (λ i. (analyst_name r.after.analysts i.analyst, i.act))) r.items_are in

@@ -18,7 +18,7 @@ use Rattle.decision_book.specs.declared.call.TheConstants.{MOST_CALLS}
 use Rattle.decision_book.specs.declared.call.Reply.{Reply}
 use Rattle.decision_book.specs.declared.call.Reply.TheVariants.{Full, Closed, Ended, NameTaken, TooManyClones}
 use Rattle.decision_book.specs.declared.call.Reply.TheVariants.{UnknownStation, ListFull, PastHorizon, Late}
-use Rattle.decision_book.specs.Journal.{Event, Situation, raised, asked, after, after_event, calls_of, opening}
+use Rattle.decision_book.specs.Journal.{Event, Situation, raised, asked, after, after_event, calls_of, outset}
 use Rattle.decision_book.specs.Replies.{row, first_row, time_rows, fault_row, change_row, rows, clone_rows, reply}
 use Rattle.decision_book.specs.Right.{EachAfter, IsRight, MayFollow}
 use Rattle.decision_book.proofs.Fulls.{full_where_full}
@@ -143,14 +143,14 @@ small_from : (net : Net) (before es : List Event) (s : Situation) → after net 
 small_from net before [] s is low small right = tt
 small_from net before (raised f ∷ es) s is low small right =
     let then : after net (before ++ raised f ∷ []) ≡ after_event s (raised f) =
-    fold_append (opening net) before (raised f ∷ []) ∙ ap (λ (x : Situation). after_event x (raised f)) is in (
+    fold_append (outset net) before (raised f ∷ []) ∙ ap (λ (x : Situation). after_event x (raised f)) is in (
       omega (arith, right.0.1, small),
       small_from net (before ++ raised f ∷ []) es
           (after_event s (raised f)) then right.0.1 small right.1,
     )
 small_from net before (asked c ∷ es) s is low small right =
     let then : after net (before ++ asked c ∷ []) ≡ after_event s (asked c) =
-    fold_append (opening net) before (asked c ∷ []) ∙ ap (λ (x : Situation). after_event x (asked c)) is in
+    fold_append (outset net) before (asked c ∷ []) ∙ ap (λ (x : Situation). after_event x (asked c)) is in
     let answer : c.reply ≡ reply s c.decision = right.0.answer ∙ ap (λ (x : Situation). reply x c.decision) is in
     let below : s.front < 2 ^ 32 = omega (arith, low, small) in (
       small_late s.front c.reply below (subst (IsLateOf s.front) (sym answer) (reply_late s c.decision)),
@@ -160,4 +160,4 @@ small_from net before (asked c ∷ es) s is low small right =
 -- in a right journal of a network whose horizon fits 32 bits, so do the fronts of each event
 pub small_fronts : (net : Net) (es : List Event) → IsRight net es → net.horizon < 2 ^ 32
     → AllByRecursion HasSmallFronts es
-small_fronts net es right small = small_from net [] es (opening net) refl (omega arith) small right
+small_fronts net es right small = small_from net [] es (outset net) refl (omega arith) small right

@@ -2,7 +2,7 @@
 use Rattle.std.proofs.Common.{◌≡◌, ℕ, ◌+◌, ◌-◌, ◌<◌, ◌≤◌, ◌||◌, Bool, true, false, cond}
 use Rattle.std.proofs.Common.{nat_lt, zero, suc, List, [], ◌∷◌, ◌++◌, length, get_or, Option, Some}
 use Rattle.std.proofs.Common.{None, Result, Ok, refl, sym, ap, ◌∙◌, arith, length-append, append-nil}
-use Rattle.std.specs.List.{AllByRecursion, join_with_byte, list_any}
+use Rattle.std.specs.List.{join_with_byte, list_any}
 use Rattle.std.specs.Str.{bytes_eq}
 use Rattle.std.proofs.Math.Seq.{get_or-append_seam}
 use Rattle.std.proofs.lemmas.Bool.Decides.{nat_tests}
@@ -11,15 +11,12 @@ use Rattle.std.proofs.lemmas.List.Folds.{list_any-append, list_any_none}
 use Rattle.std.proofs.lemmas.List.Quantifiers.{position-Some}
 use Rattle.std.proofs.lemmas.Option.{unwrap_or-slice_get}
 use Rattle.std.proofs.lemmas.Slice.Eq.{bytes_eq-Decides}
-use Rattle.sim_base.specs.Chain.{◌>>=◌}
 use Rattle.sim_base.proofs.ListLaws.{none_passes}
 use Rattle.decision_script.specs.declared.fault.ScriptFault.{ScriptFault}
 use Rattle.decision_script.specs.Stating.{IsNamed, analyst_name}
-use Rattle.decision_script.specs.Sentences.{saying}
-use Rattle.decision_script.specs.Reading.{Reading, after_line, after_lines, after_saying, at_line, in_section, place_of}
+use Rattle.decision_script.specs.Reading.{ReaderView, after_line, in_section, place_of}
 use Rattle.decision_script.specs.Printing.{words_of_section}
-use Rattle.decision_script.proofs.Saying.{saying-section, section_words}
-use Rattle.decision_script.proofs.Words.{IsWord, line_saying-join}
+use Rattle.decision_script.proofs.Again.{after_section}
 
 -- ---- missing
 abbrev is_among : List ℕ → List (List ℕ) → Bool
@@ -98,26 +95,10 @@ name_kept names more a low high =
     ∙ sym (unwrap_or-slice_get names (a - 1) [])
 
 -- ---- after_line
-pub after_words : (line : ℕ) (r : Reading) (ws : List (List ℕ)) → AllByRecursion IsWord ws
-    → after_line line r (join_with_byte 32 ws) ≡ (at_line line (saying ws) >>= after_saying line r)
-unfolding after_line
-after_words line r ws h = ap (λ x. at_line line x >>= after_saying line r) (line_saying-join ws h)
-
-after_section : (line : ℕ) (r : Reading) (name : List ℕ) → IsNamed name
-    → after_line line r (join_with_byte 32 (words_of_section name)) ≡ in_section line r name (place_of name r.analysts)
-after_section line r name h = after_words line r (words_of_section name) (section_words name h)
-    ∙ ap (λ x. at_line line x >>= after_saying line r) (saying-section name h)
-
--- a line that is read, and the lines after it
-pub then : (line : ℕ) (r next : Reading) (l : List ℕ) (ls : List (List ℕ)) → after_line line r l ≡ Ok next
-    → after_lines line r (l ∷ ls) ≡ after_lines (line + 1) next ls
-unfolding after_lines
-then line r next l ls one = ap (λ x. x >>= λ next. after_lines (line + 1) next ls) one
-
 -- a section was read: its analyst is in force
-pub record IsInForce (analysts : List (List ℕ)) (r : Reading) (name : List ℕ) (given : Result Reading ScriptFault) :
-    Type 0 where
-  pub next : Reading
+pub record IsInForce (analysts : List (List ℕ)) (r : ReaderView) (name : List ℕ)
+    (given : Result ReaderView ScriptFault) : Type 0 where
+  pub next : ReaderView
   pub names : List (List ℕ)
   pub read : given ≡ Ok next
   pub analysts_are : next.analysts ≡ r.analysts ++ names
@@ -127,7 +108,7 @@ pub record IsInForce (analysts : List (List ℕ)) (r : Reading) (name : List ℕ
   pub name_is : analyst_name next.analysts next.current ≡ name
   pub fits : length next.analysts + missing next.analysts analysts ≤ length analysts
 
-of_place : (analysts : List (List ℕ)) (line : ℕ) (r : Reading) (name : List ℕ) (i : ℕ) → IsNamed name
+of_place : (analysts : List (List ℕ)) (line : ℕ) (r : ReaderView) (name : List ℕ) (i : ℕ) → IsNamed name
     → i < length analysts → get_or analysts i [] ≡ name → length analysts ≤ 16
     → length r.analysts + missing r.analysts analysts ≤ length analysts → (o : Option ℕ) → place_of name r.analysts ≡ o
     → IsInForce analysts r name (after_line line r (join_with_byte 32 (words_of_section name)))
@@ -166,7 +147,7 @@ of_place analysts line r name i named lt is few fits None at =
     }
 
 -- the section of an analyst is read
-pub section_read : (analysts : List (List ℕ)) (line : ℕ) (r : Reading) (a : ℕ) → 1 ≤ a → a ≤ length analysts
+pub section_read : (analysts : List (List ℕ)) (line : ℕ) (r : ReaderView) (a : ℕ) → 1 ≤ a → a ≤ length analysts
     → IsNamed (analyst_name analysts a) → length analysts ≤ 16
     → length r.analysts + missing r.analysts analysts ≤ length analysts
     → IsInForce analysts r (analyst_name analysts a)

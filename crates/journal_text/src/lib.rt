@@ -28,8 +28,8 @@
 //! The definition of the text stands in `specs/JournalText.antt`, and what is written is that. The promise that it
 //! carries: **a run is repeated by its journal**. The lines of a right journal's calls, without comments, are read as
 //! a script; its items are the accepted decisions, in order, each by the analyst who made it; all are accepted before
-//! the simulation begins, and they leave the clones that the journal leaves. So the same traces and the same report
-//! come of it.
+//! the simulation begins, and they leave the clones that the journal leaves. So it gives the same traces
+//! and the same report.
 #![tactic(auto)]
 
 pub mod examples;

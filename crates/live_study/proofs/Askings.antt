@@ -8,7 +8,7 @@ use Rattle.decision_book.specs.Journal.{Event, asked, call_of, calls_of}
 use Rattle.decision_desk.specs.declared.pass.Receipt.{Receipt}
 use Rattle.decision_desk.specs.Accounts.{Account}
 use Rattle.decision_desk.specs.Turns.{with_call, full_account}
-use Rattle.decision_desk.specs.Passes.{Passed, IsAsked}
+use Rattle.decision_desk.specs.Passes.{PassView, IsAsked}
 use Rattle.live_study.specs.Asking.{decisions_in, AskedSo}
 
 in_append : (ps : List (ℕ × Call)) (p : ℕ × Call) → decisions_in (ps ++ p ∷ []) ≡ decisions_in ps ++ p.1.decision ∷ []
@@ -36,7 +36,7 @@ with_full ds a d s = record {
 }
 
 -- a pass that asks one decision more has asked that too, at the same desk and for the same caller
-pub asked_more : (ds : List Decision) (old new : Passed) (d : Decision) (receipt : Receipt) (j : List Event)
+pub asked_more : (ds : List Decision) (old new : PassView) (d : Decision) (receipt : Receipt) (j : List Event)
     → AskedSo ds old.account → IsAsked old d receipt new j
     → AskedSo (ds ++ d ∷ []) new.account × (new.desk ≡ old.desk) × (new.account.caller ≡ old.account.caller)
 asked_more ds old new d receipt j s a = ⊎_elim
@@ -45,11 +45,11 @@ asked_more ds old new d receipt j s a = ⊎_elim
       seen = j ++ asked (call_of old.account.caller j d receipt.reply) ∷ [];
       account = with_call old.account j (call_of old.account.caller j d receipt.reply);
     })).
-    subst (λ (n : Passed). AskedSo (ds ++ d ∷ []) n.account × (n.desk ≡ old.desk)
+    subst (λ (n : PassView). AskedSo (ds ++ d ∷ []) n.account × (n.desk ≡ old.desk)
     × (n.account.caller ≡ old.account.caller)) (sym h.2)
     (with_one ds old.account j (call_of old.account.caller j d receipt.reply) s, refl, refl))
     (λ (h : (receipt.reply ≡ Full) × (receipt.entry ≡ None) × (length (calls_of j) ≡ 4096)
     × (new ≡ record old { seen = j; account = full_account old.account })).
-    subst (λ (n : Passed). AskedSo (ds ++ d ∷ []) n.account × (n.desk ≡ old.desk)
+    subst (λ (n : PassView). AskedSo (ds ++ d ∷ []) n.account × (n.desk ≡ old.desk)
     × (n.account.caller ≡ old.account.caller)) (sym h.3) (with_full ds old.account d s, refl, refl))
-    a.kept
+    a.outcome

@@ -12,7 +12,7 @@ use Rattle.decision_script.specs.declared.item.Item.{Item}
 use Rattle.phys_proc.specs.Racks.{RackView}
 use Rattle.world_core.specs.Worlds.{WorldView}
 use Rattle.live_study.specs.Asking.{Seated}
-use Rattle.live_study.specs.Opening.{IsFresh, IsOpening, IsRackNow, numbers_to}
+use Rattle.live_study.specs.Opening.{IsFresh, AreOpeningRacks, IsRackNow, numbers_to}
 use Rattle.live_study.specs.Scripts.{acts_by, each_acts, own_act}
 
 -- an item that stands at a place is the one that is read there
@@ -103,8 +103,8 @@ one_each-with n (x ∷ xs) r each own (suc i) q e =
 
 -- a rack of the next station
 pub opening_more : (w : WorldView) (many : ℕ) (racks more : List RackView) (r : RackView) → more ≡ racks ++ r ∷ []
-    → IsOpening w many racks → IsRackNow w r → r.station ≡ many + 1 → IsOpening w (many + 1) more
-opening_more w many racks more r e h now own = subst (IsOpening w (many + 1)) (sym e) (record {
+    → AreOpeningRacks w many racks → IsRackNow w r → r.station ≡ many + 1 → AreOpeningRacks w (many + 1) more
+opening_more w many racks more r e h now own = subst (AreOpeningRacks w (many + 1)) (sym e) (record {
   many_is = omega (arith, length-append racks (r ∷ []), h.many_is);
   each = λ i q f.
       let at = one_each-with 0 racks r (λ k p g. omega (arith, h.each k p g)) (omega (arith, own, h.many_is)) i q f in

@@ -15,10 +15,10 @@ use Rattle.decision_script.specs.Stating.{ScriptView}
 use Rattle.decision_book.specs.Books.{BookView}
 use Rattle.decision_book.specs.Journal.{Event}
 use Rattle.decision_desk.specs.Accounts.{Account, accounts_of, calls_by}
-use Rattle.decision_desk.specs.Passes.{Helmed, Passed, new_helm, new_pass, new_passes}
+use Rattle.decision_desk.specs.Passes.{HelmView, PassView, new_helm, new_pass, new_passes}
 use Rattle.world_core.specs.Worlds.{WorldView}
 use Rattle.live_study.specs.Asking.{AllAsked, AskedSo, IsReady, Seated}
-use Rattle.live_study.specs.Asking.{decided, decisions_in, total_todo}
+use Rattle.live_study.specs.Asking.{decisions_asked, decisions_in, total_todo}
 use Rattle.live_study.specs.Engines.{InStep}
 use Rattle.live_study.specs.Lives.{IsAllAsked}
 use Rattle.live_study.specs.Scripts.{IsJournalOf, acts_by, each_acts, own_act}
@@ -31,7 +31,7 @@ length-new_passes desk net zero = refl
 length-new_passes desk net (suc n) =
     omega (arith, length-append (new_passes desk net n) (new_pass desk net (n + 1) ∷ []), length-new_passes desk net n)
 
-new_passes-at : (desk : TableId) (net : Net) (n i : ℕ) (d : Passed) → i < n
+new_passes-at : (desk : TableId) (net : Net) (n i : ℕ) (d : PassView) → i < n
     → get_or (new_passes desk net n) i d ≡ new_pass desk net (i + 1)
 new_passes-at desk net zero i d less = absurd (omega (arith, less))
 new_passes-at desk net (suc n) i d less =
@@ -88,14 +88,14 @@ up_to_next : (k n : ℕ) → one_if (nat_le k n) + one_if (nat_eq k (n + 1)) ≤
 up_to_next k n = either_of (nat_le k n) (nat_eq k (n + 1)) (nat_le k (n + 1)) (λ h. grind (arith, nat_tests, h))
     (λ h. grind (arith, nat_tests, h)) (λ h e. absurd (grind (arith, nat_tests, h, e)))
 
-none_decided : (n : ℕ) → total_of (each_acts [] n) ≡ 0
-none_decided zero = refl
-none_decided (suc n) = omega (arith, total_of-push (each_acts [] n) [], none_decided n)
+total_of-no_items : (n : ℕ) → total_of (each_acts [] n) ≡ 0
+total_of-no_items zero = refl
+total_of-no_items (suc n) = omega (arith, total_of-push (each_acts [] n) [], total_of-no_items n)
 
-one_more_decided : (i : Item) (is : List Item) (n : ℕ)
+total_of-item : (i : Item) (is : List Item) (n : ℕ)
     → total_of (each_acts (i ∷ is) n) ≤ total_of (each_acts is n) + one_if (nat_le i.analyst n)
-one_more_decided i is zero = omega arith
-one_more_decided i is (suc n) =
+total_of-item i is zero = omega arith
+total_of-item i is (suc n) =
     let next : one_if (nat_le i.analyst n) + one_if (nat_eq i.analyst (n + 1)) ≤ one_if (nat_le i.analyst (n + 1)) =
     up_to_next i.analyst n in
     let whole : suc n ≡ n + 1 = omega arith in
@@ -104,37 +104,37 @@ one_more_decided i is (suc n) =
     (omega (
       arith,
       next,
-      one_more_decided i is n,
+      total_of-item i is n,
       one_own (n + 1) i,
       length-append (own_act (n + 1) i) (acts_by (n + 1) is),
       total_of-push (each_acts (i ∷ is) n) (acts_by (n + 1) (i ∷ is)),
       total_of-push (each_acts is n) (acts_by (n + 1) is),
     ))
 
-few_decided : (items : List Item) (n : ℕ) → total_of (each_acts items n) ≤ length items
-few_decided [] n = omega (arith, none_decided n)
-few_decided (i ∷ is) n = omega (arith, one_more_decided i is n, at_most_one (nat_le i.analyst n), few_decided is n)
+total_of-items : (items : List Item) (n : ℕ) → total_of (each_acts items n) ≤ length items
+total_of-items [] n = omega (arith, total_of-no_items n)
+total_of-items (i ∷ is) n = omega (arith, total_of-item i is n, at_most_one (nat_le i.analyst n), total_of-items is n)
 
 -- all together ask no more than the script has items
 pub few_todo : (items : List Item) (analysts : List Seated) (n : ℕ)
     → map (λ (a : Seated). a.0.todo.items) analysts ≡ each_acts items n → length items ≤ 4096
     → total_todo analysts ≤ 4096
 few_todo items analysts n are few = let same = ap total_of are in
-    omega (arith, total_is analysts, same, few_decided items n, few)
+    omega (arith, total_is analysts, same, total_of-items items n, few)
 
 -- ---- what a run begins with
-pub many_analysts : (desk : TableId) (net : Net) (n : ℕ) (passes : List Passed) (analysts : List Seated)
+pub many_analysts : (desk : TableId) (net : Net) (n : ℕ) (passes : List PassView) (analysts : List Seated)
     → map (λ (a : Seated). a.0.pass) analysts ≡ passes → passes ≡ new_passes desk net n → length analysts ≡ n
 many_analysts desk net n passes analysts are new = sym (length-map analysts (λ (a : Seated). a.0.pass))
     ∙ ap length (are ∙ new) ∙ length-new_passes desk net n
 
-ready_new : (desk : TableId) (net : Net) (x : ℕ) (p : Passed) → p ≡ new_pass desk net x
+ready_new : (desk : TableId) (net : Net) (x : ℕ) (p : PassView) → p ≡ new_pass desk net x
     → (p.desk ≡ desk) × AskedSo [] p.account
-ready_new desk net x p is = subst (λ (q : Passed). (q.desk ≡ desk) × AskedSo [] q.account) (sym is)
+ready_new desk net x p is = subst (λ (q : PassView). (q.desk ≡ desk) × AskedSo [] q.account) (sym is)
     (refl, record { all = λ e. refl; few = omega arith; fewer = λ e. absurd cc })
 
 -- analysts with new passes of a desk have asked nothing there yet
-pub all_ready : (desk : TableId) (net : Net) (n : ℕ) (passes : List Passed) (analysts : List Seated)
+pub all_ready : (desk : TableId) (net : Net) (n : ℕ) (passes : List PassView) (analysts : List Seated)
     → map (λ (a : Seated). a.0.pass) analysts ≡ passes → passes ≡ new_passes desk net n
     → (k : ℕ) (d : Seated) → k < length analysts → IsReady desk (get_or analysts k d).0
 all_ready desk net n passes analysts are new k d less =
@@ -147,18 +147,18 @@ all_ready desk net n passes analysts are new k d less =
     record { desk_is = r.0; all = r.1 }
 
 -- a new helm and a world of the base clone at front 0 are in step
-pub begins_in_step : (desk : TableId) (net : Net) (n : ℕ) (h : Helmed) (w : WorldView) → h ≡ new_helm desk net n
+pub begins_in_step : (desk : TableId) (net : Net) (n : ℕ) (h : HelmView) (w : WorldView) → h ≡ new_helm desk net n
     → w ≡ record { net = net; clones = base ∷ []; front = 0 } → InStep h w
 begins_in_step desk net n h w is begins =
-    subst (λ (x : Helmed). InStep x w) (sym is)
+    subst (λ (x : HelmView). InStep x w) (sym is)
     (subst (λ (x : WorldView). InStep (new_helm desk net n) x) (sym begins)
     (record { net = refl; clones = refl; front = refl }))
 
 -- ---- what the journal says of the script
 asked_at : (events : List Event) (analysts : List Seated) → AllAsked events analysts
-    → (k : ℕ) (p : Passed) (t : List Act) → k < length analysts
-    → decisions_in (calls_by (get_or (map (λ (a : Seated). a.0.pass) analysts) k p).account.caller events) ≡ decided
-    (get_or (map (λ (a : Seated). a.0.todo.items) analysts) k t)
+    → (k : ℕ) (p : PassView) (t : List Act) → k < length analysts
+    → decisions_in (calls_by (get_or (map (λ (a : Seated). a.0.pass) analysts) k p).account.caller events)
+    ≡ decisions_asked (get_or (map (λ (a : Seated). a.0.todo.items) analysts) k t)
 asked_at events [] all k p t less = absurd (omega (arith, less))
 asked_at events (a ∷ more) all zero p t less = all.0
 asked_at events (a ∷ more) all (suc k) p t less = asked_at events more all.1 k p t (omega (arith, less))
@@ -184,7 +184,7 @@ no_account desk net (suc n) x h =
     ∙ omega (arith, last, no_account desk net n x before)
 
 -- where analysts with new passes have asked all acts of the script, the journal is one of the script
-pub journal_of_script : (desk : TableId) (net : Net) (s : ScriptView) (passes : List Passed) (analysts : List Seated)
+pub journal_of_script : (desk : TableId) (net : Net) (s : ScriptView) (passes : List PassView) (analysts : List Seated)
     (book : BookView) → map (λ (a : Seated). a.0.pass) analysts ≡ passes
     → passes ≡ new_passes desk net (length s.analysts)
     → map (λ (a : Seated). a.0.todo.items) analysts ≡ each_acts s.items (length s.analysts)
@@ -197,16 +197,16 @@ journal_of_script desk net s passes analysts book are new todo asked =
       legal = asked.legal;
       asked_all = λ a low high.
           let back : a - 1 + 1 ≡ a = omega (arith, low) in
-          let p : Passed = new_pass desk net 0 in
+          let p : PassView = new_pass desk net 0 in
           let below : a - 1 < n = omega (arith, low, high) in
           let caller : (get_or (map (λ (x : Seated). x.0.pass) analysts) (a - 1) p).account.caller ≡ a =
-          ap (λ (q : Passed). q.account.caller) (ap (λ ps. get_or ps (a - 1) p) (are ∙ new)
+          ap (λ (q : PassView). q.account.caller) (ap (λ ps. get_or ps (a - 1) p) (are ∙ new)
           ∙ new_passes-at desk net n (a - 1) p below) ∙ back in
           let own : get_or (map (λ (x : Seated). x.0.todo.items) analysts) (a - 1) [] ≡ acts_by a s.items =
           ap (λ ts. get_or ts (a - 1) []) todo ∙ each_acts-at s.items n (a - 1) [] below
           ∙ ap (λ k. acts_by k s.items) back in
           ap (λ x. decisions_in (calls_by x book.events)) (sym caller) ∙ asked_at book.events analysts asked.asked_all
-          (a - 1) p [] (omega (arith, below, len)) ∙ ap decided own;
+          (a - 1) p [] (omega (arith, below, len)) ∙ ap decisions_asked own;
       others = λ x h. asked.others x
           (ap (accounts_of x) (sym (accounts_are analysts) ∙ ap (map (λ p. p.account)) (are ∙ new))
           ∙ no_account desk net n x h);

@@ -9,22 +9,22 @@ use Rattle.decision_book.specs.Books.{BookView}
 use Rattle.decision_book.specs.Journal.{Event, asked, calls_of, after}
 use Rattle.decision_book.specs.Right.{IsRight}
 use Rattle.decision_book.proofs.JournalScripts.{closed_changes_nothing}
-use Rattle.decision_desk.specs.Accounts.{Account, AreAccounts, accounts_of, numbered, calls_by, front_of}
+use Rattle.decision_desk.specs.Accounts.{Account, AreAccounts, accounts_of, calls_from, calls_by, front_of}
 use Rattle.decision_desk.specs.Legal.{GoesOn, IsLegal}
-use Rattle.decision_desk.specs.Passes.{Helmed, IsClosed, Passed}
+use Rattle.decision_desk.specs.Passes.{HelmView, IsClosed, PassView}
 use Rattle.decision_desk.proofs.Leasts.{front_is}
 use Rattle.world_core.specs.Worlds.{WorldView}
 use Rattle.study_run.specs.declared.fault.StudyFault.{StudyFault}
-use Rattle.live_study.specs.Asking.{Seated, decided, decisions_in, IsDone, IsSame}
+use Rattle.live_study.specs.Asking.{Seated, decisions_asked, decisions_in, IsDone, IsSameAnalyst}
 use Rattle.live_study.specs.Asking.{accounts_in, total_todo, AllDone, AllAsked}
 use Rattle.live_study.specs.Engines.{InStep, Steers}
-use Rattle.live_study.specs.Lives.{IsAllAsked, IsFinished}
-use Rattle.live_study.proofs.Doing.{few_decided}
+use Rattle.live_study.specs.Lives.{IsAllAsked, IsAtHorizon}
+use Rattle.live_study.proofs.Doing.{length-decisions_asked}
 use Rattle.live_study.proofs.Stepping.{front_calls}
 
 abbrev sum_calls : ℕ → List Call → List Account → ℕ
 sum_calls n cs [] = 0
-sum_calls n cs (a ∷ others') = length (numbered a.caller n cs) + sum_calls n cs others'
+sum_calls n cs (a ∷ others') = length (calls_from a.caller n cs) + sum_calls n cs others'
 
 one_length : (b d : Bool) (p : ℕ × Call) (xs : List (ℕ × Call)) → b ≡ d
     → length (if b then p ∷ xs else xs) ≡ (if d then 1 else 0) + length xs
@@ -43,7 +43,7 @@ sum_more n c cs (a ∷ others') =
     omega (
       arith,
       one_length (nat_eq c.caller a.caller) (nat_eq a.caller c.caller) (n, c)
-          (numbered a.caller (n + 1) cs) (eq_swap c.caller a.caller),
+          (calls_from a.caller (n + 1) cs) (eq_swap c.caller a.caller),
       sum_more n c cs others',
     )
 
@@ -57,13 +57,13 @@ not_empty false p xs t e = true≢false (sym t)
 
 -- each call is counted where each caller has an account
 covered : (n : ℕ) (cs : List Call) (others' : List Account)
-    → ((x : ℕ) → accounts_of x others' ≡ 0 → numbered x n cs ≡ []) → length cs ≤ sum_calls n cs others'
+    → ((x : ℕ) → accounts_of x others' ≡ 0 → calls_from x n cs ≡ []) → length cs ≤ sum_calls n cs others'
 covered n [] others' others = omega arith
 covered n (c ∷ cs) others' others =
     let has : accounts_of c.caller others' ≢ 0 =
-    λ e. not_empty (nat_eq c.caller c.caller) (n, c) (numbered c.caller (n + 1) cs) (grind arith)
+    λ e. not_empty (nat_eq c.caller c.caller) (n, c) (calls_from c.caller (n + 1) cs) (grind arith)
     (others c.caller e) in
-    let more = covered (n + 1) cs others' (λ x e. rest_empty (nat_eq c.caller x) (n, c) (numbered x (n + 1) cs)
+    let more = covered (n + 1) cs others' (λ x e. rest_empty (nat_eq c.caller x) (n, c) (calls_from x (n + 1) cs)
     (others x e)) in
     omega (arith, sum_more n c cs others', has, more)
 
@@ -79,7 +79,7 @@ sums_same events (a ∷ others') all = omega (arith, ap length all.0.calls, sums
 few_calls : (desk : TableId) (others' : List Seated) → AllDone desk others' → total_calls others' ≤ total_todo others'
 few_calls desk [] all = omega arith
 few_calls desk (a ∷ others') all =
-    omega (arith, all.0.all.few, few_decided a.0.todo.items, few_calls desk others' all.1)
+    omega (arith, all.0.all.few, length-decisions_asked a.0.todo.items, few_calls desk others' all.1)
 
 -- where all calls together are as many as a journal holds, none of these was answered Full
 asked_each : (desk : TableId) (events : List Event) (before : ℕ) (others' : List Seated) → AllDone desk others'
@@ -96,12 +96,12 @@ asked_each desk events before (a ∷ others') all right whole few =
       whole (right.0.full full),
       few,
       all.0.all.fewer full,
-      few_decided a.0.todo.items,
+      length-decisions_asked a.0.todo.items,
       few_calls desk others' all.1,
     ))) in (
       ap decisions_in (sym right.0.calls) ∙ all.0.all.all not,
       asked_each desk events (before + length a.0.todo.items) others' all.1 right.1
-          (λ e. omega (arith, whole e, all.0.all.few, few_decided a.0.todo.items)) (omega (arith, few)),
+          (λ e. omega (arith, whole e, all.0.all.few, length-decisions_asked a.0.todo.items)) (omega (arith, few)),
     )
   where
     is_false : (b : Bool) → ¬ (b ≡ true) → b ≡ false
@@ -130,7 +130,8 @@ all_done desk (a ∷ others') each =
     (each 0 a (omega arith), all_done desk others' (λ i d less. each (suc i) d (omega (arith, less))))
 
 abbrev SameAt : List Seated → List Seated → Type 0
-SameAt old new = (i : ℕ) (d : Seated) → i < length old → IsSame (slice_index_or old i d).0 (slice_index_or new i d).0
+SameAt old new = (i : ℕ) (d : Seated) → i < length old
+    → IsSameAnalyst (slice_index_or old i d).0 (slice_index_or new i d).0
 
 -- what was asked is what was to be asked before the run
 asked_before : (events : List Event) (old new : List Seated) → length new ≡ length old → SameAt old new
@@ -139,7 +140,7 @@ asked_before events [] new len same all = tt
 asked_before events (a ∷ old) [] len same all = absurd (omega (arith, len))
 asked_before events (a ∷ old) (b ∷ new) len same all =
     let s = same 0 a (omega arith) in (
-      ap (λ x. decisions_in (calls_by x events)) (sym s.caller) ∙ (all.0 ∙ ap decided s.todo),
+      ap (λ x. decisions_in (calls_by x events)) (sym s.caller) ∙ (all.0 ∙ ap decisions_asked s.todo),
       asked_before events old new (omega (arith, len)) (λ i d less. same (suc i) d (omega (arith, less))) all.1,
     )
 
@@ -169,7 +170,7 @@ todo_before (a ∷ old) (b ∷ new) len same =
 
 -- ---- a run that is closed
 -- the passes of analysts that have asked all are of the desk
-pub of_desk : (desk : TableId) (analysts : List Seated) → AllDone desk analysts → (k : ℕ) (d : Passed)
+pub of_desk : (desk : TableId) (analysts : List Seated) → AllDone desk analysts → (k : ℕ) (d : PassView)
     → k < length (map (λ (a : Seated). a.0.pass) analysts)
     → (slice_index_or (map (λ (a : Seated). a.0.pass) analysts) k d).desk ≡ desk
 of_desk desk [] all k d less = absurd (omega (arith, less))
@@ -183,11 +184,11 @@ accounts_are [] = refl
 accounts_are (a ∷ more) = ap (λ l. a.0.pass.account ∷ l) (accounts_are more)
 
 -- the helm, once all passes were handed back
-abbrev pub closing : Helmed → List Passed → Helmed
+abbrev pub closing : HelmView → List PassView → HelmView
 closing helm passes = record helm { parts = 17; accounts = helm.accounts ++ map (λ p. p.account) passes }
 
 -- all that analysts had to ask is in the journal
-all_asked_in : (desk : TableId) (helm0 helm1 : Helmed) (new : List Seated) (passes : List Passed) (book : BookView)
+all_asked_in : (desk : TableId) (helm0 helm1 : HelmView) (new : List Seated) (passes : List PassView) (book : BookView)
     → Steers helm0 helm1 → helm0.accounts ≡ []
     → passes ≡ map (λ (a : Seated). a.0.pass) new → IsClosed (closing helm1 passes) book → AllDone desk new
     → total_todo new ≤ 4096 → IsRight book.net book.events → GoesOn book.net book.events
@@ -208,7 +209,7 @@ all_asked_in desk helm0 helm1 new passes book steers fresh are closed done few r
     }
 
 -- and so is all that they had to ask as they stood before the run
-pub asked_in : (desk : TableId) (helm0 helm1 : Helmed) (old new : List Seated) (passes : List Passed)
+pub asked_in : (desk : TableId) (helm0 helm1 : HelmView) (old new : List Seated) (passes : List PassView)
     (book : BookView) → Steers helm0 helm1 → helm0.accounts ≡ []
     → passes ≡ map (λ (a : Seated). a.0.pass) new → IsClosed (closing helm1 passes) book
     → IsRight book.net book.events → GoesOn book.net book.events
@@ -227,15 +228,16 @@ asked_in desk helm0 helm1 old new passes book steers fresh are closed right goes
     }
 
 -- a world that is at the horizon stands where the journal has led
-finished_at : (helm0 helm1 : Helmed) (passes : List Passed) (book : BookView) (world : WorldView) → Steers helm0 helm1
+finished_at : (helm0 helm1 : HelmView) (passes : List PassView) (book : BookView) (world : WorldView)
+    → Steers helm0 helm1
     → IsClosed (closing helm1 passes) book → IsRight book.net book.events
-    → InStep helm1 world → world.front ≡ world.net.horizon → IsFinished helm0.net book world
-finished_at helm0 helm1 passes book world steers closed right stands whole =
+    → InStep helm1 world → world.front ≡ world.net.horizon → IsAtHorizon helm0.net book world
+finished_at helm0 helm1 passes book world steers closed right in_step whole =
     let net : Net = helm0.net in
     let calls : List Call = closed.only_calls.0 in
     let events : book.events ≡ helm1.helm ++ map asked calls = closed.only_calls.1 in
-    let of_net : world.net ≡ net = stands.net ∙ steers.net in
-    let at : front_of helm1.helm ≡ net.horizon = sym stands.front ∙ whole ∙ ap (λ (n : Net). n.horizon) of_net in
+    let of_net : world.net ≡ net = in_step.net ∙ steers.net in
+    let at : front_of helm1.helm ≡ net.horizon = sym in_step.front ∙ whole ∙ ap (λ (n : Net). n.horizon) of_net in
     let before : (after net helm1.helm).front ≡ net.horizon = front_is net helm1.helm ∙ at in
     let is_right : IsRight net (helm1.helm ++ map asked calls) =
     subst (λ es. IsRight net es) events
@@ -243,7 +245,7 @@ finished_at helm0 helm1 passes book world steers closed right stands whole =
     let same : (after net book.events).clones ≡ (after net helm1.helm).clones =
     ap (λ es. (after net es).clones) events ∙ closed_changes_nothing net helm1.helm calls before is_right in
     let clones : world.clones ≡ (after net book.events).clones =
-    stands.clones ∙ ap (λ (n : Net). (after n helm1.helm).clones) steers.net ∙ sym same in
+    in_step.clones ∙ ap (λ (n : Net). (after n helm1.helm).clones) steers.net ∙ sym same in
     let front : world.front ≡ net.horizon = whole ∙ ap (λ (n : Net). n.horizon) of_net in
     record {
       last = front_is net book.events ∙ ap front_of events ∙ front_calls net helm1.helm calls ∙ at;
@@ -251,9 +253,9 @@ finished_at helm0 helm1 passes book world steers closed right stands whole =
     }
 
 -- so a run that hands back a world at the horizon, in step with its helm, is finished
-pub finished_if : (helm0 helm1 : Helmed) (passes : List Passed) (book : BookView) (r : Result WorldView StudyFault)
+pub finished_if : (helm0 helm1 : HelmView) (passes : List PassView) (book : BookView) (r : Result WorldView StudyFault)
     → Steers helm0 helm1 → IsClosed (closing helm1 passes) book → IsRight book.net book.events
-    → IfOk r (λ w. InStep helm1 w × (w.front ≡ w.net.horizon)) → IfOk r (λ w. IsFinished helm0.net book w)
-finished_if helm0 helm1 passes book (Ok world) steers closed right stands =
-    finished_at helm0 helm1 passes book world steers closed right stands.0 stands.1
-finished_if helm0 helm1 passes book (Err e) steers closed right stands = tt
+    → IfOk r (λ w. InStep helm1 w × (w.front ≡ w.net.horizon)) → IfOk r (λ w. IsAtHorizon helm0.net book w)
+finished_if helm0 helm1 passes book (Ok world) steers closed right in_step =
+    finished_at helm0 helm1 passes book world steers closed right in_step.0 in_step.1
+finished_if helm0 helm1 passes book (Err e) steers closed right in_step = tt

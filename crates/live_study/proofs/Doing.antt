@@ -1,6 +1,7 @@
 -- What one act more does to what was asked and looked at.
 use Rattle.std.proofs.Common.{◌≡◌, ℕ, ◌+◌, ◌<◌, ◌≤◌, List, [], ◌∷◌, ◌++◌, length, map, Option, Some}
-use Rattle.std.proofs.Common.{None, IfSome, option_map, position, take, get_or, sym, ap, ap₂, ◌∙◌, subst, arith, length-append, append-nil}
+use Rattle.std.proofs.Common.{None, IfSome, option_map, position, take, get_or, sym, ap, ap₂, ◌∙◌, subst, arith}
+use Rattle.std.proofs.Common.{length-append, append-nil}
 use Rattle.std.specs.List.{AllByRecursion}
 use Rattle.std.proofs.lemmas.List.{length-map, map-append, take_more}
 use Rattle.std.proofs.lemmas.List.Concat.{flat_map-append}
@@ -16,7 +17,7 @@ use Rattle.decision_script.specs.declared.item.Act.TheVariants.{Decide, Look}
 use Rattle.decision_script.specs.Alone.{decisions_onto}
 use Rattle.decision_book.specs.Journal.{Event}
 use Rattle.decision_desk.specs.declared.pass.Receipt.{Receipt}
-use Rattle.decision_desk.specs.Passes.{Passed, IsAsked}
+use Rattle.decision_desk.specs.Passes.{PassView, IsAsked}
 use Rattle.phys_proc.specs.Racks.{RackView}
 use Rattle.phys_proc.specs.declared.rack.Glance.{Glance}
 use Rattle.shelf.specs.Racks.{AreLegal, IsGlance, latest}
@@ -24,7 +25,7 @@ use Rattle.shelf.proofs.Legals.{front-later, has_later}
 use Rattle.shelf.proofs.Prefixes.{prefix_trans}
 use Rattle.journal_text.specs.declared.looked.Looked.{Looked}
 use Rattle.live_study.specs.declared.analyst.Analyst.{Analyst}
-use Rattle.live_study.specs.Asking.{AskedSo, HasAsked, IsSame, decided}
+use Rattle.live_study.specs.Asking.{AskedSo, HasAsked, IsSameAnalyst, decisions_asked}
 use Rattle.live_study.specs.Looks.{HasRacks, IsNoEarlier, IsRead, NeverFall, WasRead, asked_for}
 use Rattle.live_study.specs.Scripts.{look_onto, looks_in}
 use Rattle.live_study.specs.Showing.{HasLooked}
@@ -35,10 +36,11 @@ pub acts_more : (acts : List Act) (k : ℕ) (act : Act) → k < length acts → 
     → take (k + 1) acts ≡ take k acts ++ act ∷ []
 acts_more acts k act less is = take_more acts k act less ∙ ap (λ a. take k acts ++ a ∷ []) (sym is)
 
-decided_more : (acts : List Act) (act : Act) → decided (acts ++ act ∷ []) ≡ decided acts ++ decisions_onto act []
-decided_more acts act =
+decisions_asked-push : (acts : List Act) (act : Act)
+    → decisions_asked (acts ++ act ∷ []) ≡ decisions_asked acts ++ decisions_onto act []
+decisions_asked-push acts act =
     flat_map-append (λ a. decisions_onto a []) acts (act ∷ [])
-    ∙ ap (λ xs. decided acts ++ xs) (append-nil (decisions_onto act []))
+    ∙ ap (λ xs. decisions_asked acts ++ xs) (append-nil (decisions_onto act []))
 
 looks_more : (x : ℕ) (acts : List Act) (act : Act) → looks_in x (acts ++ act ∷ []) ≡ looks_in x acts ++ look_onto x act
 looks_more x acts act =
@@ -49,21 +51,21 @@ pub asked_next : (desk : TableId) (acts : List Act) (d : Decision) (old new : An
     (j : List Event) → HasAsked desk acts old → IsAsked old.pass d receipt new.pass j
     → HasAsked desk (acts ++ Decide d ∷ []) new
 asked_next desk acts d old new receipt j h a =
-    let r = asked_more (decided acts) old.pass new.pass d receipt j h.all a in
+    let r = asked_more (decisions_asked acts) old.pass new.pass d receipt j h.all a in
     record {
       desk_is = r.1 ∙ h.desk_is;
-      all = subst (λ ds. AskedSo ds new.pass.account) (sym (decided_more acts (Decide d))) r.0;
+      all = subst (λ ds. AskedSo ds new.pass.account) (sym (decisions_asked-push acts (Decide d))) r.0;
     }
 
 -- an analyst that looked, its pass as it was, has asked what it had to ask
 pub asked_over : (desk : TableId) (acts : List Act) (who station : List ℕ) (old new : Analyst) → HasAsked desk acts old
     → new.pass ≡ old.pass → HasAsked desk (acts ++ Look who station ∷ []) new
 asked_over desk acts who station old new h e =
-    let none : decided (acts ++ Look who station ∷ []) ≡ decided acts =
-    decided_more acts (Look who station) ∙ append-nil (decided acts) in
+    let none : decisions_asked (acts ++ Look who station ∷ []) ≡ decisions_asked acts =
+    decisions_asked-push acts (Look who station) ∙ append-nil (decisions_asked acts) in
     record {
-      desk_is = ap (λ (p : Passed). p.desk) e ∙ h.desk_is;
-      all = subst (λ (p : Passed). AskedSo (decided (acts ++ Look who station ∷ [])) p.account) (sym e)
+      desk_is = ap (λ (p : PassView). p.desk) e ∙ h.desk_is;
+      all = subst (λ (p : PassView). AskedSo (decisions_asked (acts ++ Look who station ∷ [])) p.account) (sym e)
           (subst (λ ds. AskedSo ds old.pass.account) (sym none) h.all);
     }
 
@@ -106,7 +108,8 @@ asked_is l x who station e f g = λ i. (e i, f i, g i)
 -- and one that looked has looked at one thing more
 pub looked_next : (net : Net) (acts : List Act) (who station : List ℕ) (old new : Analyst) (xs ys : List RackView)
     (l : Looked) → HasLooked net acts (old, xs) → IsPrefix xs ys → HasRacks net ys → IsRead net ys l
-    → ((k : Looked) → IsRead net xs k → IsNoEarlier k l) → l.analyst ≡ old.number → l.who ≡ who → l.station ≡ station → new.looks.items ≡ old.looks.items ++ l ∷ []
+    → ((k : Looked) → IsRead net xs k → IsNoEarlier k l) → l.analyst ≡ old.number → l.who ≡ who
+    → l.station ≡ station → new.looks.items ≡ old.looks.items ++ l ∷ []
     → new.number ≡ old.number → HasLooked net (acts ++ Look who station ∷ []) (new, ys)
 looked_next net acts who station old new xs ys l h p there r later a w s items n = record {
   asked = ap (map asked_for) items ∙ map-append asked_for old.looks.items (l ∷ [])
@@ -140,31 +143,31 @@ few_decisions_onto (Decide d) = omega arith
 few_decisions_onto (Look who station) = omega arith
 
 -- so there are no more decisions than acts
-pub few_decided : (acts : List Act) → length (decided acts) ≤ length acts
-few_decided [] = omega arith
-few_decided (act ∷ acts) = omega (
+pub length-decisions_asked : (acts : List Act) → length (decisions_asked acts) ≤ length acts
+length-decisions_asked [] = omega arith
+length-decisions_asked (act ∷ acts) = omega (
   arith,
   few_decisions_onto act,
-  few_decided acts,
-  length-append (decisions_onto act []) (decided acts),
+  length-decisions_asked acts,
+  length-append (decisions_onto act []) (decisions_asked acts),
 )
 
--- so there is room for a look more
-pub room_for_one : (net : Net) (acts : List Act) (a : Analyst) (read : List RackView) (most : ℕ)
+-- so there is a free place for a look more
+pub free_for_one : (net : Net) (acts : List Act) (a : Analyst) (read : List RackView) (most : ℕ)
     → HasLooked net acts (a, read) → length acts < most → most ≤ a.looks.reserved
     → length a.looks.items < a.looks.reserved
-room_for_one net acts a read most h less room =
+free_for_one net acts a read most h less enough =
     let many : length a.looks.items ≡ length (looks_in a.number acts) =
     sym (length-map a.looks.items asked_for) ∙ ap length h.asked in
-    omega (arith, many, few_looks a.number acts, less, room)
+    omega (arith, many, few_looks a.number acts, less, enough)
 
 -- ---- what stays
-pub same_on : (a b c : Analyst) → IsSame a b → IsSame b c → IsSame a c
+pub same_on : (a b c : Analyst) → IsSameAnalyst a b → IsSameAnalyst b c → IsSameAnalyst a c
 same_on a b c s t = record {
   todo = t.todo ∙ s.todo;
   caller = t.caller ∙ s.caller;
   number = t.number ∙ s.number;
-  room = t.room ∙ s.room;
+  reserved = t.reserved ∙ s.reserved;
 }
 
 -- ---- one look
@@ -179,11 +182,6 @@ number_low name net s e = of_place (position (λ (site : Site). bytes_eq site.na
 -- where each station has a rack in a beginning of a list, each has one in the list
 pub racks_later : (net : Net) (xs ys : List RackView) → IsPrefix xs ys → HasRacks net xs → HasRacks net ys
 racks_later net xs ys p h = λ s low high. has_later s xs ys p (h s low high)
-
-none_seen : (n : Option ℕ) (most : ℕ) (who : List ℕ) (read : List RackView) (o : Option Glance) → o ≡ None
-    → IfSome o (λ g. (s : ℕ) × (n ≡ Some s) × (s ≤ most) × WasRead read s who g)
-none_seen n most who read None e = tt
-none_seen n most who read (Some g) e = absurd (cc)
 
 -- ---- a look and those before it
 pub none_later : (k l : Looked) → l.glance ≡ None → IsNoEarlier k l

@@ -15,7 +15,7 @@ use Rattle.decision_script.specs.Stating.{ScriptView}
 use Rattle.decision_book.specs.Journal.{Event}
 use Rattle.journal_text.specs.declared.looked.Looked.{Looked}
 use Rattle.live_study.specs.Asking.{Seated}
-use Rattle.live_study.specs.Lives.{AreTold, kept, looks_made}
+use Rattle.live_study.specs.Lives.{AreTrueLooks, all_looks, looks_made}
 use Rattle.live_study.specs.Looks.{AreLooks, HasMadeLooks, IsNoEarlier, NeverFall, asked_for}
 use Rattle.live_study.specs.Opening.{numbers_to}
 use Rattle.live_study.specs.Scripts.{acts_by, each_acts, each_looks, look_onto, looks_in}
@@ -83,12 +83,12 @@ each_own (a ∷ more) (r ∷ rs) e = (own_looks a.0.number a.0.todo.items r.item
 
 -- the looks of other analysts
 others_apart : (x : ℕ) (xs : List ℕ) (looks : List (ReservedView Looked)) → AllByRecursion (λ y. y ≢ x) xs
-    → AreOfEach xs looks → AllByRecursion (λ (l : Looked). l.analyst ≢ x) (kept looks)
+    → AreOfEach xs looks → AllByRecursion (λ (l : Looked). l.analyst ≢ x) (all_looks looks)
 others_apart x [] [] differ own = tt
 others_apart x [] (r ∷ rs) differ own = absurd own
 others_apart x (y ∷ ys) [] differ own = absurd own
 others_apart x (y ∷ ys) (r ∷ rs) differ own =
-    all_append (λ (l : Looked). l.analyst ≢ x) r.items (kept rs)
+    all_append (λ (l : Looked). l.analyst ≢ x) r.items (all_looks rs)
     (all_weaker (λ (l : Looked). l.analyst ≡ y) (λ (l : Looked). l.analyst ≢ x) r.items
     (λ l e f. differ.0 (sym e ∙ f)) own.0)
     (others_apart x ys rs differ.1 own.1)
@@ -107,20 +107,20 @@ rise_on x (k ∷ ls) more rise own then apart = (
 )
 
 all_rise : (xs : List ℕ) (looks : List (ReservedView Looked)) → Differ xs → AreOfEach xs looks
-    → AllByRecursion (λ (r : ReservedView Looked). NeverFall r.items) looks → NeverFall (kept looks)
+    → AllByRecursion (λ (r : ReservedView Looked). NeverFall r.items) looks → NeverFall (all_looks looks)
 all_rise [] [] differ own rise = tt
 all_rise [] (r ∷ rs) differ own rise = absurd own
 all_rise (x ∷ xs) [] differ own rise = absurd own
-all_rise (x ∷ xs) (r ∷ rs) differ own rise = rise_on x r.items (kept rs) rise.0 own.0
+all_rise (x ∷ xs) (r ∷ rs) differ own rise = rise_on x r.items (all_looks rs) rise.0 own.0
     (all_rise xs rs differ.1 own.1 rise.1) (others_apart x xs rs differ.0 own.1)
 
 -- ---- what they were to look at
 abbrev joined : List (List Asked) → List Asked
 joined each = flat_map (λ qs. qs) each
 
-made_in_order : (looks : List (ReservedView Looked)) → map asked_for (kept looks) ≡ joined (looks_made looks)
+made_in_order : (looks : List (ReservedView Looked)) → map asked_for (all_looks looks) ≡ joined (looks_made looks)
 made_in_order [] = refl
-made_in_order (r ∷ rs) = map-append asked_for r.items (kept rs)
+made_in_order (r ∷ rs) = map-append asked_for r.items (all_looks rs)
     ∙ ap (λ qs. map asked_for r.items ++ qs) (made_in_order rs)
 
 -- what analysts of these numbers with these acts have to look at
@@ -157,7 +157,7 @@ in_script_order items (suc n) =
 pub made_of_script : (s : ScriptView) (n : ℕ) (seated : List Seated) (looks : List (ReservedView Looked))
     → n ≡ length s.analysts → map (λ (a : Seated). a.0.number) seated ≡ numbers_to n
     → map (λ (a : Seated). a.0.todo.items) seated ≡ each_acts s.items n
-    → looks_made looks ≡ looks_to_make seated → HasMadeLooks s (kept looks)
+    → looks_made looks ≡ looks_to_make seated → HasMadeLooks s (all_looks looks)
 made_of_script s n seated looks many numbers todo made =
     made_in_order looks ∙ ap joined (made ∙ to_make_is seated ∙ ap₂ looks_of_each numbers todo)
     ∙ in_script_order s.items n ∙ ap (each_looks s.items) many
@@ -167,7 +167,7 @@ pub looks_of_script : (net : Net) (s : ScriptView) (n : ℕ) (events : List Even
     (looks : List (ReservedView Looked)) → n ≡ length s.analysts
     → map (λ (a : Seated). a.0.number) seated ≡ numbers_to n
     → map (λ (a : Seated). a.0.todo.items) seated ≡ each_acts s.items n
-    → looks_made looks ≡ looks_to_make seated → AreTold net events looks → AreLooks net s events (kept looks)
+    → looks_made looks ≡ looks_to_make seated → AreTrueLooks net events looks → AreLooks net s events (all_looks looks)
 looks_of_script net s n events seated looks many numbers todo made told = record {
   made = made_of_script s n seated looks many numbers todo made;
   true_ones = told.true_ones;

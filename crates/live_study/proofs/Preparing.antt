@@ -9,7 +9,7 @@ use Rattle.net_model.specs.Net.{Net}
 use Rattle.decision_script.specs.Stating.{ScriptView}
 use Rattle.decision_book.specs.Books.{BookView}
 use Rattle.decision_book.specs.Journal.{Event}
-use Rattle.decision_desk.specs.Passes.{Helmed}
+use Rattle.decision_desk.specs.Passes.{HelmView}
 use Rattle.phys_proc.specs.Racks.{RackView}
 use Rattle.shelf.specs.Racks.{HasRack, MayOpen, latest}
 use Rattle.shelf.proofs.Legals.{latest-all, opens}
@@ -17,31 +17,31 @@ use Rattle.journal_text.specs.declared.looked.Looked.{Looked}
 use Rattle.world_core.specs.Worlds.{WorldView}
 use Rattle.live_study.specs.declared.prepared.Prepared.{Prepared}
 use Rattle.live_study.specs.Asking.{IsReady, Seated, total_todo}
-use Rattle.live_study.specs.Closing.{HasRoomFor}
-use Rattle.live_study.specs.Lives.{AreTold, IsAllAsked, kept, looks_made}
+use Rattle.live_study.specs.Closing.{HasReservedFor}
+use Rattle.live_study.specs.Lives.{AreTrueLooks, IsAllAsked, all_looks, looks_made}
 use Rattle.live_study.specs.Looks.{AreLooks, HasMadeLooks, HasRacks, IsRackOf, IsRead, NeverFall, asked_for}
-use Rattle.live_study.specs.Opening.{IsFresh, IsOpening, IsPrepared, IsRackNow, numbers_to}
+use Rattle.live_study.specs.Opening.{IsFresh, AreOpeningRacks, IsPrepared, IsRackNow, numbers_to}
 use Rattle.live_study.specs.Scripts.{IsJournalOf, each_acts}
-use Rattle.live_study.specs.Showing.{AreShownOf, HasLooked, HasRoom, looks_to_make}
+use Rattle.live_study.specs.Showing.{AreShownOf, HasLooked, HasReserved, looks_to_make}
 use Rattle.live_study.proofs.Begun.{all_ready, few_todo, journal_of_script, length-new_passes, many_analysts}
 use Rattle.live_study.proofs.Looking.{looks_of_script, made_of_script}
 
 -- ---- the opening racks
 -- a rack at a place of them is one of the world as it stands
-now_at : (w : WorldView) (many : ℕ) (racks : List RackView) (i : ℕ) (r : RackView) → IsOpening w many racks
+now_at : (w : WorldView) (many : ℕ) (racks : List RackView) (i : ℕ) (r : RackView) → AreOpeningRacks w many racks
     → slice_get racks i ≡ Some r → IsRackNow w r
 now_at w many racks i r h e = subst (IsRackNow w) (get_or_from_slice_get racks i r r e)
     (all_at (IsRackNow w) racks i r h.now (slice_get_within racks i r e))
 
 -- the opening racks of a world are such as a shelf may open with
-pub racks_may_open : (w : WorldView) (many : ℕ) (racks : List RackView) → IsOpening w many racks → MayOpen racks
+pub racks_may_open : (w : WorldView) (many : ℕ) (racks : List RackView) → AreOpeningRacks w many racks → MayOpen racks
 racks_may_open w many racks h = record {
   each = h.each;
   net = λ i j q r e f. (now_at w many racks j r h f).net ∙ sym (now_at w many racks i q h e).net;
 }
 
 -- each station has one
-each_has_rack : (w : WorldView) (many : ℕ) (racks : List RackView) → IsOpening w many racks → (s : ℕ) → 1 ≤ s
+each_has_rack : (w : WorldView) (many : ℕ) (racks : List RackView) → AreOpeningRacks w many racks → (s : ℕ) → 1 ≤ s
     → s ≤ many → HasRack s racks
 each_has_rack w many racks h s low high =
     let back : s - 1 + 1 ≡ s = omega (arith, low) in
@@ -64,7 +64,7 @@ world_net net many p h = ap (λ (w : WorldView). w.net) h.world
 
 -- the helm that was prepared is of this network
 pub helm_net : (net : Net) (many : ℕ) (p : Prepared) → IsPrepared net many p → p.helm.net ≡ net
-helm_net net many p h = ap (λ (x : Helmed). x.net) h.helm
+helm_net net many p h = ap (λ (x : HelmView). x.net) h.helm
 
 -- the racks that were prepared are such as a shelf may open with
 pub may_begin : (net : Net) (many : ℕ) (p : Prepared) → IsPrepared net many p → MayOpen p.racks.items
@@ -102,12 +102,12 @@ pub all_parts : (net : Net) (many : ℕ) (p : Prepared) (seated : List Seated) �
     → map (λ (a : Seated). a.0.pass) seated ≡ p.passes.items → p.helm.parts + length seated ≡ 17
 all_parts net many p seated h few are =
     let len = many_analysts p.desk.table.shared.table_id net many p.passes.items seated are h.passes in
-    let parts = ap (λ (x : Helmed). x.parts) h.helm in
+    let parts = ap (λ (x : HelmView). x.parts) h.helm in
     omega (arith, parts, len, few)
 
 -- an analyst that has seen nothing has made no looks
 none_made : (net : Net) (a : Seated) (opening : List RackView) → IsFresh opening a → HasRacks net opening
-    → HasLooked net [] a × HasRoom a.0
+    → HasLooked net [] a × HasReserved a.0
 none_made net a opening f there = (
   record {
     asked = ap (map asked_for) f.quiet;
@@ -115,15 +115,15 @@ none_made net a opening f there = (
     rise = subst NeverFall (sym f.quiet) tt;
     there = subst (HasRacks net) (sym f.seat) there;
   },
-  omega (arith, f.room),
+  omega (arith, f.reserved),
 )
 
--- so each analyst has asked nothing and made no looks yet, and has room for all its looks
+-- so each analyst has asked nothing and made no looks yet, and has memory reserved for all its looks
 pub each_ready : (net : Net) (many : ℕ) (p : Prepared) (seated : List Seated) → IsPrepared net many p
     → map (λ (a : Seated). a.0.pass) seated ≡ p.passes.items → AllByRecursion (IsFresh p.racks.items) seated
     → (k : ℕ) (d : Seated) → k < length seated
     → IsReady p.desk.table.shared.table_id (get_or seated k d).0 × HasLooked net [] (get_or seated k d)
-    × HasRoom (get_or seated k d).0
+    × HasReserved (get_or seated k d).0
 each_ready net many p seated h are fresh k d less =
     let none = none_made net (get_or seated k d) p.racks.items
     (all_at (IsFresh p.racks.items) seated k d fresh less) (has_racks net many p h) in (
@@ -146,12 +146,12 @@ pub little_todo : (net : Net) (s : ScriptView) (p : Prepared) (seated : List Sea
 little_todo net s p seated h few todo =
     few_todo s.items seated (length s.analysts) (own_todo net s p seated h todo) few
 
--- what was prepared has room for what these analysts leave
-pub enough_room : (net : Net) (many : ℕ) (p : Prepared) (seated : List Seated) → IsPrepared net many p
-    → map (λ (a : Seated). a.0.pass) seated ≡ p.passes.items → HasRoomFor (length seated) p.room
-enough_room net many p seated h are =
+-- what was prepared has free places for what these analysts leave
+pub enough_reserved : (net : Net) (many : ℕ) (p : Prepared) (seated : List Seated) → IsPrepared net many p
+    → map (λ (a : Seated). a.0.pass) seated ≡ p.passes.items → HasReservedFor (length seated) p.reserve
+enough_reserved net many p seated h are =
     let len = many_analysts p.desk.table.shared.table_id net many p.passes.items seated are h.passes in
-    subst (λ n. HasRoomFor n p.room) (sym len) h.room
+    subst (λ n. HasReservedFor n p.reserve) (sym len) h.reserve
 
 -- ---- the journal
 pub journal_is : (net : Net) (s : ScriptView) (p : Prepared) (seated : List Seated) (book : BookView)
@@ -168,7 +168,7 @@ pub made_are : (net : Net) (s : ScriptView) (p : Prepared) (seated : List Seated
     → IsPrepared net (length s.analysts) p
     → map (λ (a : Seated). a.0.number) seated ≡ numbers_to (length p.passes.items)
     → map (λ (a : Seated). a.0.todo.items) seated ≡ each_acts s.items (length p.passes.items)
-    → looks_made looks ≡ looks_to_make seated → HasMadeLooks s (kept looks)
+    → looks_made looks ≡ looks_to_make seated → HasMadeLooks s (all_looks looks)
 made_are net s p seated looks h numbers todo made =
     made_of_script s (length p.passes.items) seated looks (many_passes net (length s.analysts) p h) numbers todo made
 
@@ -177,8 +177,9 @@ pub looks_are : (net : Net) (s : ScriptView) (p : Prepared) (seated : List Seate
     (looks : List (ReservedView Looked)) → IsPrepared net (length s.analysts) p
     → map (λ (a : Seated). a.0.number) seated ≡ numbers_to (length p.passes.items)
     → map (λ (a : Seated). a.0.todo.items) seated ≡ each_acts s.items (length p.passes.items)
-    → looks_made looks ≡ looks_to_make seated → AreTold p.helm.net events looks → AreLooks net s events (kept looks)
+    → looks_made looks ≡ looks_to_make seated → AreTrueLooks p.helm.net events looks
+    → AreLooks net s events (all_looks looks)
 looks_are net s p seated events looks h numbers todo made told =
     let many = length s.analysts in
     looks_of_script net s (length p.passes.items) events seated looks (many_passes net many p h) numbers todo made
-    (subst (λ (n : Net). AreTold n events looks) (helm_net net many p h) told)
+    (subst (λ (n : Net). AreTrueLooks n events looks) (helm_net net many p h) told)

@@ -11,7 +11,7 @@ use Rattle.sim_base.proofs.Placing.{all_weaker}
 use Rattle.net_model.specs.Net.{Net}
 use Rattle.decision_book.specs.Journal.{Event, raised, asked, after}
 use Rattle.decision_desk.specs.Accounts.{Begins}
-use Rattle.decision_desk.specs.Passes.{Helmed}
+use Rattle.decision_desk.specs.Passes.{HelmView}
 use Rattle.phys_proc.specs.Racks.{RackView}
 use Rattle.shelf.specs.Racks.{HasRack, MayFollow, if_this, latest}
 use Rattle.shelf.proofs.Legals.{has_with, latest-with}
@@ -39,12 +39,12 @@ pub rack_later : (net : Net) (es fs : List Event) (r : RackView) → Begins es f
 rack_later net es fs r p h = record { net_is = h.net_is; at = at_later net es fs r.front r.clones p h.at }
 
 -- the journal of a helm that raised its front goes on from the one that it had
-pub raises_begin : (old new : Helmed) (front : ℕ) → Raises old new front → Begins old.helm new.helm
+pub raises_begin : (old new : HelmView) (front : ℕ) → Raises old new front → Begins old.helm new.helm
 raises_begin old new front r =
     (map asked r.calls ++ raised front ∷ [], r.helm ∙ append_assoc old.helm (map asked r.calls) (raised front ∷ []))
 
 -- the world stands at the front that the helm has raised
-pub at_raised : (old new : Helmed) (w : WorldView) → Raises old new w.front → InStep new w
+pub at_raised : (old new : HelmView) (w : WorldView) → Raises old new w.front → InStep new w
     → AreAtFront new.net new.helm w.front w.clones
 at_raised old new w r i =
     let before : List Event = old.helm ++ map asked r.calls in
@@ -53,7 +53,7 @@ at_raised old new w r i =
     inr (before, ([], r.helm ∙ sym (append-nil (before ++ raised w.front ∷ []))), clones)
 
 -- ---- a round of racks
-pub round_begins : (old new : Helmed) (w v : WorldView) (published : List RackView) → AreShownOf old w published
+pub round_begins : (old new : HelmView) (w v : WorldView) (published : List RackView) → AreShownOf old w published
     → new.net ≡ old.net → Raises old new v.front → v.net ≡ w.net → w.front < v.front → AreShownTo new v 0 published
 round_begins old new w v published h net r same rises = record {
   racks = all_weaker (IsRackOf old.net old.helm) (IsRackOf new.net new.helm) published
@@ -68,7 +68,7 @@ round_begins old new w v published h net r same rises = record {
   last = λ e s low high. absurd (omega (arith, low, high));
 }
 
-follows : (h : Helmed) (w : WorldView) (done : ℕ) (r : RackView) (published : List RackView)
+follows : (h : HelmView) (w : WorldView) (done : ℕ) (r : RackView) (published : List RackView)
     → AllByRecursion (IsRackOf h.net h.helm) published
     → AllByRecursion (λ (q : RackView). done < q.station → q.front < w.front) published
     → r.net ≡ h.net → r.station ≡ done + 1 → r.front ≡ w.front → MayFollow published r
@@ -82,7 +82,7 @@ follows h w done r (q ∷ published) racks below net station front = (
 )
 
 -- the rack of the next station may be published
-pub may_publish : (h : Helmed) (w : WorldView) (done : ℕ) (r : RackView) (published : List RackView)
+pub may_publish : (h : HelmView) (w : WorldView) (done : ℕ) (r : RackView) (published : List RackView)
     → AreShownTo h w done published → r.net ≡ h.net → r.station ≡ done + 1 → r.front ≡ w.front → MayFollow published r
 may_publish h w done r published shown net station front =
     follows h w done r published shown.racks shown.below net station front
@@ -92,7 +92,7 @@ is_last : (s : ℕ) (racks : List RackView) (r : RackView) (b : Bool) → (r.sta
 is_last s racks r b e = latest-with s racks r ∙ ap (λ c. if_this c r (latest s racks)) e
 
 -- with the rack of the next station published, one station more had its turn
-pub round_goes_on : (h : Helmed) (w : WorldView) (done : ℕ) (r : RackView) (published : List RackView)
+pub round_goes_on : (h : HelmView) (w : WorldView) (done : ℕ) (r : RackView) (published : List RackView)
     → AreShownTo h w done published → AreAtFront h.net h.helm w.front w.clones → r.net ≡ h.net → r.clones ≡ w.clones
     → r.station ≡ done + 1 → r.front ≡ w.front → AreShownTo h w (done + 1) (published ++ r ∷ [])
 round_goes_on h w done r published shown at net clones station front = record {
@@ -120,7 +120,7 @@ round_goes_on h w done r published shown at net clones station front = record {
 }
 
 -- before the horizon a station may have its turn without a rack
-pub round_skips : (h : Helmed) (w : WorldView) (done : ℕ) (published : List RackView) → AreShownTo h w done published
+pub round_skips : (h : HelmView) (w : WorldView) (done : ℕ) (published : List RackView) → AreShownTo h w done published
     → (w.front ≡ w.net.horizon → ⊥) → AreShownTo h w (done + 1) published
 round_skips h w done published shown not = record {
   racks = shown.racks;
@@ -134,7 +134,7 @@ round_skips h w done published shown not = record {
 
 -- ---- the same, at the number of the station whose turn it is
 -- its rack may be published
-pub may_show : (h : Helmed) (w : WorldView) (station : ℕ) (r : RackView) (published : List RackView) → 1 ≤ station
+pub may_show : (h : HelmView) (w : WorldView) (station : ℕ) (r : RackView) (published : List RackView) → 1 ≤ station
     → station ≤ length w.net.sites → AreShownTo h w (station - 1) published → w.net ≡ h.net → r.net ≡ w.net
     → r.station ≡ station → r.front ≡ w.front → HasRack r.station published × MayFollow published r
 may_show h w station r published low high shown of net own front =
@@ -144,7 +144,7 @@ may_show h w station r published low high shown of net own front =
     )
 
 -- and then it is shown
-pub shows_more : (h : Helmed) (w : WorldView) (station : ℕ) (r : RackView) (published : List RackView) → 1 ≤ station
+pub shows_more : (h : HelmView) (w : WorldView) (station : ℕ) (r : RackView) (published : List RackView) → 1 ≤ station
     → AreShownTo h w (station - 1) published → AreAtFront h.net h.helm w.front w.clones → w.net ≡ h.net
     → r.net ≡ w.net → r.clones ≡ w.clones → r.station ≡ station → r.front ≡ w.front
     → AreShownTo h w station (published ++ r ∷ [])
@@ -154,7 +154,7 @@ shows_more h w station r published low shown at of net clones own front =
     (round_goes_on h w (station - 1) r published shown at (net ∙ of) clones (own ∙ sym back) front)
 
 -- where it was published
-pub shows_if : {E : Type 0} (h : Helmed) (w : WorldView) (station : ℕ) (r : RackView) (published new : List RackView)
+pub shows_if : {E : Type 0} (h : HelmView) (w : WorldView) (station : ℕ) (r : RackView) (published new : List RackView)
     (end : Result (Unit {0}) E) → 1 ≤ station → AreShownTo h w (station - 1) published
     → AreAtFront h.net h.helm w.front w.clones → w.net ≡ h.net → r.net ≡ w.net → r.clones ≡ w.clones
     → r.station ≡ station → r.front ≡ w.front → OnOk end (new ≡ published ++ r ∷ [])

@@ -5,7 +5,7 @@ use Rattle.std.proofs.lemmas.Bool.{cases_eq}
 use Rattle.std.proofs.lemmas.List.{length_push}
 use Rattle.std.proofs.lemmas.List.Quantifiers.{position-Some}
 use Rattle.std.specs.Str.{bytes_eq}
-use Rattle.sim_base.specs.Clones.{Clone, base, clone_at, forked, nobody, place_of}
+use Rattle.sim_base.specs.Clones.{Clone, base, clone_at, clones_with_fork, nobody, place_of}
 use Rattle.sim_base.specs.declared.decision.Decision.{Decision}
 use Rattle.sim_base.specs.declared.decision.Decision.TheVariants.{Fork, Set, End}
 use Rattle.sim_base.specs.declared.decision.Planned.{Planned}
@@ -21,7 +21,7 @@ use Rattle.stations.specs.Runs.{simulation, log_at}
 use Rattle.stations.proofs.GoodLaws.{lawful-stations}
 use Rattle.decision_book.specs.declared.call.Call.{Call}
 use Rattle.decision_book.specs.declared.call.Reply.TheVariants.{Accepted}
-use Rattle.decision_book.specs.Journal.{Event, Situation, raised, asked, after, after_event, opening}
+use Rattle.decision_book.specs.Journal.{Event, Situation, raised, asked, after, after_event, outset}
 use Rattle.decision_book.specs.Journal.{clones_after, if_accepted, plan_of_set}
 use Rattle.decision_book.specs.Replies.{reply}
 use Rattle.decision_book.specs.Right.{EachAfter, IsRight, MayFollow}
@@ -59,7 +59,7 @@ module _ (net : Net) (front : ℕ) where
 
   -- a fork has the logs of its origin
   keep_logs-fork : (clones : List Clone) (name : List ℕ) (old : ℕ) → old < length clones
-      → (clone_at clones old).end ≡ None → KeepLogs net front clones (forked clones name old)
+      → (clone_at clones old).end ≡ None → KeepLogs net front clones (clones_with_fork clones name old)
   keep_logs-fork clones name old there open_end =
       let k : Clone = record { name = name; plans = (clone_at clones old).plans; end = None } in
       let longer = length_push clones k in
@@ -111,7 +111,8 @@ module _ (net : Net) (valid : IsNet net) (front : ℕ) where
       → KeepLogs net front clones (clones_after net clones d)
   keep_logs-decided clones now (Fork new old) late accepted =
       let o = is_open net clones now (Fork new old) accepted in
-      subst (λ (i : ℕ). KeepLogs net front clones (forked clones new i)) (sym (ap (λ p. unwrap_or p 0) o.place))
+      subst (λ (i : ℕ). KeepLogs net front clones (clones_with_fork clones new i)) (sym (ap
+      (λ p. unwrap_or p 0) o.place))
       (keep_logs-fork net front clones new o.clone (inside old clones o.clone o.place) o.open_end)
   keep_logs-decided clones now (Set who at station change) late accepted =
       let o = is_open net clones now (Set who at station change) accepted in
@@ -161,15 +162,15 @@ module _ (net : Net) (valid : IsNet net) (front : ℕ) where
   keep_logs-after before (raised f ∷ es) s is late right =
       let stands : (after net before).front ≡ s.front = ap (λ (x : Situation). x.front) is in
       keep_logs-after (before ++ raised f ∷ []) es (after_event s (raised f))
-      (fold_append (opening net) before (raised f ∷ []) ∙ ap (λ (x : Situation). after_event x (raised f)) is)
+      (fold_append (outset net) before (raised f ∷ []) ∙ ap (λ (x : Situation). after_event x (raised f)) is)
       (omega (arith, late, stands, right.0.0)) right.1
   keep_logs-after before (asked c ∷ es) s is late right =
-      let of : s.net ≡ net = ap (λ (x : Situation). x.net) (sym is) ∙ net_stays (opening net) before in
+      let of : s.net ≡ net = ap (λ (x : Situation). x.net) (sym is) ∙ net_stays (outset net) before in
       let answer : c.reply ≡ reply s c.decision = right.0.answer ∙ ap (λ (x : Situation). reply x c.decision) is in
       keep_logs-trans net front s.clones (after_event s (asked c)).clones
       (fold after_event (after_event s (asked c)) es).clones (keep_logs-call s c of late answer)
       (keep_logs-after (before ++ asked c ∷ []) es (after_event s (asked c))
-      (fold_append (opening net) before (asked c ∷ []) ∙ ap (λ (x : Situation). after_event x (asked c)) is) late
+      (fold_append (outset net) before (asked c ∷ []) ∙ ap (λ (x : Situation). after_event x (asked c)) is) late
       right.1)
 
 -- ---- LogsStay
@@ -179,9 +180,9 @@ keep_logs-behind : (net : Net) → IsNet net → (before more : List Event) (fro
     → KeepLogs net front (after net before).clones (after net ((before ++ raised front ∷ []) ++ more)).clones
 keep_logs-behind net valid before more front right =
     let s : Situation = after_event (after net before) (raised front) in
-    let is : after net (before ++ raised front ∷ []) ≡ s = fold_append (opening net) before (raised front ∷ []) in
+    let is : after net (before ++ raised front ∷ []) ≡ s = fold_append (outset net) before (raised front ∷ []) in
     subst (KeepLogs net front (after net before).clones)
-    (sym (ap (λ (x : Situation). x.clones) (fold_append (opening net) (before ++ raised front ∷ []) more
+    (sym (ap (λ (x : Situation). x.clones) (fold_append (outset net) (before ++ raised front ∷ []) more
     ∙ ap (λ (x : Situation). fold after_event x more) is)))
     (keep_logs-after net valid front (before ++ raised front ∷ []) more s is (omega arith)
     (each_later (MayFollow net) [] (before ++ raised front ∷ []) more right))
@@ -191,7 +192,7 @@ pub logs_stay : (net : Net) → IsNet net → LogsStay net
 logs_stay net valid events front clones right at = ⊎_elim
     (λ (h : (front ≡ 0) × (clones ≡ base ∷ [])).
     subst (λ (cs : List Clone). KeepLogs net front cs (after net events).clones) (sym h.1)
-    (keep_logs-after net valid front [] events (opening net) refl (omega (arith, h.0)) right))
+    (keep_logs-after net valid front [] events (outset net) refl (omega (arith, h.0)) right))
     (λ (h : (before : List Event) × Begins (before ++ raised front ∷ []) events
     × (clones ≡ (after net before).clones)).
     subst (λ (cs : List Clone). KeepLogs net front cs (after net events).clones) (sym h.2)

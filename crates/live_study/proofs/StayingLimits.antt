@@ -7,7 +7,7 @@ use Rattle.net_model.specs.Rules.{IsNet}
 use Rattle.run_laws.specs.Queue.{In}
 use Rattle.stations.specs.Runs.{IsBeyond}
 use Rattle.decision_book.specs.declared.call.Call.{Call}
-use Rattle.decision_book.specs.Journal.{Event, Situation, raised, asked, after, fronts_of, opening}
+use Rattle.decision_book.specs.Journal.{Event, Situation, raised, asked, after, fronts_of, outset}
 use Rattle.decision_book.specs.Right.{IsRight, MayFollow}
 use Rattle.decision_book.proofs.JournalScripts.{each_later, fold_append}
 use Rattle.decision_desk.specs.Accounts.{front_of}
@@ -59,7 +59,7 @@ keep_logs-calls : (net : Net) → IsNet net → (h : List Event) (cs : List Call
     → KeepLogs net front (after net h).clones (after net (h ++ map asked cs)).clones
 keep_logs-calls net valid h cs right front early =
     subst (KeepLogs net front (after net h).clones)
-    (sym (ap (λ (s : Situation). s.clones) (fold_append (opening net) h (map asked cs))))
+    (sym (ap (λ (s : Situation). s.clones) (fold_append (outset net) h (map asked cs))))
     (keep_logs-after net valid front h (map asked cs) (after net h) refl (omega (arith, early, front_is net h))
     (each_later (MayFollow net) [] h (map asked cs) right))
 

@@ -11,13 +11,13 @@ use Rattle.run_laws.proofs.Fronts.{log_at_front}
 use Rattle.stations.specs.Runs.{log_at, next_front}
 use Rattle.stations.proofs.GoodLaws.{lawful-stations}
 use Rattle.decision_book.specs.declared.call.Call.{Call}
-use Rattle.decision_book.specs.Journal.{Event, Situation, raised, asked, after, after_event, fronts_of, opening}
+use Rattle.decision_book.specs.Journal.{Event, Situation, raised, asked, after, after_event, fronts_of, outset}
 use Rattle.decision_book.specs.Right.{EachAfter, IsRight, MayFollow}
 use Rattle.decision_book.specs.Scripts.{accepted_of}
 use Rattle.decision_book.proofs.JournalScripts.{fold_append, net_stays}
 use Rattle.decision_desk.specs.declared.helm.Turn.{Turn}
 use Rattle.decision_desk.specs.Accounts.{RisesFrom, front_from, front_of}
-use Rattle.decision_desk.specs.Passes.{Helmed, IsNextTurn}
+use Rattle.decision_desk.specs.Passes.{HelmView, IsNextTurn}
 use Rattle.decision_desk.proofs.Journals.{front_asked, front_raised}
 use Rattle.decision_desk.proofs.Leasts.{front_is}
 use Rattle.world_core.specs.Overs.{NoneBeyond}
@@ -28,11 +28,11 @@ use Rattle.live_study.specs.Showing.{Raises}
 use Rattle.live_study.proofs.Taking.{taken_behind}
 
 net_of : (net : Net) (es : List Event) → (after net es).net ≡ net
-net_of net es = net_stays (opening net) es
+net_of net es = net_stays (outset net) es
 
 -- to raise a front changes no clones
 pub front_after : (net : Net) (j : List Event) (f : ℕ) → (after net (j ++ raised f ∷ [])).clones ≡ (after net j).clones
-front_after net j f = ap (λ (s : Situation). s.clones) (fold_append (opening net) j (raised f ∷ []))
+front_after net j f = ap (λ (s : Situation). s.clones) (fold_append (outset net) j (raised f ∷ []))
 
 front_stays : (s : Situation) (cs : List Call) → (fold after_event s (map asked cs)).front ≡ s.front
 front_stays s [] = refl
@@ -42,12 +42,13 @@ front_stays s (c ∷ cs) = front_stays (after_event s (asked c)) cs
 pub front_calls : (net : Net) (h : List Event) (cs : List Call) → front_of (h ++ map asked cs) ≡ front_of h
 front_calls net h cs =
     sym (front_is net (h ++ map asked cs))
-    ∙ ap (λ (s : Situation). s.front) (fold_append (opening net) h (map asked cs))
+    ∙ ap (λ (s : Situation). s.front) (fold_append (outset net) h (map asked cs))
     ∙ front_stays (after net h) cs ∙ front_is net h
 
 -- ---- the fronts of a journal
 -- those of a right journal rise
-rises_behind : (net : Net) (before es : List Event) → EachAfter (MayFollow net) before es → RisesFrom (front_of before) es
+rises_behind : (net : Net) (before es : List Event) → EachAfter (MayFollow net) before es
+    → RisesFrom (front_of before) es
 rises_behind net before [] right = tt
 rises_behind net before (raised f ∷ es) right =
     let at = front_is net before in
@@ -111,12 +112,12 @@ none_earlier net cs f front valid early none s c low high there beyond =
 
 -- ---- a turn
 -- what the world takes in a turn, as the helm's journal tells it
-pub record Takes (h : Helmed) (cs : List Call) : Type 0 where
+pub record Takes (h : HelmView) (cs : List Call) : Type 0 where
   pub accepted : AreAccepted h.net (after h.net h.helm).clones (front_of h.helm) (accepted_of cs)
   pub clones : (after h.net (h.helm ++ map asked cs)).clones ≡ clones_after_calls h.net (after h.net h.helm).clones
       (accepted_of cs)
 
-takes_turn : (h : Helmed) (turn : Turn) (new : Helmed) (cs : List Call) → IsNextTurn h turn new cs → Takes h cs
+takes_turn : (h : HelmView) (turn : Turn) (new : HelmView) (cs : List Call) → IsNextTurn h turn new cs → Takes h cs
 takes_turn h turn new cs t =
     let s : Situation = after h.net h.helm in
     let taken = taken_behind h.net h.helm cs t.right in
@@ -124,12 +125,12 @@ takes_turn h turn new cs t =
     record {
       accepted = subst (λ f. AreAccepted h.net s.clones f (accepted_of cs)) (front_is h.net h.helm)
           (subst (λ (n : Net). AreAccepted n s.clones s.front (accepted_of cs)) net taken.accepted);
-      clones = ap (λ (x : Situation). x.clones) (fold_append (opening h.net) h.helm (map asked cs)) ∙ taken.clones
+      clones = ap (λ (x : Situation). x.clones) (fold_append (outset h.net) h.helm (map asked cs)) ∙ taken.clones
           ∙ ap (λ (n : Net). clones_after_calls n s.clones (accepted_of cs)) net;
     }
 
 -- what the turn gives is accepted by a world in step
-pub may_take : (h : Helmed) (w : WorldView) (turn : Turn) (new : Helmed) (cs : List Call) (fresh : List Call)
+pub may_take : (h : HelmView) (w : WorldView) (turn : Turn) (new : HelmView) (cs : List Call) (fresh : List Call)
     → InStep h w
     → IsNextTurn h turn new cs → fresh ≡ turn.fresh.items → AreAccepted w.net w.clones w.front fresh
 may_take h w turn new cs fresh i t e =
@@ -140,7 +141,7 @@ may_take h w turn new cs fresh i t e =
     (takes_turn h turn new cs t).accepted)))
 
 -- and the window comes next
-pub goes_ahead : (h : Helmed) (w : WorldView) (turn : Turn) (new : Helmed) (cs : List Call) (fresh : List Call)
+pub goes_ahead : (h : HelmView) (w : WorldView) (turn : Turn) (new : HelmView) (cs : List Call) (fresh : List Call)
     (w2 : WorldView)
     → InStep h w → IsNextTurn h turn new cs → fresh ≡ turn.fresh.items
     → w2.net ≡ w.net → w2.front ≡ w.front → w2.clones ≡ clones_after_calls w.net w.clones fresh
@@ -161,7 +162,7 @@ goes_ahead h w turn new cs fresh w2 i t e net front clones valid none =
     let above = t.above in
     let within = t.within in
     let horizon : w2.net.horizon ≡ h.net.horizon = ap (λ (n : Net). n.horizon) of_net in
-    subst (λ (n : Helmed). IsAhead n w2 turn.front) (sym t.new_is) (record {
+    subst (λ (n : HelmView). IsAhead n w2 turn.front) (sym t.new_is) (record {
       net = of_net;
       clones = of_clones ∙ sym (front_after h.net j turn.front);
       bound_is = sym (front_raised j turn.front);
@@ -174,5 +175,5 @@ goes_ahead h w turn new cs fresh w2 i t e net front clones valid none =
     })
 
 -- the front is raised behind calls
-pub raises_next : (h new : Helmed) (turn : Turn) (cs : List Call) → IsNextTurn h turn new cs → Raises h new turn.front
-raises_next h new turn cs t = record { calls = cs; helm = ap (λ (n : Helmed). n.helm) t.new_is }
+pub raises_next : (h new : HelmView) (turn : Turn) (cs : List Call) → IsNextTurn h turn new cs → Raises h new turn.front
+raises_next h new turn cs t = record { calls = cs; helm = ap (λ (n : HelmView). n.helm) t.new_is }

@@ -3,7 +3,7 @@ use Rattle.std.proofs.Common.{◌≡◌, ⊎_elim, ◌+◌, refl, sym, ap, ◌�
 use Rattle.std.proofs.Common.{List, [], ◌∷◌, ◌++◌, map}
 use Rattle.sim_base.specs.declared.decision.Decision.{Decision}
 use Rattle.net_model.specs.Net.{Net}
-use Rattle.decision_book.specs.Journal.{Event, Situation, after, after_event, asked, clones_after, if_accepted, opening}
+use Rattle.decision_book.specs.Journal.{Event, Situation, after, after_event, asked, clones_after, if_accepted, outset}
 use Rattle.decision_book.specs.Replies.{reply}
 use Rattle.decision_book.specs.Right.{EachAfter, IsRight, MayFollow}
 use Rattle.decision_book.specs.Scripts.{accepted_of, if_taken}
@@ -54,7 +54,7 @@ taken_from : (net : Net) (before : List Event) (cs : List Call) (s : Situation) 
     → EachAfter (MayFollow net) before (map asked cs) → AreTaken s cs
 taken_from net before [] s is right = record { accepted = tt; clones = refl }
 taken_from net before (c ∷ cs) s is right =
-    let then = fold_append (opening net) before (asked c ∷ []) ∙ ap (λ (x : Situation). after_event x (asked c)) is in
+    let then = fold_append (outset net) before (asked c ∷ []) ∙ ap (λ (x : Situation). after_event x (asked c)) is in
     let answer : c.reply ≡ reply s c.decision = right.0.answer ∙ ap (λ (x : Situation). reply x c.decision) is in
     ⊎_elim
     (λ (h : c.reply ≡ Accepted).

@@ -9,7 +9,7 @@ use Rattle.decision_script.specs.declared.item.Act.TheVariants.{Decide, Look}
 use Rattle.decision_script.specs.declared.item.Item.{Item}
 use Rattle.decision_script.specs.Stating.{ScriptView}
 use Rattle.decision_book.specs.declared.call.Call.{Call}
-use Rattle.decision_desk.specs.Accounts.{numbered}
+use Rattle.decision_desk.specs.Accounts.{calls_from}
 use Rattle.journal_text.specs.declared.looked.Looked.{Looked}
 use Rattle.live_study.specs.Looks.{HasMadeLooks, asked_for}
 use Rattle.live_study.specs.Scripts.{acts_by, each_looks, looks_in}
@@ -31,20 +31,20 @@ up_to : (x many : ℕ) → (many < x → ⊥) → x ≤ many
 up_to x many h = omega arith
 
 -- where none but those from 1 to so many have calls, each caller is one of them
-callers_from : (many n : ℕ) (calls : List Call) → ((x : ℕ) → (x ≡ 0) ⊎ (many < x) → numbered x n calls ≡ [])
+callers_from : (many n : ℕ) (calls : List Call) → ((x : ℕ) → (x ≡ 0) ⊎ (many < x) → calls_from x n calls ≡ [])
     → AllByRecursion (λ (c : Call). (1 ≤ c.caller) × (c.caller ≤ many)) calls
 callers_from many n [] others = tt
 callers_from many n (c ∷ cs) others =
     let own : (c.caller ≡ 0) ⊎ (many < c.caller) → ⊥ =
-    λ h. not_none (nat_eq c.caller c.caller) (n, c) (numbered c.caller (n + 1) cs) (grind arith)
+    λ h. not_none (nat_eq c.caller c.caller) (n, c) (calls_from c.caller (n + 1) cs) (grind arith)
     (others c.caller h) in (
       (from_one c.caller (λ h. own (inl h)), up_to c.caller many (λ h. own (inr h))),
       callers_from many (n + 1) cs
-          (λ x h. rest_none (nat_eq c.caller x) (n, c) (numbered x (n + 1) cs) (others x h)),
+          (λ x h. rest_none (nat_eq c.caller x) (n, c) (calls_from x (n + 1) cs) (others x h)),
     )
 
 -- so where none but those from 1 to so many have calls, each call is of one of these
-pub callers_within : (many : ℕ) (calls : List Call) → ((x : ℕ) → (x ≡ 0) ⊎ (many < x) → numbered x 0 calls ≡ [])
+pub callers_within : (many : ℕ) (calls : List Call) → ((x : ℕ) → (x ≡ 0) ⊎ (many < x) → calls_from x 0 calls ≡ [])
     → All (λ (c : Call). (1 ≤ c.caller) × (c.caller ≤ many)) calls
 callers_within many calls others =
     All-from_recursion (λ (c : Call). (1 ≤ c.caller) × (c.caller ≤ many)) calls (callers_from many 0 calls others)

@@ -1,4 +1,4 @@
--- What analysts have kept of their looks, once all have come to the horizon.
+-- The looks that analysts have made, once all have come to the horizon.
 use Rattle.std.proofs.Common.{◌≡◌, ℕ, suc, ◌<◌, Bool, true, List, [], ◌∷◌, length, map}
 use Rattle.std.proofs.Common.{Result, Ok, Err, IfOk, refl, sym, ap, ap₂, ◌∙◌, subst, arith, slice_index_or}
 use Rattle.std.specs.List.{AllByRecursion}
@@ -8,20 +8,20 @@ use Rattle.sim_base.proofs.Placing.{all_weaker}
 use Rattle.net_model.specs.Net.{Net}
 use Rattle.decision_book.specs.Journal.{Event, asked}
 use Rattle.decision_desk.specs.Accounts.{Begins, OnlyCalls}
-use Rattle.decision_desk.specs.Passes.{Helmed}
+use Rattle.decision_desk.specs.Passes.{HelmView}
 use Rattle.phys_proc.specs.Racks.{RackView}
 use Rattle.journal_text.specs.declared.looked.Looked.{Looked}
 use Rattle.world_core.specs.Worlds.{WorldView}
 use Rattle.study_run.specs.declared.fault.StudyFault.{StudyFault}
-use Rattle.live_study.specs.Asking.{IsSame, Seated}
+use Rattle.live_study.specs.Asking.{IsSameAnalyst, Seated}
 use Rattle.live_study.specs.Engines.{InStep}
-use Rattle.live_study.specs.Lives.{AreTold, kept, looks_made}
+use Rattle.live_study.specs.Lives.{AreTrueLooks, all_looks, looks_made}
 use Rattle.live_study.specs.Looks.{IsRead, IsTrueLook, NeverFall}
 use Rattle.live_study.specs.Scripts.{looks_in}
 use Rattle.live_study.specs.Showing.{AllCaughtUp, AreShownOf, HasLooked, looks_to_make}
 use Rattle.live_study.proofs.Truth.{true_look}
 
--- the looks that each analyst has kept
+-- the looks that each analyst has made
 abbrev pub looks_of : List Seated → List (ReservedView Looked)
 looks_of seated = map (λ (a : Seated). a.0.looks) seated
 
@@ -45,7 +45,7 @@ asked_in_order net (a ∷ more) all = ap₂ (λ u us. u ∷ us) all.0.asked (ask
 
 -- what they had to look at before the run
 asked_before : (old new : List Seated) → length new ≡ length old
-    → ((i : ℕ) (d : Seated) → i < length old → IsSame (slice_index_or old i d).0 (slice_index_or new i d).0)
+    → ((i : ℕ) (d : Seated) → i < length old → IsSameAnalyst (slice_index_or old i d).0 (slice_index_or new i d).0)
     → looks_to_make new ≡ looks_to_make old
 asked_before [] [] len same = refl
 asked_before [] (b ∷ new) len same = absurd (omega (arith, len))
@@ -55,14 +55,14 @@ asked_before (a ∷ old) (b ∷ new) len same =
     ap₂ (λ u us. u ∷ us) (ap₂ looks_in s.number s.todo)
     (asked_before old new (omega (arith, len)) (λ i d less. same (suc i) d (omega (arith, less))))
 
--- all that they kept is true
-true_looks : (net : Net) (h : Helmed) (w : WorldView) (events : List Event) (published : List RackView)
+-- all that they saw is true
+true_looks : (net : Net) (h : HelmView) (w : WorldView) (events : List Event) (published : List RackView)
     (seated : List Seated) → h.net ≡ net → w.net ≡ net → w.front ≡ w.net.horizon → Begins h.helm events
     → AreShownOf h w published → AllCaughtUp net published seated → AllLooked net seated
-    → AllByRecursion (IsTrueLook net events) (kept (looks_of seated))
+    → AllByRecursion (IsTrueLook net events) (all_looks (looks_of seated))
 true_looks net h w events published [] of world last begins shown up all = tt
 true_looks net h w events published (a ∷ more) of world last begins shown up all =
-    all_append (IsTrueLook net events) a.0.looks.items (kept (looks_of more))
+    all_append (IsTrueLook net events) a.0.looks.items (all_looks (looks_of more))
     (all_weaker (IsRead net a.1) (IsTrueLook net events) a.0.looks.items
     (λ l r. true_look net h w events published a.1 l of world last begins shown up.0 r) all.0.read)
     (true_looks net h w events published more of world last begins shown up.1 all.1)
@@ -70,7 +70,7 @@ true_looks net h w events published (a ∷ more) of world last begins shown up a
 -- all looks that they had to make were made
 pub made_all : (net : Net) (old new : List Seated) (looks : List (ReservedView Looked)) → AllLooked net new
     → length new ≡ length old
-    → ((i : ℕ) (d : Seated) → i < length old → IsSame (slice_index_or old i d).0 (slice_index_or new i d).0)
+    → ((i : ℕ) (d : Seated) → i < length old → IsSameAnalyst (slice_index_or old i d).0 (slice_index_or new i d).0)
     → looks ≡ looks_of new → looks_made looks ≡ looks_to_make old
 made_all net old new looks all len same are =
     ap looks_made are ∙ asked_in_order net new all ∙ asked_before old new len same
@@ -82,26 +82,26 @@ none_falls net [] all = tt
 none_falls net (a ∷ more) all = (all.0.rise, none_falls net more all.1)
 
 -- so it is of a run that came to the horizon
-told_at_horizon : (net : Net) (h : Helmed) (w : WorldView) (events : List Event) (published : List RackView)
+told_at_horizon : (net : Net) (h : HelmView) (w : WorldView) (events : List Event) (published : List RackView)
     (seated : List Seated) (looks : List (ReservedView Looked)) → h.net ≡ net → InStep h w
     → w.front ≡ w.net.horizon → OnlyCalls h.helm events → AreShownOf h w published
-    → AllCaughtUp net published seated → AllLooked net seated → looks ≡ looks_of seated → AreTold net events looks
-told_at_horizon net h w events published seated looks of stands last calls shown up all are = record {
-  true_ones = subst (λ ls. AllByRecursion (IsTrueLook net events) (kept ls)) (sym are)
-      (true_looks net h w events published seated of (stands.net ∙ of) last (map asked calls.0, calls.1) shown up all);
+    → AllCaughtUp net published seated → AllLooked net seated → looks ≡ looks_of seated → AreTrueLooks net events looks
+told_at_horizon net h w events published seated looks of in_step last calls shown up all are = record {
+  true_ones = subst (λ ls. AllByRecursion (IsTrueLook net events) (all_looks ls)) (sym are)
+      (true_looks net h w events published seated of (in_step.net ∙ of) last (map asked calls.0, calls.1) shown up all);
   rise = subst (λ ls. AllByRecursion (λ (r : ReservedView Looked). NeverFall r.items) ls) (sym are)
       (none_falls net seated all);
 }
 
 -- and it is, where the run is handed back as finished
-pub told_if : (net : Net) (h : Helmed) (events : List Event) (published : List RackView) (seated : List Seated)
+pub told_if : (net : Net) (h : HelmView) (events : List Event) (published : List RackView) (seated : List Seated)
     (looks : List (ReservedView Looked)) (caught_up : Bool) (run end : Result WorldView StudyFault) → h.net ≡ net
     → OnlyCalls h.helm events → IfOk run (λ w. InStep h w × (w.front ≡ w.net.horizon))
     → IfOk run (λ w. AreShownOf h w published) → (caught_up ≡ true → AllCaughtUp net published seated)
     → AllLooked net seated → looks ≡ looks_of seated
-    → IfOk end (λ w. (caught_up ≡ true) × (run ≡ Ok w)) → IfOk end (λ w. AreTold net events looks)
-told_if net h events published seated looks caught_up run (Err e) of calls stands shown up all are ok = tt
-told_if net h events published seated looks caught_up run (Ok w) of calls stands shown up all are ok =
-    let at = subst (λ r. IfOk r (λ v. InStep h v × (v.front ≡ v.net.horizon))) ok.1 stands in
+    → IfOk end (λ w. (caught_up ≡ true) × (run ≡ Ok w)) → IfOk end (λ w. AreTrueLooks net events looks)
+told_if net h events published seated looks caught_up run (Err e) of calls in_step shown up all are ok = tt
+told_if net h events published seated looks caught_up run (Ok w) of calls in_step shown up all are ok =
+    let at = subst (λ r. IfOk r (λ v. InStep h v × (v.front ≡ v.net.horizon))) ok.1 in_step in
     told_at_horizon net h w events published seated looks of at.0 at.1 calls
     (subst (λ r. IfOk r (λ v. AreShownOf h v published)) ok.1 shown) (up ok.0) all are

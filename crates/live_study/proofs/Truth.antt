@@ -11,7 +11,7 @@ use Rattle.sim_base.proofs.Placing.{all_left, all_right, all_weaker}
 use Rattle.net_model.specs.Net.{Net, number_of}
 use Rattle.decision_book.specs.Journal.{Event}
 use Rattle.decision_desk.specs.Accounts.{Begins}
-use Rattle.decision_desk.specs.Passes.{Helmed}
+use Rattle.decision_desk.specs.Passes.{HelmView}
 use Rattle.phys_proc.specs.Racks.{RackView, IsSeen}
 use Rattle.phys_proc.specs.declared.rack.Glance.{Glance}
 use Rattle.phys_proc.specs.declared.rack.Found.{Found}
@@ -125,7 +125,7 @@ true_glance net events s who r g of station is = record {
 }
 
 -- a look that was read at a seat which came to the horizon with what was published
-pub true_look : (net : Net) (h : Helmed) (w : WorldView) (events : List Event) (published read : List RackView)
+pub true_look : (net : Net) (h : HelmView) (w : WorldView) (events : List Event) (published read : List RackView)
     (l : Looked) → h.net ≡ net → w.net ≡ net → w.front ≡ w.net.horizon → Begins h.helm events
     → AreShownOf h w published → AreCaughtUp net published read → IsRead net read l → IsTrueLook net events l
 true_look net h w events published read l of world last begins shown up r = record {

@@ -17,8 +17,8 @@ decisions_in [] = []
 decisions_in (p ∷ ps) = p.1.decision ∷ decisions_in ps
 
 -- the decisions among acts, in order
-abbrev pub decided : List Act → List Decision
-decided acts = flat_map (λ act. decisions_onto act []) acts
+abbrev pub decisions_asked : List Act → List Decision
+decisions_asked acts = flat_map (λ act. decisions_onto act []) acts
 
 -- these decisions were asked: all are in the journal, or some was answered Full, and so is not
 pub record AskedSo (ds : List Decision) (a : Account) : Type 0 where
@@ -29,7 +29,7 @@ pub record AskedSo (ds : List Decision) (a : Account) : Type 0 where
 -- an analyst that has asked what is to be decided in these acts, at this desk
 pub record HasAsked (desk : TableId) (acts : List Act) (a : Analyst) : Type 0 where
   pub desk_is : a.pass.desk ≡ desk
-  pub all : AskedSo (decided acts) a.pass.account
+  pub all : AskedSo (decisions_asked acts) a.pass.account
 
 -- one that has asked nothing yet
 abbrev pub IsReady : TableId → Analyst → Type 0
@@ -39,12 +39,12 @@ IsReady desk a = HasAsked desk [] a
 abbrev pub IsDone : TableId → Analyst → Type 0
 IsDone desk a = HasAsked desk a.todo.items a
 
--- what stays of an analyst: what it has to do, who it is, and its room for looks
-pub record IsSame (old new : Analyst) : Type 0 where
+-- what stays of an analyst: what it has to do, who it is, and the memory reserved for its looks
+pub record IsSameAnalyst (old new : Analyst) : Type 0 where
   pub todo : new.todo.items ≡ old.todo.items
   pub caller : new.pass.account.caller ≡ old.pass.account.caller
   pub number : new.number ≡ old.number
-  pub room : new.looks.reserved ≡ old.looks.reserved
+  pub reserved : new.looks.reserved ≡ old.looks.reserved
 
 -- an analyst and its seat, as contracts see them
 abbrev pub Seated : Type 0
@@ -69,4 +69,4 @@ AllDone desk (a ∷ others) = IsDone desk a.0 × AllDone desk others
 abbrev pub AllAsked : List Event → List Seated → Type 0
 AllAsked events [] = Unit {0}
 AllAsked events (a ∷ others) =
-    (decisions_in (calls_by a.0.pass.account.caller events) ≡ decided a.0.todo.items) × AllAsked events others
+    (decisions_in (calls_by a.0.pass.account.caller events) ≡ decisions_asked a.0.todo.items) × AllAsked events others

@@ -5,21 +5,21 @@ use Rattle.run_laws.specs.Queue.{In}
 use Rattle.stations.specs.Runs.{next_front}
 use Rattle.decision_book.specs.Journal.{Event, after, fronts_of}
 use Rattle.decision_desk.specs.Accounts.{front_of}
-use Rattle.decision_desk.specs.Passes.{Helmed}
+use Rattle.decision_desk.specs.Passes.{HelmView}
 use Rattle.world_core.specs.Overs.{IsFirstBeyond, NoneBeyond}
 use Rattle.world_core.specs.Worlds.{WorldView}
 use Rattle.study_run.specs.declared.fault.StudyFault.{StudyFault}
 use Rattle.study_run.specs.declared.fault.StudyFault.TheVariants.{NoMemory, LimitMet}
 
 -- the world stands where the helm's journal has led
-pub record InStep (h : Helmed) (w : WorldView) : Type 0 where
+pub record InStep (h : HelmView) (w : WorldView) : Type 0 where
   pub net : w.net ≡ h.net
   pub clones : w.clones ≡ (after h.net h.helm).clones
   pub front : w.front ≡ front_of h.helm
 
 -- the helm has raised the front to this bound, and the world has taken what was accepted before: the window comes next;
 -- at the fronts before it no log is beyond the limit
-pub record IsAhead (h : Helmed) (w : WorldView) (bound : ℕ) : Type 0 where
+pub record IsAhead (h : HelmView) (w : WorldView) (bound : ℕ) : Type 0 where
   pub net : w.net ≡ h.net
   pub clones : w.clones ≡ (after h.net h.helm).clones
   pub bound_is : bound ≡ front_of h.helm
@@ -29,7 +29,7 @@ pub record IsAhead (h : Helmed) (w : WorldView) (bound : ℕ) : Type 0 where
   pub short : (f : ℕ) → In f (fronts_of h.helm) → f < bound → NoneBeyond w.net w.clones f
 
 -- what the engine leaves of its helm as it was
-pub record Steers (old new : Helmed) : Type 0 where
+pub record Steers (old new : HelmView) : Type 0 where
   pub desk : new.desk ≡ old.desk
   pub net : new.net ≡ old.net
   pub parts : new.parts ≡ old.parts

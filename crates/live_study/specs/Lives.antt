@@ -26,18 +26,18 @@ pub record IsAllAsked (net : Net) (seated : List Seated) (book : BookView) : Typ
 abbrev pub looks_made : List (ReservedView Looked) → List (List (ℕ × List ℕ × List ℕ))
 looks_made looks = map (λ r. map asked_for r.items) looks
 
--- the looks that analysts kept, one after the other
-abbrev pub kept : List (ReservedView Looked) → List Looked
-kept looks = flat_map (λ r. r.items) looks
+-- the looks of all analysts, one after the other
+abbrev pub all_looks : List (ReservedView Looked) → List Looked
+all_looks looks = flat_map (λ r. r.items) looks
 
 -- what these analysts saw is true of this journal, and no front of one of them falls
-pub record AreTold (net : Net) (events : List Event) (looks : List (ReservedView Looked)) : Type 0 where
-  pub true_ones : AllByRecursion (IsTrueLook net events) (kept looks)
+pub record AreTrueLooks (net : Net) (events : List Event) (looks : List (ReservedView Looked)) : Type 0 where
+  pub true_ones : AllByRecursion (IsTrueLook net events) (all_looks looks)
   pub rise : AllByRecursion (λ r. NeverFall r.items) looks
 
 -- a run that was finished: the last front of the journal is the horizon, and the world stands there with the clones
 -- that the journal leaves
-pub record IsFinished (net : Net) (book : BookView) (world : WorldView) : Type 0 where
+pub record IsAtHorizon (net : Net) (book : BookView) (world : WorldView) : Type 0 where
   pub last : (after net book.events).front ≡ net.horizon
   pub world_is : world ≡ record { net = net; clones = (after net book.events).clones; front = net.horizon }
 

@@ -9,17 +9,17 @@ use Rattle.shelf.specs.Racks.{OneEach}
 use Rattle.world_core.specs.Worlds.{WorldView}
 use Rattle.live_study.specs.declared.prepared.Prepared.{Prepared}
 use Rattle.live_study.specs.Asking.{Seated}
-use Rattle.live_study.specs.Closing.{HasRoomFor}
+use Rattle.live_study.specs.Closing.{HasReservedFor}
 
 -- 1 .. n
 abbrev pub numbers_to : ℕ → List ℕ
 numbers_to zero = []
 numbers_to (suc n) = numbers_to n ++ (n + 1) ∷ []
 
--- an analyst that has seen nothing, with room for all its looks, at a seat that shows the opening racks
+-- an analyst that has seen nothing, with memory reserved for all its looks, at a seat that shows the opening racks
 pub record IsFresh (opening : List RackView) (a : Seated) : Type 0 where
   pub quiet : a.0.looks.items ≡ []
-  pub room : a.0.looks.reserved ≡ length a.0.todo.items
+  pub reserved : a.0.looks.reserved ≡ length a.0.todo.items
   pub seat : a.1 ≡ opening
 
 -- a rack of the world as it stands
@@ -29,7 +29,7 @@ pub record IsRackNow (w : WorldView) (r : RackView) : Type 0 where
   pub front : r.front ≡ w.front
 
 -- one of each of the first stations, in order
-pub record IsOpening (w : WorldView) (many : ℕ) (racks : List RackView) : Type 0 where
+pub record AreOpeningRacks (w : WorldView) (many : ℕ) (racks : List RackView) : Type 0 where
   pub many_is : length racks ≡ many
   pub each : OneEach racks
   pub now : AllByRecursion (IsRackNow w) racks
@@ -37,7 +37,7 @@ pub record IsOpening (w : WorldView) (many : ℕ) (racks : List RackView) : Type
 -- all that so many analysts begin with over a network
 pub record IsPrepared (net : Net) (many : ℕ) (p : Prepared) : Type 0 where
   pub world : p.world ≡ record { net = net; clones = base ∷ []; front = 0 }
-  pub racks : IsOpening p.world (length net.sites) p.racks.items
+  pub racks : AreOpeningRacks p.world (length net.sites) p.racks.items
   pub passes : p.passes.items ≡ new_passes p.desk.table.shared.table_id net many
   pub helm : p.helm ≡ new_helm p.desk.table.shared.table_id net many
-  pub room : HasRoomFor many p.room
+  pub reserve : HasReservedFor many p.reserve

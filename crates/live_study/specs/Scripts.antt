@@ -10,7 +10,7 @@ use Rattle.decision_script.specs.Stating.{ScriptView}
 use Rattle.decision_book.specs.Books.{BookView}
 use Rattle.decision_desk.specs.Accounts.{calls_by}
 use Rattle.decision_desk.specs.Legal.{IsLegal}
-use Rattle.live_study.specs.Asking.{decided, decisions_in}
+use Rattle.live_study.specs.Asking.{decisions_asked, decisions_in}
 
 -- the act of an item, where it is this analyst's
 abbrev pub own_act : ℕ → Item → List Act
@@ -27,7 +27,7 @@ each_acts items (suc n) = each_acts items n ++ acts_by (n + 1) items ∷ []
 
 -- the decisions of an analyst, in order
 abbrev pub decisions_by : ℕ → List Item → List Decision
-decisions_by a items = decided (acts_by a items)
+decisions_by a items = decisions_asked (acts_by a items)
 
 -- a look that an act asks for: the number of the analyst, the clone and the station
 abbrev pub look_onto : ℕ → Act → List (ℕ × List ℕ × List ℕ)

@@ -5,7 +5,7 @@ use Rattle.net_model.specs.Net.{Net}
 use Rattle.decision_script.specs.declared.item.Act.{Act}
 use Rattle.decision_book.specs.declared.call.Call.{Call}
 use Rattle.decision_book.specs.Journal.{raised, asked}
-use Rattle.decision_desk.specs.Passes.{Helmed}
+use Rattle.decision_desk.specs.Passes.{HelmView}
 use Rattle.phys_proc.specs.Racks.{RackView}
 use Rattle.world_core.specs.Worlds.{WorldView}
 use Rattle.live_study.specs.declared.analyst.Analyst.{Analyst}
@@ -21,20 +21,20 @@ pub record HasLooked (net : Net) (acts : List Act) (a : Seated) : Type 0 where
   pub rise : NeverFall a.0.looks.items
   pub there : HasRacks net a.1
 
--- with room for the looks of all its acts
-abbrev pub HasRoom : Analyst → Type 0
-HasRoom a = length a.todo.items ≤ a.looks.reserved
+-- with memory reserved for the looks of all its acts
+abbrev pub HasReserved : Analyst → Type 0
+HasReserved a = length a.todo.items ≤ a.looks.reserved
 
 -- what is published: each is a rack of the helm's journal, at a front up to the world's; each station has one, which at
 -- the horizon is at the horizon
-pub record AreShownOf (h : Helmed) (w : WorldView) (published : List RackView) : Type 0 where
+pub record AreShownOf (h : HelmView) (w : WorldView) (published : List RackView) : Type 0 where
   pub racks : AllByRecursion (IsRackOf h.net h.helm) published
   pub early : AllByRecursion (λ q. q.front ≤ w.front) published
   pub there : HasRacks w.net published
   pub last : w.front ≡ w.net.horizon → AreAllAt w.net w.front published
 
 -- the same while the racks of a front are published: so many stations had their turn
-pub record AreShownTo (h : Helmed) (w : WorldView) (done : ℕ) (published : List RackView) : Type 0 where
+pub record AreShownTo (h : HelmView) (w : WorldView) (done : ℕ) (published : List RackView) : Type 0 where
   pub racks : AllByRecursion (IsRackOf h.net h.helm) published
   pub early : AllByRecursion (λ q. q.front ≤ w.front) published
   pub below : AllByRecursion (λ q. done < q.station → q.front < w.front) published
@@ -42,7 +42,7 @@ pub record AreShownTo (h : Helmed) (w : WorldView) (done : ℕ) (published : Lis
   pub last : w.front ≡ w.net.horizon → (s : ℕ) → 1 ≤ s → s ≤ done → IsAt w.front published s
 
 -- a helm that raised its front to this one behind calls
-pub record Raises (old new : Helmed) (front : ℕ) : Type 0 where
+pub record Raises (old new : HelmView) (front : ℕ) : Type 0 where
   pub calls : List Call
   pub helm : new.helm ≡ (old.helm ++ map asked calls) ++ raised front ∷ []
 

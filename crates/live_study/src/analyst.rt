@@ -1,5 +1,6 @@
-//! Analysts.
+//! Analysts: the users of an interactive simulation.
 ghost use Rattle.std.specs.Prelude.{◌≤◌, length};
+ghost use Rattle.decision_script.specs.declared.script.TheConstants.{MOST_ITEMS};
 
 use decision_desk::Pass;
 use decision_script::Act;
@@ -14,5 +15,5 @@ pub struct Analyst {
     pub pass: Pass,
     pub todo: Vec<Act>,
     pub looks: Reserved<Looked>,
-    pub ghost few: { length todo.items ≤ 4096 },
+    pub ghost few: { length todo.items ≤ MOST_ITEMS },
 }

@@ -1,13 +1,13 @@
-//! What analysts do.
+//! What the thread of an analyst does: it asks the desk for its decisions and observes the stations at its looks.
 ghost use Rattle.std.specs.Prelude.{◌≡◌, ◌++◌, ◌∷◌, ◌<◌, ◌≤◌, [], All, List, ℕ, length, slice_index_or};
 ghost use mathlib.Core.List.{IsPrefix};
 ghost use Rattle.atomic_table.specs.Seated.{TableId};
 ghost use Rattle.net_model.specs.Net.{Net};
 ghost use Rattle.decision_script.specs.declared.item.Act.{Act as OfAct};
 ghost use Rattle.decision_script.specs.declared.item.Act.TheVariants.{Decide, Look};
-ghost use Rattle.live_study.specs.Asking.{HasAsked, IsReady, IsDone, IsSame};
+ghost use Rattle.live_study.specs.Asking.{HasAsked, IsReady, IsDone, IsSameAnalyst};
 ghost use Rattle.live_study.specs.Looks.{HasRacks, IsNoEarlier, IsRead};
-ghost use Rattle.live_study.specs.Showing.{HasLooked, HasRoom};
+ghost use Rattle.live_study.specs.Showing.{HasLooked, HasReserved};
 
 use crate::analyst::Analyst;
 use crew_pool::Gate;
@@ -26,7 +26,7 @@ fn ask<R: Wait>(rt: &R, desk: &Desk, analyst: &mut Analyst, d: Decision)
     requires desk { analyst.old.pass.desk ≡ desk.now.table.shared.table_id }
     ensures asked { (acts : List OfAct) → HasAsked desk.now.table.shared.table_id acts analyst.old →
         HasAsked desk.now.table.shared.table_id (acts ++ Decide d ∷ []) analyst.new }
-    ensures same { IsSame analyst.old analyst.new }
+    ensures same { IsSameAnalyst analyst.old analyst.new }
     ensures looks { analyst.new.looks ≡ analyst.old.looks }
 {
     let _receipt = desk.decide(rt, &mut analyst.pass, d);
@@ -71,10 +71,10 @@ fn look<J: Naming>(
     station: Name,
 )
     requires there { HasRacks model.now seat.old }
-    requires room { length analyst.old.looks.items < analyst.old.looks.reserved }
+    requires free { length analyst.old.looks.items < analyst.old.looks.reserved }
     ensures looked { (acts : List OfAct) → HasLooked model.now acts (analyst.old, seat.old) →
         HasLooked model.now (acts ++ Look who station ∷ []) (analyst.new, seat.new) }
-    ensures same { IsSame analyst.old analyst.new }
+    ensures same { IsSameAnalyst analyst.old analyst.new }
     ensures pass { analyst.new.pass ≡ analyst.old.pass }
 {
     let looked = see(model, seat, analyst.number, who, station);
@@ -94,12 +94,12 @@ fn act_once<J: Naming, R: Wait>(
 )
     requires desk { analyst.old.pass.desk ≡ desk.now.table.shared.table_id }
     requires there { HasRacks model.now seat.old }
-    requires room { length analyst.old.looks.items < analyst.old.looks.reserved }
+    requires free { length analyst.old.looks.items < analyst.old.looks.reserved }
     ensures asked { (acts : List OfAct) → HasAsked desk.now.table.shared.table_id acts analyst.old →
         HasAsked desk.now.table.shared.table_id (acts ++ act ∷ []) analyst.new }
     ensures looked { (acts : List OfAct) → HasLooked model.now acts (analyst.old, seat.old) →
         HasLooked model.now (acts ++ act ∷ []) (analyst.new, seat.new) }
-    ensures same { IsSame analyst.old analyst.new }
+    ensures same { IsSameAnalyst analyst.old analyst.new }
 {
     match act {
         Act::Decide(d) => ask(rt, desk, analyst, d),
@@ -118,10 +118,10 @@ pub(crate) fn act_all<J: Naming, G: Gate, R: Wait>(
 )
     requires ready { IsReady desk.now.table.shared.table_id analyst.old }
     requires none { HasLooked model.now [] (analyst.old, seat.old) }
-    requires room { HasRoom analyst.old }
+    requires reserved { HasReserved analyst.old }
     ensures done { IsDone desk.now.table.shared.table_id analyst.new }
     ensures looked { HasLooked model.now analyst.new.todo.items (analyst.new, seat.new) }
-    ensures same { IsSame analyst.old analyst.new }
+    ensures same { IsSameAnalyst analyst.old analyst.new }
 {
     for k in 0..analyst.todo.len() {
         gate.before_call(rt, analyst.number, k as u32);
@@ -138,7 +138,7 @@ pub(crate) fn act_everyone<J: Naming + Send + Sync, G: Gate, R: Threads + Wait +
     model: &Model,
     mut seated: Vec<(Analyst, Seat<J>)>,
 ) -> Vec<(Analyst, Seat<J>)>
-    requires { All (λ a. IsReady desk.now.table.shared.table_id a.0 × HasLooked model.now [] a × HasRoom a.0)
+    requires { All (λ a. IsReady desk.now.table.shared.table_id a.0 × HasLooked model.now [] a × HasReserved a.0)
         seated.items }
     ensures len { length result.items ≡ length seated.items }
     ensures done { (i : ℕ) (d : _) → i < length seated.items →
@@ -146,7 +146,7 @@ pub(crate) fn act_everyone<J: Naming + Send + Sync, G: Gate, R: Threads + Wait +
     ensures looked { (i : ℕ) (d : _) → i < length seated.items →
         HasLooked model.now (slice_index_or result.items i d).0.todo.items (slice_index_or result.items i d) }
     ensures same { (i : ℕ) (d : _) → i < length seated.items →
-        IsSame (slice_index_or seated.items i d).0 (slice_index_or result.items i d).0 }
+        IsSameAnalyst (slice_index_or seated.items i d).0 (slice_index_or result.items i d).0 }
 {
     thread::for_each_mut(
         rt,
@@ -154,10 +154,10 @@ pub(crate) fn act_everyone<J: Naming + Send + Sync, G: Gate, R: Threads + Wait +
         16,
         &|_i: usize, one: &mut (Analyst, Seat<J>)|
             requires { IsReady desk.now.table.shared.table_id one.old.0 × HasLooked model.now [] one.old
-                × HasRoom one.old.0 }
+                × HasReserved one.old.0 }
             ensures { IsDone desk.entry.now.table.shared.table_id one.exit.now.0
                 × HasLooked model.entry.now one.exit.now.0.todo.items one.exit.now
-                × IsSame one.entry.now.0 one.exit.now.0 }
+                × IsSameAnalyst one.entry.now.0 one.exit.now.0 }
         {
             let (analyst, seat) = one;
             act_all(rt, desk, gate, model, analyst, seat)

@@ -1,7 +1,8 @@
-//! The analysts of a script and what is shown to them, before the engine begins.
+//! The analysts of a script, and the racks of time 0 that are shown to them before the engine begins.
 ghost use Rattle.std.specs.Prelude.{◌≡◌, ℕ, ◌++◌, ◌∷◌, ◌<◌, ◌≤◌, [], length, map, All, IfOk, OnOk};
 ghost use Rattle.std.specs.List.{AllByRecursion};
-ghost use Rattle.live_study.specs.Opening.{IsFresh, IsOpening, numbers_to};
+ghost use Rattle.decision_script.specs.declared.script.TheConstants.{MOST_ITEMS};
+ghost use Rattle.live_study.specs.Opening.{AreOpeningRacks, IsFresh, numbers_to};
 ghost use Rattle.live_study.specs.Scripts.{acts_by, each_acts, own_act};
 
 use crate::analyst::Analyst;
@@ -27,7 +28,7 @@ fn push_own(own: &mut Vec<Act>, item: &Item, a: u32) -> Result<(), NoMemory>
 // The acts of an analyst, in order.
 fn acts_of(alloc: Global, script: &Script, a: u32) -> Result<Vec<Act>, NoMemory>
     ensures value { IfOk result (λ v. v.items ≡ acts_by a script.now.items) }
-    ensures few { IfOk result (λ v. length v.items ≤ 4096) }
+    ensures few { IfOk result (λ v. length v.items ≤ MOST_ITEMS) }
 {
     let mut own = Vec::new(alloc);
     for i in 0..script.len() {
@@ -36,7 +37,7 @@ fn acts_of(alloc: Global, script: &Script, a: u32) -> Result<Vec<Act>, NoMemory>
     Ok(own)
 }
 
-/// The analysts of a script, one for each pass and each seat, with room for their looks.
+/// The analysts of a script, one for each pass and each seat, with memory reserved for their looks.
 pub(crate) fn analysts_of<J: Naming>(
     alloc: Global,
     script: &Script,
@@ -75,7 +76,7 @@ pub(crate) fn analysts_of<J: Naming>(
 /// A rack of each station, as the world opens.
 pub(crate) fn opening_racks(alloc: Global, world: &mut World) -> Result<Vec<Rack>, NoMemory>
     ensures same { world.new ≡ world.old }
-    ensures opening { IfOk result (λ v. IsOpening world.old (length world.old.net.sites) v.items) }
+    ensures opening { IfOk result (λ v. AreOpeningRacks world.old (length world.old.net.sites) v.items) }
 {
     let many = world.model().len();
     let mut racks = Vec::with_capacity(alloc, many as usize)?;

@@ -1,4 +1,4 @@
-//! The engine beside the workers of a team, which step the stations of its larger windows.
+//! The engine beside the workers of a team, which step the stations (logical processes) of its larger windows.
 ghost use Rattle.std.specs.Prelude.{◌≡◌, IfOk, IfErr};
 ghost use Rattle.live_study.specs.Engines.{InStep, Steers, StopsAt};
 ghost use Rattle.live_study.specs.Showing.{AreShownOf};
@@ -29,10 +29,10 @@ fn drive_and_end<C: Crew, G: Gate, J: Naming, W: Wait + Drop, R: Threads + Wait 
     bell: &Bell,
 ) -> (Helm, Stocker<J, W>, Result<World, StudyFault>)
     requires desk { helm.desk ≡ desk.now.table.shared.table_id }
-    requires stands { InStep helm world }
+    requires in_step { InStep helm world }
     requires shown { AreShownOf helm world stocker.published }
     ensures steers { Steers helm result.0 }
-    ensures stands { IfOk result.2 (λ w. InStep result.0 w × (w.front ≡ w.net.horizon)) }
+    ensures in_step { IfOk result.2 (λ w. InStep result.0 w × (w.front ≡ w.net.horizon)) }
     ensures shown { IfOk result.2 (λ w. AreShownOf result.0 w result.1.published) }
     ensures stops { IfErr result.2 (λ e. StopsAt result.0.net result.0.helm e) }
 {
@@ -56,10 +56,10 @@ fn drive_beside<C: Crew, G: Gate, J: Naming, W: Wait + Drop, R: Threads + Wait +
     bell: &Bell,
 ) -> (Helm, Stocker<J, W>, Result<World, StudyFault>)
     requires desk { helm.desk ≡ desk.now.table.shared.table_id }
-    requires stands { InStep helm world }
+    requires in_step { InStep helm world }
     requires shown { AreShownOf helm world stocker.published }
     ensures steers { Steers helm result.0 }
-    ensures stands { IfOk result.2 (λ w. InStep result.0 w × (w.front ≡ w.net.horizon)) }
+    ensures in_step { IfOk result.2 (λ w. InStep result.0 w × (w.front ≡ w.net.horizon)) }
     ensures shown { IfOk result.2 (λ w. AreShownOf result.0 w result.1.published) }
     ensures stops { IfErr result.2 (λ e. StopsAt result.0.net result.0.helm e) }
 {
@@ -82,8 +82,8 @@ fn drive_beside<C: Crew, G: Gate, J: Naming, W: Wait + Drop, R: Threads + Wait +
     done
 }
 
-/// The engine runs to the horizon, publishes on its way, and hands helm and stocker back in any case. Where the crew has
-/// several workers it has a team of as many; where there is no memory for one, it has none.
+/// The engine runs to the horizon, publishes on its way, and hands helm and stocker back in any case. Where the crew
+/// has several workers it has a team of as many; where there is no memory for one, it has none.
 pub(crate) fn drive_with_team<
     C: Crew,
     G: Gate,
@@ -102,10 +102,10 @@ pub(crate) fn drive_with_team<
     watched: &[bool],
 ) -> (Helm, Stocker<J, W>, Result<World, StudyFault>)
     requires desk { helm.desk ≡ desk.now.table.shared.table_id }
-    requires stands { InStep helm world }
+    requires in_step { InStep helm world }
     requires shown { AreShownOf helm world stocker.published }
     ensures steers { Steers helm result.0 }
-    ensures stands { IfOk result.2 (λ w. InStep result.0 w × (w.front ≡ w.net.horizon)) }
+    ensures in_step { IfOk result.2 (λ w. InStep result.0 w × (w.front ≡ w.net.horizon)) }
     ensures shown { IfOk result.2 (λ w. AreShownOf result.0 w result.1.published) }
     ensures stops { IfErr result.2 (λ e. StopsAt result.0.net result.0.helm e) }
 {

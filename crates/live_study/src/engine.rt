@@ -1,4 +1,4 @@
-//! The engine's part.
+//! The engine's part: conservative time windows up to the fronts that the desk gives, until the horizon.
 ghost use Rattle.std.specs.Prelude.{◌≡◌, ◌-◌, ◌<◌, ◌≤◌, length, IfOk, IfErr, OnOk};
 ghost use Rattle.decision_desk.specs.Accounts.{front_of};
 ghost use Rattle.decision_desk.specs.Leasts.{leasts_of};
@@ -39,7 +39,7 @@ fn take_turn<R: Wait>(
     world: World,
 ) -> Result<(World, u64), NoMemory>
     requires desk { helm.old.desk ≡ desk.now.table.shared.table_id }
-    requires stands { InStep helm.old world }
+    requires in_step { InStep helm.old world }
     requires below { world.front < world.net.horizon }
     ensures steers { Steers helm.old helm.new }
     ensures ahead { IfOk result (λ r. IsAhead helm.new r.0 r.1) }
@@ -118,10 +118,10 @@ fn take_window<C: Crew, G: Gate, L: Ledger, R: Threads + Wait + Sync>(
     steps: &mut Steps<L>,
 ) -> Result<World, StudyFault>
     requires desk { helm.old.desk ≡ desk.now.table.shared.table_id }
-    requires stands { InStep helm.old world }
+    requires in_step { InStep helm.old world }
     requires below { world.front < world.net.horizon }
     ensures steers { Steers helm.old helm.new }
-    ensures stands { IfOk result (λ w. InStep helm.new w) }
+    ensures in_step { IfOk result (λ w. InStep helm.new w) }
     ensures raises { IfOk result (λ w. Raises helm.old helm.new w.front) }
     ensures rises { IfOk result (λ w. world.front < w.front) }
     ensures stops { IfErr result (λ e. StopsAt helm.new.net helm.new.helm e) }
@@ -138,7 +138,7 @@ fn take_window<C: Crew, G: Gate, L: Ledger, R: Threads + Wait + Sync>(
     }
 }
 
-// A turn of the helm and its window, and then readers are shown what came of it.
+// A turn of the helm and its window, and then readers are shown its result.
 fn go_on<C: Crew, G: Gate, J: Naming, L: Ledger, W: Wait + Drop, R: Threads + Wait + Sync>(
     rt: &R,
     alloc: Global,
@@ -152,11 +152,11 @@ fn go_on<C: Crew, G: Gate, J: Naming, L: Ledger, W: Wait + Drop, R: Threads + Wa
     steps: &mut Steps<L>,
 ) -> Result<World, StudyFault>
     requires desk { helm.old.desk ≡ desk.now.table.shared.table_id }
-    requires stands { InStep helm.old world }
+    requires in_step { InStep helm.old world }
     requires below { world.front < world.net.horizon }
     requires shown { AreShownOf helm.old world stocker.old.published }
     ensures steers { Steers helm.old helm.new }
-    ensures stands { IfOk result (λ w. InStep helm.new w) }
+    ensures in_step { IfOk result (λ w. InStep helm.new w) }
     ensures rises { IfOk result (λ w. world.front < w.front) }
     ensures shown { IfOk result (λ w. AreShownOf helm.new w stocker.new.published) }
     ensures stops { IfErr result (λ e. StopsAt helm.new.net helm.new.helm e) }
@@ -182,10 +182,10 @@ fn drive<C: Crew, G: Gate, J: Naming, L: Ledger, W: Wait + Drop, R: Threads + Wa
     steps: &mut Steps<L>,
 ) -> (Helm, Result<World, StudyFault>)
     requires desk { helm.desk ≡ desk.now.table.shared.table_id }
-    requires stands { InStep helm world }
+    requires in_step { InStep helm world }
     requires shown { AreShownOf helm world stocker.old.published }
     ensures steers { Steers helm result.0 }
-    ensures stands { IfOk result.1 (λ w. InStep result.0 w × (w.front ≡ w.net.horizon)) }
+    ensures in_step { IfOk result.1 (λ w. InStep result.0 w × (w.front ≡ w.net.horizon)) }
     ensures shown { IfOk result.1 (λ w. AreShownOf result.0 w stocker.new.published) }
     ensures stops { IfErr result.1 (λ e. StopsAt result.0.net result.0.helm e) }
 {
@@ -214,13 +214,13 @@ fn drive_counted<C: Crew, G: Gate, J: Naming, L: Ledger, W: Wait + Drop, R: Thre
     blank: Blank,
 ) -> (Helm, Result<World, StudyFault>)
     requires desk { helm.desk ≡ desk.now.table.shared.table_id }
-    requires stands { InStep helm world }
+    requires in_step { InStep helm world }
     requires shown { AreShownOf helm world stocker.old.published }
     requires name { blank.name ≡ L.name }
     requires parts { blank.parts ≡ L.parts }
     requires some { 0 < L.parts }
     ensures steers { Steers helm result.0 }
-    ensures stands { IfOk result.1 (λ w. InStep result.0 w × (w.front ≡ w.net.horizon)) }
+    ensures in_step { IfOk result.1 (λ w. InStep result.0 w × (w.front ≡ w.net.horizon)) }
     ensures shown { IfOk result.1 (λ w. AreShownOf result.0 w stocker.new.published) }
     ensures stops { IfErr result.1 (λ e. StopsAt result.0.net result.0.helm e) }
 {
@@ -244,10 +244,10 @@ pub(crate) fn drive_alone<C: Crew, G: Gate, J: Naming, W: Wait + Drop, R: Thread
     watched: &[bool],
 ) -> (Helm, Stocker<J, W>, Result<World, StudyFault>)
     requires desk { helm.desk ≡ desk.now.table.shared.table_id }
-    requires stands { InStep helm world }
+    requires in_step { InStep helm world }
     requires shown { AreShownOf helm world stocker.published }
     ensures steers { Steers helm result.0 }
-    ensures stands { IfOk result.2 (λ w. InStep result.0 w × (w.front ≡ w.net.horizon)) }
+    ensures in_step { IfOk result.2 (λ w. InStep result.0 w × (w.front ≡ w.net.horizon)) }
     ensures shown { IfOk result.2 (λ w. AreShownOf result.0 w result.1.published) }
     ensures stops { IfErr result.2 (λ e. StopsAt result.0.net result.0.helm e) }
 {

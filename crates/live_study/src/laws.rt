@@ -1,4 +1,4 @@
-//! The laws of live studies: the function's contract is a law, and there is nothing to run.
+//! The law that later decisions change no past, so looks stay true: the contract is the law, there is nothing to run.
 ghost use Rattle.net_model.specs.Net.{Net};
 ghost use Rattle.net_model.specs.Rules.{IsNet};
 ghost use Rattle.live_study.specs.Laws.{LogsStay, LooksStayTrue};

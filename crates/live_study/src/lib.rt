@@ -1,8 +1,9 @@
-//! Live studies: analysts decide while the engine runs.
+//! Live studies: analysts decide while the engine runs (interactive simulation).
 //!
 //! In a study the decisions are known before the simulation begins. In a live one each analyst is a thread that asks
 //! its decisions one after the other, and the engine is a thread that goes from window to window beside them. They meet
-//! at the desk, where every call and every front gets its turn; so one journal comes of it, whatever the schedule:
+//! at the desk, where calls and fronts (window boundaries) come one after the other; so there is one journal, whatever
+//! the schedule:
 //!
 //! ```text
 //! engine      next .. take .. window to 5      next .. take .. window to 7     ..    to the horizon
@@ -25,13 +26,13 @@
 //! each station that is looked at in each window. However the engine ends, all analysts do all that they have to do,
 //! and all threads are joined. What follows takes no memory, so the journal is there in any case.
 //!
-//! The promises that it carries: **one legal journal, in which each analyst's decisions stand in order, each once, and
-//! no others**: none is answered Full, since no more are asked than a journal holds. Where the engine comes to the
-//! horizon, the world has the clones that this journal leaves, what clones share was counted once, and **what was seen
-//! at each look is true** of the clones that there were at its front of the journal; it stays true of those that the
-//! journal leaves, since nothing that comes behind a front changes a log before it (`laws`). Where a log would get
-//! longer than the limit, the least station and there the least clone at the last front are named. That threads run
-//! side by side, no clause says.
+//! It carries a promise of README.md, **a live study has one legal history, and looks are true**: in the one journal
+//! each analyst's decisions stand in order, each once, and no others; none is answered Full, since no more are asked
+//! than a journal holds. Where the engine comes to the horizon, the world has the clones that this journal leaves,
+//! what clones share was counted once, and what was seen at each look is true of the clones that there were at its
+//! front of the journal; it stays true of those that the journal leaves, since nothing behind a front changes a log
+//! before it (`laws`). Where a log would get longer than the limit, the least station and there the least clone at the
+//! last front are named. That threads run side by side, no clause says.
 #![tactic(auto)]
 
 pub mod analyst;
@@ -41,16 +42,14 @@ mod beside;
 mod engine;
 pub mod laws;
 mod live;
-pub mod prepared;
-pub mod room;
+mod prepared;
+mod reserve;
 pub mod run;
 mod study;
 mod text;
 mod work;
 
 pub use analyst::Analyst;
-pub use prepared::Prepared;
-pub use room::Room;
 pub use run::LiveRun;
 pub use study::live_study;
 pub use text::journal_of;

@@ -1,19 +1,20 @@
-//! Analysts beside the engine.
+//! The users of an interactive simulation, the analysts, beside its engine.
 ghost use Rattle.std.specs.Prelude.{◌≡◌, ◌⊎◌, ℕ, ◌+◌, ◌<◌, ◌≤◌, [], ◌++◌, length, map, All};
 ghost use Rattle.std.specs.Prelude.{Ok, Err, IfOk, IfErr, true, slice_index_or, vec_len, vec_capacity};
 ghost use mathlib.Core.List.{IsPrefix};
+ghost use Rattle.decision_book.specs.declared.call.TheConstants.{MOST_CALLS};
 ghost use Rattle.shelf.specs.Racks.{AreLegal};
-ghost use Rattle.live_study.specs.Asking.{IsReady, IsDone, IsSame, total_todo};
-ghost use Rattle.live_study.specs.Closing.{AreReadyAll, HasRoomFor};
+ghost use Rattle.live_study.specs.Asking.{IsReady, IsDone, IsSameAnalyst, total_todo};
+ghost use Rattle.live_study.specs.Closing.{AreReadyAll, HasReservedFor};
 ghost use Rattle.live_study.specs.Engines.{InStep, Steers, StopsAt};
-ghost use Rattle.live_study.specs.Lives.{AreTold, IsAllAsked, IsFinished, IsStopped, looks_made};
+ghost use Rattle.live_study.specs.Lives.{AreTrueLooks, IsAllAsked, IsAtHorizon, IsStopped, looks_made};
 ghost use Rattle.live_study.specs.Looks.{AreCaughtUp, HasRacks, IsAt};
-ghost use Rattle.live_study.specs.Showing.{AllCaughtUp, AreShownOf, HasLooked, HasRoom, looks_to_make};
+ghost use Rattle.live_study.specs.Showing.{AllCaughtUp, AreShownOf, HasLooked, HasReserved, looks_to_make};
 
 use crate::analyst::Analyst;
 use crate::asking::act_everyone;
 use crate::beside::drive_with_team;
-use crate::room::Room;
+use crate::reserve::Reserve;
 use crate::run::LiveRun;
 use crew_pool::{Crew, Gate};
 use decision_desk::{Desk, Helm};
@@ -52,11 +53,11 @@ fn side_by_side<
     Vec<(Analyst, Seat<J>)>,
 )
     requires desk { helm.desk ≡ desk.now.table.shared.table_id }
-    requires stands { InStep helm world }
+    requires in_step { InStep helm world }
     requires shown { AreShownOf helm world stocker.published }
     requires ready { AreReadyAll desk.now.table.shared.table_id model.now seated.items }
     ensures steers { Steers helm result.0.0 }
-    ensures stands { IfOk result.0.2 (λ w. InStep result.0.0 w × (w.front ≡ w.net.horizon)) }
+    ensures in_step { IfOk result.0.2 (λ w. InStep result.0.0 w × (w.front ≡ w.net.horizon)) }
     ensures shown { IfOk result.0.2 (λ w. AreShownOf result.0.0 w result.0.1.published) }
     ensures stops { IfErr result.0.2 (λ e. StopsAt result.0.0.net result.0.0.helm e) }
     ensures len { length result.1.items ≡ length seated.items }
@@ -65,7 +66,7 @@ fn side_by_side<
     ensures looked { (i : ℕ) (d : _) → i < length seated.items →
         HasLooked model.now (slice_index_or result.1.items i d).0.todo.items (slice_index_or result.1.items i d) }
     ensures same { (i : ℕ) (d : _) → i < length seated.items →
-        IsSame (slice_index_or seated.items i d).0 (slice_index_or result.1.items i d).0 }
+        IsSameAnalyst (slice_index_or seated.items i d).0 (slice_index_or result.1.items i d).0 }
 {
     thread::join(
         rt,
@@ -86,7 +87,7 @@ fn side_by_side<
                 HasLooked model.entry.now (slice_index_or result.items i d).0.todo.items
                 (slice_index_or result.items i d))
                 × ((i : ℕ) (d : _) → i < length seated.items →
-                IsSame (slice_index_or seated.items i d).0 (slice_index_or result.items i d).0) }
+                IsSameAnalyst (slice_index_or seated.items i d).0 (slice_index_or result.items i d).0) }
         { act_everyone(rt, desk, gate, model, seated) },
     )
 }
@@ -140,19 +141,19 @@ fn gather<J: Naming, W: Wait + Drop>(
     model: &Model,
     stocker: &mut Stocker<J, W>,
     seated: Vec<(Analyst, Seat<J>)>,
-    room: Room,
-) -> (Room, bool)
-    requires passes { vec_len room.passes + length seated.items ≤ vec_capacity room.passes }
-    requires looks { vec_len room.looks + length seated.items ≤ vec_capacity room.looks }
+    reserve: Reserve,
+) -> (Reserve, bool)
+    requires passes { vec_len reserve.passes + length seated.items ≤ vec_capacity reserve.passes }
+    requires looks { vec_len reserve.looks + length seated.items ≤ vec_capacity reserve.looks }
     requires there { All (λ a. HasRacks model.now a.1) seated.items }
-    ensures passes { result.0.passes.items ≡ room.passes.items ++ map (λ a. a.0.pass) seated.items }
-    ensures looks { result.0.looks.items ≡ room.looks.items ++ map (λ a. a.0.looks) seated.items }
+    ensures passes { result.0.passes.items ≡ reserve.passes.items ++ map (λ a. a.0.pass) seated.items }
+    ensures looks { result.0.looks.items ≡ reserve.looks.items ++ map (λ a. a.0.looks) seated.items }
     ensures caught_up { result.1 ≡ true → AllCaughtUp model.now stocker.old.published seated.items }
 {
-    let Room {
+    let Reserve {
         mut passes,
         mut looks,
-    } = room;
+    } = reserve;
     let mut caught_up = true;
     for one in seated {
         let (analyst, mut seat) = one;
@@ -167,7 +168,7 @@ fn gather<J: Naming, W: Wait + Drop>(
         passes.push_reserved(pass);
         looks.push_reserved(seen);
     }
-    (Room { passes, looks }, caught_up)
+    (Reserve { passes, looks }, caught_up)
 }
 
 // The run's result: a finished run is given up where a seat did not come to the horizon, which never happens.
@@ -207,28 +208,28 @@ pub(crate) fn run_live<
     stocker: Stocker<J, W>,
     watched: &[bool],
     seated: Vec<(Analyst, Seat<J>)>,
-    room: Room,
+    reserve: Reserve,
 ) -> LiveRun
     requires desk { helm.desk ≡ desk.table.shared.table_id }
     requires net { helm.net ≡ model.now }
     requires parts { helm.parts + length seated.items ≡ 17 }
     requires fresh { helm.accounts ≡ [] }
-    requires stands { InStep helm world }
+    requires in_step { InStep helm world }
     requires shown { AreShownOf helm world stocker.published }
     requires ready { AreReadyAll desk.table.shared.table_id model.now seated.items }
-    requires few { total_todo seated.items ≤ 4096 }
-    requires room { HasRoomFor (length seated.items) room }
+    requires few { total_todo seated.items ≤ MOST_CALLS }
+    requires reserve { HasReservedFor (length seated.items) reserve }
     ensures asked { IsAllAsked helm.net seated.items result.book }
     ensures made { looks_made result.looks.items ≡ looks_to_make seated.items }
-    ensures looked { IfOk result.run (λ w. AreTold helm.net result.book.events result.looks.items) }
-    ensures finished { IfOk result.run (λ w. IsFinished helm.net result.book w) }
+    ensures looked { IfOk result.run (λ w. AreTrueLooks helm.net result.book.events result.looks.items) }
+    ensures finished { IfOk result.run (λ w. IsAtHorizon helm.net result.book w) }
     ensures stopped { IfErr result.run (λ e. IsStopped helm.net result.book e) }
 {
     let ((helm, mut stocker, run), seated) = side_by_side(
         rt, alloc, crew, gate, model, &desk, helm, world, stocker, watched, seated,
     );
-    let (room, caught_up) = gather(model, &mut stocker, seated, room);
-    let Room { passes, looks } = room;
+    let (reserve, caught_up) = gather(model, &mut stocker, seated, reserve);
+    let Reserve { passes, looks } = reserve;
     let book = desk.close(passes, helm);
     let _legal = book.book().front();
     let _valid = model.lookahead();

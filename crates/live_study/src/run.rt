@@ -1,4 +1,4 @@
-//! What a live study leaves.
+//! What a live study leaves: its journal, its looks, and the world at the horizon (the stop time).
 use decision_desk::LegalBook;
 use journal_text::Looked;
 use sim_base::Reserved;

@@ -1,21 +1,21 @@
-//! The live study of a model and a script.
+//! The live study of a model and a script: an interactive simulation, with one journal of what its users decided.
 ghost use Rattle.std.specs.Prelude.{◌≡◌, ◌+◌, ◌∷◌, ◌≤◌, [], length, map, IfOk, IfErr, OnErr};
 ghost use Rattle.std.specs.List.{AllByRecursion};
 ghost use Rattle.sim_base.specs.Clones.{base};
 ghost use Rattle.decision_desk.specs.Passes.{new_helm, new_passes};
 ghost use Rattle.shelf.specs.Racks.{MayOpen};
 ghost use Rattle.world_core.specs.Worlds.{total_handled};
-ghost use Rattle.live_study.specs.Closing.{HasRoomFor};
-ghost use Rattle.live_study.specs.Lives.{IsFinished, IsStopped, kept};
+ghost use Rattle.live_study.specs.Closing.{HasReservedFor};
+ghost use Rattle.live_study.specs.Lives.{IsAtHorizon, IsStopped, all_looks};
 ghost use Rattle.live_study.specs.Looks.{AreLooks, HasMadeLooks};
-ghost use Rattle.live_study.specs.Opening.{IsFresh, IsOpening, IsPrepared, numbers_to};
+ghost use Rattle.live_study.specs.Opening.{AreOpeningRacks, IsFresh, IsPrepared, numbers_to};
 ghost use Rattle.live_study.specs.Scripts.{IsJournalOf, each_acts};
 
 use crate::analyst::Analyst;
 use crate::begin::{analysts_of, opening_racks, watched_in};
 use crate::live::run_live;
 use crate::prepared::Prepared;
-use crate::room::Room;
+use crate::reserve::Reserve;
 use crate::run::LiveRun;
 use crate::work::count_run;
 use crew_pool::{Crew, Gate};
@@ -35,7 +35,7 @@ use world_core::World;
 // The world as it opens, and a rack of each of its stations.
 fn open_world(alloc: Global, model: &Arc<Model>) -> Result<(World, Vec<Rack>), NoMemory>
     ensures world { IfOk result (λ r. r.0 ≡ record { net = model.now.value; clones = base ∷ []; front = 0 }) }
-    ensures racks { IfOk result (λ r. IsOpening r.0 (length model.now.value.sites) r.1.items) }
+    ensures racks { IfOk result (λ r. AreOpeningRacks r.0 (length model.now.value.sites) r.1.items) }
 {
     let mut world = World::new(alloc, Arc::try_clone(model)?)?;
     let racks = opening_racks(alloc, &mut world)?;
@@ -56,12 +56,12 @@ fn open_desk(
     Desk::begin(alloc, Arc::try_clone(model)?, script.analysts())
 }
 
-// Room for what the analysts of the script leave.
-fn room_for(alloc: Global, script: &Script) -> Result<Room, NoMemory>
-    ensures value { IfOk result (λ r. HasRoomFor (length script.now.analysts) r) }
+// Memory for what the analysts of the script leave.
+fn reserve_for(alloc: Global, script: &Script) -> Result<Reserve, NoMemory>
+    ensures value { IfOk result (λ r. HasReservedFor (length script.now.analysts) r) }
 {
     let many = script.analysts() as usize;
-    Ok(Room {
+    Ok(Reserve {
         passes: Vec::with_capacity(alloc, many)?,
         looks: Vec::with_capacity(alloc, many)?,
     })
@@ -71,7 +71,7 @@ fn room_for(alloc: Global, script: &Script) -> Result<Room, NoMemory>
 fn prepare(alloc: Global, model: &Arc<Model>, script: &Script) -> Result<Prepared, NoMemory>
     ensures value { IfOk result (λ p. IsPrepared model.now.value (length script.now.analysts) p) }
 {
-    let room = room_for(alloc, script)?;
+    let reserve = reserve_for(alloc, script)?;
     let watched = watched_in(alloc, model, script)?;
     let (world, racks) = open_world(alloc, model)?;
     let (desk, passes, helm) = open_desk(alloc, model, script)?;
@@ -82,7 +82,7 @@ fn prepare(alloc: Global, model: &Arc<Model>, script: &Script) -> Result<Prepare
         desk,
         helm,
         passes,
-        room,
+        reserve,
     })
 }
 
@@ -132,10 +132,10 @@ fn run_prepared<
     requires name { opened.seen.book ≡ J.book }
     requires prepared { IsPrepared model.now (length script.now.analysts) prepared }
     ensures journal { IfOk result (λ r. IsJournalOf model.now script.now r.book) }
-    ensures made { IfOk result (λ r. HasMadeLooks script.now (kept r.looks.items)) }
+    ensures made { IfOk result (λ r. HasMadeLooks script.now (all_looks r.looks.items)) }
     ensures looks { IfOk result (λ r. IfOk r.run (λ w.
-        AreLooks model.now script.now r.book.events (kept r.looks.items))) }
-    ensures finished { IfOk result (λ r. IfOk r.run (λ w. IsFinished model.now r.book w)) }
+        AreLooks model.now script.now r.book.events (all_looks r.looks.items))) }
+    ensures finished { IfOk result (λ r. IfOk r.run (λ w. IsAtHorizon model.now r.book w)) }
     ensures stopped { IfOk result (λ r. IfErr r.run (λ e. IsStopped model.now r.book e)) }
 {
     let Prepared {
@@ -145,7 +145,7 @@ fn run_prepared<
         desk,
         helm,
         passes,
-        room,
+        reserve,
     } = prepared;
     let _stations = model.len();
     let _valid = script.analysts();
@@ -162,7 +162,7 @@ fn run_prepared<
         stocker,
         watched.as_slice(),
         seated,
-        room,
+        reserve,
     ))
 }
 
@@ -180,12 +180,12 @@ pub fn live_study<C: Crew + Sync, G: Gate, L: Ledger, R: Threads + Wait + Sync>(
     // One legal journal, in which each analyst's decisions stand in order, and no others.
     ensures journal { IfOk result (λ r. IsJournalOf model.now.value script.now r.book) }
     // All looks of the script were made, in order.
-    ensures made { IfOk result (λ r. HasMadeLooks script.now (kept r.looks.items)) }
+    ensures made { IfOk result (λ r. HasMadeLooks script.now (all_looks r.looks.items)) }
     // At the horizon: what was seen at each of them is true of the journal's clones at a front.
     ensures looks { IfOk result (λ r. IfOk r.run (λ w.
-        AreLooks model.now.value script.now r.book.events (kept r.looks.items))) }
+        AreLooks model.now.value script.now r.book.events (all_looks r.looks.items))) }
     // The engine came to the horizon, and its world has the journal's clones; or it met the limit at the last front.
-    ensures finished { IfOk result (λ r. IfOk r.run (λ w. IsFinished model.now.value r.book w)) }
+    ensures finished { IfOk result (λ r. IfOk r.run (λ w. IsAtHorizon model.now.value r.book w)) }
     ensures stopped { IfOk result (λ r. IfErr r.run (λ e. IsStopped model.now.value r.book e)) }
     // At the horizon, what clones share was counted once; else nothing was.
     ensures steps { IfOk result (λ r. IfOk r.run (λ w.

@@ -1,8 +1,8 @@
-//! The text of a live study's journal.
+//! The text of a live study's journal, with its looks behind it.
 ghost use Rattle.std.specs.Prelude.{◌≡◌, ◌++◌, IfOk, OnOk};
 ghost use Rattle.net_model.specs.Net.{Net};
 ghost use Rattle.journal_text.specs.JournalText.{journal_text as text_of};
-ghost use Rattle.live_study.specs.Lives.{kept};
+ghost use Rattle.live_study.specs.Lives.{all_looks};
 ghost use Rattle.live_study.specs.Looks.{HasMadeLooks};
 ghost use Rattle.live_study.specs.Scripts.{IsJournalOf};
 
@@ -12,9 +12,9 @@ use journal_text::{Looked, journal_text};
 use sim_base::{NoMemory, Reserved};
 use std::alloc::Global;
 
-// The looks that analysts have kept, one after the other.
+// The looks of all analysts, one after the other.
 fn looks_of(alloc: Global, looks: &[Reserved<Looked>]) -> Result<Vec<Looked>, NoMemory>
-    ensures value { IfOk result (λ v. v.items ≡ kept looks.now) }
+    ensures value { IfOk result (λ v. v.items ≡ all_looks looks.now) }
 {
     let mut all = Vec::new(alloc);
     for own in looks {
@@ -26,9 +26,9 @@ fn looks_of(alloc: Global, looks: &[Reserved<Looked>]) -> Result<Vec<Looked>, No
 /// The text of the journal that a live study of a script leaves, with the looks of its analysts behind it.
 pub fn journal_of(alloc: Global, script: &Script, live: &LiveRun) -> Result<Vec<u8>, NoMemory>
     requires journal { (net : Net) × IsJournalOf net script.now live.now.book }
-    requires made { HasMadeLooks script.now (kept live.now.looks.items) }
+    requires made { HasMadeLooks script.now (all_looks live.now.looks.items) }
     ensures value { IfOk result (λ text. text.items ≡
-        text_of script.now.analysts live.now.book.events (kept live.now.looks.items)) }
+        text_of script.now.analysts live.now.book.events (all_looks live.now.looks.items)) }
 {
     let looks = looks_of(alloc, live.looks.as_slice())?;
     let book = live.book.book();

@@ -1,4 +1,4 @@
-//! The steps of a run that is over.
+//! The work of a run that is over: a step for each event that was executed once for all clones that share it.
 ghost use Rattle.std.specs.Prelude.{◌≡◌, ◌+◌, IfOk, IfErr};
 ghost use Rattle.world_core.specs.Worlds.{total_handled};
 

@@ -9,7 +9,7 @@ use Rattle.std.proofs.Math.Seq.{get_or-append_seam}
 use Rattle.sim_base.specs.declared.entry.Entry.{Entry}
 use Rattle.sim_base.specs.declared.entry.Line.{Line}
 use Rattle.sim_base.specs.declared.message.Msg.{Msg}
-use Rattle.log_chain.specs.Packing.{unpacked, is_wide, entry_of, entries_of, FitsWord}
+use Rattle.log_chain.specs.Packing.{packed_entry, is_wide, entry_of, entries_of, FitsWord}
 use Rattle.log_chain.specs.Packing.{IsPlaced, ArePlaced, FitWords}
 use Rattle.log_chain.specs.declared.packed.Packed.{Packed}
 
@@ -50,7 +50,7 @@ pub entries_more : (wide more : List (Entry Msg Line)) (ps : List Packed) → Ar
     → entries_of (wide ++ more) ps ≡ entries_of wide ps
 entries_more wide more [] h = refl
 entries_more wide more (p ∷ ps) h =
-    ap₂ (λ e es. e ∷ es) (entry_more (is_wide p.msg.kind) wide more p.msg.count (unpacked p) h.0.wide)
+    ap₂ (λ e es. e ∷ es) (entry_more (is_wide p.msg.kind) wide more p.msg.count (packed_entry p) h.0.wide)
     (entries_more wide more ps h.1)
 
 -- nor does another, where all entries fit
@@ -58,7 +58,7 @@ pub entries_other : (wide other : List (Entry Msg Line)) (ps : List Packed) → 
     → entries_of wide ps ≡ entries_of other ps
 entries_other wide other [] h = refl
 entries_other wide other (p ∷ ps) h =
-    ap₂ (λ e es. e ∷ es) (entry_other (is_wide p.msg.kind) wide other p.msg.count (unpacked p) h.0.wide)
+    ap₂ (λ e es. e ∷ es) (entry_other (is_wide p.msg.kind) wide other p.msg.count (packed_entry p) h.0.wide)
     (entries_other wide other ps h.1)
 
 -- the entries with one more of the side list
@@ -68,7 +68,7 @@ pub entries_push_wide : (wide : List (Entry Msg Line)) (ps : List Packed) (p : P
 entries_push_wide wide ps p e h is place =
     entries_append (wide ++ e ∷ []) ps (p ∷ [])
     ∙ ap₂ (λ es x. es ++ x ∷ []) (entries_more wide (e ∷ []) ps h)
-    (entry_last (is_wide p.msg.kind) wide p.msg.count (unpacked p) e is place)
+    (entry_last (is_wide p.msg.kind) wide p.msg.count (packed_entry p) e is place)
 
 -- ---- where they are
 
@@ -76,11 +76,6 @@ entries_push_wide wide ps p e h is place =
 pub placed_push : (n : ℕ) (ps : List Packed) (p : Packed) → ArePlaced n ps → IsPlaced n p → ArePlaced n (ps ++ p ∷ [])
 placed_push n [] p h l = (l, tt)
 placed_push n (q ∷ qs) p h l = (h.0, placed_push n qs p h.1 l)
-
--- the entries of two lists
-pub placed_append : (n : ℕ) (ps qs : List Packed) → ArePlaced n ps → ArePlaced n qs → ArePlaced n (ps ++ qs)
-placed_append n [] qs h l = l
-placed_append n (p ∷ ps) qs h l = (h.0, placed_append n ps qs h.1 l)
 
 -- a longer side list has them too
 pub placed_more : (n m : ℕ) (ps : List Packed) → n ≤ m → ArePlaced n ps → ArePlaced m ps
@@ -106,11 +101,6 @@ word_of false wide n e h f = f refl
 pub words_fit : (wide : List (Entry Msg Line)) (ps : List Packed) → ArePlaced 0 ps → FitWords (entries_of wide ps)
 words_fit wide [] h = tt
 words_fit wide (p ∷ ps) h = (
-  word_of (is_wide p.msg.kind) wide p.msg.count (unpacked p) h.0.wide h.0.narrow,
+  word_of (is_wide p.msg.kind) wide p.msg.count (packed_entry p) h.0.wide h.0.narrow,
   words_fit wide ps h.1,
 )
-
--- the keys of two lists
-pub words_append : (xs ys : List (Entry Msg Line)) → FitWords xs → FitWords ys → FitWords (xs ++ ys)
-words_append [] ys f g = g
-words_append (x ∷ xs) ys f g = (f.0, words_append xs ys f.1 g)

@@ -1,4 +1,5 @@
 pub mod Packing
+pub mod Stored
 pub mod Blocks
 pub mod Segments
 pub mod Walking

@@ -59,9 +59,9 @@ counts_of line.Sink l = Sink l.first (l.third * 2 ^ 32 + l.second)
 abbrev pub line_of : PackedLine → Line
 line_of l = counts_of l.kind l
 
--- the entry
-abbrev pub unpacked : Packed → Entry Msg Line
-unpacked p = record { msg = msg_of p.msg; line = line_of p.line }
+-- the entry that a packed one of its own numbers stands for
+abbrev pub packed_entry : Packed → Entry Msg Line
+packed_entry p = record { msg = msg_of p.msg; line = line_of p.line }
 
 -- whether the entry did not fit
 abbrev pub is_wide : Kind → Bool
@@ -70,13 +70,13 @@ is_wide _ = false
 
 -- the entry, which is in the side list where it did not fit
 abbrev pub entry_of : List (Entry Msg Line) → Packed → Entry Msg Line
-entry_of wide p = if is_wide p.msg.kind then slice_index_or wide p.msg.count (unpacked p) else unpacked p
+entry_of wide p = if is_wide p.msg.kind then slice_index_or wide p.msg.count (packed_entry p) else packed_entry p
 
 -- the entries, one after another
 abbrev pub entries_of : List (Entry Msg Line) → List Packed → List (Entry Msg Line)
 entries_of wide ps = map (entry_of wide) ps
 
--- a key of which one word of 64 bits has place: its time, sender and number
+-- a key that fits one word of 64 bits: its time, sender and number
 pub record FitsWord (k : Key) : Type 0 where
   pub time : k.time < 2 ^ 30
   pub sender : k.sender < 2 ^ 7

@@ -1,4 +1,4 @@
--- How a log is kept: segments that other logs may share, and a tail of its own.
+-- How a log is stored: segments that other logs may share, and a tail of its own.
 use Rattle.std.specs.Prelude.{◌≡◌, ℕ, ◌+◌, ◌*◌, ◌-◌, ◌^◌, ◌<◌, ◌≤◌, List, [], ◌∷◌, length, map, flat_map, slice_index}
 use Rattle.std.specs.Arc.{arc_value}
 use Rattle.std.specs.declared.sync.Arc.{Arc}

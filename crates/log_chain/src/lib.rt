@@ -31,10 +31,13 @@
 
 mod blocks;
 pub mod log;
-mod packed;
+pub mod packed;
 mod run;
 mod segments;
+pub mod stored;
 pub mod walk;
 
 pub use log::Log;
+pub use packed::Packed;
+pub use stored::StoredEntry;
 pub use walk::Walk;

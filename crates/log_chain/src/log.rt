@@ -1,4 +1,4 @@
-//! Logs.
+//! The log of a logical process: the messages that a station has handled, in order, each with the counts after it.
 ghost use Rattle.std.specs.Prelude.{◌≡◌, ◌++◌, ◌∷◌, [], ◌+◌, ◌^◌, ◌<◌, ◌≤◌, length};
 ghost use Rattle.std.specs.Prelude.{drop, OnOk, OnErr, IfOk, IsTrue, ◌↔◌, slice_index, slice_index_or};
 ghost use Rattle.log_chain.specs.Packing.{FitWords};

@@ -2,7 +2,7 @@
 ghost use Rattle.std.specs.Prelude.{◌≡◌, true, false, IfSome};
 ghost use Rattle.sim_base.specs.declared.message.Job.{Job as JobOf};
 ghost use Rattle.log_chain.specs.Packing.{set_of, payload_of, key_of, msg_of, line_of};
-ghost use Rattle.log_chain.specs.Packing.{unpacked, is_wide, entry_of, IsNarrow};
+ghost use Rattle.log_chain.specs.Packing.{packed_entry, is_wide, entry_of, IsNarrow};
 
 use sim_base::{Change, Entry, Job, Key, Line, Msg, Param, Payload};
 
@@ -63,9 +63,56 @@ pub struct Packed {
 
 const _: () = prove!(size_of::<Packed>() == 32);
 
+impl Packed {
+    ghost use Rattle.log_chain.specs.Packing.{packed_entry};
+
+    /// The key of its message.
+    #[inline(always)]
+    pub fn key(&self) -> Key
+        ensures value { result ≡ (packed_entry self.now).msg.key }
+    {
+        unpack_key(&self.msg)
+    }
+
+    /// The receiver of its message.
+    #[inline(always)]
+    pub fn to(&self) -> u32
+        ensures value { result ≡ (packed_entry self.now).msg.to }
+    {
+        u32::from(self.msg.to)
+    }
+
+    /// What its message tells.
+    #[inline(always)]
+    pub fn payload(&self) -> Payload
+        ensures value { result ≡ (packed_entry self.now).msg.payload }
+    {
+        unpack_payload(&self.msg)
+    }
+
+    /// The counts of its station after it.
+    #[inline(always)]
+    pub fn counts(&self) -> Line
+        ensures value { result ≡ (packed_entry self.now).line }
+    {
+        unpack_line(&self.line)
+    }
+
+    /// The entry.
+    #[inline(always)]
+    pub fn entry(&self) -> Entry
+        ensures value { result ≡ packed_entry self.now }
+    {
+        Entry {
+            msg: unpack_msg(&self.msg),
+            line: unpack_line(&self.line),
+        }
+    }
+}
+
 /// The entry in 32 bytes, or None where a number of it is too large.
 pub fn pack(entry: &Entry) -> Option<Packed>
-    ensures value { IfSome result (λ p. unpacked p ≡ entry.now) }
+    ensures value { IfSome result (λ p. packed_entry p ≡ entry.now) }
     ensures narrow { IfSome result (λ p. IsNarrow p.msg) }
 {
     let msg = pack_msg(&entry.msg)?;
@@ -81,10 +128,7 @@ pub fn unpack(packed: &Packed, wide: &[Entry]) -> Entry
     if is_wide(&packed.msg) && (packed.msg.count as usize) < wide.len() {
         wide[packed.msg.count as usize]
     } else {
-        Entry {
-            msg: unpack_msg(&packed.msg),
-            line: unpack_line(&packed.line),
-        }
+        packed.entry()
     }
 }
 
@@ -127,8 +171,9 @@ pub fn in_side_list(place: u32) -> Packed
     }
 }
 
+/// Whether the entry did not fit and stands in the side list.
 #[inline(always)]
-fn is_wide(msg: &PackedMsg) -> bool
+pub fn is_wide(msg: &PackedMsg) -> bool
     ensures value { result ≡ is_wide msg.now.kind }
 {
     match msg.kind {

@@ -2,11 +2,13 @@
 ghost use Rattle.std.specs.Prelude.{◌≡◌, ◌++◌, ◌∷◌, [], ◌<◌, ◌≤◌, length, drop, IfSome, IfNone, option_map, slice_get};
 ghost use Rattle.log_chain.specs.Blocks.{all_of, AreBlocks};
 ghost use Rattle.log_chain.specs.Segments.{entries_in};
+ghost use Rattle.log_chain.specs.Stored.{entry_in};
 
 use crate::blocks::BLOCK;
-use crate::packed::{Packed, key_at, unpack};
+use crate::packed::{Packed, key_at};
 use crate::run::Run;
 use crate::segments::Segment;
+use crate::stored::StoredEntry;
 use sim_base::{Entry, Key};
 use std::marker::Model;
 
@@ -50,19 +52,19 @@ impl<'a> Walk<'a> {
         if self.packed.is_empty() {
             return None;
         }
-        Some(self.take())
+        Some(self.take().entry())
     }
 
-    /// The next entry of a walk that is not at its end.
+    /// The next entry of a walk that is not at its end, as the log stores it.
     #[inline(always)]
-    pub fn take(&mut self) -> Entry
+    pub fn take(&mut self) -> StoredEntry<'a>
         requires some { 1 ≤ length self.old }
-        ensures value { self.old ≡ result ∷ self.new }
+        ensures value { self.old ≡ entry_in result ∷ self.new }
     {
         let Some((packed, rest)) = self.packed.split_first() else {
             unreachable!()
         };
-        let entry = unpack(packed, self.wide);
+        let entry = StoredEntry::new(packed, self.wide);
         // one of eight, so that their memory comes at once and is not waited for each time
         if rest.len() % 8 == 7 {
             self.ahead = bytes_ahead(rest);

@@ -16,7 +16,7 @@ use Rattle.stations.specs.Changes.{accepts}
 use Rattle.sim_base.specs.declared.message.Change.{Change}
 use Rattle.sim_base.specs.declared.decision.Decision.TheVariants.{Set}
 use Rattle.sim_base.specs.declared.lists.TheConstants.{MOST_DECISIONS}
-use Rattle.sim_base.specs.Clones.{Clone, added, clone_at, place_of}
+use Rattle.sim_base.specs.Clones.{Clone, clones_with_plan, clone_at, place_of}
 use Rattle.decision_book.specs.declared.call.TheConstants.{MOST_CALLS}
 use Rattle.made_study.specs.Branches.{clones_of_plans, last_decisions, own_decision}
 use Rattle.made_study.specs.Nets.{made_net, made_sites, net_with, ward}
@@ -73,7 +73,7 @@ set_leads : (net : Net) (clones : List Clone) (calls c at : ℕ) (who station : 
     → next (record { net = net; clones = clones; front = 0; calls = calls }) (Set who at station change)
     ≡ record {
       net = net;
-      clones = added clones c (record { at = at; station = 3; change = change });
+      clones = clones_with_plan clones c (record { at = at; station = 3; change = change });
       front = 0;
       calls = calls + 1;
     }
@@ -91,7 +91,7 @@ between n others count = with_clones n others (clones_between count) (2 * count 
 
 -- the clones after both
 abbrev pub clones_after_set : ℕ → List Clone
-clones_after_set count = added (clones_between count) (count + 1) (own_decision (count + 1))
+clones_after_set count = clones_with_plan (clones_between count) (count + 1) (own_decision (count + 1))
 
 -- what is computed of the next plan: the fork is accepted and leads there, and the set meets no row of the table
 abbrev pub Facts : ℕ → ℕ → ℕ → Type 0
@@ -186,11 +186,11 @@ abbrev pub decisions_of_plans : ℕ → ℕ → List Decision
 decisions_of_plans first count = flat_map (λ j. fork_of_plan j ∷ set_of_plan j ∷ []) (range_with_len first count)
 
 -- two decisions that are accepted are no refusals
-passed : (s : Situation) (place : ℕ) (d e : Decision) (ds : List Decision)
+first_refusal_from-Accepted : (s : Situation) (place : ℕ) (d e : Decision) (ds : List Decision)
     → reply s d ≡ Accepted
     → reply (next s d) e ≡ Accepted
     → first_refusal_from s place (d ∷ e ∷ ds) ≡ first_refusal_from (next (next s d) e) (place + 1 + 1) ds
-passed s place d e ds first second =
+first_refusal_from-Accepted s place d e ds first second =
     ap (λ r. refusal_or place r (first_refusal_from (next s d) (place + 1) (e ∷ ds))) first
     ∙ ap (λ r. refusal_or (place + 1) r (first_refusal_from (next (next s d) e) (place + 1 + 1) ds)) second
 
@@ -201,7 +201,7 @@ none_refused n others before zero place plans = refl
 none_refused n others before (suc count) place (made, plans) =
     let plan = is_next n others before made in
     let further = decisions_of_plans (before + 1 + 1) count in
-    passed (after_plans n others before) place (fork_of_plan (before + 1))
+    first_refusal_from-Accepted (after_plans n others before) place (fork_of_plan (before + 1))
     (set_of_plan (before + 1)) further plan.fork plan.set
     ∙ ap (λ s. first_refusal_from s (place + 1 + 1) further) plan.leads
     ∙ none_refused n others (before + 1) count (place + 1 + 1) plans

@@ -11,8 +11,8 @@ use Rattle.mailbox.specs.declared.mail.Letter.TheVariants.{Task, Answer}
 use Rattle.mailbox.specs.declared.mail.MailView.{MailView}
 use Rattle.mailbox.specs.declared.mail.MailView.TheVariants.{Alone, Opening, Holding, Sent, Idle, Working}
 use Rattle.mailbox.specs.Mail.{Slot, Hand, Mail, unshared, unopened, empty, waits, taken, answered}
-use Rattle.mailbox.specs.Mail.{caller_of, worker_of, state_of, IsRight, Kept}
-use Rattle.mailbox.specs.Mail.{Opened, Given, Undone, Collected, Taken, Left}
+use Rattle.mailbox.specs.Mail.{caller_of, worker_of, state_of, IsRight, IsMailbox}
+use Rattle.mailbox.specs.Mail.{HasOpened, HasGiven, HasUndone, HasCollected, HasTaken, HasAnswered}
 
 -- whether a seat with this view is the caller's
 abbrev calls : {T : Type 0} → MailView T → Bool
@@ -77,35 +77,35 @@ module _ {T A : Type 0} where
   abbrev Shows : (T → A → Type 0) → Hand T A → (ℕ → ℕ) → (Hand T A → ℕ → Hand T A → Type 0)
       → State (Slot T A) (MailView T) → ℕ → Type 0
   Shows answers m f tells s id = (w : MailView T) × (a : Act (Slot T A)) × Valid s.homes m.1 a
-      × Kept answers (stepped s 0 (f (slice_index s.words 0)) id m.1 w a)
+      × IsMailbox answers (stepped s 0 (f (slice_index s.words 0)) id m.1 w a)
       × tells m (slice_index s.words 0) (w, carried_after m.1 a)
 
   -- a step of the caller is allowed that is shown in each state in which the caller knows so much
   by_caller : (answers : T → A → Type 0) (slots id : ℕ) (m k : Hand T A) (f : ℕ → ℕ)
       (tells : Hand T A → ℕ → Hand T A → Type 0) → m ≡ k → calls k.0 ≡ true
       → ((mail : Mail T A) → IsRight answers mail → caller_of mail ≡ k.0 → Shows answers k f tells (state_of mail) 0)
-      → Allows (Kept answers) slots id m 0 f (tells m)
-  by_caller answers slots id m k f tells has role shows s kept one at small =
+      → Allows (IsMailbox answers) slots id m 0 f (tells m)
+  by_caller answers slots id m k f tells has role shows s held one at small =
       let At : State (Slot T A) (MailView T) → Hand T A → Type 0 = λ u h. get_elem? u.views id ≡ some h.0 in
-      let is = is_caller kept.mail id k.0 role (subst (λ h. At (state_of kept.mail) h) has
-      (subst (λ u. At u m) kept.is at)) in
-      subst (λ u. Shows answers m f tells u id) (sym kept.is)
-      (subst (λ h. Shows answers h f tells (state_of kept.mail) id) (sym has)
-      (subst (λ (i : ℕ). Shows answers k f tells (state_of kept.mail) i) (sym is.0) (shows kept.mail kept.right is.1)))
+      let is = is_caller held.mail id k.0 role (subst (λ h. At (state_of held.mail) h) has
+      (subst (λ u. At u m) held.is at)) in
+      subst (λ u. Shows answers m f tells u id) (sym held.is)
+      (subst (λ h. Shows answers h f tells (state_of held.mail) id) (sym has)
+      (subst (λ (i : ℕ). Shows answers k f tells (state_of held.mail) i) (sym is.0) (shows held.mail held.right is.1)))
 
   -- the same of the worker
   by_worker : (answers : T → A → Type 0) (slots id : ℕ) (m k : Hand T A) (f : ℕ → ℕ)
       (tells : Hand T A → ℕ → Hand T A → Type 0) → m ≡ k → calls k.0 ≡ false
       → ((mail : Mail T A) → IsRight answers mail → worker_of mail ≡ k.0 ∷ []
       → Shows answers k f tells (state_of mail) 1)
-      → Allows (Kept answers) slots id m 0 f (tells m)
-  by_worker answers slots id m k f tells has role shows s kept one at small =
+      → Allows (IsMailbox answers) slots id m 0 f (tells m)
+  by_worker answers slots id m k f tells has role shows s held one at small =
       let At : State (Slot T A) (MailView T) → Hand T A → Type 0 = λ u h. get_elem? u.views id ≡ some h.0 in
-      let is = is_worker kept.mail id k.0 role (subst (λ h. At (state_of kept.mail) h) has
-      (subst (λ u. At u m) kept.is at)) in
-      subst (λ u. Shows answers m f tells u id) (sym kept.is)
-      (subst (λ h. Shows answers h f tells (state_of kept.mail) id) (sym has)
-      (subst (λ (i : ℕ). Shows answers k f tells (state_of kept.mail) i) (sym is.0) (shows kept.mail kept.right is.1)))
+      let is = is_worker held.mail id k.0 role (subst (λ h. At (state_of held.mail) h) has
+      (subst (λ u. At u m) held.is at)) in
+      subst (λ u. Shows answers m f tells u id) (sym held.is)
+      (subst (λ h. Shows answers h f tells (state_of held.mail) id) (sym has)
+      (subst (λ (i : ℕ). Shows answers k f tells (state_of held.mail) i) (sym is.0) (shows held.mail held.right is.1)))
 
   -- ---- a mailbox is opened
 
@@ -114,7 +114,7 @@ module _ {T A : Type 0} where
   hired s id = record { words = s.words; homes = s.homes; views = set s.views id Opening ++ Idle ∷ [] }
 
   hires_in : (answers : T → A → Type 0) (mail : Mail T A) → caller_of mail ≡ Alone
-      → Kept answers (hired (state_of mail) 0)
+      → IsMailbox answers (hired (state_of mail) 0)
   hires_in answers unshared e = record { mail = unopened; is = refl; right = tt }
   hires_in answers unopened e = absurd cc
   hires_in answers empty e = absurd cc
@@ -123,15 +123,16 @@ module _ {T A : Type 0} where
   hires_in answers (answered t a) e = absurd cc
 
   -- the worker's seat may be cut off
-  pub hires : (answers : T → A → Type 0) (id : ℕ) (v : MailView T) → v ≡ Alone → Splits (Kept answers) id v Opening Idle
-  hires answers id v alone s kept at =
-      let is = is_caller kept.mail id Alone refl (subst (λ u. get_elem? (state_of kept.mail).views id ≡ some u) alone
-      (subst (λ u. get_elem? u.views id ≡ some v) kept.is at)) in
-      subst (λ u. Kept answers (hired u id)) (sym kept.is)
-      (subst (λ (i : ℕ). Kept answers (hired (state_of kept.mail) i)) (sym is.0) (hires_in answers kept.mail is.1))
+  pub hires : (answers : T → A → Type 0) (id : ℕ) (v : MailView T) → v ≡ Alone
+      → Splits (IsMailbox answers) id v Opening Idle
+  hires answers id v alone s held at =
+      let is = is_caller held.mail id Alone refl (subst (λ u. get_elem? (state_of held.mail).views id ≡ some u) alone
+      (subst (λ u. get_elem? u.views id ≡ some v) held.is at)) in
+      subst (λ u. IsMailbox answers (hired u id)) (sym held.is)
+      (subst (λ (i : ℕ). IsMailbox answers (hired (state_of held.mail) i)) (sym is.0) (hires_in answers held.mail is.1))
 
   opens_in : (answers : T → A → Type 0) (mail : Mail T A) → IsRight answers mail → caller_of mail ≡ Opening
-      → Shows answers (Opening, []) (λ n. n) (λ m _ w. Opened m w) (state_of mail) 0
+      → Shows answers (Opening, []) (λ n. n) (λ m _ w. HasOpened m w) (state_of mail) 0
   opens_in answers unshared r e = absurd cc
   opens_in answers unopened r e = (Holding, takes 0 None, refl, record { mail = empty; is = refl; right = tt }, refl)
   opens_in answers empty r e = absurd cc
@@ -141,14 +142,14 @@ module _ {T A : Type 0} where
 
   -- the caller may take the slot
   pub opens : (answers : T → A → Type 0) (slots id : ℕ) (m : Hand T A) → m ≡ (Opening, [])
-      → Allows (Kept answers) slots id m 0 (λ n. n) (λ _ w. Opened m w)
+      → Allows (IsMailbox answers) slots id m 0 (λ n. n) (λ _ w. HasOpened m w)
   opens answers slots id m is =
-      by_caller answers slots id m (Opening, []) (λ n. n) (λ m _ w. Opened m w) is refl (opens_in answers)
+      by_caller answers slots id m (Opening, []) (λ n. n) (λ m _ w. HasOpened m w) is refl (opens_in answers)
 
   -- ---- a task is given
 
   gives_in : (answers : T → A → Type 0) (x : T) (mail : Mail T A) → IsRight answers mail → caller_of mail ≡ Holding
-      → Shows answers (Holding, (0, Some (Task x)) ∷ []) (λ _. WAITS) (λ m _ w. Given m w) (state_of mail) 0
+      → Shows answers (Holding, (0, Some (Task x)) ∷ []) (λ _. WAITS) (λ m _ w. HasGiven m w) (state_of mail) 0
   gives_in answers x unshared r e = absurd cc
   gives_in answers x unopened r e = absurd cc
   gives_in answers x empty r e = (Sent x, gives, tt, record { mail = waits x; is = refl; right = tt }, refl)
@@ -158,14 +159,15 @@ module _ {T A : Type 0} where
 
   -- the caller may give a task
   pub gives_task : (answers : T → A → Type 0) (x : T) (slots id : ℕ) (m : Hand T A)
-      → m ≡ (Holding, (0, Some (Task x)) ∷ []) → Allows (Kept answers) slots id m 0 (λ _. WAITS) (λ _ w. Given m w)
+      → m ≡ (Holding, (0, Some (Task x)) ∷ [])
+      → Allows (IsMailbox answers) slots id m 0 (λ _. WAITS) (λ _ w. HasGiven m w)
   gives_task answers x slots id m is = by_caller answers slots id m (Holding, (0, Some (Task x)) ∷ []) (λ _. WAITS)
-      (λ m _ w. Given m w) is refl (gives_in answers x)
+      (λ m _ w. HasGiven m w) is refl (gives_in answers x)
 
   -- ---- it is taken back
 
   undoes_in : (answers : T → A → Type 0) (x : T) (mail : Mail T A) → IsRight answers mail → caller_of mail ≡ Sent x
-      → Shows answers (Sent x, []) (λ n. either (nat_eq n WAITS) EMPTY n) Undone (state_of mail) 0
+      → Shows answers (Sent x, []) (λ n. either (nat_eq n WAITS) EMPTY n) HasUndone (state_of mail) 0
   undoes_in answers x unshared r e = absurd cc
   undoes_in answers x unopened r e = absurd cc
   undoes_in answers x empty r e = absurd cc
@@ -183,15 +185,15 @@ module _ {T A : Type 0} where
 
   -- the caller may take a task back that waits
   pub undoes : (answers : T → A → Type 0) (x : T) (slots id : ℕ) (m : Hand T A) → m ≡ (Sent x, [])
-      → Allows (Kept answers) slots id m 0 (λ n. either (nat_eq n WAITS) EMPTY n) (Undone m)
+      → Allows (IsMailbox answers) slots id m 0 (λ n. either (nat_eq n WAITS) EMPTY n) (HasUndone m)
   undoes answers x slots id m is =
-      by_caller answers slots id m (Sent x, []) (λ n. either (nat_eq n WAITS) EMPTY n) Undone is refl
+      by_caller answers slots id m (Sent x, []) (λ n. either (nat_eq n WAITS) EMPTY n) HasUndone is refl
       (undoes_in answers x)
 
   -- ---- the worker takes it
 
   takes_in : (answers : T → A → Type 0) (mail : Mail T A) → IsRight answers mail → worker_of mail ≡ Idle ∷ []
-      → Shows answers (Idle, []) (λ n. either (nat_eq n WAITS) TAKEN n) Taken (state_of mail) 1
+      → Shows answers (Idle, []) (λ n. either (nat_eq n WAITS) TAKEN n) HasTaken (state_of mail) 1
   takes_in answers unshared r e = absurd cc
   takes_in answers unopened r e = (Idle, keeps, tt, record { mail = unopened; is = refl; right = tt }, refl)
   takes_in answers empty r e = (Idle, keeps, tt, record { mail = empty; is = refl; right = tt }, refl)
@@ -202,15 +204,16 @@ module _ {T A : Type 0} where
 
   -- the worker may take a task that waits
   pub takes_task : (answers : T → A → Type 0) (slots id : ℕ) (m : Hand T A) → m ≡ (Idle, [])
-      → Allows (Kept answers) slots id m 0 (λ n. either (nat_eq n WAITS) TAKEN n) (Taken m)
+      → Allows (IsMailbox answers) slots id m 0 (λ n. either (nat_eq n WAITS) TAKEN n) (HasTaken m)
   takes_task answers slots id m is =
-      by_worker answers slots id m (Idle, []) (λ n. either (nat_eq n WAITS) TAKEN n) Taken is refl (takes_in answers)
+      by_worker answers slots id m (Idle, []) (λ n. either (nat_eq n WAITS) TAKEN n) HasTaken is refl (takes_in answers)
 
   -- ---- and answers it
 
   leaves_in : (answers : T → A → Type 0) (x : T) (a : A) → answers x a → (mail : Mail T A) → IsRight answers mail
       → worker_of mail ≡ Working x ∷ []
-      → Shows answers (Working x, (0, Some (Answer a)) ∷ []) (λ _. ANSWERED) (λ m _ w. Left m w) (state_of mail) 1
+      → Shows answers (Working x, (0, Some (Answer a)) ∷ []) (λ _. ANSWERED) (λ m _ w. HasAnswered m w)
+      (state_of mail) 1
   leaves_in answers x a is unshared r e = absurd cc
   leaves_in answers x a is unopened r e = absurd cc
   leaves_in answers x a is empty r e = absurd cc
@@ -223,15 +226,15 @@ module _ {T A : Type 0} where
   -- the worker may give an answer to its task
   pub leaves : (answers : T → A → Type 0) (x : T) (a : A) → answers x a → (slots id : ℕ) (m : Hand T A)
       → m ≡ (Working x, (0, Some (Answer a)) ∷ [])
-      → Allows (Kept answers) slots id m 0 (λ _. ANSWERED) (λ _ w. Left m w)
+      → Allows (IsMailbox answers) slots id m 0 (λ _. ANSWERED) (λ _ w. HasAnswered m w)
   leaves answers x a right slots id m is =
       by_worker answers slots id m (Working x, (0, Some (Answer a)) ∷ []) (λ _. ANSWERED)
-      (λ m _ w. Left m w) is refl (leaves_in answers x a right)
+      (λ m _ w. HasAnswered m w) is refl (leaves_in answers x a right)
 
   -- ---- and the caller collects the answer
 
   collects_in : (answers : T → A → Type 0) (x : T) (mail : Mail T A) → IsRight answers mail → caller_of mail ≡ Sent x
-      → Shows answers (Sent x, []) (λ n. either (nat_eq n ANSWERED) EMPTY n) (Collected answers) (state_of mail) 0
+      → Shows answers (Sent x, []) (λ n. either (nat_eq n ANSWERED) EMPTY n) (HasCollected answers) (state_of mail) 0
   collects_in answers x unshared r e = absurd cc
   collects_in answers x unopened r e = absurd cc
   collects_in answers x empty r e = absurd cc
@@ -249,6 +252,6 @@ module _ {T A : Type 0} where
 
   -- the caller may take an answer
   pub collects : (answers : T → A → Type 0) (x : T) (slots id : ℕ) (m : Hand T A) → m ≡ (Sent x, [])
-      → Allows (Kept answers) slots id m 0 (λ n. either (nat_eq n ANSWERED) EMPTY n) (Collected answers m)
+      → Allows (IsMailbox answers) slots id m 0 (λ n. either (nat_eq n ANSWERED) EMPTY n) (HasCollected answers m)
   collects answers x slots id m is = by_caller answers slots id m (Sent x, []) (λ n. either (nat_eq n ANSWERED) EMPTY n)
-      (Collected answers) is refl (collects_in answers x)
+      (HasCollected answers) is refl (collects_in answers x)

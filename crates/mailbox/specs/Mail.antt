@@ -78,7 +78,7 @@ module _ {T A : Type 0} where
   IsRight answers _ = Unit {0}
 
 -- the rule: the mailbox is in one of its states, and an answer in it is one to its task
-pub record Kept {T A : Type 0} (answers : T → A → Type 0) (s : State (Slot T A) (MailView T)) : Type 0 where
+pub record IsMailbox {T A : Type 0} (answers : T → A → Type 0) (s : State (Slot T A) (MailView T)) : Type 0 where
   pub mail : Mail T A
   pub is : s ≡ state_of mail
   pub right : IsRight answers mail
@@ -127,8 +127,8 @@ module _ {T A : Type 0} where
   -- ---- what the steps tell, of what the seat had, the word that was found, and what the seat has then
 
   -- the caller has the slot
-  abbrev pub Opened : Hand T A → Hand T A → Type 0
-  Opened m m' = m' ≡ (Holding, (0, None) ∷ m.1)
+  abbrev pub HasOpened : Hand T A → Hand T A → Type 0
+  HasOpened m m' = m' ≡ (Holding, (0, None) ∷ m.1)
 
   -- what the caller knows once it has given this
   abbrev pub sent_with : List (ℕ × Slot T A) → MailView T
@@ -136,8 +136,8 @@ module _ {T A : Type 0} where
   sent_with _ = Holding
 
   -- the caller gave the letter that it had in the slot
-  abbrev pub Given : Hand T A → Hand T A → Type 0
-  Given m m' = m' ≡ (sent_with m.1, rest m.1)
+  abbrev pub HasGiven : Hand T A → Hand T A → Type 0
+  HasGiven m m' = m' ≡ (sent_with m.1, rest m.1)
 
   -- the letter of the task that is out
   abbrev pub letter_of : MailView T → Slot T A
@@ -145,8 +145,8 @@ module _ {T A : Type 0} where
   letter_of _ = None
 
   -- where the letter waited still, the caller has it back
-  abbrev pub Undone : Hand T A → ℕ → Hand T A → Type 0
-  Undone m n m' = MatchBool (nat_eq n WAITS) (m' ≡ (Holding, (0, letter_of m.0) ∷ m.1)) (m' ≡ m)
+  abbrev pub HasUndone : Hand T A → ℕ → Hand T A → Type 0
+  HasUndone m n m' = MatchBool (nat_eq n WAITS) (m' ≡ (Holding, (0, letter_of m.0) ∷ m.1)) (m' ≡ m)
 
   -- it is an answer to the task that is out
   abbrev pub Answers : (T → A → Type 0) → MailView T → A → Type 0
@@ -154,14 +154,14 @@ module _ {T A : Type 0} where
   Answers answers _ a = Unit {0}
 
   -- where there was an answer, the caller has it
-  abbrev pub Collected : (T → A → Type 0) → Hand T A → ℕ → Hand T A → Type 0
-  Collected answers m n m' = MatchBool (nat_eq n ANSWERED)
+  abbrev pub HasCollected : (T → A → Type 0) → Hand T A → ℕ → Hand T A → Type 0
+  HasCollected answers m n m' = MatchBool (nat_eq n ANSWERED)
       ((a : A) × Answers answers m.0 a × (m' ≡ (Holding, (0, Some (Answer a)) ∷ m.1))) (m' ≡ m)
 
   -- where a letter waited, the worker has it
-  abbrev pub Taken : Hand T A → ℕ → Hand T A → Type 0
-  Taken m n m' = MatchBool (nat_eq n WAITS) ((t : T) × (m' ≡ (Working t, (0, Some (Task t)) ∷ m.1))) (m' ≡ m)
+  abbrev pub HasTaken : Hand T A → ℕ → Hand T A → Type 0
+  HasTaken m n m' = MatchBool (nat_eq n WAITS) ((t : T) × (m' ≡ (Working t, (0, Some (Task t)) ∷ m.1))) (m' ≡ m)
 
   -- the worker gave what it had in the slot
-  abbrev pub Left : Hand T A → Hand T A → Type 0
-  Left m m' = m' ≡ (Idle, rest m.1)
+  abbrev pub HasAnswered : Hand T A → Hand T A → Type 0
+  HasAnswered m m' = m' ≡ (Idle, rest m.1)

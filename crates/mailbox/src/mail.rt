@@ -44,10 +44,10 @@ pub struct Law<E> {
 }
 
 impl<T, A, E: Errand<T, A>> TableRule<Option<Letter<T, A>>, MailView<T>, ()> for Law<E> {
-    ghost use Rattle.mailbox.specs.Mail.{Kept};
+    ghost use Rattle.mailbox.specs.Mail.{IsMailbox};
     ghost use Rattle.mailbox.specs.declared.mail.MailView.TheVariants.{Alone};
 
-    ghost holds = { λ _ s. Kept E.answers s };
+    ghost holds = { λ _ s. IsMailbox E.answers s };
 
     ghost first = { λ _. Alone };
 }
@@ -56,27 +56,27 @@ impl<T, A, E: Errand<T, A>> TableRule<Option<Letter<T, A>>, MailView<T>, ()> for
 pub struct Open;
 
 impl<T, A> Play<Option<Letter<T, A>>, MailView<T>> for Open {
-    ghost use Rattle.mailbox.specs.Mail.{Opened};
+    ghost use Rattle.mailbox.specs.Mail.{HasOpened};
 
-    ghost then = { λ _ m _ w. Opened m w };
+    ghost then = { λ _ m _ w. HasOpened m w };
 }
 
 /// The caller gives its letter.
 pub struct Give;
 
 impl<T, A> Play<Option<Letter<T, A>>, MailView<T>> for Give {
-    ghost use Rattle.mailbox.specs.Mail.{Given};
+    ghost use Rattle.mailbox.specs.Mail.{HasGiven};
 
-    ghost then = { λ _ m _ w. Given m w };
+    ghost then = { λ _ m _ w. HasGiven m w };
 }
 
 /// The caller takes its letter back.
 pub struct Undo;
 
 impl<T, A> Play<Option<Letter<T, A>>, MailView<T>> for Undo {
-    ghost use Rattle.mailbox.specs.Mail.{Undone};
+    ghost use Rattle.mailbox.specs.Mail.{HasUndone};
 
-    ghost then = { λ _ m n w. Undone m n w };
+    ghost then = { λ _ m n w. HasUndone m n w };
 }
 
 /// The caller takes the answer.
@@ -85,27 +85,27 @@ pub struct Collect<E> {
 }
 
 impl<T, A, E: Errand<T, A>> Play<Option<Letter<T, A>>, MailView<T>> for Collect<E> {
-    ghost use Rattle.mailbox.specs.Mail.{Collected};
+    ghost use Rattle.mailbox.specs.Mail.{HasCollected};
 
-    ghost then = { λ _ m n w. Collected E.answers m n w };
+    ghost then = { λ _ m n w. HasCollected E.answers m n w };
 }
 
 /// The worker takes the letter.
 pub struct Take;
 
 impl<T, A> Play<Option<Letter<T, A>>, MailView<T>> for Take {
-    ghost use Rattle.mailbox.specs.Mail.{Taken};
+    ghost use Rattle.mailbox.specs.Mail.{HasTaken};
 
-    ghost then = { λ _ m n w. Taken m n w };
+    ghost then = { λ _ m n w. HasTaken m n w };
 }
 
 /// The worker gives its answer.
 pub struct Leave;
 
 impl<T, A> Play<Option<Letter<T, A>>, MailView<T>> for Leave {
-    ghost use Rattle.mailbox.specs.Mail.{Left};
+    ghost use Rattle.mailbox.specs.Mail.{HasAnswered};
 
-    ghost then = { λ _ m _ w. Left m w };
+    ghost then = { λ _ m _ w. HasAnswered m w };
 }
 
 /// The worker's seat is cut off the caller's.

@@ -9,7 +9,7 @@ use Rattle.std.proofs.lemmas.Bool.{ne_eqb, eqb-false}
 use Rattle.std.proofs.lemmas.Map.Keys.{IsStrictlyIncreasing-from_sorted}
 use Rattle.std.specs.Cmp.{nat_cmp_is}
 use Rattle.clone_sets.specs.Sets.{empty, meet}
-use Rattle.msg_route.specs.Routing.{part_for, parts_of, shared_at, IsShared, IsCut}
+use Rattle.msg_route.specs.Routing.{part_for, parts_of, meet_at, IsShared, IsCut}
 use Rattle.msg_route.specs.declared.parts.Part.{Part}
 
 module _ (s : ℕ) where
@@ -27,7 +27,7 @@ module _ (s : ℕ) where
     i : ℕ
     there : i < length rs
     number : p.receiver ≡ n + i
-    set : p.set ≡ shared_at s rs i
+    set : p.set ≡ meet_at s rs i
     some : p.set ≢ empty
 
   -- a part of later receivers is one of all
@@ -78,8 +78,8 @@ module _ (s : ℕ) where
 
   -- each meet that is not empty has its part
   contains_part : (n : ℕ) (rs : List ℕ) (i : ℕ)
-      → i < length rs → shared_at s rs i ≢ empty
-      → Contains (parts_from n rs) (record { receiver = n + i; set = shared_at s rs i })
+      → i < length rs → meet_at s rs i ≢ empty
+      → Contains (parts_from n rs) (record { receiver = n + i; set = meet_at s rs i })
   contains_part n [] i l some = absurd (omega arith)
   contains_part n (r ∷ rs) zero l some =
       let e : n ≡ n + 0 = omega arith in
@@ -87,7 +87,7 @@ module _ (s : ℕ) where
       (contains_first (meet s r == empty) n (meet s r) (parts_from (n + 1) rs) (ne_eqb (meet s r) empty some))
   contains_part n (r ∷ rs) (suc i) l some =
       let e : n + 1 + i ≡ n + suc i = omega arith in
-      subst (λ k. Contains (parts_from n (r ∷ rs)) (record { receiver = k; set = shared_at s rs i })) e
+      subst (λ k. Contains (parts_from n (r ∷ rs)) (record { receiver = k; set = meet_at s rs i })) e
       (contains_before (meet s r == empty) n (meet s r) _ (parts_from (n + 1) rs)
       (contains_part (n + 1) rs i (omega arith) some))
 
@@ -126,7 +126,7 @@ module _ (s : ℕ) where
   shared_from rs p h =
       let e : h.i ≡ p.receiver = omega (arith, h.number) in record {
         there = omega (arith, h.there, h.number);
-        set = h.set ∙ ap (shared_at s rs) e;
+        set = h.set ∙ ap (meet_at s rs) e;
         some = h.some;
       }
 
@@ -136,7 +136,7 @@ module _ (s : ℕ) where
     each = All-weaker (Among 0 rs) (IsShared s rs) (shared_from rs) (parts_of s rs)
         (All-from_recursion (Among 0 rs) (parts_of s rs) (among_parts 0 rs));
     all = λ i l some. let e : 0 + i ≡ i = omega arith in
-        subst (λ k. Contains (parts_of s rs) (record { receiver = k; set = shared_at s rs i })) e
+        subst (λ k. Contains (parts_of s rs) (record { receiver = k; set = meet_at s rs i })) e
         (contains_part 0 rs i l some);
     rising = IsStrictlyIncreasing-from_sorted (numbers (parts_of s rs)) (rising_parts 0 rs);
   }

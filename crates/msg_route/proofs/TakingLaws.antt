@@ -1,5 +1,5 @@
 -- Which messages a clone takes.
-use Rattle.std.proofs.Common.{◌≡◌, ◌⊎◌, inl, inr, ℕ, zero, suc, ◌<◌, Bool, true, false, ◌||◌, ◌&&◌, List}
+use Rattle.std.proofs.Common.{◌≡◌, ◌⊎◌, inl, inr, ℕ, zero, suc, ◌<◌, Bool, true, false, ◌&&◌, List}
 use Rattle.std.proofs.Common.{[], ◌∷◌, length, get_or, Ordering, Less, Equal, Greater, refl, sym, ap, ◌∙◌, subst, arith}
 use Rattle.std.specs.Prelude.{◌↔◌, nat_lt, if◌then◌else◌}
 use Rattle.std.specs.List.{Contains}
@@ -10,37 +10,11 @@ use Rattle.sim_base.specs.Order.{msg_cmp}
 use Rattle.sim_base.specs.declared.message.Msg.{Msg}
 use Rattle.sim_base.proofs.OrderEqual.{msg_same}
 use Rattle.sim_base.proofs.OrderLaws.{msg_total}
+use Rattle.run_laws.proofs.Bools.{or_cases, or_first, or_second, and_cases, and_both}
 use Rattle.clone_sets.specs.Sets.{has}
 use Rattle.msg_route.specs.Grouping.{is_for, group_of}
 use Rattle.msg_route.specs.Laws.{takes_before, taken_before}
 use Rattle.msg_route.proofs.GroupLaws.{group_is_grouped}
-
--- ---- truth values
-
--- where both hold together, each holds
-and_both : (a b : Bool) → (a && b) ≡ true → (a ≡ true) × (b ≡ true)
-and_both true b e = (refl, e)
-and_both false b e = absurd (false≢true e)
-
--- where each holds, both hold together
-both_and : (a b : Bool) → a ≡ true → b ≡ true → (a && b) ≡ true
-both_and true b e f = f
-both_and false b e f = absurd (false≢true e)
-
--- where one of two holds, the first or the second does
-or_one : (a b : Bool) → (a || b) ≡ true → (a ≡ true) ⊎ (b ≡ true)
-or_one true b e = inl refl
-or_one false b e = inr e
-
--- the first of two is enough
-left_or : (a b : Bool) → a ≡ true → (a || b) ≡ true
-left_or true b e = refl
-left_or false b e = absurd (false≢true e)
-
--- the second of two is enough
-right_or : (a b : Bool) → b ≡ true → (a || b) ≡ true
-right_or true b e = refl
-right_or false b e = e
 
 -- ---- equal messages
 
@@ -84,11 +58,11 @@ module _ (ends : ℕ → ℕ) (m : Msg) (c : ℕ) where
   taken_is_for (x ∷ xs) h =
       elim (in_front (takes_before ends x.0 x.1 c) m x.0 (taken_before ends c xs) h) [
         | inl e ↦
-            let both = and_both (has x.1 c) (nat_lt x.0.key.time (ends c)) e.0 in (
-              left_or _ (is_for m c xs) (both_and (is_eq (msg_cmp m x.0)) (has x.1 c) (same_msg m x.0 e.1) both.0),
+            let both = and_cases (has x.1 c) (nat_lt x.0.key.time (ends c)) e.0 in (
+              or_first _ (is_for m c xs) (and_both (is_eq (msg_cmp m x.0)) (has x.1 c) (same_msg m x.0 e.1) both.0),
               ltb-true m.key.time (ends c) (ap (λ (y : Msg). nat_lt y.key.time (ends c)) e.1 ∙ both.1),
             )
-        | inr i ↦ let later = taken_is_for xs i in (right_or (is_eq (msg_cmp m x.0) && has x.1 c) _ later.0, later.1)
+        | inr i ↦ let later = taken_is_for xs i in (or_second (is_eq (msg_cmp m x.0) && has x.1 c) _ later.0, later.1)
       ]
 
   -- and it takes all of that
@@ -96,12 +70,12 @@ module _ (ends : ℕ → ℕ) (m : Msg) (c : ℕ) where
       → In m (taken_before ends c sent)
   is_for_taken [] e l = absurd (false≢true e)
   is_for_taken (x ∷ xs) e l =
-      elim (or_one (is_eq (msg_cmp m x.0) && has x.1 c) (is_for m c xs) e) [
+      elim (or_cases (is_eq (msg_cmp m x.0) && has x.1 c) (is_for m c xs) e) [
         | inl here ↦
-            let both = and_both (is_eq (msg_cmp m x.0)) (has x.1 c) here in
+            let both = and_cases (is_eq (msg_cmp m x.0)) (has x.1 c) here in
             let same = msg_same m x.0 (is_equal (msg_cmp m x.0) both.0) in
             front_in (takes_before ends x.0 x.1 c) m x.0 (taken_before ends c xs)
-            (both_and (has x.1 c) (nat_lt x.0.key.time (ends c)) both.1
+            (and_both (has x.1 c) (nat_lt x.0.key.time (ends c)) both.1
             (ap (λ (y : Msg). nat_lt y.key.time (ends c)) (sym same) ∙ lt-ltb m.key.time (ends c) l)) same
         | inr later ↦ rest_in (takes_before ends x.0 x.1 c) m x.0 (taken_before ends c xs) (is_for_taken xs later l)
       ]

@@ -12,7 +12,7 @@ use Rattle.net_model.specs.declared.reading.Span.{Span}
 use Rattle.sim_base.proofs.Chain.{bind-Ok}
 use Rattle.net_model.specs.Fields.{key_of}
 use Rattle.net_model.specs.Reading.{in_range, integer_of, found_integer, integer_at, as_name, name_at, text_at}
-use Rattle.net_model.specs.Reading.{span, span_of_two, span_of_list, span_of, span_at, value_at, list_of}
+use Rattle.net_model.specs.Reading.{span, span_of_two, span_of_list, span_of_value, span_at, value_at, list_of}
 use Rattle.net_model.specs.Rules.{IsRange}
 use Rattle.net_model.specs.declared.limits.TheConstants.{MOST_TIME}
 
@@ -115,7 +115,7 @@ list_is place field low [] s h = absurd (Err-not-Ok (WrongType place field) s h)
 list_is place field low (a ∷ []) s h = absurd (Err-not-Ok (WrongType place field) s h)
 list_is place field low (a ∷ (b ∷ (c ∷ ds))) s h = absurd (Err-not-Ok (WrongType place field) s h)
 
-value_is : (place : ℕ) (field : Field) (low : ℕ) (d : Data) (s : Span) → span_of place field low d ≡ Ok s
+value_is : (place : ℕ) (field : Field) (low : ℕ) (d : Data) (s : Span) → span_of_value place field low d ≡ Ok s
     → IsRange low s.lo s.hi
 value_is place field low (array ds) s h = list_is place field low (list_of ds) s h
 value_is place field low (integer z) s h = absurd (Err-not-Ok (WrongType place field) s h)
@@ -129,7 +129,7 @@ value_is place field low (table ms) s h = absurd (Err-not-Ok (WrongType place fi
 pub span_bounds : (place : ℕ) (field : Field) (low : ℕ) (t : Data) (s : Span) → span_at place field low t ≡ Ok s
     → IsRange low s.lo s.hi
 span_bounds place field low t s h =
-    let (d, found, read) = bind-Ok (value_at place field t) (span_of place field low) s h in
+    let (d, found, read) = bind-Ok (value_at place field t) (span_of_value place field low) s h in
     value_is place field low d s read
 
 -- a name

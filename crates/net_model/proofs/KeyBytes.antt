@@ -9,16 +9,16 @@ use Rattle.std.proofs.lemmas.List.{take_min, length-map, drop-replicate, length-
 use Rattle.std.proofs.lemmas.Str.{IsUtf8-from_ascii}
 use Rattle.std.proofs.Math.Seq.{drop-append_seam, take-append_seam}
 use Rattle.sim_base.specs.Names.{is_name_byte}
-use Rattle.net_model.specs.KeyTexts.{shown, is_shown, key_text, IsKeyText}
+use Rattle.net_model.specs.KeyTexts.{display_byte, is_shown, key_text, IsKeyText}
 
-shown_is_shown : (b : ℕ) → is_shown (shown b) ≡ true
+shown_is_shown : (b : ℕ) → is_shown (display_byte b) ≡ true
 shown_is_shown b =
     elim (cases_Bool (is_name_byte b)) [
       | inl is ↦ rw (is, is) refl
       | inr is ↦ rw is refl
     ]
 
-all_shown : (bs : List ℕ) → list_all is_shown (map shown bs) ≡ true
+all_shown : (bs : List ℕ) → list_all is_shown (map display_byte bs) ≡ true
 all_shown [] = refl
 all_shown (b ∷ bs) = rw (shown_is_shown b) (all_shown bs)
 
@@ -49,18 +49,18 @@ seam_rest xs ys n h = ap (λ k. drop k (xs ++ ys)) (sym h) ∙ drop-append_seam 
 module _ (key : List ℕ) (len : ℕ) (copied front : List ℕ)
     (size : len ≡ min (length key) 32)
     (copy : copied ≡ take len key)
-    (show : front ≡ map shown (take len (copied ++ drop len (replicate 32 0)))) where
+    (show : front ≡ map display_byte (take len (copied ++ drop len (replicate 32 0)))) where
   short : len ≤ 32
   short = omega (arith, size)
 
   copied_len : length copied ≡ len
   copied_len = ap length copy ∙ length-take-le len key (omega (arith, size))
 
-  front_is : front ≡ map shown copied
-  front_is = show ∙ ap (map shown) (seam copied (drop len (replicate 32 0)) len copied_len)
+  front_is : front ≡ map display_byte copied
+  front_is = show ∙ ap (map display_byte) (seam copied (drop len (replicate 32 0)) len copied_len)
 
   front_len : length front ≡ len
-  front_len = ap length front_is ∙ (length-map copied shown ∙ copied_len)
+  front_len = ap length front_is ∙ (length-map copied display_byte ∙ copied_len)
 
   behind : drop len (copied ++ drop len (replicate 32 0)) ≡ replicate (32 - len) 0
   behind = seam_rest copied (drop len (replicate 32 0)) len copied_len ∙ drop-replicate len 32 0
@@ -70,7 +70,7 @@ module _ (key : List ℕ) (len : ℕ) (copied front : List ℕ)
   key_text_bytes =
       let first : take len key ≡ take 32 key = ap (λ n. take n key) (size ∙ omega arith) ∙ take_min 32 key in
       seam front (drop len (copied ++ drop len (replicate 32 0))) len front_len
-      ∙ (front_is ∙ ap (map shown) (copy ∙ first))
+      ∙ (front_is ∙ ap (map display_byte) (copy ∙ first))
 
   -- and all the bytes are a key text, with zeros behind it
   pub key_text_padded : IsKeyText (front ++ drop len (copied ++ drop len (replicate 32 0))) len

@@ -174,7 +174,8 @@ each_holds place (d ∷ ds) links h =
     subst (λ (ls : List NamedLink). AllByRecursion IsNamedLink ls × (length ls ≡ length (d ∷ ds)))
     (Ok-injective (link ∷ others) links h2) ((link_holds place d link e1, all), omega (arith, count))
 
-few_tables : (place : ℕ) (found : Option Data) (ds : List Data) → link_tables place found ≡ Ok ds → length ds ≤ 16
+few_tables : (place : ℕ) (found : Option Data) (ds : List Data) → link_tables place found ≡ Ok ds
+    → length ds ≤ MOST_LINKS
 few_tables place None ds h = let same = ap length (Ok-injective [] ds h) in omega (arith, same)
 few_tables place (Some d) ds h =
     let (read, e1, h1) = bind-Ok (tables_of place Link d) (few_enough place) ds h in
@@ -208,7 +209,7 @@ pub record IsDraft (format : ℕ) (draft : DraftSite) : Type 0 where
   pub stream : draft.stream ≤ MOST_SEED
   pub kind : IsKind draft.kind
   pub of_format : format ≡ 1 → IsOfFormat1 draft.kind
-  pub few : length draft.links ≤ 16
+  pub few : length draft.links ≤ MOST_LINKS
   pub links : AllByRecursion IsNamedLink draft.links
   pub closed : is_sink draft.kind ≡ true → length draft.links ≡ 0
 

@@ -3,7 +3,7 @@ use Rattle.std.proofs.Common.{◌≡◌, refl, ap, sym, ◌∙◌, ℕ, ◌+◌,
 use Rattle.std.proofs.Common.{position, option_map, unwrap_or, Some, None, Bool, not, Result, Ok, Err, append_assoc}
 use Rattle.std.specs.List.{list_any}
 use Rattle.std.specs.Str.{bytes_eq}
-use Rattle.std.proofs.lemmas.List.{drop_more, append-nil, length-map, map-append}
+use Rattle.std.proofs.lemmas.List.{drop_more, length-map, map-append}
 use Rattle.std.proofs.lemmas.Option.{slice_get-map, slice_get_read}
 use Rattle.toml.specs.View.{view}
 use Rattle.toml.specs.declared.value.Value.{Value}
@@ -25,10 +25,6 @@ abbrev pub after : {A : Type 0} → List A → Result (List A) ModelFault → Re
 after done (Ok rest) = Ok (done ++ rest)
 after done (Err e) = Err e
 
--- where no rest is left, what is there is all
-pub after_all : {A : Type 0} (done : List A) → after done (Ok []) ≡ Ok done
-after_all done = ap Ok (append-nil done)
-
 after_cons : {A : Type 0} (done : List A) (x : A) (rest : Result (List A) ModelFault)
     → after done (rest >>= (λ xs. Ok (x ∷ xs))) ≡ after (done ++ x ∷ []) rest
 after_cons done x (Ok xs) = ap Ok (sym (append_assoc done (x ∷ []) xs))
@@ -39,11 +35,6 @@ pub after_one : {A : Type 0} (done : List A) (r : Result A ModelFault) (rest : A
     → r ≡ Ok x → after done (r >>= (λ y. rest y >>= (λ ys. Ok (y ∷ ys)))) ≡ after (done ++ x ∷ []) (rest x)
 after_one done r rest x h =
     ap (λ s. after done (s >>= (λ y. rest y >>= (λ ys. Ok (y ∷ ys))))) h ∙ after_cons done x (rest x)
-
--- one element is refused
-pub after_refused : {A : Type 0} (done : List A) (r : Result A ModelFault) (rest : A → Result (List A) ModelFault)
-    (e : ModelFault) → r ≡ Err e → after done (r >>= (λ y. rest y >>= (λ ys. Ok (y ∷ ys)))) ≡ Err e
-after_refused done r rest e h = ap (λ s. after done (s >>= (λ y. rest y >>= (λ ys. Ok (y ∷ ys))))) h
 
 -- the element at an index, and those behind it
 pub mapped_drop : {X Y : Type 0} (f : X → Y) (xs : List X) (i : ℕ) (d : X) → i < length xs
@@ -86,21 +77,6 @@ sites_step lookahead all drafts done new i draft station whole lt is read push s
     (λ site. sites_of lookahead all (i + 1 + 1) (map as_draft (drop (i + 1) drafts))) (as_site station) (sym read)
     ∙ ap (λ sites. after sites (sites_of lookahead all (i + 1 + 1) (map as_draft (drop (i + 1) drafts))))
     (sym (ap (map as_site) push ∙ map-append as_site done (station ∷ [])))))
-
--- a station that is refused where it is resolved gives its fault to the whole
-pub sites_refused : (lookahead : ℕ) (all : List DraftSite) (drafts : List Draft) (done : List Station) (i : ℕ)
-    (draft : Draft) (e : ModelFault) (whole : Result (List Site) ModelFault)
-    → i < length drafts → draft ≡ get_or drafts i draft
-    → Err e ≡ site_of_draft lookahead all (i + 1) (as_draft draft)
-    → whole ≡ after (map as_site done) (sites_of lookahead all (i + 1) (map as_draft (drop i drafts)))
-    → whole ≡ Err e
-sites_refused lookahead all drafts done i draft e whole lt is read so_far =
-    let here : map as_draft (drop i drafts) ≡ as_draft draft ∷ map as_draft (drop (i + 1) drafts) =
-    mapped_drop as_draft drafts i draft lt ∙ ap (λ d. as_draft d ∷ map as_draft (drop (i + 1) drafts)) (sym is) in
-    so_far
-    ∙ (ap (λ ds. after (map as_site done) (sites_of lookahead all (i + 1) ds)) here
-    ∙ after_refused (map as_site done) (site_of_draft lookahead all (i + 1) (as_draft draft))
-    (λ site. sites_of lookahead all (i + 1 + 1) (map as_draft (drop (i + 1) drafts))) e (sym read))
 
 -- one more station is read
 pub drafts_step : (format : ℕ) (tables : List Value) (done new : List Draft) (i : ℕ) (table : Value) (draft : Draft)

@@ -6,12 +6,12 @@ use Rattle.std.proofs.Common.{arith, take-append-drop, length-take-le}
 use Rattle.sim_base.specs.Names.{is_name_byte}
 
 -- a byte as it is shown: itself where a key may have it, and else `?`
-abbrev pub shown : ℕ → ℕ
-shown b = if is_name_byte b then b else 63
+abbrev pub display_byte : ℕ → ℕ
+display_byte b = if is_name_byte b then b else 63
 
 -- what is shown of a key
 abbrev pub key_text : List ℕ → List ℕ
-key_text key = map shown (take 32 key)
+key_text key = map display_byte (take 32 key)
 
 -- a byte that a key may have, or `?`
 abbrev pub is_shown : ℕ → Bool

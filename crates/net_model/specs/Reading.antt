@@ -98,13 +98,13 @@ list_of no_items = []
 list_of (item d ds) = d ∷ list_of ds
 
 -- the range of times of a value that is an array of two integers
-abbrev pub span_of : ℕ → Field → ℕ → Data → Result Span ModelFault
-span_of place field low (array ds) = span_of_list place field low (list_of ds)
-span_of place field low _ = Err (WrongType place field)
+abbrev pub span_of_value : ℕ → Field → ℕ → Data → Result Span ModelFault
+span_of_value place field low (array ds) = span_of_list place field low (list_of ds)
+span_of_value place field low _ = Err (WrongType place field)
 
 -- the range of times that a key states
 abbrev pub span_at : ℕ → Field → ℕ → Data → Result Span ModelFault
-span_at place field low t = value_at place field t >>= span_of place field low
+span_at place field low t = value_at place field t >>= span_of_value place field low
 
 -- the elements of an array of tables
 abbrev pub all_tables : ℕ → Field → List Data → Result (List Data) ModelFault

@@ -1,7 +1,7 @@
 //! The beginning of an unknown key.
 ghost use Rattle.std.specs.Prelude.{◌≡◌, ◌≤◌, length, map, take, true};
 ghost use Rattle.std.specs.List.{list_all};
-ghost use Rattle.net_model.specs.KeyTexts.{is_shown, key_text, shown};
+ghost use Rattle.net_model.specs.KeyTexts.{display_byte, is_shown, key_text};
 
 use std::marker::Model;
 use std::str;
@@ -32,7 +32,7 @@ impl Model for KeyText {
 }
 
 fn shown_byte(byte: u8) -> u8
-    ensures { result ≡ shown byte }
+    ensures { result ≡ display_byte byte }
 {
     match byte {
         b'a'..=b'z' | b'0'..=b'9' | b'_' => byte,
@@ -41,7 +41,7 @@ fn shown_byte(byte: u8) -> u8
 }
 
 fn show(bytes: &mut [u8])
-    ensures { bytes.new ≡ map shown bytes.old }
+    ensures { bytes.new ≡ map display_byte bytes.old }
 {
     for byte in bytes.iter_mut() {
         *byte = shown_byte(*byte);

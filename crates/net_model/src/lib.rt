@@ -1,4 +1,4 @@
-//! The network of stations that a model file states.
+//! The queueing network that a model file states: its stations, the links between them and its limits.
 //!
 //! A planner describes a clinic, a shop or a net of roads as a queueing network: sources make jobs (patients,
 //! orders, cars), servers with a queue serve them, delays hold them, routers choose their way and sinks count
@@ -25,7 +25,8 @@
 //!
 //! Which model a text states is defined in `specs/Text.antt`, key by key and in a fixed order of the rules, and
 //! `read_model` answers exactly that, out of memory apart. Every `Model` keeps the rules of `specs/Rules.antt`,
-//! so that nobody above has to test them again. Example texts stand in `specs/Examples.antt`.
+//! so that nobody above has to test them again. Example texts stand in `specs/Examples.antt`. Of the promises in
+//! README.md this carries "a refusal is the first one, and it is true", for the text of the model.
 #![tactic(auto)]
 
 mod draft;

@@ -72,7 +72,7 @@ fn read_link(place: u32, table: &Value) -> Result<NamedLink, ModelFault>
 }
 
 fn read_each(place: u32, tables: &[Value]) -> Result<ArrayVec<NamedLink, 16>, ModelFault>
-    requires { length tables.now ≤ 16 }
+    requires { length tables.now ≤ MOST_LINKS }
     ensures { result_map_both (λ v. v.items) (λ e. e) result ≡ each_link place (map view tables.now) }
 {
     let mut links = ArrayVec::new();
@@ -88,7 +88,7 @@ fn read_each(place: u32, tables: &[Value]) -> Result<ArrayVec<NamedLink, 16>, Mo
 fn link_values(place: u32, table: &Value) -> Result<&[Value], ModelFault>
     ensures value { result_map_both (λ vs. map view vs.now) (λ e. e) result ≡ link_tables place
         (get (key_of Field.Link) (view table.now)) }
-    ensures few { IfOk result (λ vs. length vs.now ≤ 16) }
+    ensures few { IfOk result (λ vs. length vs.now ≤ MOST_LINKS) }
 {
     let field = Field::Link;
     let Some(value) = table.get(field.key()) else {

@@ -1,4 +1,4 @@
-//! A model.
+//! A model: a queueing network that keeps every rule, with its horizon (stop time) and its lookahead.
 ghost use Rattle.std.specs.Prelude.{◌≡◌, ◌+◌, ◌<◌, ◌≤◌, length, Some, IfSome, position};
 ghost use Rattle.std.specs.Str.{bytes_eq};
 ghost use Rattle.net_model.specs.Net.{class_from, number_of, site_at};

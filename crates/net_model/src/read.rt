@@ -3,6 +3,7 @@ ghost use Rattle.std.specs.Prelude.{◌≡◌, ◌≢◌, ◌≤◌, IfErr, IfOk
 ghost use Rattle.toml.specs.Errors.{IsMemory};
 ghost use Rattle.toml.specs.View.{table_view, view};
 ghost use Rattle.net_model.specs.Sites.{as_site};
+ghost use Rattle.net_model.specs.declared.limits.TheConstants.{MOST_STATIONS};
 ghost use Rattle.net_model.specs.Text.{model, model_of, sites_of_tables, tree};
 
 use crate::draft::read_drafts;
@@ -39,7 +40,7 @@ fn read_tree(alloc: Global, text: &[u8]) -> Result<Table, ModelFault>
 }
 
 fn read_stations(alloc: Global, top: Top, tables: &[Value]) -> Result<Vec<Station>, ModelFault>
-    requires { length tables.now ≤ 64 }
+    requires { length tables.now ≤ MOST_STATIONS }
     ensures ok { IfOk result (λ v. sites_of_tables top (map view tables.now) ≡ Ok (map as_site v.items)) }
     ensures refused { IfErr result (λ e. e ≢ ModelFault.NoMemory → sites_of_tables top (map view tables.now) ≡ Err e) }
 {

@@ -4,7 +4,7 @@ ghost use Rattle.std.specs.List.{list_all};
 ghost use Rattle.std.specs.Result.{result_map_both};
 ghost use Rattle.toml.specs.Data.{as_table};
 ghost use Rattle.toml.specs.View.{view};
-ghost use Rattle.net_model.specs.Reading.{integer_at, integer_of, name_at, span_at, span_of, span_of_list};
+ghost use Rattle.net_model.specs.Reading.{integer_at, integer_of, name_at, span_at, span_of_value, span_of_list};
 ghost use Rattle.net_model.specs.Reading.{span_of_two, tables_of, text_at, text_of, value_at};
 
 use crate::fault::ModelFault;
@@ -160,7 +160,7 @@ fn span_of_values(spot: Spot, low: u64, values: &[Value]) -> Result<Span, ModelF
 }
 
 fn read_span(spot: Spot, low: u64, value: &Value) -> Result<Span, ModelFault>
-    ensures { result ≡ span_of spot.place spot.field low (view value.now) }
+    ensures { result ≡ span_of_value spot.place spot.field low (view value.now) }
 {
     match value.as_array() {
         Some(values) => span_of_values(spot, low, values.as_slice()),

@@ -5,6 +5,7 @@ ghost use Rattle.std.specs.Str.{bytes_eq};
 ghost use Rattle.net_model.specs.Drafts.{as_draft};
 ghost use Rattle.net_model.specs.Resolving.{links_of_named, link_to, link_of_named, site_of_draft, sites_of};
 ghost use Rattle.net_model.specs.Sites.{as_site};
+ghost use Rattle.net_model.specs.declared.limits.TheConstants.{MOST_LINKS};
 
 use crate::draft::Draft;
 use crate::fault::ModelFault;
@@ -68,7 +69,7 @@ fn resolve_links(
     links: &[NamedLink],
 ) -> Result<ArrayVec<Link, 16>, ModelFault>
     requires some { length drafts.now < 2 ^ 31 }
-    requires few { length links.now ≤ 16 }
+    requires few { length links.now ≤ MOST_LINKS }
     ensures { result_map_both (λ v. v.items) (λ e. e) result ≡ links_of_named lookahead
         (map as_draft drafts.now) place links.now }
 {

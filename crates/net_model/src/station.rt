@@ -46,7 +46,7 @@ pub enum Kind {
 
 impl Kind {
     /// Whether jobs begin there: no link leads to it.
-    pub fn is_source(&self) -> bool
+    pub(crate) fn is_source(&self) -> bool
         ensures value { result ≡ is_source self.now }
     {
         match *self {
@@ -56,7 +56,7 @@ impl Kind {
     }
 
     /// Whether jobs leave the network there: it has no links.
-    pub fn is_sink(&self) -> bool
+    pub(crate) fn is_sink(&self) -> bool
         ensures value { result ≡ is_sink self.now }
     {
         match *self {

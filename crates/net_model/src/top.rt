@@ -45,7 +45,7 @@ pub fn top_numbers(root: &Value) -> Result<Top, ModelFault>
 }
 
 fn counted_tables(tables: &[Value]) -> Result<&[Value], ModelFault>
-    ensures few { IfOk result (λ vs. length vs.now ≤ 64) }
+    ensures few { IfOk result (λ vs. length vs.now ≤ MOST_STATIONS) }
     ensures value { result_map_both (λ vs. map view vs.now) (λ e. e) result ≡ in_number (map view tables.now) }
 {
     if tables.is_empty() {
@@ -60,9 +60,9 @@ fn counted_tables(tables: &[Value]) -> Result<&[Value], ModelFault>
     Ok(tables)
 }
 
-/// The tables of the stations, 1 to 64.
+/// The tables of the stations, 1 to `MOST_STATIONS`.
 pub fn station_tables(root: &Value) -> Result<&[Value], ModelFault>
-    ensures few { IfOk result (λ vs. length vs.now ≤ 64) }
+    ensures few { IfOk result (λ vs. length vs.now ≤ MOST_STATIONS) }
     ensures value { result_map_both (λ vs. map view vs.now) (λ e. e) result ≡ stations_at (view root.now) }
 {
     match value_key(spot(Field::Station), root) {

@@ -22,7 +22,7 @@ use Rattle.run_laws.proofs.Parts.{all_part_of}
 use Rattle.run_laws.proofs.Steps.{so_far_none, so_far_more, stepped, are_over}
 use Rattle.run_laws.proofs.Gaining.{gained_alone, together_push}
 use Rattle.phys_proc.specs.Own.{StationCopy, Marked, IsCopy, IsLate, AreLate}
-use Rattle.phys_proc.specs.Own.{Advanced, Stepping, takes_at, all_sizes, handled_alone}
+use Rattle.phys_proc.specs.Own.{IsAdvance, IsStepResult, takes_at, all_sizes, handled_alone}
 use Rattle.phys_proc.proofs.Counting.{all_sizes-append, alone-append}
 use Rattle.phys_proc.proofs.Parted.{same_none}
 use Rattle.phys_proc.proofs.Onward.{sets_join, good_state, all_both, onward_start, answer_rest}
@@ -49,7 +49,7 @@ apart_from (y ∷ ys) zs x a c h (inr j) u v = apart_from ys zs x a c h.1 j u v
 
 module _ (net : Net) (valid : IsNet net) (s : ℕ) (ends : ℕ → ℕ) (bound : ℕ) where
   -- before the first copy nothing is done, nothing is sent and no clone is over the limit
-  pub stepping_start : (steps : ℕ) → Stepping net s ends bound [] [] [] empty steps steps
+  pub stepping_start : (steps : ℕ) → IsStepResult net s ends bound [] [] [] empty steps steps
   stepping_start steps = record {
     far = so_far_none (simulation net) has ends s bound empty;
     count = 0;
@@ -63,9 +63,9 @@ module _ (net : Net) (valid : IsNet net) (s : ℕ) (ends : ℕ → ℕ) (bound :
   -- one copy more
   pub stepping_more : (ys zs : List StationCopy) (x : StationCopy) (done new : List StationCopy) (sent next : Marked)
       (over over1 : CloneSet) (steps0 steps steps1 : ℕ) → Disjoint has (ys ++ x ∷ zs) →
-      Stepping net s ends bound ys done sent over steps0 steps
-      → Advanced net s ends bound x done new sent next over over1 steps steps1
-      → Stepping net s ends bound (ys ++ x ∷ []) new next over1 steps0 steps1
+      IsStepResult net s ends bound ys done sent over steps0 steps
+      → IsAdvance net s ends bound x done new sent next over over1 steps steps1
+      → IsStepResult net s ends bound (ys ++ x ∷ []) new next over1 steps0 steps1
   stepping_more ys zs x done new sent next over over1 steps0 steps steps1 dis f a =
       let law = lawful-stations net valid in
       let apart : (b : StationCopy) (c : ℕ) → In b ys → Carries has b c → Carries has x c → ⊥ =
@@ -117,7 +117,7 @@ module _ (net : Net) (valid : IsNet net) (s : ℕ) (ends : ℕ → ℕ) (bound :
   -- a copy with nothing due stays
   pub stays : (x : StationCopy) (done : List StationCopy) (sent : Marked) (over : CloneSet) (steps : ℕ)
       → IsCopy net s x → IsLate bound x
-      → Advanced net s ends bound x done (done ++ x ∷ []) sent sent over over steps steps
+      → IsAdvance net s ends bound x done (done ++ x ∷ []) sent sent over over steps steps
   stays x done sent over steps f late =
       answer_rest net s ends bound x x x sent sent steps steps (onward_start net s ends bound x sent steps f)
       (record {
@@ -128,24 +128,25 @@ module _ (net : Net) (valid : IsNet net) (s : ℕ) (ends : ℕ → ℕ) (bound :
       done done (done ++ x ∷ []) over over refl refl refl
 
   all_stay : (ys zs : List StationCopy) (steps : ℕ) → AllByRecursion (IsCopy net s) zs → AreLate bound zs
-      → Disjoint has (ys ++ zs) → Stepping net s ends bound ys ys [] empty steps steps
-      → Stepping net s ends bound (ys ++ zs) (ys ++ zs) [] empty steps steps
-  all_stay ys [] steps f late dis h = subst (λ u. Stepping net s ends bound u u [] empty steps steps)
+      → Disjoint has (ys ++ zs) → IsStepResult net s ends bound ys ys [] empty steps steps
+      → IsStepResult net s ends bound (ys ++ zs) (ys ++ zs) [] empty steps steps
+  all_stay ys [] steps f late dis h = subst (λ u. IsStepResult net s ends bound u u [] empty steps steps)
       (sym (append-nil ys)) h
   all_stay ys (z ∷ zs) steps f late dis h =
       let e : (ys ++ z ∷ []) ++ zs ≡ ys ++ z ∷ zs = append_assoc ys (z ∷ []) zs in
-      subst (λ u. Stepping net s ends bound u u [] empty steps steps) e
+      subst (λ u. IsStepResult net s ends bound u u [] empty steps steps) e
       (all_stay (ys ++ z ∷ []) zs steps f.1 late.1 (subst (Disjoint has) (sym e) dis)
       (stepping_more ys zs z ys (ys ++ z ∷ []) [] [] empty empty steps steps steps dis h
       (stays z ys [] empty steps f.0 late.0)))
 
   -- where no copy has anything due, all stay
   pub idle : (xs : List StationCopy) (steps : ℕ) → AllByRecursion (IsCopy net s) xs → AreLate bound xs
-      → Disjoint has xs → Stepping net s ends bound xs xs [] empty steps steps
+      → Disjoint has xs → IsStepResult net s ends bound xs xs [] empty steps steps
   idle xs steps f late dis = all_stay [] xs steps f late dis (stepping_start steps)
 
   module _ (xs : List StationCopy) (done : List StationCopy) (sent : Marked) (over : CloneSet) (steps0 steps : ℕ)
-      (fits : AllByRecursion (IsCopy net s) xs) (far : Stepping net s ends bound xs done sent over steps0 steps) where
+      (fits : AllByRecursion (IsCopy net s) xs)
+      (far : IsStepResult net s ends bound xs done sent over steps0 steps) where
     fine : (a : StationCopy) → In a xs → IsGood net s a.state × SortedMarked msg_cmp a.pending
     fine a j = let fa = all_in (IsCopy net s) xs a fits j in (good_state net s a fa, fa.sorted)
 

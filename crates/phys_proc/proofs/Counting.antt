@@ -1,6 +1,6 @@
--- How many messages copies handle: no more than their clones have room for in their logs, and no more than the
+-- How many messages copies handle: no more than the logs of their clones may still take, and no more than the
 -- clones would handle each by itself.
-use Rattle.std.proofs.Common.{◌≡◌, ℕ, ◌+◌, ◌*◌, ◌-◌, ◌<◌, ◌≤◌, ◌&&◌, ◌||◌, ◌⊎◌, not, Bool, true, false}
+use Rattle.std.proofs.Common.{◌≡◌, ℕ, ◌+◌, ◌*◌, ◌-◌, ◌<◌, ◌≤◌, ◌&&◌, ◌||◌, not, Bool, true, false}
 use Rattle.std.proofs.Common.{List, [], ◌∷◌, ◌++◌, inl, inr, refl, sym, ap, ◌∙◌, subst, arith, length}
 use Rattle.std.specs.List.{AllByRecursion}
 use Rattle.std.proofs.Math.Nat.{add-mul, mul-add, mul-le-mul_left}
@@ -12,6 +12,7 @@ use Rattle.clone_sets.proofs.SetLaws.{has-union, has-meet, has-minus, has-empty,
 use Rattle.clone_sets.proofs.SizeLaws.{size_parts, size-empty}
 use Rattle.run_laws.specs.Queue.{In}
 use Rattle.run_laws.specs.Copies.{Carries, Disjoint}
+use Rattle.run_laws.proofs.Bools.{or_cases}
 use Rattle.run_laws.proofs.Queue.{all_in}
 use Rattle.phys_proc.specs.Own.{StationCopy, all_clones, handled_alone, all_sizes}
 
@@ -50,10 +51,6 @@ in_some (x ∷ xs) c h = elim (or_cases (has x.set c) (has (all_clones xs) c) (s
       | inl y ↦ (x, inl refl, y)
       | inr y ↦ let k = in_some xs c y in (k.0, inr k.1, k.2)
     ]
-  where
-    or_cases : (a b : Bool) → (a || b) ≡ true → (a ≡ true) ⊎ (b ≡ true)
-    or_cases true b e = inl refl
-    or_cases false b e = inr e
 
 -- and the clones of each copy are among those of all
 pub some_in : (xs : List StationCopy) (a : StationCopy) (c : ℕ) → In a xs → Carries has a c

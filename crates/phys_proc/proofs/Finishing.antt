@@ -1,11 +1,11 @@
--- What comes of a copy that goes no further as it is.
+-- The end of a copy that goes no further as it is.
 use Rattle.std.proofs.Common.{◌≡◌, ℕ, ◌+◌, ◌<◌, ◌≤◌, ◌&&◌, true, List, [], ◌∷◌, ◌++◌, refl, sym, ap, ◌∙◌, subst, arith}
 use Rattle.sim_base.specs.declared.message.Msg.{Msg}
 use Rattle.clone_sets.specs.Sets.{has, minus, union, size}
 use Rattle.clone_sets.specs.declared.set.CloneSet.{CloneSet}
 use Rattle.net_model.specs.Net.{Net}
 use Rattle.run_laws.proofs.Parts.{all_part_of}
-use Rattle.phys_proc.specs.Own.{StationCopy, Marked, IsCopy, Advanced, Onward, NextDue, NothingDue, half}
+use Rattle.phys_proc.specs.Own.{StationCopy, Marked, IsCopy, IsAdvance, Onward, NextDue, NothingDue, half}
 use Rattle.phys_proc.specs.Own.{IsLate, may_handle, takes_at}
 use Rattle.phys_proc.specs.Stops.{IsFull, IsParting}
 use Rattle.phys_proc.proofs.Parted.{same_none}
@@ -41,7 +41,7 @@ module _ (ends : ℕ → ℕ) (bound : ℕ) (a b : StationCopy) where
     some = d.some;
   }
 
--- ---- what comes of it
+-- ---- its end
 
 module _ (net : Net) (s : ℕ) (ends : ℕ → ℕ) (bound : ℕ) (copy : StationCopy) (sent : Marked) (steps : ℕ)
     (fits : IsCopy net s copy) where
@@ -50,13 +50,13 @@ module _ (net : Net) (s : ℕ) (ends : ℕ → ℕ) (bound : ℕ) (copy : Statio
 
   -- a copy of which nothing is due is done as it is
   pub of_settled : (done new : List StationCopy) (over : CloneSet) → NothingDue ends bound copy copy
-      → new ≡ done ++ copy ∷ [] → Advanced net s ends bound copy done new sent sent over over steps steps
+      → new ≡ done ++ copy ∷ [] → IsAdvance net s ends bound copy done new sent sent over over steps steps
   of_settled done new over d e = answer_rest net s ends bound copy copy copy sent sent steps steps begun d done done new
       over over refl refl e
 
   -- of a copy that is full nothing comes, and all its clones go over the limit
   pub of_full : (done : List StationCopy) (over new : CloneSet) → IsFull net.limit ends bound copy
-      → new ≡ union over copy.set → Advanced net s ends bound copy done done sent sent over new steps steps
+      → new ≡ union over copy.set → IsAdvance net s ends bound copy done done sent sent over new steps steps
   of_full done over new x e = answer_over net s ends bound copy copy copy sent sent steps steps begun x.msg x.takers
       x.due done done over over new refl refl x.all x.full e
 
@@ -97,24 +97,24 @@ module _ (net : Net) (s : ℕ) (ends : ℕ → ℕ) (bound : ℕ) (copy : Statio
         let l = ap (may_handle net.limit) f in
         omega (arith, h, k, l)
 
-    -- what comes of both comes of the copy
+    -- the ends of both halves are together an end of the copy
     pub of_parts : (a a1 b b1 : StationCopy) (done done1 done2 done3 done4 : List StationCopy)
         (sent1 sent2 sent3 sent4 : Marked) (over over1 over2 over3 over4 : CloneSet) (steps1 steps2 steps3 steps4 : ℕ)
         → a ≡ half copy takers → b ≡ half copy (minus copy.set takers)
         → Onward net s ends bound a a1 sent sent1 steps steps1 → done1 ≡ done → over1 ≡ over
-        → Advanced net s ends bound a1 done1 done2 sent1 sent2 over1 over2 steps1 steps2
+        → IsAdvance net s ends bound a1 done1 done2 sent1 sent2 over1 over2 steps1 steps2
         → Onward net s ends bound b b1 sent2 sent3 steps2 steps3 → done3 ≡ done2 → over3 ≡ over2
-        → Advanced net s ends bound b1 done3 done4 sent3 sent4 over3 over4 steps3 steps4
-        → Advanced net s ends bound copy done done4 sent sent4 over over4 steps steps4
+        → IsAdvance net s ends bound b1 done3 done4 sent3 sent4 over3 over4 steps3 steps4
+        → IsAdvance net s ends bound copy done done4 sent sent4 over over4 steps steps4
     of_parts a a1 b b1 done done1 done2 done3 done4 sent1 sent2 sent3 sent4 over over1 over2 over3 over4 steps1 steps2
         steps3 steps4 is_a is_b on_a d1 o1 adv_a on_b d3 o3 adv_b =
         let a_here = answer_on net s ends bound a a1 sent sent1 steps steps1 on_a done done2 sent2 over over2 steps2
-        (subst (λ k. Advanced net s ends bound a1 k done2 sent1 sent2 over over2 steps1 steps2) d1
-        (subst (λ k. Advanced net s ends bound a1 done1 done2 sent1 sent2 k over2 steps1 steps2) o1 adv_a)) in
+        (subst (λ k. IsAdvance net s ends bound a1 k done2 sent1 sent2 over over2 steps1 steps2) d1
+        (subst (λ k. IsAdvance net s ends bound a1 done1 done2 sent1 sent2 k over2 steps1 steps2) o1 adv_a)) in
         let b_here = answer_on net s ends bound b b1 sent2 sent3 steps2 steps3 on_b done2 done4 sent4 over2 over4 steps4
-        (subst (λ k. Advanced net s ends bound b1 k done4 sent3 sent4 over2 over4 steps3 steps4) d3
-        (subst (λ k. Advanced net s ends bound b1 done3 done4 sent3 sent4 k over4 steps3 steps4) o3 adv_b)) in
+        (subst (λ k. IsAdvance net s ends bound b1 k done4 sent3 sent4 over2 over4 steps3 steps4) d3
+        (subst (λ k. IsAdvance net s ends bound b1 done3 done4 sent3 sent4 k over4 steps3 steps4) o3 adv_b)) in
         answer_apart net s ends bound copy copy copy sent sent steps steps begun x.msg takers x.due done done done2
         done4 sent2 sent4 over over over2 over4 steps2 steps4 refl refl
-        (subst (λ u. Advanced net s ends bound u done done2 sent sent2 over over2 steps steps2) is_a a_here)
-        (subst (λ u. Advanced net s ends bound u done2 done4 sent2 sent4 over2 over4 steps2 steps4) is_b b_here)
+        (subst (λ u. IsAdvance net s ends bound u done done2 sent sent2 over over2 steps steps2) is_a a_here)
+        (subst (λ u. IsAdvance net s ends bound u done2 done4 sent2 sent4 over2 over4 steps2 steps4) is_b b_here)

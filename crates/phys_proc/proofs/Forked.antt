@@ -10,10 +10,10 @@ use Rattle.std.proofs.lemmas.Bool.{cases_Bool, cases_eq, ne_eqb}
 use Rattle.sim_base.specs.Order.{msg_cmp}
 use Rattle.sim_base.specs.Pending.{spread_marks}
 use Rattle.sim_base.specs.declared.message.Msg.{Msg}
-use Rattle.clone_sets.specs.Sets.{has, one, with, union, meet, met, empty, size}
+use Rattle.clone_sets.specs.Sets.{has, one, with, union, meet, common, empty, size}
 use Rattle.clone_sets.specs.declared.set.CloneSet.{CloneSet}
 use Rattle.clone_sets.proofs.SetLaws.{has-union, has-meet, has-one, has-with, has-empty}
-use Rattle.clone_sets.proofs.SetLaws.{same_members, empty_from_none, met_none, met_is}
+use Rattle.clone_sets.proofs.SetLaws.{same_members, empty_from_none, common_none, common_is}
 use Rattle.net_model.specs.Net.{Net}
 use Rattle.stations.specs.Runs.{simulation}
 use Rattle.sim_base.specs.Marked.{SortedMarked}
@@ -21,14 +21,14 @@ use Rattle.run_laws.specs.Copies.{IsForked, Carries, Disjoint, origin_of, part}
 use Rattle.std.proofs.lemmas.Bool.{false≢true}
 use Rattle.sim_base.proofs.Placing.{all_weaker}
 use Rattle.phys_proc.specs.Own.{StationCopy, Marked, AreMarks, IsCopy, IsLate}
-use Rattle.phys_proc.specs.Own.{AreLate, forked, taken_at, all_clones, handled_alone}
+use Rattle.phys_proc.specs.Own.{AreLate, copy_after_fork, taken_at, all_clones, handled_alone}
 use Rattle.phys_proc.specs.Procs.{KeepsShares}
 use Rattle.phys_proc.proofs.Counting.{size_disjoint}
 
 module _ (old new : ℕ) where
   -- whether the old clone is in a set
-  test_is : (k : CloneSet) → is_some (met k (one old)) ≡ has k old
-  test_is k = by_met (met k (one old)) refl
+  test_is : (k : CloneSet) → is_some (common k (one old)) ≡ has k old
+  test_is k = by_met (common k (one old)) refl
     where
       with_true : (b : Bool) → (b && true) ≡ b
       with_true true = refl
@@ -44,19 +44,19 @@ module _ (old new : ℕ) where
           off true = refl
           off false = refl
 
-      by_met : (o : Option CloneSet) → met k (one old) ≡ o → is_some o ≡ has k old
+      by_met : (o : Option CloneSet) → common k (one old) ≡ o → is_some o ≡ has k old
       by_met None e = sym (sym (with_true (has k old))
-          ∙ ap (λ b. has k old && b) (sym (has-one old old ∙ eq-eqb old old refl)) ∙ met_none k (one old) e old)
+          ∙ ap (λ b. has k old && b) (sym (has-one old old ∙ eq-eqb old old refl)) ∙ common_none k (one old) e old)
       by_met (Some j) e = elim (cases_Bool (has k old)) [
         | inl y ↦ sym y
-        | inr n ↦ absurd ((met_is k (one old) j e).1
-            ((met_is k (one old) j e).0 ∙ empty_from_none (meet k (one old))
+        | inr n ↦ absurd ((common_is k (one old) j e).1
+            ((common_is k (one old) j e).0 ∙ empty_from_none (meet k (one old))
             (λ d. has-meet k (one old) d ∙ ap (λ b. has k d && b) (has-one old d) ∙ none_at n d)))
       ]
 
   -- a set with the new clone where it has the old one
   abbrev pub grown : CloneSet → CloneSet
-  grown k = cond (is_some (met k (one old))) (union k (one new)) k
+  grown k = cond (is_some (common k (one old))) (union k (one new)) k
 
   -- it has of each clone what it had of the clone that this was
   pub has-grown : (k : CloneSet) (c : ℕ) → has k new ≡ false → has (grown k) c ≡ has k (origin_of old new c)
@@ -88,7 +88,7 @@ module _ (old new : ℕ) where
 
   -- pending messages with the new clone beside the old one
   abbrev pub spread : Marked → Marked
-  spread xs = spread_marks union met (one old) (one new) xs
+  spread xs = spread_marks union common (one old) (one new) xs
 
   taken_spread : (ends : ℕ → ℕ) (c : ℕ) (xs : Marked) → AllByRecursion (λ x. has x.1 new ≡ false) xs
       → part (λ m k c. has k c && nat_lt m.key.time (ends (origin_of old new c))) c (spread xs) ≡ taken_at ends
@@ -144,7 +144,7 @@ module _ (old new : ℕ) where
       (λ x m. elim (cases_Bool (has x.1 c)) [ inl y ↦ absurd (false≢true (sym n ∙ m.within c y)) | inr o ↦ o ]) f
 
   -- the copy as `fork` leaves it
-  forked_is : (net : Net) (s : ℕ) (a : StationCopy) → IsCopy net s a → forked old new a ≡ forked_copy old new a
+  forked_is : (net : Net) (s : ℕ) (a : StationCopy) → IsCopy net s a → copy_after_fork old new a ≡ forked_copy old new a
   forked_is net s a f = by_old (has a.set old) refl
     where
       by_old : (b : Bool) → has a.set old ≡ b
@@ -182,7 +182,7 @@ module _ (old new : ℕ) where
 
         grown_none : (k : CloneSet) → grown old new k ≡ empty → k ≡ empty
         grown_none k e = empty_from_none k
-            (λ c. none_at c (is_some (met k (one old))) (ap (λ u. has u c) e ∙ has-empty c))
+            (λ c. none_at c (is_some (common k (one old))) (ap (λ u. has u c) e ∙ has-empty c))
           where
             or_first : (x y : Bool) → (x || y) ≡ false → x ≡ false
             or_first true y h = h
@@ -199,7 +199,7 @@ module _ (old new : ℕ) where
 
     -- the clones of a copy stay
     grown_has : (k : CloneSet) (c : ℕ) → has k c ≡ true → has (grown old new k) c ≡ true
-    grown_has k c i = by_test (is_some (met k (one old)))
+    grown_has k c i = by_test (is_some (common k (one old)))
       where
         or_left : (x y : Bool) → x ≡ true → (x || y) ≡ true
         or_left true y h = refl
@@ -226,7 +226,7 @@ module _ (old new : ℕ) where
 
     -- copies of a station, none of which has the new clone, are copies of it still with that clone
     pub forked_fits : (xs : List StationCopy) → AllByRecursion (λ a. has a.set new ≡ false) xs
-        → AllByRecursion (IsCopy net s) xs → AllByRecursion (IsCopy net s) (map (forked old new) xs)
+        → AllByRecursion (IsCopy net s) xs → AllByRecursion (IsCopy net s) (map (copy_after_fork old new) xs)
     forked_fits [] n f = tt
     forked_fits (x ∷ xs) n f = (
       subst (IsCopy net s) (sym (forked_is net s x f.0)) (grown_fits x n.0 f.0),
@@ -236,7 +236,7 @@ module _ (old new : ℕ) where
     -- and each copy is what it was, with the new clone beside the old one
     pub all_forked : (ends : ℕ → ℕ) (xs : List StationCopy) → AllByRecursion (λ a. has a.set new ≡ false) xs
         → AllByRecursion (IsCopy net s) xs
-        → AllZip (IsForked (simulation net) has ends old new) xs (map (forked old new) xs)
+        → AllZip (IsForked (simulation net) has ends old new) xs (map (copy_after_fork old new) xs)
     all_forked ends [] n f = tt
     all_forked ends (x ∷ xs) n f = (
       subst (IsForked (simulation net) has ends old new x) (sym (forked_is net s x f.0))
@@ -246,7 +246,7 @@ module _ (old new : ℕ) where
 
   -- ---- what the clones of all copies are then
 
-  set_is : (a : StationCopy) → (forked old new a).set ≡ grown old new a.set
+  set_is : (a : StationCopy) → (copy_after_fork old new a).set ≡ grown old new a.set
   set_is a = by_test (has a.set old) ∙ ap (λ b. cond b (union a.set (one new)) a.set) (sym (test_is old new a.set))
     where
       by_test : (b : Bool) → (cond b
@@ -255,7 +255,7 @@ module _ (old new : ℕ) where
       by_test true = refl
       by_test false = refl
 
-  log_is : (a : StationCopy) → (forked old new a).log ≡ a.log
+  log_is : (a : StationCopy) → (copy_after_fork old new a).log ≡ a.log
   log_is a = by_test (has a.set old)
     where
       by_test : (b : Bool) → (cond b
@@ -265,7 +265,7 @@ module _ (old new : ℕ) where
       by_test false = refl
 
   has_at : (a : StationCopy) (c : ℕ) → has a.set new ≡ false
-      → has (forked old new a).set c ≡ has a.set (origin_of old new c)
+      → has (copy_after_fork old new a).set c ≡ has a.set (origin_of old new c)
   has_at a c n = ap (λ k. has k c) (set_is a) ∙ has-grown old new a.set c n
 
   none_new : (xs : List StationCopy) → has (all_clones xs) new ≡ false → AllByRecursion (λ a. has a.set new ≡ false) xs
@@ -283,10 +283,10 @@ module _ (old new : ℕ) where
   fresh_in living xs e n = none_new xs (ap (λ k. has k new) e ∙ n)
 
   clones_at : (xs : List StationCopy) (c : ℕ) → AllByRecursion (λ a. has a.set new ≡ false) xs
-      → has (all_clones (map (forked old new) xs)) c ≡ has (all_clones xs) (origin_of old new c)
+      → has (all_clones (map (copy_after_fork old new) xs)) c ≡ has (all_clones xs) (origin_of old new c)
   clones_at [] c n = has-empty c ∙ sym (has-empty (origin_of old new c))
   clones_at (x ∷ xs) c n =
-      has-union (forked old new x).set (all_clones (map (forked old new) xs)) c
+      has-union (copy_after_fork old new x).set (all_clones (map (copy_after_fork old new) xs)) c
       ∙ ap₂ (λ a b. a || b) (has_at x c n.0) (clones_at xs c n.1)
       ∙ sym (has-union x.set (all_clones xs) (origin_of old new c))
 
@@ -302,7 +302,8 @@ module _ (old new : ℕ) where
   apart_one : (x : StationCopy) (xs : List StationCopy) → has x.set new ≡ false
       → AllByRecursion (λ a. has a.set new ≡ false) xs
       → AllByRecursion (λ b. (c : ℕ) → Carries has x c → ¬ (Carries has b c)) xs →
-      AllByRecursion (λ b. (c : ℕ) → Carries has (forked old new x) c → ¬ (Carries has b c)) (map (forked old new) xs)
+      AllByRecursion (λ b. (c : ℕ) → Carries has (copy_after_fork old new x) c → ¬ (Carries has b c))
+      (map (copy_after_fork old new) xs)
   apart_one x [] n ns f = tt
   apart_one x (y ∷ ys) n ns f = (
     λ c i j. f.0 (origin_of old new c) (sym (has_at x c n) ∙ i)
@@ -311,15 +312,15 @@ module _ (old new : ℕ) where
   )
 
   disjoint_all : (xs : List StationCopy) → AllByRecursion (λ a. has a.set new ≡ false) xs → Disjoint has xs
-      → Disjoint has (map (forked old new) xs)
+      → Disjoint has (map (copy_after_fork old new) xs)
   disjoint_all [] n d = tt
   disjoint_all (x ∷ xs) n d = (apart_one x xs n.0 n.1 d.0, disjoint_all xs n.1 d.1)
 
   some_in_each : (xs : List StationCopy) → AllByRecursion (λ a. a.set ≢ empty) xs
-      → AllByRecursion (λ a. a.set ≢ empty) (map (forked old new) xs)
+      → AllByRecursion (λ a. a.set ≢ empty) (map (copy_after_fork old new) xs)
   some_in_each [] f = tt
   some_in_each (x ∷ xs) f = (
-    λ e. f.0 (by_test (is_some (met x.set (one old))) (sym (set_is x) ∙ e)),
+    λ e. f.0 (by_test (is_some (common x.set (one old))) (sym (set_is x) ∙ e)),
     some_in_each xs f.1,
   )
     where
@@ -333,8 +334,8 @@ module _ (old new : ℕ) where
           ∙ (ap (λ u. has u c) e ∙ has-empty c)))
       by_test false e = e
 
-  larger : (x : StationCopy) → has x.set new ≡ false → size x.set ≤ size (forked old new x).set
-  larger x n = subst (λ k. size x.set ≤ size k) (sym (set_is x)) (by_test (is_some (met x.set (one old))))
+  larger : (x : StationCopy) → has x.set new ≡ false → size x.set ≤ size (copy_after_fork old new x).set
+  larger x n = subst (λ k. size x.set ≤ size k) (sym (set_is x)) (by_test (is_some (common x.set (one old))))
     where
       by_test : (b : Bool) → size x.set ≤ size (cond b (union x.set (one new)) x.set)
       by_test true =
@@ -345,12 +346,12 @@ module _ (old new : ℕ) where
       by_test false = omega arith
 
   more_alone : (xs : List StationCopy) → AllByRecursion (λ a. has a.set new ≡ false) xs
-      → handled_alone xs ≤ handled_alone (map (forked old new) xs)
+      → handled_alone xs ≤ handled_alone (map (copy_after_fork old new) xs)
   more_alone [] n = omega arith
   more_alone (x ∷ xs) n =
       let h = more_alone xs n.1 in
       let m = mul-le-mul_right (length x.log) (larger x n.0) in
-      let e = ap (λ l. size (forked old new x).set * length l) (log_is x) in
+      let e = ap (λ l. size (copy_after_fork old new x).set * length l) (log_is x) in
       omega (arith, h, m, e)
 
   -- what the copies of a station keep, they keep with a new clone beside one that lives
@@ -360,7 +361,7 @@ module _ (old new : ℕ) where
         station = s;
         living = with living new;
         handled = handled;
-        copies = map (forked old new) xs;
+        copies = map (copy_after_fork old new) xs;
       })
   shares_forked s handled living xs y n k =
       let fresh = fresh_in living xs k.shares.together n in
@@ -368,7 +369,7 @@ module _ (old new : ℕ) where
         shares = record {
           inhabited = some_in_each xs k.shares.inhabited;
           disjoint = disjoint_all xs fresh k.shares.disjoint;
-          together = same_members (all_clones (map (forked old new) xs)) (with living new)
+          together = same_members (all_clones (map (copy_after_fork old new) xs)) (with living new)
               (λ c. clones_at xs c fresh ∙ (ap (λ k. has k (origin_of old new c)) k.shares.together
               ∙ sym (with_at living c y)));
         };
@@ -382,7 +383,7 @@ module _ (old new : ℕ) where
   late_spread t (x ∷ xs) f = (f.0, late_spread t xs f.1)
 
   -- where nothing of the copies is pending before a time, nothing is with the new clone
-  pub late_forked : (t : ℕ) (xs : List StationCopy) → AreLate t xs → AreLate t (map (forked old new) xs)
+  pub late_forked : (t : ℕ) (xs : List StationCopy) → AreLate t xs → AreLate t (map (copy_after_fork old new) xs)
   late_forked t [] f = tt
   late_forked t (x ∷ xs) f = (by_test (has x.set old), late_forked t xs f.1)
     where

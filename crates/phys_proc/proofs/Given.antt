@@ -21,7 +21,7 @@ use Rattle.run_laws.specs.Handlers.{IsOrder}
 use Rattle.run_laws.proofs.Parts.{part-insert, sorted_insert_marked}
 use Rattle.run_laws.proofs.CopyViews.{takes_join}
 use Rattle.std.proofs.lemmas.Bool.{cases_Bool, eqb-false, false≢true}
-use Rattle.phys_proc.specs.Own.{StationCopy, AreMarks, IsCopy, taken_at, given}
+use Rattle.phys_proc.specs.Own.{StationCopy, AreMarks, IsCopy, taken_at, with_message}
 use Rattle.phys_proc.proofs.Sends.{all_inserted, marks_inserted, marks_join}
 use Rattle.phys_proc.proofs.Onward.{sets_join}
 
@@ -59,11 +59,11 @@ module _ (net : Net) (ends : ℕ → ℕ) (m : Msg) (k : CloneSet) where
 
   -- in a copy to which it is given, a message is pending besides for the clones that take it
   pub is_given : (a : StationCopy) → SortedMarked msg_cmp a.pending
-      → IsGiven (simulation net) has ends m k a (given m k a)
+      → IsGiven (simulation net) has ends m k a (with_message m k a)
   is_given a s = given_by (meet a.set k == empty) a refl s
 
   -- and it is a copy still
-  given_fits : (s : ℕ) (a : StationCopy) → m.to ≡ s → IsCopy net s a → IsCopy net s (given m k a)
+  given_fits : (s : ℕ) (a : StationCopy) → m.to ≡ s → IsCopy net s a → IsCopy net s (with_message m k a)
   given_fits s a e f = record {
     valid = f.valid;
     inhabited = f.inhabited;
@@ -100,51 +100,51 @@ module _ (net : Net) (ends : ℕ → ℕ) (m : Msg) (k : CloneSet) where
 
   -- copies of the station that the message is for are copies of it still
   pub all_fit : (s : ℕ) (xs : List StationCopy) → m.to ≡ s → AllByRecursion (IsCopy net s) xs
-      → AllByRecursion (IsCopy net s) (map (given m k) xs)
+      → AllByRecursion (IsCopy net s) (map (with_message m k) xs)
   all_fit s [] e f = tt
   all_fit s (x ∷ xs) e f = (given_fits s x e f.0, all_fit s xs e f.1)
 
   -- to all copies
   pub all_given : (xs : List StationCopy) → AllByRecursion (λ a. SortedMarked msg_cmp a.pending) xs
-      → AllZip (IsGiven (simulation net) has ends m k) xs (map (given m k) xs)
+      → AllZip (IsGiven (simulation net) has ends m k) xs (map (with_message m k) xs)
   all_given [] f = tt
   all_given (x ∷ xs) f = (is_given x f.0, all_given xs f.1)
 
 -- the first i elements are changed
-abbrev pub changed : (StationCopy → StationCopy) → ℕ → List StationCopy → List StationCopy
-changed f zero xs = xs
-changed f (suc i) [] = []
-changed f (suc i) (x ∷ xs) = f x ∷ changed f i xs
+abbrev pub map_first : (StationCopy → StationCopy) → ℕ → List StationCopy → List StationCopy
+map_first f zero xs = xs
+map_first f (suc i) [] = []
+map_first f (suc i) (x ∷ xs) = f x ∷ map_first f i xs
 
 -- with the next element changed in its place, one more of the first is changed
-pub changed_more : (f : StationCopy → StationCopy) (i : ℕ) (xs : List StationCopy) (d : StationCopy) → i < length xs
-    → slice_set (changed f i xs) i (f (get_or (changed f i xs) i d)) ≡ changed f (i + 1) xs
-changed_more f i xs d l = by_suc f i xs d l ∙ ap (λ n. changed f n xs) (next i)
+pub map_first-suc : (f : StationCopy → StationCopy) (i : ℕ) (xs : List StationCopy) (d : StationCopy) → i < length xs
+    → slice_set (map_first f i xs) i (f (get_or (map_first f i xs) i d)) ≡ map_first f (i + 1) xs
+map_first-suc f i xs d l = by_suc f i xs d l ∙ ap (λ n. map_first f n xs) (next i)
   where
     next : (i : ℕ) → suc i ≡ i + 1
     next i = omega arith
 
     by_suc : (f : StationCopy → StationCopy) (i : ℕ) (xs : List StationCopy) (d : StationCopy) → i < length xs
-        → slice_set (changed f i xs) i (f (get_or (changed f i xs) i d)) ≡ changed f (suc i) xs
+        → slice_set (map_first f i xs) i (f (get_or (map_first f i xs) i d)) ≡ map_first f (suc i) xs
     by_suc f i [] d l = absurd (omega arith)
     by_suc f zero (x ∷ xs) d l = refl
     by_suc f (suc i) (x ∷ xs) d l = ap (λ t. f x ∷ t) (by_suc f i xs d (omega arith))
 
 -- where as many are changed as there are, all are
-pub changed_all : (f : StationCopy → StationCopy) (i : ℕ) (xs : List StationCopy) → i ≡ length xs
-    → changed f i xs ≡ map f xs
-changed_all f i xs e = ap (λ n. changed f n xs) e ∙ whole xs
+pub map_first-length : (f : StationCopy → StationCopy) (i : ℕ) (xs : List StationCopy) → i ≡ length xs
+    → map_first f i xs ≡ map f xs
+map_first-length f i xs e = ap (λ n. map_first f n xs) e ∙ whole xs
   where
-    whole : (xs : List StationCopy) → changed f (length xs) xs ≡ map f xs
+    whole : (xs : List StationCopy) → map_first f (length xs) xs ≡ map f xs
     whole [] = refl
     whole (x ∷ xs) = ap (λ t. f x ∷ t) (whole xs)
 
 -- the list stays as long as it was
-pub length-changed : (f : StationCopy → StationCopy) (i : ℕ) (xs : List StationCopy)
-    → length (changed f i xs) ≡ length xs
-length-changed f zero xs = refl
-length-changed f (suc i) [] = refl
-length-changed f (suc i) (x ∷ xs) = ap suc (length-changed f i xs)
+pub length-map_first : (f : StationCopy → StationCopy) (i : ℕ) (xs : List StationCopy)
+    → length (map_first f i xs) ≡ length xs
+length-map_first f zero xs = refl
+length-map_first f (suc i) [] = refl
+length-map_first f (suc i) (x ∷ xs) = ap suc (length-map_first f i xs)
 
 -- ---- until each clone of the set was met
 
@@ -156,21 +156,21 @@ rest_after k (x ∷ xs) (suc i) = rest_after (minus k x.set) xs i
 
 -- the clones that are left, without those of the next copy, are those left after one copy more
 pub rest_more : (f : StationCopy → StationCopy) (k : CloneSet) (xs : List StationCopy) (i : ℕ) (d : StationCopy)
-    → i < length xs → minus (rest_after k xs i) (get_or (changed f i xs) i d).set ≡ rest_after k xs (i + 1)
+    → i < length xs → minus (rest_after k xs i) (get_or (map_first f i xs) i d).set ≡ rest_after k xs (i + 1)
 rest_more f k xs i d l = by_suc k xs i l ∙ ap (rest_after k xs) (next i)
   where
     next : (i : ℕ) → suc i ≡ i + 1
     next i = omega arith
 
     by_suc : (k : CloneSet) (xs : List StationCopy) (i : ℕ) → i < length xs
-        → minus (rest_after k xs i) (get_or (changed f i xs) i d).set ≡ rest_after k xs (suc i)
+        → minus (rest_after k xs i) (get_or (map_first f i xs) i d).set ≡ rest_after k xs (suc i)
     by_suc k [] i l = absurd (omega arith)
     by_suc k (x ∷ xs) zero l = refl
     by_suc k (x ∷ xs) (suc i) l = by_suc (minus k x.set) xs i (omega arith)
 
 module _ (m : Msg) (k : CloneSet) where
   -- the message is for none of its clones
-  not_given : (a : StationCopy) → ((c : ℕ) → has k c ≡ true → ¬ (Carries has a c)) → given m k a ≡ a
+  not_given : (a : StationCopy) → ((c : ℕ) → has k c ≡ true → ¬ (Carries has a c)) → with_message m k a ≡ a
   not_given a apart =
       let none = empty_from_none (meet a.set k)
       (λ c. has-meet a.set k c ∙ no_one c (has a.set c) (has k c) refl refl) in
@@ -183,7 +183,7 @@ module _ (m : Msg) (k : CloneSet) where
       no_one c true true e f = absurd (apart c f e)
 
   none_given : (xs : List StationCopy) → ((c : ℕ) → has k c ≡ true → AllByRecursion (λ b. ¬ (Carries has b c)) xs)
-      → xs ≡ map (given m k) xs
+      → xs ≡ map (with_message m k) xs
   none_given [] h = refl
   none_given (x ∷ xs) h = ap₂ (λ y ys. y ∷ ys) (sym (not_given x (λ c i. (h c i).0)))
       (none_given xs (λ c i. (h c i).1))
@@ -192,10 +192,10 @@ module _ (m : Msg) (k : CloneSet) where
   pub given_to_all : (rest : CloneSet) (xs : List StationCopy) (i : ℕ) → Disjoint has xs
       → rest_after rest xs i ≡ empty
       → ((c : ℕ) → has k c ≡ true → has rest c ≡ false → AllByRecursion (λ b. ¬ (Carries has b c)) xs)
-      → changed (given m k) i xs ≡ map (given m k) xs
+      → map_first (with_message m k) i xs ≡ map (with_message m k) xs
   given_to_all rest xs zero d e h = none_given xs (λ c i. h c i (ap (λ s. has s c) e ∙ has-empty c))
   given_to_all rest [] (suc i) d e h = refl
-  given_to_all rest (x ∷ xs) (suc i) d e h = ap (λ t. given m k x ∷ t)
+  given_to_all rest (x ∷ xs) (suc i) d e h = ap (λ t. with_message m k x ∷ t)
       (given_to_all (minus rest x.set) xs i d.1 e apart)
     where
       not_left : (x y : Bool) → y ≡ false → (x && not y) ≡ false → x ≡ false
@@ -215,7 +215,8 @@ module _ (m : Msg) (k : CloneSet) where
 
 module _ (m : Msg) (k : CloneSet) where
   -- with whom of the set a copy shares clones is all that counts
-  same_given : (k1 k2 : CloneSet) (a : StationCopy) → meet a.set k1 ≡ meet a.set k2 → given m k1 a ≡ given m k2 a
+  same_given : (k1 k2 : CloneSet) (a : StationCopy) → meet a.set k1 ≡ meet a.set k2
+      → with_message m k1 a ≡ with_message m k2 a
   same_given k1 k2 a e = ap (λ s. record a {
     pending = cond (s == empty) a.pending (insert_marked union msg_cmp m s a.pending);
   }) e
@@ -238,10 +239,12 @@ module _ (m : Msg) (k : CloneSet) where
 
   -- the copy at place i gets it first, and all copies get it for the other clones
   given_from : (xs : List StationCopy) (i : ℕ) (d : StationCopy) → i < length xs → Disjoint has xs
-      → map (given m (minus k (get_or xs i d).set)) (slice_set xs i (given m k (get_or xs i d))) ≡ map (given m k) xs
+      → map (with_message m (minus k (get_or xs i d).set)) (slice_set xs i (with_message m k (get_or xs i d)))
+      ≡ map (with_message m k) xs
   given_from [] i d l p = absurd (omega arith)
   given_from (x ∷ xs) zero d l p = ap₂ (λ y ys. y ∷ ys)
-      (not_given m (minus k x.set) (given m k x) (λ c i n. absurd (false≢true (sym (others c i) ∙ n)))) (behind xs p.0)
+      (not_given m (minus k x.set) (with_message m k x) (λ c i n. absurd (false≢true (sym (others c i) ∙ n))))
+      (behind xs p.0)
     where
       second : (y z : Bool) → (y && not z) ≡ true → z ≡ false
       second true false h = refl
@@ -252,7 +255,7 @@ module _ (m : Msg) (k : CloneSet) where
       others c i = second (has k c) (has x.set c) (sym (has-minus k x.set c) ∙ i)
 
       behind : (ys : List StationCopy) → AllByRecursion (λ b. (c : ℕ) → Carries has x c → ¬ (Carries has b c)) ys
-          → map (given m (minus k x.set)) ys ≡ map (given m k) ys
+          → map (with_message m (minus k x.set)) ys ≡ map (with_message m k) ys
       behind [] h = refl
       behind (y ∷ ys) h = ap₂ (λ u us. u ∷ us)
           (same_given (minus k x.set) k y (without_others x y (λ c i j. h.0 c j i))) (behind ys h.1)
@@ -274,16 +277,17 @@ module _ (m : Msg) (k : CloneSet) where
 
   -- where the copy at place i has got it, and all get it for the rest of the set, all copies have got it
   pub given_first : (xs : List StationCopy) (i : ℕ) (d1 d2 : StationCopy) (rest : CloneSet) (a : StationCopy)
-      → i < length xs → Disjoint has xs → rest ≡ minus k (get_or xs i d1).set → a ≡ given m k (get_or xs i d2)
-      → map (given m rest) (slice_set xs i a) ≡ map (given m k) xs
+      → i < length xs → Disjoint has xs → rest ≡ minus k (get_or xs i d1).set → a ≡ with_message m k (get_or xs i d2)
+      → map (with_message m rest) (slice_set xs i a) ≡ map (with_message m k) xs
   given_first xs i d1 d2 rest a l p e f =
-      ap₂ (λ s u. map (given m s) (slice_set xs i u)) (e ∙ ap (λ (u : StationCopy). minus k u.set) (same_at xs i d1 d2 l)) f
+      ap₂ (λ s u. map (with_message m s) (slice_set xs i u))
+      (e ∙ ap (λ (u : StationCopy). minus k u.set) (same_at xs i d1 d2 l)) f
       ∙ given_from xs i d2 l p
 
   -- it stands for all of them
   pub given_alone : (xs : List StationCopy) (i : ℕ) (d1 d2 : StationCopy) (rest : CloneSet) (a : StationCopy)
-      → i < length xs → Disjoint has xs → rest ≡ minus k (get_or xs i d1).set → a ≡ given m k (get_or xs i d2)
-      → rest ≡ empty → slice_set xs i a ≡ map (given m k) xs
+      → i < length xs → Disjoint has xs → rest ≡ minus k (get_or xs i d1).set → a ≡ with_message m k (get_or xs i d2)
+      → rest ≡ empty → slice_set xs i a ≡ map (with_message m k) xs
   given_alone xs i d1 d2 rest a l p e f none =
       none_given m empty (slice_set xs i a) (λ c n. absurd (false≢true (sym (has-empty c) ∙ n)))
-      ∙ (ap (λ s. map (given m s) (slice_set xs i a)) (sym none) ∙ given_first xs i d1 d2 rest a l p e f)
+      ∙ (ap (λ s. map (with_message m s) (slice_set xs i a)) (sym none) ∙ given_first xs i d1 d2 rest a l p e f)

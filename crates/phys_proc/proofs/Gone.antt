@@ -2,6 +2,7 @@
 use Rattle.std.proofs.Common.{◌≡◌, ℕ, ◌<◌, ◌≤◌, ◌==◌, ◌&&◌, ◌||◌, not, min, Bool, true, false, cond, List}
 use Rattle.std.proofs.Common.{[], ◌∷◌, ◌++◌, inl, inr, refl, sym, ap, ◌∙◌, subst, arith, nat_lt, nat_le}
 use Rattle.std.proofs.lemmas.Bool.{cases_lt, lt-ltb, le-ltb, le-leb, lt-leb}
+use Rattle.sim_base.specs.declared.lists.TheConstants.{MOST_CLONES}
 use Rattle.phys_proc.specs.Gone.{ends_in, is_gone, AreClones}
 
 -- an end that is listed counts where it has come
@@ -61,8 +62,8 @@ pub ends_more : (horizon : ℕ) (es all : List (ℕ × ℕ)) (clone at c : ℕ) 
 ends_more horizon es all clone at c e = ap (λ l. ends_in horizon l c) e ∙ push_end horizon es (clone, at) c
 
 -- with an end more, of a number that a clone may have, the ends are still those of such numbers
-pub are_more : (es all : List (ℕ × ℕ)) (clone at : ℕ) → all ≡ es ++ (clone, at) ∷ [] → clone < 256 → AreClones es
-    → AreClones all
+pub are_more : (es all : List (ℕ × ℕ)) (clone at : ℕ) → all ≡ es ++ (clone, at) ∷ [] → clone < MOST_CLONES
+    → AreClones es → AreClones all
 are_more es all clone at e l f = subst AreClones (sym e) (both es f)
   where
     both : (es : List (ℕ × ℕ)) → AreClones es → AreClones (es ++ (clone, at) ∷ [])

@@ -24,7 +24,7 @@ use Rattle.run_laws.proofs.Parts.{sorted_insert_marked_all}
 use Rattle.stations.specs.Opening.{setup}
 use Rattle.stations.specs.Runs.{replay}
 use Rattle.run_laws.specs.World as world
-use Rattle.phys_proc.specs.Own.{StationCopy, Marked, AreMarks, IsCopy, IsHandled, kept_on, sent_on}
+use Rattle.phys_proc.specs.Own.{StationCopy, Marked, AreMarks, IsCopy, IsHandled, pending_after, sent_after}
 use Rattle.phys_proc.proofs.Sends.{all_inserted_all, marks_inserted_all, marks_join, whole_marks}
 
 -- the first of some messages, or the one that is given for it where there are none
@@ -39,12 +39,13 @@ tail_of (x ∷ xs) = xs
 
 module _ (net : Net) (s : ℕ) (a : StationCopy) (m0 : Msg) (k0 : CloneSet) (q0 : Marked) (st : StateView) (line : Line)
     (out : List Msg) (log : List (Entry Msg Line)) (pending before after : Marked)
-    (there : a.pending ≡ (m0, k0) ∷ q0) (fits : IsCopy net s a) (room : length a.log < net.limit)
+    (there : a.pending ≡ (m0, k0) ∷ q0) (fits : IsCopy net s a) (below : length a.log < net.limit)
     (gives : handle net a.state m0 ≡ record { state = st; sends = out; line = line }) (fits_new : FitsState st)
     (suits_new : SuitsNet net st) (own : st.sender.station ≡ a.state.sender.station)
     (more : st.handled ≡ a.state.handled + 1)
-    (log_is : log ≡ a.log ++ record { msg = m0; line = line } ∷ []) (kept : pending ≡ kept_on s a.set out q0)
-    (aside : after ≡ sent_on s a.set out before) where
+    (log_is : log ≡ a.log ++ record { msg = m0; line = line } ∷ [])
+    (pending_is : pending ≡ pending_after s a.set out q0)
+    (aside : after ≡ sent_after s a.set out before) where
   abbrev made : Handled StateView Msg Line → Msg → Marked → StationCopy
   made h m q = record {
     set = a.set;
@@ -85,18 +86,18 @@ module _ (net : Net) (s : ℕ) (a : StationCopy) (m0 : Msg) (k0 : CloneSet) (q0 
         suits = suits_new;
         station = own ∙ fits.station;
         handled = omega (arith, more, h, long);
-        short = omega (arith, long, room);
-        sorted = subst (SortedMarked msg_cmp) (sym kept)
+        short = omega (arith, long, below);
+        sorted = subst (SortedMarked msg_cmp) (sym pending_is)
             (sorted_insert_marked_all (λ m k c. has k c) union (λ m x y c. has-union x y c)
             (record { total = msg_total; same = msg_same }) (to_it (λ (m : Msg). m.to) s out) a.set q0 rest_sorted);
-        targets = subst (AllByRecursion (λ x. x.0.to ≡ s)) (sym kept)
+        targets = subst (AllByRecursion (λ x. x.0.to ≡ s)) (sym pending_is)
             (all_inserted_all (λ m. m.to ≡ s) a.set (to_it (λ (m : Msg). m.to) s out) q0
             (all_from (λ m. m.to ≡ s) (to_it (λ (m : Msg). m.to) s out)
             (λ z i. (in_own (λ (m : Msg). m.to) s out z i).1)) rest_targets);
         replays = sym (ap (λ (l : List (Entry Msg Line)). replay net s l) log_is
             ∙ (replay_more (setup net s).state a.log (record { msg = m0; line = line })
             ∙ (ap (λ (u : StateView). (handle net u m0).state) (sym fits.replays) ∙ ap (λ h. h.state) gives)));
-        marks = subst (AllByRecursion (λ x. AreMarks a.set x.1)) (sym kept)
+        marks = subst (AllByRecursion (λ x. AreMarks a.set x.1)) (sym pending_is)
             (marks_inserted_all (AreMarks a.set) (marks_join a.set) a.set
             (whole_marks a.set fits.inhabited.0 fits.inhabited.1) (to_it (λ (m : Msg). m.to) s out) q0 rest_marks);
       }
@@ -108,12 +109,12 @@ module _ (net : Net) (s : ℕ) (a : StationCopy) (m0 : Msg) (k0 : CloneSet) (q0 
       let same : m0 ≡ m = ap (λ l. head_msg l m0) both in
       let tail : q0 ≡ q = ap tail_of both in
       let one : new ≡ made (record { state = st; sends = out; line = line }) m0 q0 =
-      λ i. record { set = a.set; state = st; log = log_is i; pending = kept i } in
+      λ i. record { set = a.set; state = st; log = log_is i; pending = pending_is i } in
       let two : made (record { state = st; sends = out; line = line }) m0 q0 ≡ made (handle net a.state m0) m0 q0 =
       ap (λ h. made h m0 q0) (sym gives) in
       let three : made (handle net a.state m0) m0 q0 ≡ made (handle net a.state m) m q =
       λ i. made (handle net a.state (same i)) (same i) (tail i) in
-      let sent : sent_on s a.set out before ≡ sent_on s a.set (handle net a.state m).sends before =
-      ap (λ h. sent_on s a.set h.sends before) (sym gives)
-      ∙ ap (λ z. sent_on s a.set (handle net a.state z).sends before) same in
+      let sent : sent_after s a.set out before ≡ sent_after s a.set (handle net a.state m).sends before =
+      ap (λ h. sent_after s a.set h.sends before) (sym gives)
+      ∙ ap (λ z. sent_after s a.set (handle net a.state z).sends before) same in
       (one ∙ two ∙ three, aside ∙ sent, new_copy)

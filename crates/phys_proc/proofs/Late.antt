@@ -11,7 +11,7 @@ use Rattle.clone_sets.specs.Sets.{meet, union, empty}
 use Rattle.clone_sets.specs.declared.set.CloneSet.{CloneSet}
 use Rattle.sim_base.specs.Marked.{SortedMarked}
 use Rattle.sim_base.proofs.Placing.{all_weaker}
-use Rattle.phys_proc.specs.Own.{StationCopy, Marked, IsLate, AreLate, given}
+use Rattle.phys_proc.specs.Own.{StationCopy, Marked, IsLate, AreLate, with_message}
 use Rattle.phys_proc.proofs.Sends.{all_inserted}
 use Rattle.phys_proc.proofs.Onward.{all_both}
 
@@ -67,7 +67,8 @@ late_joined t u w xs ys e f g = all_both (IsLate w) xs ys (are_late_before w u x
     (are_late_before w t ys (omega (arith, e)) g)
 
 -- one message more
-late_given : (t : ℕ) (m : Msg) (k : CloneSet) (a : StationCopy) → t ≤ m.key.time → IsLate t a → IsLate t (given m k a)
+late_given : (t : ℕ) (m : Msg) (k : CloneSet) (a : StationCopy) → t ≤ m.key.time → IsLate t a
+    → IsLate t (with_message m k a)
 late_given t m k a l f = by_test (meet a.set k == empty)
   where
     by_test : (b : Bool) → AllByRecursion (λ (y : Msg × CloneSet). t ≤ y.0.key.time)
@@ -77,7 +78,7 @@ late_given t m k a l f = by_test (meet a.set k == empty)
 
 -- with a message more, copies have nothing pending before its time or the time so far, whichever is less
 pub all_late_given : (t u : ℕ) (m : Msg) (k : CloneSet) (xs : List StationCopy) → u ≡ min t m.key.time → AreLate t xs
-    → AreLate u (map (given m k) xs)
+    → AreLate u (map (with_message m k) xs)
 all_late_given t u m k [] e f = tt
 all_late_given t u m k (x ∷ xs) e f =
     (late_given u m k x (omega (arith, e)) (late_before u t x (omega (arith, e)) f.0), all_late_given t u m k xs e f.1)

@@ -9,7 +9,7 @@ use Rattle.sim_base.specs.declared.message.Msg.{Msg}
 use Rattle.sim_base.proofs.Placing.{all_weaker}
 use Rattle.clone_sets.specs.Sets.{union}
 use Rattle.clone_sets.specs.declared.set.CloneSet.{CloneSet}
-use Rattle.phys_proc.specs.Own.{StationCopy, Marked, IsLate, forked}
+use Rattle.phys_proc.specs.Own.{StationCopy, Marked, IsLate, copy_after_fork}
 use Rattle.phys_proc.proofs.Forked.{late_forked}
 use Rattle.phys_proc.proofs.Sends.{all_inserted}
 
@@ -59,7 +59,7 @@ leasts_put ts us xs ys t x d e f g = rw (d, e) (leasts_joined ts (t ∷ []) xs (
 
 -- the times stay where a clone is put beside another
 pub leasts_forked : (old new : ℕ) (ts : List ℕ) (xs : List StationCopy) → AllZip IsLate ts xs
-    → AllZip IsLate ts (map (forked old new) xs)
+    → AllZip IsLate ts (map (copy_after_fork old new) xs)
 leasts_forked old new [] [] f = tt
 leasts_forked old new [] (x ∷ xs) f = absurd f
 leasts_forked old new (t ∷ ts) [] f = absurd f

@@ -18,12 +18,12 @@ use Rattle.stations.proofs.KindLaws.{good_kind}
 use Rattle.stations.proofs.Lawful.{site_is}
 use Rattle.stations.proofs.GoodLaws.{lawful-stations}
 use Rattle.sim_base.specs.Marked.{JoinsMarks}
-use Rattle.run_laws.specs.Copies.{Ends, laid_aside}
+use Rattle.run_laws.specs.Copies.{Ends, sends_aside}
 use Rattle.run_laws.proofs.Ends.{ends_done, ends_over, ends_handle, ends_same, ends_split}
 use Rattle.phys_proc.proofs.Counting.{few_more, few_apart, shared_more, shared_apart, alone-append}
 use Rattle.std.proofs.Math.Nat.{add-mul}
 use Rattle.phys_proc.specs.Own.{StationCopy, Marked, handled_alone, may_handle, takes_at, IsCopy}
-use Rattle.phys_proc.specs.Own.{IsSame, NextDue, NothingDue, IsHandled, Advanced, Onward, half}
+use Rattle.phys_proc.specs.Own.{IsSameToClones, NextDue, NothingDue, IsHandled, IsAdvance, Onward, half}
 use Rattle.phys_proc.proofs.Parted.{copy_same, narrowed_same, copy_half, narrowed_half}
 
 -- the union of two sets has the clones of both
@@ -67,7 +67,8 @@ longer_log net s copy new before after m k q p h = ap (λ (u : StationCopy). len
     ∙ length-append copy.log _
 
 module _ (net : Net) (s : ℕ) (ends : ℕ → ℕ) (bound : ℕ) where
-  -- what comes of a copy of the station at the bound, and what it sends, who goes over and what it gains
+  -- the end of a copy of the station at the bound: the copies that it becomes, what it sends, who goes over and what
+  -- it gains
   abbrev pub Comes : StationCopy → List StationCopy → Marked → Marked → CloneSet → CloneSet → ℕ → Type 0
   Comes = Ends (simulation net) has ends s bound
 
@@ -94,7 +95,7 @@ module _ (net : Net) (s : ℕ) (ends : ℕ → ℕ) (bound : ℕ) where
 
   -- messages were passed over
   abbrev pub onward_same : (first copy new : StationCopy) (start sent : Marked) (steps0 steps : ℕ)
-      → On first copy start sent steps0 steps → IsSame ends copy new → On first new start sent steps0 steps
+      → On first copy start sent steps0 steps → IsSameToClones ends copy new → On first new start sent steps0 steps
   onward_same first copy new start sent steps0 steps o h = record {
     fits = copy_same ends net s copy new o.fits h;
     set = h.set ∙ o.set;
@@ -153,7 +154,7 @@ module _ (net : Net) (s : ℕ) (ends : ℕ → ℕ) (bound : ℕ) where
               (ends_handle (lawful-stations net o.fits.valid) sets_join ends s bound new m d.marks d.rest sent results
               last over over_after n n0.fits.inhabited (good_state net s new n0.fits) room d.pending
               n0.fits.sorted (all_take e) d.early
-              (subst (λ u. Comes u results (sent ++ laid_aside (simulation net) s new m) last over over_after n) x.0
+              (subst (λ u. Comes u results (sent ++ sends_aside (simulation net) s new m) last over over_after n) x.0
               (subst (λ u. Comes next results u last over over_after n) x.1 h))));
         }
       where
@@ -224,7 +225,7 @@ module _ (net : Net) (s : ℕ) (ends : ℕ → ℕ) (bound : ℕ) where
     -- where all clones take the message and the log is full, all clones of the first copy go over
     pub answer_over : (done0 done1 : List StationCopy) (over0 over1 over2 : CloneSet) → done1 ≡ done0 → over1 ≡ over0
         → takers ≡ new.set → net.limit ≤ length new.log → over2 ≡ union over1 new.set →
-        Advanced net s ends bound first done0 done1 start sent over0 over2 steps0 steps
+        IsAdvance net s ends bound first done0 done1 start sent over0 over2 steps0 steps
     answer_over done0 done1 over0 over1 over2 done over e full is = record {
       results = [];
       gained = 0 + o.taken;
@@ -243,13 +244,13 @@ module _ (net : Net) (s : ℕ) (ends : ℕ → ℕ) (bound : ℕ) where
         no_union a c i e = false≢true (sym (has-empty c)
             ∙ (ap (λ k. has k c) (sym e) ∙ (has-union a new.set c ∙ or_true (has a c) (has new.set c) i)))
 
-    -- where some clones take the message and some do not, what comes of both halves comes of the first copy
+    -- where some clones take the message and some do not, the ends of both halves are together an end of the first copy
     pub answer_apart : (done0 done1 done2 done3 : List StationCopy) (mid after : Marked)
         (over0 over1 over2 over3 : CloneSet) (steps1 steps2 : ℕ) → done1 ≡ done0 → over1 ≡ over0 →
-        Advanced net s ends bound (half new takers) done1 done2 sent mid over1 over2 steps steps1
-        → Advanced net s ends bound (half new (minus new.set takers)) done2 done3 mid after over2 over3 steps1
+        IsAdvance net s ends bound (half new takers) done1 done2 sent mid over1 over2 steps steps1
+        → IsAdvance net s ends bound (half new (minus new.set takers)) done2 done3 mid after over2 over3 steps1
         steps2 →
-        Advanced net s ends bound first done0 done3 start after over0 over3 steps0 steps2
+        IsAdvance net s ends bound first done0 done3 start after over0 over3 steps0 steps2
     answer_apart done0 done1 done2 done3 mid after over0 over1 over2 over3 steps1 steps2 done over a b = record {
       results = a.results ++ b.results;
       gained = (a.gained + b.gained) + o.taken;
@@ -322,12 +323,12 @@ module _ (net : Net) (s : ℕ) (ends : ℕ → ℕ) (bound : ℕ) where
         n.fits,
       )
 
-  -- where nothing is due, the copy as it is comes of the first copy
+  -- where nothing is due, the copy as it is is the end of the first copy
   pub answer_rest : (first copy new : StationCopy) (start sent : Marked) (steps0 steps : ℕ)
       (o : On first copy start sent steps0 steps) (d : NothingDue ends bound copy new)
       (done0 done1 done2 : List StationCopy) (over0 over1 : CloneSet) →
       done1 ≡ done0 → over1 ≡ over0 → done2 ≡ done1 ++ new ∷ []
-      → Advanced net s ends bound first done0 done2 start sent over0 over1 steps0 steps
+      → IsAdvance net s ends bound first done0 done2 start sent over0 over1 steps0 steps
   answer_rest first copy new start sent steps0 steps o d done0 done1 done2 over0 over1 done over is =
       let x = came_to_rest first copy new start sent steps0 steps o d over0 in record {
         results = new ∷ [];
@@ -358,10 +359,10 @@ module _ (net : Net) (s : ℕ) (ends : ℕ → ℕ) (bound : ℕ) where
     first_some = subst (λ k. 0 < size k) o.set
         (size_some copy.set (some_set copy.set o.fits.inhabited.0 o.fits.inhabited.1))
 
-    -- what comes of the copy from here on comes of the first
+    -- the end of the copy from here on is an end of the first
     pub answer_on : (done0 done1 : List StationCopy) (after : Marked) (over0 over1 : CloneSet) (steps1 : ℕ)
-        → Advanced net s ends bound copy done0 done1 sent after over0 over1 steps steps1
-        → Advanced net s ends bound first done0 done1 start after over0 over1 steps0 steps1
+        → IsAdvance net s ends bound copy done0 done1 sent after over0 over1 steps steps1
+        → IsAdvance net s ends bound first done0 done1 start after over0 over1 steps0 steps1
     answer_on done0 done1 after over0 over1 steps1 a = record {
       results = a.results;
       gained = a.gained + o.taken;

@@ -7,9 +7,9 @@ use Rattle.std.specs.declared.cmp.Ordering.TheVariants.{Less}
 use Rattle.sim_base.specs.Order.{msg_cmp}
 use Rattle.sim_base.specs.Pending.{cut_by, first_time, first_marks}
 use Rattle.sim_base.specs.declared.message.Msg.{Msg}
-use Rattle.clone_sets.specs.Sets.{has, met, empty}
+use Rattle.clone_sets.specs.Sets.{has, common, empty}
 use Rattle.clone_sets.specs.declared.set.CloneSet.{CloneSet}
-use Rattle.clone_sets.proofs.SetLaws.{met_none, met_some, met_is}
+use Rattle.clone_sets.proofs.SetLaws.{common_none, common_some, common_is}
 use Rattle.net_model.specs.Net.{Net}
 use Rattle.stations.specs.Runs.{simulation}
 use Rattle.sim_base.specs.Marked.{SortedMarked}
@@ -21,23 +21,23 @@ use Rattle.phys_proc.specs.Gone.{ends_in, is_gone}
 use Rattle.phys_proc.proofs.Gone.{gone_is, not_gone}
 use Rattle.std.proofs.lemmas.Bool.{false≢true}
 use Rattle.phys_proc.specs.Own.{StationCopy, Marked, AreMarks, takes_at, taken_at}
-use Rattle.phys_proc.specs.Own.{IsCopy, IsSame, NextDue, NothingDue, half}
+use Rattle.phys_proc.specs.Own.{IsCopy, IsSameToClones, NextDue, NothingDue, half}
 
 -- what a pair leaves in a cut, and what of it a clone of the cut takes
 module _ (by : CloneSet) where
   abbrev cut : Marked → Marked
-  cut xs = cut_by met by xs
+  cut xs = cut_by common by xs
 
   -- the rest, with the message before it where marks are left to it
   abbrev pub kept_of : Option CloneSet → Msg → Marked → Marked
   kept_of o m rest = cons_option (option_map (λ k. (m, k)) o) rest
 
   module _ (ends : ℕ → ℕ) (c : ℕ) (in_by : has by c ≡ true) where
-    taken_one : (o : Option CloneSet) (x : Msg × CloneSet) (xs rest : Marked) → met x.1 by ≡ o
+    taken_one : (o : Option CloneSet) (x : Msg × CloneSet) (xs rest : Marked) → common x.1 by ≡ o
         → taken_at ends c rest ≡ taken_at ends c xs → taken_at ends c (kept_of o x.0 rest) ≡ taken_at ends c (x ∷ xs)
     taken_one None x xs rest e h =
         let no : has x.1 c ≡ false = and_true (has x.1 c) (ap (λ b. has x.1 c && b) (sym in_by)
-        ∙ met_none x.1 by e c) in
+        ∙ common_none x.1 by e c) in
         h ∙ sym (part_no (takes_at ends) c x xs (ap (λ b. b && nat_lt x.0.key.time (ends c)) no))
       where
         and_true : (b : Bool) → (b && true) ≡ false → b ≡ false
@@ -45,7 +45,7 @@ module _ (by : CloneSet) where
         and_true false f = refl
     taken_one (Some k) x xs rest e h =
         let same : has k c ≡ has x.1 c =
-        met_some x.1 by k e c ∙ (ap (λ b. has x.1 c && b) in_by ∙ with_true (has x.1 c)) in
+        common_some x.1 by k e c ∙ (ap (λ b. has x.1 c && b) in_by ∙ with_true (has x.1 c)) in
         ap (λ b. cond (b && nat_lt x.0.key.time (ends c)) (x.0 ∷ taken_at ends c rest) (taken_at ends c rest)) same
         ∙ ap (λ l. cond (takes_at ends x.0 x.1 c) (x.0 ∷ l) l) h
       where
@@ -56,7 +56,7 @@ module _ (by : CloneSet) where
     -- a clone of the cut takes what it took
     pub taken_cut : (xs : Marked) → taken_at ends c (cut xs) ≡ taken_at ends c xs
     taken_cut [] = refl
-    taken_cut (x ∷ xs) = taken_one (met x.1 by) x xs (cut xs) refl (taken_cut xs)
+    taken_cut (x ∷ xs) = taken_one (common x.1 by) x xs (cut xs) refl (taken_cut xs)
 
   all_kept : (P : Msg → Type 0) (o : Option CloneSet) (m : Msg) (rest : Marked) → P m
       → AllByRecursion (λ x. P x.0) rest → AllByRecursion (λ x. P x.0) (kept_of o m rest)
@@ -66,16 +66,16 @@ module _ (by : CloneSet) where
   -- what holds of all messages holds of those of the cut
   pub all_cut : (P : Msg → Type 0) (xs : Marked) → AllByRecursion (λ x. P x.0) xs → AllByRecursion (λ x. P x.0) (cut xs)
   all_cut P [] f = tt
-  all_cut P (x ∷ xs) f = all_kept P (met x.1 by) x.0 (cut xs) f.0 (all_cut P xs f.1)
+  all_cut P (x ∷ xs) f = all_kept P (common x.1 by) x.0 (cut xs) f.0 (all_cut P xs f.1)
 
-  marks_kept : (o : Option CloneSet) (x : Msg × CloneSet) (rest : Marked) → met x.1 by ≡ o
+  marks_kept : (o : Option CloneSet) (x : Msg × CloneSet) (rest : Marked) → common x.1 by ≡ o
       → AllByRecursion (λ y. AreMarks by y.1) rest → AllByRecursion (λ y. AreMarks by y.1) (kept_of o x.0 rest)
   marks_kept None x rest e f = f
   marks_kept (Some k) x rest e f = (
     record {
-      some = (met_is x.1 by k e).1;
+      some = (common_is x.1 by k e).1;
       within = λ c i. and_second (has x.1 c) (has by c)
-          (sym (met_some x.1 by k e c) ∙ i);
+          (sym (common_some x.1 by k e c) ∙ i);
     },
     f,
   )
@@ -87,7 +87,7 @@ module _ (by : CloneSet) where
   -- marks in a cut are some of the clones that it is for
   pub marks_cut : (xs : Marked) → AllByRecursion (λ y. AreMarks by y.1) (cut xs)
   marks_cut [] = tt
-  marks_cut (x ∷ xs) = marks_kept (met x.1 by) x (cut xs) refl (marks_cut xs)
+  marks_cut (x ∷ xs) = marks_kept (common x.1 by) x (cut xs) refl (marks_cut xs)
 
   sorted_kept : (o : Option CloneSet) (m : Msg) (rest : Marked) → AllByRecursion (λ x. msg_cmp m x.0 ≡ Less) rest
       → SortedMarked msg_cmp rest → SortedMarked msg_cmp (kept_of o m rest)
@@ -97,7 +97,7 @@ module _ (by : CloneSet) where
   -- and their order stays
   pub sorted_cut : (xs : Marked) → SortedMarked msg_cmp xs → SortedMarked msg_cmp (cut xs)
   sorted_cut [] s = tt
-  sorted_cut (x ∷ xs) s = sorted_kept (met x.1 by) x.0 (cut xs) (all_cut (λ z. msg_cmp x.0 z ≡ Less) xs s.0)
+  sorted_cut (x ∷ xs) s = sorted_kept (common x.1 by) x.0 (cut xs) (all_cut (λ z. msg_cmp x.0 z ≡ Less) xs s.0)
       (sorted_cut xs s.1)
 
 -- a list in order stays so without its first ones
@@ -166,7 +166,7 @@ module _ (ends : ℕ → ℕ) where
   )
 
   -- where the first message that is left comes at the bound or later, nothing is due
-  pub nothing_late : (bound : ℕ) (a b : StationCopy) (m : Msg) (k : CloneSet) → IsSame ends a b
+  pub nothing_late : (bound : ℕ) (a b : StationCopy) (m : Msg) (k : CloneSet) → IsSameToClones ends a b
       → SortedMarked msg_cmp a.pending → Some (m, k) ≡ slice_get b.pending 0 → bound ≤ m.key.time
       → NothingDue ends bound a b
   nothing_late bound a b m k h sorted first late =
@@ -181,7 +181,7 @@ module _ (ends : ℕ → ℕ) where
       }
 
   -- and nothing is due where no message is left
-  pub nothing_left : (bound : ℕ) (a b : StationCopy) → IsSame ends a b → None ≡ slice_get b.pending 0
+  pub nothing_left : (bound : ℕ) (a b : StationCopy) → IsSameToClones ends a b → None ≡ slice_get b.pending 0
       → NothingDue ends bound a b
   nothing_left bound a b h none =
       record {
@@ -191,13 +191,13 @@ module _ (ends : ℕ → ℕ) where
       }
 
   -- nothing was passed over yet
-  pub same_none : (a : StationCopy) → IsSame ends a a
+  pub same_none : (a : StationCopy) → IsSameToClones ends a a
   same_none a = record { set = refl; state = refl; log = refl; parts = λ c h. refl; passed = []; pending = refl }
 
   -- one message more
-  pub same_more : (a b d : StationCopy) (m : Msg) (k : CloneSet) → IsSame ends a b → b.pending ≡ (m, k) ∷ d.pending
-      → d.set ≡ b.set → d.state ≡ b.state → d.log ≡ b.log
-      → ((c : ℕ) → has a.set c ≡ true → takes_at ends m k c ≡ false) → IsSame ends a d
+  pub same_more : (a b d : StationCopy) (m : Msg) (k : CloneSet) → IsSameToClones ends a b
+      → b.pending ≡ (m, k) ∷ d.pending → d.set ≡ b.set → d.state ≡ b.state → d.log ≡ b.log
+      → ((c : ℕ) → has a.set c ≡ true → takes_at ends m k c ≡ false) → IsSameToClones ends a d
   same_more a b d m k h p set state log none = record {
     set = set ∙ h.set;
     state = state ∙ h.state;
@@ -209,7 +209,7 @@ module _ (ends : ℕ → ℕ) where
 
   module _ (net : Net) (s : ℕ) where
     -- it is a copy like the first
-    pub copy_same : (a b : StationCopy) → IsCopy net s a → IsSame ends a b → IsCopy net s b
+    pub copy_same : (a b : StationCopy) → IsCopy net s a → IsSameToClones ends a b → IsCopy net s b
     copy_same a b f h = record {
       valid = f.valid;
       inhabited = (f.inhabited.0, subst (λ k. has k f.inhabited.0 ≡ true) (sym h.set) f.inhabited.1);
@@ -228,7 +228,7 @@ module _ (ends : ℕ → ℕ) where
     }
 
     -- and its clones see what they saw
-    pub narrowed_same : (a b : StationCopy) → IsSame ends a b → Narrowed (simulation net) has ends a b
+    pub narrowed_same : (a b : StationCopy) → IsSameToClones ends a b → Narrowed (simulation net) has ends a b
     narrowed_same a b h = record {
       state = h.state;
       log = h.log;
@@ -265,7 +265,7 @@ module _ (ends : ℕ → ℕ) where
 
 -- who takes the least message
 module _ (horizon : ℕ) (es : List (ℕ × ℕ)) (bound : ℕ) (early : bound ≤ horizon) (a b : StationCopy) (m : Msg)
-    (k takers shared gone : CloneSet) (same : IsSame (ends_in horizon es) a b)
+    (k takers shared gone : CloneSet) (same : IsSameToClones (ends_in horizon es) a b)
     (meets : (c : ℕ) → has shared c ≡ (has b.set c && has k c)) (left : (c : ℕ)
     → has takers c ≡ (has shared c && not (has gone c))) (went : (c : ℕ) → has gone c ≡ is_gone m.key.time es c)
     (soon : m.key.time < bound) where

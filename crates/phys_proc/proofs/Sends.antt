@@ -1,48 +1,18 @@
 -- What a station sends, message by message.
-use Rattle.std.proofs.Common.{◌≡◌, ◌⊎◌, ℕ, not, ◌||◌, Bool, true, false, cond, List, []}
-use Rattle.std.proofs.Common.{◌∷◌, ◌++◌, inl, inr, refl, sym, ap, ◌∙◌, append_assoc, eq-eqb, map}
+use Rattle.std.proofs.Common.{◌≡◌, ℕ, ◌||◌, Bool, true, false, List, [], ◌∷◌, inl, inr, refl, sym, ap, ◌∙◌}
 use Rattle.std.specs.List.{AllByRecursion}
 use Rattle.std.specs.declared.cmp.Ordering.{Ordering}
 use Rattle.std.specs.declared.cmp.Ordering.TheVariants.{Less, Equal, Greater}
-use Rattle.std.proofs.lemmas.Bool.{ne_eqb, false≢true}
+use Rattle.std.proofs.lemmas.Bool.{false≢true}
 use Rattle.sim_base.specs.Order.{msg_cmp}
 use Rattle.sim_base.specs.Pending.{place_marked, insert_marked}
 use Rattle.sim_base.specs.declared.message.Msg.{Msg}
 use Rattle.clone_sets.specs.Sets.{has, union}
 use Rattle.clone_sets.proofs.SetLaws.{has-union, has-empty, empty_from_none}
 use Rattle.clone_sets.specs.declared.set.CloneSet.{CloneSet}
-use Rattle.run_laws.specs.World.{to_it}
-use Rattle.run_laws.specs.Window.{to_others}
 use Rattle.run_laws.specs.Copies.{insert_marked_all}
-use Rattle.phys_proc.specs.Own.{Marked, AreMarks, kept_on, sent_on}
-
-module _ (s : ℕ) (set : CloneSet) where
-  -- a message to itself becomes pending
-  pub kept_own : (m : Msg) (ms : List Msg) (q : Marked) → m.to ≡ s
-      → kept_on s set (m ∷ ms) q ≡ kept_on s set ms (insert_marked union msg_cmp m set q)
-  kept_own m ms q e = ap (λ b. insert_marked_all union msg_cmp
-      (cond b (m ∷ to_it (λ (m : Msg). m.to) s ms) (to_it (λ (m : Msg). m.to) s ms)) set q) (eq-eqb m.to s e)
-
-  -- and is not laid aside
-  pub sent_own : (m : Msg) (ms : List Msg) (sent : Marked) → m.to ≡ s
-      → sent_on s set (m ∷ ms) sent ≡ sent_on s set ms sent
-  sent_own m ms sent e = ap (λ b. sent ++ map (λ x. (x, set))
-      (cond (not b) (m ∷ to_others (λ (m : Msg). m.to) s ms) (to_others (λ (m : Msg). m.to) s ms))) (eq-eqb m.to s e)
-
-  -- a message to another does not become pending
-  pub kept_other : (m : Msg) (ms : List Msg) (q : Marked) → (m.to ≡ s → ⊥)
-      → kept_on s set (m ∷ ms) q ≡ kept_on s set ms q
-  kept_other m ms q n = ap (λ b. insert_marked_all union msg_cmp
-      (cond b (m ∷ to_it (λ (m : Msg). m.to) s ms) (to_it (λ (m : Msg). m.to) s ms)) set q) (ne_eqb m.to s n)
-
-  -- but is laid aside
-  pub sent_other : (m : Msg) (ms : List Msg) (sent : Marked) → (m.to ≡ s → ⊥)
-      → sent_on s set (m ∷ ms) sent ≡ sent_on s set ms (sent ++ (m, set) ∷ [])
-  sent_other m ms sent n =
-      ap (λ b. sent ++ map (λ x. (x, set))
-      (cond (not b) (m ∷ to_others (λ (m : Msg). m.to) s ms) (to_others (λ (m : Msg). m.to) s ms)))
-      (ne_eqb m.to s n)
-      ∙ sym (append_assoc sent ((m, set) ∷ []) (map (λ x. (x, set)) (to_others (λ (m : Msg). m.to) s ms)))
+use Rattle.run_laws.proofs.Bools.{or_cases}
+use Rattle.phys_proc.specs.Own.{Marked, AreMarks}
 
 module _ (P : Msg → Type 0) (set : CloneSet) where
   all_placed : (r : Ordering) (m : Msg) (y : Msg × CloneSet) (ys rest : Marked) → P m
@@ -88,10 +58,6 @@ module _ (P : CloneSet → Type 0) (joined : (a b : CloneSet) → P a → P b �
       → AllByRecursion (λ x. P x.1) (insert_marked_all union msg_cmp ms set q)
   marks_inserted_all [] q f = f
   marks_inserted_all (m ∷ ms) q f = marks_inserted_all ms (insert_marked union msg_cmp m set q) (marks_inserted m q f)
-
-or_cases : (a b : Bool) → (a || b) ≡ true → (a ≡ true) ⊎ (b ≡ true)
-or_cases true b e = inl refl
-or_cases false b e = inr e
 
 -- marks of a copy that are joined are marks of it
 pub marks_join : (set a b : CloneSet) → AreMarks set a → AreMarks set b → AreMarks set (union a b)

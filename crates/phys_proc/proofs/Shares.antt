@@ -125,7 +125,7 @@ pub sizes_are : (living : CloneSet) (copies : List StationCopy) → AreShared li
     → all_sizes copies ≡ size living
 sizes_are living copies h = size_all copies h.disjoint ∙ ap size h.together
 
--- a copy that a step comes to may handle what the counter has place for
+-- what was handled, and what the next copy may handle, do not overflow the counter
 pub few_next : (limit h : ℕ) (ys zs : List StationCopy) (x : StationCopy) → all_sizes (ys ++ x ∷ zs) ≤ 256
     → limit ≤ 65536 → h ≤ all_sizes ys * limit → h + may_handle limit x ≤ 2 ^ 32
 few_next limit h ys zs x l k f =

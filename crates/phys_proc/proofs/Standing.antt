@@ -1,4 +1,4 @@
--- Copies that are stepped where they stand, and what comes of those that are taken out.
+-- Copies that are stepped where they stand, and the copies that those become which are taken out.
 use Rattle.std.proofs.Common.{◌≡◌, ℕ, zero, suc, ◌+◌, ◌^◌, ◌<◌, ◌≤◌, List, [], ◌∷◌, ◌++◌, inl, inr, refl, sym, ap}
 use Rattle.std.proofs.Common.{ap₂, ◌∙◌, subst, arith, append_assoc, append-nil, take, drop, length, get_or, slice_set}
 use Rattle.std.specs.List.{AllByRecursion, remove}
@@ -15,7 +15,7 @@ use Rattle.run_laws.specs.Copies.{Disjoint, Carries}
 use Rattle.run_laws.proofs.Queue.{all_in, all_from}
 use Rattle.run_laws.proofs.Lists.{in_append, append_old, append_new}
 use Rattle.run_laws.proofs.Ends.{disjoint_append}
-use Rattle.phys_proc.specs.Own.{StationCopy, Marked, IsCopy, Advanced, Onward, Stepping, NothingDue, IsLate}
+use Rattle.phys_proc.specs.Own.{StationCopy, Marked, IsCopy, IsAdvance, Onward, IsStepResult, NothingDue, IsLate}
 use Rattle.phys_proc.specs.Own.{all_sizes, may_handle}
 use Rattle.phys_proc.proofs.Counting.{alone-append}
 use Rattle.phys_proc.proofs.Shares.{few_next}
@@ -134,8 +134,8 @@ disjoint_turned a m b d =
 module _ (net : Net) (s : ℕ) (ends : ℕ → ℕ) (bound : ℕ) where
   -- nothing that a step says depends on the order of what is done
   stepping_turned : (old a m b : List StationCopy) (sent : Marked) (over : CloneSet) (steps0 steps : ℕ)
-      → Stepping net s ends bound old ((a ++ m) ++ b) sent over steps0 steps
-      → Stepping net s ends bound old ((a ++ b) ++ m) sent over steps0 steps
+      → IsStepResult net s ends bound old ((a ++ m) ++ b) sent over steps0 steps
+      → IsStepResult net s ends bound old ((a ++ b) ++ m) sent over steps0 steps
   stepping_turned old a m b sent over steps0 steps f =
       let back : (z : StationCopy) → In z ((a ++ b) ++ m) → In z ((a ++ m) ++ b) = turned_in a m b in
       let far = f.far in
@@ -172,8 +172,8 @@ module _ (net : Net) (s : ℕ) (ends : ℕ → ℕ) (bound : ℕ) where
   -- copies that were done before stay
   advanced_behind : (front : List StationCopy) (r : StationCopy) (done0 done1 : List StationCopy) (sent0 sent1 : Marked)
       (over0 over1 : CloneSet) (steps0 steps1 : ℕ)
-      → Advanced net s ends bound r done0 done1 sent0 sent1 over0 over1 steps0 steps1
-      → Advanced net s ends bound r (front ++ done0) (front ++ done1) sent0 sent1 over0 over1 steps0 steps1
+      → IsAdvance net s ends bound r done0 done1 sent0 sent1 over0 over1 steps0 steps1
+      → IsAdvance net s ends bound r (front ++ done0) (front ++ done1) sent0 sent1 over0 over1 steps0 steps1
   advanced_behind front r done0 done1 sent0 sent1 over0 over1 steps0 steps1 a = record {
     results = a.results;
     gained = a.gained;
@@ -192,7 +192,7 @@ pub record Standing (net : Net) (s : ℕ) (ends : ℕ → ℕ) (bound : ℕ) (al
     (cs more : List StationCopy) (sent : Marked) (over : CloneSet) (steps0 steps : ℕ) : Type 0 where
   pub passed : List StationCopy
   pub whole : all ≡ passed ++ drop i cs
-  pub far : Stepping net s ends bound passed (take i cs ++ more) sent over steps0 steps
+  pub far : IsStepResult net s ends bound passed (take i cs ++ more) sent over steps0 steps
 
 module _ (net : Net) (valid : IsNet net) (s : ℕ) (ends : ℕ → ℕ) (bound : ℕ) where
   -- at first none is done
@@ -201,9 +201,9 @@ module _ (net : Net) (valid : IsNet net) (s : ℕ) (ends : ℕ → ℕ) (bound :
   standing_start all more sent over steps e f g = record {
     passed = [];
     whole = refl;
-    far = subst (λ k. Stepping net s ends bound [] k sent over steps steps) (sym e)
-        (subst (λ k. Stepping net s ends bound [] [] k over steps steps) (sym f)
-        (subst (λ k. Stepping net s ends bound [] [] [] k steps steps) (sym g)
+    far = subst (λ k. IsStepResult net s ends bound [] k sent over steps steps) (sym e)
+        (subst (λ k. IsStepResult net s ends bound [] [] k over steps steps) (sym f)
+        (subst (λ k. IsStepResult net s ends bound [] [] [] k steps steps) (sym g)
         (stepping_start net valid s ends bound steps)));
   }
 
@@ -248,10 +248,10 @@ module _ (net : Net) (valid : IsNet net) (s : ℕ) (ends : ℕ → ℕ) (bound :
           passed = h.passed ++ x ∷ [];
           whole = next_whole
               ∙ ap (λ k. (h.passed ++ x ∷ []) ++ k) (sym (ap (drop (i + 1)) e ∙ behind_set cs i y));
-          far = subst (λ k. Stepping net s ends bound (h.passed ++ x ∷ []) k next over1 steps0 steps1)
+          far = subst (λ k. IsStepResult net s ends bound (h.passed ++ x ∷ []) k next over1 steps0 steps1)
               (ap₂ (λ a m. a ++ m) (sym (ap (take (i + 1)) e ∙ take_more_set cs i y there)) (sym f))
-              (subst (λ k. Stepping net s ends bound (h.passed ++ x ∷ []) ((take i cs ++ y ∷ []) ++ more) next k steps0
-              steps1) (sym g) st);
+              (subst (λ k. IsStepResult net s ends bound (h.passed ++ x ∷ []) ((take i cs ++ y ∷ []) ++ more) next k
+              steps0 steps1) (sym g) st);
         }
 
     -- nothing of it is pending before the bound, so it stays as it is
@@ -261,15 +261,15 @@ module _ (net : Net) (valid : IsNet net) (s : ℕ) (ends : ℕ → ℕ) (bound :
         (onward_start net s ends bound x sent steps fits) (idle_here ends bound x x late) (kept_there cs i x is) refl
         refl
 
-    -- it is taken out, and what comes of it is put with the others
+    -- it is taken out, and the copies that it becomes are put with the others
     pub standing_out : Disjoint has all → (y : StationCopy) (after more1 more2 : List StationCopy) (mid next : Marked)
         (over1 over2 : CloneSet) (steps1 steps2 : ℕ) → Onward net s ends bound x y sent mid steps steps1
-        → Advanced net s ends bound y more1 more2 mid next over1 over2 steps1 steps2
+        → IsAdvance net s ends bound y more1 more2 mid next over1 over2 steps1 steps2
         → after ≡ remove (slice_set cs i y) i → more1 ≡ more → over1 ≡ over
         → Standing net s ends bound all i after more2 next over2 steps0 steps2
     standing_out dis y after more1 more2 mid next over1 over2 steps1 steps2 o a e f g =
-        let a0 = subst (λ k. Advanced net s ends bound y k more2 mid next over over2 steps1 steps2) f
-        (subst (λ k. Advanced net s ends bound y more1 more2 mid next k over2 steps1 steps2) g a) in
+        let a0 = subst (λ k. IsAdvance net s ends bound y k more2 mid next over over2 steps1 steps2) f
+        (subst (λ k. IsAdvance net s ends bound y more1 more2 mid next k over2 steps1 steps2) g a) in
         let a1 = answer_on net s ends bound x y sent mid steps steps1 o more more2 next over over2 steps2 a0 in
         let a2 = advanced_behind net s ends bound (take i cs) x more more2 sent next over over2 steps steps2 a1 in
         let st = stepping_more net valid s ends bound h.passed left x (take i cs ++ more) (take i cs ++ more2) sent next
@@ -278,15 +278,15 @@ module _ (net : Net) (valid : IsNet net) (s : ℕ) (ends : ℕ → ℕ) (bound :
           passed = h.passed ++ x ∷ [];
           whole = next_whole
               ∙ ap (λ k. (h.passed ++ x ∷ []) ++ k) (sym (without_drop cs after i y there e));
-          far = subst (λ k. Stepping net s ends bound (h.passed ++ x ∷ []) (k ++ more2) next over2 steps0 steps2)
+          far = subst (λ k. IsStepResult net s ends bound (h.passed ++ x ∷ []) (k ++ more2) next over2 steps0 steps2)
               (sym (without_take cs after i y there e)) st;
         }
 
   -- all are done
   pub standing_end : (all cs more : List StationCopy) (i : ℕ) (sent : Marked) (over : CloneSet) (steps0 steps : ℕ)
       → Standing net s ends bound all i cs more sent over steps0 steps → length cs ≤ i
-      → Stepping net s ends bound all (cs ++ more) sent over steps0 steps
+      → IsStepResult net s ends bound all (cs ++ more) sent over steps0 steps
   standing_end all cs more i sent over steps0 steps h end =
-      subst (λ k. Stepping net s ends bound k (cs ++ more) sent over steps0 steps)
+      subst (λ k. IsStepResult net s ends bound k (cs ++ more) sent over steps0 steps)
       (sym (h.whole ∙ ap (λ k. h.passed ++ k) (drop_of_length-le cs {i = i} end) ∙ append-nil h.passed))
-      (subst (λ k. Stepping net s ends bound h.passed (k ++ more) sent over steps0 steps) (take_all i cs end) h.far)
+      (subst (λ k. IsStepResult net s ends bound h.passed (k ++ more) sent over steps0 steps) (take_all i cs end) h.far)

@@ -2,7 +2,6 @@
 use Rattle.std.proofs.Common.{◌≡◌, ◌≢◌, ◌⊎◌, ℕ, zero, suc, ◌+◌, ◌<◌, ◌≤◌, ◌&&◌, not, min, Bool}
 use Rattle.std.proofs.Common.{true, false, cond, List, [], ◌∷◌, ◌++◌, inl, inr, Option, Some, None, refl}
 use Rattle.std.proofs.Common.{sym, ap, ◌∙◌, subst, arith, nat_lt, eq-eqb, eqb-true, slice_get, take, length, get_or}
-use Rattle.std.specs.List.{AllByRecursion}
 use Rattle.std.specs.declared.cmp.Ordering.TheVariants.{Less}
 use Rattle.std.proofs.lemmas.Bool.{cases_Bool, lt-ltb, ltb-true, false≢true}
 use Rattle.sim_base.specs.Order.{msg_cmp}
@@ -10,13 +9,14 @@ use Rattle.sim_base.specs.Pending.{cut_by}
 use Rattle.sim_base.specs.Marked.{SortedMarked}
 use Rattle.sim_base.specs.declared.message.Msg.{Msg}
 use Rattle.sim_base.proofs.OrderEqual.{msg-timed}
-use Rattle.clone_sets.specs.Sets.{has, one, minus, met, empty, size}
+use Rattle.clone_sets.specs.Sets.{has, one, minus, common, empty, size}
 use Rattle.clone_sets.specs.declared.set.CloneSet.{CloneSet}
-use Rattle.clone_sets.proofs.SetLaws.{has-one, has-meet, has-empty, met_none, met_some, met_is}
+use Rattle.clone_sets.proofs.SetLaws.{has-one, has-meet, has-empty, common_none, common_some, common_is}
 use Rattle.clone_sets.proofs.SizeLaws.{minus_smaller}
 use Rattle.clone_sets.proofs.CountLaws.{set_has_clone}
 use Rattle.run_laws.specs.Queue.{In}
 use Rattle.run_laws.specs.Fronts.{earlier}
+use Rattle.run_laws.proofs.Bools.{and_cases}
 use Rattle.run_laws.proofs.Queue.{all_in}
 use Rattle.run_laws.proofs.Parts.{all_part_of}
 use Rattle.run_laws.proofs.Lists.{in_cons_if, cons_if_new, in_append, append_old, append_new}
@@ -25,10 +25,6 @@ use Rattle.phys_proc.specs.Procs.{IsTakenBy, IsLeastTime, IsLeastOf, IsLeast, Is
 use Rattle.phys_proc.specs.Gone.{ends_in, is_gone}
 use Rattle.phys_proc.proofs.Gone.{gone_is, ends_soon}
 use Rattle.phys_proc.proofs.Parted.{kept_of}
-
-both_true : (a b : Bool) → (a && b) ≡ true → (a ≡ true) × (b ≡ true)
-both_true true b e = (refl, e)
-both_true false b e = absurd (false≢true e)
 
 -- ---- what a clone takes
 
@@ -57,24 +53,24 @@ taken_has ends c (y ∷ ys) x (inr i) t = later (takes_at ends y.0 y.1 c) (taken
 pub record IsFirstWith (k : CloneSet) (q : Marked) (m : Msg) (j : CloneSet) : Type 0 where
   pub marks : CloneSet
   pub there : In (m, marks) q
-  pub meets : met marks k ≡ Some j
+  pub meets : common marks k ≡ Some j
   pub least : (c : ℕ) → has k c ≡ true → (x : Msg × CloneSet) → In x q → has x.1 c ≡ true → m.key.time ≤ x.0.key.time
 
 -- no message has marks of the set
 abbrev pub NoneWith : CloneSet → Marked → Type 0
 NoneWith k q = (c : ℕ) → has k c ≡ true → (x : Msg × CloneSet) → In x q → has x.1 c ≡ true → ⊥
 
-not_met : (k : CloneSet) (x : Msg × CloneSet) → met x.1 k ≡ None → (c : ℕ) → has k c ≡ true → has x.1 c ≡ true → ⊥
-not_met k x e c i j = false≢true (sym (met_none x.1 k e c) ∙ (ap (λ b. b && has k c) j ∙ i))
+not_met : (k : CloneSet) (x : Msg × CloneSet) → common x.1 k ≡ None → (c : ℕ) → has k c ≡ true → has x.1 c ≡ true → ⊥
+not_met k x e c i j = false≢true (sym (common_none x.1 k e c) ∙ (ap (λ b. b && has k c) j ∙ i))
 
 -- the first message of the cut by a set is the first whose marks meet the set
 pub first_with : (k : CloneSet) (q : Marked) (p : Msg × CloneSet) → SortedMarked msg_cmp q
-    → Some p ≡ slice_get (cut_by met k q) 0 → IsFirstWith k q p.0 p.1
+    → Some p ≡ slice_get (cut_by common k q) 0 → IsFirstWith k q p.0 p.1
 first_with k [] p s e = absurd (cc)
-first_with k (x ∷ xs) p s e = by_met (met x.1 k) refl e (λ f. first_with k xs p s.1 f)
+first_with k (x ∷ xs) p s e = by_met (common x.1 k) refl e (λ f. first_with k xs p s.1 f)
   where
-    by_met : (o : Option CloneSet) → met x.1 k ≡ o → Some p ≡ slice_get (kept_of k o x.0 (cut_by met k xs)) 0
-        → (Some p ≡ slice_get (cut_by met k xs) 0 → IsFirstWith k xs p.0 p.1) → IsFirstWith k (x ∷ xs) p.0 p.1
+    by_met : (o : Option CloneSet) → common x.1 k ≡ o → Some p ≡ slice_get (kept_of k o x.0 (cut_by common k xs)) 0
+        → (Some p ≡ slice_get (cut_by common k xs) 0 → IsFirstWith k xs p.0 p.1) → IsFirstWith k (x ∷ xs) p.0 p.1
     by_met None n f rest =
         let h = rest f in
         record {
@@ -100,12 +96,12 @@ first_with k (x ∷ xs) p s e = by_met (met x.1 k) refl e (λ f. first_with k xs
         })
 
 -- where the cut by a set is empty, no message has marks of the set
-pub none_with : (k : CloneSet) (q : Marked) → None ≡ slice_get (cut_by met k q) 0 → NoneWith k q
+pub none_with : (k : CloneSet) (q : Marked) → None ≡ slice_get (cut_by common k q) 0 → NoneWith k q
 none_with k [] e = λ c i x m t. m
-none_with k (x ∷ xs) e = by_met (met x.1 k) refl e (λ f. none_with k xs f)
+none_with k (x ∷ xs) e = by_met (common x.1 k) refl e (λ f. none_with k xs f)
   where
-    by_met : (o : Option CloneSet) → met x.1 k ≡ o → None ≡ slice_get (kept_of k o x.0 (cut_by met k xs)) 0
-        → (None ≡ slice_get (cut_by met k xs) 0 → NoneWith k xs) → NoneWith k (x ∷ xs)
+    by_met : (o : Option CloneSet) → common x.1 k ≡ o → None ≡ slice_get (kept_of k o x.0 (cut_by common k xs)) 0
+        → (None ≡ slice_get (cut_by common k xs) 0 → NoneWith k xs) → NoneWith k (x ∷ xs)
     by_met None n f rest = λ c i y m t.
         elim m [
           | inl d ↦ not_met k x n c i (subst (λ (u : Msg × CloneSet). has u.1 c ≡ true) d t)
@@ -117,13 +113,13 @@ none_with k (x ∷ xs) e = by_met (met x.1 k) refl e (λ f. none_with k xs f)
 
 -- it takes the first message that is marked with it, if that comes before its end
 pub least_one : (ends : ℕ → ℕ) (c end : ℕ) (q : Marked) (p : Msg × CloneSet) → end ≡ ends c → SortedMarked msg_cmp q
-    → Some p ≡ slice_get (cut_by met (one c) q) 0 → p.0.key.time < end
+    → Some p ≡ slice_get (cut_by common (one c) q) 0 → p.0.key.time < end
     → IsLeastTime (λ m. In m (taken_at ends c q)) (Some p.0.key.time)
 least_one ends c end q p e s first soon =
     let f = first_with (one c) q p s first in
-    let j = met_is f.marks (one c) p.1 f.meets in
+    let j = common_is f.marks (one c) p.1 f.meets in
     let d = set_has_clone p.1 j.1 in
-    let both = both_true (has f.marks d.0) (has (one c) d.0) (sym (met_some f.marks (one c) p.1 f.meets d.0) ∙ d.1) in
+    let both = and_cases (has f.marks d.0) (has (one c) d.0) (sym (common_some f.marks (one c) p.1 f.meets d.0) ∙ d.1) in
     let same : c ≡ d.0 = eqb-true c d.0 (sym (has-one c d.0) ∙ both.1) in
     let marked : has f.marks c ≡ true = subst (λ n. has f.marks n ≡ true) (sym same) both.0 in (
       (
@@ -134,27 +130,27 @@ least_one ends c end q p e s first soon =
       ),
       λ z i. let k = in_taken ends c q z i in
           f.least c (has-one c c ∙ eq-eqb c c refl) (z, k.0) k.1
-          (both_true (has k.0 c) (nat_lt z.key.time (ends c)) k.2).0,
+          (and_cases (has k.0 c) (nat_lt z.key.time (ends c)) k.2).0,
     )
 
 -- it takes nothing, if that comes at its end or later
 pub least_ended : (ends : ℕ → ℕ) (c end : ℕ) (q : Marked) (p : Msg × CloneSet) → end ≡ ends c → SortedMarked msg_cmp q
-    → Some p ≡ slice_get (cut_by met (one c) q) 0 → end ≤ p.0.key.time → (z : Msg) → ¬ (In z (taken_at ends c q))
+    → Some p ≡ slice_get (cut_by common (one c) q) 0 → end ≤ p.0.key.time → (z : Msg) → ¬ (In z (taken_at ends c q))
 least_ended ends c end q p e s first late z i =
     let f = first_with (one c) q p s first in
     let k = in_taken ends c q z i in
-    let t = both_true (has k.0 c) (nat_lt z.key.time (ends c)) k.2 in
+    let t = and_cases (has k.0 c) (nat_lt z.key.time (ends c)) k.2 in
     let l = f.least c (has-one c c ∙ eq-eqb c c refl) (z, k.0) k.1 t.0 in
     let b = ltb-true z.key.time (ends c) t.1 in
     absurd (omega (arith, l, b, late, e))
 
 -- nor does it where no message is marked with it
-pub least_unmarked : (ends : ℕ → ℕ) (c : ℕ) (q : Marked) → None ≡ slice_get (cut_by met (one c) q) 0 → (z : Msg)
+pub least_unmarked : (ends : ℕ → ℕ) (c : ℕ) (q : Marked) → None ≡ slice_get (cut_by common (one c) q) 0 → (z : Msg)
     → ¬ (In z (taken_at ends c q))
 least_unmarked ends c q none z i =
     let k = in_taken ends c q z i in
     none_with (one c) q none c (has-one c c ∙ eq-eqb c c refl) (z, k.0) k.1
-    (both_true (has k.0 c) (nat_lt z.key.time (ends c)) k.2).0
+    (and_cases (has k.0 c) (nat_lt z.key.time (ends c)) k.2).0
 
 -- the same, where something else holds besides
 pub least_beside : (A : Type 0) (P : Msg → Type 0) (t : Option ℕ) → A → IsLeastTime P t → IsLeastTime (λ m. A × P m) t
@@ -175,21 +171,21 @@ pub record OthersNone (ends : ℕ → ℕ) (set alive : CloneSet) (q : Marked) :
 module _ (horizon : ℕ) (es : List (ℕ × ℕ)) (set alive : CloneSet) (q : Marked)
     (h : OthersNone (ends_in horizon es) set alive q) (sorted : SortedMarked msg_cmp q) where
   -- none of them has a message
-  pub none_alive : None ≡ slice_get (cut_by met alive q) 0 → (m : Msg) → ¬ (AnyTakes (ends_in horizon es) set q m)
+  pub none_alive : None ≡ slice_get (cut_by common alive q) 0 → (m : Msg) → ¬ (AnyTakes (ends_in horizon es) set q m)
   none_alive none m t = elim (cases_Bool (has alive t.0)) [
     | inl y ↦ let k = in_taken (ends_in horizon es) t.0 q m t.2 in
         none_with alive q none t.0 y (m, k.0) k.1
-        (both_true (has k.0 t.0) (nat_lt m.key.time (ends_in horizon es t.0)) k.2).0
+        (and_cases (has k.0 t.0) (nat_lt m.key.time (ends_in horizon es t.0)) k.2).0
     | inr n ↦ h.none t.0 t.1 n m t.2
   ]
 
-  module _ (p : Msg × CloneSet) (first : Some p ≡ slice_get (cut_by met alive q) 0) where
+  module _ (p : Msg × CloneSet) (first : Some p ≡ slice_get (cut_by common alive q) 0) where
     at_least : (c : ℕ) (z : Msg) → has alive c ≡ true → In z (taken_at (ends_in horizon es) c q)
         → (p.0.key.time ≤ z.key.time) × (z.key.time < ends_in horizon es c)
     at_least c z y i =
         let f = first_with alive q p sorted first in
         let k = in_taken (ends_in horizon es) c q z i in
-        let t = both_true (has k.0 c) (nat_lt z.key.time (ends_in horizon es c)) k.2 in
+        let t = and_cases (has k.0 c) (nat_lt z.key.time (ends_in horizon es c)) k.2 in
         (f.least c y (z, k.0) k.1 t.0, ltb-true z.key.time (ends_in horizon es c) t.1)
 
     -- its time is not before the horizon: nothing is taken
@@ -207,7 +203,7 @@ module _ (horizon : ℕ) (es : List (ℕ × ℕ)) (set alive : CloneSet) (q : Ma
 
       shared_at : (c : ℕ) → has p.1 c ≡ true → has alive c ≡ true
       shared_at c i = let f = first_with alive q p sorted first in
-          (both_true (has f.marks c) (has alive c) (sym (met_some f.marks alive p.1 f.meets c) ∙ i)).1
+          (and_cases (has f.marks c) (has alive c) (sym (common_some f.marks alive p.1 f.meets c) ∙ i)).1
 
       not_not : (b : Bool) → not (not b) ≡ true → b ≡ true
       not_not true e = refl
@@ -218,8 +214,8 @@ module _ (horizon : ℕ) (es : List (ℕ × ℕ)) (set alive : CloneSet) (q : Ma
       some_takes some =
           let f = first_with alive q p sorted first in
           let c = set_has_clone takers some in
-          let t = both_true (has p.1 c.0) (not (has gone c.0)) (sym (left c.0) ∙ c.1) in
-          let marked = (both_true (has f.marks c.0) (has alive c.0) (sym (met_some f.marks alive p.1 f.meets c.0)
+          let t = and_cases (has p.1 c.0) (not (has gone c.0)) (sym (left c.0) ∙ c.1) in
+          let marked = (and_cases (has f.marks c.0) (has alive c.0) (sym (common_some f.marks alive p.1 f.meets c.0)
           ∙ t.0)).0 in
           let before : nat_lt p.0.key.time (ends_in horizon es c.0) ≡ true =
           not_not (nat_lt p.0.key.time (ends_in horizon es c.0)) (sym (ap not (gone_at c.0)) ∙ t.1) in (
@@ -243,7 +239,7 @@ module _ (horizon : ℕ) (es : List (ℕ × ℕ)) (set alive : CloneSet) (q : Ma
       pub others_more : takers ≡ empty → (rest : CloneSet) → ((c : ℕ) → has rest c ≡ (has alive c && not (has p.1 c)))
           → OthersNone (ends_in horizon es) set rest q
       others_more none rest is = record {
-        within = λ c i. h.within c (both_true (has alive c) (not (has p.1 c)) (sym (is c) ∙ i)).0;
+        within = λ c i. h.within c (and_cases (has alive c) (not (has p.1 c)) (sym (is c) ∙ i)).0;
         none = λ c i n m t. elim (cases_Bool (has alive c)) [
           | inl y ↦ (let k = at_least c m y t in let a = k.0 in let b = k.1 in
               let marked : has p.1 c ≡ true =
@@ -270,9 +266,9 @@ module _ (horizon : ℕ) (es : List (ℕ × ℕ)) (set alive : CloneSet) (q : Ma
     pub fewer_alive : size (minus alive p.1) < size alive
     fewer_alive =
         let f = first_with alive q p sorted first in
-        let j = met_is f.marks alive p.1 f.meets in
+        let j = common_is f.marks alive p.1 f.meets in
         let d = set_has_clone p.1 j.1 in
-        let both = both_true (has f.marks d.0) (has alive d.0) (sym (met_some f.marks alive p.1 f.meets d.0) ∙ d.1) in
+        let both = and_cases (has f.marks d.0) (has alive d.0) (sym (common_some f.marks alive p.1 f.meets d.0) ∙ d.1) in
         minus_smaller alive p.1 (λ e. false≢true
         (sym (has-empty d.0) ∙ (sym (ap (λ k. has k d.0) e)
         ∙ (has-meet alive p.1 d.0 ∙ (ap (λ b. b && has p.1 d.0) both.1 ∙ d.1)))))
@@ -310,8 +306,8 @@ module _ (ends : ℕ → ℕ) (xs all : List StationCopy) (x : StationCopy) (who
   is_there : In x all
   is_there = subst (In x) (sym whole) (append_new xs (x ∷ []) x (inl refl))
 
-  either : (a : StationCopy) → In a all → In a xs ⊎ (a ≡ x)
-  either a i = elim (in_append xs (x ∷ []) a (subst (In a) whole i)) [
+  in_all : (a : StationCopy) → In a all → In a xs ⊎ (a ≡ x)
+  in_all a i = elim (in_append xs (x ∷ []) a (subst (In a) whole i)) [
     | inl j ↦ inl j
     | inr j ↦ elim j [ inl e ↦ inr e | inr n ↦ absurd n ]
   ]
@@ -329,7 +325,7 @@ module _ (ends : ℕ → ℕ) (xs all : List StationCopy) (x : StationCopy) (who
 
   by_one_of : (c : ℕ) (m : Msg) → IsTakenBy ends all c m
       → IsTakenBy ends xs c m ⊎ ((has x.set c ≡ true) × In m (taken_at ends c x.pending))
-  by_one_of c m h = elim (either h.copy h.is_copy) [
+  by_one_of c m h = elim (in_all h.copy h.is_copy) [
     | inl i ↦ inl (record { copy = h.copy; is_copy = i; is_in = h.is_in; is_taken = h.is_taken })
     | inr e ↦ inr (
       subst (λ (u : StationCopy). has u.set c ≡ true) e h.is_in,
@@ -386,10 +382,3 @@ take_one xs i x l e = ap (λ n. take n xs) (plus_one i) ∙ by_suc xs i l e
     by_suc [] i l e = absurd (omega arith)
     by_suc (y ∷ ys) zero l e = ap (λ z. z ∷ []) (sym e)
     by_suc (y ∷ ys) (suc i) l e = ap (λ t. y ∷ t) (by_suc ys i (omega arith) e)
-
--- what holds of all copies holds of the one that is read at a place
-pub holds_in : (P : StationCopy → Type 0) (xs : List StationCopy) (i : ℕ) (x : StationCopy) → AllByRecursion P xs
-    → i < length xs → x ≡ get_or xs i x → P x
-holds_in P [] i x f l e = absurd (omega arith)
-holds_in P (y ∷ ys) zero x f l e = subst P (sym e) f.0
-holds_in P (y ∷ ys) (suc i) x f l e = holds_in P ys i x f.1 (omega arith) e

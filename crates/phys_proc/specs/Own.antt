@@ -6,7 +6,7 @@ use Rattle.sim_base.specs.Order.{msg_cmp}
 use Rattle.sim_base.specs.Pending.{cut_by, insert_marked, spread_marks}
 use Rattle.sim_base.specs.declared.message.Msg.{Msg}
 use Rattle.sim_base.specs.declared.entry.Line.{Line}
-use Rattle.clone_sets.specs.Sets.{has, one, with, union, meet, met, empty, size}
+use Rattle.clone_sets.specs.Sets.{has, one, with, union, meet, common, empty, size}
 use Rattle.clone_sets.specs.declared.set.CloneSet.{CloneSet}
 use Rattle.net_model.specs.Net.{Net}
 use Rattle.net_model.specs.Rules.{IsNet}
@@ -16,7 +16,7 @@ use Rattle.stations.specs.Runs.{simulation, replay}
 use Rattle.run_laws.specs.World.{to_it}
 use Rattle.run_laws.specs.Window.{to_others}
 use Rattle.sim_base.specs.Marked.{SortedMarked}
-use Rattle.run_laws.specs.Copies.{Copy, insert_marked_all, handled_by, laid_aside, part, Ends, SoFar, GainTogether}
+use Rattle.run_laws.specs.Copies.{Copy, insert_marked_all, handled_by, sends_aside, part, Ends, SoFar, GainTogether}
 
 -- a copy of a station of a network
 abbrev pub StationCopy : Type 0
@@ -39,7 +39,7 @@ pub record AreMarks (set k : CloneSet) : Type 0 where
   pub some : k ≢ empty
   pub within : (c : ℕ) → has k c ≡ true → has set c ≡ true
 
--- what a copy of station s keeps: its state is the replay of its log
+-- a copy of station s: its state is the replay of its log
 pub record IsCopy (net : Net) (s : ℕ) (a : StationCopy) : Type 0 where
   pub valid : IsNet net
   pub inhabited : (c : ℕ) × (has a.set c ≡ true)
@@ -85,7 +85,7 @@ abbrev pub but_pending : StationCopy → StationCopy
 but_pending a = record a { pending = [] }
 
 -- the copy b is a without messages that none of its clones takes
-pub record IsSame (ends : ℕ → ℕ) (a b : StationCopy) : Type 0 where
+pub record IsSameToClones (ends : ℕ → ℕ) (a b : StationCopy) : Type 0 where
   pub set : b.set ≡ a.set
   pub state : b.state ≡ a.state
   pub log : b.log ≡ a.log
@@ -95,7 +95,7 @@ pub record IsSame (ends : ℕ → ℕ) (a b : StationCopy) : Type 0 where
 
 -- and its least message comes before the bound, and these take it
 pub record NextDue (ends : ℕ → ℕ) (bound : ℕ) (a b : StationCopy) (m : Msg) (takers : CloneSet) : Type 0 where
-  pub same : IsSame ends a b
+  pub same : IsSameToClones ends a b
   pub marks : CloneSet
   pub rest : Marked
   pub pending : b.pending ≡ (m, marks) ∷ rest
@@ -105,28 +105,28 @@ pub record NextDue (ends : ℕ → ℕ) (bound : ℕ) (a b : StationCopy) (m : M
 
 -- or nothing that its clones take comes before the bound
 pub record NothingDue (ends : ℕ → ℕ) (bound : ℕ) (a b : StationCopy) : Type 0 where
-  pub same : IsSame ends a b
+  pub same : IsSameToClones ends a b
   pub settled : (c : ℕ) → has a.set c ≡ true → AllByRecursion (λ m. bound ≤ m.key.time) (taken_at ends c b.pending)
 
 -- what a station sends to itself becomes pending to these clones
-abbrev pub kept_on : ℕ → CloneSet → List Msg → Marked → Marked
-kept_on s set sends q = insert_marked_all union msg_cmp (to_it (λ (m : Msg). m.to) s sends) set q
+abbrev pub pending_after : ℕ → CloneSet → List Msg → Marked → Marked
+pending_after s set sends q = insert_marked_all union msg_cmp (to_it (λ (m : Msg). m.to) s sends) set q
 
 -- and the rest is laid aside, behind what was laid aside before
-abbrev pub sent_on : ℕ → CloneSet → List Msg → Marked → Marked
-sent_on s set sends sent = sent ++ map (λ x. (x, set)) (to_others (λ (m : Msg). m.to) s sends)
+abbrev pub sent_after : ℕ → CloneSet → List Msg → Marked → Marked
+sent_after s set sends sent = sent ++ map (λ x. (x, set)) (to_others (λ (m : Msg). m.to) s sends)
 
 -- the copy for these clones
 abbrev pub half : StationCopy → CloneSet → StationCopy
-half a some = record { set = some; state = a.state; log = a.log; pending = cut_by met some a.pending }
+half a some = record { set = some; state = a.state; log = a.log; pending = cut_by common some a.pending }
 
 -- the copy has handled its least message
 abbrev pub IsHandled : Net → ℕ → StationCopy → StationCopy → Marked → Marked → Type 0
 IsHandled net s old new before after = (m : Msg) (k : CloneSet) (q : Marked) → old.pending ≡ (m, k) ∷ q →
-    (new ≡ handled_by (simulation net) union s old m q) × (after ≡ before ++ laid_aside (simulation net) s old m) ×
+    (new ≡ handled_by (simulation net) union s old m q) × (after ≡ before ++ sends_aside (simulation net) s old m) ×
     IsCopy net s new
 
--- so far a copy has come, in so many steps: what comes of it now comes of the first
+-- the first copy has become this one in so many steps: each end that this one may have is one of the first
 pub record Onward (net : Net) (s : ℕ) (ends : ℕ → ℕ) (bound : ℕ) (first copy : StationCopy) (start sent : Marked)
     (steps0 steps : ℕ) : Type 0 where
   pub fits : IsCopy net s copy
@@ -138,8 +138,8 @@ pub record Onward (net : Net) (s : ℕ) (ends : ℕ → ℕ) (bound : ℕ) (firs
       Ends (simulation net) has ends s bound copy results sent after over over_after n →
       Ends (simulation net) has ends s bound first results start after over over_after (n + taken)
 
--- what came of a copy at the bound
-pub record Advanced (net : Net) (s : ℕ) (ends : ℕ → ℕ) (bound : ℕ) (r : StationCopy) (done0 done1 : List StationCopy)
+-- the copies at the bound that a copy became, and what it sent to others
+pub record IsAdvance (net : Net) (s : ℕ) (ends : ℕ → ℕ) (bound : ℕ) (r : StationCopy) (done0 done1 : List StationCopy)
     (sent0 sent1 : Marked) (over0 over1 : CloneSet) (steps0 steps1 : ℕ) : Type 0 where
   pub results : List StationCopy
   pub gained : ℕ
@@ -151,18 +151,18 @@ pub record Advanced (net : Net) (s : ℕ) (ends : ℕ → ℕ) (bound : ℕ) (r 
   pub shared : over1 ≡ empty → size r.set * length r.log + gained ≤ handled_alone results
 
 -- the copy, where the message is pending to those of its clones that are in the set
-abbrev pub given : Msg → CloneSet → StationCopy → StationCopy
-given m k a = record a {
+abbrev pub with_message : Msg → CloneSet → StationCopy → StationCopy
+with_message m k a = record a {
   pending = if meet a.set k == empty then a.pending else insert_marked union msg_cmp m (meet a.set k) a.pending;
 }
 
 -- the copy with the clone `new` beside the clone `old`, where it has that one
-abbrev pub forked : ℕ → ℕ → StationCopy → StationCopy
-forked old new a = if has a.set old then record {
+abbrev pub copy_after_fork : ℕ → ℕ → StationCopy → StationCopy
+copy_after_fork old new a = if has a.set old then record {
   set = with a.set new;
   state = a.state;
   log = a.log;
-  pending = spread_marks union met (one old) (one new) a.pending;
+  pending = spread_marks union common (one old) (one new) a.pending;
 } else a
 
 -- a first message, if there is one, pending to these clones
@@ -170,8 +170,8 @@ abbrev pub pending_of : Option Msg → CloneSet → Marked
 pending_of None k = []
 pending_of (Some m) k = (m, k) ∷ []
 
--- what came of copies at the bound, and what they sent to others
-pub record Stepping (net : Net) (s : ℕ) (ends : ℕ → ℕ) (bound : ℕ) (old done : List StationCopy) (sent : Marked)
+-- the copies at the bound that all copies became, and what they sent to others
+pub record IsStepResult (net : Net) (s : ℕ) (ends : ℕ → ℕ) (bound : ℕ) (old done : List StationCopy) (sent : Marked)
     (over : CloneSet) (steps0 steps : ℕ) : Type 0 where
   pub far : SoFar (simulation net) has ends s bound old done sent empty over
   pub count : ℕ

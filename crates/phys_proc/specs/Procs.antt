@@ -25,7 +25,7 @@ pub record AreShared (living : CloneSet) (copies : List StationCopy) : Type 0 wh
   pub disjoint : Disjoint has copies
   pub together : all_clones copies ≡ living
 
--- what the copies of a station keep; and no more was handled once than the clones would have handled each by itself
+-- they share out the living clones; and no more was handled once than the clones would have handled each by itself
 pub record KeepsShares (p : ProcView) : Type 0 where
   pub shares : AreShared p.living p.copies
   pub once : p.handled ≤ handled_alone p.copies

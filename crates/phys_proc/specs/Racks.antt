@@ -1,6 +1,7 @@
 -- What a reader sees of a station.
 use Rattle.std.specs.Prelude.{◌≡◌, ◌↔◌, ℕ, ◌<◌, ◌≤◌, List, true, length}
 use Rattle.sim_base.specs.Clones.{Clone, clone_at}
+use Rattle.sim_base.specs.declared.lists.TheConstants.{MOST_CLONES}
 use Rattle.sim_base.specs.declared.message.Msg.{Msg}
 use Rattle.sim_base.specs.declared.entry.Entry.{Entry}
 use Rattle.sim_base.specs.declared.entry.Line.{Line}
@@ -12,13 +13,13 @@ use Rattle.run_laws.specs.Queue.{In}
 use Rattle.phys_proc.specs.Own.{StationCopy}
 
 -- a copy as a reader sees it: its clones and its log
-pub record SeenCopy : Type 0 where
+pub record SeenView : Type 0 where
   pub set : CloneSet
   pub log : List (Entry Msg Line)
 
 -- what a reader sees of a copy
-abbrev pub seen : StationCopy → SeenCopy
-seen a = record { set = a.set; log = a.log }
+abbrev pub view_of_copy : StationCopy → SeenView
+view_of_copy a = record { set = a.set; log = a.log }
 
 -- a rack: the network, the clones' lists, the station, a front, and the copies at that front
 pub record RackView : Type 0 where
@@ -26,16 +27,16 @@ pub record RackView : Type 0 where
   pub clones : List Clone
   pub station : ℕ
   pub front : ℕ
-  pub copies : List SeenCopy
+  pub copies : List SeenView
 
 -- each clone is in a copy, whose log is that of the clone by itself up to the front; clones with equal logs share one
-pub record ShowsClones (net : Net) (cs : List Clone) (s front : ℕ) (copies : List SeenCopy) : Type 0 where
-  pub few : length cs ≤ 256
+pub record ShowsClones (net : Net) (cs : List Clone) (s front : ℕ) (copies : List SeenView) : Type 0 where
+  pub few : length cs ≤ MOST_CLONES
   pub early : front ≤ net.horizon
-  pub carried : (c : ℕ) → c < length cs → (h : SeenCopy) × In h copies × (has h.set c ≡ true)
-  pub living : (h : SeenCopy) (c : ℕ) → In h copies → has h.set c ≡ true → c < length cs
-  pub log : (h : SeenCopy) (c : ℕ) → In h copies → has h.set c ≡ true → h.log ≡ log_at net (clone_at cs c) s front
-  pub shared : (h k : SeenCopy) (c d : ℕ) → In h copies → In k copies → has h.set c ≡ true → has k.set d ≡ true →
+  pub carried : (c : ℕ) → c < length cs → (h : SeenView) × In h copies × (has h.set c ≡ true)
+  pub living : (h : SeenView) (c : ℕ) → In h copies → has h.set c ≡ true → c < length cs
+  pub log : (h : SeenView) (c : ℕ) → In h copies → has h.set c ≡ true → h.log ≡ log_at net (clone_at cs c) s front
+  pub shared : (h k : SeenView) (c d : ℕ) → In h copies → In k copies → has h.set c ≡ true → has k.set d ≡ true →
       log_at net (clone_at cs c) s front ≡ log_at net (clone_at cs d) s front → h ≡ k
 
 -- these are the clones whose logs are that of clone c

@@ -6,7 +6,7 @@ use Rattle.phys_proc.specs.Own.{StationCopy, NextDue, NothingDue}
 use Rattle.phys_proc.specs.declared.advancing.Stop.{Stop}
 use Rattle.phys_proc.specs.declared.advancing.Stop.TheVariants.{Settled, Full, Parts}
 
--- all its clones take a next message, and the log has no place for it
+-- all its clones take a next message, and their log has as many entries as it may have
 pub record IsFull (limit : ℕ) (ends : ℕ → ℕ) (bound : ℕ) (a : StationCopy) : Type 0 where
   pub msg : Msg
   pub takers : CloneSet

@@ -1,7 +1,7 @@
-//! What comes of one copy up to a bound.
+//! One physical process (copy) is advanced to a window boundary.
 ghost use Rattle.std.specs.Prelude.{◌≡◌, [], ◌+◌, ◌^◌, ◌≤◌, OnOk, IfOk};
 ghost use Rattle.clone_sets.specs.Sets.{empty};
-ghost use Rattle.phys_proc.specs.Own.{IsCopy, Advanced, Onward, may_handle};
+ghost use Rattle.phys_proc.specs.Own.{IsCopy, IsAdvance, Onward, may_handle};
 ghost use Rattle.phys_proc.specs.Stops.{IsStop};
 ghost use Rattle.phys_proc.specs.Gone.{ends_in};
 
@@ -15,7 +15,7 @@ use sim_base::{Msg, NoMemory, Steps};
 use std::alloc::Global;
 use std::sync::ledger::Ledger;
 
-/// What a step has come to so far: the copies at the bound, what they sent to others, and the clones whose logs
+/// How far a step has come: the copies at the bound, what they sent to others, and the clones whose logs
 /// would get too long.
 #[derive(Drop)]
 pub(crate) struct Stage {
@@ -98,8 +98,8 @@ pub(crate) fn go_on<L: Ledger>(
     }
 }
 
-/// What comes of a copy that goes no further as it is: where its clones part it becomes several, or they go over the
-/// limit.
+/// Brings a copy that goes no further as it is to the bound: where its clones part it becomes several, or they go over
+/// the limit.
 pub(crate) fn finish<L: Ledger>(
     alloc: Global,
     copy: PhysCopy,
@@ -116,7 +116,7 @@ pub(crate) fn finish<L: Ledger>(
     requires stop { IsStop model.now.limit (ends_in model.now.horizon ends.now) bound copy stage.old.takers stop }
     requires early { bound ≤ model.now.horizon }
     requires few { stage.old.handled + may_handle model.now.limit copy ≤ 2 ^ 32 }
-    ensures comes { OnOk result (Advanced model.now station (ends_in model.now.horizon ends.now) bound copy
+    ensures comes { OnOk result (IsAdvance model.now station (ends_in model.now.horizon ends.now) bound copy
         stage.old.done stage.new.done stage.old.sent.items stage.new.sent.items stage.old.over stage.new.over
         steps.old steps.new) }
     ensures handled { OnOk result (stage.new.handled + steps.old ≡ stage.old.handled + steps.new) }

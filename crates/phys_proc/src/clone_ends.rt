@@ -1,5 +1,6 @@
 //! When clones end.
 ghost use Rattle.std.specs.Prelude.{◌≡◌, ℕ, ◌<◌, ◌==◌, ◌∷◌, ◌++◌, [], min, if◌then◌else◌, OnOk, OnErr};
+ghost use Rattle.sim_base.specs.declared.lists.TheConstants.{MOST_CLONES};
 ghost use Rattle.clone_sets.specs.Sets.{has};
 ghost use Rattle.phys_proc.specs.Gone.{ends_in, is_gone};
 
@@ -39,7 +40,7 @@ impl CloneEnds {
     ///
     /// Out of memory leaves all unchanged.
     pub fn end(&mut self, clone: u32, at: u64) -> Result<(), NoMemory>
-        requires clone { clone < 256 }
+        requires clone { clone < MOST_CLONES }
         ensures ended { OnOk result (self.new ≡ self.old ++ (clone, at) ∷ []) }
         ensures ends { OnOk result ((horizon c : ℕ) → ends_in horizon self.new c ≡
             (if clone == c then min at (ends_in horizon self.old c) else ends_in horizon self.old c)) }

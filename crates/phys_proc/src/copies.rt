@@ -1,12 +1,13 @@
-//! A list of copies, and times that nothing of them is pending before.
+//! The physical processes of a station, with lower bounds of the time stamps of their pending messages.
 ghost use Rattle.std.specs.Prelude.{◌≡◌, ◌<◌, ◌≤◌, ◌∷◌, ◌++◌, [], OnOk, IfOk, IsTrue, map};
 ghost use Rattle.std.specs.List.{AllZip};
 ghost use Rattle.sim_base.specs.Marked.{SortedMarked};
 ghost use Rattle.sim_base.specs.Order.{msg_cmp};
+ghost use Rattle.sim_base.specs.declared.lists.TheConstants.{MOST_CLONES};
 ghost use Rattle.clone_sets.specs.Sets.{has};
 ghost use Rattle.run_laws.specs.Copies.{Disjoint};
-ghost use Rattle.phys_proc.specs.Racks.{seen};
-ghost use Rattle.phys_proc.specs.Own.{given, forked, but_pending, IsLate, AreLate};
+ghost use Rattle.phys_proc.specs.Racks.{view_of_copy};
+ghost use Rattle.phys_proc.specs.Own.{with_message, copy_after_fork, but_pending, IsLate, AreLate};
 
 use crate::copy::PhysCopy;
 use crate::rack::Seen;
@@ -52,7 +53,7 @@ pub(crate) fn earliest(copy: &PhysCopy) -> u64
 // Gives a message to those clones of the copy that are in the set. Nothing of it is pending before `least`.
 fn give(copy: &mut PhysCopy, least: &mut u64, msg: Msg, set: CloneSet) -> Result<(), NoMemory>
     requires late { IsLate least.old copy.old }
-    ensures given { OnOk result (copy.new ≡ given msg set copy.old) }
+    ensures given { OnOk result (copy.new ≡ with_message msg set copy.old) }
     ensures same { but_pending copy.new ≡ but_pending copy.old }
     ensures late { IsLate least.new copy.new }
 {
@@ -74,7 +75,7 @@ fn deliver(
 ) -> Result<usize, NoMemory>
     requires disjoint { Disjoint has copies.old.items }
     requires each { AllZip IsLate leasts.old.items copies.old.items }
-    ensures given { OnOk result (copies.new.items ≡ map (given msg set) copies.old.items) }
+    ensures given { OnOk result (copies.new.items ≡ map (with_message msg set) copies.old.items) }
     ensures same { map but_pending copies.new.items ≡ map but_pending copies.old.items }
     ensures each { AllZip IsLate leasts.new.items copies.new.items }
 {
@@ -100,7 +101,7 @@ fn deliver_from(
 ) -> Result<usize, NoMemory>
     requires disjoint { Disjoint has copies.old.items }
     requires each { AllZip IsLate leasts.old.items copies.old.items }
-    ensures given { OnOk result (copies.new.items ≡ map (given msg set) copies.old.items) }
+    ensures given { OnOk result (copies.new.items ≡ map (with_message msg set) copies.old.items) }
     ensures same { map but_pending copies.new.items ≡ map but_pending copies.old.items }
     ensures each { AllZip IsLate leasts.new.items copies.new.items }
 {
@@ -118,9 +119,9 @@ fn deliver_from(
 
 // Puts the clone `new` beside the clone `old`, if the copy has that one.
 fn fork_copy(copy: &mut PhysCopy, old: u32, new: u32)
-    requires old { old < 256 }
-    requires new { new < 256 }
-    ensures forked { copy.new ≡ forked old new copy.old }
+    requires old { old < MOST_CLONES }
+    requires new { new < MOST_CLONES }
+    ensures forked { copy.new ≡ copy_after_fork old new copy.old }
 {
     if copy.set.has(old) {
         copy.set = copy.set.with(new);
@@ -130,9 +131,9 @@ fn fork_copy(copy: &mut PhysCopy, old: u32, new: u32)
 
 // Puts the clone `new` beside the clone `old`.
 fn fork(copies: &mut Vec<PhysCopy>, old: u32, new: u32)
-    requires old { old < 256 }
-    requires new { new < 256 }
-    ensures forked { copies.new.items ≡ map (forked old new) copies.old.items }
+    requires old { old < MOST_CLONES }
+    requires new { new < MOST_CLONES }
+    ensures forked { copies.new.items ≡ map (copy_after_fork old new) copies.old.items }
 {
     for i in 0..copies.len() {
         fork_copy(&mut copies[i], old, new);
@@ -141,7 +142,7 @@ fn fork(copies: &mut Vec<PhysCopy>, old: u32, new: u32)
 
 // A second list of the copies, as a reader sees them; the logs are shared.
 fn see_all(alloc: Global, copies: &mut Vec<PhysCopy>) -> Result<Vec<Seen>, NoMemory>
-    ensures seen { IfOk result (λ v. v.items ≡ map seen copies.old.items) }
+    ensures seen { IfOk result (λ v. v.items ≡ map view_of_copy copies.old.items) }
     ensures same { copies.new.items ≡ copies.old.items }
 {
     let mut all = Vec::with_capacity(alloc, copies.len())?;
@@ -206,7 +207,7 @@ impl Copies {
     /// gives the place where it ended.
     pub fn deliver(&mut self, msg: Msg, set: CloneSet, guess: usize) -> Result<usize, NoMemory>
         requires disjoint { Disjoint has self.old }
-        ensures given { OnOk result (self.new ≡ map (given msg set) self.old) }
+        ensures given { OnOk result (self.new ≡ map (with_message msg set) self.old) }
         ensures same { map but_pending self.new ≡ map but_pending self.old }
     {
         let least = self.least.min(msg.key.time);
@@ -219,16 +220,16 @@ impl Copies {
 
     /// Puts the clone `new` beside the clone `old`.
     pub fn fork(&mut self, old: u32, new: u32)
-        requires old { old < 256 }
-        requires new { new < 256 }
-        ensures forked { self.new ≡ map (forked old new) self.old }
+        requires old { old < MOST_CLONES }
+        requires new { new < MOST_CLONES }
+        ensures forked { self.new ≡ map (copy_after_fork old new) self.old }
     {
         fork(&mut self.copies, old, new);
     }
 
     /// The copies as a reader sees them; the logs are shared.
     pub fn see_all(&mut self, alloc: Global) -> Result<Vec<Seen>, NoMemory>
-        ensures seen { IfOk result (λ v. v.items ≡ map seen self.old) }
+        ensures seen { IfOk result (λ v. v.items ≡ map view_of_copy self.old) }
         ensures same { self.new ≡ self.old }
     {
         let all = see_all(alloc, &mut self.copies)?;

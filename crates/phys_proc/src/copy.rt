@@ -1,4 +1,4 @@
-//! One copy of a station.
+//! A physical process: one copy of a station, which stands for the virtual processes of several clones.
 ghost use Rattle.std.specs.Prelude.{◌≡◌, ℕ, ◌<◌, ◌≤◌, List, ◌∷◌, length};
 ghost use Rattle.std.specs.Prelude.{IfOk, IfSome, IfNone, OnOk, ◌+◌};
 ghost use Rattle.clone_sets.specs.Sets.{has, minus};
@@ -6,7 +6,7 @@ ghost use Rattle.clone_sets.specs.declared.set.CloneSet.{CloneSet as CloneSet'};
 ghost use Rattle.sim_base.specs.declared.message.Msg.{Msg as Msg'};
 ghost use Rattle.sim_base.specs.Order.{msg_cmp};
 ghost use Rattle.sim_base.specs.Marked.{SortedMarked};
-ghost use Rattle.phys_proc.specs.Own.{IsCopy, NextDue, NothingDue, IsHandled, half, sent_on, kept_on};
+ghost use Rattle.phys_proc.specs.Own.{IsCopy, NextDue, NothingDue, IsHandled, half, sent_after, pending_after};
 ghost use Rattle.phys_proc.specs.Gone.{ends_in};
 
 use crate::clone_ends::CloneEnds;
@@ -74,8 +74,8 @@ fn send_all(
     pending: &mut Pending<CloneSet>,
     sent: &mut Vec<(Msg, CloneSet)>,
 ) -> Result<(), NoMemory>
-    ensures kept { OnOk result (pending.new ≡ kept_on station set sends.now pending.old) }
-    ensures aside { OnOk result (sent.new.items ≡ sent_on station set sends.now sent.old.items) }
+    ensures pending { OnOk result (pending.new ≡ pending_after station set sends.now pending.old) }
+    ensures aside { OnOk result (sent.new.items ≡ sent_after station set sends.now sent.old.items) }
 {
     for msg in sends {
         if msg.to == station {
@@ -99,7 +99,7 @@ pub(crate) fn handle_least<L: Ledger>(
     requires due { (m : Msg') × (k : CloneSet') × (q : List (Msg' × CloneSet')) × (copy.old.pending ≡ (m, k) ∷ q) ×
         (m.key.time < model.now.horizon) }
     requires fits { IsCopy model.now station copy.old }
-    requires room { length copy.old.log < model.now.limit }
+    requires short { length copy.old.log < model.now.limit }
     ensures handled { OnOk result (IsHandled model.now station copy.old copy.new sent.old.items sent.new.items) }
     ensures counted { OnOk result (steps.new ≡ steps.old + 1) }
 {

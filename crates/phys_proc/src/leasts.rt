@@ -1,10 +1,10 @@
-//! The least times of what clones take.
+//! The least time stamps among the pending messages that clones take.
 ghost use Rattle.std.specs.Prelude.{◌≡◌, ℕ, ◌<◌, true};
 ghost use Rattle.sim_base.specs.Marked.{SortedMarked};
 ghost use Rattle.sim_base.specs.Order.{msg_cmp};
+ghost use Rattle.sim_base.specs.declared.lists.TheConstants.{MOST_CLONES};
 ghost use Rattle.clone_sets.specs.Sets.{has};
 ghost use Rattle.run_laws.specs.Queue.{In};
-ghost use Rattle.run_laws.specs.Fronts.{earlier as earlier'};
 ghost use Rattle.phys_proc.specs.Own.{IsLate, taken_at};
 ghost use Rattle.phys_proc.specs.Procs.{IsProc, IsLeastTime, IsLeastOf, IsLeast, IsWithCopy};
 ghost use Rattle.phys_proc.specs.Gone.{ends_in};
@@ -14,24 +14,12 @@ use crate::copy::PhysCopy;
 use crate::proc::Proc;
 use clone_sets::CloneSet;
 use net_model::Model;
-
-/// The lesser of two times, where there is one.
-pub(crate) fn earlier(a: Option<u64>, b: Option<u64>) -> Option<u64>
-    ensures value { result ≡ earlier' a b }
-{
-    match a {
-        Some(first) => match b {
-            Some(second) => Some(first.min(second)),
-            None => Some(first),
-        },
-        None => b,
-    }
-}
+use stations::due::earlier;
 
 /// The least time that clone `c` takes of the copy, if it is in it, where it ends at `end`.
 pub(crate) fn least_of_clone(copy: &PhysCopy, c: u32, end: u64) -> Option<u64>
     requires sorted { SortedMarked msg_cmp copy.now.pending }
-    requires clone { c < 256 }
+    requires clone { c < MOST_CLONES }
     ensures least { (ends : ℕ → ℕ) → end ≡ ends c → IsLeastTime (λ m. (has copy.now.set c ≡ true) ×
         In m (taken_at ends c copy.now.pending)) result }
 {
@@ -91,7 +79,7 @@ impl Proc {
     /// The least time at which something is due to the clone, below its end; None exactly where nothing is.
     pub fn least_of(&self, model: &Model, ends: &CloneEnds, c: u32) -> Option<u64>
         requires proc { IsProc model.now self.now }
-        requires clone { c < 256 }
+        requires clone { c < MOST_CLONES }
         ensures least { IsLeastOf (ends_in model.now.horizon ends.now) self.now.copies c result }
     {
         let end = ends.end_of(c, model.horizon());

@@ -1,14 +1,15 @@
-//! The copies of one station.
+//! A station as a logical process: the physical copies that stand for its virtual processes, one a clone.
 ghost use Rattle.std.specs.Prelude.{◌≡◌, ℕ, ◌<◌, ◌≤◌, ◌+◌, ◌*◌, ◌∷◌, [], true, false, OnOk, IfOk, map, length};
 ghost use Rattle.std.specs.List.{AllByRecursion, AllZip};
 ghost use Rattle.clone_sets.specs.Sets.{has, one, with, empty, size};
+ghost use Rattle.sim_base.specs.declared.lists.TheConstants.{MOST_CLONES};
 ghost use Rattle.net_model.specs.Net.{Net};
 ghost use Rattle.stations.specs.Runs.{simulation};
 ghost use Rattle.run_laws.specs.Copies.{first_copy, IsForked, IsStepped, AreOver, GainTogether, Stands};
-ghost use Rattle.phys_proc.specs.Own.{given, forked, but_pending, pending_of, IsCopy, IsLate, AreLate};
+ghost use Rattle.phys_proc.specs.Own.{with_message, copy_after_fork, but_pending, pending_of, IsCopy, IsLate, AreLate};
 ghost use Rattle.phys_proc.specs.Gone.{ends_in};
 ghost use Rattle.phys_proc.specs.Procs.{IsProc, AreShared};
-ghost use Rattle.phys_proc.specs.Racks.{seen};
+ghost use Rattle.phys_proc.specs.Racks.{view_of_copy};
 
 use crate::advancing::Stage;
 use crate::clone_ends::CloneEnds;
@@ -58,19 +59,6 @@ impl std::marker::Model for Proc {
 /// What a step in place gives beside the messages that were sent.
 #[derive(Clone, Copy, Debug, PartialEq, Eq)]
 pub struct Gain {
-    /// The clones whose logs would get longer than the limit.
-    pub over: CloneSet,
-    /// How many messages were handled, each once for all clones of a copy.
-    pub handled: u64,
-}
-
-/// What a step of a station gives.
-#[derive(Drop)]
-pub struct Flow {
-    /// The copies at the bound; where some clone is over the limit they mean nothing.
-    pub done: Proc,
-    /// The messages to other stations, each with the clones that send it.
-    pub sent: Vec<(Msg, CloneSet)>,
     /// The clones whose logs would get longer than the limit.
     pub over: CloneSet,
     /// How many messages were handled, each once for all clones of a copy.
@@ -234,42 +222,6 @@ impl Proc {
         Ok(Gain { over, handled })
     }
 
-    /// Steps the copies to the bound, each in place. Out of memory, they are gone.
-    pub fn step<L: Ledger>(
-        self,
-        alloc: Global,
-        model: &Model,
-        ends: &CloneEnds,
-        bound: u64,
-        steps: &mut Steps<L>,
-    ) -> Result<Flow, NoMemory>
-        requires proc { IsProc model.now self }
-        requires early { bound ≤ model.now.horizon }
-        ensures windows { IfOk result (λ f. f.over ≡ empty →
-            IsStepped (simulation model.now) has (ends_in model.now.horizon ends.now) self.station bound self.copies
-            f.done.copies f.sent.items) }
-        ensures over { IfOk result (λ f. AreOver (simulation model.now) has (ends_in model.now.horizon ends.now)
-            self.station bound self.copies f.over) }
-        ensures gained { IfOk result (λ f. GainTogether (simulation model.now) has
-            (ends_in model.now.horizon ends.now) self.station bound self.copies f.handled) }
-        ensures counted { IfOk result (λ f. steps.new ≡ steps.old + f.handled) }
-        ensures few { IfOk result (λ f. f.handled ≤ size self.living * model.now.limit) }
-        ensures proc { IfOk result (λ f. IsProc model.now f.done) }
-        ensures station { IfOk result (λ f. f.done.station ≡ self.station) }
-        ensures living { IfOk result (λ f. f.over ≡ empty → f.done.living ≡ self.living) }
-        ensures handled { IfOk result (λ f. f.over ≡ empty → f.done.handled ≡ self.handled + f.handled) }
-    {
-        let mut done = self;
-        let mut sent = Vec::new(alloc);
-        let Gain { over, handled } = done.advance(alloc, model, ends, bound, &mut sent, steps)?;
-        Ok(Flow {
-            done,
-            sent,
-            over,
-            handled,
-        })
-    }
-
     // Takes the copies out. Then no clone lives.
     fn take_copies(&mut self, alloc: Global) -> Copies
         ensures copies { result ≡ self.old.copies }
@@ -290,7 +242,7 @@ impl Proc {
     /// Out of memory, some of the copies may have it; nothing else of them has changed.
     pub fn deliver(&mut self, msg: Msg, set: CloneSet) -> Result<(), NoMemory>
         requires target { msg.to ≡ self.old.station }
-        ensures given { OnOk result (self.new.copies ≡ map (given msg set) self.old.copies) }
+        ensures given { OnOk result (self.new.copies ≡ map (with_message msg set) self.old.copies) }
         ensures proc { OnOk result ((net : Net) → IsProc net self.old → IsProc net self.new) }
         ensures same { map but_pending self.new.copies ≡ map but_pending self.old.copies }
         ensures station { self.new.station ≡ self.old.station }
@@ -307,9 +259,9 @@ impl Proc {
     pub fn fork(&mut self, old: u32, new: u32)
         requires old { has self.old.living old ≡ true }
         requires new { has self.old.living new ≡ false }
-        requires below { new < 256 }
-        ensures forked { self.new.copies ≡ map (forked old new) self.old.copies }
-        ensures stands { (net : Net) (ends : ℕ → ℕ) → IsProc net self.old →
+        requires below { new < MOST_CLONES }
+        ensures forked { self.new.copies ≡ map (copy_after_fork old new) self.old.copies }
+        ensures each_forked { (net : Net) (ends : ℕ → ℕ) → IsProc net self.old →
             AllZip (IsForked (simulation net) has ends old new) self.old.copies self.new.copies }
         ensures proc { (net : Net) → IsProc net self.old → IsProc net self.new }
         ensures station { self.new.station ≡ self.old.station }
@@ -331,16 +283,16 @@ impl Proc {
         lists: Arc<Lists>,
         front: u64,
     ) -> Result<Rack, NoMemory>
-        requires stands { Stands (simulation model.value) has lists.value.clones front self.old.station
+        requires right { Stands (simulation model.value) has lists.value.clones front self.old.station
             self.old.copies }
-        requires few { length lists.value.clones ≤ 256 }
+        requires few { length lists.value.clones ≤ MOST_CLONES }
         requires early { front ≤ model.value.horizon }
         ensures rack { IfOk result (λ r. r ≡ record {
           net = model.value;
           clones = lists.value.clones;
           station = self.old.station;
           front = front;
-          copies = map seen self.old.copies;
+          copies = map view_of_copy self.old.copies;
         }) }
         ensures same { self.new ≡ self.old }
     {

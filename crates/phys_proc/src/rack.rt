@@ -1,10 +1,11 @@
-//! What a reader sees of a station.
+//! Racks: what a reader sees of a station at a window boundary (front).
 ghost use Rattle.std.specs.Prelude.{◌≡◌, ℕ, ◌<◌, IfOk, IfSome, IfNone, length, map, true, false, Some, None};
 ghost use Rattle.std.specs.List.{AllByRecursion};
 ghost use Rattle.sim_base.specs.Clones.{place_of};
+ghost use Rattle.sim_base.specs.declared.lists.TheConstants.{MOST_CLONES};
 ghost use Rattle.clone_sets.specs.Sets.{has, size};
 ghost use Rattle.run_laws.specs.Queue.{In};
-ghost use Rattle.phys_proc.specs.Racks.{SeenCopy, seen, IsSeen};
+ghost use Rattle.phys_proc.specs.Racks.{SeenView, view_of_copy, IsSeen};
 
 use crate::copy::PhysCopy;
 use clone_sets::CloneSet;
@@ -22,9 +23,9 @@ pub struct Seen {
 }
 
 impl std::marker::Model for Seen {
-    ghost use Rattle.phys_proc.specs.Racks.{SeenCopy};
+    ghost use Rattle.phys_proc.specs.Racks.{SeenView};
 
-    ghost Value = { SeenCopy };
+    ghost Value = { SeenView };
 
     ghost view = { λ s. record { set = s.set; log = s.log } };
 }
@@ -75,8 +76,8 @@ pub struct Found {
 
 // The copy that the clone is in.
 pub(crate) fn find_copy(copies: &[Seen], c: u32) -> Option<Found>
-    requires clone { c < 256 }
-    ensures some { IfSome result (λ f. (h : SeenCopy) × In h copies.now × (has h.set c ≡ true) ×
+    requires clone { c < MOST_CLONES }
+    ensures some { IfSome result (λ f. (h : SeenView) × In h copies.now × (has h.set c ≡ true) ×
         (f.handled ≡ length h.log) × (f.shared ≡ size h.set)) }
     ensures none { IfNone result (AllByRecursion (λ h. has h.set c ≡ false) copies.now) }
 {
@@ -147,7 +148,7 @@ impl Rack {
 impl PhysCopy {
     /// The copy as a reader sees it; the log is shared.
     pub(crate) fn see(&mut self, alloc: Global) -> Result<Seen, NoMemory>
-        ensures seen { IfOk result (λ s. s ≡ seen self.old) }
+        ensures seen { IfOk result (λ s. s ≡ view_of_copy self.old) }
         ensures same { self.new ≡ self.old }
     {
         let log = self.log.share(alloc)?;

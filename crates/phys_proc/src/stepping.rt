@@ -1,10 +1,11 @@
-//! A step of all copies of a station.
+//! All physical processes of a station are advanced to a window boundary.
 ghost use Rattle.std.specs.Prelude.{◌≡◌, ◌≤◌, ◌+◌, ◌++◌, [], IfOk, OnOk};
 ghost use Rattle.std.specs.List.{AllByRecursion, AllZip};
+ghost use Rattle.sim_base.specs.declared.lists.TheConstants.{MOST_CLONES};
 ghost use Rattle.clone_sets.specs.Sets.{has, empty};
 ghost use Rattle.run_laws.specs.Copies.{Disjoint};
 ghost use Rattle.net_model.specs.Rules.{IsNet};
-ghost use Rattle.phys_proc.specs.Own.{IsCopy, Stepping, IsLate, AreLate, all_sizes};
+ghost use Rattle.phys_proc.specs.Own.{IsCopy, IsStepResult, IsLate, AreLate, all_sizes};
 ghost use Rattle.phys_proc.specs.Gone.{ends_in};
 
 use crate::advancing::{Stage, Stop, finish, go_on};
@@ -18,8 +19,8 @@ use std::alloc::Global;
 use std::sync::ledger::Ledger;
 
 // Steps the copies where they stand, and returns a time that nothing is pending before. Those whose clones part are
-// taken out, and what comes of them is put with the others that are done. A copy is looked at only if its time in
-// `leasts` is before the bound.
+// taken out, and the copies that they become are put with the others that are done. A copy is looked at only if its
+// time in `leasts` is before the bound.
 fn step_standing<L: Ledger>(
     alloc: Global,
     copies: &mut Vec<PhysCopy>,
@@ -37,12 +38,12 @@ fn step_standing<L: Ledger>(
     requires each { AllZip IsLate leasts.old.items copies.old.items }
     requires disjoint { Disjoint has copies.old.items }
     requires early { bound ≤ model.now.horizon }
-    requires few { all_sizes copies.old.items ≤ 256 }
+    requires few { all_sizes copies.old.items ≤ MOST_CLONES }
     requires none { stage.old.done ≡ [] }
     requires silent { stage.old.sent.items ≡ [] }
     requires under { stage.old.over ≡ empty }
     requires new { stage.old.handled ≡ 0 }
-    ensures stepped { OnOk result (Stepping model.now station (ends_in model.now.horizon ends.now) bound
+    ensures stepped { OnOk result (IsStepResult model.now station (ends_in model.now.horizon ends.now) bound
         copies.old.items (copies.new.items ++ stage.new.done) stage.new.sent.items stage.new.over steps.old steps.new) }
     ensures late { IfOk result (λ t. AreLate t copies.new.items) }
     ensures each { OnOk result (AllZip IsLate leasts.new.items copies.new.items) }
@@ -103,12 +104,12 @@ pub(crate) fn step_copies<L: Ledger>(
     requires fits { AllByRecursion (IsCopy model.now station) copies }
     requires disjoint { Disjoint has copies }
     requires early { bound ≤ model.now.horizon }
-    requires few { all_sizes copies ≤ 256 }
+    requires few { all_sizes copies ≤ MOST_CLONES }
     requires none { stage.old.done ≡ [] }
     requires silent { stage.old.sent.items ≡ [] }
     requires under { stage.old.over ≡ empty }
     requires new { stage.old.handled ≡ 0 }
-    ensures stepped { OnOk result (Stepping model.now station (ends_in model.now.horizon ends.now) bound copies
+    ensures stepped { OnOk result (IsStepResult model.now station (ends_in model.now.horizon ends.now) bound copies
         stage.new.done stage.new.sent.items stage.new.over steps.old steps.new) }
     ensures handled { OnOk result (stage.new.handled + steps.old ≡ steps.new) }
 {

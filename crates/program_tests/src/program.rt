@@ -70,6 +70,9 @@ struct Row<'a> {
 /// `run` of them.
 const RUN: &[&str] = &["run", "m", "s"];
 
+/// The script of the worked example: from 8 on the desk of `fast` serves for 2.
+const FAST: &str = "fork fast from base\nset fast at 8 desk service 2 2";
+
 /// A run that is to be changed in one place or two.
 const PLAIN: Row<'static> = Row {
     shows: "a run of one desk",

@@ -34,7 +34,7 @@ use Rattle.trace_cursor.proofs.Rising.{rise_by_time, fit_from}
 use Rattle.world_core.specs.Worlds.{WorldView}
 use Rattle.rolling_text.specs.Lengths.{log_length, first_lengths}
 use Rattle.rolling_text.specs.Texts.{rest}
-use Rattle.rolling_text.specs.WorldTraces.{IsOver, TracesView}
+use Rattle.rolling_text.specs.WorldTraces.{IsOver, WorldTracesView}
 
 -- a list from a time on is no longer than the list
 pub from_short : (t : ℕ) (es : List (Entry Msg Line)) → length (from_time t es) ≤ length es
@@ -357,14 +357,14 @@ lengths_more net c t n =
 
 -- ---- the same of what contracts see of a world's traces
 
-module _ (world : WorldView) (over : IsOver world) (view : TracesView)
+module _ (world : WorldView) (over : IsOver world) (view : WorldTracesView)
     (seen : record { net = world.net; clones = world.clones } ≡ view) (c : ℕ) (there : c < length view.clones) where
   there_too : c < length world.clones
-  there_too = subst (λ (v : TracesView). c < length v.clones) (sym seen) there
+  there_too = subst (λ (v : WorldTracesView). c < length v.clones) (sym seen) there
 
   -- nothing is left at the horizon
   pub no_rest_seen : (t : ℕ) → world.net.horizon ≤ t → length (rest view.net (clone_at view.clones c) t) ≡ 0
-  no_rest_seen t late = subst (λ (v : TracesView). length (rest v.net (clone_at v.clones c) t) ≡ 0) seen
+  no_rest_seen t late = subst (λ (v : WorldTracesView). length (rest v.net (clone_at v.clones c) t) ≡ 0) seen
       (no_rest world over c there_too t late)
 
 -- the lines of what a cursor was given are the clone's rest

@@ -2,7 +2,7 @@
 use Rattle.std.proofs.Common.{◌≡◌, ℕ, ◌+◌, ◌≤◌, refl, sym, ap, subst, ◌∙◌, arith, Bool, true, false, List, [], ◌++◌}
 use Rattle.std.proofs.Common.{append-nil, length, length-append, if◌then◌else◌}
 use Rattle.std.proofs.lemmas.List.{append_assoc}
-use Rattle.sim_outer.specs.Causes.{Counted, Rose}
+use Rattle.sim_outer.specs.Causes.{Counted, HasRisen}
 use Rattle.sim_outer.specs.Views.{SinkView}
 use Rattle.rolling_text.specs.Pages.{PageView}
 use Rattle.rolling_text.specs.Puts.{IsTaken, IsPut, IsCutOff, IsPutTo}
@@ -30,7 +30,7 @@ put_then a b old mid new h k = let x = h.later in let y = k.later in record {
 }
 
 -- a count that rose from a later value on rose from an earlier one on
-rose_earlier : (a b c : ℕ) → a ≤ b → Rose b c → Rose a c
+rose_earlier : (a b c : ℕ) → a ≤ b → HasRisen b c → HasRisen a c
 rose_earlier a b c l r = omega (arith, l, r)
 
 -- one part was taken, and another cut off, to which more would have come

@@ -1,7 +1,7 @@
 -- A call adds one decision to one list at most.
 use Rattle.std.proofs.Common.{ℕ, zero, suc, ◌+◌, ◌^◌, ◌≤◌, List}
 use Rattle.std.proofs.Common.{[], ◌∷◌, ◌++◌, arith, length, length-append, slice_set, Some, None}
-use Rattle.sim_base.specs.Clones.{Clone, base, clone_at, added, ended, forked}
+use Rattle.sim_base.specs.Clones.{Clone, base, clone_at, clones_with_plan, clones_with_end, clones_with_fork}
 use Rattle.sim_base.specs.declared.decision.Decision.{Decision}
 use Rattle.sim_base.specs.declared.decision.Decision.TheVariants.{Fork, Set, End}
 use Rattle.sim_base.specs.declared.decision.Planned.{Planned}
@@ -28,20 +28,20 @@ push_within n (y ∷ ys) x h l zero = h zero
 push_within n (y ∷ ys) x h l (suc k) = push_within n ys x (λ j. h (suc j)) l k
 
 added_within : (n : ℕ) (cs : List Clone) (c : ℕ) (plan : Planned) → ((k : ℕ) → length (clone_at cs k).plans ≤ n)
-    → (k : ℕ) → length (clone_at (added cs c plan) k).plans ≤ n + 1
+    → (k : ℕ) → length (clone_at (clones_with_plan cs c plan) k).plans ≤ n + 1
 added_within n cs c plan h = set_within (n + 1) cs c
     (record (clone_at cs c) { plans = (clone_at cs c).plans ++ plan ∷ [] })
     (λ j. let l = h j in omega (arith, l))
     (let l = h c in let e = length-append (clone_at cs c).plans (plan ∷ []) in omega (arith, l, e))
 
 forked_within : (n : ℕ) (cs : List Clone) (new : List ℕ) (old : ℕ) → ((k : ℕ) → length (clone_at cs k).plans ≤ n)
-    → (k : ℕ) → length (clone_at (forked cs new old) k).plans ≤ n + 1
+    → (k : ℕ) → length (clone_at (clones_with_fork cs new old) k).plans ≤ n + 1
 forked_within n cs new old h k =
     let l = push_within n cs (record { name = new; plans = (clone_at cs old).plans; end = None }) h (h old) k in
     omega (arith, l)
 
 ended_within : (n : ℕ) (cs : List Clone) (c at : ℕ) → ((k : ℕ) → length (clone_at cs k).plans ≤ n) → (k : ℕ)
-    → length (clone_at (ended cs c at) k).plans ≤ n + 1
+    → length (clone_at (clones_with_end cs c at) k).plans ≤ n + 1
 ended_within n cs c at h k =
     let l = set_within n cs c (record (clone_at cs c) { end = Some at }) h (h c) k in
     omega (arith, l)

@@ -15,7 +15,7 @@ use Rattle.world_core.specs.Worlds.{WorldView}
 use Rattle.rolling_text.specs.Pages.{PageView}
 use Rattle.rolling_text.specs.Puts.{IsPutTo}
 use Rattle.rolling_text.specs.Texts.{rest}
-use Rattle.rolling_text.specs.WorldTraces.{IsOver, TracesView}
+use Rattle.rolling_text.specs.WorldTraces.{IsOver, WorldTracesView}
 use Rattle.rolling_text.proofs.LogLaws.{fewer_later, left_later, lines_are, none_over, no_rest_seen}
 
 -- what follows of what is told of a success in two ways
@@ -51,10 +51,10 @@ nothing_left : (xs : List ℕ) → length xs ≡ 0 → xs ≡ []
 nothing_left [] e = refl
 nothing_left (x ∷ xs) e = absurd (omega (arith, e))
 
-module _ (world : WorldView) (over : IsOver world) (view : TracesView)
+module _ (world : WorldView) (over : IsOver world) (view : WorldTracesView)
     (seen : record { net = world.net; clones = world.clones } ≡ view) (c : ℕ) (there : c < length view.clones) where
   there_too : c < length world.clones
-  there_too = subst (λ (v : TracesView). c < length v.clones) (sym seen) there
+  there_too = subst (λ (v : WorldTracesView). c < length v.clones) (sym seen) there
 
   abbrev trace_from : ℕ → List (Entry Msg Line)
   trace_from t = from_on (simulation world.net) t (trace_of world.net (clone_at world.clones c))
@@ -68,7 +68,7 @@ module _ (world : WorldView) (over : IsOver world) (view : TracesView)
       let entries = count ∙ ap length given in
       let as_seen : (t : ℕ) → trace_from t
       ≡ from_on (simulation view.net) t (trace_of view.net (clone_at view.clones c)) =
-      λ t. ap (λ (v : TracesView). from_on (simulation v.net) t (trace_of v.net (clone_at v.clones c))) seen in (
+      λ t. ap (λ (v : WorldTracesView). from_on (simulation v.net) t (trace_of v.net (clone_at v.clones c))) seen in (
         fewer_later world over c there_too from until all some order entries few,
         given ∙ as_seen from,
         ap (drop (all - some)) given ∙ left_later world over c there_too from until all some order entries few

@@ -3,7 +3,7 @@ use Rattle.std.specs.Prelude.{◌≡◌, ℕ, ◌<◌, ◌≤◌, List, [], ◌�
 use Rattle.sim_base.specs.Clones.{Clone, clone_at}
 use Rattle.net_model.specs.Net.{Net}
 use Rattle.rolling_text.specs.Orders.{IsMade, Span}
-use Rattle.rolling_text.specs.WorldTraces.{TracesView}
+use Rattle.rolling_text.specs.WorldTraces.{WorldTracesView}
 use Rattle.rolling_text.specs.declared.given_spans.GivenSpan.{GivenSpan}
 use Rattle.rolling_text.specs.declared.given_spans.NextSpan.{NextSpan}
 use Rattle.rolling_text.specs.declared.given_spans.NextSpan.TheVariants.{Made, Own}
@@ -21,7 +21,7 @@ AreInOrder net list from (b ∷ bs) until =
     × (from ≤ b.until) × AreInOrder net list b.until bs until
 
 -- what is given of a text is given in order
-pub record AreGiven (traces : TracesView) (c made : ℕ) (spans : List GivenSpan) (given until : ℕ) : Type 0 where
+pub record AreGiven (traces : WorldTracesView) (c made : ℕ) (spans : List GivenSpan) (given until : ℕ) : Type 0 where
   pub there : c < length traces.clones
   pub in_order : AreInOrder traces.net (clone_at traces.clones c) made spans given
   pub within : given ≤ until

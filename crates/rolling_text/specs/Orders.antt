@@ -1,8 +1,9 @@
 -- What makers are asked for, and what the caller of them has out.
 use Rattle.std.specs.Prelude.{◌≡◌, ℕ, List, ◌++◌}
-use Rattle.sim_base.specs.Clones.{Clone}
+use Rattle.sim_base.specs.Clones.{Clone, clone_at}
 use Rattle.net_model.specs.Net.{Net}
 use Rattle.rolling_text.specs.Texts.{rest}
+use Rattle.rolling_text.specs.WorldTraces.{WorldTracesView}
 
 -- the lines of a clone from a time on and before another
 pub record Span : Type 0 where
@@ -10,6 +11,11 @@ pub record Span : Type 0 where
   pub list : Clone
   pub from : ℕ
   pub until : ℕ
+
+-- the lines of one of these clones from a time on and before another
+abbrev pub span_between : WorldTracesView → ℕ → ℕ → ℕ → Span
+span_between traces c from until =
+    record { net = traces.net; list = clone_at traces.clones c; from = from; until = until }
 
 -- these are the lines of a span: with what comes then they are all from its begin on
 abbrev pub IsMade : Span → List ℕ → Type 0

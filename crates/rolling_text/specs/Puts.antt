@@ -1,26 +1,26 @@
 -- The put of a text in parts.
 use Rattle.std.specs.Prelude.{◌≡◌, ℕ, ◌≤◌, Bool, List, [], ◌++◌, if◌then◌else◌}
-use Rattle.sim_outer.specs.Bytes.{Appended, PartAppended}
-use Rattle.sim_outer.specs.Causes.{Counted, Rose}
+use Rattle.sim_outer.specs.Bytes.{IsAppended, IsPrefixAppended}
+use Rattle.sim_outer.specs.Causes.{Counted, HasRisen}
 use Rattle.sim_outer.specs.Views.{SinkView}
 use Rattle.rolling_text.specs.Pages.{PageView}
 
 -- this much of a text was taken, whose put goes on
 pub record IsTaken (part : List ℕ) (old new : SinkView) : Type 0 where
-  pub bytes : Appended old.bytes part new.bytes
+  pub bytes : IsAppended old.bytes part new.bytes
   pub later : old.faults ≤ new.faults
   pub same : new.calls ≡ old.calls
 
 -- a text was put, in one call
 pub record IsPut (text : List ℕ) (old new : SinkView) : Type 0 where
-  pub bytes : Appended old.bytes text new.bytes
+  pub bytes : IsAppended old.bytes text new.bytes
   pub later : old.faults ≤ new.faults
   pub counted : Counted old.calls new.calls
 
 -- a text was cut off, which is one call too
 pub record IsCutOff (text : List ℕ) (old new : SinkView) : Type 0 where
-  pub bytes : PartAppended old.bytes text new.bytes
-  pub failed : Rose old.faults new.faults
+  pub bytes : IsPrefixAppended old.bytes text new.bytes
+  pub failed : HasRisen old.faults new.faults
   pub later : old.faults ≤ new.faults
   pub counted : Counted old.calls new.calls
 

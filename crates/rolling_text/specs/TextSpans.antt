@@ -2,21 +2,20 @@
 use Rattle.std.specs.Prelude.{◌≡◌, ◌+◌, ◌<◌, ◌≤◌, true, length}
 use Rattle.sim_base.specs.Clones.{clone_at}
 use Rattle.sim_outer.specs.Views.{SinkView}
-use Rattle.rolling_text.specs.Orders.{Span}
+use Rattle.rolling_text.specs.Orders.{Span, span_between}
 use Rattle.rolling_text.specs.Pages.{PageView}
 use Rattle.rolling_text.specs.Puts.{IsPutTo, IsCutOff}
 use Rattle.rolling_text.specs.Texts.{CanPut, rest}
-use Rattle.rolling_text.specs.WorldTraces.{TracesView}
+use Rattle.rolling_text.specs.WorldTraces.{WorldTracesView}
 use Rattle.rolling_text.specs.declared.text_span.TextSpan.{TextSpan}
 use Rattle.rolling_text.specs.declared.texts.Texts.{Texts}
 
 -- its clone and its times
-abbrev pub span_of : TracesView → TextSpan → Span
-span_of traces span =
-    record { net = traces.net; list = clone_at traces.clones span.c; from = span.from; until = span.until }
+abbrev pub span_of : WorldTracesView → TextSpan → Span
+span_of traces span = span_between traces span.c span.from span.until
 
 -- it may be put: its clone is there, and a page that keeps it has room for it and for all lines behind it
-pub record MayPut (traces : TracesView) (span : TextSpan) (texts : Texts) : Type 0 where
+pub record MayPut (traces : WorldTracesView) (span : TextSpan) (texts : Texts) : Type 0 where
   pub there : span.c < length traces.clones
   pub order : span.from ≤ span.until
   pub can : CanPut traces.net texts
@@ -24,11 +23,11 @@ pub record MayPut (traces : TracesView) (span : TextSpan) (texts : Texts) : Type
       + length (rest traces.net (clone_at traces.clones span.c) span.from) ≤ texts.page.reserved
 
 -- it is put, and the lines behind it are left
-abbrev pub IsSpanPut : TracesView → TextSpan → PageView → PageView → SinkView → SinkView → Type 0
+abbrev pub IsSpanPut : WorldTracesView → TextSpan → PageView → PageView → SinkView → SinkView → Type 0
 IsSpanPut traces span page page_now old new = IsPutTo span.keeps
     (rest traces.net (clone_at traces.clones span.c) span.from)
     (rest traces.net (clone_at traces.clones span.c) span.until) page page_now old new
 
 -- it is cut off, or the lines behind it are
-abbrev pub IsSpanCutOff : TracesView → TextSpan → SinkView → SinkView → Type 0
+abbrev pub IsSpanCutOff : WorldTracesView → TextSpan → SinkView → SinkView → Type 0
 IsSpanCutOff traces span old new = IsCutOff (rest traces.net (clone_at traces.clones span.c) span.from) old new

@@ -9,6 +9,7 @@ use Rattle.net_model.specs.Net.{Net}
 use Rattle.run_laws.specs.Queue.{In}
 use Rattle.run_laws.specs.SharedTexts.{from_on, shared_to}
 use Rattle.stations.specs.Runs.{simulation, trace_of}
+use Rattle.trace_report.specs.declared.line.TheConstants.{MOST_LINE}
 use Rattle.trace_report.specs.TraceText.{entry_line}
 use Rattle.rolling_text.specs.Sharing.{same_plan}
 use Rattle.rolling_text.specs.WorldTraces.{IsWalk}
@@ -47,9 +48,9 @@ pub record AreLeft (net : Net) (cs : List Clone) (c dropped : ℕ) (lines : List
   pub before : lines ++ others ≡ body_before net cs c
   pub drops : dropped + length others ≡ dropped_at net cs c
 
--- no line of these entries is longer than 256 bytes
+-- no line of these entries is too long
 pub record HaveShortLines (net : Net) (es : List (Entry Msg Line)) : Type 0 where
-  pub each : (e : Entry Msg Line) → In e es → length (entry_line net e) ≤ 256
+  pub each : (e : Entry Msg Line) → In e es → length (entry_line net e) ≤ MOST_LINE
 
 -- the lines of each clone fit in so many bytes, with 32 before
 abbrev pub AllFit : Net → List Clone → ℕ → Type 0
@@ -58,7 +59,7 @@ AllFit net cs reserved = (c : ℕ) → c < length cs → 32 + length (body net (
 -- a cursor has place for all logs, and a line has room
 pub record CanPut (net : Net) (texts : Texts) : Type 0 where
   pub walk : IsWalk net texts.walk
-  pub line : 256 ≤ length texts.piece.items
+  pub line : MOST_LINE ≤ length texts.piece.items
 
 -- all that the texts of these clones need is there: a buffer that fits the longest, too
 pub record IsReady (net : Net) (cs : List Clone) (texts : Texts) : Type 0 where

@@ -1,6 +1,7 @@
 -- The traces of the clones of a world.
 use Rattle.std.specs.Prelude.{◌≡◌, ℕ, ◌^◌, ◌<◌, ◌≤◌, List, length}
 use Rattle.sim_base.specs.Clones.{Clone, clone_at}
+use Rattle.sim_base.specs.declared.lists.TheConstants.{MOST_CLONES}
 use Rattle.net_model.specs.Net.{Net}
 use Rattle.net_model.specs.Rules.{IsNet}
 use Rattle.trace_cursor.specs.Cursors.{CursorView}
@@ -10,7 +11,7 @@ use Rattle.world_core.specs.Overs.{NoneBeyond}
 use Rattle.world_core.specs.Worlds.{AreInNet, WorldView}
 
 -- what contracts see of them: the network, and the clones with their decisions and ends
-pub record TracesView : Type 0 where
+pub record WorldTracesView : Type 0 where
   pub net : Net
   pub clones : List Clone
 
@@ -22,7 +23,7 @@ AreShort cs = (k : ℕ) → k < length cs → length (clone_at cs k).plans ≤ 2
 pub record IsOver (world : WorldView) : Type 0 where
   pub valid : IsNet world.net
   pub in_net : AreInNet world.net world.clones
-  pub few : length world.clones ≤ 256
+  pub few : length world.clones ≤ MOST_CLONES
   pub done : world.front ≡ world.net.horizon
   pub within : NoneBeyond world.net world.clones world.front
   pub short : AreShort world.clones

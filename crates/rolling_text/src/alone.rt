@@ -2,6 +2,7 @@
 ghost use Rattle.std.specs.Prelude.{◌≡◌, ◌<◌, ◌≤◌, ◌++◌, length, take, drop, codes, OnOk, OnErr};
 ghost use Rattle.std.specs.List.{flat_map};
 ghost use Rattle.trace_report.specs.Slots.{AreNames};
+ghost use Rattle.trace_report.specs.declared.line.TheConstants.{MOST_LINE};
 ghost use Rattle.trace_report.specs.TraceText.{entry_line, trace_text};
 ghost use Rattle.rolling_text.specs.Puts.{IsTaken, IsPut, IsCutOff};
 
@@ -10,7 +11,7 @@ use log_chain::{Log, Walk};
 use net_model::Model;
 use sim_base::Name;
 use sim_outer::{PutFailed, Sink};
-use trace_report::{Names, write_line};
+use trace_report::{MOST_LINE, Names, write_stored};
 
 // Makes lines of the next entries of a walk, `left` of them, as long as there is place, and counts them down. Returns how
 // many bytes they have.
@@ -23,7 +24,7 @@ fn make_piece(
 ) -> usize
     requires names { AreNames model.now names.now }
     requires left { left.old ≡ length walk.old }
-    requires free { 256 ≤ length piece.old }
+    requires free { MOST_LINE ≤ length piece.old }
     ensures text { take result piece.new ++ flat_map (entry_line model.now) walk.new
         ≡ flat_map (entry_line model.now) walk.old }
     ensures within { result ≤ length piece.new }
@@ -32,9 +33,9 @@ fn make_piece(
     ensures size { length piece.new ≡ length piece.old }
 {
     let mut at = 0;
-    while *left > 0 && piece.len() - at >= 256 {
+    while *left > 0 && piece.len() - at >= MOST_LINE {
         let entry = walk.take();
-        at = write_line(piece, at, model, names, &entry);
+        at = write_stored(piece, at, model, names, entry);
         *left -= 1;
     }
     at

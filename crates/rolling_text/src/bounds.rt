@@ -1,6 +1,7 @@
 //! How many bytes texts have at most, told before any is made.
 //!
-//! No line is longer than 256 bytes, since its numbers are words and names have at most 16 bytes. A clone's entries from
+//! No line is longer than `MOST_LINE`, since its numbers are words and names have at most 16 bytes. A clone's entries fro
+//! No line is longer than `MOST_LINE`, since its numbers are words and names have at most 16 bytes. A clone's entries from
 //! where it parts from the one before it are met once each, which shows it of them; those before are the other clone's.
 ghost use Rattle.std.specs.Prelude.{◌≡◌, ℕ, ◌^◌, ◌<◌, ◌≤◌, length};
 ghost use Rattle.sim_base.specs.Clones.{clone_at};
@@ -14,10 +15,10 @@ ghost use Rattle.rolling_text.specs.WorldTraces.{IsOver};
 use crate::world_traces::WorldTraces;
 use log_chain::Log;
 use net_model::Model;
-use trace_report::{Names, line_len};
+use trace_report::{MOST_LINE, Names, line_len};
 use world_core::World;
 
-// Meets the entries of a log from a time on: no line of theirs is longer than 256 bytes.
+// Meets the entries of a log from a time on: no line of theirs is too long.
 fn meet_log(model: &Model, names: &Names, log: &Log, from: u64)
     requires names { AreNames model.now names.now }
     requires rises { RiseByTime log.now }
@@ -53,7 +54,7 @@ fn bound_of(world: &World, c: u32) -> usize
 {
     let mut bound = 0;
     for s in 0..world.model().len() {
-        bound += 256 * world.log(c, s + 1).len() as usize;
+        bound += MOST_LINE * world.log(c, s + 1).len() as usize;
     }
     bound
 }

@@ -5,8 +5,7 @@
 //!                made                                                   given  until
 //! ```
 ghost use Rattle.std.specs.Prelude.{◌≡◌, ◌<◌, ◌≤◌, [], ◌∷◌, ◌++◌, None, Some, length, IfSome, OnOk, OnErr};
-ghost use Rattle.sim_base.specs.Clones.{clone_at};
-ghost use Rattle.rolling_text.specs.Orders.{until_of, since};
+ghost use Rattle.rolling_text.specs.Orders.{until_of, since, span_between};
 ghost use Rattle.rolling_text.specs.GivenSpans.{IsNextSpan};
 
 use crate::cuts::Cuts;
@@ -46,18 +45,12 @@ pub(crate) struct GivenSpans<'a> {
 }
 
 impl<'a> std::marker::Model for GivenSpans<'a> {
-    ghost use Rattle.sim_base.specs.Clones.{clone_at};
-    ghost use Rattle.rolling_text.specs.Orders.{Span};
+    ghost use Rattle.rolling_text.specs.Orders.{Span, span_between};
     ghost use Rattle.rolling_text.specs.GivenSpans.{AreGiven};
 
     ghost Value = { Span };
 
-    ghost view = { λ t. record {
-      net = t.traces.now.net;
-      list = clone_at t.traces.now.clones t.c;
-      from = t.made;
-      until = t.until;
-    } };
+    ghost view = { λ t. span_between t.traces.now t.c t.made t.until };
 
     ghost invariant = { λ t. AreGiven t.traces.now t.c t.made t.spans.items t.given t.until };
 }
@@ -94,12 +87,7 @@ impl<'a> GivenSpans<'a> {
     ) -> GivenSpans<'a>
         requires there { c < length traces.now.clones }
         requires order { from ≤ until }
-        ensures value { result ≡ record {
-          net = traces.now.net;
-          list = clone_at traces.now.clones c;
-          from = from;
-          until = until;
-        } }
+        ensures value { result ≡ span_between traces.now c from until }
     {
         GivenSpans {
             traces,

@@ -5,6 +5,7 @@ ghost use Rattle.sim_base.specs.Clones.{clone_at};
 ghost use Rattle.stations.specs.Runs.{simulation, trace_of};
 ghost use Rattle.run_laws.specs.SharedTexts.{from_on};
 ghost use Rattle.trace_report.specs.Slots.{AreNames};
+ghost use Rattle.trace_report.specs.declared.line.TheConstants.{MOST_LINE};
 ghost use Rattle.trace_report.specs.TraceText.{entry_line};
 ghost use Rattle.rolling_text.specs.Puts.{IsPutTo, IsCutOff};
 ghost use Rattle.rolling_text.specs.WorldTraces.{IsOver};
@@ -15,7 +16,7 @@ use net_model::Model;
 use sim_base::NoMemory;
 use sim_outer::{PutFailed, Sink};
 use trace_cursor::Cursor;
-use trace_report::{Names, write_line};
+use trace_report::{MOST_LINE, Names, write_stored};
 use world_core::World;
 
 /// Gives a cursor what the logs of a clone have from a time on. Returns how many entries that is.
@@ -50,7 +51,7 @@ fn make_piece(
 ) -> usize
     requires names { AreNames model.now names.now }
     requires left { left.old ≤ length cursor.old.left }
-    requires free { 256 ≤ length piece.old }
+    requires free { MOST_LINE ≤ length piece.old }
     ensures text { take result piece.new ++ flat_map (entry_line model.now) cursor.new.left
         ≡ flat_map (entry_line model.now) cursor.old.left }
     ensures within { result ≤ length piece.new }
@@ -61,9 +62,9 @@ fn make_piece(
     ensures most { cursor.new.most ≡ cursor.old.most }
 {
     let mut at = 0;
-    while *left > 0 && piece.len() - at >= 256 {
+    while *left > 0 && piece.len() - at >= MOST_LINE {
         let entry = cursor.take();
-        at = write_line(piece, at, model, names, &entry);
+        at = write_stored(piece, at, model, names, entry);
         *left -= 1;
     }
     at
@@ -111,7 +112,7 @@ pub(crate) fn put_entries<O: Sink>(
 ) -> Result<(), PutFailed>
     requires names { AreNames model.now names.now }
     requires count { count ≤ length cursor.old.left }
-    requires free { 256 ≤ length piece.old }
+    requires free { MOST_LINE ≤ length piece.old }
     requires fits { keeps ≡ true → length page.old.text + length (flat_map (entry_line model.now) cursor.old.left)
         ≤ page.old.reserved }
     ensures ok { OnOk result (IsPutTo keeps (flat_map (entry_line model.now) cursor.old.left)

@@ -2,7 +2,9 @@
 ghost use Rattle.std.specs.Prelude.{◌≡◌, ◌+◌, ◌*◌, ◌^◌, ◌<◌, ◌≤◌, length, sum_by};
 ghost use Rattle.sim_base.specs.Clones.{clone_at};
 ghost use Rattle.log_chain.specs.Times.{RiseByTime, from_time};
+ghost use Rattle.net_model.specs.declared.limits.TheConstants.{MOST_LIMIT};
 ghost use Rattle.trace_report.specs.Slots.{AreNames};
+ghost use Rattle.trace_report.specs.declared.line.TheConstants.{MOST_LINE};
 ghost use Rattle.trace_report.specs.TraceText.{entry_line};
 ghost use Rattle.run_laws.specs.SharedTexts.{from_on};
 ghost use Rattle.stations.specs.Runs.{simulation, trace_of};
@@ -18,11 +20,11 @@ use world_core::World;
 fn log_len(model: &Model, names: &Names, log: &Log, from: u64, until: u64) -> usize
     requires names { AreNames model.now names.now }
     requires rises { RiseByTime log.now }
-    requires short { length log.now ≤ 65536 }
+    requires short { length log.now ≤ MOST_LIMIT }
     requires order { from ≤ until }
     ensures value { result + sum_by (λ e. length (entry_line model.now e)) (from_time until log.now)
         ≡ sum_by (λ e. length (entry_line model.now e)) (from_time from log.now) }
-    ensures short { result ≤ 256 * 65536 }
+    ensures short { result ≤ MOST_LINE * MOST_LIMIT }
 {
     let mut sum = 0;
     let mut walk = log.walk_from_time(from);

@@ -1,7 +1,6 @@
 //! Makers: workers that stay for one whole text, and make the lines of one span of time after another.
 ghost use Rattle.std.specs.Prelude.{◌≡◌, ◌+◌, ◌<◌, ◌≤◌, [], None, Some, length, IfOk};
-ghost use Rattle.sim_base.specs.Clones.{clone_at};
-ghost use Rattle.rolling_text.specs.Orders.{Span, IsMade};
+ghost use Rattle.rolling_text.specs.Orders.{Span, IsMade, span_between};
 
 use crate::world_traces::WorldTraces;
 use crate::writing::make_lines;
@@ -24,17 +23,11 @@ pub(crate) struct Order<'a> {
 
 impl<'a> std::marker::Model for Order<'a> {
     ghost use Rattle.std.specs.Prelude.{◌<◌, ◌≤◌, length};
-    ghost use Rattle.sim_base.specs.Clones.{clone_at};
-    ghost use Rattle.rolling_text.specs.Orders.{Span};
+    ghost use Rattle.rolling_text.specs.Orders.{Span, span_between};
 
     ghost Value = { Span };
 
-    ghost view = { λ o. record {
-      net = o.traces.now.net;
-      list = clone_at o.traces.now.clones o.c;
-      from = o.from;
-      until = o.until;
-    } };
+    ghost view = { λ o. span_between o.traces.now o.c o.from o.until };
 
     ghost invariant = { λ o. (o.c < length o.traces.now.clones) × (o.from ≤ o.until) };
 }
@@ -74,12 +67,7 @@ impl<'a> Order<'a> {
     pub(crate) fn new(traces: &'a WorldTraces<'a>, c: u32, from: u64, until: u64) -> Order<'a>
         requires there { c < length traces.now.clones }
         requires order { from ≤ until }
-        ensures value { result ≡ record {
-          net = traces.now.net;
-          list = clone_at traces.now.clones c;
-          from = from;
-          until = until;
-        } }
+        ensures value { result ≡ span_between traces.now c from until }
     {
         Order {
             traces,

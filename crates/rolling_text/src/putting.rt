@@ -1,8 +1,8 @@
 //! Texts into a sink, one after the other.
 ghost use Rattle.std.specs.Prelude.{◌≡◌, ◌+◌, ◌<◌, ◌≤◌, ◌++◌, length, drop, codes, IfOk, OnOk, OnErr};
 ghost use Rattle.sim_base.specs.Clones.{clone_at};
-ghost use Rattle.sim_outer.specs.Bytes.{Appended, PartAppended};
-ghost use Rattle.sim_outer.specs.Causes.{AreCounted, Rose};
+ghost use Rattle.sim_outer.specs.Bytes.{IsAppended, IsPrefixAppended};
+ghost use Rattle.sim_outer.specs.Causes.{AreCounted, HasRisen};
 ghost use Rattle.rolling_text.specs.Counting.{AreCountedTo};
 ghost use Rattle.rolling_text.specs.Puts.{IsTaken, IsPut, IsCutOff};
 ghost use Rattle.rolling_text.specs.Texts.{AllFit, AreLeft, CanPut, IsReady, body, parting_at, rest};
@@ -165,11 +165,11 @@ fn put_all<'a, O: Sink, R: Threads + Wait + Sync>(
     out: &mut O,
 ) -> Result<(), PutFailed>
     requires ready { IsReady traces.now.net traces.now.clones texts.old }
-    ensures ok { OnOk result (Appended (O.seen out.old).bytes (clone_texts traces.now.net traces.now.clones)
+    ensures ok { OnOk result (IsAppended (O.seen out.old).bytes (clone_texts traces.now.net traces.now.clones)
         (O.seen out.new).bytes) }
-    ensures part { OnErr result (PartAppended (O.seen out.old).bytes (clone_texts traces.now.net traces.now.clones)
+    ensures part { OnErr result (IsPrefixAppended (O.seen out.old).bytes (clone_texts traces.now.net traces.now.clones)
         (O.seen out.new).bytes) }
-    ensures cause { OnErr result (Rose (O.seen out.old).faults (O.seen out.new).faults) }
+    ensures cause { OnErr result (HasRisen (O.seen out.old).faults (O.seen out.new).faults) }
     ensures later { (O.seen out.old).faults ≤ (O.seen out.new).faults }
     ensures each { OnOk result (AreCounted (length traces.now.clones) (O.seen out.old).calls (O.seen out.new).calls) }
     ensures some { OnErr result (AreCountedTo (length traces.now.clones) (O.seen out.old).calls (O.seen out.new).calls) }
@@ -200,11 +200,11 @@ pub fn put_texts<'a, O: Sink, R: Threads + Wait + Sync>(
     out: &mut O,
 ) -> Result<(), PutFailed>
     requires ready { IsReady traces.now.net traces.now.clones texts }
-    ensures ok { OnOk result (Appended (O.seen out.old).bytes (clone_texts traces.now.net traces.now.clones)
+    ensures ok { OnOk result (IsAppended (O.seen out.old).bytes (clone_texts traces.now.net traces.now.clones)
         (O.seen out.new).bytes) }
-    ensures part { OnErr result (PartAppended (O.seen out.old).bytes (clone_texts traces.now.net traces.now.clones)
+    ensures part { OnErr result (IsPrefixAppended (O.seen out.old).bytes (clone_texts traces.now.net traces.now.clones)
         (O.seen out.new).bytes) }
-    ensures cause { OnErr result (Rose (O.seen out.old).faults (O.seen out.new).faults) }
+    ensures cause { OnErr result (HasRisen (O.seen out.old).faults (O.seen out.new).faults) }
     ensures later { (O.seen out.old).faults ≤ (O.seen out.new).faults }
     ensures each { OnOk result (AreCounted (length traces.now.clones) (O.seen out.old).calls (O.seen out.new).calls) }
     ensures some { OnErr result (AreCountedTo (length traces.now.clones) (O.seen out.old).calls (O.seen out.new).calls) }

@@ -1,6 +1,7 @@
 //! The traces of all clones of a world, out of the logs of its stations.
 ghost use Rattle.std.specs.Prelude.{◌≡◌, ◌<◌, ◌≤◌, length};
 ghost use Rattle.sim_base.specs.Clones.{clone_at};
+ghost use Rattle.sim_base.specs.declared.lists.TheConstants.{MOST_CLONES};
 ghost use Rattle.net_model.specs.Rules.{IsNet};
 ghost use Rattle.rolling_text.specs.Texts.{shared_at};
 ghost use Rattle.rolling_text.specs.WorldTraces.{AreShort};
@@ -19,9 +20,9 @@ pub struct WorldTraces<'a> {
 }
 
 impl<'a> std::marker::Model for WorldTraces<'a> {
-    ghost use Rattle.rolling_text.specs.WorldTraces.{TracesView, MayTrace};
+    ghost use Rattle.rolling_text.specs.WorldTraces.{WorldTracesView, MayTrace};
 
-    ghost Value = { TracesView };
+    ghost Value = { WorldTracesView };
 
     ghost view = { λ t. record { net = t.world.now.net; clones = t.world.now.clones } };
 
@@ -47,7 +48,7 @@ impl<'a> WorldTraces<'a> {
     /// How many clones there are.
     pub fn len(&self) -> u32
         ensures value { result ≡ length self.now.clones }
-        ensures few { result ≤ 256 }
+        ensures few { result ≤ MOST_CLONES }
         ensures valid { IsNet self.now.net }
         ensures in_net { AreInNet self.now.net self.now.clones }
     {

@@ -16,6 +16,7 @@ use sim_base::NoMemory;
 use sim_outer::{PutFailed, Sink};
 use std::alloc::Global;
 use trace_cursor::Cursor;
+use trace_report::MOST_LINE;
 
 // Gives a cursor what a clone handled from a time on. Returns how many of these entries come before another time.
 fn gather_span<'a>(
@@ -61,8 +62,8 @@ pub(crate) fn make_lines(
     let model = traces.world.model();
     let mut walk = Cursor::new(alloc, model.len() as usize)?;
     let count = gather_span(traces, &mut walk, c, from, until);
-    // no line is longer than 256 bytes, so that the buffer never grows
-    let mut bytes = Vec::with_capacity(alloc, (count as usize).saturating_mul(256))?;
+    // so that the buffer never grows
+    let mut bytes = Vec::with_capacity(alloc, (count as usize).saturating_mul(MOST_LINE))?;
     add_entries(&mut bytes, &mut walk, count, model, &traces.names)?;
     Ok(bytes)
 }

@@ -14,7 +14,7 @@ use Rattle.run_laws.specs.Window.{Part, to_others, earlier_than, part_step}
 use Rattle.run_laws.specs.Handlers.{IsTimed}
 use Rattle.sim_base.specs.Marked.{JoinsMarks, SortedMarked}
 use Rattle.run_laws.specs.Copies.{Copy, Carries, insert_marked_all, handle_until, handled_by}
-use Rattle.run_laws.specs.Copies.{laid_aside, takes, taken, view}
+use Rattle.run_laws.specs.Copies.{sends_aside, takes, taken, view}
 use Rattle.run_laws.proofs.Queue.{all_in, all_from}
 use Rattle.run_laws.proofs.Lists.{filter_swap, filter-congr, filter_none}
 use Rattle.run_laws.proofs.Machine.{reach_first, done_no_next, done_stays}
@@ -162,10 +162,10 @@ module _ {S M N K : Type 0} (sim : Simulation S M N) (has : K → ℕ → Bool) 
 
   -- what is sent in a handling for other clones, clone c doesn't see
   pub others_sent : (s c : ℕ) (a : Copy S M N K) (m : M) (sent : List (M × K)) → has a.set c ≡ false →
-      taken sim has ends c (sent ++ laid_aside sim s a m) ≡ taken sim has ends c sent
+      taken sim has ends c (sent ++ sends_aside sim s a m) ≡ taken sim has ends c sent
   others_sent s c a m sent e =
       let xs : List M = to_others sim.to s (sim.handle s a.state m).sends in
-      part-append (takes sim has ends) c sent (laid_aside sim s a m)
+      part-append (takes sim has ends) c sent (sends_aside sim s a m)
       ∙ ap (λ l. taken sim has ends c sent ++ l) (part-map (takes sim has ends) c a.set xs ∙ taken_without a.set c xs e)
       ∙ append-nil (taken sim has ends c sent)
 
@@ -203,7 +203,7 @@ module _ {S M N K : Type 0} (sim : Simulation S M N) {has : K → ℕ → Bool} 
   pub handled_view : (bound c : ℕ) (a : Copy S M N K) (m : M) (k : K) (q sent : List (M × K)) → a.pending ≡ (m, k) ∷ q →
       SortedMarked sim.order a.pending → Carries has a c → takes sim has ends m k c ≡ true → sim.time m < bound →
       Next sim.order sim.time (part_step sim.to (handle_until sim (ends c)) s) bound (view sim has ends c a sent)
-      (view sim has ends c (handled_by sim join s a m q) (sent ++ laid_aside sim s a m))
+      (view sim has ends c (handled_by sim join s a m q) (sent ++ sends_aside sim s a m))
   handled_view bound c a m k q sent p sorted in_set takes_it early =
       let sq : SortedMarked sim.order ((m, k) ∷ q) = subst (SortedMarked sim.order) p sorted in
       record {

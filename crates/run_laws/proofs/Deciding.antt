@@ -4,7 +4,7 @@ use Rattle.std.proofs.Common.{nat_lt, min, None, refl, sym, ap, ◌∙◌, subst
 use Rattle.std.specs.List.{AllByRecursion, AllZip}
 use Rattle.std.proofs.lemmas.Bool.{cases_Bool, cases_eq, ne_eqb, lt-ltb, ltb-true, false≢true}
 use Rattle.std.proofs.lemmas.List.{length_push}
-use Rattle.sim_base.specs.Clones.{Clone, clone_at, added, ended, forked}
+use Rattle.sim_base.specs.Clones.{Clone, clone_at, clones_with_plan, clones_with_end, clones_with_fork}
 use Rattle.sim_base.specs.declared.decision.Planned.{Planned}
 use Rattle.run_laws.specs.Queue.{insert, In}
 use Rattle.run_laws.specs.Simulation.{Simulation}
@@ -93,37 +93,39 @@ and_swap false b e = absurd (false≢true e)
 
 module _ {S M N K : Type 0} {sim : Simulation S M N} {Good : ℕ → S → Type 0} (law : HandlesLawfully sim Good)
     (has : K → ℕ → Bool) (cs : List Clone) (front s who : ℕ) (is_there : who < length cs) where
-  module _ (p : Planned) (late : front ≤ sim.time (sim.decided (length (clone_at cs who).plans) p)) where
+  module _ (p : Planned) (late : front ≤ sim.time (sim.set_message (length (clone_at cs who).plans) p)) where
     -- the decision as a message
     abbrev message : M
-    message = sim.decided (length (clone_at cs who).plans) p
+    message = sim.set_message (length (clone_at cs who).plans) p
 
     -- what it changes of its clone
     adds : AddsDue sim (clone_at cs who) p message front
     adds = late_decision_adds_due law (clone_at cs who) p front late
 
     -- each log stays
-    logs_added : (c : ℕ) → log_at sim (clone_at (added cs who p) c) s front ≡ log_at sim (clone_at cs c) s front
+    logs_added : (c : ℕ) → log_at sim (clone_at (clones_with_plan cs who p) c) s front
+        ≡ log_at sim (clone_at cs c) s front
     logs_added = set_cases (λ c k. log_at sim k s front ≡ log_at sim (clone_at cs c) s front) cs who
         (with_plan (clone_at cs who) p) is_there (ap (λ w. log_of sim.to s w.trace) adds.world)
         (λ c n. refl)
 
     -- each state stays
-    states_added : (c : ℕ) → state_at sim (clone_at (added cs who p) c) s front ≡ state_at sim (clone_at cs c) s front
+    states_added : (c : ℕ) → state_at sim (clone_at (clones_with_plan cs who p) c) s front
+        ≡ state_at sim (clone_at cs c) s front
     states_added = set_cases (λ c k. state_at sim k s front ≡ state_at sim (clone_at cs c) s front) cs who
         (with_plan (clone_at cs who) p) is_there (ap (λ w. w.states s) adds.world)
         (λ c n. refl)
 
     -- each end stays
-    ends_added : (c : ℕ) → ends_of sim (added cs who p) c ≡ ends_of sim cs c
+    ends_added : (c : ℕ) → ends_of sim (clones_with_plan cs who p) c ≡ ends_of sim cs c
     ends_added = set_cases (λ c k. end_of sim k ≡ end_of sim (clone_at cs c)) cs who
         (with_plan (clone_at cs who) p) is_there refl (λ c n. refl)
 
     -- a late decision for another station leaves the copies of a station as they are
     pub stands_other_decision : (copies : List (Copy S M N K)) → (sim.to message ≡ s → ⊥) →
-        Stands sim has cs front s copies → Stands sim has (added cs who p) front s copies
+        Stands sim has cs front s copies → Stands sim has (clones_with_plan cs who p) front s copies
     stands_other_decision copies not st =
-        stands_matched sim has cs (added cs who p) front s copies copies
+        stands_matched sim has cs (clones_with_plan cs who p) front s copies copies
         (length-set cs who (with_plan (clone_at cs who) p)) logs_added states_added
         (λ b i. (
           b,
@@ -132,7 +134,8 @@ module _ {S M N K : Type 0} {sim : Simulation S M N} {Good : ℕ → S → Type 
             set = refl;
             log = refl;
             state = refl;
-            due = λ c g. taken_ends sim has (ends_of sim (added cs who p)) (ends_of sim cs) c b.pending (ends_added c)
+            due = λ c g. taken_ends sim has (ends_of sim (clones_with_plan cs who p)) (ends_of sim cs) c b.pending
+                (ends_added c)
                 ∙ st.due b c i g
                 ∙ sym (set_cases (λ c k. due_at sim k s front ≡ due_at sim (clone_at cs c) s front) cs who
                 (with_plan (clone_at cs who) p) is_there
@@ -154,10 +157,10 @@ module _ {S M N K : Type 0} {sim : Simulation S M N} {Good : ℕ → S → Type 
     pub stands_decision : (copies done : List (Copy S M N K)) (k : K) → sim.to message ≡ s → has k who ≡ true →
         ((c : ℕ) → (c ≡ who → ⊥) → has k c ≡ false) →
         AllZip (IsGiven sim has (ends_of sim cs) message k) copies done → Stands sim has cs front s copies →
-        Stands sim has (added cs who p) front s done
+        Stands sim has (clones_with_plan cs who p) front s done
     stands_decision copies done k to_s for_it for_no_other zip st =
         let apart = disjoint_given sim has (ends_of sim cs) message k copies done zip st.disjoint in
-        stands_matched sim has cs (added cs who p) front s copies done
+        stands_matched sim has cs (clones_with_plan cs who p) front s copies done
         (length-set cs who (with_plan (clone_at cs who) p)) logs_added states_added
         (λ b i. let x = zip_from (IsGiven sim has (ends_of sim cs) message k) copies done b zip i in (
           x.0,
@@ -166,7 +169,8 @@ module _ {S M N K : Type 0} {sim : Simulation S M N} {Good : ℕ → S → Type 
             set = x.2.set;
             log = x.2.log;
             state = x.2.state;
-            due = λ c g. taken_ends sim has (ends_of sim (added cs who p)) (ends_of sim cs) c b.pending (ends_added c)
+            due = λ c g. taken_ends sim has (ends_of sim (clones_with_plan cs who p)) (ends_of sim cs) c b.pending
+                (ends_added c)
                 ∙ x.2.parts c g
                 ∙ ap (λ l. cond (takes sim has (ends_of sim cs) message k c) (insert sim.order message l) l)
                 (st.due x.0 c x.1 g)
@@ -178,7 +182,8 @@ module _ {S M N K : Type 0} {sim : Simulation S M N} {Good : ℕ → S → Type 
         (y.0, y.1, y.2.set)) apart st
       where
         given : (c : ℕ) →
-            due_at sim (clone_at (added cs who p) c) s front ≡ cond (takes sim has (ends_of sim cs) message k c)
+            due_at sim (clone_at (clones_with_plan cs who p) c) s front
+            ≡ cond (takes sim has (ends_of sim cs) message k c)
             (insert sim.order message (due_at sim (clone_at cs c) s front)) (due_at sim (clone_at cs c) s front)
         given = set_cases (λ c x. due_at sim x s front ≡ cond (takes sim has (ends_of sim cs) message k c)
             (insert sim.order message (due_at sim (clone_at cs c) s front)) (due_at sim (clone_at cs c) s front)) cs
@@ -193,11 +198,11 @@ module _ {S M N K : Type 0} {sim : Simulation S M N} {Good : ℕ → S → Type 
 
   -- an end at or after the front leaves the copies as they are
   pub stands_end : (copies : List (Copy S M N K)) (at : ℕ) → front ≤ at → at ≤ end_of sim (clone_at cs who) →
-      Stands sim has cs front s copies → Stands sim has (ended cs who at) front s copies
+      Stands sim has cs front s copies → Stands sim has (clones_with_end cs who at) front s copies
   stands_end copies at late within st =
       let drops : DropsDue sim (clone_at cs who) at front =
       late_end_drops_due law (clone_at cs who) at front late within in
-      stands_matched sim has cs (ended cs who at) front s copies copies
+      stands_matched sim has cs (clones_with_end cs who at) front s copies copies
       (length-set cs who (with_end (clone_at cs who) at))
       (set_cases (λ c k. log_at sim k s front ≡ log_at sim (clone_at cs c) s front) cs who
       (with_end (clone_at cs who) at) is_there (ap (λ w. log_of sim.to s w.trace) drops.world) (λ c n. refl))
@@ -210,8 +215,8 @@ module _ {S M N K : Type 0} {sim : Simulation S M N} {Good : ℕ → S → Type 
           set = refl;
           log = refl;
           state = refl;
-          due = λ c g. taken_ends sim has (ends_of sim (ended cs who at))
-              (λ t. end_of sim (clone_at (ended cs who at) c)) c b.pending refl
+          due = λ c g. taken_ends sim has (ends_of sim (clones_with_end cs who at))
+              (λ t. end_of sim (clone_at (clones_with_end cs who at) c)) c b.pending refl
               ∙ set_cases (λ c k. Carries has b c
               → taken sim has (λ t. end_of sim k) c b.pending ≡ due_at sim k s front) cs who
               (with_end (clone_at cs who) at) is_there
@@ -254,14 +259,14 @@ module _ {S M N K : Type 0} (sim : Simulation S M N) (has : K → ℕ → Bool) 
   fork_cases : (P : Clone → Clone → Type 0) →
       P (record { name = name; plans = (clone_at cs old).plans; end = None }) (clone_at cs old)
       → ((k : Clone) → P k k) →
-      (c : ℕ) → P (clone_at (forked cs name old) c) (clone_at cs (origin_of old (length cs) c))
+      (c : ℕ) → P (clone_at (clones_with_fork cs name old) c) (clone_at cs (origin_of old (length cs) c))
   fork_cases P a b c =
       let k : Clone = record { name = name; plans = (clone_at cs old).plans; end = None } in
       elim (cases_eq c (length cs)) [
-        | inl e ↦ subst (λ t. P (clone_at (forked cs name old) c) (clone_at cs t))
+        | inl e ↦ subst (λ t. P (clone_at (clones_with_fork cs name old) c) (clone_at cs t))
             (sym (ap (λ b. cond b old c) (eq-eqb c (length cs) e)))
             (subst (λ t. P t (clone_at cs old)) (sym (ap (clone_at (cs ++ k ∷ [])) e ∙ clone_push_same cs k)) a)
-        | inr n ↦ subst (λ t. P (clone_at (forked cs name old) c) (clone_at cs t))
+        | inr n ↦ subst (λ t. P (clone_at (clones_with_fork cs name old) c) (clone_at cs t))
             (sym (ap (λ b. cond b old c) (ne_eqb c (length cs) n)))
             (subst (λ t. P t (clone_at cs c)) (sym (clone_push_other cs k c n)) (b (clone_at cs c)))
       ]
@@ -269,11 +274,11 @@ module _ {S M N K : Type 0} (sim : Simulation S M N) (has : K → ℕ → Bool) 
   -- a new clone beside its old one, which has no end
   pub stands_fork : (front s : ℕ) (copies done : List (Copy S M N K)) → old < length cs → (clone_at cs old).end ≡ None →
       AllZip (IsForked sim has (ends_of sim cs) old (length cs)) copies done → Stands sim has cs front s copies →
-      Stands sim has (forked cs name old) front s done
+      Stands sim has (clones_with_fork cs name old) front s done
   stands_fork front s copies done there no_end zip st =
       let new : ℕ = length cs in
       let k : Clone = record { name = name; plans = (clone_at cs old).plans; end = None } in
-      let many : length (forked cs name old) ≡ length cs + 1 = length_push cs k in
+      let many : length (clones_with_fork cs name old) ≡ length cs + 1 = length_push cs k in
       let same_end : end_of sim k ≡ end_of sim (clone_at cs old) = end_of-fork sim (clone_at cs old) name no_end in
       let same_run : run_of sim k front ≡ run_of sim (clone_at cs old) front =
       ap (λ e. run sim (clone_at cs old).plans (min front e)) same_end in
@@ -281,17 +286,17 @@ module _ {S M N K : Type 0} (sim : Simulation S M N) (has : K → ℕ → Bool) 
       let was : (b : Copy S M N K) → In b done → (a : Copy S M N K) × In a copies
       × IsForked sim has (ends_of sim cs) old new a b =
       λ b i. zip_from (IsForked sim has (ends_of sim cs) old new) copies done b zip i in
-      let ends_are : (c : ℕ) → ends_of sim (forked cs name old) c ≡ ends_of sim cs (origin_of old new c) =
+      let ends_are : (c : ℕ) → ends_of sim (clones_with_fork cs name old) c ≡ ends_of sim cs (origin_of old new c) =
       fork_cases (λ x y. end_of sim x ≡ end_of sim y) same_end (λ x. refl) in
-      let logs : (c : ℕ) → log_at sim (clone_at (forked cs name old) c) s front ≡ log_at sim
+      let logs : (c : ℕ) → log_at sim (clone_at (clones_with_fork cs name old) c) s front ≡ log_at sim
       (clone_at cs (origin_of old new c)) s front =
       fork_cases (λ x y. log_at sim x s front ≡ log_at sim y s front)
       (ap (λ w. log_of sim.to s w.at.trace) same_run) (λ x. refl) in
-      let states : (c : ℕ) → state_at sim (clone_at (forked cs name old) c) s front ≡ state_at sim
+      let states : (c : ℕ) → state_at sim (clone_at (clones_with_fork cs name old) c) s front ≡ state_at sim
       (clone_at cs (origin_of old new c)) s front =
       fork_cases (λ x y. state_at sim x s front ≡ state_at sim y s front) (ap (λ w. w.at.states s) same_run)
       (λ x. refl) in
-      let dues : (c : ℕ) → due_at sim (clone_at (forked cs name old) c) s front ≡ due_at sim
+      let dues : (c : ℕ) → due_at sim (clone_at (clones_with_fork cs name old) c) s front ≡ due_at sim
       (clone_at cs (origin_of old new c)) s front = fork_cases (λ x y. due_at sim x s front ≡ due_at sim y s front)
       (ap (λ w. to_it sim.to s (earlier_than sim.time (end_of sim k) w.pending)) same_run
       ∙ ap (λ e. to_it sim.to s (earlier_than sim.time e (run_of sim (clone_at cs old) front).pending)) same_end)
@@ -314,7 +319,8 @@ module _ {S M N K : Type 0} (sim : Simulation S M N) (has : K → ℕ → Bool) 
         state = λ b c i h. let a = was b i in a.2.state
             ∙ (st.state a.0 (origin_of old new c) a.1 (sym (a.2.set c) ∙ h) ∙ sym (states c));
         due = λ b c i h. let a = was b i in
-            part-congr (takes sim has (ends_of sim (forked cs name old))) (takes_as sim has (ends_of sim cs) old new)
+            part-congr (takes sim has (ends_of sim (clones_with_fork cs name old))) (takes_as sim has
+            (ends_of sim cs) old new)
             c c b.pending (λ m k. ap (λ t. has k c && nat_lt (sim.time m) t) (ends_are c))
             ∙ a.2.parts c ∙ st.due a.0 (origin_of old new c) a.1 (sym (a.2.set c) ∙ h) ∙ sym (dues c);
         shared = λ a b c d i l h k e.
@@ -349,22 +355,23 @@ module _ {S M N K : Type 0} {sim : Simulation S M N} {Good : ℕ → S → Type 
     (has : K → ℕ → Bool) (cs : List Clone) (front s who : ℕ) (p : Planned) (m : M) where
   -- the same, of a message that is the decision's
   pub stands_after_decision : (k : K) (copies done : List (Copy S M N K)) → who < length cs →
-      m ≡ sim.decided (length (clone_at cs who).plans) p → front ≤ sim.time m → sim.to m ≡ s →
+      m ≡ sim.set_message (length (clone_at cs who).plans) p → front ≤ sim.time m → sim.to m ≡ s →
       has k who ≡ true → ((c : ℕ) → (c ≡ who → ⊥) → has k c ≡ false) →
       AllZip (IsGiven sim has (ends_of sim cs) m k) copies done → Stands sim has cs front s copies →
-      Stands sim has (added cs who p) front s done
+      Stands sim has (clones_with_plan cs who p) front s done
   stands_after_decision k copies done there is late to_s for_it for_no_other zip st =
       subst (λ m. front ≤ sim.time m → sim.to m ≡ s → AllZip (IsGiven sim has (ends_of sim cs) m k) copies done
-      → Stands sim has (added cs who p) front s done) (sym is)
+      → Stands sim has (clones_with_plan cs who p) front s done) (sym is)
       (λ late to_s zip. stands_decision law has cs front s who there p late copies done k to_s for_it for_no_other zip
       st)
       late to_s zip
 
   -- and of one for another station
   pub stands_after_other_decision : (copies : List (Copy S M N K)) → who < length cs →
-      m ≡ sim.decided (length (clone_at cs who).plans) p → front ≤ sim.time m → (sim.to m ≡ s → ⊥) →
-      Stands sim has cs front s copies → Stands sim has (added cs who p) front s copies
+      m ≡ sim.set_message (length (clone_at cs who).plans) p → front ≤ sim.time m → (sim.to m ≡ s → ⊥) →
+      Stands sim has cs front s copies → Stands sim has (clones_with_plan cs who p) front s copies
   stands_after_other_decision copies there is late not st =
-      subst (λ m. front ≤ sim.time m → (sim.to m ≡ s → ⊥) → Stands sim has (added cs who p) front s copies) (sym is)
+      subst (λ m. front ≤ sim.time m → (sim.to m ≡ s → ⊥) → Stands sim has (clones_with_plan cs who p) front s copies)
+      (sym is)
       (λ late not. stands_other_decision law has cs front s who there p late copies not st)
       late not

@@ -2,7 +2,7 @@
 use Rattle.std.proofs.Common.{◌≡◌, ◌⊎◌, ℕ, zero, suc, ◌<◌, ◌≤◌, List, [], ◌∷◌, ◌++◌, Option, Some, None}
 use Rattle.std.proofs.Common.{Bool, true, false, cond, inl, inr, refl, sym, ap, ◌∙◌, arith, subst, length, nat_lt}
 use Rattle.std.proofs.lemmas.Bool.{cases_eq}
-use Rattle.sim_base.specs.Clones.{Clone, clone_at, forked}
+use Rattle.sim_base.specs.Clones.{Clone, clone_at, clones_with_fork}
 use Rattle.sim_base.specs.declared.decision.Planned.{Planned}
 use Rattle.run_laws.specs.Queue.{insert, In}
 use Rattle.run_laws.specs.Simulation.{Simulation}
@@ -55,12 +55,12 @@ module _ {S M N : Type 0} (sim : Simulation S M N) where
 
 module _ {S M N : Type 0} {sim : Simulation S M N} {Good : ℕ → S → Type 0} (law : HandlesLawfully sim Good) where
   -- with a decision at the front or later
-  pub least_of-with_plan : (c : Clone) (p : Planned) (front t : ℕ) → sim.time (sim.decided (length c.plans) p) ≡ t →
+  pub least_of-with_plan : (c : Clone) (p : Planned) (front t : ℕ) → sim.time (sim.set_message (length c.plans) p) ≡ t →
       front ≤ t →
       least_of sim (with_plan c p) front ≡ cond (nat_lt t (end_of sim c)) (earlier (Some t) (least_of sim c front))
       (least_of sim c front)
   least_of-with_plan c p front t e l =
-      let m : M = sim.decided (length c.plans) p in
+      let m : M = sim.set_message (length c.plans) p in
       let later : front ≤ sim.time m = subst (λ u. front ≤ u) (sym e) l in
       ap (least_time sim.time) (late_decision_adds_due law c p front later).due
       ∙ by m (all_due sim c front) (nat_lt (sim.time m) (end_of sim c))
@@ -119,7 +119,7 @@ module _ {S M N : Type 0} (sim : Simulation S M N) (front : ℕ) where
 
   -- with a fork
   pub least-forked : (cs : List Clone) (old : ℕ) (name : List ℕ) → old < length cs → (clone_at cs old).end ≡ None →
-      least sim (forked cs name old) front ≡ least sim cs front
+      least sim (clones_with_fork cs name old) front ≡ least sim cs front
   least-forked cs old name there no_end =
       let k : Clone = record { name = name; plans = (clone_at cs old).plans; end = None } in
       least-unique sim.time (DueIn (cs ++ k ∷ [])) (DueIn cs) (least sim (cs ++ k ∷ []) front) (least sim cs front)
@@ -139,7 +139,7 @@ module _ {S M N : Type 0} (sim : Simulation S M N) (front : ℕ) where
 
   -- so the next front with a fork is the one without it
   pub next_front-forked : (cs : List Clone) (old : ℕ) (name : List ℕ) → old < length cs → (clone_at cs old).end ≡ None →
-      next_front sim (forked cs name old) front ≡ next_front sim cs front
+      next_front sim (clones_with_fork cs name old) front ≡ next_front sim cs front
   next_front-forked cs old name there no_end = ap (window_end sim) (least-forked cs old name there no_end)
 
 -- by the copies of all stations

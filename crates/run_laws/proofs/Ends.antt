@@ -1,4 +1,4 @@
--- What comes of a copy up to a bound: nothing where it is settled, a handling for all its clones, or two halves.
+-- The results of a copy at a bound: itself where it is settled, one handling for all its clones, or its two halves.
 use Rattle.std.proofs.Common.{◌≡◌, ℕ, ◌+◌, ◌≤◌, ◌<◌, List, [], ◌∷◌, ◌++◌, ◌⊎◌, inl, inr}
 use Rattle.std.proofs.Common.{Bool, true, false, refl, sym, ap, ◌∙◌, subst, arith, nat_lt, length, take}
 use Rattle.std.specs.List.{AllByRecursion}
@@ -13,7 +13,7 @@ use Rattle.run_laws.specs.Window.{Part, earlier_than, part_step}
 use Rattle.run_laws.specs.Handlers.{IsLawful, HandlesLawfully}
 use Rattle.run_laws.specs.Prefixes.{IsCount, IsGained}
 use Rattle.sim_base.specs.Marked.{JoinsMarks, SortedMarked}
-use Rattle.run_laws.specs.Copies.{Copy, Carries, Disjoint, handle_until, handled_by, laid_aside, takes}
+use Rattle.run_laws.specs.Copies.{Copy, Carries, Disjoint, handle_until, handled_by, sends_aside, takes}
 use Rattle.run_laws.specs.Copies.{taken, view, Narrowed, Turns, Settled, IsCutLog, Ends}
 use Rattle.run_laws.proofs.Bools.{or_cases, or_first, or_second}
 use Rattle.run_laws.proofs.Queue.{all_in, all_from, not_below_itself}
@@ -145,12 +145,12 @@ module _ {S M N K : Type 0} {sim : Simulation S M N} {Good : ℕ → S → Type 
       (after : List (M × K)) (over over_after : K) (n : ℕ) → (c : ℕ) × Carries has r c →
       Good s r.state → length r.log < sim.limit → r.pending ≡ (m, k) ∷ q → SortedMarked sim.order r.pending →
       ((c : ℕ) → Carries has r c → takes sim has ends m k c ≡ true) → sim.time m < bound →
-      Ends sim has ends s bound (handled_by sim join s r m q) results (sent ++ laid_aside sim s r m) after over
+      Ends sim has ends s bound (handled_by sim join s r m q) results (sent ++ sends_aside sim s r m) after over
       over_after n →
       Ends sim has ends s bound r results sent after over over_after (n + 1)
   ends_handle r m k q sent results after over over_after n any good room p sorted all early h =
       let new : Copy S M N K = handled_by sim join s r m q in
-      let out : List (M × K) = sent ++ laid_aside sim s r m in
+      let out : List (M × K) = sent ++ sends_aside sim s r m in
       let next : (c : ℕ) → Carries has r c
       → Next sim.order sim.time (part_step sim.to (handle_until sim (ends c)) s) bound (seen c r sent)
       (seen c new out) = λ c i. handled_view sim j ends law.order s bound c r m k q sent p sorted i

@@ -6,13 +6,13 @@ use Rattle.sim_base.specs.declared.decision.Planned.{Planned}
 use Rattle.sim_base.proofs.ListLaws.{all_push}
 use Rattle.run_laws.specs.Queue.{In}
 use Rattle.run_laws.specs.Simulation.{Simulation}
-use Rattle.run_laws.specs.World.{openings, planned, begin}
+use Rattle.run_laws.specs.World.{openings, set_messages, begin}
 use Rattle.run_laws.specs.Runs.{run, end_of, run_of, all_due}
 use Rattle.run_laws.specs.Handlers.{IsStation, AreForStations, HandlesLawfully, SendsToStations}
 use Rattle.run_laws.proofs.Queue.{all_in, in_insert_all}
 use Rattle.run_laws.proofs.Lists.{in_filter, in_append}
 use Rattle.run_laws.proofs.Running.{fine_keeps}
-use Rattle.run_laws.proofs.Worlds.{in_openings, in_planned, world_lawful, begins_fine, run_reached, entry_of}
+use Rattle.run_laws.proofs.Worlds.{in_openings, in_set_messages, world_lawful, begins_fine, run_reached, entry_of}
 
 module _ {S M N : Type 0} {sim : Simulation S M N} {Good : ℕ → S → Type 0} (law : HandlesLawfully sim Good)
     (stations : SendsToStations sim Good) where
@@ -21,12 +21,12 @@ module _ {S M N : Type 0} {sim : Simulation S M N} {Good : ℕ → S → Type 0}
       → In z (begin sim plans).pending →
       IsStation sim (sim.to z)
   begins_for_stations plans there z i =
-      elim (in_insert_all law.order.order (openings sim sim.stations ++ planned sim 0 plans) [] z i) [
-        | inl j ↦ elim (in_append (openings sim sim.stations) (planned sim 0 plans) z j) [
+      elim (in_insert_all law.order.order (openings sim sim.stations ++ set_messages sim 0 plans) [] z i) [
+        | inl j ↦ elim (in_append (openings sim sim.stations) (set_messages sim 0 plans) z j) [
           | inl k ↦ let h = in_openings sim sim.stations z k in
               subst (IsStation sim) (sym (stations.first h.0 z h.1 h.2)) h.1
-          | inr k ↦ let h = in_planned sim 0 plans z k in
-              subst (IsStation sim) (sym (ap sim.to h.4 ∙ stations.decided h.0 h.1))
+          | inr k ↦ let h = in_set_messages sim 0 plans z k in
+              subst (IsStation sim) (sym (ap sim.to h.4 ∙ stations.set_message h.0 h.1))
               (all_in (λ p. IsStation sim p.station) plans h.1 there h.3)
         ]
         | inr j ↦ absurd j

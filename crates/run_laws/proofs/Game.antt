@@ -11,7 +11,7 @@ use Rattle.std.proofs.lemmas.Cmp.{on_total, then_total}
 use Rattle.sim_base.proofs.OrderEqual.{nat_same, both_equal}
 use Rattle.run_laws.specs.Queue.{In}
 use Rattle.run_laws.specs.Handlers.{IsTimed, HandlesLawfully, SendsToStations}
-use Rattle.run_laws.specs.Examples.{Ball, ball, ball_cmp, thrown_back, game, AnyState}
+use Rattle.run_laws.specs.Examples.{Ball, ball, ball_cmp, bounces, game, AnyState}
 
 -- a ball is its three numbers
 ball_parts : (a b c d e f : ℕ) → a ≡ d → b ≡ e → c ≡ f → ball a b c ≡ ball d e f
@@ -54,7 +54,7 @@ one_of_two x y z false true (inr n) = absurd n
 one_of_two x y z false false i = absurd i
 
 -- what is sent is the ball, thrown back, or its bounce
-thrown : (s : ℕ) (m z : Ball) → In z (thrown_back s m) →
+thrown : (s : ℕ) (m z : Ball) → In z (bounces s m) →
     (z ≡ ball (m.time + 3) 0 (3 - s)) ⊎ (z ≡ ball (m.time + 1) (m.number + 10) s)
 thrown s m z i = one_of_two (ball (m.time + 3) 0 (3 - s)) (ball (m.time + 1) (m.number + 10) s) z (m.number == 0)
     (nat_lt m.number 10) i
@@ -93,7 +93,7 @@ first_ball s m false e f = let h : ⊥ = cc in absurd h
 pub game_sends_to_stations : SendsToStations game AnyState
 game_sends_to_stations = record {
   first = λ s m is e. let h = first_ball s m (s == 1) refl e in ap (λ b. b.to) h.1 ∙ sym h.0;
-  decided = λ k p. refl;
+  set_message = λ k p. refl;
   sends = λ s st m z is g i.
       let above : 0 < s = is.0 in
       let most : s ≤ 2 = is.1 in

@@ -4,7 +4,7 @@ use Rattle.std.proofs.Common.{Bool, None, refl, sym, ap, ◌∙◌, subst, arith
 use Rattle.std.specs.Bool.{Decides}
 use Rattle.std.specs.List.{flat_map}
 use Rattle.std.specs.Set.{distinct_count}
-use Rattle.sim_base.specs.Clones.{Clone, clone_at, added, ended, forked}
+use Rattle.sim_base.specs.Clones.{Clone, clone_at, clones_with_plan, clones_with_end, clones_with_fork}
 use Rattle.sim_base.specs.declared.decision.Planned.{Planned}
 use Rattle.sim_base.specs.declared.entry.Entry.{Entry}
 use Rattle.run_laws.specs.Queue.{In}
@@ -51,8 +51,8 @@ module _ {S M N : Type 0} {sim : Simulation S M N} {Good : ℕ → S → Type 0}
   -- a decision at the front or later
   pub handled-added : (same : Entry M N → Entry M N → Bool) (cs : List Clone) (front s who : ℕ) (p : Planned) →
       who < length cs →
-      front ≤ sim.time (sim.decided (length (clone_at cs who).plans) p) →
-      handled sim same (added cs who p) s front ≡ handled sim same cs s front
+      front ≤ sim.time (sim.set_message (length (clone_at cs who).plans) p) →
+      handled sim same (clones_with_plan cs who p) s front ≡ handled sim same cs s front
   handled-added same cs front s who p there late =
       ap (λ l. distinct_count (same_list same) (flat_map prefixes l))
       (map-set (λ c. log_at sim c s front) cs who (with_plan (clone_at cs who) p) there
@@ -61,7 +61,7 @@ module _ {S M N : Type 0} {sim : Simulation S M N} {Good : ℕ → S → Type 0}
   -- an end at the front or later
   pub handled-ended : (same : Entry M N → Entry M N → Bool) (cs : List Clone) (front s who at : ℕ) → who < length cs →
       front ≤ at → at ≤ end_of sim (clone_at cs who) →
-      handled sim same (ended cs who at) s front ≡ handled sim same cs s front
+      handled sim same (clones_with_end cs who at) s front ≡ handled sim same cs s front
   handled-ended same cs front s who at there late within =
       ap (λ l. distinct_count (same_list same) (flat_map prefixes l))
       (map-set (λ c. log_at sim c s front) cs who (with_end (clone_at cs who) at) there
@@ -81,13 +81,14 @@ module _ {S M N : Type 0} (sim : Simulation S M N) (same : Entry M N → Entry M
 
   -- a fork has the log of its old clone
   pub handled-forked : (cs : List Clone) (name : List ℕ) (old s front : ℕ) → old < length cs →
-      (clone_at cs old).end ≡ None → handled sim same (forked cs name old) s front ≡ handled sim same cs s front
+      (clone_at cs old).end ≡ None → handled sim same (clones_with_fork cs name old) s front
+      ≡ handled sim same cs s front
   handled-forked cs name old s front there open_end =
       let k : Clone = record { name = name; plans = (clone_at cs old).plans; end = None } in
       let f : Clone → List (Entry M N) = λ c. log_at sim c s front in
       let here : List (List (Entry M N)) = logs_at sim cs s front in
       let log : f k ≡ f (clone_at cs old) = log_at-fork sim (clone_at cs old) name open_end s front in
-      same_prefixes (logs_at sim (forked cs name old) s front) here
+      same_prefixes (logs_at sim (clones_with_fork cs name old) s front) here
       (λ l i. let h = in_map f (cs ++ k ∷ []) l i in elim (in_append cs (k ∷ []) h.0 h.1) [
         | inl j ↦ subst (λ u. In u here) (sym h.2) (map_has f cs h.0 j)
         | inr j ↦ elim j [
@@ -96,5 +97,6 @@ module _ {S M N : Type 0} (sim : Simulation S M N) (same : Entry M N → Entry M
           | inr z ↦ absurd z
         ]
       ])
-      (λ l i. let h = in_map f cs l i in subst (λ u. In u (logs_at sim (forked cs name old) s front)) (sym h.2)
+      (λ l i. let h = in_map f cs l i in subst (λ u. In u (logs_at sim (clones_with_fork cs name old) s front))
+      (sym h.2)
       (map_has f (cs ++ k ∷ []) h.0 (append_old cs (k ∷ []) h.0 h.1)))

@@ -9,7 +9,7 @@ use Rattle.sim_base.specs.declared.decision.Planned.{Planned}
 use Rattle.run_laws.specs.Queue.{insert, insert_all, Sorted}
 use Rattle.run_laws.specs.Machine.{run_to}
 use Rattle.run_laws.specs.Simulation.{Simulation}
-use Rattle.run_laws.specs.World.{to_it, world_step, openings, planned, begin}
+use Rattle.run_laws.specs.World.{to_it, world_step, openings, set_messages, begin}
 use Rattle.run_laws.specs.Window.{earlier_than}
 use Rattle.run_laws.specs.Runs.{run, end_of, run_of, all_due, due_at}
 use Rattle.run_laws.specs.Handlers.{HandlesLawfully}
@@ -21,27 +21,27 @@ use Rattle.run_laws.proofs.Worlds.{world_lawful, begins_fine, run_fine}
 
 module _ {S M N : Type 0} (sim : Simulation S M N) where
   -- the last decision has the place after the others
-  planned-push : (k : ℕ) (plans : List Planned) (p : Planned) →
-      planned sim k (plans ++ p ∷ []) ≡ planned sim k plans ++ sim.decided (k + length plans) p ∷ []
-  planned-push k [] p = ap (λ n. sim.decided n p ∷ []) (let e : k ≡ k + 0 = omega arith in e)
-  planned-push k (x ∷ plans) p = ap (λ l. sim.decided k x ∷ l)
-      (planned-push (suc k) plans p ∙ ap (λ n. planned sim (suc k) plans ++ sim.decided n p ∷ [])
+  set_messages-push : (k : ℕ) (plans : List Planned) (p : Planned) →
+      set_messages sim k (plans ++ p ∷ []) ≡ set_messages sim k plans ++ sim.set_message (k + length plans) p ∷ []
+  set_messages-push k [] p = ap (λ n. sim.set_message n p ∷ []) (let e : k ≡ k + 0 = omega arith in e)
+  set_messages-push k (x ∷ plans) p = ap (λ l. sim.set_message k x ∷ l)
+      (set_messages-push (suc k) plans p ∙ ap (λ n. set_messages sim (suc k) plans ++ sim.set_message n p ∷ [])
       (let e : suc k + length plans ≡ k + suc (length plans) = omega arith in e))
 
   -- a world with one decision more begins with one message more
   begin-push : (plans : List Planned) (p : Planned) →
-      begin sim (plans ++ p ∷ []) ≡ and_pending sim.order (sim.decided (length plans) p) (begin sim plans)
+      begin sim (plans ++ p ∷ []) ≡ and_pending sim.order (sim.set_message (length plans) p) (begin sim plans)
   begin-push plans p =
-      let m = sim.decided (length plans) p in
+      let m = sim.set_message (length plans) p in
       let first = openings sim sim.stations in
-      let last : planned sim 0 (plans ++ p ∷ []) ≡ planned sim 0 plans ++ m ∷ [] = planned-push 0 plans p
-      ∙ ap (λ n. planned sim 0 plans ++ sim.decided n p ∷ [])
+      let last : set_messages sim 0 (plans ++ p ∷ []) ≡ set_messages sim 0 plans ++ m ∷ [] = set_messages-push 0 plans p
+      ∙ ap (λ n. set_messages sim 0 plans ++ sim.set_message n p ∷ [])
       (let e : 0 + length plans ≡ length plans = omega arith in e) in
-      let all : insert_all sim.order (first ++ planned sim 0 (plans ++ p ∷ [])) [] ≡ insert sim.order m
-      (insert_all sim.order (first ++ planned sim 0 plans) []) =
+      let all : insert_all sim.order (first ++ set_messages sim 0 (plans ++ p ∷ [])) [] ≡ insert sim.order m
+      (insert_all sim.order (first ++ set_messages sim 0 plans) []) =
       ap (λ l. insert_all sim.order (first ++ l) []) last
-      ∙ ap (λ l. insert_all sim.order l []) (sym (append_assoc first (planned sim 0 plans) (m ∷ [])))
-      ∙ insert_all-push sim.order (first ++ planned sim 0 plans) m [] in
+      ∙ ap (λ l. insert_all sim.order l []) (sym (append_assoc first (set_messages sim 0 plans) (m ∷ [])))
+      ∙ insert_all-push sim.order (first ++ set_messages sim 0 plans) m [] in
       ap (λ q. record { at = (begin sim plans).at; pending = q }) all
 
 -- a message that passes two tests, one after the other
@@ -59,11 +59,12 @@ filter-cond p false l r = refl
 
 module _ {S M N : Type 0} {sim : Simulation S M N} {Good : ℕ → S → Type 0} (law : HandlesLawfully sim Good) where
   -- a late decision is pending at the front, and changes nothing else
-  run_late_plan : (plans : List Planned) (p : Planned) (front : ℕ) → front ≤ sim.time (sim.decided (length plans) p) →
-      run sim (plans ++ p ∷ []) front ≡ and_pending sim.order (sim.decided (length plans) p) (run sim plans front)
+  run_late_plan : (plans : List Planned) (p : Planned) (front : ℕ) →
+      front ≤ sim.time (sim.set_message (length plans) p) →
+      run sim (plans ++ p ∷ []) front ≡ and_pending sim.order (sim.set_message (length plans) p) (run sim plans front)
   run_late_plan plans p front l =
       ap (λ w. run_to sim.order (world_step sim.to sim.handle) sim.time w front) (begin-push sim plans p)
-      ∙ run_late law.order (world_lawful law) front (begin sim plans) (sim.decided (length plans) p) l
+      ∙ run_late law.order (world_lawful law) front (begin sim plans) (sim.set_message (length plans) p) l
       (begins_fine law plans)
 
   -- what is due is in order
@@ -73,10 +74,10 @@ module _ {S M N : Type 0} {sim : Simulation S M N} {Good : ℕ → S → Type 0}
 
   -- a decision at or after a front adds its message to what is due there
   pub late_decision_adds_due : (c : Clone) (p : Planned) (front : ℕ)
-      → front ≤ sim.time (sim.decided (length c.plans) p) →
-      AddsDue sim c p (sim.decided (length c.plans) p) front
+      → front ≤ sim.time (sim.set_message (length c.plans) p) →
+      AddsDue sim c p (sim.set_message (length c.plans) p) front
   late_decision_adds_due c p front l =
-      let m = sim.decided (length c.plans) p in
+      let m = sim.set_message (length c.plans) p in
       let end : ℕ = end_of sim c in
       let late : min front (end_of sim c) ≤ sim.time m = omega arith in
       let is : run_of sim (with_plan c p) front ≡ and_pending sim.order m (run_of sim c front) =

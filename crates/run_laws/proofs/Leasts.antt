@@ -4,7 +4,7 @@ use Rattle.std.proofs.Common.{true, false, cond, nat_lt, inl, inr, refl, sym, ap
 use Rattle.std.specs.declared.cmp.Ordering.{Ordering}
 use Rattle.std.specs.declared.cmp.Ordering.TheVariants.{Less, Equal, Greater}
 use Rattle.std.proofs.lemmas.Bool.{cases_lt, lt-ltb, le-ltb}
-use Rattle.run_laws.specs.Queue.{place, insert, In, Sorted}
+use Rattle.run_laws.specs.Queue.{insert_by, insert, In, Sorted}
 use Rattle.run_laws.specs.Window.{earlier_than}
 use Rattle.run_laws.specs.Fronts.{earlier, least_time}
 use Rattle.run_laws.specs.Handlers.{IsTimed}
@@ -70,7 +70,7 @@ swapped t u (Some v) = ap Some (let e : min t (min u v) ≡ min u (min t v) = om
 module _ {M : Type 0} {cmp : M → M → Ordering} {time : M → ℕ} (o : IsTimed cmp time) where
   least_place : (r : Ordering) (x y : M) (ys rest : List M) → cmp x y ≡ r →
       least_time time rest ≡ earlier (Some (time x)) (least_time time ys) →
-      least_time time (place r x y ys rest) ≡ earlier (Some (time x)) (least_time time (y ∷ ys))
+      least_time time (insert_by r x y ys rest) ≡ earlier (Some (time x)) (least_time time (y ∷ ys))
   least_place Less x y ys rest e h = refl
   least_place Equal x y ys rest e h =
       sym (ap (λ u. earlier (Some (time u)) (least_time time (y ∷ ys))) (o.order.same x y e)

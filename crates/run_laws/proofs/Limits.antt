@@ -10,7 +10,7 @@ use Rattle.run_laws.specs.Window.{part_step}
 use Rattle.run_laws.specs.Handlers.{IsTimed}
 use Rattle.run_laws.specs.Prefixes.{IsCount, IsGained}
 use Rattle.sim_base.specs.Marked.{JoinsMarks, SortedMarked}
-use Rattle.run_laws.specs.Copies.{Copy, Carries, handle_until, handled_by, laid_aside, takes}
+use Rattle.run_laws.specs.Copies.{Copy, Carries, handle_until, handled_by, sends_aside, takes}
 use Rattle.run_laws.specs.Copies.{taken, view, Settled, IsCutLog, GoesOver}
 use Rattle.run_laws.proofs.Machine.{reach_first, reach_trans, done_stays, done_no_next}
 use Rattle.run_laws.proofs.Parts.{sorted_part}
@@ -118,13 +118,13 @@ module _ {S M N K : Type 0} (sim : Simulation S M N) {has : K → ℕ → Bool} 
       (some : (l : List (Entry M N)) × IsCutLog sim has ends s bound r sent l) → length r.log < sim.limit →
       r.pending ≡ (m, k) ∷ q → SortedMarked sim.order r.pending →
       ((c : ℕ) → Carries has r c → takes sim has ends m k c ≡ true) → sim.time m < bound →
-      IsCount (IsGained (IsCutLog sim has ends s bound (handled_by sim join s r m q) (sent ++ laid_aside sim s r m))
+      IsCount (IsGained (IsCutLog sim has ends s bound (handled_by sim join s r m q) (sent ++ sends_aside sim s r m))
       (handled_by sim join s r m q).log) n →
       IsCount (IsGained (IsCutLog sim has ends s bound r sent) r.log) (n + 1)
   cut_handle r m k q sent n some l p sorted all early h =
       let x : Entry M N = new_entry sim s bound r.state m in
       let new : Copy S M N K = handled_by sim join s r m q in
-      let out : List (M × K) = sent ++ laid_aside sim s r m in
+      let out : List (M × K) = sent ++ sends_aside sim s r m in
       let next : (c : ℕ) → Carries has r c
       → Next sim.order sim.time (part_step sim.to (handle_until sim (ends c)) s) bound
       (view sim has ends c r sent) (view sim has ends c new out) =

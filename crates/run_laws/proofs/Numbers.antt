@@ -13,7 +13,7 @@ use Rattle.sim_base.specs.declared.entry.Entry.{Entry}
 use Rattle.run_laws.specs.Queue.{In, Sorted}
 use Rattle.run_laws.specs.Machine.{Config, after}
 use Rattle.run_laws.specs.Simulation.{Simulation}
-use Rattle.run_laws.specs.World.{World, log_of, put, world_step, openings, planned, begin}
+use Rattle.run_laws.specs.World.{World, log_of, put, world_step, openings, set_messages, begin}
 use Rattle.run_laws.specs.Runs.{end_of, run_of, log_at}
 use Rattle.run_laws.specs.Sharing.{IsBeyond}
 use Rattle.run_laws.specs.Handlers.{AllGood, IsStation, AreForStations, key_order}
@@ -115,14 +115,15 @@ module _ {S M N : Type 0} {sim : Simulation S M N} {Good : ℕ → S → Type 0}
       }
 
   -- a decision has its place in the list as its number
-  planned_low : (k : ℕ) (plans : List Planned) (z : M) → In z (planned sim k plans) →
+  set_messages_low : (k : ℕ) (plans : List Planned) (z : M) → In z (set_messages sim k plans) →
       (sender z ≡ 0) × (number z < k + length plans)
-  planned_low k [] z i = absurd i
-  planned_low k (p ∷ ps) z (inl e) =
-      let d = fresh.decided k p in
+  set_messages_low k [] z i = absurd i
+  set_messages_low k (p ∷ ps) z (inl e) =
+      let d = fresh.set_message k p in
       let n : number z ≡ k = ap number e ∙ d.1 in
       (ap sender e ∙ d.0, omega (arith, n))
-  planned_low k (p ∷ ps) z (inr i) = let h = planned_low (suc k) ps z i in let n = h.1 in (h.0, omega (arith, n))
+  set_messages_low k (p ∷ ps) z (inr i) =
+      let h = set_messages_low (suc k) ps z i in let n = h.1 in (h.0, omega (arith, n))
 
   -- a world begins so, where its decisions are for stations
   begins_told : (plans : List Planned) → AreForStations sim plans → Told plans (begin sim plans)
@@ -132,8 +133,8 @@ module _ {S M N : Type 0} {sim : Simulation S M N} {Good : ℕ → S → Type 0}
       let pending : (z : M) → IsMessageOf (begin sim plans) z → In z (begin sim plans).pending =
       λ z i. elim i [ inl j ↦ absurd j | inr j ↦ j ] in
       record {
-        used = λ z i. elim (in_insert_all law.order.order (first ++ planned sim 0 plans) [] z (pending z i)) [
-          | inl j ↦ elim (in_append first (planned sim 0 plans) z j) [
+        used = λ z i. elim (in_insert_all law.order.order (first ++ set_messages sim 0 plans) [] z (pending z i)) [
+          | inl j ↦ elim (in_append first (set_messages sim 0 plans) z j) [
             | inl k ↦
                 let o = in_openings sim sim.stations z k in
                 let f = fresh.opened o.0 z o.1 o.2 in
@@ -142,7 +143,7 @@ module _ {S M N : Type 0} {sim : Simulation S M N} {Good : ℕ → S → Type 0}
                   subst (λ r. number z < next (sim.setup r).state)
                       (sym f.0) f.1,
                 )
-            | inr k ↦ let p = planned_low 0 plans z k in let n = p.1 in inl (p.0, omega (arith, n))
+            | inr k ↦ let p = set_messages_low 0 plans z k in let n = p.1 in inl (p.0, omega (arith, n))
           ]
           | inr j ↦ absurd j
         ];

@@ -6,7 +6,7 @@ use Rattle.std.specs.declared.cmp.Ordering.TheVariants.{Less, Equal, Greater}
 use Rattle.std.specs.List.{AllByRecursion, filter}
 use Rattle.std.proofs.lemmas.Bool.{cases_Bool}
 use Rattle.sim_base.specs.Pending.{place_marked, insert_marked}
-use Rattle.run_laws.specs.Queue.{place, insert, insert_all, Sorted}
+use Rattle.run_laws.specs.Queue.{insert_by, insert, insert_all, Sorted}
 use Rattle.run_laws.specs.Handlers.{IsOrder}
 use Rattle.sim_base.specs.Marked.{Above, SortedMarked}
 use Rattle.run_laws.specs.Copies.{part, insert_marked_all}
@@ -99,7 +99,7 @@ part-filter t u p c (x ∷ xs) f =
 insert_first : {M : Type 0} (cmp : M → M → Ordering) (x : M) (q : List M) → AllByRecursion (λ y. cmp x y ≡ Less) q →
     insert cmp x q ≡ x ∷ q
 insert_first cmp x [] f = refl
-insert_first cmp x (y ∷ ys) f = ap (λ r. place r x y ys (insert cmp x ys)) f.0
+insert_first cmp x (y ∷ ys) f = ap (λ r. insert_by r x y ys (insert cmp x ys)) f.0
 
 module _ {M K : Type 0} (takes : M → K → ℕ → Bool) (join : K → K → K)
     (joins : (m : M) (a b : K) (c : ℕ) → takes m (join a b) c ≡ (takes m a c || takes m b c)) {cmp : M → M → Ordering}
@@ -111,7 +111,7 @@ module _ {M K : Type 0} (takes : M → K → ℕ → Bool) (join : K → K → K
   -- the message is there already
   case_equal : (k y_has : Bool) (x y : M) (q : List M) → x ≡ y → cmp x y ≡ Equal →
       AllByRecursion (λ z. cmp y z ≡ Less) q → cond (y_has || k) (y ∷ q) q ≡ gets k x (cond y_has (y ∷ q) q)
-  case_equal true true x y q d e f = sym (ap (λ r. place r x y q (insert cmp x q)) e)
+  case_equal true true x y q d e f = sym (ap (λ r. insert_by r x y q (insert cmp x q)) e)
   case_equal true false x y q d e f =
       sym (insert_first cmp x q (subst (λ u. AllByRecursion (λ z. cmp u z ≡ Less) q) (sym d) f) ∙ ap (λ u. u ∷ q) d)
   case_equal false true x y q d e f = refl
@@ -120,7 +120,7 @@ module _ {M K : Type 0} (takes : M → K → ℕ → Bool) (join : K → K → K
   -- the message goes further back
   case_greater : (k y_has : Bool) (x y : M) (q r : List M) → cmp x y ≡ Greater → r ≡ gets k x q →
       cond y_has (y ∷ r) r ≡ gets k x (cond y_has (y ∷ q) q)
-  case_greater true true x y q r e h = ap (λ l. y ∷ l) h ∙ sym (ap (λ s. place s x y q (insert cmp x q)) e)
+  case_greater true true x y q r e h = ap (λ l. y ∷ l) h ∙ sym (ap (λ s. insert_by s x y q (insert cmp x q)) e)
   case_greater true false x y q r e h = h
   case_greater false true x y q r e h = ap (λ l. y ∷ l) h
   case_greater false false x y q r e h = h

@@ -6,7 +6,7 @@ use Rattle.std.specs.declared.cmp.Ordering.TheVariants.{Less, Equal, Greater}
 use Rattle.std.specs.Cmp.{tied_itself}
 use Rattle.std.specs.List.{AllByRecursion}
 use Rattle.sim_base.proofs.Placing.{all_weaker}
-use Rattle.run_laws.specs.Queue.{place, insert, insert_all, In, Sorted}
+use Rattle.run_laws.specs.Queue.{insert_by, insert, insert_all, In, Sorted}
 use Rattle.run_laws.specs.Handlers.{IsOrder}
 
 -- what holds of all holds of each element
@@ -22,7 +22,7 @@ all_from P (y ∷ ys) f = (f y (inl refl), all_from P ys (λ x i. f x (inr i)))
 
 -- what is in a list after an element was put in its place
 in_place : {X : Type 0} (r : Ordering) (x y : X) (ys rest : List X) (z : X) → (In z rest → (z ≡ x) ⊎ In z ys) →
-    In z (place r x y ys rest) → (z ≡ x) ⊎ In z (y ∷ ys)
+    In z (insert_by r x y ys rest) → (z ≡ x) ⊎ In z (y ∷ ys)
 in_place Less x y ys rest z f i = i
 in_place Equal x y ys rest z f i = inr i
 in_place Greater x y ys rest z f (inl e) = inr (inl e)
@@ -30,7 +30,7 @@ in_place Greater x y ys rest z f (inr j) = elim (f j) [ inl e ↦ inl e | inr k 
 
 -- what was there stays
 place_old : {X : Type 0} (r : Ordering) (x y : X) (ys rest : List X) (z : X) → (In z ys → In z rest) → In z (y ∷ ys) →
-    In z (place r x y ys rest)
+    In z (insert_by r x y ys rest)
 place_old Less x y ys rest z f i = inr i
 place_old Equal x y ys rest z f i = i
 place_old Greater x y ys rest z f (inl e) = inl e
@@ -38,7 +38,7 @@ place_old Greater x y ys rest z f (inr j) = inr (f j)
 
 -- and the new element is there
 place_new : {X : Type 0} (r : Ordering) (x y : X) (ys rest : List X) → (r ≡ Equal → x ≡ y) → In x rest →
-    In x (place r x y ys rest)
+    In x (insert_by r x y ys rest)
 place_new Less x y ys rest f i = inl refl
 place_new Equal x y ys rest f i = inl (f refl)
 place_new Greater x y ys rest f i = inr i
@@ -81,7 +81,7 @@ module _ {X : Type 0} {cmp : X → X → Ordering} (o : IsOrder cmp) where
 
   -- the order is kept, wherever the element goes
   sorted_place : (r : Ordering) (x y : X) (ys : List X) → cmp x y ≡ r → Sorted cmp (y ∷ ys) →
-      Sorted cmp (insert cmp x ys) → Sorted cmp (place r x y ys (insert cmp x ys))
+      Sorted cmp (insert cmp x ys) → Sorted cmp (insert_by r x y ys (insert cmp x ys))
   sorted_place Less x y ys e s t =
       ((e, all_weaker (λ z. cmp y z ≡ Less) (λ z. cmp x z ≡ Less) ys (λ z l. o.total.trans x y z e l) s.0), s)
   sorted_place Equal x y ys e s t = s

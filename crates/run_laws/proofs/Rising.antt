@@ -17,7 +17,7 @@ use Rattle.sim_base.proofs.OrderEqual.{nat_same, both_equal}
 use Rattle.run_laws.specs.Queue.{insert_all, In, Sorted}
 use Rattle.run_laws.specs.Machine.{Config, after}
 use Rattle.run_laws.specs.Simulation.{Simulation}
-use Rattle.run_laws.specs.World.{World, put, world_step, openings, planned, begin}
+use Rattle.run_laws.specs.World.{World, put, world_step, openings, set_messages, begin}
 use Rattle.run_laws.specs.Runs.{end_of, run_of}
 use Rattle.run_laws.specs.Handlers.{AllGood, IsStation, AreForStations, key_order}
 use Rattle.run_laws.specs.Handlers.{HandlesLawfully, SendsToStations, HandlesFreshly}
@@ -25,7 +25,7 @@ use Rattle.run_laws.specs.Laws.{IsMessageOf}
 use Rattle.run_laws.proofs.Queue.{all_in, all_from, in_insert_all, not_below_itself}
 use Rattle.run_laws.proofs.Lists.{in_append, sorted_append}
 use Rattle.run_laws.proofs.Running.{fine_keeps}
-use Rattle.run_laws.proofs.Worlds.{put_cases, put_same, in_openings, in_planned}
+use Rattle.run_laws.proofs.Worlds.{put_cases, put_same, in_openings, in_set_messages}
 use Rattle.run_laws.proofs.Worlds.{entry_of, world_lawful, begins_fine, run_reached}
 
 -- what is less by the first of two orders is less
@@ -143,23 +143,24 @@ module _ {S M N : Type 0} {sim : Simulation S M N} {Good : ℕ → S → Type 0}
       }
 
   -- no two decisions have one number
-  planned_apart : (k : ℕ) (plans : List Planned) (z y : M) → In z (planned sim k plans) → In y (planned sim k plans) →
+  set_messages_apart : (k : ℕ) (plans : List Planned) (z y : M) →
+      In z (set_messages sim k plans) → In y (set_messages sim k plans) →
       number z ≡ number y → z ≡ y
-  planned_apart k [] z y i j n = absurd i
-  planned_apart k (p ∷ ps) z y (inl e) (inl f) n = e ∙ sym f
-  planned_apart k (p ∷ ps) z y (inl e) (inr j) n =
-      let h = in_planned sim (suc k) ps y j in
+  set_messages_apart k [] z y i j n = absurd i
+  set_messages_apart k (p ∷ ps) z y (inl e) (inl f) n = e ∙ sym f
+  set_messages_apart k (p ∷ ps) z y (inl e) (inr j) n =
+      let h = in_set_messages sim (suc k) ps y j in
       let l = h.2 in
-      let a : number z ≡ k = ap number e ∙ (fresh.decided k p).1 in
-      let b : number y ≡ h.0 = ap number h.4 ∙ (fresh.decided h.0 h.1).1 in
+      let a : number z ≡ k = ap number e ∙ (fresh.set_message k p).1 in
+      let b : number y ≡ h.0 = ap number h.4 ∙ (fresh.set_message h.0 h.1).1 in
       absurd (omega (arith, n, a, b))
-  planned_apart k (p ∷ ps) z y (inr i) (inl f) n =
-      let h = in_planned sim (suc k) ps z i in
+  set_messages_apart k (p ∷ ps) z y (inr i) (inl f) n =
+      let h = in_set_messages sim (suc k) ps z i in
       let l = h.2 in
-      let a : number y ≡ k = ap number f ∙ (fresh.decided k p).1 in
-      let b : number z ≡ h.0 = ap number h.4 ∙ (fresh.decided h.0 h.1).1 in
+      let a : number y ≡ k = ap number f ∙ (fresh.set_message k p).1 in
+      let b : number z ≡ h.0 = ap number h.4 ∙ (fresh.set_message h.0 h.1).1 in
       absurd (omega (arith, n, a, b))
-  planned_apart k (p ∷ ps) z y (inr i) (inr j) n = planned_apart (suc k) ps z y i j n
+  set_messages_apart k (p ∷ ps) z y (inr i) (inr j) n = set_messages_apart (suc k) ps z y i j n
 
   -- an option has one value
   some_same : (z y : M) → Some z ≡ Some y → z ≡ y
@@ -169,7 +170,7 @@ module _ {S M N : Type 0} {sim : Simulation S M N} {Good : ℕ → S → Type 0}
   pub begins_fresh : (plans : List Planned) → AreForStations sim plans → Fresh (begin sim plans)
   begins_fresh plans there =
       let first : List M = openings sim sim.stations in
-      let late : List M = planned sim 0 plans in
+      let late : List M = set_messages sim 0 plans in
       let cases : (z : M) → In z (begin sim plans).pending → In z first ⊎ In z late =
       λ z i. elim (in_insert_all law.order.order (first ++ late) [] z i) [
         | inl j ↦ in_append first late z j
@@ -177,8 +178,8 @@ module _ {S M N : Type 0} {sim : Simulation S M N} {Good : ℕ → S → Type 0}
       ] in
       let seen : (z : M) → IsMessageOf (begin sim plans) z → In z first ⊎ In z late =
       λ z i. elim i [ inl n ↦ absurd n | inr j ↦ cases z j ] in
-      let analyst : (z : M) → In z late → sender z ≡ 0 = λ z i. let h = in_planned sim 0 plans z i in
-      ap sender h.4 ∙ (fresh.decided h.0 h.1).0 in
+      let analyst : (z : M) → In z late → sender z ≡ 0 = λ z i. let h = in_set_messages sim 0 plans z i in
+      ap sender h.4 ∙ (fresh.set_message h.0 h.1).0 in
       let own : (z : M) → In z first → 0 < sender z = λ z i. let h = in_openings sim sim.stations z i in let l =
       h.1.0 in let e = (fresh.opened h.0 z h.1 h.2).0 in omega (arith, e, l) in
       record {
@@ -196,14 +197,14 @@ module _ {S M N : Type 0} {sim : Simulation S M N} {Good : ℕ → S → Type 0}
           ]
           | inr a ↦ elim (seen y j) [
             | inl b ↦ let o = own y b in let t = analyst z a in absurd (omega (arith, e, o, t))
-            | inr b ↦ planned_apart 0 plans z y a b n
+            | inr b ↦ set_messages_apart 0 plans z y a b n
           ]
         ];
         to_station = λ z i. elim (cases z i) [
           | inl j ↦ let h = in_openings sim sim.stations z j in
               subst (IsStation sim) (sym (stations.first h.0 z h.1 h.2)) h.1
-          | inr j ↦ let h = in_planned sim 0 plans z j in
-              subst (IsStation sim) (sym (ap sim.to h.4 ∙ stations.decided h.0 h.1))
+          | inr j ↦ let h = in_set_messages sim 0 plans z j in
+              subst (IsStation sim) (sym (ap sim.to h.4 ∙ stations.set_message h.0 h.1))
               (all_in (λ p. IsStation sim p.station) plans h.1 there h.3)
         ];
         rising = tt;

@@ -5,7 +5,7 @@ use Rattle.std.specs.declared.cmp.Ordering.{Ordering}
 use Rattle.std.specs.declared.cmp.Ordering.TheVariants.{Less, Equal, Greater}
 use Rattle.std.specs.List.{AllByRecursion}
 use Rattle.std.proofs.lemmas.Bool.{cases_eq, ne_eqb}
-use Rattle.run_laws.specs.Queue.{place, insert, insert_all, In, Sorted}
+use Rattle.run_laws.specs.Queue.{insert_by, insert, insert_all, In, Sorted}
 use Rattle.run_laws.specs.Machine.{Config, count_at, after, turns, run_to, Next, Reach, stay, go, Done}
 use Rattle.run_laws.specs.Handlers.{IsTimed, IsLawful}
 use Rattle.run_laws.specs.Laws.{and_pending, IsReady}
@@ -54,7 +54,7 @@ module _ {M : Type 0} (time : M → ℕ) where
 
   -- a message of another time counts for nothing, wherever it goes
   count_place : (t : ℕ) (r : Ordering) (x y : M) (ys rest : List M) → (time x ≡ t → ⊥) →
-      count_at time t rest ≡ count_at time t ys → count_at time t (place r x y ys rest) ≡ count_at time t (y ∷ ys)
+      count_at time t rest ≡ count_at time t ys → count_at time t (insert_by r x y ys rest) ≡ count_at time t (y ∷ ys)
   count_place t Less x y ys rest n e = count_no t x (y ∷ ys) n
   count_place t Equal x y ys rest n e = refl
   count_place t Greater x y ys rest n e = ap (λ k. cond (time y == t) (suc k) k) e
@@ -81,7 +81,7 @@ module _ {M : Type 0} {cmp : M → M → Ordering} {time : M → ℕ} (o : IsTim
 
   -- a later message goes behind an earlier one
   later_place : (r : Ordering) (x m : M) (q rest : List M) → cmp x m ≡ r → time m < time x
-      → place r x m q rest ≡ m ∷ rest
+      → insert_by r x m q rest ≡ m ∷ rest
   later_place Less x m q rest e l = let h = o.timed x m e in absurd (omega arith)
   later_place Equal x m q rest e l = let h = ap time (o.order.same x m e) in absurd (omega (arith, h))
   later_place Greater x m q rest e l = refl

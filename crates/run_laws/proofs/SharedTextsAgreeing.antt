@@ -9,7 +9,7 @@ use Rattle.sim_base.specs.declared.decision.Planned.{Planned}
 use Rattle.run_laws.specs.Queue.{insert, insert_all, Sorted}
 use Rattle.run_laws.specs.Machine.{Config, run_to}
 use Rattle.run_laws.specs.Simulation.{Simulation}
-use Rattle.run_laws.specs.World.{World, openings, planned, begin}
+use Rattle.run_laws.specs.World.{World, openings, set_messages, begin}
 use Rattle.run_laws.specs.Window.{earlier_than}
 use Rattle.run_laws.specs.Runs.{run, end_of, trace_of}
 use Rattle.run_laws.specs.Handlers.{IsTimed, IsLawful, HandlesLawfully}
@@ -54,18 +54,18 @@ module _ {X M : Type 0} {cmp : M → M → Ordering} {time : M → ℕ} {handle 
 module _ {S M N : Type 0} {sim : Simulation S M N} {Good : ℕ → S → Type 0} (law : HandlesLawfully sim Good) where
   -- decisions that agree below a time lead to one world at that time
   worlds_agree : (ps qs : List Planned) (t : ℕ) →
-      earlier_than sim.time t (planned sim 0 ps) ≡ earlier_than sim.time t (planned sim 0 qs) →
+      earlier_than sim.time t (set_messages sim 0 ps) ≡ earlier_than sim.time t (set_messages sim 0 qs) →
       (run sim ps t).at ≡ (run sim qs t).at
   worlds_agree ps qs t e =
       let first : List M = openings sim sim.stations in
       let x : World S M N = (begin sim []).at in
       -- where the openings and the decisions below the time lead to
       let world : List M → World S M N = λ l. led law.order (world_lawful law) x (insert_all sim.order l []) t in
-      let below : List Planned → List M = λ plans. earlier_than sim.time t (planned sim 0 plans) in
+      let below : List Planned → List M = λ plans. earlier_than sim.time t (set_messages sim 0 plans) in
       let cut : (plans : List Planned) → (run sim plans t).at ≡ world (earlier_than sim.time t first ++ below plans) =
       λ plans.
-      late_left_out law.order (world_lawful law) t x law.opens (first ++ planned sim 0 plans) [] tt
-      ∙ ap world (filter-append (λ m. nat_lt (sim.time m) t) first (planned sim 0 plans)) in
+      late_left_out law.order (world_lawful law) t x law.opens (first ++ set_messages sim 0 plans) [] tt
+      ∙ ap world (filter-append (λ m. nat_lt (sim.time m) t) first (set_messages sim 0 plans)) in
       cut ps ∙ ap (λ l. world (earlier_than sim.time t first ++ l)) e ∙ sym (cut qs)
 
   -- a clone's trace before a time that it does not end before
@@ -75,7 +75,7 @@ module _ {S M N : Type 0} {sim : Simulation S M N} {Good : ℕ → S → Type 0}
 
   -- two clones whose decisions below a time are equal have one trace before it, if neither ends earlier
   pub traces_agree : (c d : Clone) (t : ℕ) → t ≤ end_of sim c → t ≤ end_of sim d → t ≤ sim.horizon →
-      earlier_than sim.time t (planned sim 0 c.plans) ≡ earlier_than sim.time t (planned sim 0 d.plans) →
+      earlier_than sim.time t (set_messages sim 0 c.plans) ≡ earlier_than sim.time t (set_messages sim 0 d.plans) →
       before sim t (trace_of sim c) ≡ before sim t (trace_of sim d)
   traces_agree c d t l k h e =
       before_time c t l h ∙ ap (λ w. w.trace) (worlds_agree c.plans d.plans t e) ∙ sym (before_time d t k h)
@@ -90,14 +90,14 @@ module _ {S M N : Type 0} (sim : Simulation S M N) where
   module _ (same : Planned → Planned → Bool) (tells : TellsPlans sim same) where
     -- so is a decision from then on, wherever it stands in the list
     late_plan : (k t : ℕ) (p : Planned) (ps : List Planned) → t ≤ p.at →
-        earlier_than sim.time t (planned sim k (p ∷ ps)) ≡ earlier_than sim.time t (planned sim (suc k) ps)
+        earlier_than sim.time t (set_messages sim k (p ∷ ps)) ≡ earlier_than sim.time t (set_messages sim (suc k) ps)
     late_plan k t p ps l =
         let e = tells.at k p in
-        left_out t (sim.decided k p) (planned sim (suc k) ps) (omega (arith, e, l))
+        left_out t (sim.set_message k p) (set_messages sim (suc k) ps) (omega (arith, e, l))
 
     -- below where they part, two lists have the same decisions
     pub agree_below : (most k t : ℕ) (ps qs : List Planned) → t ≤ parting same most ps qs →
-        earlier_than sim.time t (planned sim k ps) ≡ earlier_than sim.time t (planned sim k qs)
+        earlier_than sim.time t (set_messages sim k ps) ≡ earlier_than sim.time t (set_messages sim k qs)
     agree_below most k t [] [] l = refl
     agree_below most k t (p ∷ ps) [] l =
         late_plan k t p ps (omega arith) ∙ agree_below most (suc k) t ps [] (omega arith)
@@ -107,8 +107,8 @@ module _ {S M N : Type 0} (sim : Simulation S M N) where
       | inl y ↦
           let e : p ≡ q = tells.sound p q y in
           let r : t ≤ parting same most ps qs = rw y at l in
-          let m : M = sim.decided k q in
-          ap (λ z. earlier_than sim.time t (sim.decided k z ∷ planned sim (suc k) ps)) e
+          let m : M = sim.set_message k q in
+          ap (λ z. earlier_than sim.time t (sim.set_message k z ∷ set_messages sim (suc k) ps)) e
           ∙ ap (λ rest. cond (nat_lt (sim.time m) t) (m ∷ rest) rest) (agree_below most (suc k) t ps qs r)
       | inr n ↦
           let r : t ≤ min (min p.at q.at) (parting same most ps qs) = rw n at l in

@@ -1,4 +1,4 @@
--- A step of all copies of a station: copy after copy, each with what comes of it at the bound.
+-- A step of all copies of a station: copy after copy, each with its results at the bound.
 use Rattle.std.proofs.Common.{◌≡◌, ℕ, ◌≤◌, ◌<◌, List, [], ◌∷◌, ◌++◌, inl, inr, Bool}
 use Rattle.std.proofs.Common.{true, false, nat_lt, refl, sym, ap, ◌∙◌, subst, arith, length}
 use Rattle.std.proofs.lemmas.Bool.{false≢true}

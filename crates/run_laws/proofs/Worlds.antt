@@ -8,7 +8,7 @@ use Rattle.sim_base.specs.declared.entry.Entry.{Entry}
 use Rattle.run_laws.specs.Queue.{In}
 use Rattle.run_laws.specs.Machine.{Reach}
 use Rattle.run_laws.specs.Simulation.{Simulation}
-use Rattle.run_laws.specs.World.{to_it, log_of, put, world_step, and_first, openings, planned, begin}
+use Rattle.run_laws.specs.World.{to_it, log_of, put, world_step, and_first, openings, set_messages, begin}
 use Rattle.run_laws.specs.Window.{part_step}
 use Rattle.run_laws.specs.Runs.{run}
 use Rattle.run_laws.specs.Handlers.{IsLawful, AllGood, HandlesLawfully}
@@ -69,11 +69,11 @@ module _ {S M N : Type 0} (sim : Simulation S M N) where
   ]
 
   -- a planned message is a decision at its place
-  pub in_planned : (k : ℕ) (plans : List Planned) (z : M) → In z (planned sim k plans) →
-      (i : ℕ) × (p : Planned) × (k ≤ i) × In p plans × (z ≡ sim.decided i p)
-  in_planned k [] z i = absurd i
-  in_planned k (p ∷ ps) z (inl e) = (k, p, omega arith, inl refl, e)
-  in_planned k (p ∷ ps) z (inr j) = let h = in_planned (suc k) ps z j in let l = h.2 in
+  pub in_set_messages : (k : ℕ) (plans : List Planned) (z : M) → In z (set_messages sim k plans) →
+      (i : ℕ) × (p : Planned) × (k ≤ i) × In p plans × (z ≡ sim.set_message i p)
+  in_set_messages k [] z i = absurd i
+  in_set_messages k (p ∷ ps) z (inl e) = (k, p, omega arith, inl refl, e)
+  in_set_messages k (p ∷ ps) z (inr j) = let h = in_set_messages (suc k) ps z j in let l = h.2 in
       (h.0, h.1, omega arith, inr h.3, h.4)
 
 module _ {S M N : Type 0} {sim : Simulation S M N} {Good : ℕ → S → Type 0} (law : HandlesLawfully sim Good) where
@@ -99,7 +99,7 @@ module _ {S M N : Type 0} {sim : Simulation S M N} {Good : ℕ → S → Type 0}
   pub begins_fine : (plans : List Planned) → Fine sim.order sim.time (AllGood Good) 0 (begin sim plans)
   begins_fine plans = record {
     good = law.opens;
-    sorted = sorted_insert_all law.order.order (openings sim sim.stations ++ planned sim 0 plans) [] tt;
+    sorted = sorted_insert_all law.order.order (openings sim sim.stations ++ set_messages sim 0 plans) [] tt;
     from_t = all_from_zero sim.time (begin sim plans).pending;
   }
 

@@ -62,8 +62,8 @@ module _ {S M N K : Type 0} (sim : Simulation S M N) (join : K → K → K) (s :
 
 module _ {S M N K : Type 0} (sim : Simulation S M N) (s : ℕ) where
   -- what it sends to others then, marked with its clones
-  abbrev pub laid_aside : Copy S M N K → M → List (M × K)
-  laid_aside a m = map (λ x. (x, a.set)) (to_others sim.to s (sim.handle s a.state m).sends)
+  abbrev pub sends_aside : Copy S M N K → M → List (M × K)
+  sends_aside a m = map (λ x. (x, a.set)) (to_others sim.to s (sim.handle s a.state m).sends)
 
 module _ {S M N : Type 0} (sim : Simulation S M N) where
   -- what is sent at the end or later is dropped
@@ -139,7 +139,7 @@ module _ {S M N K : Type 0} (sim : Simulation S M N) (has : K → ℕ → Bool) 
     GoesOver r sent c = (last : Config (Part S M N) M) → Turns c (view c r sent) last → Settled last →
         sim.limit < length last.at.log
 
-    -- the copies that come of r at the bound: with each, its clones have taken their turns; clones whose logs
+    -- the results of r at the bound, as copies: with each, its clones have taken their turns; clones whose logs
     -- get too long are put with those over the limit; n prefixes were gained, of logs cut to the limit
     pub record Ends (r : Copy S M N K) (results : List (Copy S M N K)) (before after : List (M × K))
         (over over_after : K)
@@ -273,7 +273,7 @@ module _ {S M N K : Type 0} (sim : Simulation S M N) (has : K → ℕ → Bool) 
         log_at sim (clone_at cs c) s front ≡ log_at sim (clone_at cs d) s front → a ≡ b
     pub sorted : (a : Copy S M N K) → In a copies → SortedMarked sim.order a.pending
 
-  -- what came of the copies of each station up to a bound, and what each station sent
+  -- the results of the copies of each station at a bound, and what each station sent
   pub record AllStepped (front bound : ℕ) (olds news : ℕ → List (Copy S M N K)) (sent : ℕ → List (M × K)) : Type 0 where
     pub stood : (r : ℕ) → IsStation sim r → Stands front r (olds r)
     pub stepped : (r : ℕ) → IsStation sim r → IsStepped sim has (ends_of sim cs) r bound (olds r) (news r) (sent r)

@@ -2,7 +2,7 @@
 -- station stand for the clones.
 use Rattle.std.specs.Prelude.{◌≡◌, ◌↔◌, ℕ, ◌<◌, ◌≤◌, List, [], ◌∷◌, Bool, true, false, None, length}
 use Rattle.std.specs.List.{AllZip}
-use Rattle.sim_base.specs.Clones.{Clone, base, clone_at, added, ended, forked}
+use Rattle.sim_base.specs.Clones.{Clone, base, clone_at, clones_with_plan, clones_with_end, clones_with_fork}
 use Rattle.sim_base.specs.declared.decision.Planned.{Planned}
 use Rattle.run_laws.specs.Simulation.{Simulation}
 use Rattle.run_laws.specs.Runs.{end_of}
@@ -31,23 +31,23 @@ module _ {S M N : Type 0} (K : Type 0) (sim : Simulation S M N) where
   abbrev pub StandsAfterDecision : Type 0
   StandsAfterDecision = (has : K → ℕ → Bool) (cs : List Clone) (front s who : ℕ) (p : Planned) (m : M) (k : K)
       (olds done : List (Copy S M N K)) →
-      who < length cs → m ≡ sim.decided (length (clone_at cs who).plans) p → front ≤ sim.time m → sim.to m ≡ s →
+      who < length cs → m ≡ sim.set_message (length (clone_at cs who).plans) p → front ≤ sim.time m → sim.to m ≡ s →
       has k who ≡ true → ((c : ℕ) → ¬ (c ≡ who) → has k c ≡ false) →
       AllZip (IsGiven sim has (ends_of sim cs) m k) olds done →
-      Stands sim has cs front s olds → Stands sim has (added cs who p) front s done
+      Stands sim has cs front s olds → Stands sim has (clones_with_plan cs who p) front s done
 
   -- one for another station leaves the copies of this one as they are
   abbrev pub StandsAfterOtherDecision : Type 0
   StandsAfterOtherDecision = (has : K → ℕ → Bool) (cs : List Clone) (front s who : ℕ) (p : Planned) (m : M)
       (olds : List (Copy S M N K)) →
-      who < length cs → m ≡ sim.decided (length (clone_at cs who).plans) p → front ≤ sim.time m → ¬ (sim.to m ≡ s) →
-      Stands sim has cs front s olds → Stands sim has (added cs who p) front s olds
+      who < length cs → m ≡ sim.set_message (length (clone_at cs who).plans) p → front ≤ sim.time m → ¬ (sim.to m ≡ s) →
+      Stands sim has cs front s olds → Stands sim has (clones_with_plan cs who p) front s olds
 
   -- an end at or after the front, not past the end that the clone had, leaves the copies as they are
   abbrev pub StandsAfterEnd : Type 0
   StandsAfterEnd = (has : K → ℕ → Bool) (cs : List Clone) (front s who at : ℕ) (olds : List (Copy S M N K)) →
       who < length cs → front ≤ at → at ≤ end_of sim (clone_at cs who) →
-      Stands sim has cs front s olds → Stands sim has (ended cs who at) front s olds
+      Stands sim has cs front s olds → Stands sim has (clones_with_end cs who at) front s olds
 
   -- a new clone stands beside its old one, where that has no end
   abbrev pub StandsAfterFork : Type 0
@@ -55,4 +55,4 @@ module _ {S M N : Type 0} (K : Type 0) (sim : Simulation S M N) where
       (olds done : List (Copy S M N K)) →
       old < length cs → (clone_at cs old).end ≡ None →
       AllZip (IsForked sim has (ends_of sim cs) old (length cs)) olds done →
-      Stands sim has cs front s olds → Stands sim has (forked cs name old) front s done
+      Stands sim has cs front s olds → Stands sim has (clones_with_fork cs name old) front s done

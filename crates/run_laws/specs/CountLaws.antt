@@ -1,7 +1,7 @@
 -- What is proved of the counts of a report, in words that contracts cite: what clones handle once, and each by itself.
 use Rattle.std.specs.Prelude.{◌≡◌, ◌↔◌, ℕ, ◌+◌, ◌*◌, ◌<◌, ◌≤◌, List, [], ◌∷◌, Bool, true, None, length, sum_by}
 use Rattle.std.specs.Bool.{Decides}
-use Rattle.sim_base.specs.Clones.{Clone, clone_at, added, ended, forked}
+use Rattle.sim_base.specs.Clones.{Clone, clone_at, clones_with_plan, clones_with_end, clones_with_fork}
 use Rattle.sim_base.specs.Marked.{JoinsMarks, SortedMarked}
 use Rattle.sim_base.specs.declared.decision.Planned.{Planned}
 use Rattle.sim_base.specs.declared.entry.Entry.{Entry}
@@ -49,21 +49,21 @@ module _ {S M N : Type 0} (sim : Simulation S M N) where
   -- a decision at the front or later leaves what was handled
   abbrev pub HandledStaysAtDecision : Type 0
   HandledStaysAtDecision = (same : Entry M N → Entry M N → Bool) (cs : List Clone) (front s who : ℕ) (p : Planned) →
-      who < length cs → front ≤ sim.time (sim.decided (length (clone_at cs who).plans) p) →
-      handled sim same (added cs who p) s front ≡ handled sim same cs s front
+      who < length cs → front ≤ sim.time (sim.set_message (length (clone_at cs who).plans) p) →
+      handled sim same (clones_with_plan cs who p) s front ≡ handled sim same cs s front
 
   -- and so does an end at the front or later
   abbrev pub HandledStaysAtEnd : Type 0
   HandledStaysAtEnd = (same : Entry M N → Entry M N → Bool) (cs : List Clone) (front s who at : ℕ) →
       who < length cs → front ≤ at → at ≤ end_of sim (clone_at cs who) →
-      handled sim same (ended cs who at) s front ≡ handled sim same cs s front
+      handled sim same (clones_with_end cs who at) s front ≡ handled sim same cs s front
 
   -- and a fork
   abbrev pub HandledStaysAtFork : Type 0
   HandledStaysAtFork = (same : Entry M N → Entry M N → Bool) (cs : List Clone) (front s old : ℕ) (name : List ℕ) →
       TellsEntries same →
       old < length cs → (clone_at cs old).end ≡ None →
-      handled sim same (forked cs name old) s front ≡ handled sim same cs s front
+      handled sim same (clones_with_fork cs name old) s front ≡ handled sim same cs s front
 
 -- K are sets of clones
 module _ {S M N : Type 0} (K : Type 0) (sim : Simulation S M N) where

@@ -3,7 +3,7 @@
 use Rattle.std.specs.Prelude.{ℕ, ◌+◌, ◌-◌, ◌==◌, nat_lt, if◌then◌else◌, List, [], ◌∷◌, Some, None, Bool, ◌&&◌, codes, ⊤}
 use Rattle.std.specs.Ordering.{nat_cmp, ordering_then}
 use Rattle.std.specs.declared.cmp.Ordering.{Ordering}
-use Rattle.sim_base.specs.Clones.{Clone, base, forked}
+use Rattle.sim_base.specs.Clones.{Clone, base, clones_with_fork}
 use Rattle.sim_base.specs.declared.decision.Planned.{Planned}
 use Rattle.sim_base.specs.declared.message.Param.TheVariants.{Room}
 use Rattle.sim_base.specs.declared.entry.Entry.{Entry}
@@ -27,9 +27,9 @@ ball time number to = record { time = time; number = number; to = to }
 abbrev pub ball_cmp : Ball → Ball → Ordering
 ball_cmp a b = ordering_then (nat_cmp a.time b.time) (ordering_then (nat_cmp a.number b.number) (nat_cmp a.to b.to))
 
--- a bounce has ten more than the number of its ball
-abbrev pub thrown_back : ℕ → Ball → List Ball
-thrown_back s b =
+-- the balls that a station throws at a ball; a bounce has ten more than the number of its ball
+abbrev pub bounces : ℕ → Ball → List Ball
+bounces s b =
     if b.number == 0 then ball (b.time + 3) 0 (3 - s) ∷ []
     else if nat_lt b.number 10 then ball (b.time + 1) (b.number + 10) s ∷ []
     else []
@@ -42,8 +42,8 @@ game = record {
   to = λ b. b.to;
   stations = 2;
   setup = λ s. record { state = 0; first = if s == 1 then Some (ball 2 0 1) else None };
-  handle = λ s caught b. record { state = caught + 1; sends = thrown_back s b; line = caught + 1 };
-  decided = λ k p. ball p.at (k + 1) p.station;
+  handle = λ s count b. record { state = count + 1; sends = bounces s b; line = count + 1 };
+  set_message = λ k p. ball p.at (k + 1) p.station;
   lookahead = 3;
   horizon = 12;
   limit = 2;
@@ -51,15 +51,15 @@ game = record {
 
 -- any state of any station is good
 abbrev pub AnyState : ℕ → ℕ → Type 0
-AnyState s caught = ⊤
+AnyState s count = ⊤
 
--- what was caught, and the count after it
-abbrev pub caught : ℕ → ℕ → ℕ → ℕ → Entry Ball ℕ
-caught time number to count = record { msg = ball time number to; line = count }
+-- the catch of a ball, by its time, its number, the station that catches it, and the count after it
+abbrev pub catch_at : ℕ → ℕ → ℕ → ℕ → Entry Ball ℕ
+catch_at time number to count = record { msg = ball time number to; line = count }
 
 -- the trace of the base clone: one ball alone, to and fro
 abbrev pub base_trace : List (Entry Ball ℕ)
-base_trace = caught 2 0 1 1 ∷ caught 5 0 2 1 ∷ caught 8 0 1 2 ∷ caught 11 0 2 2 ∷ []
+base_trace = catch_at 2 0 1 1 ∷ catch_at 5 0 2 1 ∷ catch_at 8 0 1 2 ∷ catch_at 11 0 2 2 ∷ []
 
 -- the decision that throws in a ball at a time and a station
 abbrev pub throw_in : ℕ → ℕ → Planned
@@ -72,8 +72,8 @@ busy = record { name = codes "busy"; plans = throw_in 6 1 ∷ throw_in 5 1 ∷ [
 -- and its trace
 abbrev pub busy_trace : List (Entry Ball ℕ)
 busy_trace =
-    caught 2 0 1 1 ∷ caught 5 0 2 1 ∷ caught 5 2 1 2 ∷ caught 6 1 1 3 ∷ caught 6 12 1 4 ∷ caught 7 11 1 5
-    ∷ caught 8 0 1 6 ∷ caught 11 0 2 2 ∷ []
+    catch_at 2 0 1 1 ∷ catch_at 5 0 2 1 ∷ catch_at 5 2 1 2 ∷ catch_at 6 1 1 3 ∷ catch_at 6 12 1 4 ∷ catch_at 7 11 1 5
+    ∷ catch_at 8 0 1 6 ∷ catch_at 11 0 2 2 ∷ []
 
 -- catches nothing at 8 or later: the ball that is thrown in at 7 does not bounce
 abbrev pub brief : Clone
@@ -81,7 +81,7 @@ brief = record { name = codes "brief"; plans = throw_in 7 1 ∷ []; end = Some 8
 
 -- and its trace
 abbrev pub brief_trace : List (Entry Ball ℕ)
-brief_trace = caught 2 0 1 1 ∷ caught 5 0 2 1 ∷ caught 7 1 1 2 ∷ []
+brief_trace = catch_at 2 0 1 1 ∷ catch_at 5 0 2 1 ∷ catch_at 7 1 1 2 ∷ []
 
 -- a ball at 11 is still caught, one at the horizon no more
 abbrev pub last_minute : Clone
@@ -89,7 +89,7 @@ last_minute = record { name = codes "last-minute"; plans = throw_in 12 1 ∷ thr
 
 -- and its trace
 abbrev pub last_minute_trace : List (Entry Ball ℕ)
-last_minute_trace = caught 2 0 1 1 ∷ caught 5 0 2 1 ∷ caught 8 0 1 2 ∷ caught 11 0 2 2 ∷ caught 11 2 1 3 ∷ []
+last_minute_trace = catch_at 2 0 1 1 ∷ catch_at 5 0 2 1 ∷ catch_at 8 0 1 2 ∷ catch_at 11 0 2 2 ∷ catch_at 11 2 1 3 ∷ []
 
 -- the base clone, busy and brief
 abbrev pub all_three : List Clone
@@ -97,7 +97,7 @@ all_three = base ∷ busy ∷ brief ∷ []
 
 -- with a twin of busy, the clone at place 1
 abbrev pub with_twin : List Clone
-with_twin = forked all_three (codes "twin") 1
+with_twin = clones_with_fork all_three (codes "twin") 1
 
 -- a clone's trace, out of its two stations' logs: nobody is the sender, and numbers tell balls of a time apart
 abbrev pub merged_trace : Clone → List (Entry Ball ℕ)

@@ -3,7 +3,7 @@ use Rattle.std.specs.Prelude.{◌≡◌, ℕ, zero, suc, ◌+◌, ◌<◌, ◌�
 use Rattle.std.specs.Prelude.{Bool, Option, Some, None, if◌then◌else◌, length, min, nat_lt}
 use Rattle.std.specs.List.{AllByRecursion}
 use Rattle.std.specs.Ordering.{nat_cmp}
-use Rattle.sim_base.specs.Clones.{Clone, clone_at, forked}
+use Rattle.sim_base.specs.Clones.{Clone, clone_at, clones_with_fork}
 use Rattle.sim_base.specs.declared.decision.Planned.{Planned}
 use Rattle.run_laws.specs.Queue.{In, Sorted}
 use Rattle.run_laws.specs.Simulation.{Simulation}
@@ -67,7 +67,7 @@ module _ {S M N : Type 0} (sim : Simulation S M N) where
 
   -- a decision at the front or later brings its own time, where that comes before the clone's end
   abbrev pub LeastAtDecision : Type 0
-  LeastAtDecision = (c : Clone) (p : Planned) (front : ℕ) (t : ℕ) → sim.time (sim.decided (length c.plans) p) ≡ t →
+  LeastAtDecision = (c : Clone) (p : Planned) (front : ℕ) (t : ℕ) → sim.time (sim.set_message (length c.plans) p) ≡ t →
       front ≤ t →
       least_of sim (with_plan c p) front
       ≡ (if nat_lt t (end_of sim c) then earlier (Some t) (least_of sim c front) else least_of sim c front)
@@ -86,7 +86,7 @@ module _ {S M N : Type 0} (sim : Simulation S M N) where
   abbrev pub FrontStaysAtFork : Type 0
   FrontStaysAtFork = (cs : List Clone) (old front : ℕ) (name : List ℕ) → old < length cs
       → (clone_at cs old).end ≡ None →
-      next_front sim (forked cs name old) front ≡ next_front sim cs front
+      next_front sim (clones_with_fork cs name old) front ≡ next_front sim cs front
 
 module _ {S M N : Type 0} (K : Type 0) (sim : Simulation S M N) where
   -- a message that a clone takes of a copy of some station

@@ -62,7 +62,7 @@ module _ {S M N : Type 0} (sim : Simulation S M N) where
   -- every message is for a station, where the decisions are
   pub record SendsToStations (Good : ℕ → S → Type 0) : Type 0 where
     pub first : (s : ℕ) (m : M) → IsStation s → (sim.setup s).first ≡ Some m → sim.to m ≡ s
-    pub decided : (k : ℕ) (p : Planned) → sim.to (sim.decided k p) ≡ p.station
+    pub set_message : (k : ℕ) (p : Planned) → sim.to (sim.set_message k p) ≡ p.station
     pub sends : (s : ℕ) (st : S) (m z : M) → IsStation s → Good s st → In z (sim.handle s st m).sends →
         IsStation (sim.to z)
 
@@ -74,7 +74,7 @@ module _ {S M N : Type 0} (sim : Simulation S M N) where
     -- what a station opens with is its own, of a number that is used up
     pub opened : (s : ℕ) (m : M) → IsStation s → (sim.setup s).first ≡ Some m →
         (sender m ≡ s) × (number m < next (sim.setup s).state)
-    pub decided : (k : ℕ) (p : Planned) → (sender (sim.decided k p) ≡ 0) × (number (sim.decided k p) ≡ k)
+    pub set_message : (k : ℕ) (p : Planned) → (sender (sim.set_message k p) ≡ 0) × (number (sim.set_message k p) ≡ k)
     -- what a station sends is its own, and has numbers from the next one on, which are used up then, each number once
     pub mine : (s : ℕ) (st : S) (m z : M) → IsStation s → Good s st → In z (sim.handle s st m).sends → sender z ≡ s
     pub low : (s : ℕ) (st : S) (m z : M) → IsStation s → Good s st → In z (sim.handle s st m).sends → next st ≤ number z

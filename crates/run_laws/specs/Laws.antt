@@ -110,7 +110,7 @@ module _ {S M N : Type 0} (sim : Simulation S M N) where
   -- a decision at or after a front adds its message to what is due, and changes nothing else
   abbrev pub LateDecisionAddsDue : Type 0
   LateDecisionAddsDue = (c : Clone) (p : Planned) (front : ℕ) →
-      front ≤ sim.time (sim.decided (length c.plans) p) → AddsDue c p (sim.decided (length c.plans) p) front
+      front ≤ sim.time (sim.set_message (length c.plans) p) → AddsDue c p (sim.set_message (length c.plans) p) front
 
   -- what a new end changes at a front: the due messages from it on are no longer due
   pub record DropsDue (c : Clone) (at front : ℕ) : Type 0 where

@@ -7,7 +7,7 @@ use Rattle.sim_base.specs.declared.decision.Planned.{Planned}
 use Rattle.sim_base.specs.declared.entry.Entry.{Entry}
 use Rattle.run_laws.specs.Queue.{In, Sorted}
 use Rattle.run_laws.specs.Simulation.{Simulation}
-use Rattle.run_laws.specs.World.{planned}
+use Rattle.run_laws.specs.World.{set_messages}
 use Rattle.run_laws.specs.Window.{earlier_than}
 use Rattle.run_laws.specs.Runs.{end_of, trace_of, log_at}
 use Rattle.run_laws.specs.Laws.{before}
@@ -38,12 +38,12 @@ module _ {S M N : Type 0} (sim : Simulation S M N) where
   -- `same` holds of no two different decisions, and each decision comes at its time
   pub record TellsPlans (same : Planned → Planned → Bool) : Type 0 where
     pub sound : (p q : Planned) → same p q ≡ true → p ≡ q
-    pub at : (k : ℕ) (p : Planned) → sim.time (sim.decided k p) ≡ p.at
+    pub at : (k : ℕ) (p : Planned) → sim.time (sim.set_message k p) ≡ p.at
 
   -- clones whose decisions agree below a time that neither ends before have one trace before it
   abbrev pub TracesAgree : Type 0
   TracesAgree = (c d : Clone) (t : ℕ) → t ≤ end_of sim c → t ≤ end_of sim d → t ≤ sim.horizon →
-      earlier_than sim.time t (planned sim 0 c.plans) ≡ earlier_than sim.time t (planned sim 0 d.plans) →
+      earlier_than sim.time t (set_messages sim 0 c.plans) ≡ earlier_than sim.time t (set_messages sim 0 d.plans) →
       before sim t (trace_of sim c) ≡ before sim t (trace_of sim d)
 
   -- and so do clones up to where their decision lists part

@@ -27,7 +27,7 @@ pub record Simulation (S M N : Type 0) : Type 0 where
   pub setup : ℕ → Opening S M
   pub handle : ℕ → S → M → Handled S M N
   -- the message of the decision at place k of a clone's list
-  pub decided : ℕ → Planned → M
+  pub set_message : ℕ → Planned → M
   -- no link is faster than the lookahead; nothing is handled at the horizon or later
   pub lookahead : ℕ
   pub horizon : ℕ

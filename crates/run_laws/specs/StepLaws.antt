@@ -1,12 +1,12 @@
 -- What is proved of a step of a station's copies up to a bound, in words that contracts cite: copy after copy,
--- what comes of each is what comes of its clones' own windows; and of giving messages to copies.
+-- the results of each are what its clones' own windows give; and of giving messages to copies.
 use Rattle.std.specs.Prelude.{◌≡◌, ◌⊎◌, ℕ, ◌+◌, ◌<◌, ◌≤◌, List, [], ◌∷◌, ◌++◌, Bool, true, false, length}
 use Rattle.std.specs.List.{AllByRecursion, AllZip}
 use Rattle.sim_base.specs.Clones.{Clone}
 use Rattle.run_laws.specs.Queue.{In}
 use Rattle.run_laws.specs.Simulation.{Simulation}
 use Rattle.sim_base.specs.Marked.{JoinsMarks, SortedMarked}
-use Rattle.run_laws.specs.Copies.{Copy, Carries, handled_by, laid_aside, takes, Narrowed, Settled}
+use Rattle.run_laws.specs.Copies.{Copy, Carries, handled_by, sends_aside, takes, Narrowed, Settled}
 use Rattle.run_laws.specs.Copies.{view, Ends, IsStepped, AreOver, SoFar, Disjoint, taken}
 use Rattle.run_laws.specs.Copies.{GainTogether, IsGiven, SoFarGiven, ends_of, IsDelivered}
 
@@ -63,7 +63,7 @@ module _ {S M N : Type 0} (K : Type 0) (sim : Simulation S M N) (Good : ℕ → 
       (results : List (Copy S M N K)) (over over_after : K) (n : ℕ) →
       (c : ℕ) × Carries w.has r c → Good w.station r.state → length r.log < sim.limit →
       r.pending ≡ x ∷ q → SortedMarked sim.order r.pending → AllTake w r x → sim.time x.0 < w.bound →
-      Gives w (handled_by sim w.join w.station r x.0 q) results (sent ++ laid_aside sim w.station r x.0) after over
+      Gives w (handled_by sim w.join w.station r x.0 q) results (sent ++ sends_aside sim w.station r x.0) after over
       over_after n →
       Gives w r results sent after over over_after (n + 1)
 
@@ -74,7 +74,7 @@ module _ {S M N : Type 0} (K : Type 0) (sim : Simulation S M N) (Good : ℕ → 
       r.pending ≡ x ∷ q → NoneTakes w r x → Gives w (record r { pending = q }) results before after over over_after n →
       Gives w r results before after over over_after n
 
-  -- a copy of which some clones take the least message and some do not splits: what comes of it is what comes of
+  -- a copy of which some clones take the least message and some do not splits: its results are those of
   -- its halves, whose logs differ from then on
   abbrev pub CopySplits : Type 0
   CopySplits = (w : Step K) (r some rest : Copy S M N K) (x : M × K) (q before mid after : List (M × K))

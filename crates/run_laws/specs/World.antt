@@ -51,13 +51,13 @@ module _ {S M N : Type 0} (sim : Simulation S M N) where
   openings (suc n) = and_first (openings n) (sim.setup (suc n)).first
 
   -- the decisions as messages, the first numbered k
-  abbrev pub planned : ℕ → List Planned → List M
-  planned k [] = []
-  planned k (d ∷ ds) = sim.decided k d ∷ planned (suc k) ds
+  abbrev pub set_messages : ℕ → List Planned → List M
+  set_messages k [] = []
+  set_messages k (d ∷ ds) = sim.set_message k d ∷ set_messages (suc k) ds
 
   -- the world of a clone with these decisions, before anything was handled
   abbrev pub begin : List Planned → Config (World S M N) M
   begin plans = record {
     at = record { states = λ s. (sim.setup s).state; trace = [] };
-    pending = insert_all sim.order (openings sim.stations ++ planned 0 plans) [];
+    pending = insert_all sim.order (openings sim.stations ++ set_messages 0 plans) [];
   }

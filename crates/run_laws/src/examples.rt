@@ -10,12 +10,12 @@ ghost use Rattle.run_laws.specs.Sharing.{copies, handled, handled_to_limit, alon
 ghost use Rattle.run_laws.specs.Handlers.{HandlesLawfully, SendsToStations};
 ghost use Rattle.run_laws.specs.Examples.{game, AnyState, base_trace, busy, busy_trace, brief, brief_trace};
 ghost use Rattle.run_laws.specs.Examples.{last_minute, last_minute_trace, all_three, with_twin, merged_trace};
-ghost use Rattle.run_laws.specs.Examples.{same_catch, window_of, caught, ball};
+ghost use Rattle.run_laws.specs.Examples.{same_catch, window_of, catch_at, ball};
 
 /// A run handles messages by time, and those of one time in their order; a clone's end stops it.
 pub fn traces()
     ensures plain { trace_of game base ≡ base_trace }
-    ensures decided { trace_of game busy ≡ busy_trace }
+    ensures busy { trace_of game busy ≡ busy_trace }
     ensures ended { trace_of game brief ≡ brief_trace }
 {}
 
@@ -50,11 +50,11 @@ pub fn merging()
 
 /// One station's window from 5 to 8: its log grows, and what it sent to the other is laid aside.
 pub fn windows()
-    ensures log { (window_of busy 1 5 8).at.log ≡ caught 2 0 1 1 ∷ caught 5 2 1 2 ∷ caught 6 1 1 3 ∷ caught 6 12 1
-        4 ∷ caught 7 11 1 5 ∷ [] }
+    ensures log { (window_of busy 1 5 8).at.log ≡ catch_at 2 0 1 1 ∷ catch_at 5 2 1 2 ∷ catch_at 6 1 1 3
+        ∷ catch_at 6 12 1 4 ∷ catch_at 7 11 1 5 ∷ [] }
     ensures nothing_aside { (window_of busy 1 5 8).at.aside ≡ [] }
     ensures aside { (window_of busy 2 5 8).at.aside ≡ ball 8 0 1 ∷ [] }
-    ensures ended { (window_of brief 1 7 12).at.log ≡ caught 2 0 1 1 ∷ caught 7 1 1 2 ∷ [] }
+    ensures ended { (window_of brief 1 7 12).at.log ≡ catch_at 2 0 1 1 ∷ catch_at 7 1 1 2 ∷ [] }
     ensures due { due_at game busy 1 5 ≡ ball 5 2 1 ∷ ball 6 1 1 ∷ [] }
     ensures due_before_end { due_at game brief 1 7 ≡ ball 7 1 1 ∷ [] }
 {}

@@ -106,7 +106,7 @@ pub fn windows<S, M, N, T: Stations<S, M, N>>()
     ensures alone { WindowsGiveRuns T.sim }
 {}
 
-/// From front to front a run comes to the horizon, and there it ends.
+/// From front to front (window boundaries) a run reaches the horizon, and there it ends.
 pub fn fronts<S, M, N, T: Stations<S, M, N>>()
     ensures far { FrontIsFar T.sim }
     ensures rises { FrontRises T.sim }
@@ -125,8 +125,8 @@ pub fn due_times<S, M, N, K, T: Stations<S, M, N>>()
     ensures copies { LeastIsOfCopies K T.sim }
 {}
 
-/// What comes of a station's copies up to a bound, message by message and copy by copy, and that it is what the
-/// clones' own windows give.
+/// What a step gives for a station's copies up to a bound, message by message and copy by copy, and that it is what
+/// the clones' own windows give.
 pub fn stepping<S, M, N, K, T: Stations<S, M, N>>()
     ensures late { LateCopyIsSettled K T.sim T.good }
     ensures settled { SettledCopyStays K T.sim T.good }

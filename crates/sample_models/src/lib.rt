@@ -1,6 +1,6 @@
-//! Models that the tests of several crates read, each as the text of a model file. They stand here once, so that the
-//! tests of a lower and of a higher crate speak of the same network, and a change of it reaches them all. There is
-//! nothing to run and nothing to prove.
+//! Models that the tests of several crates read, each as the text of a model file, and a journal that they expect. They
+//! stand here once, so that the tests of a lower and of a higher crate speak of the same network, and a change of it
+//! reaches them all. There is nothing to run and nothing to prove.
 #![tactic(auto)]
 
 /// A source of two jobs, a desk with one server, and a sink, one after the other.
@@ -105,3 +105,15 @@ link = [{ to = "doctor", delay = 3 }]
 name = "exit"
 kind = "sink"
 "#;
+
+/// The journal of [`ONE_DESK`] where nobody decides and nobody looks: its fronts alone.
+pub const QUIET_JOURNAL: &str = "journal 0 7
+# front 5
+# front 7
+# front 10
+# front 13
+# front 15
+# front 17
+# front 20
+looks 0
+";

@@ -8,7 +8,7 @@ use prog.Atomic.{either}
 use Rattle.logbook.specs.Pages.{Cell, cell, keeps, no_nib, step, Moves, Goes}
 use Rattle.phys_proc.specs.Racks.{RackView}
 use Rattle.shelf.specs.Racks.{MayFollow, AreLegal}
-use Rattle.shelf.specs.Rules.{IsKept, Adds}
+use Rattle.shelf.specs.Rules.{IsHistory, Adds}
 use Rattle.shelf.proofs.Prefixes.{prefix_whole}
 use Rattle.shelf.proofs.Legals.{legal_with}
 
@@ -24,7 +24,7 @@ moved xs ys n = Unit {0}
 pub adds_goes : (all seen : List RackView) (r : RackView) (old : ℕ) → length seen ≡ old → MayFollow seen r
     → AreLegal all → IsPrefix seen all
     → (b : Bool) → (length all == old) ≡ b
-    → Goes IsKept shown moved 0 (seen, (no_nib, None)) (λ n. either (n == old) (old + 1) n)
+    → Goes IsHistory shown moved 0 (seen, (no_nib, None)) (λ n. either (n == old) (old + 1) n)
     (Adds (step 0 old (old + 1) r) (seen, (no_nib, None))) ((length all, true) ∷ (0, true) ∷ []) all
 adds_goes all seen r old len may legal pre true is =
     let here : length all ≡ old = grind (arith, nat_tests) in
@@ -55,11 +55,11 @@ adds_goes all seen r old len may legal pre false is =
 
 -- whatever the history is, the exchange adds the rack to all that was seen, or finds that the history is longer
 pub adds_moves : (seen : List RackView) (r : RackView) (old : ℕ) → length seen ≡ old → MayFollow seen r
-    → Moves IsKept shown moved 0 (seen, (no_nib, None)) (λ n. either (n == old) (old + 1) n)
+    → Moves IsHistory shown moved 0 (seen, (no_nib, None)) (λ n. either (n == old) (old + 1) n)
     (Adds (step 0 old (old + 1) r) (seen, (no_nib, None)))
 adds_moves seen r old len may cs all kept pre away =
     let P : List Cell → Type 0 = λ c. (0 < length c) × ((cell c 0).1 ≡ true)
-    × Goes IsKept shown moved 0 (seen, (no_nib, None)) (λ n. either (n == old) (old + 1) n)
+    × Goes IsHistory shown moved 0 (seen, (no_nib, None)) (λ n. either (n == old) (old + 1) n)
     (Adds (step 0 old (old + 1) r) (seen, (no_nib, None))) c all in
     subst P (sym kept.words) (
       omega arith,

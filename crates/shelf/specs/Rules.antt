@@ -5,11 +5,11 @@ use Rattle.phys_proc.specs.Racks.{RackView}
 use Rattle.shelf.specs.Racks.{AreLegal}
 
 -- the first word is the length of the history, which is legal; the second word stays at 0
-pub record IsKept (cells : List Cell) (racks : List RackView) : Type 0 where
+pub record IsHistory (cells : List Cell) (racks : List RackView) : Type 0 where
   pub words : cells ≡ (length racks, true) ∷ (0, true) ∷ []
   pub legal : AreLegal racks
 
--- the head of a history that is kept in this book: its word of key 0, which is tracked
+-- the head of a history that is stored in this book: its word of key 0, which is tracked
 abbrev pub head_of : Book → Named
 head_of b = record { tracked = true; key = 0; book = b }
 

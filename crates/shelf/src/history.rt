@@ -14,9 +14,9 @@ pub struct Law;
 impl Rule<Rack, u64> for Law {
     ghost use Rattle.std.specs.Prelude.{[]};
     ghost use base.Fml.{ftrue};
-    ghost use Rattle.shelf.specs.Rules.{IsKept};
+    ghost use Rattle.shelf.specs.Rules.{IsHistory};
 
-    ghost holds = { λ cells log. IsKept cells log };
+    ghost holds = { λ cells log. IsHistory cells log };
 
     ghost first = { [] };
 

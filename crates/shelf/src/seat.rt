@@ -1,4 +1,4 @@
-//! Readers.
+//! The readers: a seat looks at the newest rack of a station.
 ghost use Rattle.std.specs.Prelude.{◌≡◌, ◌≤◌, Some, IfSome, MatchBool};
 ghost use mathlib.Core.List.{IsPrefix};
 ghost use Rattle.phys_proc.specs.Racks.{RackView};

@@ -1,4 +1,4 @@
-//! The one that publishes.
+//! The writer: the one that publishes racks.
 ghost use Rattle.std.specs.Prelude.{All, ◌≡◌, ◌+◌, ◌<◌, ◌≤◌, ◌^◌, ◌++◌, ◌∷◌, []};
 ghost use Rattle.std.specs.Prelude.{length, map, List, Some, IfOk, IfSome, IfNone, OnOk, OnErr};
 ghost use Rattle.std.specs.Arc.{arc_value};

@@ -11,7 +11,7 @@ use Rattle.sim_base.proofs.Cutting.{cut-append}
 use Rattle.sim_base.specs.Marked.{SortedMarked}
 use Rattle.sim_base.specs.Blocks.{of_blocks, block_at, halved, AreFilled, AreSized, StartsAfter, IsBlockOf}
 use Rattle.std.specs.Prelude.{slice_get}
-use Rattle.sim_base.proofs.Placing.{all_left, all_both, insert_behind, insert_before}
+use Rattle.sim_base.proofs.Placing.{all_left, insert_behind, insert_before}
 use Rattle.sim_base.proofs.Placing.{all_before, sorted_right}
 
 is_less : (o : Ordering) → true ≡ is_lt o → o ≡ Less
@@ -135,10 +135,6 @@ module _ {X : Type 0} where
   first_of_blocks (x ∷ xs) later h = refl
   first_of_blocks [] [] h = refl
   first_of_blocks [] (b ∷ bs) h = absurd (let l : 0 < 0 = h.first_filled (omega arith) in omega arith)
-
-  -- blocks that are filled, together
-  pub filled-append : (bs cs : List (List X)) → AreFilled bs → AreFilled cs → AreFilled (bs ++ cs)
-  filled-append bs cs g h = all_both _ bs cs g h
 
 module _ {M K : Type 0} (meet : K → K → Option K) (by : K) where
   -- what meets of blocks is what meets of each

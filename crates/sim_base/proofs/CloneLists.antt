@@ -7,7 +7,7 @@ use Rattle.std.specs.List.{AllByRecursion}
 use Rattle.std.proofs.lemmas.List.{length_push, map_push, length-map, map-set}
 use Rattle.sim_base.specs.declared.decision.Planned.{Planned}
 use Rattle.sim_base.specs.Reserved.{ReservedView}
-use Rattle.sim_base.specs.Clones.{Clone, clone_at, forked, added, place_of, ended}
+use Rattle.sim_base.specs.Clones.{Clone, clone_at, clones_with_fork, clones_with_plan, place_of, clones_with_end}
 use Rattle.sim_base.specs.CloneListViews.{CloneListView, AreReserved, clone_of, list_at}
 use Rattle.sim_base.specs.CloneListViews.{list_fork, lists_with_plan, list_with_plan, lists_with_end}
 
@@ -19,7 +19,7 @@ seen_at (k ∷ ks) (suc c) = seen_at ks c
 
 -- what they see of a fork
 pub seen_fork : (lists : List CloneListView) (new : List ℕ) (old reserved : ℕ)
-    → map clone_of (lists ++ list_fork lists new old reserved ∷ []) ≡ forked (map clone_of lists) new old
+    → map clone_of (lists ++ list_fork lists new old reserved ∷ []) ≡ clones_with_fork (map clone_of lists) new old
 seen_fork lists new old reserved = map_push clone_of lists (list_fork lists new old reserved)
     ∙ ap (λ c. map clone_of lists ++ (record { name = new; plans = c.plans; end = None }) ∷ [])
     (sym (seen_at lists old))
@@ -69,11 +69,11 @@ reserved_set lists reserved_clones spare most c k e h =
       clones = omega (arith, long, h.clones);
     }
 
--- what holds of either outcome
-pub either : {X T E : Type 0} (P : X → Type 0) (r : Result T E) (new old after : X) → OnOk r (after ≡ new)
+-- what holds of the new value and of the old one holds after, whichever it is
+pub holds_after : {X T E : Type 0} (P : X → Type 0) (r : Result T E) (new old after : X) → OnOk r (after ≡ new)
     → OnErr r (after ≡ old) → P new → P old → P after
-either P (Ok v) new old after ok err n o = rw ok n
-either P (Err e) new old after ok err n o = rw err o
+holds_after P (Ok v) new old after ok err n o = rw ok n
+holds_after P (Err e) new old after ok err n o = rw err o
 
 -- each list has so much reserved
 pub plans_at : (most : ℕ) (lists : List CloneListView) (c : ℕ) → c < length lists
@@ -84,7 +84,7 @@ plans_at most (k ∷ ks) (suc c) b h = plans_at most ks c (omega arith) h.1
 
 -- what they see of a decision more
 pub seen_added : (lists : List CloneListView) (c : ℕ) (plan : Planned)
-    → map clone_of (lists_with_plan lists c plan) ≡ added (map clone_of lists) c plan
+    → map clone_of (lists_with_plan lists c plan) ≡ clones_with_plan (map clone_of lists) c plan
 seen_added lists c plan = map-set clone_of lists c (list_with_plan (list_at lists c) plan)
     ∙ ap (λ k. slice_set (map clone_of lists) c (record k { plans = k.plans ++ plan ∷ [] })) (sym (seen_at lists c))
 
@@ -109,6 +109,6 @@ seen_end lists c = ap (λ k. k.end) (seen_at lists c)
 
 -- what they see of an end given
 pub seen_ended : (lists : List CloneListView) (c at : ℕ)
-    → map clone_of (lists_with_end lists c at) ≡ ended (map clone_of lists) c at
+    → map clone_of (lists_with_end lists c at) ≡ clones_with_end (map clone_of lists) c at
 seen_ended lists c at = map-set clone_of lists c (record (list_at lists c) { end = Some at })
     ∙ ap (λ k. slice_set (map clone_of lists) c (record k { end = Some at })) (sym (seen_at lists c))

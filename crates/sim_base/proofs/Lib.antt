@@ -4,6 +4,7 @@ pub mod OrderLaws
 pub mod OrderEqual
 pub mod SameEntry
 pub mod Derived
+pub mod Digits
 pub mod NameBytes
 pub mod Placing
 pub mod Blocks

@@ -33,13 +33,19 @@ abbrev pub clone_at : List Clone → ℕ → Clone
 clone_at clones c = unwrap_or (slice_get clones c) nobody
 
 -- a new clone at the end, with the decisions of the old one as they are now, and no end
-abbrev pub forked : List Clone → List ℕ → ℕ → List Clone
-forked clones new old = clones ++ (record { name = new; plans = (clone_at clones old).plans; end = None }) ∷ []
+abbrev pub clones_with_fork : List Clone → List ℕ → ℕ → List Clone
+clones_with_fork clones new old = clones ++ (record {
+  name = new;
+  plans = (clone_at clones old).plans;
+  end =
+      None;
+}) ∷ []
 
 -- one decision more, the last of the clone at this place
-abbrev pub added : List Clone → ℕ → Planned → List Clone
-added clones c plan = slice_set clones c (record (clone_at clones c) { plans = (clone_at clones c).plans ++ plan ∷ [] })
+abbrev pub clones_with_plan : List Clone → ℕ → Planned → List Clone
+clones_with_plan clones c plan = slice_set clones c
+    (record (clone_at clones c) { plans = (clone_at clones c).plans ++ plan ∷ [] })
 
 -- the clone at this place has this end
-abbrev pub ended : List Clone → ℕ → ℕ → List Clone
-ended clones c at = slice_set clones c (record (clone_at clones c) { end = Some at })
+abbrev pub clones_with_end : List Clone → ℕ → ℕ → List Clone
+clones_with_end clones c at = slice_set clones c (record (clone_at clones c) { end = Some at })

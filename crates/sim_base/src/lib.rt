@@ -40,6 +40,7 @@ pub mod marks;
 pub mod memory;
 pub mod message;
 pub mod name;
+pub mod number;
 pub mod pending;
 pub mod reserved;
 pub mod steps;

@@ -64,7 +64,8 @@ impl Model for Lists {
 impl Lists {
     ghost use Rattle.std.specs.Prelude.{◌≡◌, ◌∷◌, [], ◌+◌, ◌^◌, ◌<◌, ◌≤◌, length};
     ghost use Rattle.std.specs.Prelude.{OnOk, OnErr, IfOk, IsOk, None, Some, IfSome};
-    ghost use Rattle.sim_base.specs.Clones.{forked, added, ended, clone_at, place_of, base};
+    ghost use Rattle.sim_base.specs.Clones.{base, clone_at, place_of};
+    ghost use Rattle.sim_base.specs.Clones.{clones_with_end, clones_with_fork, clones_with_plan};
 
     /// The base clone alone, with no memory reserved.
     pub fn new(alloc: Global) -> Result<Lists, NoMemory>
@@ -164,7 +165,7 @@ impl Lists {
     pub fn end(&mut self, c: u32, at: u64)
         requires there { c < length self.old.clones }
         requires once { (clone_at self.old.clones c).end ≡ None }
-        ensures value { self.new ≡ record self.old { clones = ended self.old.clones c at } }
+        ensures value { self.new ≡ record self.old { clones = clones_with_end self.old.clones c at } }
     {
         set_end(&mut self.clones, c as usize, at);
     }
@@ -175,7 +176,7 @@ impl Lists {
     pub fn add(&mut self, c: u32, plan: Planned) -> Result<(), NoMemory>
         requires there { c < length self.old.clones }
         ensures ok { OnOk result (
-            self.new ≡ record self.old { clones = added self.old.clones c plan }) }
+            self.new ≡ record self.old { clones = clones_with_plan self.old.clones c plan }) }
         ensures err { OnErr result (self.new ≡ self.old) }
         ensures reserved { length (clone_at self.old.clones c).plans < self.old.reserved_plans
             → IsOk result }
@@ -191,7 +192,7 @@ impl Lists {
         requires unused { place_of new self.old.clones ≡ None }
         requires few { length self.old.clones + 1 < 2 ^ 32 }
         ensures ok { OnOk result (
-            self.new ≡ record self.old { clones = forked self.old.clones new old }) }
+            self.new ≡ record self.old { clones = clones_with_fork self.old.clones new old }) }
         ensures err { OnErr result (self.new ≡ self.old) }
         ensures reserved { length self.old.clones < self.old.reserved_clones
             → length (clone_at self.old.clones old).plans ≤ self.old.reserved_plans
@@ -214,7 +215,7 @@ impl Lists {
         requires unused { place_of new self.old.clones ≡ None }
         requires few { length self.old.clones < self.old.reserved_clones }
         requires short { length (clone_at self.old.clones old).plans ≤ self.old.reserved_plans }
-        ensures value { self.new ≡ record self.old { clones = forked self.old.clones new old } }
+        ensures value { self.new ≡ record self.old { clones = clones_with_fork self.old.clones new old } }
     {
         let Some(plans) = self.spare.pop() else {
             unreachable!()

@@ -1,4 +1,4 @@
-//! Messages and their order.
+//! Messages, the events of the simulation, and their order: by time stamp, then by sender and sequence number.
 ghost use Rattle.std.specs.Prelude.{◌≡◌};
 ghost use Rattle.sim_base.specs.Order.{msg_cmp};
 ghost use Rattle.sim_base.specs.Params.{param_word, param_values, param_of_word};

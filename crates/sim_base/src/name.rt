@@ -45,8 +45,8 @@ fn may_follow(byte: u8) -> bool
     is_lower_byte(byte) || (b'0' <= byte && byte <= b'9') || byte == b'_'
 }
 
-/// Whether the bytes are a name.
-pub fn are_name(text: &[u8]) -> bool
+// Whether the bytes are a name.
+fn are_name(text: &[u8]) -> bool
     ensures value { result ≡ is_name text.now }
 {
     match text {

@@ -1,4 +1,4 @@
-//! Seeded draws.
+//! Random variates: seeded draws from a range, and by weights.
 ghost use Rattle.std.specs.Prelude.{◌≡◌, ℕ, ◌+◌, ◌-◌, ◌%◌, ◌^◌, ◌<◌, ◌≤◌, List, length, sum};
 ghost use Rattle.std.specs.List.{AllByRecursion};
 ghost use Rattle.sim_draw.specs.Drawing.{DrawsView, drawn_one, range_of, next_of};

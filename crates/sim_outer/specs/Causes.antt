@@ -6,8 +6,8 @@ abbrev pub next_count : ℕ → ℕ
 next_count n = min (n + 1) (2 ^ 64 - 1)
 
 -- a count rose: it is greater than before, or stands at the last value of 64 bits
-abbrev pub Rose : ℕ → ℕ → Type 0
-Rose before now = next_count before ≤ now
+abbrev pub HasRisen : ℕ → ℕ → Type 0
+HasRisen before now = next_count before ≤ now
 
 -- there was one call, where calls are counted
 abbrev pub Counted : Option ℕ → Option ℕ → Type 0

@@ -1,4 +1,4 @@
--- Files by their names, and what a fetch says of them where they are told.
+-- Files by their names, and what a fetch says of them where the contract knows the files' contents.
 use Rattle.std.specs.Prelude.{◌≡◌, ℕ, List, take, Option, Some, None}
 use Rattle.std.specs.FinMap as map
 use Rattle.std.specs.Ordering.{nat_cmp}
@@ -14,11 +14,11 @@ unfoldable pub prefix_of : List ℕ → List ℕ
 prefix_of file = take MOST_FETCHED file
 
 -- these bytes are those that a fetch gives of the file of this name, which is there
-abbrev pub Fetched : Option Files → List ℕ → List ℕ → Type 0
-Fetched None name bytes = Unit {0}
-Fetched (Some files) name bytes = (file : List ℕ) × (map.get files name ≡ Some file) × (bytes ≡ prefix_of file)
+abbrev pub IsFetched : Option Files → List ℕ → List ℕ → Type 0
+IsFetched None name bytes = Unit {0}
+IsFetched (Some files) name bytes = (file : List ℕ) × (map.get files name ≡ Some file) × (bytes ≡ prefix_of file)
 
--- the files are told, and none has this name
+-- the contract knows the files' contents, and none of them has this name
 abbrev pub Lacks : Option Files → List ℕ → Type 0
 Lacks None name = ⊥
 Lacks (Some files) name = map.get files name ≡ None

@@ -1,8 +1,8 @@
-//! Inputs.
+//! Inputs: files that are fetched by name.
 ghost use Rattle.std.specs.Prelude.{◌≡◌, ◌≤◌, ◌⊎◌, IfOk, IfErr};
-ghost use Rattle.sim_outer.specs.Causes.{Counted, Rose};
+ghost use Rattle.sim_outer.specs.Causes.{Counted, HasRisen};
 ghost use Rattle.sim_outer.specs.Views.{InputsView};
-ghost use Rattle.sim_outer.specs.Files.{Fetched, Lacks};
+ghost use Rattle.sim_outer.specs.Files.{IsFetched, Lacks};
 
 use std::alloc::{AllocError, Global};
 
@@ -39,9 +39,9 @@ pub trait Inputs {
     /// It fails only where the count of faults rises in this call, or where the contract knows the files and
     /// none has this name.
     fn fetch(&mut self, alloc: Global, name: &str) -> Result<Vec<u8>, FetchFault>
-        ensures bytes { IfOk result (λ v. Fetched (seen self.old).files name.now v.items) }
+        ensures bytes { IfOk result (λ v. IsFetched (seen self.old).files name.now v.items) }
         ensures cause { IfErr result (λ e. e ≡ FetchFault.Failed →
-            Rose (seen self.old).faults (seen self.new).faults ⊎ Lacks (seen self.old).files name.now) }
+            HasRisen (seen self.old).faults (seen self.new).faults ⊎ Lacks (seen self.old).files name.now) }
         ensures later { (seen self.old).faults ≤ (seen self.new).faults }
         ensures same { (seen self.new).files ≡ (seen self.old).files }
         ensures counted { Counted (seen self.old).calls (seen self.new).calls };

@@ -29,7 +29,7 @@
 //!
 //! The types over real files and streams are the trusted edge, a few lines each; that they raise the count at
 //! each fault is proved. Here rests the promise that a status of the program has a cause: a file that was not
-//! read or an output that was cut off is told, never passed over.
+//! read or an output that was cut off is counted as a fault, never passed over.
 #![tactic(auto)]
 
 pub mod inputs;

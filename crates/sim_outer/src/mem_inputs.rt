@@ -1,10 +1,10 @@
-//! Inputs in memory.
+//! Inputs in memory, for tests: files whose fetch fails at stated calls.
 ghost use Rattle.std.specs.Prelude.{◌≡◌, ◌≤◌, ◌⊎◌, ◌↔◌, ◌==◌, Some, None, IfOk, IfErr, Err};
 ghost use Rattle.std.specs.FinMap as finite;
 ghost use Rattle.std.specs.List.{list_any};
 ghost use Rattle.std.specs.Option.{option_map};
-ghost use Rattle.sim_outer.specs.Causes.{Counted, Rose};
-ghost use Rattle.sim_outer.specs.Files.{Fetched, Lacks, prefix_of};
+ghost use Rattle.sim_outer.specs.Causes.{Counted, HasRisen};
+ghost use Rattle.sim_outer.specs.Files.{IsFetched, Lacks, prefix_of};
 ghost use Rattle.sim_outer.specs.MemInputsView.{named_bytes, files_by_name, prefix_by_name, next_prefix, after_fetch};
 
 use crate::inputs::{FetchFault, Inputs, MOST_FETCHED};
@@ -62,8 +62,8 @@ impl Inputs for MemInputs {
     ghost seen = { λ m. record { files = Some (files_by_name m.files); faults = m.faults; calls = Some m.calls } };
 
     fn fetch(&mut self, alloc: Global, name: &str) -> Result<Vec<u8>, FetchFault>
-        ensures bytes { IfOk result (λ v. Fetched (Some (files_by_name self.old.files)) name.now v.items) }
-        ensures cause { IfErr result (λ e. e ≡ FetchFault.Failed → Rose self.old.faults self.new.faults
+        ensures bytes { IfOk result (λ v. IsFetched (Some (files_by_name self.old.files)) name.now v.items) }
+        ensures cause { IfErr result (λ e. e ≡ FetchFault.Failed → HasRisen self.old.faults self.new.faults
             ⊎ Lacks (Some (files_by_name self.old.files)) name.now) }
         ensures later { self.old.faults ≤ self.new.faults }
         ensures same { Some (files_by_name self.new.files) ≡ Some (files_by_name self.old.files) }

@@ -1,8 +1,9 @@
-//! Sinks in memory.
+//! Sinks in memory, for tests: they hold so many bytes, and fail at stated calls.
 ghost use Rattle.std.specs.Prelude.{◌≡◌, ◌≤◌, ◌+◌, ◌↔◌, ◌++◌, [], true, length, take, Some, OnOk, OnErr, IfOk, IsOk};
-ghost use Rattle.sim_outer.specs.Bytes.{Appended, PartAppended};
-ghost use Rattle.sim_outer.specs.Causes.{Counted, Rose};
-ghost use Rattle.sim_outer.specs.MemSinkView.{stop_of as stop_of', share as share', with_share, fits_whole, left_of, next_stop};
+ghost use Rattle.sim_outer.specs.Bytes.{IsAppended, IsPrefixAppended};
+ghost use Rattle.sim_outer.specs.Causes.{Counted, HasRisen};
+ghost use Rattle.sim_outer.specs.MemSinkView.{stop_of as stop_of', share as share', with_share, fits_whole};
+ghost use Rattle.sim_outer.specs.MemSinkView.{left_of, next_stop};
 ghost use Rattle.sim_outer.specs.MemSinkView.{after_call, next_is_whole, after_put, next_part_is_whole, after_part};
 
 use crate::sink::{PutFailed, Sink};
@@ -118,9 +119,9 @@ impl Sink for MemSink {
     ghost seen = { λ s. record { bytes = Some s.taken; faults = s.faults; calls = Some s.calls } };
 
     fn put(&mut self, piece: &[u8]) -> Result<(), PutFailed>
-        ensures ok { OnOk result (Appended (Some self.old.taken) piece.now (Some self.new.taken)) }
-        ensures part { OnErr result (PartAppended (Some self.old.taken) piece.now (Some self.new.taken)) }
-        ensures cause { OnErr result (Rose self.old.faults self.new.faults) }
+        ensures ok { OnOk result (IsAppended (Some self.old.taken) piece.now (Some self.new.taken)) }
+        ensures part { OnErr result (IsPrefixAppended (Some self.old.taken) piece.now (Some self.new.taken)) }
+        ensures cause { OnErr result (HasRisen self.old.faults self.new.faults) }
         ensures later { self.old.faults ≤ self.new.faults }
         ensures counted { Counted (Some self.old.calls) (Some self.new.calls) }
 
@@ -134,9 +135,9 @@ impl Sink for MemSink {
     }
 
     fn put_part(&mut self, part: &[u8]) -> Result<(), PutFailed>
-        ensures ok { OnOk result (Appended (Some self.old.taken) part.now (Some self.new.taken)) }
-        ensures part { OnErr result (PartAppended (Some self.old.taken) part.now (Some self.new.taken)) }
-        ensures cause { OnErr result (Rose self.old.faults self.new.faults) }
+        ensures ok { OnOk result (IsAppended (Some self.old.taken) part.now (Some self.new.taken)) }
+        ensures part { OnErr result (IsPrefixAppended (Some self.old.taken) part.now (Some self.new.taken)) }
+        ensures cause { OnErr result (HasRisen self.old.faults self.new.faults) }
         ensures later { self.old.faults ≤ self.new.faults }
         ensures same { OnOk result (Some self.new.calls ≡ Some self.old.calls) }
         ensures counted { OnErr result (Counted (Some self.old.calls) (Some self.new.calls)) }

@@ -1,7 +1,7 @@
-//! Sinks.
+//! Sinks: what takes bytes, piece by piece.
 ghost use Rattle.std.specs.Prelude.{◌≡◌, ◌≤◌, OnOk, OnErr};
-ghost use Rattle.sim_outer.specs.Bytes.{Appended, PartAppended};
-ghost use Rattle.sim_outer.specs.Causes.{Counted, Rose};
+ghost use Rattle.sim_outer.specs.Bytes.{IsAppended, IsPrefixAppended};
+ghost use Rattle.sim_outer.specs.Causes.{Counted, HasRisen};
 ghost use Rattle.sim_outer.specs.Views.{SinkView};
 
 /// A piece was not taken whole.
@@ -16,18 +16,18 @@ pub trait Sink {
     /// Takes a piece, or fails and has taken a prefix of it. To take nothing of a piece that is not
     /// empty is a fault. It takes no memory.
     fn put(&mut self, piece: &[u8]) -> Result<(), PutFailed>
-        ensures ok { OnOk result (Appended (seen self.old).bytes piece.now (seen self.new).bytes) }
-        ensures part { OnErr result (PartAppended (seen self.old).bytes piece.now (seen self.new).bytes) }
-        ensures cause { OnErr result (Rose (seen self.old).faults (seen self.new).faults) }
+        ensures ok { OnOk result (IsAppended (seen self.old).bytes piece.now (seen self.new).bytes) }
+        ensures part { OnErr result (IsPrefixAppended (seen self.old).bytes piece.now (seen self.new).bytes) }
+        ensures cause { OnErr result (HasRisen (seen self.old).faults (seen self.new).faults) }
         ensures later { (seen self.old).faults ≤ (seen self.new).faults }
         ensures counted { Counted (seen self.old).calls (seen self.new).calls };
 
     /// Takes a part of the next piece, whose rest a `put` gives, or fails and has taken a prefix of the part. All parts
     /// and the rest are one call, and a part that fails ends it. It takes no memory.
     fn put_part(&mut self, part: &[u8]) -> Result<(), PutFailed>
-        ensures ok { OnOk result (Appended (seen self.old).bytes part.now (seen self.new).bytes) }
-        ensures part { OnErr result (PartAppended (seen self.old).bytes part.now (seen self.new).bytes) }
-        ensures cause { OnErr result (Rose (seen self.old).faults (seen self.new).faults) }
+        ensures ok { OnOk result (IsAppended (seen self.old).bytes part.now (seen self.new).bytes) }
+        ensures part { OnErr result (IsPrefixAppended (seen self.old).bytes part.now (seen self.new).bytes) }
+        ensures cause { OnErr result (HasRisen (seen self.old).faults (seen self.new).faults) }
         ensures later { (seen self.old).faults ≤ (seen self.new).faults }
         ensures same { OnOk result ((seen self.new).calls ≡ (seen self.old).calls) }
         ensures counted { OnErr result (Counted (seen self.old).calls (seen self.new).calls) };

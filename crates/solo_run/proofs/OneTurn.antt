@@ -26,9 +26,10 @@ use Rattle.stations.specs.Opening.{setup}
 use Rattle.stations.specs.Sends.{AreSends}
 use Rattle.stations.proofs.Lawful.{handles-well}
 use Rattle.stations.proofs.GoodLaws.{lawful-stations}
+use Rattle.solo_run.specs.EventLists.{MayBePending}
 use Rattle.solo_run.specs.Limit.{receiver, first_beyond}
 use Rattle.solo_run.specs.SoloView.{SoloView, IsSolo, IsStateAfter, IsForStation}
-use Rattle.solo_run.specs.SoloView.{config_of, messages_of, state_of, with_due}
+use Rattle.solo_run.specs.SoloView.{config_of, state_of, with_due}
 use Rattle.solo_run.specs.Turns.{HandlesAt, Turned, step_of}
 
 get_set_here : {X : Type 0} (xs : List X) (i : ℕ) (y : X) → i < length xs → slice_get (slice_set xs i y) i ≡ Some y
@@ -113,13 +114,22 @@ module _ (limit : ℕ) where
       → length (log_of receiver e.msg.to seen) < limit → first_beyond limit [] (seen ++ e ∷ []) ≡ None
   beyond_none seen e none below = beyond_append [] seen (e ∷ []) none ∙ beyond_later seen e [] below
 
+-- what a station sends may be pending
+sends_pending : (net : Net) (now s k : ℕ) (ms : List Msg) → AreSends net now s k ms
+    → AllByRecursion (MayBePending (length net.sites)) ms
+sends_pending net now s k [] are = tt
+sends_pending net now s k (m ∷ ms) are = (
+  record { first = are.0.first; last = are.0.last },
+  sends_pending net now s (suc k) ms are.1,
+)
+
 -- what a station sends is for stations
 sends_for : (net : Net) (now s k : ℕ) (ms : List Msg) → AreSends net now s k ms → AllByRecursion (IsForStation net) ms
 sends_for net now s k [] are = tt
 sends_for net now s k (m ∷ ms) are = ((are.0.first, are.0.last), sends_for net now s (suc k) ms are.1)
 
 module _ (net : Net) (valid : IsNet net) (v : SoloView) (m : Msg) (new : List StateView)
-    (next : List (Msg × Unit {0})) (sends : List Msg) (line : Line)
+    (next : List Msg) (sends : List Msg) (line : Line)
     (early : m.key.time < 2 ^ 31)
     (solo : IsSolo net (with_due m v))
     (h : HandlesAt net (m.to - 1) m v.states new sends line) where
@@ -140,9 +150,9 @@ module _ (net : Net) (valid : IsNet net) (v : SoloView) (m : Msg) (new : List St
   full_log = old.log ∙ ap (λ k. length (log_of receiver k v.trace)) (let low : 1 ≤ m.to = solo.targets.0.0 in
       omega arith)
 
-  config_is : messages_of next ≡ insert_all msg_cmp sends (messages_of v.pending)
+  config_is : next ≡ insert_all msg_cmp sends v.pending
       → config_of net (record { states = new; pending = next; trace = v.trace ++ e ∷ [] }) ≡ after msg_cmp
-      (step_of net) (config_of net (with_due m v)).at m (messages_of v.pending)
+      (step_of net) (config_of net (with_due m v)).at m v.pending
   config_is is =
       let at : state_of net v.states m.to ≡ h.before =
       subst (λ k. state_of net v.states k ≡ h.before) number
@@ -150,7 +160,7 @@ module _ (net : Net) (valid : IsNet net) (v : SoloView) (m : Msg) (new : List St
       let gives = ap (λ st. handle net st m) at ∙ h.gives in
       let one : state_of net new ≡ put (state_of net v.states) m.to h.after =
       subst (λ k. state_of net new ≡ put (state_of net v.states) k h.after) number
-      (ap (state_of net) h.changed ∙ fun_ext (state_put net v.states (m.to - 1) h.after within)) in
+      (ap (state_of net) h.new_states ∙ fun_ext (state_put net v.states (m.to - 1) h.after within)) in
       let F : Handled StateView Msg Line → Config (World StateView Msg Line) Msg =
       λ d. record {
         at = record {
@@ -158,9 +168,9 @@ module _ (net : Net) (valid : IsNet net) (v : SoloView) (m : Msg) (new : List St
           trace = v.trace ++ record { msg = m; line = d.line } ∷ [];
         };
         pending = insert_all msg_cmp d.sends
-            (messages_of v.pending);
+            v.pending;
       } in
-      ap (λ f. record { at = record { states = f; trace = v.trace ++ e ∷ [] }; pending = messages_of next }) one
+      ap (λ f. record { at = record { states = f; trace = v.trace ++ e ∷ [] }; pending = next }) one
       ∙ ap (λ p. record {
         at = record {
           states = put (state_of net v.states) m.to h.after;
@@ -173,7 +183,7 @@ module _ (net : Net) (valid : IsNet net) (v : SoloView) (m : Msg) (new : List St
   states_after : (i : ℕ) (st : StateView) → slice_get new i ≡ Some st → IsStateAfter net (v.trace ++ e ∷ []) i st
   states_after i st is = elim (cases_eq i (m.to - 1)) [
     | inl here ↦
-        let at : slice_get new (m.to - 1) ≡ Some h.after = ap (λ t. slice_get t (m.to - 1)) h.changed
+        let at : slice_get new (m.to - 1) ≡ Some h.after = ap (λ t. slice_get t (m.to - 1)) h.new_states
         ∙ get_set_here v.states (m.to - 1) h.after within in
         let same : st ≡ h.after = let k = sym is ∙ (ap (slice_get new) here ∙ at) in cc in
         let well = handles-well net h.before m valid old.fits old.suits early in
@@ -196,7 +206,7 @@ module _ (net : Net) (valid : IsNet net) (v : SoloView) (m : Msg) (new : List St
         }
     | inr other ↦
         let at : slice_get v.states i ≡ Some st =
-        sym (ap (λ t. slice_get t i) h.changed ∙ get_set_other v.states (m.to - 1) i h.after other) ∙ is in
+        sym (ap (λ t. slice_get t i) h.new_states ∙ get_set_other v.states (m.to - 1) i h.after other) ∙ is in
         let was = solo.states i st at in
         record {
           fits = was.fits;
@@ -209,34 +219,47 @@ module _ (net : Net) (valid : IsNet net) (v : SoloView) (m : Msg) (new : List St
         }
   ]
 
+  -- what is sent is for stations
+  sends_for_stations : AllByRecursion (IsForStation net) sends
+  sends_for_stations =
+      let well = handles-well net h.before m valid old.fits old.suits early in
+      subst (AllByRecursion (IsForStation net)) (ap (λ d. d.sends) h.gives)
+      (sends_for net m.key.time h.before.sender.station h.before.sender.next
+      (handle net h.before m).sends well.sends)
+
+  -- and may be pending
+  pub sends_may_be_pending : (n : ℕ) → n ≡ length v.states → AllByRecursion (MayBePending n) sends
+  sends_may_be_pending n is =
+      let well = handles-well net h.before m valid old.fits old.suits early in
+      subst (λ n. AllByRecursion (MayBePending n) sends) (sym (is ∙ solo.count))
+      (subst (AllByRecursion (MayBePending (length net.sites))) (ap (λ d. d.sends) h.gives)
+      (sends_pending net m.key.time h.before.sender.station h.before.sender.next (handle net h.before m).sends
+      well.sends))
+
   -- after the turn it is a run of the network still, with no log beyond the limit
-  pub solo_is : messages_of next ≡ insert_all msg_cmp sends (messages_of v.pending)
+  pub solo_is : next ≡ insert_all msg_cmp sends v.pending
       → IsSolo net (record { states = new; pending = next; trace = v.trace ++ e ∷ [] })
   solo_is is =
       let order = (lawful-stations net valid).order.order in
       let well = handles-well net h.before m valid old.fits old.suits early in
-      let are : AllByRecursion (IsForStation net) sends =
-      subst (AllByRecursion (IsForStation net)) (ap (λ d. d.sends) h.gives)
-      (sends_for net m.key.time h.before.sender.station h.before.sender.next
-      (handle net h.before m).sends well.sends) in
       let state = ap (λ d. d.state) h.gives in
       let handled : h.after.handled ≡ h.before.handled + 1 = ap (λ d. d.handled) (sym state) ∙ well.handled in
       let sum = sum_set (λ st. st.handled) v.states (m.to - 1) h.before h.after h.is_there in
-      let new_sum = ap (sum_by (λ st. st.handled)) h.changed in
+      let new_sum = ap (sum_by (λ st. st.handled)) h.new_states in
       let longer = length-append v.trace (e ∷ []) in
       let total = solo.total in
       record {
         valid = valid;
-        count = ap (λ t. length t) h.changed ∙ (length-set v.states (m.to - 1) h.after ∙ solo.count);
+        count = ap (λ t. length t) h.new_states ∙ (length-set v.states (m.to - 1) h.after ∙ solo.count);
         states = states_after;
-        sorted = subst (Sorted msg_cmp) (sym is) (sorted_insert_all order sends (messages_of v.pending) solo.sorted.1);
+        sorted = subst (Sorted msg_cmp) (sym is) (sorted_insert_all order sends v.pending solo.sorted.1);
         targets = subst (AllByRecursion (IsForStation net)) (sym is)
-            (all_insert_all order (IsForStation net) sends (messages_of v.pending) are solo.targets.1);
+            (all_insert_all order (IsForStation net) sends v.pending sends_for_stations solo.targets.1);
         total = omega (arith, handled, sum, new_sum, longer, total);
         below = beyond_none net.limit v.trace e solo.below (let below = h.below in omega (arith, full_log, below));
       }
 
   -- and it has come to where the turn leads
-  pub turned : messages_of next ≡ insert_all msg_cmp sends (messages_of v.pending)
+  pub turned : next ≡ insert_all msg_cmp sends v.pending
       → Turned net v m (record { states = new; pending = next; trace = v.trace ++ e ∷ [] })
   turned is = config_is is

@@ -3,12 +3,12 @@ use Rattle.std.proofs.Common.{◌≡◌, refl, ap, List, [], ◌∷◌, Ordering
 use Rattle.sim_base.specs.Order.{msg_cmp}
 use Rattle.sim_base.specs.Pending.{place_marked, insert_marked}
 use Rattle.sim_base.specs.declared.message.Msg.{Msg}
-use Rattle.run_laws.specs.Queue.{place, insert}
-use Rattle.solo_run.specs.SoloView.{messages_of}
+use Rattle.run_laws.specs.Queue.{insert_by, insert}
+use Rattle.solo_run.specs.EventLists.{messages_of}
 
 at_place : (o : Ordering) (join : Unit {0} → Unit {0} → Unit {0}) (m : Msg) (y : Msg × Unit {0})
     (ys rest : List (Msg × Unit {0})) (after : List Msg) → messages_of rest ≡ after
-    → messages_of (place_marked join o m tt y ys rest) ≡ place o m y.0 (messages_of ys) after
+    → messages_of (place_marked join o m tt y ys rest) ≡ insert_by o m y.0 (messages_of ys) after
 at_place Less join m y ys rest after is = refl
 at_place Equal join m y ys rest after is = refl
 at_place Greater join m y ys rest after is = ap (λ t. y.0 ∷ t) is

@@ -9,7 +9,7 @@ use Rattle.sim_base.specs.declared.message.Msg.{Msg}
 use Rattle.sim_base.specs.declared.decision.Planned.{Planned}
 use Rattle.run_laws.specs.Queue.{insert, insert_all, Sorted}
 use Rattle.run_laws.specs.Machine.{run_to}
-use Rattle.run_laws.specs.World.{openings, planned, and_first}
+use Rattle.run_laws.specs.World.{openings, set_messages, and_first}
 use Rattle.run_laws.specs.Handlers.{AreForStations}
 use Rattle.run_laws.proofs.Queue.{all_from, sorted_insert_all, insert_all-push}
 use Rattle.run_laws.proofs.ForStations.{pending_for_stations}
@@ -20,8 +20,8 @@ use Rattle.stations.specs.Handling.{StateView}
 use Rattle.stations.specs.Opening.{setup}
 use Rattle.stations.specs.Runs.{simulation}
 use Rattle.stations.proofs.GoodLaws.{lawful-stations, stations-to_stations}
-use Rattle.solo_run.specs.Beginning.{AreOpenings, and_put, start_of}
-use Rattle.solo_run.specs.SoloView.{IsSolo, IsForStation, config_of, messages_of, state_of}
+use Rattle.solo_run.specs.Beginning.{AreOpeningStates, and_put, start_of}
+use Rattle.solo_run.specs.SoloView.{IsSolo, IsForStation, config_of, state_of}
 use Rattle.solo_run.proofs.OneTurn.{sum_most}
 
 get_push : {X : Type 0} (xs : List X) (y : X) (i : ℕ) (x : X) → slice_get (xs ++ y ∷ []) i ≡ Some x
@@ -35,8 +35,8 @@ get_push (z ∷ xs) y (suc i) x is = elim (get_push xs y i x is) [
 ]
 
 -- one station more is open
-pub opened_more : (net : Net) (n : ℕ) (states : List StateView) (st : StateView) → AreOpenings net n states
-    → (setup net (n + 1)).state ≡ st → FitsState st → SuitsNet net st → AreOpenings net (n + 1) (states ++ st ∷ [])
+pub opened_more : (net : Net) (n : ℕ) (states : List StateView) (st : StateView) → AreOpeningStates net n states
+    → (setup net (n + 1)).state ≡ st → FitsState st → SuitsNet net st → AreOpeningStates net (n + 1) (states ++ st ∷ [])
 opened_more net n states st before is fits suits =
     let longer = length-append states (st ∷ []) in
     let count = before.count in
@@ -73,7 +73,7 @@ insert_both : (xs ys q : List Msg) → insert_all msg_cmp (xs ++ ys) q ≡ inser
 insert_both [] ys q = refl
 insert_both (x ∷ xs) ys q = insert_both xs ys (insert msg_cmp x q)
 
-opening_at : (net : Net) (states : List StateView) → AreOpenings net (length net.sites) states → (s : ℕ)
+opening_at : (net : Net) (states : List StateView) → AreOpeningStates net (length net.sites) states → (s : ℕ)
     → state_of net states s ≡ (setup net s).state
 opening_at net states opened zero = refl
 opening_at net states opened (suc i) = elim (slice_get_cases states i).1 [
@@ -84,19 +84,19 @@ opening_at net states opened (suc i) = elim (slice_get_cases states i).1 [
   | inr past ↦ ap (λ o. unwrap_or o (setup net (suc i)).state) past.1
 ]
 
-module _ (net : Net) (valid : IsNet net) (list : List Planned) (states : List StateView) (p : List (Msg × Unit {0}))
+module _ (net : Net) (valid : IsNet net) (list : List Planned) (states : List StateView) (p : List Msg)
     (firsts : List Msg)
-    (opened : AreOpenings net (length net.sites) states)
+    (opened : AreOpeningStates net (length net.sites) states)
     (first : firsts ≡ insert_all msg_cmp (openings (simulation net) (length net.sites)) [])
-    (then_all : messages_of p ≡ insert_all msg_cmp (planned (simulation net) 0 list) firsts) where
-  pending_is : messages_of p ≡ (start_of net list).pending
-  pending_is = then_all ∙ (ap (insert_all msg_cmp (planned (simulation net) 0 list)) first
-      ∙ sym (insert_both (openings (simulation net) (length net.sites)) (planned (simulation net) 0 list) []))
+    (then_all : p ≡ insert_all msg_cmp (set_messages (simulation net) 0 list) firsts) where
+  pending_is : p ≡ (start_of net list).pending
+  pending_is = then_all ∙ (ap (insert_all msg_cmp (set_messages (simulation net) 0 list)) first
+      ∙ sym (insert_both (openings (simulation net) (length net.sites)) (set_messages (simulation net) 0 list) []))
 
   -- with the opening states and these messages, the run stands where the world of the clone begins
   pub begins : config_of net (record { states = states; pending = p; trace = [] }) ≡ start_of net list
   begins =
-      ap (λ f. record { at = record { states = f; trace = [] }; pending = messages_of p })
+      ap (λ f. record { at = record { states = f; trace = [] }; pending = p })
       (fun_ext (opening_at net states opened))
       ∙ ap (λ q. record { at = record { states = λ s. (setup net s).state; trace = [] }; pending = q }) pending_is
 
@@ -125,7 +125,7 @@ module _ (net : Net) (valid : IsNet net) (list : List Planned) (states : List St
             };
         sorted = subst (λ q. Sorted msg_cmp q) (sym pending_is)
             (sorted_insert_all law.order.order
-            (openings (simulation net) (length net.sites) ++ planned (simulation net) 0 list) [] tt);
+            (openings (simulation net) (length net.sites) ++ set_messages (simulation net) 0 list) [] tt);
         targets = subst (AllByRecursion (IsForStation net)) (sym pending_is)
             (all_from (IsForStation net) (start_of net list).pending
             (λ z i. pending_for_stations law (stations-to_stations net valid) list 0 there z i));

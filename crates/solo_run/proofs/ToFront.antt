@@ -1,19 +1,16 @@
 -- The turns up to a front come to the run, or go beyond the limit.
-use Rattle.std.proofs.Common.{◌≡◌, inl, inr, ℕ, zero, suc, ◌+◌, ◌-◌, ◌*◌, Less, ◌<◌, ◌≤◌, refl}
+use Rattle.std.proofs.Common.{◌≡◌, inl, inr, ℕ, zero, suc, ◌+◌, ◌-◌, ◌*◌, ◌<◌, ◌≤◌, refl}
 use Rattle.std.proofs.Common.{ap, sym, subst, ◌∙◌, List, [], ◌∷◌, ◌++◌, length, append-nil, Some, unwrap_or, arith}
 use Rattle.std.specs.List.{AllByRecursion}
 use Rattle.std.proofs.lemmas.List.{append_assoc}
 use Rattle.std.proofs.lemmas.Option.{slice_get_cases}
 use Rattle.sim_base.specs.Order.{msg_cmp}
-use Rattle.sim_base.specs.Pending.{NothingBefore}
 use Rattle.sim_base.specs.declared.message.Msg.{Msg}
 use Rattle.sim_base.specs.declared.entry.Entry.{Entry}
 use Rattle.sim_base.specs.declared.entry.Line.{Line}
-use Rattle.run_laws.specs.Queue.{Sorted}
 use Rattle.run_laws.specs.Machine.{Config, Next, Reach, stay, go, Done, after, run_to}
 use Rattle.run_laws.specs.World.{World, log_of}
 use Rattle.run_laws.specs.Handlers.{AllGood}
-use Rattle.sim_base.proofs.Placing.{all_weaker}
 use Rattle.run_laws.proofs.Machine.{reach_trans, reach_first, done_no_next}
 use Rattle.run_laws.proofs.Running.{Fine, all_from_zero, run_reach, run_is, fine_reach}
 use Rattle.run_laws.proofs.Worlds.{world_lawful}
@@ -27,7 +24,7 @@ use Rattle.stations.proofs.KindLaws.{good_kind}
 use Rattle.stations.proofs.Lawful.{site_is}
 use Rattle.stations.proofs.GoodLaws.{lawful-stations}
 use Rattle.solo_run.specs.Limit.{receiver, first_beyond}
-use Rattle.solo_run.specs.SoloView.{SoloView, IsSolo, IsStateAfter, config_of, messages_of, state_of, with_due}
+use Rattle.solo_run.specs.SoloView.{SoloView, IsSolo, IsStateAfter, config_of, state_of, with_due}
 use Rattle.solo_run.specs.Turns.{GoesBeyond, IsFull, Stops, StopsAt, Turned, run_from, step_of}
 use Rattle.solo_run.specs.declared.turn.SoloFault.{SoloFault}
 use Rattle.solo_run.specs.declared.turn.SoloFault.TheVariants.{NoMemory, Limit}
@@ -71,7 +68,7 @@ module _ (net : Net) (valid : IsNet net) where
   fine_solo v solo = record {
     good = good_states v solo;
     sorted = solo.sorted;
-    from_t = all_from_zero (λ (m : Msg). m.key.time) (messages_of v.pending);
+    from_t = all_from_zero (λ (m : Msg). m.key.time) v.pending;
   }
 
   -- no more is handled than the stations may handle
@@ -82,30 +79,20 @@ module _ (net : Net) (valid : IsNet net) where
       let total = solo.total in
       omega (arith, most, count, total)
 
-  -- where the first message is not before the front, none is
-  none_before : (front : ℕ) (q : List (Msg × Unit {0})) → Sorted msg_cmp (messages_of q) → NothingBefore front q
-      → AllByRecursion (λ m. front ≤ m.key.time) (messages_of q)
-  none_before front [] sorted late = tt
-  none_before front (p ∷ q) sorted late = (
-    late,
-    all_weaker (λ y. msg_cmp p.0 y ≡ Less) (λ y. front ≤ y.key.time) (messages_of q)
-        (λ y e. let h = (lawful-stations net valid).order.timed p.0 y e in omega arith) sorted.0,
-  )
-
   -- turns before the front that leave nothing pending before it have come to the run
   pub run_ends : (front : ℕ) (v w : SoloView) → IsSolo net v → IsSolo net w
       → Reach msg_cmp (λ m. m.key.time) (step_of net) front (config_of net v) (config_of net w)
-      → NothingBefore front w.pending → config_of net w ≡ run_from net v front
+      → AllByRecursion (λ m. front ≤ m.key.time) w.pending → config_of net w ≡ run_from net v front
   run_ends front v w from to ran none =
       let law = lawful-stations net valid in
       run_is law.order (world_lawful law) front (config_of net v) (config_of net w) (fine_solo v from) ran
-      (none_before front w.pending to.sorted none)
+      none
 
   -- a turn of a message before the front
   pub next_turn : (front : ℕ) (w : SoloView) (m : Msg) (new : SoloView) → m.key.time < front
       → Turned net w m new
       → Next msg_cmp (λ m. m.key.time) (step_of net) front (config_of net (with_due m w)) (config_of net new)
-  next_turn front w m new early t = record { m = m; q = messages_of w.pending; pending = refl; early = early; is = t }
+  next_turn front w m new early t = record { m = m; q = w.pending; pending = refl; early = early; is = t }
 
   -- the least message is before the front, and its station has handled as many as it may
   pub goes_beyond : (front : ℕ) (v w : SoloView) (m : Msg) (at_start at_end now station kept : ℕ)
@@ -118,13 +105,13 @@ module _ (net : Net) (valid : IsNet net) where
       let law = lawful-stations net valid in
       let fine = fine_reach law.order (world_lawful law) 0 (fine_solo v from) ran in
       let c = config_of net (with_due m w) in
-      let step : Config (World StateView Msg Line) Msg = after msg_cmp (step_of net) c.at m (messages_of w.pending) in
+      let step : Config (World StateView Msg Line) Msg = after msg_cmp (step_of net) c.at m w.pending in
       let on = run_reach law.order (world_lawful law) front front c (omega arith) fine in
       let last = run_to msg_cmp (step_of net) (λ m. m.key.time) c front in
       let same : last ≡ run_from net v front = run_is law.order (world_lawful law) front (config_of net v) last
       (fine_solo v from) (reach_trans ran on.0) on.1.from_t in
       let next : Next msg_cmp (λ m. m.key.time) (step_of net) front c step =
-      record { m = m; q = messages_of w.pending; pending = refl; early = early; is = refl } in
+      record { m = m; q = w.pending; pending = refl; early = early; is = refl } in
       let later : Reach msg_cmp (λ m. m.key.time) (step_of net) front step last = elim (reach_first on.0 next) [
         | inl e ↦ absurd (done_no_next c step (subst (Done (λ m. m.key.time) front) e on.1.from_t) next)
         | inr r ↦ r

@@ -18,15 +18,15 @@ abbrev pub start_of : Net → List Planned → Config (World StateView Msg Line)
 start_of net plans = begin (simulation net) plans
 
 -- the state at place i is the opening state of the station of number i + 1
-pub record IsOpening (net : Net) (i : ℕ) (st : StateView) : Type 0 where
+pub record IsOpeningState (net : Net) (i : ℕ) (st : StateView) : Type 0 where
   pub is : st ≡ (setup net (i + 1)).state
   pub fits : FitsState st
   pub suits : SuitsNet net st
 
 -- the opening states of the stations 1 to n
-pub record AreOpenings (net : Net) (n : ℕ) (states : List StateView) : Type 0 where
+pub record AreOpeningStates (net : Net) (n : ℕ) (states : List StateView) : Type 0 where
   pub count : length states ≡ n
-  pub each : (i : ℕ) (st : StateView) → slice_get states i ≡ Some st → IsOpening net i st
+  pub each : (i : ℕ) (st : StateView) → slice_get states i ≡ Some st → IsOpeningState net i st
 
 -- what a station sends first, if anything, becomes pending
 abbrev pub and_put : Option Msg → List Msg → List Msg

@@ -1,4 +1,5 @@
 pub mod Limit
+pub mod EventLists
 pub mod SoloView
 pub mod Turns
 pub mod Beginning

@@ -1,5 +1,5 @@
--- Where a one-thread run stands: the states of the stations in order, the pending messages, and the trace.
-use Rattle.std.specs.Prelude.{◌≡◌, ℕ, zero, suc, ◌+◌, ◌≤◌, List, [], ◌∷◌, length, map, Some, None, slice_get, unwrap_or}
+-- The view of a one-thread run: the states of the stations in order, the pending messages, and the trace.
+use Rattle.std.specs.Prelude.{◌≡◌, ℕ, zero, suc, ◌+◌, ◌≤◌, List, [], ◌∷◌, length, Some, None, slice_get, unwrap_or}
 use Rattle.std.specs.List.{AllByRecursion, sum_by}
 use Rattle.sim_base.specs.Order.{msg_cmp}
 use Rattle.sim_base.specs.declared.message.Msg.{Msg}
@@ -15,30 +15,26 @@ use Rattle.stations.specs.Handling.{StateView}
 use Rattle.stations.specs.Opening.{setup}
 use Rattle.solo_run.specs.Limit.{receiver, first_beyond}
 
--- what contracts see of a one-thread run: the states, the pending messages with empty marks, and the trace
+-- what contracts see of a one-thread run: the states, the pending messages in their order, and the trace
 pub record SoloView : Type 0 where
   pub states : List StateView
-  pub pending : List (Msg × Unit {0})
+  pub pending : List Msg
   pub trace : List (Entry Msg Line)
 
 -- the view with this message once more the first of those that are pending
 abbrev pub with_due : Msg → SoloView → SoloView
-with_due m v = record v { pending = (m, tt) ∷ v.pending }
+with_due m v = record v { pending = m ∷ v.pending }
 
 -- the state of each number: a number without a station has its opening state
 abbrev pub state_of : Net → List StateView → ℕ → StateView
 state_of net states zero = (setup net zero).state
 state_of net states (suc i) = unwrap_or (slice_get states i) (setup net (suc i)).state
 
--- the pending messages without their marks
-abbrev pub messages_of : List (Msg × Unit {0}) → List Msg
-messages_of pending = map (λ p. p.0) pending
-
 -- the world of a clone in which the run stands
 abbrev pub config_of : Net → SoloView → Config (World StateView Msg Line) Msg
 config_of net v = record {
   at = record { states = state_of net v.states; trace = v.trace };
-  pending = messages_of v.pending;
+  pending = v.pending;
 }
 
 -- the station of number i + 1, in a run with this trace
@@ -58,7 +54,7 @@ pub record IsSolo (net : Net) (v : SoloView) : Type 0 where
   pub valid : IsNet net
   pub count : length v.states ≡ length net.sites
   pub states : (i : ℕ) (st : StateView) → slice_get v.states i ≡ Some st → IsStateAfter net v.trace i st
-  pub sorted : Sorted msg_cmp (messages_of v.pending)
-  pub targets : AllByRecursion (IsForStation net) (messages_of v.pending)
+  pub sorted : Sorted msg_cmp v.pending
+  pub targets : AllByRecursion (IsForStation net) v.pending
   pub total : length v.trace ≡ sum_by (λ st. st.handled) v.states
   pub below : first_beyond net.limit [] v.trace ≡ None

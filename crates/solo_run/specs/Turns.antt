@@ -10,7 +10,7 @@ use Rattle.net_model.specs.Net.{Net}
 use Rattle.stations.specs.Fits.{FitsState, SuitsNet}
 use Rattle.stations.specs.Handling.{StateView, handle}
 use Rattle.solo_run.specs.Limit.{receiver, first_beyond}
-use Rattle.solo_run.specs.SoloView.{SoloView, config_of, messages_of}
+use Rattle.solo_run.specs.SoloView.{SoloView, config_of}
 use Rattle.solo_run.specs.declared.turn.SoloFault.{SoloFault}
 use Rattle.solo_run.specs.declared.turn.SoloFault.TheVariants.{NoMemory, Limit}
 
@@ -29,7 +29,7 @@ pub record HandlesAt (net : Net) (i : ℕ) (m : Msg) (old new : List StateView) 
   pub after : StateView
   pub is_there : slice_get old i ≡ Some before
   pub below : before.handled < net.limit
-  pub changed : new ≡ slice_set old i after
+  pub new_states : new ≡ slice_set old i after
   pub gives : handle net before m ≡ record { state = after; sends = sends; line = line }
   pub suits : SuitsNet net after
   pub fits : FitsState after
@@ -50,7 +50,7 @@ StopsAt net i states old_steps new_steps (Limit station kept) = IsFull net i sta
 
 -- a message that was due is handled: the run comes to where the turn leads
 abbrev pub Turned : Net → SoloView → Msg → SoloView → Type 0
-Turned net v m new = config_of net new ≡ after msg_cmp (step_of net) (config_of net v).at m (messages_of v.pending)
+Turned net v m new = config_of net new ≡ after msg_cmp (step_of net) (config_of net v).at m v.pending
 
 -- the run to a front goes beyond the limit: up to the first such entry all was handled, one step for each, and no
 -- station has handled more than the limit

@@ -12,8 +12,9 @@
 //!     let solo = solo.run_to(&model, model.horizon(), &mut steps)?;   // Err(SoloFault::Limit { .. }) at the limit
 //!     let trace = solo.trace();                                       // the log of what was handled, in order
 //!
-//! A turn costs the handling, one look at the future event list and an insert for each message that is sent; one
-//! buffer serves all turns. A run of n messages keeps n entries of trace in a `Log`: 32 bytes each where packed, as the
+//! The future event list is a list for each station, and a tournament of their first keys. A turn costs the handling,
+//! one way up the tournament, and an insert among the messages to one station for each message that is sent; one buffer
+//! serves all turns. A run of n messages keeps n entries of trace in a `Log`: 32 bytes each where packed, as the
 //! numbers of a run within the model's limits let them be.
 //!
 //! It is the measure of all sharing: `run_to` comes to exactly the run that the definitions give for the clone
@@ -21,6 +22,7 @@
 //! message (`stops`). What a clone costs here is what *alone* counts in a report.
 #![tactic(auto)]
 
+mod event_list;
 mod opening;
 pub mod solo;
 pub mod turn;

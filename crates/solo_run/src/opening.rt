@@ -1,25 +1,29 @@
-//! How a one-thread run begins.
-ghost use Rattle.std.specs.Prelude.{◌≡◌, ◌+◌, ◌<◌, length, IfOk, OnOk};
+//! How a one-thread run begins: the opening states of the stations, and the first of the future event list.
+ghost use Rattle.std.specs.Prelude.{◌≡◌, ◌+◌, ◌≤◌, length, IfOk, IfSome, OnOk};
+ghost use Rattle.std.specs.List.{AllByRecursion};
 ghost use Rattle.sim_base.specs.Order.{msg_cmp};
 ghost use Rattle.net_model.specs.Net.{Net};
 ghost use Rattle.net_model.specs.Rules.{IsNet};
 ghost use Rattle.run_laws.specs.Queue.{insert_all};
-ghost use Rattle.run_laws.specs.World.{openings, planned};
+ghost use Rattle.run_laws.specs.World.{openings, set_messages};
 ghost use Rattle.stations.specs.Runs.{simulation};
-ghost use Rattle.solo_run.specs.Beginning.{AreOpenings, and_put};
-ghost use Rattle.solo_run.specs.SoloView.{messages_of};
+ghost use Rattle.solo_run.specs.Beginning.{AreOpeningStates, and_put};
+ghost use Rattle.solo_run.specs.EventLists.{MayBePending};
 
+use crate::event_list::EventList;
 use net_model::Model;
-use sim_base::{Key, Msg, NoMemory, Payload, Pending, Planned};
+use sim_base::{Key, Msg, NoMemory, Payload, Planned};
 use stations::State;
 use stations::state::setup;
 use std::alloc::Global;
 
-fn put_first(pending: &mut Pending<()>, first: Option<Msg>) -> Result<(), NoMemory>
-    ensures { OnOk result (messages_of pending.new ≡ and_put first (messages_of pending.old)) }
+fn put_first(pending: &mut EventList, first: Option<Msg>) -> Result<(), NoMemory>
+    requires first { IfSome first (MayBePending pending.old.stations) }
+    ensures ok { OnOk result (pending.new.messages ≡ and_put first pending.old.messages) }
+    ensures stations { pending.new.stations ≡ pending.old.stations }
 {
     if let Some(msg) = first {
-        pending.insert(msg, ())?;
+        pending.insert(msg)?;
     }
     Ok(())
 }
@@ -28,12 +32,14 @@ fn put_first(pending: &mut Pending<()>, first: Option<Msg>) -> Result<(), NoMemo
 pub(crate) fn open_all(
     alloc: Global,
     model: &Model,
-    pending: &mut Pending<()>,
+    pending: &mut EventList,
 ) -> Result<Vec<State>, NoMemory>
+    requires stations { pending.old.stations ≡ length model.now.sites }
     ensures valid { IsNet model.now }
-    ensures opened { IfOk result (λ states. AreOpenings model.now (length model.now.sites) states.items) }
-    ensures first { OnOk result (messages_of pending.new ≡ insert_all msg_cmp
-        (openings (simulation model.now) (length model.now.sites)) (messages_of pending.old)) }
+    ensures opened { IfOk result (λ states. AreOpeningStates model.now (length model.now.sites) states.items) }
+    ensures first { OnOk result (pending.new.messages ≡ insert_all msg_cmp
+        (openings (simulation model.now) (length model.now.sites)) pending.old.messages) }
+    ensures stations { pending.new.stations ≡ pending.old.stations }
 {
     let mut states = Vec::new(alloc);
     for s in 0..model.len() {
@@ -45,9 +51,11 @@ pub(crate) fn open_all(
 }
 
 /// The decisions of a clone become pending messages, numbered from 0.
-pub(crate) fn plan_all(pending: &mut Pending<()>, list: &[Planned]) -> Result<(), NoMemory>
-    ensures { (net : Net) → OnOk result
-        (messages_of pending.new ≡ insert_all msg_cmp (planned (simulation net) 0 list.now) (messages_of pending.old)) }
+pub(crate) fn plan_all(pending: &mut EventList, list: &[Planned]) -> Result<(), NoMemory>
+    requires stations { AllByRecursion (λ p. (1 ≤ p.station) × (p.station ≤ pending.old.stations)) list.now }
+    ensures ok { (net : Net) → OnOk result
+        (pending.new.messages ≡ insert_all msg_cmp (set_messages (simulation net) 0 list.now) pending.old.messages) }
+    ensures stations { pending.new.stations ≡ pending.old.stations }
 {
     for k in 0..list.len() {
         let plan = list[k];
@@ -61,7 +69,7 @@ pub(crate) fn plan_all(pending: &mut Pending<()>, list: &[Planned]) -> Result<()
             to: plan.station,
             payload: Payload::Set(plan.change),
         };
-        pending.insert(msg, ())?;
+        pending.insert(msg)?;
     }
     Ok(())
 }

@@ -8,12 +8,13 @@ ghost use Rattle.solo_run.specs.Limit.{receiver};
 ghost use Rattle.solo_run.specs.SoloView.{IsSolo, config_of};
 ghost use Rattle.solo_run.specs.Turns.{Stops, run_from};
 
+use crate::event_list::EventList;
 use crate::opening::{open_all, plan_all};
 use crate::turn::SoloFault;
 use arrayvec::ArrayVec;
 use log_chain::Log;
 use net_model::Model;
-use sim_base::{Entry, NoMemory, Pending, Planned, Steps};
+use sim_base::{Entry, NoMemory, Planned, Steps};
 use stations::State;
 use std::alloc::Global;
 use std::sync::ledger::Ledger;
@@ -22,16 +23,19 @@ use std::sync::ledger::Ledger;
 #[derive(Drop)]
 pub struct Solo {
     pub(crate) states: Vec<State>,
-    pub(crate) pending: Pending<()>,
+    pub(crate) pending: EventList,
     pub(crate) trace: Log,
 }
 
 impl std::marker::Model for Solo {
+    ghost use Rattle.std.specs.Prelude.{◌≡◌, length};
     ghost use Rattle.solo_run.specs.SoloView.{SoloView};
 
     ghost Value = { SoloView };
 
-    ghost view = { λ s. record { states = s.states.items; pending = s.pending; trace = s.trace } };
+    ghost view = { λ s. record { states = s.states.items; pending = s.pending.messages; trace = s.trace } };
+
+    ghost invariant = { λ s. s.pending.stations ≡ length s.states.items };
 }
 
 impl Solo {
@@ -43,7 +47,7 @@ impl Solo {
         ensures begins { IfOk result (λ solo. config_of model.now solo ≡ start_of model.now list.now) }
         ensures solo { IfOk result (λ solo. IsSolo model.now solo) }
     {
-        let mut pending = Pending::new(alloc);
+        let mut pending = EventList::new(alloc, model.len())?;
         let states = open_all(alloc, model, &mut pending)?;
         plan_all(&mut pending, list)?;
         Ok(Solo {
@@ -73,7 +77,7 @@ impl Solo {
         // One buffer for what each turn sends.
         let mut out = ArrayVec::new();
         while let Some(due) = self.pending.take_before(front) {
-            match self.turn(model, &due.0, &mut out, steps) {
+            match self.turn(model, &due, &mut out, steps) {
                 Ok(()) => {}
                 Err(fault) => return Err(fault),
             }

@@ -1,19 +1,22 @@
-//! One turn of a one-thread run: the least pending message is handled at its station, and what that sends becomes
-//! pending.
+//! Event execution in a one-thread run, a turn: the least pending message is handled at its station, and what that
+//! sends becomes pending.
 ghost use Rattle.std.specs.Prelude.{◌≡◌, ◌+◌, ◌-◌, ◌≤◌, ◌<◌, ◌^◌, ◌∷◌, ℕ};
 ghost use Rattle.std.specs.Prelude.{length, IfErr, IfOk, IfNone, IfSome, OnOk, slice_get, Some};
+ghost use Rattle.std.specs.List.{AllByRecursion};
 ghost use Rattle.arrayvec.specs.ArrayVec.{array_vec_len};
 ghost use Rattle.sim_base.specs.Order.{msg_cmp};
 ghost use Rattle.run_laws.specs.Queue.{insert_all};
 ghost use Rattle.stations.specs.Fits.{SuitsNet};
 ghost use Rattle.stations.specs.Handling.{StateView};
-ghost use Rattle.solo_run.specs.SoloView.{IsSolo, messages_of, with_due};
+ghost use Rattle.solo_run.specs.EventLists.{MayBePending};
+ghost use Rattle.solo_run.specs.SoloView.{IsSolo, with_due};
 ghost use Rattle.solo_run.specs.Turns.{HandlesAt, StopsAt, Turned};
 
+use crate::event_list::EventList;
 use crate::solo::Solo;
 use arrayvec::ArrayVec;
 use net_model::Model;
-use sim_base::{Entry, Line, Msg, NoMemory, Pending, Steps};
+use sim_base::{Entry, Line, Msg, NoMemory, Steps};
 use stations::State;
 use stations::state::handle;
 use std::sync::ledger::Ledger;
@@ -28,11 +31,13 @@ pub enum SoloFault {
 }
 
 // What was sent becomes pending.
-fn put_all(pending: &mut Pending<()>, sends: &[Msg]) -> Result<(), NoMemory>
-    ensures { OnOk result (messages_of pending.new ≡ insert_all msg_cmp sends.now (messages_of pending.old)) }
+fn put_all(pending: &mut EventList, sends: &[Msg]) -> Result<(), NoMemory>
+    requires all { AllByRecursion (MayBePending pending.old.stations) sends.now }
+    ensures ok { OnOk result (pending.new.messages ≡ insert_all msg_cmp sends.now pending.old.messages) }
+    ensures stations { pending.new.stations ≡ pending.old.stations }
 {
     for msg in sends {
-        pending.insert(*msg, ())?;
+        pending.insert(*msg)?;
     }
     Ok(())
 }
@@ -55,6 +60,7 @@ fn handle_at<L: Ledger>(
     ensures ok { IfOk result (λ line. HandlesAt model.now (msg.now.to - 1) msg.now states.old.items states.new.items
         out.new.items line) }
     ensures counted { OnOk result (steps.new ≡ steps.old + 1) }
+    ensures count_kept { length states.new.items ≡ length states.old.items }
     ensures full { IfErr result (λ e. StopsAt model.now (msg.now.to - 1) states.old.items steps.old steps.new e) }
 {
     let state = &mut states[msg.to as usize - 1];

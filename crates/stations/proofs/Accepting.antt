@@ -8,6 +8,7 @@ use Rattle.net_model.specs.declared.station.Kind.{Kind}
 use Rattle.net_model.specs.declared.station.Kind.TheVariants.{Source, Server, Delay, Router, Sink}
 use Rattle.net_model.specs.Net.{Site}
 use Rattle.net_model.specs.Rules.{IsRange}
+use Rattle.net_model.specs.declared.limits.TheConstants.{MOST_ROOM, MOST_TIME, MOST_WEIGHT}
 use Rattle.stations.specs.Changes.{has_parameter, is_range, is_within, is_in_range, is_accepted}
 use Rattle.stations.specs.Fits.{is_router}
 
@@ -31,22 +32,23 @@ within-bounds low high n h = let parts = and_parts (nat_le low n) (nat_le n high
 -- and what was found to be a range of times is one
 pub range-bounds : (low lo hi : ℕ) → is_range low lo hi ≡ true → IsRange low lo hi
 range-bounds low lo hi h =
-    let parts = and_parts (nat_le low lo && nat_le lo hi) (nat_le hi 1000000) h in
+    let parts = and_parts (nat_le low lo && nat_le lo hi) (nat_le hi MOST_TIME) h in
     let first = and_parts (nat_le low lo) (nat_le lo hi) parts.0 in
-    record { above = leb-true low lo first.0; ordered = leb-true lo hi first.1; small = leb-true hi 1000000 parts.1 }
+    record { above = leb-true low lo first.0; ordered = leb-true lo hi first.1; small = leb-true hi MOST_TIME parts.1 }
 
--- a change names one of so many links, and a weight from 1 to 1000
+-- a change names one of so many links, and a weight from 1 to the most
 pub record IsWeightChange (links : ℕ) (c : Change) : Type 0 where
   pub first : 1 ≤ c.a
   pub last : c.a ≤ links
   pub heavy : 1 ≤ c.b
-  pub light : c.b ≤ 1000
+  pub light : c.b ≤ MOST_WEIGHT
 
-weight_in_range : (links a b : ℕ) → is_in_range links Weight a b ≡ true → (1 ≤ a) × (a ≤ links) × (1 ≤ b) × (b ≤ 1000)
+weight_in_range : (links a b : ℕ) → is_in_range links Weight a b ≡ true
+    → (1 ≤ a) × (a ≤ links) × (1 ≤ b) × (b ≤ MOST_WEIGHT)
 weight_in_range links a b h =
-    let parts = and_parts (is_within 1 links a) (is_within 1 1000 b) h in
+    let parts = and_parts (is_within 1 links a) (is_within 1 MOST_WEIGHT b) h in
     let link = within-bounds 1 links a parts.0 in
-    let weight = within-bounds 1 1000 b parts.1 in
+    let weight = within-bounds 1 MOST_WEIGHT b parts.1 in
     (link.0, link.1, weight.0, weight.1)
 
 router_takes : (kind : Kind) (p : Param) → is_router kind ≡ true → has_parameter kind p ≡ true → p ≡ Weight
@@ -70,9 +72,9 @@ router-accepts site c is accepted =
     let bounds = weight_in_range (length site.links) c.a c.b (rw weight at parts.1) in
     record { first = bounds.0; last = bounds.1; heavy = bounds.2; light = bounds.3 }
 
--- a room that was found to be 4096 at most is so
-pub room-bound : (room : ℕ) → nat_le room 4096 ≡ true → room ≤ 4096
-room-bound room h = leb-true room 4096 h
+-- a room that was found to be the most or less is so
+pub room-bound : (room : ℕ) → nat_le room MOST_ROOM ≡ true → room ≤ MOST_ROOM
+room-bound room h = leb-true room MOST_ROOM h
 
 source_takes : (lo hi jobs class : ℕ) (p : Param) → has_parameter (Source lo hi jobs class) p ≡ true → p ≡ Every
 source_takes lo hi jobs class Every has_parameter = refl

@@ -167,7 +167,7 @@ module _ (net : Net) (valid : IsNet net) where
   pub stations-to_stations : SendsToStations (simulation net) (IsGood net)
   stations-to_stations = record {
     first = λ s m there is. (first_tick-first (opening_kind (site_of net s) (site_of net s).kind) _ m is).to;
-    decided = λ k p. refl;
+    set_message = λ k p. refl;
     sends = λ s st m z there good i. let sent =
         (among net valid m.key.time s st.sender.next (handle net st m).sends z
         (handles-good net valid s st m good).sends i).is in (omega (arith, sent.first), sent.last);
@@ -179,7 +179,7 @@ module _ (net : Net) (valid : IsNet net) where
     keyed = λ x y less. msg-keyed x y less;
     opened = λ s m there is. let first =
         first_tick-first (opening_kind (site_of net s) (site_of net s).kind) _ m is in (first.sender, first.used);
-    decided = λ k p. (refl, refl);
+    set_message = λ k p. (refl, refl);
     mine = λ s st m z there good i.
         (among net valid m.key.time s st.sender.next (handle net st m).sends z
         (handles-good net valid s st m good).sends i).is.sender;

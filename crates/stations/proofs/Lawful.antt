@@ -2,14 +2,12 @@
 use Rattle.std.proofs.Common.{◌≡◌, ℕ, zero, suc, ◌+◌, ◌^◌, ◌<◌, ◌≤◌, List, []}
 use Rattle.std.proofs.Common.{◌∷◌, length, refl, sym, ap, subst, slice_get, Some, unwrap_or, arith}
 use Rattle.std.specs.List.{AllByRecursion}
-use Rattle.net_model.specs.declared.station.Kind.{Kind}
-use Rattle.net_model.specs.declared.station.Kind.TheVariants as kind
 use Rattle.net_model.specs.declared.station.Link.{Link}
 use Rattle.net_model.specs.Net.{Net, Site, site_at, site_of, no_site}
-use Rattle.net_model.specs.Rules.{IsNet, IsSite, IsLink, HasWayOut}
+use Rattle.net_model.specs.Rules.{IsNet, IsSite, IsLink}
+use Rattle.net_model.specs.declared.limits.TheConstants.{MOST_TIME, MOST_WEIGHT}
 use Rattle.stations.specs.declared.kind_state.KindState.{KindState}
-use Rattle.stations.specs.declared.kind_state.KindState.TheVariants.{Source, Server, Delay, Router, Sink}
-use Rattle.stations.specs.Fits.{AreLinks, HasLinks, IsOfKind, SuitsNet, FitsState}
+use Rattle.stations.specs.Fits.{AreLinks, IsOfKind, SuitsNet, FitsState}
 use Rattle.sim_base.specs.declared.message.Msg.{Msg}
 use Rattle.stations.specs.declared.sender.Sender.{Sender}
 use Rattle.stations.specs.Handling.{StateView, handle, handled_as, kind_on, line_of}
@@ -38,8 +36,8 @@ pub site_is : (net : Net) (s : ℕ) (site : Site) → site_at net s ≡ Some sit
 site_is net s site is = ap (λ o. unwrap_or o no_site) is
 
 links_parts : (net : Net) (links : List Link) → AllByRecursion (IsLink net) links
-    → AllByRecursion (λ l. 1 ≤ l.weight) links × AllByRecursion (λ l. l.weight ≤ 1000) links
-    × AllByRecursion (λ l. l.delay ≤ 1000000) links
+    → AllByRecursion (λ l. 1 ≤ l.weight) links × AllByRecursion (λ l. l.weight ≤ MOST_WEIGHT) links
+    × AllByRecursion (λ l. l.delay ≤ MOST_TIME) links
 links_parts net [] all = (tt, tt, tt)
 links_parts net (l ∷ ls) all = let rest = links_parts net ls all.1 in
     ((all.0.heavy, rest.0), (all.0.light, rest.1), (all.0.small, rest.2))
@@ -49,39 +47,6 @@ pub are_links : (net : Net) (site : Site) → IsSite net site → 1 ≤ length s
 are_links net site valid some =
     let parts = links_parts net site.links valid.links in
     record { some = some; few = valid.few; heavy = parts.0; light = parts.1; near = parts.2 }
-
--- a state of the station's kind has the links that it needs
-has_links : (net : Net) (site : Site) (k : Kind) (st : KindState) → IsSite net site → site.kind ≡ k
-    → IsOfKind site k st → HasLinks st site.links
-has_links net site (kind.Source lo hi jobs class) (Source s) valid is of =
-    are_links net site valid (subst (λ (q : Kind). HasWayOut q site.links) is valid.way)
-has_links net site (kind.Source lo hi jobs class) (Server s) valid is of = absurd of
-has_links net site (kind.Source lo hi jobs class) (Delay s) valid is of = absurd of
-has_links net site (kind.Source lo hi jobs class) (Router s) valid is of = absurd of
-has_links net site (kind.Source lo hi jobs class) (Sink s) valid is of = absurd of
-has_links net site (kind.Server servers room lo hi by_class) (Source s) valid is of = absurd of
-has_links net site (kind.Server servers room lo hi by_class) (Server s) valid is of =
-    are_links net site valid (subst (λ (q : Kind). HasWayOut q site.links) is valid.way)
-has_links net site (kind.Server servers room lo hi by_class) (Delay s) valid is of = absurd of
-has_links net site (kind.Server servers room lo hi by_class) (Router s) valid is of = absurd of
-has_links net site (kind.Server servers room lo hi by_class) (Sink s) valid is of = absurd of
-has_links net site (kind.Delay lo hi) (Source s) valid is of = absurd of
-has_links net site (kind.Delay lo hi) (Server s) valid is of = absurd of
-has_links net site (kind.Delay lo hi) (Delay s) valid is of =
-    are_links net site valid (subst (λ (q : Kind). HasWayOut q site.links) is valid.way)
-has_links net site (kind.Delay lo hi) (Router s) valid is of = absurd of
-has_links net site (kind.Delay lo hi) (Sink s) valid is of = absurd of
-has_links net site (kind.Router turn) (Source s) valid is of = absurd of
-has_links net site (kind.Router turn) (Server s) valid is of = absurd of
-has_links net site (kind.Router turn) (Delay s) valid is of = absurd of
-has_links net site (kind.Router turn) (Router s) valid is of =
-    are_links net site valid (subst (λ (q : Kind). HasWayOut q site.links) is valid.way)
-has_links net site (kind.Router turn) (Sink s) valid is of = absurd of
-has_links net site kind.Sink (Source s) valid is of = absurd of
-has_links net site kind.Sink (Server s) valid is of = absurd of
-has_links net site kind.Sink (Delay s) valid is of = absurd of
-has_links net site kind.Sink (Router s) valid is of = absurd of
-has_links net site kind.Sink (Sink s) valid is of = tt
 
 -- what the handling of a message keeps, and what it sends
 pub record HandlesWell (net : Net) (st : StateView) (m : Msg) : Type 0 where

@@ -2,6 +2,7 @@
 use Rattle.std.proofs.Common.{◌≡◌, ℕ, ◌≤◌, List, [], ◌∷◌, length, arith}
 use Rattle.std.specs.List.{AllByRecursion}
 use Rattle.std.proofs.lemmas.List.{length-map}
+use Rattle.net_model.specs.declared.limits.TheConstants.{MOST_WEIGHT}
 use Rattle.net_model.specs.declared.station.Link.{Link}
 use Rattle.stations.specs.Fits.{AreWeights, AreLinks}
 use Rattle.stations.specs.Sending.{weights_of}
@@ -19,5 +20,5 @@ are_weights links are =
       some = omega (arith, count, are.some);
       few = omega (arith, count, are.few);
       heavy = all_weights (λ w. 1 ≤ w) links are.heavy;
-      light = all_weights (λ w. w ≤ 1000) links are.light;
+      light = all_weights (λ w. w ≤ MOST_WEIGHT) links are.light;
     }

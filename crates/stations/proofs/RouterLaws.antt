@@ -9,6 +9,7 @@ use Rattle.sim_base.specs.declared.message.Payload.TheVariants.{Tick, Job, Done,
 use Rattle.sim_base.proofs.ListLaws.{all_set}
 use Rattle.net_model.specs.Net.{Net, Site, routes_by_turn}
 use Rattle.net_model.specs.Rules.{IsLink}
+use Rattle.net_model.specs.declared.limits.TheConstants.{MOST_WEIGHT}
 use Rattle.stations.specs.declared.kind_state.RouterState.{RouterState}
 use Rattle.stations.specs.Changes.{is_accepted}
 use Rattle.stations.specs.Fits.{AreWeights, FitsRouter, is_router}
@@ -24,14 +25,14 @@ module _ (net : Net) (site : Site) (now : ℕ) (links : AllByRecursion (IsLink n
   router_later : (handled : ℕ) (s : RouterState) → FitsRouter handled s → FitsRouter (handled + 1) s
   router_later handled s f = record { weights = f.weights; passed = omega (arith, f.passed) }
 
-  set_weights : (i w : ℕ) (ws : List ℕ) → AreWeights ws → 1 ≤ w → w ≤ 1000 → AreWeights (slice_set ws i w)
+  set_weights : (i w : ℕ) (ws : List ℕ) → AreWeights ws → 1 ≤ w → w ≤ MOST_WEIGHT → AreWeights (slice_set ws i w)
   set_weights i w ws are low high =
       let count = length-set ws i w in
       record {
         some = omega (arith, count, are.some);
         few = omega (arith, count, are.few);
         heavy = all_set (λ v. 1 ≤ v) ws i w are.heavy low;
-        light = all_set (λ v. v ≤ 1000) ws i w are.light high;
+        light = all_set (λ v. v ≤ MOST_WEIGHT) ws i w are.light high;
       }
 
   router_set-fits : (handled : ℕ) (c : Change) (s : RouterState) → is_router site.kind ≡ true

@@ -13,6 +13,7 @@ use Rattle.sim_base.specs.declared.message.Payload.{Payload}
 use Rattle.sim_base.specs.declared.message.Payload.TheVariants.{Tick, Job, Done, Set}
 use Rattle.net_model.specs.Net.{Net, Site}
 use Rattle.net_model.specs.Rules.{IsLink, IsRange}
+use Rattle.net_model.specs.declared.limits.TheConstants.{MOST_ROOM, MOST_SERVERS}
 use Rattle.stations.specs.declared.kind_state.ServerState.{ServerState}
 use Rattle.stations.specs.Changes.{is_accepted}
 use Rattle.stations.specs.Fits.{FitsServer}
@@ -26,12 +27,12 @@ use Rattle.stations.proofs.Growing.{Grown, grown-none, grown-more, grown-then, g
 -- a server that could take n waiting jobs more into service
 pub record IsBusyBut (n handled : ℕ) (s : ServerState) : Type 0 where
   pub some : 1 ≤ s.servers
-  pub most : s.servers ≤ 16
-  pub room : s.room ≤ 4096
+  pub most : s.servers ≤ MOST_SERVERS
+  pub room : s.room ≤ MOST_ROOM
   pub range : IsRange 1 s.lo s.hi
-  pub busy : s.busy ≤ 16
+  pub busy : s.busy ≤ MOST_SERVERS
   pub line : (length s.waiting ≡ 0) ⊎ (s.servers ≤ s.busy + n)
-  pub short : length s.waiting ≤ 4096
+  pub short : length s.waiting ≤ MOST_ROOM
   pub done : s.done ≤ handled
   pub lost : s.lost ≤ handled
 

@@ -34,8 +34,8 @@ opening_of first_state o = record {
 }
 
 -- a station opens: its state, and a source's first tick
-abbrev pub opening : ℕ → ℕ → Site → OpeningOf StateView Msg
-opening seed s site =
+abbrev pub station_opening : ℕ → ℕ → Site → OpeningOf StateView Msg
+station_opening seed s site =
     let first_state = opening_kind site site.kind in
     opening_of first_state (first_tick first_state
     (record {
@@ -49,4 +49,4 @@ opening seed s site =
 
 -- the opening of the station of this number in a network
 abbrev pub setup : Net → ℕ → OpeningOf StateView Msg
-setup net s = opening net.seed s (site_of net s)
+setup net s = station_opening net.seed s (site_of net s)

@@ -29,6 +29,7 @@
 
 pub mod change;
 mod delay;
+pub mod due;
 pub mod examples;
 pub mod job_queue;
 pub mod kind_state;

@@ -3,6 +3,7 @@ ghost use Rattle.std.specs.Prelude.{◌≡◌, ◌<◌, ◌≤◌, ◌^◌, leng
 ghost use Rattle.arrayvec.specs.ArrayVec.{array_vec_len};
 ghost use Rattle.sim_draw.specs.Drawing.{pick_of, drawn_by};
 ghost use Rattle.net_model.specs.Rules.{IsRange};
+ghost use Rattle.net_model.specs.declared.limits.TheConstants.{MOST_LINKS, MOST_TIME};
 ghost use Rattle.stations.specs.Fits.{AreWeights, AreLinks};
 ghost use Rattle.stations.specs.Sending.{MaySend, outgoing, send, send_later, send_over, route, weights_of};
 
@@ -71,7 +72,7 @@ pub(crate) fn send_over_link(
 )
     requires free { array_vec_len out.old < 16 }
     requires next { sender.old.next < 2 ^ 32 }
-    requires near { link.now.delay ≤ 1000000 }
+    requires near { link.now.delay ≤ MOST_TIME }
     requires early { time < 2 ^ 32 }
     ensures { send_over (Some link.now) time job (outgoing sender.old out.old.items)
         ≡ outgoing sender.new out.new.items }
@@ -100,7 +101,7 @@ pub(crate) fn link_at(links: &[Link], place: usize) -> Link
 
 /// The weights of links, as the model states them.
 pub(crate) fn link_weights(links: &[Link]) -> ArrayVec<u32, 16>
-    requires { length links.now ≤ 16 }
+    requires { length links.now ≤ MOST_LINKS }
     ensures { result.items ≡ weights_of links.now }
 {
     let mut weights = ArrayVec::new();
@@ -116,7 +117,7 @@ pub(crate) fn pick_by_model(sender: &mut Sender, links: &[Link]) -> Link
     requires draws { sender.old.draws.count < 2 ^ 32 }
     ensures link { slice_get links.now (pick_of (weights_of links.now) sender.old.draws) ≡ Some result }
     ensures drawn { sender.new ≡ record sender.old { draws = drawn_by (weights_of links.now) sender.old.draws } }
-    ensures near { result.delay ≤ 1000000 }
+    ensures near { result.delay ≤ MOST_TIME }
 {
     if links.len() == 1 {
         return links[0];

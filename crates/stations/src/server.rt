@@ -1,4 +1,4 @@
-//! Servers.
+//! Servers: queueing stations, each with a number of servers and a waiting room.
 ghost use Rattle.std.specs.Prelude.{◌≡◌, ◌<◌, ◌≤◌, ◌^◌, length, OnOk, OnErr};
 ghost use Rattle.arrayvec.specs.ArrayVec.{array_vec_len};
 ghost use Rattle.net_model.specs.Rules.{IsRange};

@@ -1,4 +1,4 @@
-//! Sinks: where jobs leave the network.
+//! Sinks: the departures from the network, and the sum of their times in system.
 ghost use Rattle.std.specs.Prelude.{◌≡◌, ◌<◌, ◌^◌};
 ghost use Rattle.net_model.specs.declared.limits.TheConstants.{MOST_LIMIT};
 ghost use Rattle.stations.specs.Fits.{FitsSink};

@@ -1,4 +1,4 @@
-//! Sources: where jobs come from.
+//! Sources: the arrival processes of the network, where its jobs come from.
 ghost use Rattle.std.specs.Prelude.{◌≡◌, ◌<◌, ◌^◌};
 ghost use Rattle.arrayvec.specs.ArrayVec.{array_vec_len};
 ghost use Rattle.net_model.specs.Rules.{IsRange};

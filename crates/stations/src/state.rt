@@ -2,7 +2,7 @@
 ghost use Rattle.std.specs.Prelude.{◌≡◌, ◌+◌, ◌<◌, ◌≤◌, ◌^◌, [], length, IfOk, OnErr, OnOk};
 ghost use Rattle.arrayvec.specs.ArrayVec.{array_vec_len};
 ghost use Rattle.net_model.specs.Sites.{as_site};
-ghost use Rattle.net_model.specs.declared.limits.TheConstants.{MOST_LIMIT};
+ghost use Rattle.net_model.specs.declared.limits.TheConstants.{MOST_LIMIT, MOST_LINKS};
 ghost use Rattle.stations.specs.Fits.{FitsState, FitsKind, SuitsNet, IsOfKind, HasLinks};
 ghost use Rattle.stations.specs.Handling.{handle as handled_by, kind_on, line_of};
 ghost use Rattle.stations.specs.Opening.{setup as opened_by, opening_kind, first_tick};
@@ -154,7 +154,7 @@ pub fn handle<L: Ledger>(
 }
 
 fn opening_state(alloc: Global, station: &Station) -> KindState
-    requires { length station.now.links.items ≤ 16 }
+    requires { length station.now.links.items ≤ MOST_LINKS }
     ensures { result ≡ opening_kind (as_site station.now) station.now.kind }
 {
     match station.kind {
@@ -279,7 +279,7 @@ fn copy_kind(kind: &KindState, alloc: Global) -> Result<KindState, NoMemory>
 }
 
 fn copy_weights(weights: &[u32]) -> ArrayVec<u32, 16>
-    requires { length weights.now ≤ 16 }
+    requires { length weights.now ≤ MOST_LINKS }
     ensures { result.items ≡ weights.now }
 {
     let mut copied = ArrayVec::new();

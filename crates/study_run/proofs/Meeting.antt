@@ -181,14 +181,14 @@ pub not_both : NotWithinAndMet
 not_both net valid cs s c h m = not_within net valid cs s c h m
 
 -- all are within the limit, or it is met as the search finds it
-either : (net : Net) → IsNet net → (cs : List Clone) (o : Option (ℕ × ℕ)) → first_over_of net cs ≡ o
+first_over_of-cases : (net : Net) → IsNet net → (cs : List Clone) (o : Option (ℕ × ℕ)) → first_over_of net cs ≡ o
     → AreWithin net cs ⊎ ((s : ℕ) × ((c : ℕ) × ((first_over_of net cs ≡ Some (s, c)) × MeetsLimit net cs s c)))
-either net valid cs None e = inl (none_within net cs (within_horizon net cs valid e))
-either net valid cs (Some (s, c)) e = inr (s, (c, (e, found_met net valid cs s c e)))
+first_over_of-cases net valid cs None e = inl (none_within net cs (within_horizon net cs valid e))
+first_over_of-cases net valid cs (Some (s, c)) e = inr (s, (c, (e, found_met net valid cs s c e)))
 
 -- all logs are within the limit, or it is met
 pub within_or_met : WithinOrMet
-within_or_met net valid cs = elim (either net valid cs (first_over_of net cs) refl) [
+within_or_met net valid cs = elim (first_over_of-cases net valid cs (first_over_of net cs) refl) [
   | inl within ↦ inl within
   | inr met ↦ inr (met.0, (met.1.0, met.1.1.1))
 ]
@@ -196,7 +196,7 @@ within_or_met net valid cs = elim (either net valid cs (first_over_of net cs) re
 -- where it is met, the search finds it
 met_found : (net : Net) → IsNet net → (cs : List Clone) (s c : ℕ) → MeetsLimit net cs s c
     → first_over_of net cs ≡ Some (s, c)
-met_found net valid cs s c m = elim (either net valid cs (first_over_of net cs) refl) [
+met_found net valid cs s c m = elim (first_over_of-cases net valid cs (first_over_of net cs) refl) [
   | inl within ↦ absurd (not_within net valid cs s c within m)
   | inr met ↦
       let same = meeting_is_one net cs met.0 met.1.0 s c met.1.1.1 m in

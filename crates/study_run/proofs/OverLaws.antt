@@ -154,14 +154,6 @@ module _ (net : Net) (cs : List Clone) where
 
 -- ---- a run that goes from window to window
 
--- so it is at front 0
-pub comes_first : (net : Net) (cs : List Clone) (front : ℕ) → front ≡ 0 → HasCome net cs front
-comes_first net cs front e = record {
-  left = net.horizon;
-  enough = omega arith;
-  same = ap (first_over net cs net.horizon) e;
-}
-
 module _ (net : Net) (cs : List Clone) (front : ℕ) (below : front < net.horizon) where
   -- a window after which no log is beyond it
   pub comes_next : IsNet net → HasCome net cs front → NoneBeyond net cs (next_front net cs front)

@@ -1,12 +1,10 @@
 -- The run of one clone by itself.
-use Rattle.std.proofs.Common.{◌≡◌, ℕ, zero, suc, ◌+◌, ◌*◌, refl, sym, subst, ap}
-use Rattle.std.proofs.Common.{ap₂, ◌∙◌, arith, min, List, [], ◌∷◌, length, Option, unwrap_or}
-use Rattle.std.specs.List.{AllByRecursion}
+use Rattle.std.proofs.Common.{◌≡◌, ℕ, ◌+◌, ◌*◌, refl, sym, subst, ap}
+use Rattle.std.proofs.Common.{ap₂, ◌∙◌, arith, min, List, [], length, Option, unwrap_or}
 use Rattle.sim_base.specs.Order.{msg_cmp}
 use Rattle.sim_base.specs.Clones.{Clone, clone_at}
 use Rattle.sim_base.specs.declared.decision.Planned.{Planned}
 use Rattle.net_model.specs.Net.{Net}
-use Rattle.run_laws.specs.Handlers.{AreForStations}
 use Rattle.run_laws.specs.Machine.{run_to}
 use Rattle.run_laws.specs.Runs.{run}
 use Rattle.stations.specs.Runs.{simulation, trace_of}
@@ -16,29 +14,10 @@ use Rattle.solo_run.specs.SoloView.{IsSolo, SoloView, config_of}
 use Rattle.solo_run.specs.Turns.{Stops, run_from, step_of}
 use Rattle.solo_run.specs.declared.turn.SoloFault.TheVariants.{Limit}
 use Rattle.solo_run.proofs.OneTurn.{sum_most}
-use Rattle.decision_book.specs.Plans.{IsPlan, IsPlanned, ArePlanned}
 use Rattle.study_run.specs.Faults.{StopsAlone}
 use Rattle.study_run.specs.Limits.{IsWithin, MeetsLimitAlone}
 use Rattle.study_run.specs.Work.{IsFew}
 use Rattle.study_run.proofs.Fulls.{met_alone, within_alone}
-
--- decisions that stations take are for stations
-for_stations : (net : Net) (plans : List Planned) → AllByRecursion (IsPlan net) plans
-    → AreForStations (simulation net) plans
-for_stations net [] h = tt
-for_stations net (p ∷ ps) h = ((h.0.first, h.0.last), for_stations net ps h.1)
-
--- those of a planned clone
-planned_at : (net : Net) (cs : List Clone) (c : ℕ) → AllByRecursion (IsPlanned net) cs
-    → AreForStations (simulation net) (clone_at cs c).plans
-planned_at net [] c h = tt
-planned_at net (k ∷ ks) zero h = for_stations net k.plans h.0.plans
-planned_at net (k ∷ ks) (suc c) h = planned_at net ks c h.1
-
--- the decisions of each of the planned clones are for stations
-pub plans_at : (net : Net) (cs : List Clone) (c : ℕ) (plans : List Planned) → ArePlanned net cs
-    → plans ≡ (clone_at cs c).plans → AreForStations (simulation net) plans
-plans_at net cs c plans h e = subst (AreForStations (simulation net)) (sym e) (planned_at net cs c h.each)
 
 -- a clone's run goes to its end, or else to the horizon
 module _ (net : Net) (c : Clone) (plans : List Planned) (end : Option ℕ) (front : ℕ) (v : SoloView)

@@ -1,4 +1,4 @@
-//! The run of one clone by itself, on one thread.
+//! The run of one clone by itself: a sequential simulation, on one thread.
 ghost use Rattle.std.specs.Prelude.{◌≡◌, ◌+◌, ◌<◌, ◌≤◌, length, min, unwrap_or, IfOk, IfErr, OnOk};
 ghost use Rattle.sim_base.specs.Clones.{clone_at};
 ghost use Rattle.stations.specs.Runs.{trace_of};

@@ -1,4 +1,4 @@
-//! The crew of a number of workers.
+//! The crew of a number of workers (threads), which share out the stations of a window.
 ghost use Rattle.std.specs.Prelude.{◌≡◌, ◌≢◌};
 
 use crew_pool::{Crew, Kind, Workers};

@@ -1,4 +1,4 @@
-//! Why a run has no result.
+//! Why the run of a study has no result: memory was refused, or a log would get longer than the model's limit.
 
 /// Why a run has no result.
 #[derive(Clone, Copy, Debug, PartialEq, Eq)]

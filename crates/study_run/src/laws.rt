@@ -8,7 +8,6 @@ ghost use Rattle.study_run.specs.Laws.{TotalIsOfReport, WithinIsNotFound, Within
 
 /// Where the limit is met in a run of clones: there is one such place, and it is there exactly where some log of the
 /// whole run is longer.
-#[tactic(auto, using(crate::proofs::Meeting::meeting_is_one, crate::proofs::Meeting::meeting_is_found, crate::proofs::Meeting::within_is_not_found, crate::proofs::Meeting::within_or_met, crate::proofs::Meeting::not_both))]
 pub fn limit_is_met_once()
     ensures one { MeetingIsOne }
     ensures found { MeetingIsFound }
@@ -18,7 +17,6 @@ pub fn limit_is_met_once()
 {}
 
 /// Where it is met in one clone's trace.
-#[tactic(auto, using(crate::proofs::Fulls::full_is_one, crate::proofs::Fulls::full_is_found, crate::proofs::Fulls::within_is_not_full, crate::proofs::Fulls::not_both_alone))]
 pub fn first_full_log()
     ensures one { FullIsOne }
     ensures found { FullIsFound }

@@ -2,7 +2,7 @@
 //!
 //! A study is a model and the decisions that were accepted before its simulation begins. Its run opens the world of
 //! the base clone, takes the decisions at front 0, and goes from window to window up to the horizon, the stop time.
-//! A crew of threads shares out the stations of each window; what comes of it does not depend on the crew.
+//! A crew of threads shares out the stations of each window; the result does not depend on the crew.
 //!
 //! ```text
 //! calls --take--> { base fast } --window--> 5 --window--> 7 --window--> 10 .. --window--> horizon
@@ -24,7 +24,6 @@
 //! station and there the least clone are named, and no more was handled than stations, clones and limit allow.
 #![tactic(auto)]
 
-pub mod accepted;
 pub mod alone;
 pub mod crew;
 pub mod examples;
@@ -33,7 +32,6 @@ pub mod laws;
 pub mod report;
 pub mod study;
 
-pub use accepted::accepted_calls;
 pub use alone::run_alone;
 pub use crew::StudyCrew;
 pub use fault::StudyFault;

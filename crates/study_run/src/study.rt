@@ -1,4 +1,4 @@
-//! The run of all clones in one world.
+//! The run of all clones in one world, window by window up to the horizon (stop time).
 ghost use Rattle.std.specs.Prelude.{◌≡◌, ◌+◌, ◌∷◌, [], Some, false, IfOk, IfErr, IfSome, OnOk};
 ghost use Rattle.sim_base.specs.Clones.{base};
 ghost use Rattle.world_core.specs.Taking.{AreAccepted, clones_after_calls};

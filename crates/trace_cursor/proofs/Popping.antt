@@ -12,14 +12,14 @@ use Rattle.sim_base.specs.declared.message.Msg.{Msg}
 use Rattle.run_laws.proofs.Rising.{key_total}
 use Rattle.log_chain.specs.Packing.{FitsWord, FitWords}
 use Rattle.trace_cursor.specs.Tournament.{IsLeast}
-use Rattle.trace_cursor.specs.Words.{by_key, no_word, packed, word_of, merge_all, AllFit}
+use Rattle.trace_cursor.specs.Words.{by_key, no_word, key_word, word_of, merge_all, AllFitWords}
 use Rattle.trace_cursor.specs.Cursors.{IsCursor}
 use Rattle.trace_cursor.proofs.Merged.{E, first_of_all, none_of_all}
 
 keys_total : IsTotalOrder by_key
 keys_total = on_total (λ (e : E). e.msg) (key_total (λ (m : Msg). m.key.time) (λ m. m.key.sender) (λ m. m.key.number))
 
--- ---- packed
+-- ---- key_word
 
 -- numbers by number, then by what comes next
 by_number : (x y : ℕ) (r s : Ordering) → MatchOrdering r (x < y) (x ≡ y) (y < x) → (y < x → ⊥) →
@@ -35,7 +35,8 @@ last_number x y Equal m f = inr refl
 last_number x y Greater m f = absurd (f m)
 
 -- an entry of a lesser word does not come after
-less_word : (p q : ℕ) (e f : E) → FitsWord e.msg.key → FitsWord f.msg.key → p < 64 → q < 64 → packed p e < packed q f →
+less_word : (p q : ℕ) (e f : E) → FitsWord e.msg.key → FitsWord f.msg.key → p < 64 → q < 64
+    → key_word p e < key_word q f →
     (by_key e f ≡ Less) ⊎ (by_key e f ≡ Equal)
 less_word p q e f a b l k h =
     let se : e.msg.key.sender < 128 = a.sender in
@@ -66,7 +67,7 @@ tie_is_one x y z u v w Equal Equal Equal a b c e = (a, b, c)
 
 -- and one of a later place comes before
 greater_word : (p q : ℕ) (e f : E) → FitsWord e.msg.key → FitsWord f.msg.key → p < 64 → q < p
-    → packed p e < packed q f →
+    → key_word p e < key_word q f →
     by_key f e ≡ Greater
 greater_word p q e f a b l k h = elim (less_word p q e f a b l (omega arith) h) [
   | inl d ↦ keys_total.antisymm f e ∙ ap ordering_reverse d
@@ -79,20 +80,20 @@ greater_word p q e f a b l k h = elim (less_word p q e f a b l (omega arith) h) 
       absurd (omega (arith, t0, t1, t2, h, k))
 ]
 
--- ---- AllFit
+-- ---- AllFitWords
 
 -- where the keys of all lists fit words, those of the list at a place do
-pub fit_at : (ls : List (List E)) (i : ℕ) → AllFit ls → FitWords (get_or ls i [])
+pub fit_at : (ls : List (List E)) (i : ℕ) → AllFitWords ls → FitWords (get_or ls i [])
 fit_at [] i h = tt
 fit_at (l ∷ ls) zero h = h.0
 fit_at (l ∷ ls) (suc i) h = fit_at ls i h.1
 
 -- the first of a list fits a word
-fit_first : (ls : List (List E)) (i : ℕ) (e : E) (es : List E) → AllFit ls → get_or ls i [] ≡ e ∷ es
+fit_first : (ls : List (List E)) (i : ℕ) (e : E) (es : List E) → AllFitWords ls → get_or ls i [] ≡ e ∷ es
     → FitsWord e.msg.key
 fit_first ls i e es h is = let all : FitWords (e ∷ es) = subst FitWords is (fit_at ls i h) in all.0
 
-fit_set : (ls : List (List E)) (i : ℕ) (l : List E) → AllFit ls → FitWords l → AllFit (set ls i l)
+fit_set : (ls : List (List E)) (i : ℕ) (l : List E) → AllFitWords ls → FitWords l → AllFitWords (set ls i l)
 fit_set [] i l a b = a
 fit_set (x ∷ ls) zero l a b = (b, a.1)
 fit_set (x ∷ ls) (suc i) l a b = (a.0, fit_set ls i l a.1 b)
@@ -105,7 +106,7 @@ module _ (w : ℕ) (words : List ℕ) (ls : List (List E)) (reserved most : ℕ)
   few = c.few
 
   place : length ls ≤ length words
-  place = let a = c.place in let b = c.there in omega (arith, a, b)
+  place = let a = c.within in let b = c.there in omega (arith, a, b)
 
   -- no list's word is less
   not_less : (j : ℕ) → j < length words → w ≤ word_of j (get_or ls j [])
@@ -142,7 +143,7 @@ module _ (w : ℕ) (words : List ℕ) (ls : List (List E)) (reserved most : ℕ)
       merge_all ls ≡ e ∷ merge_all (set ls (w % 64) es)
   first_is e es there is =
       let i : ℕ = w % 64 in
-      let word : packed i e ≡ w = sym (ap (word_of i) is) ∙ here there in
+      let word : key_word i e ≡ w = sym (ap (word_of i) is) ∙ here there in
       let fe : FitsWord e.msg.key = fit_first ls i e es c.fit is in
       first_of_all [] i ls e es there is (λ f fs q. let a : ⊥ = cc in absurd a)
       (λ j before f fs q.
@@ -210,12 +211,12 @@ pub cursor_set : (ls : List (List E)) (words : List ℕ) (reserved most i : ℕ)
     IsCursor ls words reserved most →
     i < length ls → FitWords l → IsCursor (set ls i l) (set words i (word_of i l)) reserved most
 cursor_set ls words reserved most i l c there fit =
-    let place : length ls ≤ length words = let a = c.place in let b = c.there in omega (arith, a, b) in
+    let place : length ls ≤ length words = let a = c.within in let b = c.there in omega (arith, a, b) in
     let long_ls = length-set ls i l in
     let long_words = length-set words i (word_of i l) in
     record {
       few = let a = c.few in omega (arith, a, long_words);
-      place = let a = c.place in omega (arith, a, long_ls);
+      within = let a = c.within in omega (arith, a, long_ls);
       there = let a = c.there in omega (arith, a, long_words);
       fits = c.fits;
       fit = fit_set ls i l c.fit fit;

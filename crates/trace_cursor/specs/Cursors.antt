@@ -1,15 +1,15 @@
--- Cursors: what contracts see of them, and how they are kept.
+-- Cursors: what contracts see of them, and how they are stored.
 use Rattle.std.specs.Prelude.{◌≡◌, ℕ, ◌<◌, ◌≤◌, List, [], length, get_or}
 use Rattle.sim_base.specs.declared.entry.Entry.{Entry}
 use Rattle.sim_base.specs.declared.entry.Line.{Line}
 use Rattle.sim_base.specs.declared.message.Msg.{Msg}
-use Rattle.trace_cursor.specs.Words.{word_of, AllFit}
+use Rattle.trace_cursor.specs.Words.{word_of, AllFitWords}
 
 -- what contracts see of a cursor
 pub record CursorView : Type 0 where
   -- the entries that are left, in the order of their keys
   pub left : List (Entry Msg Line)
-  -- how many logs were added, and for how many there is place
+  -- how many logs were added, and how many may be at most
   pub logs : ℕ
   pub most : ℕ
 
@@ -17,11 +17,11 @@ pub record CursorView : Type 0 where
 abbrev pub AreWordsOf : List ℕ → List (List (Entry Msg Line)) → Type 0
 AreWordsOf words ls = (j : ℕ) → j < length words → get_or words j 0 ≡ word_of j (get_or ls j [])
 
--- the lists that are left, the words of their keys, for how many lists there is memory, and for how many there is place
+-- the lists that are left, the words of their keys, for how many lists memory is reserved, and how many may be added
 pub record IsCursor (ls : List (List (Entry Msg Line))) (words : List ℕ) (reserved most : ℕ) : Type 0 where
   pub few : length words ≤ 64
-  pub place : length ls ≤ most
+  pub within : length ls ≤ most
   pub there : most ≤ length words
   pub fits : most ≤ reserved
-  pub fit : AllFit ls
+  pub fit : AllFitWords ls
   pub words_are : AreWordsOf words ls

@@ -17,13 +17,13 @@ abbrev pub no_word : ℕ
 no_word = 18446744073709551615
 
 -- the key as a word: 30 bits, 7, 21, and 6 for the place
-abbrev pub packed : ℕ → Entry Msg Line → ℕ
-packed place e = ((e.msg.key.time * 128 + e.msg.key.sender) * 2097152 + e.msg.key.number) * 64 + place
+abbrev pub key_word : ℕ → Entry Msg Line → ℕ
+key_word place e = ((e.msg.key.time * 128 + e.msg.key.sender) * 2097152 + e.msg.key.number) * 64 + place
 
 -- the word of the first entry that is left
 abbrev pub word_of : ℕ → List (Entry Msg Line) → ℕ
 word_of place [] = no_word
-word_of place (e ∷ es) = packed place e
+word_of place (e ∷ es) = key_word place e
 
 -- lists merged onto one, one after the other
 abbrev pub merge_onto : List (Entry Msg Line) → List (List (Entry Msg Line)) → List (Entry Msg Line)
@@ -35,5 +35,5 @@ abbrev pub merge_all : List (List (Entry Msg Line)) → List (Entry Msg Line)
 merge_all ls = merge_onto [] ls
 
 -- the key of each entry of each list fits a word
-abbrev pub AllFit : List (List (Entry Msg Line)) → Type 0
-AllFit ls = AllByRecursion FitWords ls
+abbrev pub AllFitWords : List (List (Entry Msg Line)) → Type 0
+AllFitWords ls = AllByRecursion FitWords ls

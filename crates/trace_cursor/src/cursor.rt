@@ -1,18 +1,19 @@
-//! Cursors.
+//! The merge of several logs by time stamp, sender and sequence number, entry by entry.
 ghost use Rattle.std.specs.Prelude.{◌≡◌, ◌∷◌, [], ◌+◌, ◌<◌, ◌≤◌, IfSome, IfNone, IfOk, length};
 ghost use Rattle.run_laws.specs.Merges.{merge};
 ghost use Rattle.log_chain.specs.Packing.{FitWords};
+ghost use Rattle.log_chain.specs.Stored.{entry_in};
 ghost use Rattle.trace_cursor.specs.Words.{by_key, word_of};
 
 use crate::tree::Tree;
-use log_chain::Walk;
+use log_chain::{StoredEntry, Walk};
 use sim_base::{Entry, NoMemory};
 use std::alloc::Global;
 use std::marker::Model;
 
 /// Several logs as one list, in the order of keys.
 ///
-/// Contracts see the entries that are left, how many logs were added, and for how many there is place.
+/// Contracts see the entries that are left, how many logs were added, and how many may be at most.
 #[derive(Drop)]
 pub struct Cursor<'a> {
     walks: Vec<Walk<'a>>,
@@ -35,7 +36,7 @@ impl<'a> Model for Cursor<'a> {
 }
 
 impl<'a> Cursor<'a> {
-    /// No logs, and place for so many. It is all the memory that a cursor takes.
+    /// No logs; so many may be added. It takes all the memory here that a cursor ever takes.
     pub fn new(alloc: Global, most: usize) -> Result<Cursor<'a>, NoMemory>
         requires some { 1 ≤ most }
         requires few { most ≤ 64 }
@@ -56,7 +57,7 @@ impl<'a> Cursor<'a> {
 
     /// Adds what a walk has left. Where two keys are equal, what was added first goes first.
     pub fn add(&mut self, walk: Walk<'a>)
-        requires place { self.old.logs < self.old.most }
+        requires free { self.old.logs < self.old.most }
         requires fit { FitWords walk }
         ensures value { self.new ≡ record self.old {
           left = merge by_key self.old.left walk.entry;
@@ -89,11 +90,11 @@ impl<'a> Cursor<'a> {
         entry
     }
 
-    /// The next entry of a cursor that is not at its end.
+    /// The next entry of a cursor that is not at its end, as its log stores it.
     #[inline(always)]
-    pub fn take(&mut self) -> Entry
+    pub fn take(&mut self) -> StoredEntry<'a>
         requires some { 1 ≤ length self.old.left }
-        ensures value { self.old.left ≡ result ∷ self.new.left }
+        ensures value { self.old.left ≡ entry_in result ∷ self.new.left }
         ensures logs { self.new.logs ≡ self.old.logs }
         ensures most { self.new.most ≡ self.old.most }
     {

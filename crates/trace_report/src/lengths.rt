@@ -3,6 +3,7 @@ ghost use Rattle.std.specs.Prelude.{◌≡◌, ◌+◌, ◌≤◌, length};
 ghost use Rattle.trace_report.specs.Slots.{AreNames};
 ghost use Rattle.trace_report.specs.TraceText.{station_name, class_text, job_text, values_text};
 ghost use Rattle.trace_report.specs.TraceText.{change_text, payload_text, counts_text, entry_line};
+ghost use Rattle.trace_report.specs.declared.line.TheConstants.{MOST_LINE};
 
 use crate::digits::digits;
 use crate::line::word_of;
@@ -93,11 +94,11 @@ fn counts_len(counts: &Line) -> usize
     }
 }
 
-/// How long the line of an entry is, in bytes; at most 256.
+/// How long the line of an entry is, in bytes.
 pub fn line_len(model: &Model, names: &Names, entry: &Entry) -> usize
     requires names { AreNames model.now names.now }
     ensures value { result ≡ length (entry_line model.now entry.now) }
-    ensures short { result ≤ 256 }
+    ensures short { result ≤ MOST_LINE }
 {
     let key = entry.msg.key;
     6 + digits(key.time)

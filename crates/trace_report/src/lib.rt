@@ -32,7 +32,7 @@ mod report;
 mod trace;
 
 pub use lengths::line_len;
-pub use line::write_line;
+pub use line::{MOST_LINE, write_line, write_stored};
 pub use names::Names;
 pub use report::report_text;
 pub use trace::trace_text;

@@ -4,12 +4,16 @@
 ghost use Rattle.std.specs.Prelude.{◌≡◌, ◌+◌, ◌≤◌, ◌++◌, length, take, codes, decimal};
 ghost use Rattle.sim_base.specs.declared.entry.Line.TheVariants.{Server};
 ghost use Rattle.trace_report.specs.Slots.{AreNames};
+ghost use Rattle.log_chain.specs.Packing.{packed_entry};
+ghost use Rattle.log_chain.specs.Stored.{entry_in};
 ghost use Rattle.sim_base.specs.Params.{param_word};
 ghost use Rattle.trace_report.specs.TraceText.{station_name, class_text, job_text, values_text};
 ghost use Rattle.trace_report.specs.TraceText.{change_text, payload_text, counts_text, entry_line};
+ghost use Rattle.trace_report.specs.declared.line.TheConstants.{MOST_LINE};
 
 use crate::names::Names;
 use crate::pieces::{put, put_count, put_name, put_number};
+use log_chain::{Packed, StoredEntry};
 use net_model::Model;
 use sim_base::{Change, Entry, Job, Key, Line, Param, Payload};
 
@@ -176,13 +180,16 @@ fn put_key(bytes: &mut [u8], at: usize, model: &Model, names: &Names, key: &Key,
     put_count(bytes, at, b" ", key.number)
 }
 
+/// How many bytes a line has at most, with what its pieces may reach past its end.
+pub const MOST_LINE: usize = 256;
+
 /// Writes the line of an entry at a place, and returns the place behind it.
 ///
-/// A number that is no station's, 0 or past the last, is written as `analyst`. 256 bytes must be free from the place
-/// on: pieces reach past the line's end.
+/// A number that is no station's, 0 or past the last, is written as `analyst`. As many bytes as a line has at
+/// most must be free from the place on: pieces reach past the line's end.
 pub fn write_line(bytes: &mut [u8], at: usize, model: &Model, names: &Names, entry: &Entry) -> usize
     requires names { AreNames model.now names.now }
-    requires free { at + 256 ≤ length bytes.old }
+    requires free { at + MOST_LINE ≤ length bytes.old }
     ensures text { take result bytes.new ≡ take at bytes.old ++ entry_line model.now entry.now }
     ensures size { length bytes.new ≡ length bytes.old }
     ensures place { result ≡ at + length (entry_line model.now entry.now) }
@@ -193,4 +200,43 @@ pub fn write_line(bytes: &mut [u8], at: usize, model: &Model, names: &Names, ent
     let at = put(bytes, at, b" ");
     let at = put_counts(bytes, at, &entry.line);
     put(bytes, at, b"\n")
+}
+
+// Writes the line of a packed entry at a place, in the way of `write_line`: its parts are read one by one.
+fn write_packed(bytes: &mut [u8], at: usize, model: &Model, names: &Names, packed: &Packed) -> usize
+    requires names { AreNames model.now names.now }
+    requires free { at + MOST_LINE ≤ length bytes.old }
+    ensures text { take result bytes.new ≡ take at bytes.old ++ entry_line model.now (packed_entry packed.now) }
+    ensures size { length bytes.new ≡ length bytes.old }
+    ensures place { result ≡ at + length (entry_line model.now (packed_entry packed.now)) }
+{
+    // a copy, which no byte that is written can change, so that each part is read once
+    let packed = *packed;
+    let at = put_key(bytes, at, model, names, &packed.key(), packed.to());
+    let at = put(bytes, at, b" ");
+    let at = put_payload(bytes, at, model, names, &packed.payload());
+    let at = put(bytes, at, b" ");
+    let at = put_counts(bytes, at, &packed.counts());
+    put(bytes, at, b"\n")
+}
+
+/// Writes the line of an entry as a log stores it at a place, and returns the place behind it, as `write_line` does.
+#[inline(always)]
+pub fn write_stored(
+    bytes: &mut [u8],
+    at: usize,
+    model: &Model,
+    names: &Names,
+    stored: StoredEntry<'_>,
+) -> usize
+    requires names { AreNames model.now names.now }
+    requires free { at + MOST_LINE ≤ length bytes.old }
+    ensures text { take result bytes.new ≡ take at bytes.old ++ entry_line model.now (entry_in stored.entry) }
+    ensures size { length bytes.new ≡ length bytes.old }
+    ensures place { result ≡ at + length (entry_line model.now (entry_in stored.entry)) }
+{
+    match stored {
+        StoredEntry::Packed(packed) => write_packed(bytes, at, model, names, packed),
+        StoredEntry::Whole(entry) => write_line(bytes, at, model, names, entry),
+    }
 }

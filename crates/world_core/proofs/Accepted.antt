@@ -9,7 +9,7 @@ use Rattle.sim_base.specs.Decisions.{subject}
 use Rattle.sim_base.specs.declared.decision.Decision.{Decision}
 use Rattle.sim_base.specs.declared.decision.Decision.TheVariants.{Fork, Set, End}
 use Rattle.sim_base.specs.declared.message.Change.{Change}
-use Rattle.sim_base.specs.declared.lists.TheConstants.{MOST_CLONES, MOST_DECISIONS}
+use Rattle.sim_base.specs.declared.lists.TheConstants.{MOST_DECISIONS}
 use Rattle.net_model.specs.Net.{Net, number_of, site_of}
 use Rattle.stations.specs.declared.change.ChangeFault.{ChangeFault}
 use Rattle.stations.specs.declared.change.ChangeFault.TheVariants as refused
@@ -75,11 +75,6 @@ in_time net front at h =
     let a = no_row (nat_le net.horizon at) PastHorizon (row (nat_lt at front) (Late front) ∷ []) (λ e. absurd cc) h in
     let b = no_row (nat_lt at front) (Late front) [] (λ e. absurd cc) a.1 in
     (at_least at front b.0, above net.horizon at a.0)
-
--- a fork's name is new, and there is place for one clone more
-pub record MayFork (cs : List Clone) (new : List ℕ) : Type 0 where
-  pub unused : place_of new cs ≡ None
-  pub few : length cs < MOST_CLONES
 
 from_one : (o : Option ℕ) (s : ℕ) → option_map (λ i. i + 1) o ≡ Some s → 1 ≤ s
 from_one None s h = absurd cc

@@ -32,25 +32,25 @@ use Rattle.run_laws.proofs.Parts.{part_yes, part_no, part-append}
 use Rattle.run_laws.proofs.Delivery.{given_none, given_more, delivered}
 use Rattle.run_laws.proofs.Stands.{stands_after_window}
 use Rattle.run_laws.proofs.Gaining.{over_is_beyond, handled_grows, handled_is_few}
-use Rattle.phys_proc.specs.Own.{StationCopy, Marked, IsCopy, given}
+use Rattle.phys_proc.specs.Own.{StationCopy, Marked, IsCopy, with_message}
 use Rattle.phys_proc.specs.Procs.{ProcView}
 use Rattle.world_core.specs.declared.flow.Flow.{Flow}
 use Rattle.phys_proc.proofs.Onward.{sets_join}
 use Rattle.phys_proc.proofs.Given.{all_given}
 use Rattle.world_core.specs.Worlds.{StandsAt, copies_at, total_handled}
-use Rattle.world_core.specs.Windows.{AllFlow, IsFlow, NoneOver, given_all, sent_to}
+use Rattle.world_core.specs.Windows.{AllFlow, IsFlow, NoneOver, with_mail, sent_to}
 use Rattle.world_core.specs.Windows.{all_sent, done_at, sent_at, after_window, all_handled}
 
 module _ (net : Net) (ends : ℕ → ℕ) where
   -- messages given one after the other
   given_so_far : (ms msgs : Marked) (new done : List StationCopy) → SoFarGiven (simulation net) has ends msgs new done
-      → SoFarGiven (simulation net) has ends (msgs ++ ms) new (given_all ms done)
+      → SoFarGiven (simulation net) has ends (msgs ++ ms) new (with_mail ms done)
   given_so_far [] msgs new done f = subst (λ l. SoFarGiven (simulation net) has ends l new done)
       (sym (append-nil msgs)) f
   given_so_far (x ∷ ms) msgs new done f =
-      subst (λ l. SoFarGiven (simulation net) has ends l new (given_all (x ∷ ms) done)) (append_assoc msgs (x ∷ []) ms)
-      (given_so_far ms (msgs ++ x ∷ []) new (map (given x.0 x.1) done)
-      (given_more (simulation net) has ends order msgs new done (map (given x.0 x.1) done) x.0 x.1 f
+      subst (λ l. SoFarGiven (simulation net) has ends l new (with_mail (x ∷ ms) done)) (append_assoc msgs (x ∷ []) ms)
+      (given_so_far ms (msgs ++ x ∷ []) new (map (with_message x.0 x.1) done)
+      (given_more (simulation net) has ends order msgs new done (map (with_message x.0 x.1) done) x.0 x.1 f
       (all_given net ends x.0 x.1 done (all_from (λ a. SortedMarked msg_cmp a.pending) done f.sorted))))
     where
       order : IsOrder msg_cmp
@@ -180,7 +180,7 @@ module _ (net : Net) (valid : IsNet net) (cs : List Clone) (front bound : ℕ) (
     | inr past ↦ absurd (let p = past.0 in omega (arith, p, are_procs, l))
   ]
 
-  -- and an answer, which has what came of them
+  -- and an answer, which has them as the task leaves them
   pub flow_of : (i : ℕ) → i < length net.sites → (flow : Flow) × (slice_get flows i ≡ Some flow)
   flow_of i l = elim (slice_get_cases flows i).1 [
     | inl found ↦ (found.0, found.2)
@@ -195,7 +195,7 @@ module _ (net : Net) (valid : IsNet net) (cs : List Clone) (front bound : ℕ) (
   pub stand_of : (i : ℕ) → i < length net.sites → Stands (simulation net) has cs front (i + 1) (copies_at procs i)
   stand_of i l =
       let p = proc_of i l in
-      subst (Stands (simulation net) has cs front (i + 1)) (sym (copies_of i p.0 p.1)) (stood i p.0 p.1).stands
+      subst (Stands (simulation net) has cs front (i + 1)) (sym (copies_of i p.0 p.1)) (stood i p.0 p.1).copies
 
   -- the answer of a station, about its copies
   pub is_flow : (i : ℕ) (l : i < length net.sites) (flow : Flow) → slice_get flows i ≡ Some flow →
@@ -208,7 +208,7 @@ module _ (net : Net) (valid : IsNet net) (cs : List Clone) (front bound : ℕ) (
   over_of i l flow got c =
       let p = proc_of i l in
       over_is_beyond (lawful-stations net valid) sets_join cs (i + 1) front bound p.0.copies
-      (stood i p.0 p.1).stands later within
+      (stood i p.0 p.1).copies later within
       flow.over (is_flow i l flow got).over c
 
   -- no log was beyond the limit at the front
@@ -216,7 +216,7 @@ module _ (net : Net) (valid : IsNet net) (cs : List Clone) (front bound : ℕ) (
       → length (log_at (simulation net) (clone_at cs c) (i + 1) front) ≤ net.limit
   short_of i l c there =
       let p = proc_of i l in
-      let st = (stood i p.0 p.1).stands in
+      let st = (stood i p.0 p.1).copies in
       let a = st.carried c there in
       let copy = all_in (IsCopy net p.0.station) p.0.copies a.0 (stood i p.0 p.1).proc.copies a.1 in
       subst (λ k. length k ≤ net.limit) (st.log a.0 c a.1 a.2) copy.short
@@ -227,8 +227,8 @@ module _ (net : Net) (valid : IsNet net) (cs : List Clone) (front bound : ℕ) (
   few_at i l flow got =
       let p = proc_of i l in
       handled_is_few (lawful-stations net valid) sets_join cs (i + 1) front bound p.0.copies
-      (stood i p.0 p.1).stands later within
-      same_entry flow.handled same_entry-Decides (short_of i l) (is_flow i l flow got).gained
+      (stood i p.0 p.1).copies later within
+      same_entry flow.handled same_entry-Decides (short_of i l) (is_flow i l flow got).gain
 
   few_to : (n : ℕ) → n ≤ length net.sites →
       station_sum (λ s. handled net cs s front) n + station_sum
@@ -358,8 +358,8 @@ module _ (net : Net) (valid : IsNet net) (cs : List Clone) (front bound : ℕ) (
     grown_at i l flow got =
         let p = proc_of i l in
         handled_grows (lawful-stations net valid) sets_join cs (i + 1) front bound p.0.copies
-        (stood i p.0 p.1).stands later within same_entry flow.handled same_entry-Decides (none_long i l)
-        (is_flow i l flow got).gained
+        (stood i p.0 p.1).copies later within same_entry flow.handled same_entry-Decides (none_long i l)
+        (is_flow i l flow got).gain
 
     grown_to : (n : ℕ) → n ≤ length net.sites
         → station_sum (λ s. handled net cs s bound) n ≡ station_sum (λ s. handled net cs s front) n + station_sum

@@ -6,9 +6,9 @@ use Rattle.std.proofs.lemmas.Bool.{cases_eq, ne_eqb}
 use Rattle.sim_base.specs.declared.message.Msg.{Msg}
 use Rattle.clone_sets.specs.declared.set.CloneSet.{CloneSet}
 use Rattle.net_model.specs.Net.{Net}
-use Rattle.phys_proc.specs.Own.{StationCopy, Marked, given}
+use Rattle.phys_proc.specs.Own.{StationCopy, Marked, with_message}
 use Rattle.phys_proc.specs.Procs.{ProcView, IsProc}
-use Rattle.world_core.specs.Windows.{AllDelivered, AreNumbered, IsDeliveredTo, sent_to, given_all}
+use Rattle.world_core.specs.Windows.{AllDelivered, AreNumbered, IsDeliveredTo, sent_to, with_mail}
 use Rattle.world_core.proofs.Places.{at_got, there_at, one_got}
 
 -- a list with another element at a place has it there
@@ -33,7 +33,7 @@ of_some x y e = cc
 -- nothing is for a station: it stays
 unchanged : (ms : Marked) (p : ProcView) → ms ≡ [] → IsDeliveredTo ms p p
 unchanged ms p none = record {
-  copies = sym (ap (λ l. given_all l p.copies) none);
+  copies = sym (ap (λ l. with_mail l p.copies) none);
   station = refl;
   living = refl;
   once = refl;
@@ -60,7 +60,7 @@ to_none m k procs n = record {
 -- a message for the station at place j
 pub to_one : (m : Msg) (k : CloneSet) (procs : List ProcView) (j : ℕ) (old new : ProcView) → j < length procs
     → m.to ≡ j + 1 → old ≡ get_or procs j old →
-    new.copies ≡ map (given m k) old.copies → new.station ≡ old.station → new.living ≡ old.living
+    new.copies ≡ map (with_message m k) old.copies → new.station ≡ old.station → new.living ≡ old.living
     → new.handled ≡ old.handled → ((net : Net) → IsProc net old → IsProc net new) →
     AllDelivered ((m, k) ∷ []) procs (slice_set procs j new)
 to_one m k procs j old new l to is copies station living once proc = record {
@@ -72,7 +72,7 @@ to_one m k procs j old new l to is copies station living once proc = record {
         (sym e) ∙ b) in
         subst (IsDeliveredTo (sent_to i ((m, k) ∷ [])) p) now
         (subst (λ (o : ProcView). IsDeliveredTo (sent_to i ((m, k) ∷ [])) o new) (sym was) (record {
-          copies = copies ∙ sym (ap (λ l. given_all l old.copies) (for_it m k i (to ∙ ap (λ x. x + 1) (sym e))));
+          copies = copies ∙ sym (ap (λ l. with_mail l old.copies) (for_it m k i (to ∙ ap (λ x. x + 1) (sym e))));
           station = station;
           living = living;
           once = once;
@@ -102,10 +102,10 @@ sent_append i (x ∷ xs) ys = by (sent_append i xs ys) (x.0.to == i + 1)
     by h true = ap (λ l. x ∷ l) h
     by h false = h
 
-pub given_append : (xs ys : Marked) (copies : List StationCopy)
-    → given_all (xs ++ ys) copies ≡ given_all ys (given_all xs copies)
-given_append [] ys copies = refl
-given_append (x ∷ xs) ys copies = given_append xs ys (map (given x.0 x.1) copies)
+pub with_mail-append : (xs ys : Marked) (copies : List StationCopy)
+    → with_mail (xs ++ ys) copies ≡ with_mail ys (with_mail xs copies)
+with_mail-append [] ys copies = refl
+with_mail-append (x ∷ xs) ys copies = with_mail-append xs ys (map (with_message x.0 x.1) copies)
 
 -- messages, and then more of them
 pub delivered_more : (xs ys : Marked) (first second third : List ProcView) → AllDelivered xs first second
@@ -118,9 +118,9 @@ delivered_more xs ys first second third a b = record {
       let u = a.each i p (get_or second i p) got q in
       let v = b.each i (get_or second i p) r q there in
       record {
-        copies = v.copies ∙ ap (given_all (sent_to i ys)) u.copies
-            ∙ sym (ap (λ l. given_all l p.copies) (sent_append i xs ys)
-            ∙ given_append (sent_to i xs) (sent_to i ys) p.copies);
+        copies = v.copies ∙ ap (with_mail (sent_to i ys)) u.copies
+            ∙ sym (ap (λ l. with_mail l p.copies) (sent_append i xs ys)
+            ∙ with_mail-append (sent_to i xs) (sent_to i ys) p.copies);
         station = v.station ∙ u.station;
         living = v.living ∙ u.living;
         once = v.once ∙ u.once;

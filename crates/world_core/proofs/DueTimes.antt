@@ -10,11 +10,13 @@ use Rattle.std.proofs.lemmas.List.Sums.{sum_by-cons}
 use Rattle.sim_base.specs.Clones.{Clone, clone_at}
 use Rattle.sim_base.specs.Same.{same_entry}
 use Rattle.sim_base.specs.declared.message.Msg.{Msg}
+use Rattle.sim_base.specs.declared.lists.TheConstants.{MOST_CLONES}
 use Rattle.sim_base.proofs.SameEntry.{same_entry-Decides}
 use Rattle.clone_sets.specs.Sets.{has, size}
 use Rattle.clone_sets.specs.declared.set.CloneSet.{CloneSet}
 use Rattle.clone_sets.proofs.CountLaws.{size_is_count}
 use Rattle.net_model.specs.Net.{Net}
+use Rattle.net_model.specs.declared.limits.TheConstants.{MOST_LIMIT}
 use Rattle.stations.specs.Runs.{simulation, copies, handled, alone}
 use Rattle.stations.proofs.GoodLaws.{lawful-stations, stations-to_stations}
 use Rattle.run_laws.specs.Queue.{In}
@@ -78,7 +80,7 @@ module _ (net : Net) (cs : List Clone) (ended : List (ℕ × ℕ)) (front : ℕ)
       → IsLeastOf ends p.copies c t →
       least_time time_of (due_at (simulation net) (clone_at cs c) (i + 1) front) ≡ t
   least_here i c p t got l h =
-      let st = (world.each i p got).stands in
+      let st = (world.each i p got).copies in
       let h2 = subst (λ e. IsLeastOf e p.copies c t) world.ends h in
       sym (least-unique time_of (IsTakenBy (ends_of (simulation net) cs) p.copies c)
       (λ m. In m (due_at (simulation net) (clone_at cs c) (i + 1) front)) t
@@ -112,10 +114,6 @@ module _ (net : Net) (cs : List Clone) (ended : List (ℕ × ℕ)) (front : ℕ)
       (clone_at cs c) front (world.for_stations c l))
 
   -- ---- of all clones
-
-  -- of no stations nothing is taken, so there is no least time
-  pub least_none : IsLeastBy time_of (TakenTo ends procs 0) None
-  least_none = λ m h. let l = h.before in absurd (omega (arith, l))
 
   -- the least of what is taken before a place and at it is the least up to the next place
   pub least_next : (i : ℕ) (p : ProcView) (after : Option ℕ) → slice_get procs i ≡ Some p →
@@ -172,7 +170,7 @@ module _ (net : Net) (cs : List Clone) (ended : List (ℕ × ℕ)) (front : ℕ)
         let w = world.each i found.0 found.2 in
         subst (λ s. Stands (simulation net) has cs front s (copies_at procs i)) (one_up i)
         (subst (Stands (simulation net) has cs front (i + 1))
-        (sym (ap (λ o. unwrap_or (option_map (λ (p : ProcView). p.copies) o) []) found.2)) w.stands)
+        (sym (ap (λ o. unwrap_or (option_map (λ (p : ProcView). p.copies) o) []) found.2)) w.copies)
     | inr past ↦ absurd (let l = h.1 in let k = past.0 in let n = world.count in omega (arith, k, l, n))
   ]
 
@@ -232,7 +230,7 @@ module _ (net : Net) (cs : List Clone) (front i : ℕ) (p : ProcView) (here : St
   -- the station's different logs are as many as its copies
   pub many_copies : copies net cs (i + 1) front ≡ length p.copies
   many_copies = copies_are_logs (lawful-stations net here.proc.valid) sets_join cs
-      (i + 1) front p.copies here.stands same_entry same_entry-Decides
+      (i + 1) front p.copies here.copies same_entry same_entry-Decides
 
   alone_sum : (xs : List StationCopy) → handled_alone xs ≡ sum_by (λ (a : StationCopy). size a.set * length a.log) xs
   alone_sum [] = refl
@@ -242,11 +240,11 @@ module _ (net : Net) (cs : List Clone) (front i : ℕ) (p : ProcView) (here : St
   -- and what the clones would handle alone there is what its copies count
   pub many_alone : alone net cs (i + 1) front ≡ handled_alone p.copies
   many_alone = alone-copies has size (simulation net) cs front (i + 1) p.copies
-      (λ a i. size_is_count a.set) here.stands ∙ sym (alone_sum p.copies)
+      (λ a i. size_is_count a.set) here.copies ∙ sym (alone_sum p.copies)
 
 -- the logs of a station's copies are short
-pub all_short : (net : Net) (s : ℕ) (xs : List StationCopy) → net.limit ≤ 65536 → AllByRecursion (IsCopy net s) xs
-    → AllByRecursion (λ (a : StationCopy). length a.log ≤ 65536) xs
+pub all_short : (net : Net) (s : ℕ) (xs : List StationCopy) → net.limit ≤ MOST_LIMIT → AllByRecursion (IsCopy net s) xs
+    → AllByRecursion (λ (a : StationCopy). length a.log ≤ MOST_LIMIT) xs
 all_short net s [] l h = tt
 all_short net s (x ∷ xs) l h = let k = h.0 in let e = k.short in (omega (arith, e, l), all_short net s xs l h.1)
 
@@ -259,7 +257,7 @@ module _ (net : Net) (cs : List Clone) (ended : List (ℕ × ℕ)) (front : ℕ)
     pub copies_are : length p.copies ≡ copies net cs s front
     pub once : p.handled ≡ handled net cs s front
     pub each_alone : handled_alone p.copies ≡ alone net cs s front
-    pub sizes : all_sizes p.copies ≤ 256
+    pub sizes : all_sizes p.copies ≤ MOST_CLONES
 
   -- and so it is with the copies of each station
   pub figured : (s : ℕ) (p : ProcView) → 1 ≤ s → slice_get procs (s - 1) ≡ Some p → Figured s p
@@ -271,7 +269,7 @@ module _ (net : Net) (cs : List Clone) (ended : List (ℕ × ℕ)) (front : ℕ)
         once = w.once;
         each_alone = sym (many_alone net cs front (s - 1) p w);
         sizes = let e = clones-copies has size (simulation net) cs front (s - 1 + 1) p.copies
-            (λ a i. size_is_count a.set) w.stands in let f = world.few in let g = sizes_sum p.copies in
+            (λ a i. size_is_count a.set) w.copies in let f = world.few in let g = sizes_sum p.copies in
             omega (arith, e, f, g);
       })
     where

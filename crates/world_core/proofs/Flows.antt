@@ -21,7 +21,7 @@ is_flow net ends bound i old flow number windows over gained proc station living
   windows = λ e. subst (λ s. IsStepped (simulation net) has ends s bound old.copies flow.done.copies flow.sent.items)
       number (windows e);
   over = subst (λ s. AreOver (simulation net) has ends s bound old.copies flow.over) number over;
-  gained = subst (λ s. GainTogether (simulation net) has ends s bound old.copies flow.handled) number gained;
+  gain = subst (λ s. GainTogether (simulation net) has ends s bound old.copies flow.handled) number gained;
   proc = proc;
   number = station ∙ number;
   living = living;

@@ -1,5 +1,5 @@
 -- A fork at the stations, one after the other.
-use Rattle.std.proofs.Common.{◌≡◌, ℕ, ◌+◌, ◌<◌, ◌≤◌, List, inl, inr, Some, refl}
+use Rattle.std.proofs.Common.{◌≡◌, ℕ, ◌+◌, ◌<◌, ◌≤◌, List, inl, inr, Some}
 use Rattle.std.proofs.Common.{sym, ap, ◌∙◌, subst, arith, length, length-set, get_or, slice_get, slice_set}
 use Rattle.std.proofs.lemmas.Bool.{cases_eq}
 use Rattle.phys_proc.specs.Procs.{ProcView}
@@ -13,10 +13,6 @@ pub record ForkedTo (old new n : ℕ) (olds news : List ProcView) : Type 0 where
   pub each : (i : ℕ) (p q : ProcView) → i < n → slice_get olds i ≡ Some p → slice_get news i ≡ Some q
       → HasForked old new p q
   pub others : (i : ℕ) → n ≤ i → slice_get news i ≡ slice_get olds i
-
--- before the first of them all stations are as they were
-pub forked_none : (old new : ℕ) (procs : List ProcView) → ForkedTo old new 0 procs procs
-forked_none old new procs = record { count = refl; each = λ i p q l. absurd (omega (arith, l)); others = λ i l. refl }
 
 -- with the next station forked, one station more is
 pub forked_next : (old new n : ℕ) (olds news : List ProcView) (was now : ProcView) → ForkedTo old new n olds news

@@ -81,7 +81,7 @@ none_new flows f none over = λ i g got. elim (push_got flows f g i got) [
   | inr e ↦ ap (λ (x : Flow). x.over) e.1 ∙ over
 ]
 
--- what the step of the station at place i comes to
+-- the result of the step of the station at place i
 pub stepped_at : (net : Net) (ends : ℕ → ℕ) (bound i : ℕ) (olds news : List ProcView) (before after : Marked)
     (p : ProcView) (flow : Flow) → slice_get olds i ≡ Some p → IsFlow net ends bound i p flow
     → slice_get news i ≡ Some flow.done → ((j : ℕ) → j ≢ i → slice_get news j ≡ slice_get olds j)
@@ -133,8 +133,8 @@ module _ (net : Net) (ends : ℕ → ℕ) (bound : ℕ) (olds : List ProcView) w
   stepped_none steps = record {
     flows = [];
     count = refl;
-    stepped = λ i p flow a b. absurd (none_got flow b);
-    done = λ i l. absurd (omega (arith, l));
+    each = λ i p flow a b. absurd (none_got flow b);
+    procs = λ i l. absurd (omega (arith, l));
     others = λ i l. refl;
     long = refl;
     sent_is = refl;
@@ -159,13 +159,13 @@ module _ (net : Net) (ends : ℕ → ℕ) (bound : ℕ) (olds : List ProcView) w
       record {
         flows = far.flows ++ f ∷ [];
         count = let l = length-append far.flows (f ∷ []) in omega (arith, l, c);
-        stepped = λ i p flow got there. elim (push_got far.flows f flow i there) [
-          | inl e ↦ far.stepped i p flow got e
+        each = λ i p flow got there. elim (push_got far.flows f flow i there) [
+          | inl e ↦ far.each i p flow got e
           | inr e ↦
               let place : i ≡ n = e.0 ∙ c in
               rw (place, e.1) (one.is_flow p (far.others n (omega arith) ∙ ap (slice_get olds) (sym place) ∙ got))
         ];
-        done = λ i l. done_at i l ∙ ap (λ k. slice_get k i) (sym (map_more far.flows f));
+        procs = λ i l. done_at i l ∙ ap (λ k. slice_get k i) (sym (map_more far.flows f));
         others = λ i l. one.others i (λ e. omega (arith, e, l)) ∙ far.others i (omega (arith, l));
         long = one.long ∙ far.long;
         sent_is = one.sent_is ∙ ap (λ l. l ++ f.sent.items) far.sent_is ∙ sym (sent_more far.flows f);
@@ -183,7 +183,7 @@ module _ (net : Net) (ends : ℕ → ℕ) (bound : ℕ) (olds : List ProcView) w
         | inr ne ↦
             let c = far.count in
             let m = length-map far.flows (λ (x : Flow). x.done) in
-            one.others i ne ∙ far.done i (below i l ne)
+            one.others i ne ∙ far.procs i (below i l ne)
             ∙ sym (before_last (map (λ (x : Flow). x.done) far.flows) one.flow.done i (let k = below i l ne in
             omega (arith, k, m, c)))
       ]
@@ -221,9 +221,9 @@ module _ (net : Net) (ends : ℕ → ℕ) (bound : ℕ) (olds : List ProcView) w
       record {
         flows = far.flows;
         count = c ∙ all;
-        stepped = far.stepped;
-        done = same_lists news (map (λ (x : Flow). x.done) far.flows) (omega (arith, c, l, m, all))
-            (λ i k. far.done i (omega (arith, k, l, all)));
+        each = far.each;
+        procs = same_lists news (map (λ (x : Flow). x.done) far.flows) (omega (arith, c, l, m, all))
+            (λ i k. far.procs i (omega (arith, k, l, all)));
         sent_is = far.sent_is;
         first = far.first;
         steps_are = far.steps_are;

@@ -10,7 +10,6 @@ pub mod Accepted
 pub mod Taken
 pub mod DueTimes
 pub mod Merging
-pub mod Calls
 pub mod Delivering
 pub mod Forks
 mod Mail

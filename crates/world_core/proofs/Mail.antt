@@ -9,10 +9,10 @@ use Rattle.sim_base.specs.declared.message.Msg.{Msg}
 use Rattle.clone_sets.specs.declared.set.CloneSet.{CloneSet}
 use Rattle.phys_proc.specs.Own.{Marked}
 use Rattle.phys_proc.specs.Procs.{ProcView}
-use Rattle.world_core.specs.Windows.{AllDelivered, AreNumbered, IsDeliveredTo, sent_to, given_all}
+use Rattle.world_core.specs.Windows.{AllDelivered, AreNumbered, IsDeliveredTo, sent_to, with_mail}
 use Rattle.world_core.specs.Posts.{PostView, AreFor, IsPostAt, ArePosts, no_mail}
 use Rattle.world_core.proofs.Places.{at_got, there_at, map_got}
-use Rattle.world_core.proofs.Delivering.{set_same, set_other, of_some, sent_append, given_append, not_for, for_it}
+use Rattle.world_core.proofs.Delivering.{set_same, set_other, of_some, sent_append, with_mail-append, not_for, for_it}
 
 -- ---- what is for whom
 
@@ -102,7 +102,7 @@ sorted_one m k sent procs posts j old new l to is proc mail h = record {
 pub given_next : (ms : Marked) (x : Msg × CloneSet) (first second third : ProcView) → IsDeliveredTo ms first second
     → IsDeliveredTo (x ∷ []) second third → IsDeliveredTo (ms ++ x ∷ []) first third
 given_next ms x first second third a b = record {
-  copies = b.copies ∙ ap (given_all (x ∷ [])) a.copies ∙ sym (given_append ms (x ∷ []) first.copies);
+  copies = b.copies ∙ ap (with_mail (x ∷ [])) a.copies ∙ sym (with_mail-append ms (x ∷ []) first.copies);
   station = b.station ∙ a.station;
   living = b.living ∙ a.living;
   once = b.once ∙ a.once;

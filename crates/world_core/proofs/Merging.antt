@@ -3,7 +3,6 @@ use Rattle.std.proofs.Common.{subst, ◌≡◌, ℕ, zero, suc, ◌+◌, ◌-◌
 use Rattle.std.proofs.Common.{sym, ap, ◌∙◌, arith, length, drop, slice_get, false, append-nil, append_assoc}
 use Rattle.std.specs.List.{AllByRecursion}
 use Rattle.std.specs.declared.cmp.Ordering.{Ordering}
-use Rattle.std.specs.declared.cmp.Ordering.TheVariants.{Less, Equal, Greater}
 use Rattle.std.proofs.lemmas.Bool.{false≢true}
 use Rattle.std.proofs.lemmas.Option.{slice_get_cases}
 use Rattle.sim_base.specs.Clones.{Clone, clone_at}
@@ -15,8 +14,7 @@ use Rattle.net_model.specs.Net.{Net}
 use Rattle.stations.specs.Good.{sender_of, number_of}
 use Rattle.stations.specs.Runs.{simulation, IsBeyond}
 use Rattle.stations.proofs.GoodLaws.{lawful-stations, stations-to_stations, fresh-stations}
-use Rattle.stations.proofs.Places.{drop-at}
-use Rattle.run_laws.specs.Merges.{merge, merge_at, pick, merge_of_logs}
+use Rattle.run_laws.specs.Merges.{merge, merge_of_logs}
 use Rattle.run_laws.specs.Runs.{run_of, log_at}
 use Rattle.run_laws.proofs.Queue.{all_in}
 use Rattle.run_laws.proofs.Traces.{merge_of_logs-trace}
@@ -27,46 +25,11 @@ use Rattle.world_core.specs.Overs.{NoneBeyond}
 use Rattle.world_core.specs.Tracing.{by_key, HasLog}
 
 module _ {X : Type 0} (cmp : X → X → Ordering) where
-  first_goes : (x y : X) (xs ys : List X) → (cmp x y ≡ Greater → ⊥)
-      → merge cmp (x ∷ xs) (y ∷ ys) ≡ x ∷ merge cmp xs (y ∷ ys)
-  first_goes x y xs ys n = by (cmp x y) n
-    where
-      by : (o : Ordering) → (o ≡ Greater → ⊥) → pick o x y (merge cmp xs (y ∷ ys)) (merge_at cmp x (merge cmp xs) ys)
-          ≡ x ∷ merge cmp xs (y ∷ ys)
-      by Less n = refl
-      by Equal n = refl
-      by Greater n = absurd (n refl)
-
-  second_goes : (x y : X) (xs ys : List X) → cmp x y ≡ Greater → merge cmp (x ∷ xs) (y ∷ ys) ≡ y ∷ merge cmp (x ∷ xs) ys
-  second_goes x y xs ys e = ap (λ o. pick o x y (merge cmp xs (y ∷ ys)) (merge_at cmp x (merge cmp xs) ys)) e
-
   none_left : (xs : List X) → merge cmp xs [] ≡ xs
   none_left [] = refl
   none_left (x ∷ xs) = ap (λ l. x ∷ l) (none_left xs)
 
   module _ (xs ys out : List X) (i j : ℕ) (so_far : out ++ merge cmp (drop i xs) (drop j ys) ≡ merge cmp xs ys) where
-    -- the first list's next may be put out, unless the second list's next comes before it
-    pub put_first : (x y : X) → slice_get xs i ≡ Some x → slice_get ys j ≡ Some y → (cmp x y ≡ Greater → ⊥) →
-        (out ++ x ∷ []) ++ merge cmp (drop (i + 1) xs) (drop j ys) ≡ merge cmp xs ys
-    put_first x y a b n =
-        append_assoc out (x ∷ []) (merge cmp (drop (i + 1) xs) (drop j ys))
-        ∙ ap (λ l. out ++ l) (sym (ap (λ l. merge cmp l (drop j ys)) (drop-at xs i x a)
-        ∙ ap (merge cmp (x ∷ drop (i + 1) xs)) (drop-at ys j y b)
-        ∙ first_goes x y (drop (i + 1) xs) (drop (j + 1) ys) n ∙ ap (λ l. x ∷ merge cmp (drop (i + 1) xs) l)
-        (sym (drop-at ys j y b))))
-        ∙ so_far
-
-    -- and where that comes before it, the second list's next may be put out
-    pub put_second : (x y : X) → slice_get xs i ≡ Some x → slice_get ys j ≡ Some y → cmp x y ≡ Greater →
-        (out ++ y ∷ []) ++ merge cmp (drop i xs) (drop (j + 1) ys) ≡ merge cmp xs ys
-    put_second x y a b e =
-        append_assoc out (y ∷ []) (merge cmp (drop i xs) (drop (j + 1) ys))
-        ∙ ap (λ l. out ++ l) (sym (ap (λ l. merge cmp l (drop j ys)) (drop-at xs i x a)
-        ∙ ap (merge cmp (x ∷ drop (i + 1) xs)) (drop-at ys j y b)
-        ∙ second_goes x y (drop (i + 1) xs) (drop (j + 1) ys) e ∙ ap (λ l. y ∷ merge cmp l (drop (j + 1) ys))
-        (sym (drop-at xs i x a))))
-        ∙ so_far
-
     drop_past : (zs : List X) (k : ℕ) → length zs ≤ k → drop k zs ≡ []
     drop_past [] zero l = refl
     drop_past [] (suc k) l = refl
@@ -95,13 +58,13 @@ module _ (net : Net) (cs : List Clone) (ended : List (ℕ × ℕ)) (front : ℕ)
   pub has_a_copy : (i : ℕ) (p : ProcView) → slice_get procs i ≡ Some p
       → AllByRecursion (λ (a : StationCopy). has a.set who ≡ false) p.copies → ⊥
   has_a_copy i p got none =
-      let a = (world.each i p got).stands.carried who there in
+      let a = (world.each i p got).copies.carried who there in
       false≢true (sym (all_in (λ (a : StationCopy). has a.set who ≡ false) p.copies a.0 none a.1) ∙ a.2)
 
   -- and the log of that copy is the clone's own
   pub log_is : (i : ℕ) (p : ProcView) (log : List (Entry Msg Line)) → slice_get procs i ≡ Some p
       → HasLog p.copies who log → log ≡ log_at (simulation net) (clone_at cs who) (i + 1) front
-  log_is i p log got h = h.is_log ∙ (world.each i p got).stands.log h.copy who h.is_copy h.is_in
+  log_is i p log got h = h.is_log ∙ (world.each i p got).copies.log h.copy who h.is_copy h.is_in
 
   -- no log is longer than the limit
   pub log_short : (i : ℕ) (p : ProcView) (log : List (Entry Msg Line)) → slice_get procs i ≡ Some p
@@ -118,7 +81,7 @@ module _ (net : Net) (cs : List Clone) (ended : List (ℕ × ℕ)) (front : ℕ)
   log_within i l beyond = elim (slice_get_cases procs i).1 [
     | inl found ↦
         let p = found.0 in
-        let a = (world.each i p found.2).stands.carried who there in
+        let a = (world.each i p found.2).copies.carried who there in
         let h : HasLog p.copies who a.0.log = record { copy = a.0; is_copy = a.1; is_in = a.2; is_log = refl } in
         let short = log_short i p a.0.log found.2 h in
         let same : length a.0.log ≡ length (log_at (simulation net) (clone_at cs who) (i + 1) front) =

@@ -60,11 +60,11 @@ world_begins net procs valid count first = record {
       let f = first i p got in
       let l = (at_got procs i p p got).0 in
       record {
-        proc = f.numbered.proc;
-        number = f.numbered.number;
+        proc = f.station.proc;
+        number = f.station.number;
         living = λ c. ap (λ k. has k c) f.living ∙ first_lives c;
         once = f.once ∙ sym (handled-0 (simulation net) same_entry (base ∷ []) (i + 1));
-        stands = subst (Stands (simulation net) has (base ∷ []) 0 (i + 1)) (sym f.copies)
+        copies = subst (Stands (simulation net) has (base ∷ []) 0 (i + 1)) (sym f.copies)
             (stands_first (lawful-stations net valid) (stations-to_stations net valid) has (one 0) only_first (i + 1)
             (omega arith, omega (arith, l, count)));
       };

@@ -9,9 +9,10 @@ use Rattle.std.proofs.lemmas.List.{length_push}
 use Rattle.sim_base.specs.Order.{msg_cmp}
 use Rattle.sim_base.specs.Marked.{SortedMarked}
 use Rattle.sim_base.specs.Same.{same_entry}
-use Rattle.sim_base.specs.Clones.{Clone, clone_at, added, ended, forked}
+use Rattle.sim_base.specs.Clones.{Clone, clone_at, clones_with_plan, clones_with_end, clones_with_fork}
 use Rattle.sim_base.specs.declared.message.Msg.{Msg}
 use Rattle.sim_base.specs.declared.decision.Planned.{Planned}
+use Rattle.sim_base.specs.declared.lists.TheConstants.{MOST_CLONES}
 use Rattle.sim_base.proofs.ListLaws.{all_push}
 use Rattle.sim_base.proofs.SameEntry.{same_entry-Decides}
 use Rattle.clone_sets.specs.Sets.{has, one, with}
@@ -28,18 +29,13 @@ use Rattle.run_laws.proofs.Places.{set_cases, clone_push_same, clone_push_other}
 use Rattle.run_laws.proofs.Deciding.{stands_after_decision, stands_after_other_decision, stands_end, stands_fork}
 use Rattle.run_laws.proofs.HandledStays.{handled-added, handled-ended, handled-forked}
 use Rattle.phys_proc.specs.Gone.{ends_in}
-use Rattle.phys_proc.specs.Own.{StationCopy, given}
+use Rattle.phys_proc.specs.Own.{StationCopy, with_message}
 use Rattle.phys_proc.specs.Procs.{ProcView}
 use Rattle.phys_proc.proofs.Given.{all_given}
 use Rattle.world_core.specs.Worlds.{StandsAt, WorldStands}
-use Rattle.world_core.specs.Windows.{AllDelivered, AreNumbered, given_all}
+use Rattle.world_core.specs.Windows.{AllDelivered, with_mail}
 use Rattle.world_core.specs.Forking.{AllForked, LivesAtAll, LivesNowhere}
 use Rattle.world_core.proofs.Places.{at_got, there_at}
-
--- the stations of a world stand in the order of their numbers
-pub are_numbered : (net : Net) (cs : List Clone) (ended : List (ℕ × ℕ)) (front : ℕ) (procs : List ProcView)
-    → WorldStands net cs ended front procs → AreNumbered procs
-are_numbered net cs ended front procs world = λ i p got. (world.each i p got).number
 
 -- a clone lives at every station
 pub lives : (net : Net) (cs : List Clone) (ended : List (ℕ × ℕ)) (front : ℕ) (procs : List ProcView)
@@ -61,10 +57,10 @@ module _ (net : Net) (cs : List Clone) (name : List ℕ) (old : ℕ) (there : ol
   abbrev new_clone : Clone
   new_clone = record { name = name; plans = (clone_at cs old).plans; end = None }
 
-  ends_forked : (c : ℕ) → ends_of (simulation net) cs c ≡ ends_of (simulation net) (forked cs name old) c
+  ends_forked : (c : ℕ) → ends_of (simulation net) cs c ≡ ends_of (simulation net) (clones_with_fork cs name old) c
   ends_forked c = elim (cases_eq c (length cs)) [
     | inl e ↦ ap (λ k. end_of (simulation net) k) (beyond cs c (omega (arith, e)))
-        ∙ sym (ap (λ k. end_of (simulation net) k) (ap (clone_at (forked cs name old)) e
+        ∙ sym (ap (λ k. end_of (simulation net) k) (ap (clone_at (clones_with_fork cs name old)) e
         ∙ clone_push_same cs new_clone))
     | inr n ↦ ap (λ k. end_of (simulation net) k) (sym (clone_push_other cs new_clone c n))
   ]
@@ -76,10 +72,11 @@ module _ (net : Net) (cs : List Clone) (name : List ℕ) (old : ℕ) (there : ol
       beyond (x ∷ xs) (suc c) l = beyond xs c (omega (arith, l))
 
   plans_forked : ((c : ℕ) → c < length cs → AreForStations (simulation net) (clone_at cs c).plans) → (c : ℕ)
-      → c < length (forked cs name old) → AreForStations (simulation net) (clone_at (forked cs name old) c).plans
+      → c < length (clones_with_fork cs name old) → AreForStations (simulation net) (clone_at
+      (clones_with_fork cs name old) c).plans
   plans_forked f c l = elim (cases_eq c (length cs)) [
     | inl e ↦ subst (λ k. AreForStations (simulation net) k.plans)
-        (sym (ap (clone_at (forked cs name old)) e ∙ clone_push_same cs new_clone)) (f old there)
+        (sym (ap (clone_at (clones_with_fork cs name old)) e ∙ clone_push_same cs new_clone)) (f old there)
     | inr n ↦ subst (λ k. AreForStations (simulation net) k.plans) (sym (clone_push_other cs new_clone c n))
         (f c (less n))
   ]
@@ -88,7 +85,7 @@ module _ (net : Net) (cs : List Clone) (name : List ℕ) (old : ℕ) (there : ol
       less n = let many = length_push cs new_clone in grind (arith, many, l)
 
   living_forked : (living : CloneSet) (c : ℕ) → ((c : ℕ) → has living c ≡ nat_lt c (length cs))
-      → has (with living (length cs)) c ≡ nat_lt c (length (forked cs name old))
+      → has (with living (length cs)) c ≡ nat_lt c (length (clones_with_fork cs name old))
   living_forked living c f =
       has-with living (length cs) c ∙ ap (λ b. (length cs == c) || b) (f c) ∙ one_more c (length cs)
       ∙ ap (nat_lt c) (sym (length_push cs new_clone))
@@ -97,9 +94,9 @@ module _ (net : Net) (cs : List Clone) (name : List ℕ) (old : ℕ) (there : ol
       one_more c n = grind (arith, nat_tests)
 
   -- where the new clone is put beside the old one in all copies, the world stands for the clones with the fork
-  pub world_forked : (ended : List (ℕ × ℕ)) (front : ℕ) (procs news : List ProcView) → length cs < 256
+  pub world_forked : (ended : List (ℕ × ℕ)) (front : ℕ) (procs news : List ProcView) → length cs < MOST_CLONES
       → WorldStands net cs ended front procs → AllForked old (length cs) procs news
-      → WorldStands net (forked cs name old) ended front news
+      → WorldStands net (clones_with_fork cs name old) ended front news
   world_forked ended front procs news few world done = record {
     valid = world.valid;
     early = world.early;
@@ -110,7 +107,8 @@ module _ (net : Net) (cs : List Clone) (name : List ℕ) (old : ℕ) (there : ol
     each = each_forked;
   }
     where
-      each_forked : (i : ℕ) (q : ProcView) → slice_get news i ≡ Some q → StandsAt net (forked cs name old) front i q
+      each_forked : (i : ℕ) (q : ProcView) → slice_get news i ≡ Some q
+          → StandsAt net (clones_with_fork cs name old) front i q
       each_forked i q got =
           let l = (at_got news i q q got).0 in
           let p = there_at procs i q (let k = done.count in omega (arith, l, k)) in
@@ -122,9 +120,9 @@ module _ (net : Net) (cs : List Clone) (name : List ℕ) (old : ℕ) (there : ol
             living = λ c. ap (λ k. has k c) d.living ∙ living_forked (get_or procs i q).living c w.living;
             once = d.once ∙ w.once ∙ sym (handled-forked (simulation net) same_entry same_entry-Decides cs name old
                 (i + 1) front there open_end);
-            stands = stands_fork (simulation net) has cs old name front (i + 1)
-                (get_or procs i q).copies q.copies there open_end (d.stands net (ends_of (simulation net) cs) w.proc)
-                w.stands;
+            copies = stands_fork (simulation net) has cs old name front (i + 1)
+                (get_or procs i q).copies q.copies there open_end (d.copies net (ends_of (simulation net) cs) w.proc)
+                w.copies;
           }
 
 -- ---- a set
@@ -146,7 +144,8 @@ module _ (net : Net) (cs : List Clone) (who : ℕ) (plan : Planned) (there : who
   -- where the message of the set is given to the copies, the world stands for the clones with the set
   pub world_added : (ended : List (ℕ × ℕ)) (front : ℕ) (procs news : List ProcView) → 1 ≤ plan.station
       → plan.station ≤ length net.sites → front ≤ plan.at → WorldStands net cs ended front procs
-      → AllDelivered ((tells, one who) ∷ []) procs news → WorldStands net (added cs who plan) ended front news
+      → AllDelivered ((tells, one who) ∷ []) procs news → WorldStands net
+      (clones_with_plan cs who plan) ended front news
   world_added ended front procs news low high late world done = record {
     valid = world.valid;
     early = world.early;
@@ -163,7 +162,8 @@ module _ (net : Net) (cs : List Clone) (who : ℕ) (plan : Planned) (there : who
     each = each_added;
   }
     where
-      each_added : (i : ℕ) (q : ProcView) → slice_get news i ≡ Some q → StandsAt net (added cs who plan) front i q
+      each_added : (i : ℕ) (q : ProcView) → slice_get news i ≡ Some q
+          → StandsAt net (clones_with_plan cs who plan) front i q
       each_added i q got =
           let l = (at_got news i q q got).0 in
           let p = there_at procs i q (let k = done.count in omega (arith, l, k)) in
@@ -175,16 +175,16 @@ module _ (net : Net) (cs : List Clone) (who : ℕ) (plan : Planned) (there : who
             living = λ c. ap (λ k. has k c) d.living ∙ w.living c ∙ ap (nat_lt c) (sym (length-set cs who with_set));
             once = d.once ∙ w.once ∙ sym (handled-added (lawful-stations net world.valid) same_entry cs front
                 (i + 1) who plan there late);
-            stands = subst (Stands (simulation net) has (added cs who plan) front (i + 1)) (sym d.copies)
-                (by (plan.station == i + 1) refl (get_or procs i q).copies w.stands);
+            copies = subst (Stands (simulation net) has (clones_with_plan cs who plan) front (i + 1)) (sym d.copies)
+                (by (plan.station == i + 1) refl (get_or procs i q).copies w.copies);
           }
         where
           by : (b : Bool) → (plan.station == i + 1) ≡ b → (olds : List StationCopy)
               → Stands (simulation net) has cs front (i + 1) olds →
-              Stands (simulation net) has (added cs who plan) front (i + 1)
-              (given_all (cond b ((tells, one who) ∷ []) []) olds)
+              Stands (simulation net) has (clones_with_plan cs who plan) front (i + 1)
+              (with_mail (cond b ((tells, one who) ∷ []) []) olds)
           by true e olds st = stands_after_decision (lawful-stations net world.valid) has cs front
-              (i + 1) who plan tells (one who) olds (map (given tells (one who)) olds) there refl late
+              (i + 1) who plan tells (one who) olds (map (with_message tells (one who)) olds) there refl late
               (eqb-true plan.station (i + 1) e) for_it for_no_other
               (all_given net (ends_of (simulation net) cs) tells (one who) olds
               (all_from (λ (a : StationCopy). SortedMarked msg_cmp a.pending) olds st.sorted)) st
@@ -206,7 +206,7 @@ module _ (net : Net) (cs : List Clone) (who at : ℕ) (there : who < length cs)
   pub world_ended : (olds news : List (ℕ × ℕ)) (front : ℕ) (procs : List ProcView) → front ≤ at → at ≤ net.horizon →
       ((c : ℕ) → ends_in net.horizon news c ≡ cond (who == c) (min at (ends_in net.horizon olds c))
       (ends_in net.horizon olds c)) →
-      WorldStands net cs olds front procs → WorldStands net (ended cs who at) news front procs
+      WorldStands net cs olds front procs → WorldStands net (clones_with_end cs who at) news front procs
   world_ended olds news front procs late early ends world = record {
     valid = world.valid;
     early = world.early;
@@ -223,8 +223,8 @@ module _ (net : Net) (cs : List Clone) (who at : ℕ) (there : who < length cs)
       living = λ c. w.living c ∙ ap (nat_lt c) (sym (length-set cs who with_end));
       once = w.once ∙ sym (handled-ended (lawful-stations net world.valid) same_entry cs front
           (i + 1) who at there late within);
-      stands = stands_end (lawful-stations net world.valid) has cs front (i + 1) who there p.copies at late within
-          w.stands;
+      copies = stands_end (lawful-stations net world.valid) has cs front (i + 1) who there p.copies at late within
+          w.copies;
     };
   }
     where
@@ -234,7 +234,7 @@ module _ (net : Net) (cs : List Clone) (who at : ℕ) (there : who < length cs)
       was : (c : ℕ) → ends_in net.horizon olds c ≡ ends_of (simulation net) cs c
       was c = ap (λ f. f c) world.ends
 
-      ends_are : (c : ℕ) → ends_in net.horizon news c ≡ ends_of (simulation net) (ended cs who at) c
+      ends_are : (c : ℕ) → ends_in net.horizon news c ≡ ends_of (simulation net) (clones_with_end cs who at) c
       ends_are c = ends c ∙ ap (λ t. cond (who == c) (min at t) t) (was c)
           ∙ sym (set_cases (λ c k. end_of (simulation net) k ≡ cond (who == c)
           (min at (ends_of (simulation net) cs c)) (ends_of (simulation net) cs c)) cs who with_end there

@@ -1,17 +1,15 @@
 -- The jobs of a window and what they are answered by, place by place.
-use Rattle.std.proofs.Common.{◌≡◌, ℕ, zero, suc, ◌<◌, ◌∙◌, List, [], ◌∷◌, Some, ap, arith, get_or, length, map}
+use Rattle.std.proofs.Common.{◌≡◌, ℕ, zero, suc, ◌<◌, List, [], ◌∷◌, Some, ap, arith, get_or, length, map}
 use Rattle.std.proofs.Common.{refl, slice_get, subst, sym}
-use Rattle.std.specs.Prelude.{sum_by}
 use Rattle.std.proofs.lemmas.List.{length-map}
-use Rattle.std.proofs.lemmas.List.Sums.{sum_by-cons}
 use Rattle.net_model.specs.Net.{Net}
 use Rattle.phys_proc.specs.Own.{Marked}
 use Rattle.phys_proc.specs.Procs.{ProcView}
 use Rattle.world_core.specs.declared.flow.Flow.{Flow}
 use Rattle.crew_pool.specs.Tasks.{AnswersTo, EachAnswers, EachReady}
-use Rattle.world_core.specs.Jobs.{IsDone, IsJob, steps_of}
+use Rattle.world_core.specs.Jobs.{IsDone, IsJob}
 use Rattle.world_core.specs.Posts.{ArePosts, PostView}
-use Rattle.world_core.specs.Windows.{AllDelivered, AllFlow, AllNumbered, AreNumbered, all_handled}
+use Rattle.world_core.specs.Windows.{AllDelivered, AllFlow, AllNumbered, AreNumbered}
 use Rattle.world_core.specs.declared.jobs.Job.{Job}
 use Rattle.world_core.specs.declared.jobs.Job.TheVariants.{Step, Give}
 use Rattle.world_core.specs.declared.jobs.Done.{Done}
@@ -67,19 +65,6 @@ steps_answered net ends bound procs jobs flows dones is are h = all_flow net end
         subst (λ j. IsDone net ends bound i j (Stepped (get_or flows i flow))) (get_mapped (λ p. Step p) procs i p)
         (subst (λ o. IsDone net ends bound i (get_or (map (λ p. Step p) procs) i (Step p)) o)
         (get_mapped (λ f. Stepped f) flows i flow) (told i (Stepped flow) (omega (arith, l, m)) (Step p)))
-
--- and take as many steps as messages were handled
-pub steps_taken : (flows : List Flow) (dones : List Done) → map (λ f. Stepped f) flows ≡ dones
-    → sum_by steps_of dones ≡ all_handled flows
-steps_taken flows dones are = ap (sum_by steps_of) (sym are) ∙ sums flows
-  where
-    sums : (fs : List Flow) → sum_by steps_of (map (λ f. Stepped f) fs) ≡ all_handled fs
-    sums [] = refl
-    sums (f ∷ fs) =
-        let a = sum_by-cons steps_of (Stepped f) (map (λ f. Stepped f) fs) in
-        let b = sum_by-cons (λ (f : Flow). f.handled) f fs in
-        let c = sums fs in
-        omega (arith, a, b, c)
 
 -- answers to mail are copies that were given it
 pub mail_answered : (net : Net) (ends : ℕ → ℕ) (bound : ℕ) (sent : Marked) (procs : List ProcView)

@@ -14,8 +14,8 @@ use Rattle.phys_proc.specs.Procs.{ProcView}
 use Rattle.world_core.specs.declared.flow.Flow.{Flow}
 use Rattle.phys_proc.proofs.Gone.{ends_soon}
 use Rattle.world_core.specs.Worlds.{AreInNet, StandsAt, WorldStands, total_handled}
-use Rattle.world_core.specs.Windows.{MayStep, AllNumbered, AllFlow, AllDelivered, AreNumbered, NoneOver}
-use Rattle.world_core.specs.Windows.{done_at, all_sent, all_handled, after_window, given_all, sent_to}
+use Rattle.world_core.specs.Windows.{AllNumbered, AllFlow, AllDelivered, AreNumbered, NoneOver}
+use Rattle.world_core.specs.Windows.{done_at, all_sent, all_handled, after_window, with_mail, sent_to}
 use Rattle.world_core.specs.Overs.{IsFirstOver, IsFirstBeyond, NoneBeyond}
 use Rattle.world_core.proofs.Places.{at_got, got_map, map_got}
 use Rattle.world_core.proofs.AfterWindow.{proc_of, flow_of, few_handled, stand_after, total_grows, grown_at}
@@ -28,7 +28,7 @@ pub stands_for_reader : (net shown_net : Net) (cs shown : List Clone) (front i :
 stands_for_reader net shown_net cs shown front i p e f at =
     subst (λ n. Stands (simulation n) has shown front p.station p.copies) (sym e)
     (subst (λ ds. Stands (simulation net) has ds front p.station p.copies) (sym f)
-    (subst (λ s. Stands (simulation net) has cs front s p.copies) (sym at.number) at.stands))
+    (subst (λ s. Stands (simulation net) has cs front s p.copies) (sym at.number) at.copies))
 
 -- the stations of a world may step, each its own copies
 pub all_numbered : (net : Net) (cs : List Clone) (ended : List (ℕ × ℕ)) (front : ℕ) (procs : List ProcView)
@@ -53,10 +53,6 @@ module _ (net : Net) (cs : List Clone) (ended : List (ℕ × ℕ)) (front bound 
   early : bound ≤ net.horizon
   early = let h = window_end-within (simulation net) (least (simulation net) cs front) in omega (arith, within, h)
 
-  -- the stations may step to the bound
-  pub may_step : MayStep net bound
-  may_step = record { valid = world.valid; early = early }
-
   module _ (flows : List Flow) (count : length flows ≡ length procs)
       (stepped : AllFlow net (ends_in net.horizon ended) bound procs flows) where
     steps_of : AllFlow net (ends_of (simulation net) cs) bound procs flows
@@ -77,7 +73,7 @@ module _ (net : Net) (cs : List Clone) (ended : List (ℕ × ℕ)) (front bound 
     pub few_are : total_handled net cs front + all_handled flows ≤ length net.sites * (length cs * net.limit)
     few_are = few_handled net world.valid cs front bound procs flows world.count many soon within world.each steps_of
 
-    -- what came of the stations stands in the order of their numbers
+    -- the stations as their tasks answer them are in the order of their numbers
     pub done_numbered : AreNumbered (map (λ (f : Flow). f.done) flows)
     done_numbered = λ i p got.
         let f = got_map (λ (f : Flow). f.done) flows i p got in
@@ -126,7 +122,7 @@ module _ (net : Net) (cs : List Clone) (ended : List (ℕ × ℕ)) (front bound 
               let w = world.each i p.0 p.1 in
               let e : done_at flows i ≡ f.0.done.copies =
               ap (λ o. unwrap_or (option_map (λ (f : Flow). f.done.copies) o) []) f.1 in
-              let c : after_window flows i ≡ q.copies = ap (given_all (sent_to i (all_sent flows))) e ∙ sym d.copies in
+              let c : after_window flows i ≡ q.copies = ap (with_mail (sent_to i (all_sent flows))) e ∙ sym d.copies in
               record {
                 proc = d.proc net s.proc;
                 number = d.station ∙ s.number;
@@ -134,7 +130,7 @@ module _ (net : Net) (cs : List Clone) (ended : List (ℕ × ℕ)) (front bound 
                 once = d.once ∙ s.once (none i f.0 f.1) ∙ ap (λ n. n + f.0.handled) w.once
                     ∙ sym (grown_at net world.valid cs front bound procs flows world.count many soon within world.each
                     steps_of world.for_stations none i l f.0 f.1);
-                stands = subst (Stands (simulation net) has cs bound (i + 1)) c
+                copies = subst (Stands (simulation net) has cs bound (i + 1)) c
                     (stand_after net world.valid cs front bound procs flows world.count many soon within world.each
                     steps_of world.for_stations none i l);
               }

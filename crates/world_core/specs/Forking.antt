@@ -9,7 +9,7 @@ use Rattle.phys_proc.specs.Procs.{ProcView, IsProc}
 
 -- the new clone stands beside the old one at this station, and nothing else is new
 pub record HasForked (old new : ℕ) (p q : ProcView) : Type 0 where
-  pub stands : (net : Net) (ends : ℕ → ℕ) → IsProc net p
+  pub copies : (net : Net) (ends : ℕ → ℕ) → IsProc net p
       → AllZip (IsForked (simulation net) has ends old new) p.copies q.copies
   pub proc : (net : Net) → IsProc net p → IsProc net q
   pub station : q.station ≡ p.station

@@ -9,7 +9,7 @@ use Rattle.world_core.specs.Windows.{IsNumbered}
 
 -- the copies at place i are one, as the station opens for the first clone, and it has handled nothing
 pub record IsFirstProc (net : Net) (i : ℕ) (p : ProcView) : Type 0 where
-  pub numbered : IsNumbered net i p
+  pub station : IsNumbered net i p
   pub copies : p.copies ≡ first_copy (simulation net) (one 0) (i + 1) ∷ []
   pub living : p.living ≡ one 0
   pub once : p.handled ≡ 0

@@ -1,4 +1,4 @@
--- What the stations of a window come to, whoever steps them.
+-- The result of a window at its stations, whoever steps them.
 use Rattle.std.specs.Prelude.{◌≡◌, ◌≢◌, ℕ, ◌+◌, ◌<◌, ◌≤◌, ◌++◌, List, length, map, slice_get, Option, Some, None}
 use Rattle.clone_sets.specs.declared.set.CloneSet.{CloneSet}
 use Rattle.net_model.specs.Net.{Net}
@@ -31,8 +31,8 @@ pub record SteppedTo (net : Net) (ends : ℕ → ℕ) (bound n : ℕ) (olds news
     (over : Option (ℕ × ℕ)) (steps0 steps : ℕ) : Type 0 where
   pub flows : List Flow
   pub count : length flows ≡ n
-  pub stepped : AllFlow net ends bound olds flows
-  pub done : (i : ℕ) → i < n → slice_get news i ≡ slice_get (map (λ f. f.done) flows) i
+  pub each : AllFlow net ends bound olds flows
+  pub procs : (i : ℕ) → i < n → slice_get news i ≡ slice_get (map (λ f. f.done) flows) i
   pub others : (i : ℕ) → n ≤ i → slice_get news i ≡ slice_get olds i
   pub long : length news ≡ length olds
   pub sent_is : sent ≡ all_sent flows
@@ -44,8 +44,8 @@ pub record AllStepped (net : Net) (ends : ℕ → ℕ) (bound : ℕ) (olds news 
     (over : Option (ℕ × ℕ)) (steps0 steps : ℕ) : Type 0 where
   pub flows : List Flow
   pub count : length flows ≡ length olds
-  pub stepped : AllFlow net ends bound olds flows
-  pub done : news ≡ map (λ f. f.done) flows
+  pub each : AllFlow net ends bound olds flows
+  pub procs : news ≡ map (λ f. f.done) flows
   pub sent_is : sent ≡ all_sent flows
   pub first : FirstOver flows over
   pub steps_are : steps ≡ steps0 + all_handled flows

@@ -7,14 +7,14 @@ use Rattle.net_model.specs.Net.{Net}
 use Rattle.net_model.specs.Rules.{IsNet}
 use Rattle.stations.specs.Runs.{simulation}
 use Rattle.run_laws.specs.Copies.{IsStepped, AreOver, GainTogether}
-use Rattle.phys_proc.specs.Own.{StationCopy, Marked, given}
+use Rattle.phys_proc.specs.Own.{StationCopy, Marked, with_message}
 use Rattle.phys_proc.specs.Procs.{ProcView, IsProc}
 use Rattle.world_core.specs.declared.flow.Flow.{Flow}
 
 -- what the tasks of a window share: the network, when clones end, and how far the window goes
 pub record WindowView : Type 0 where
   pub net : Net
-  pub ended : List (ℕ × ℕ)
+  pub ends : List (ℕ × ℕ)
   pub bound : ℕ
 
 -- stations of a network may step to the bound
@@ -37,7 +37,7 @@ pub record IsFlow (net : Net) (ends : ℕ → ℕ) (bound i : ℕ) (old : ProcVi
   pub windows : flow.over ≡ empty
       → IsStepped (simulation net) has ends (i + 1) bound old.copies flow.done.copies flow.sent.items
   pub over : AreOver (simulation net) has ends (i + 1) bound old.copies flow.over
-  pub gained : GainTogether (simulation net) has ends (i + 1) bound old.copies flow.handled
+  pub gain : GainTogether (simulation net) has ends (i + 1) bound old.copies flow.handled
   pub proc : IsProc net flow.done
   pub number : flow.done.station ≡ i + 1
   pub living : flow.over ≡ empty → flow.done.living ≡ old.living
@@ -61,11 +61,11 @@ abbrev pub sent_to : ℕ → Marked → Marked
 sent_to i ms = filter (λ x. x.0.to == i + 1) ms
 
 -- messages given to copies, one after the other
-abbrev pub given_all : Marked → List StationCopy → List StationCopy
-given_all [] xs = xs
-given_all (x ∷ ms) xs = given_all ms (map (given x.0 x.1) xs)
+abbrev pub with_mail : Marked → List StationCopy → List StationCopy
+with_mail [] xs = xs
+with_mail (x ∷ ms) xs = with_mail ms (map (with_message x.0 x.1) xs)
 
--- what came of the copies at place i
+-- the copies at place i, as its task answers them
 abbrev pub done_at : List Flow → ℕ → List StationCopy
 done_at flows i = unwrap_or (option_map (λ f. f.done.copies) (slice_get flows i)) []
 
@@ -75,7 +75,7 @@ sent_at flows i = unwrap_or (option_map (λ f. f.sent.items) (slice_get flows i)
 
 -- the copies at place i after the window
 abbrev pub after_window : List Flow → ℕ → List StationCopy
-after_window flows i = given_all (sent_to i (all_sent flows)) (done_at flows i)
+after_window flows i = with_mail (sent_to i (all_sent flows)) (done_at flows i)
 
 -- no clone went over the limit
 abbrev pub NoneOver : List Flow → Type 0
@@ -87,7 +87,7 @@ AreNumbered procs = (i : ℕ) (p : ProcView) → slice_get procs i ≡ Some p �
 
 -- messages were given to the copies of one station, and nothing else is new
 pub record IsDeliveredTo (msgs : Marked) (old new : ProcView) : Type 0 where
-  pub copies : new.copies ≡ given_all msgs old.copies
+  pub copies : new.copies ≡ with_mail msgs old.copies
   pub station : new.station ≡ old.station
   pub living : new.living ≡ old.living
   pub once : new.handled ≡ old.handled

@@ -1,6 +1,7 @@
 -- A world: all clones at a front, and what its stations keep of them.
 use Rattle.std.specs.Prelude.{◌≡◌, ℕ, ◌+◌, ◌<◌, ◌≤◌, List, [], length, option_map, slice_get, unwrap_or, nat_lt, Some}
 use Rattle.sim_base.specs.Clones.{Clone, clone_at}
+use Rattle.sim_base.specs.declared.lists.TheConstants.{MOST_CLONES}
 use Rattle.clone_sets.specs.Sets.{has}
 use Rattle.net_model.specs.Net.{Net}
 use Rattle.net_model.specs.Rules.{IsNet}
@@ -30,7 +31,7 @@ pub record StandsAt (net : Net) (cs : List Clone) (front i : ℕ) (p : ProcView)
   pub number : p.station ≡ i + 1
   pub living : (c : ℕ) → has p.living c ≡ nat_lt c (length cs)
   pub once : p.handled ≡ handled net cs (i + 1) front
-  pub stands : Stands (simulation net) has cs front (i + 1) p.copies
+  pub copies : Stands (simulation net) has cs front (i + 1) p.copies
 
 -- what a world keeps: the copies of every station stand for the clones at the front
 pub record WorldStands (net : Net) (cs : List Clone) (ended : List (ℕ × ℕ)) (front : ℕ) (procs : List ProcView) :
@@ -38,7 +39,7 @@ pub record WorldStands (net : Net) (cs : List Clone) (ended : List (ℕ × ℕ))
   pub valid : IsNet net
   pub early : front ≤ net.horizon
   pub count : length procs ≡ length net.sites
-  pub few : length cs ≤ 256
+  pub few : length cs ≤ MOST_CLONES
   pub ends : ends_in net.horizon ended ≡ ends_of (simulation net) cs
   pub for_stations : (c : ℕ) → c < length cs → AreForStations (simulation net) (clone_at cs c).plans
   pub each : (i : ℕ) (p : ProcView) → slice_get procs i ≡ Some p → StandsAt net cs front i p

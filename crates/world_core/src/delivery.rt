@@ -1,4 +1,4 @@
-//! After a window each station gets what the others sent to it.
+//! After a window each station (a logical process) gets the messages that the others sent to it.
 ghost use Rattle.std.specs.Prelude.{◌≡◌, ◌∷◌, [], ◌<◌, ◌≤◌, length, IfOk, OnOk};
 ghost use Rattle.world_core.specs.Windows.{AllDelivered, AreNumbered, MayStep};
 

@@ -1,4 +1,5 @@
-//! What a station's step in a window gives.
+//! The result of a station's step to the window boundary: its copies there, what they sent, and how many event
+//! executions (messages handled) that took.
 use crate::timed_proc::TimedProc;
 use clone_sets::CloneSet;
 use sim_base::Msg;

@@ -1,4 +1,5 @@
-//! What the workers of a window are asked for: to step the copies of a station, and then to give them their mail.
+//! What the workers of a window are asked for: to step the copies (physical processes) of a station (a logical
+//! process), and then to give them their mail.
 ghost use Rattle.std.specs.Prelude.{◌≡◌, map, IfOk, OnOk, ◌++◌, ◌∷◌, []};
 ghost use Rattle.world_core.specs.declared.jobs.Job.TheVariants.{Step as Step', Give as Give'};
 ghost use Rattle.world_core.specs.declared.jobs.Done.TheVariants.{Stepped as Stepped', Given as Given'};

@@ -1,22 +1,24 @@
-//! What a world tells: due times, the next front and figures.
+//! What a world tells: due times, the next front (window boundary) and the report's figures.
 ghost use Rattle.std.specs.Prelude.{◌≡◌, ℕ, ◌*◌, ◌<◌, ◌≤◌, length, sum_by};
 ghost use Rattle.std.specs.List.{AllByRecursion};
 ghost use Rattle.sim_base.specs.Clones.{clone_at};
+ghost use Rattle.sim_base.specs.declared.lists.TheConstants.{MOST_CLONES};
 ghost use Rattle.clone_sets.specs.Sets.{size};
 ghost use Rattle.net_model.specs.Net.{Net};
+ghost use Rattle.net_model.specs.declared.limits.TheConstants.{MOST_LIMIT};
 ghost use Rattle.stations.specs.Runs.{simulation, next_front, copies, handled, alone};
 ghost use Rattle.run_laws.specs.Fronts.{least_of, least};
 ghost use Rattle.phys_proc.specs.Own.{IsCopy, handled_alone, all_sizes};
 
-use crate::timed_proc::earlier;
 use crate::world::World;
 use phys_proc::PhysCopy;
 use sim_base::Figures;
+use stations::due::earlier;
 
 // How many messages the clones of these copies would have handled each by itself.
 fn alone_in(copies: &[PhysCopy]) -> u64
-    requires short { AllByRecursion (λ a. length a.log ≤ 65536) copies.now }
-    requires few { all_sizes copies.now ≤ 256 }
+    requires short { AllByRecursion (λ a. length a.log ≤ MOST_LIMIT) copies.now }
+    requires few { all_sizes copies.now ≤ MOST_CLONES }
     ensures value { result ≡ handled_alone copies.now }
 {
     let mut sum = 0;

@@ -1,5 +1,6 @@
-//! After a window each station's copies get what the others sent to them, by the worker that owns them. The caller
-//! only sorts the messages by station, so that the lists of a station's copies are not moved between processors.
+//! After a window each station's copies (physical processes) get what the others sent to them, by the worker that owns
+//! them. The caller only sorts the messages by station, so that the lists of a station's copies are not moved between
+//! processors.
 ghost use Rattle.std.specs.Prelude.{◌≡◌, ◌≤◌, ◌++◌, ◌∷◌, [], List, length, map, IfOk, OnOk};
 ghost use Rattle.phys_proc.specs.Own.{Marked};
 ghost use Rattle.phys_proc.specs.Procs.{ProcView};

@@ -1,4 +1,4 @@
-//! What a world shows to readers.
+//! What a world shows to readers: the copies (physical processes) of a station at the front (window boundary).
 ghost use Rattle.std.specs.Prelude.{◌≡◌, ◌≤◌, length, IfOk};
 
 use crate::world::World;

@@ -1,5 +1,6 @@
-//! When clones end, which the workers that stay from window to window share.
+//! When clones end (their stop times), which the workers that stay from window to window share.
 ghost use Rattle.std.specs.Prelude.{◌≡◌, ℕ, ◌<◌, ◌==◌, ◌∷◌, ◌++◌, [], min, if◌then◌else◌, IfOk, OnOk, OnErr};
+ghost use Rattle.sim_base.specs.declared.lists.TheConstants.{MOST_CLONES};
 ghost use Rattle.phys_proc.specs.Gone.{AreClones, ends_in};
 
 use phys_proc::CloneEnds;
@@ -53,7 +54,7 @@ impl SharedEnds {
     ///
     /// Out of memory leaves all unchanged.
     pub fn end(&mut self, alloc: Global, clone: u32, at: u64) -> Result<(), NoMemory>
-        requires clone { clone < 256 }
+        requires clone { clone < MOST_CLONES }
         ensures ended { OnOk result (self.new ≡ self.old ++ (clone, at) ∷ []) }
         ensures ends { OnOk result ((horizon c : ℕ) → ends_in horizon self.new c ≡
             (if clone == c then min at (ends_in horizon self.old c) else ends_in horizon self.old c)) }

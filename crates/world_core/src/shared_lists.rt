@@ -1,6 +1,6 @@
-//! The clones' lists, of which readers are shown a copy.
+//! The lists of the clones' decisions, of which readers are shown a copy.
 ghost use Rattle.std.specs.Prelude.{◌≡◌, ◌∷◌, [], ◌+◌, ◌^◌, ◌<◌, length, IfOk, OnOk, None};
-ghost use Rattle.sim_base.specs.Clones.{added, base, clone_at, ended, forked, place_of};
+ghost use Rattle.sim_base.specs.Clones.{clones_with_plan, base, clone_at, clones_with_end, clones_with_fork, place_of};
 
 use sim_base::{Lists, Name, NoMemory, Planned};
 use std::alloc::Global;
@@ -46,7 +46,7 @@ impl SharedLists {
     pub fn end(&mut self, c: u32, at: u64)
         requires there { c < length self.old.clones }
         requires once { (clone_at self.old.clones c).end ≡ None }
-        ensures clones { self.new.clones ≡ ended self.old.clones c at }
+        ensures clones { self.new.clones ≡ clones_with_end self.old.clones c at }
     {
         self.shown = None;
         self.lists.end(c, at);
@@ -55,7 +55,7 @@ impl SharedLists {
     /// Adds a decision to a clone's list.
     pub fn add(&mut self, c: u32, plan: Planned) -> Result<(), NoMemory>
         requires there { c < length self.old.clones }
-        ensures clones { OnOk result (self.new.clones ≡ added self.old.clones c plan) }
+        ensures clones { OnOk result (self.new.clones ≡ clones_with_plan self.old.clones c plan) }
     {
         self.shown = None;
         self.lists.add(c, plan)
@@ -66,7 +66,7 @@ impl SharedLists {
         requires there { old < length self.old.clones }
         requires unused { place_of new self.old.clones ≡ None }
         requires few { length self.old.clones + 1 < 2 ^ 32 }
-        ensures clones { OnOk result (self.new.clones ≡ forked self.old.clones new old) }
+        ensures clones { OnOk result (self.new.clones ≡ clones_with_fork self.old.clones new old) }
     {
         self.shown = None;
         self.lists.fork(alloc, new, old)

@@ -1,6 +1,7 @@
-//! Decisions that a world takes: forks, sets and ends, at its front.
+//! Decisions that a world takes: forks, sets and ends, at its front (window boundary).
 ghost use Rattle.std.specs.Prelude.{◌≡◌, ℕ, ◌+◌, ◌<◌, ◌≤◌, None, length, IfOk, slice_get, Some};
-ghost use Rattle.sim_base.specs.Clones.{clone_at, place_of, forked, added, ended};
+ghost use Rattle.sim_base.specs.Clones.{clone_at, place_of, clones_with_fork, clones_with_plan, clones_with_end};
+ghost use Rattle.sim_base.specs.declared.lists.TheConstants.{MOST_CLONES};
 ghost use Rattle.stations.specs.Runs.{set_message};
 ghost use Rattle.decision_book.specs.Journal.{clones_after};
 ghost use Rattle.world_core.specs.Taking.{IsAccepted, AreAccepted, clones_after_calls};
@@ -33,7 +34,7 @@ fn message_of(k: usize, plan: &Planned) -> Msg
 fn fork_all(procs: &mut Vec<TimedProc>, old: u32, new: u32)
     requires old { LivesAtAll old procs.old.items }
     requires new { LivesNowhere new procs.old.items }
-    requires below { new < 256 }
+    requires below { new < MOST_CLONES }
     ensures forked { AllForked old new procs.old.items procs.new.items }
 {
     for i in 0..procs.len() {
@@ -104,10 +105,10 @@ impl World {
         requires there { old < length self.clones }
         requires open { (clone_at self.clones old).end ≡ None }
         requires unused { place_of new self.clones ≡ None }
-        requires few { length self.clones < 256 }
+        requires few { length self.clones < MOST_CLONES }
         ensures net { IfOk result (λ w. w.net ≡ self.net) }
         ensures front { IfOk result (λ w. w.front ≡ self.front) }
-        ensures clones { IfOk result (λ w. w.clones ≡ forked self.clones new old) }
+        ensures clones { IfOk result (λ w. w.clones ≡ clones_with_fork self.clones new old) }
     {
         let World {
             model,
@@ -142,7 +143,7 @@ impl World {
         requires late { self.front ≤ plan.at }
         ensures net { IfOk result (λ w. w.net ≡ self.net) }
         ensures front { IfOk result (λ w. w.front ≡ self.front) }
-        ensures clones { IfOk result (λ w. w.clones ≡ added self.clones who plan) }
+        ensures clones { IfOk result (λ w. w.clones ≡ clones_with_plan self.clones who plan) }
     {
         let World {
             model,
@@ -177,7 +178,7 @@ impl World {
         requires early { at ≤ self.net.horizon }
         ensures net { IfOk result (λ w. w.net ≡ self.net) }
         ensures front { IfOk result (λ w. w.front ≡ self.front) }
-        ensures clones { IfOk result (λ w. w.clones ≡ ended self.clones who at) }
+        ensures clones { IfOk result (λ w. w.clones ≡ clones_with_end self.clones who at) }
     {
         let World {
             model,

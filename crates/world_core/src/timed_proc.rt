@@ -1,21 +1,23 @@
-//! The copies of a station, beside a time that nothing of them is pending before.
+//! The copies (physical processes) of a station (a logical process), beside a time that nothing in their future event
+//! lists is before.
 ghost use Rattle.std.specs.Prelude.{◌≡◌, ℕ, ◌<◌, ◌≤◌, ◌+◌, [], true, false, IfOk, OnOk, IsTrue, map, length};
 ghost use Rattle.std.specs.List.{AllZip};
+ghost use Rattle.sim_base.specs.declared.lists.TheConstants.{MOST_CLONES};
 ghost use Rattle.clone_sets.specs.Sets.{has, with, empty};
 ghost use Rattle.net_model.specs.Net.{Net};
 ghost use Rattle.stations.specs.Runs.{simulation};
-ghost use Rattle.run_laws.specs.Fronts.{earlier as earlier'};
 ghost use Rattle.run_laws.specs.Copies.{IsForked, IsStepped, AreOver, GainTogether, Stands};
-ghost use Rattle.phys_proc.specs.Own.{given, AreLate};
+ghost use Rattle.phys_proc.specs.Own.{with_message, AreLate};
 ghost use Rattle.phys_proc.specs.Gone.{ends_in};
 ghost use Rattle.phys_proc.specs.Procs.{IsProc, IsLeastOf, AreShared};
-ghost use Rattle.phys_proc.specs.Racks.{seen};
+ghost use Rattle.phys_proc.specs.Racks.{view_of_copy};
 ghost use Rattle.world_core.specs.Due.{IsWithLeast};
 
 use clone_sets::CloneSet;
 use net_model::Model;
 use phys_proc::{CloneEnds, Gain, PhysCopy, Proc, Rack};
 use sim_base::{Lists, Msg, NoMemory, Steps};
+use stations::due::earlier;
 use std::alloc::Global;
 use std::mem;
 use std::sync::Arc;
@@ -42,19 +44,6 @@ impl std::marker::Model for TimedProc {
     ghost view = { λ t. t.proc.value };
 
     ghost invariant = { λ t. AreLate t.least t.proc.value.copies };
-}
-
-/// The lesser of two times, where there is one.
-pub(crate) fn earlier(a: Option<u64>, b: Option<u64>) -> Option<u64>
-    ensures value { result ≡ earlier' a b }
-{
-    match a {
-        Some(first) => match b {
-            Some(second) => Some(first.min(second)),
-            None => Some(first),
-        },
-        None => b,
-    }
 }
 
 impl TimedProc {
@@ -146,7 +135,7 @@ impl TimedProc {
     /// The least time at which something is due to the clone, below its end; None exactly where nothing is.
     pub fn least_of(&self, model: &Model, ends: &CloneEnds, c: u32) -> Option<u64>
         requires proc { IsProc model.now self.now }
-        requires clone { c < 256 }
+        requires clone { c < MOST_CLONES }
         ensures least { IsLeastOf (ends_in model.now.horizon ends.now) self.now.copies c result }
     {
         self.proc.least_of(model, ends, c)
@@ -157,7 +146,7 @@ impl TimedProc {
     /// Out of memory, some of the copies may have it; nothing else of them has changed.
     pub fn deliver(&mut self, msg: Msg, set: CloneSet) -> Result<(), NoMemory>
         requires target { msg.to ≡ self.old.station }
-        ensures given { OnOk result (self.new.copies ≡ map (given msg set) self.old.copies) }
+        ensures given { OnOk result (self.new.copies ≡ map (with_message msg set) self.old.copies) }
         ensures proc { OnOk result ((net : Net) → IsProc net self.old → IsProc net self.new) }
         ensures station { self.new.station ≡ self.old.station }
         ensures living { self.new.living ≡ self.old.living }
@@ -175,8 +164,8 @@ impl TimedProc {
     pub fn fork(&mut self, old: u32, new: u32)
         requires old { has self.old.living old ≡ true }
         requires new { has self.old.living new ≡ false }
-        requires below { new < 256 }
-        ensures stands { (net : Net) (ends : ℕ → ℕ) → IsProc net self.old →
+        requires below { new < MOST_CLONES }
+        ensures copies { (net : Net) (ends : ℕ → ℕ) → IsProc net self.old →
             AllZip (IsForked (simulation net) has ends old new) self.old.copies self.new.copies }
         ensures proc { (net : Net) → IsProc net self.old → IsProc net self.new }
         ensures station { self.new.station ≡ self.old.station }
@@ -196,16 +185,16 @@ impl TimedProc {
         lists: Arc<Lists>,
         front: u64,
     ) -> Result<Rack, NoMemory>
-        requires stands { Stands (simulation model.value) has lists.value.clones front self.old.station
+        requires copies { Stands (simulation model.value) has lists.value.clones front self.old.station
             self.old.copies }
-        requires few { length lists.value.clones ≤ 256 }
+        requires few { length lists.value.clones ≤ MOST_CLONES }
         requires early { front ≤ model.value.horizon }
         ensures rack { IfOk result (λ r. r ≡ record {
           net = model.value;
           clones = lists.value.clones;
           station = self.old.station;
           front = front;
-          copies = map seen self.old.copies;
+          copies = map view_of_copy self.old.copies;
         }) }
         ensures same { self.new ≡ self.old }
     {

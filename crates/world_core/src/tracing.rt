@@ -1,7 +1,8 @@
-//! The trace of a clone, out of the logs of the copies that stand for it.
+//! The trace of a clone, out of the logs of the copies (physical processes) that stand for it.
 ghost use Rattle.std.specs.Prelude.{◌≡◌, ◌<◌, ◌≤◌, ◌+◌, length, IfOk, IfSome, IfNone, true, false};
 ghost use Rattle.std.specs.List.{AllByRecursion};
 ghost use Rattle.sim_base.specs.Clones.{clone_at};
+ghost use Rattle.sim_base.specs.declared.lists.TheConstants.{MOST_CLONES};
 ghost use Rattle.clone_sets.specs.Sets.{has};
 ghost use Rattle.stations.specs.Runs.{simulation};
 ghost use Rattle.run_laws.specs.Merges.{merge};
@@ -57,7 +58,7 @@ fn merged(alloc: Global, xs: &[Entry], ys: &[Entry]) -> Result<Vec<Entry>, NoMem
 
 // The log of the copy that stands for clone c.
 fn log_of(copies: &[PhysCopy], c: u32) -> Option<&Log>
-    requires below { c < 256 }
+    requires below { c < MOST_CLONES }
     ensures some { IfSome result (λ log. HasLog copies.now c log.now) }
     ensures none { IfNone result (AllByRecursion (λ a. has a.set c ≡ false) copies.now) }
 {

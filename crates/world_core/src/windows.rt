@@ -1,5 +1,6 @@
-//! The tasks of a window: each station steps its own copies. Where little is due, they run in the caller's thread, else
-//! on the workers of a team that stay between windows, or on those of a crew.
+//! The tasks of a window: each station (a logical process) steps its own copies (physical processes). Where little is
+//! due, they run in the caller's thread, else on the workers of a team that stay between windows, or on those of a
+//! crew.
 ghost use Rattle.std.specs.Prelude.{◌≡◌, ℕ, ◌+◌, ◌<◌, ◌≤◌, ◌++◌, ◌∷◌, []};
 ghost use Rattle.std.specs.Prelude.{Some, None, List, length, map, slice_get, IfOk, OnOk, IfSome};
 ghost use Rattle.clone_sets.specs.declared.set.CloneSet.{CloneSet as CloneSet'};
@@ -39,7 +40,7 @@ impl std::marker::Model for Window {
 
     ghost Value = { WindowView };
 
-    ghost view = { λ w. record { net = w.model.value; ended = w.ends.value; bound = w.bound } };
+    ghost view = { λ w. record { net = w.model.value; ends = w.ends.value; bound = w.bound } };
 
     ghost invariant = { λ w. MayStep w.model.value w.bound };
 }
@@ -48,7 +49,7 @@ impl Window {
     /// The window to this bound, which shares the model and the ends.
     pub(crate) fn new(model: &Arc<Model>, ends: &SharedEnds, bound: u64) -> Result<Window, NoMemory>
         requires step { MayStep model.now.value bound }
-        ensures value { IfOk result (λ w. w ≡ record { net = model.now.value; ended = ends.now; bound = bound }) }
+        ensures value { IfOk result (λ w. w ≡ record { net = model.now.value; ends = ends.now; bound = bound }) }
     {
         Ok(Window {
             model: shared(model)?,
@@ -66,7 +67,7 @@ impl Window {
         steps: &mut Steps<L>,
     ) -> Result<Flow, NoMemory>
         requires numbered { IsNumbered self.now.net _i proc }
-        ensures flow { IfOk result (λ flow. IsFlow self.now.net (ends_in self.now.net.horizon self.now.ended)
+        ensures flow { IfOk result (λ flow. IsFlow self.now.net (ends_in self.now.net.horizon self.now.ends)
             self.now.bound _i proc flow) }
         ensures steps { IfOk result (λ flow. steps.new ≡ steps.old + flow.handled) }
     {
@@ -92,7 +93,7 @@ impl Work for Window {
 
     ghost ready = { λ w i job. IsJob w.net i job };
 
-    ghost answers = { λ w i job done. IsDone w.net (ends_in w.net.horizon w.ended) w.bound i job done };
+    ghost answers = { λ w i job done. IsDone w.net (ends_in w.net.horizon w.ends) w.bound i job done };
 
     ghost cost = { λ done. steps_of done };
 
@@ -127,7 +128,7 @@ impl Work for Window {
     }
 }
 
-/// What a window has come to: the copies of all stations, what they sent to others, and the first station with a
+/// The result of a window: the copies of all stations, what they sent to others, and the first station with a
 /// clone over the limit beside the first such clone there.
 #[derive(Drop)]
 pub(crate) struct Stepped {
@@ -196,7 +197,7 @@ fn step_place<L: Ledger>(
     requires place { i < length procs.old.items }
     requires few { i < 64 }
     requires numbered { (p : ProcView) → slice_get procs.old.items i ≡ Some p → IsNumbered work.now.net i p }
-    ensures stepped { IfOk result (λ gain. SteppedAt work.now.net (ends_in work.now.net.horizon work.now.ended)
+    ensures stepped { IfOk result (λ gain. SteppedAt work.now.net (ends_in work.now.net.horizon work.now.ends)
         work.now.bound i procs.old.items procs.new.items outbox.old.all.items outbox.new.all.items gain.over
         gain.handled) }
     ensures steps { IfOk result (λ gain. steps.new ≡ steps.old + gain.handled) }
@@ -226,7 +227,7 @@ fn step_in_place<G: Gate, L: Ledger, R: Wait>(
 ) -> Result<Stepped, NoMemory>
     requires few { length olds.items ≤ 64 }
     requires numbered { AllNumbered work.now.net olds.items }
-    ensures stepped { IfOk result (λ s. AllStepped work.now.net (ends_in work.now.net.horizon work.now.ended)
+    ensures stepped { IfOk result (λ s. AllStepped work.now.net (ends_in work.now.net.horizon work.now.ends)
         work.now.bound olds.items s.procs.items s.outbox.all.items s.over steps.old steps.new) }
     ensures few { IfOk result (λ s. IfSome s.over (λ p. p.0 < 64)) }
 {
@@ -300,7 +301,7 @@ fn first_over(flows: &[Flow]) -> Option<(u32, u32)>
     None
 }
 
-// What the answers of all tasks come to.
+// The result of a window, out of the answers of all tasks.
 fn gathered(alloc: Global, flows: Vec<Flow>, outbox: Outbox) -> Result<Stepped, NoMemory>
     requires few { length flows.items ≤ 64 }
     ensures procs { IfOk result (λ s. s.procs.items ≡ map (λ f. f.done) flows.items) }
@@ -335,7 +336,7 @@ fn answers_of<C: Crew, G: Gate, L: Ledger, R: Threads + Wait + Sync>(
     requires few { length procs.items ≤ 64 }
     requires numbered { AllNumbered work.net procs.items }
     ensures count { IfOk result (λ r. length r.0.items ≡ length procs.items) }
-    ensures flows { IfOk result (λ r. AllFlow work.net (ends_in work.net.horizon work.ended) work.bound procs.items
+    ensures flows { IfOk result (λ r. AllFlow work.net (ends_in work.net.horizon work.ends) work.bound procs.items
         r.0.items) }
     ensures cost { IfOk result (λ r. steps.new ≡ steps.old + all_handled r.0.items) }
 {

@@ -1,6 +1,8 @@
-//! The world of all clones, its windows, and the team that steps the larger ones.
+//! The world of all clones, its time windows, none longer than the lookahead allows, and the team that steps the larger
+//! ones.
 ghost use Rattle.std.specs.Prelude.{◌≡◌, ℕ, ◌+◌, ◌<◌, ◌≤◌, ◌∷◌, [], length, IfOk, IfErr};
 ghost use Rattle.sim_base.specs.Clones.{base};
+ghost use Rattle.sim_base.specs.declared.lists.TheConstants.{MOST_CLONES};
 ghost use Rattle.net_model.specs.Rules.{IsNet};
 ghost use Rattle.stations.specs.Runs.{next_front};
 ghost use Rattle.world_core.specs.Worlds.{AreInNet, total_handled};
@@ -156,7 +158,7 @@ impl World {
     /// The clones with their decisions and ends.
     pub fn lists(&self) -> &Lists
         ensures clones { result.now.clones ≡ self.now.clones }
-        ensures few { length self.now.clones ≤ 256 }
+        ensures few { length self.now.clones ≤ MOST_CLONES }
         ensures in_net { AreInNet self.now.net self.now.clones }
         ensures short { NoneBeyond self.now.net self.now.clones self.now.front }
     {
@@ -182,8 +184,8 @@ impl World {
         ensures net { IfOk result (λ w. w.net ≡ self.net) }
         ensures clones { IfOk result (λ w. w.clones ≡ self.clones) }
         ensures front { IfOk result (λ w. w.front ≡ bound) }
-        ensures steps { IfOk result (λ w.
-            steps.new + total_handled self.net self.clones self.front ≡ steps.old + total_handled self.net self.clones bound) }
+        ensures steps { IfOk result (λ w. steps.new + total_handled self.net self.clones self.front
+            ≡ steps.old + total_handled self.net self.clones bound) }
         ensures short { IfOk result (λ w. NoneBeyond self.net self.clones bound) }
         ensures fault { IfErr result (λ e. IsFault self.net self.clones self.front bound steps.old steps.new e) }
     {

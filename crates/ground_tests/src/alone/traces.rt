@@ -1,6 +1,7 @@
 //! The traces that the worked examples come to, as in `specs/Examples` of the crate `stations`.
 
-use sim_base::{Change, Entry, Job, Key, Line, Msg, Param, Payload};
+use crate::counts::{change, passed, server, sink, source};
+use sim_base::{Entry, Job, Key, Line, Msg, Param, Payload};
 
 fn at(time: u64, to: u32, sender: u32, number: u64, payload: Payload, line: Line) -> Entry {
     let key = Key {
@@ -32,31 +33,6 @@ fn done(source: u32, count: u64, born: u64) -> Payload {
         count,
         born,
     })
-}
-
-fn change(param: Param, a: u64, b: u64) -> Payload {
-    Payload::Set(Change { param, a, b })
-}
-
-fn source(sent: u64) -> Line {
-    Line::Source { sent }
-}
-
-fn server(busy: u64, wait: u64, done: u64, lost: u64) -> Line {
-    Line::Server {
-        busy,
-        wait,
-        done,
-        lost,
-    }
-}
-
-fn passed(passed: u64) -> Line {
-    Line::Passed { passed }
-}
-
-fn sink(got: u64, stay: u64) -> Line {
-    Line::Sink { got, stay }
 }
 
 /// One job at a time: the second waits until the first is done.

@@ -1,6 +1,7 @@
 //! Tables of messages, each with what a station answers to it.
 
-use sim_base::{Change, Job, Line, Param, Payload};
+use crate::counts::{change, passed, server, sink, source};
+use sim_base::{Job, Line, Param, Payload};
 
 /// A message and its answer: the counts, how many messages are sent, and when the last of them arrives.
 #[derive(Clone, Copy, Debug, PartialEq, Eq)]
@@ -46,31 +47,6 @@ fn done(count: u64) -> Payload {
         count,
         born: 3,
     })
-}
-
-fn change(param: Param, a: u64, b: u64) -> Payload {
-    Payload::Set(Change { param, a, b })
-}
-
-fn source(sent: u64) -> Line {
-    Line::Source { sent }
-}
-
-fn server(busy: u64, wait: u64, done: u64, lost: u64) -> Line {
-    Line::Server {
-        busy,
-        wait,
-        done,
-        lost,
-    }
-}
-
-fn passed(passed: u64) -> Line {
-    Line::Passed { passed }
-}
-
-fn sink(got: u64, stay: u64) -> Line {
-    Line::Sink { got, stay }
 }
 
 /// After the change the next tick comes 7 later; a source takes no job and no done.

@@ -1,4 +1,4 @@
-//! Texts of scripts, and what comes of them.
+//! Texts of scripts, and how each is read.
 
 /// A text, and the number and the line of its refusal.
 pub type Refused = (&'static [u8], u32, u32);

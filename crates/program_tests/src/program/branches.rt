@@ -1,9 +1,7 @@
 //! Branches, and what they share.
-use super::{PLAIN, Row, models, texts};
+use super::{FAST, PLAIN, Row, models, texts};
 use std::process::Abort;
 use std::test::Fail;
-
-const FAST: &str = "fork fast from base\nset fast at 8 desk service 2 2";
 
 const TWINS: &str = "set base at 8 desk service 2 2\nfork twin from base\n";
 

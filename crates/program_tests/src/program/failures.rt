@@ -1,5 +1,5 @@
 //! Inputs and sinks that fail.
-use super::{GOOD, Outside, RUN, both, ended, texts};
+use super::{FAST, GOOD, Outside, RUN, both, ended, texts};
 use crew_pool::NoGate;
 use sample_models::ONE_DESK;
 use std::alloc::Global;
@@ -7,8 +7,6 @@ use std::process::Abort;
 use std::sync::Wait;
 use std::test::Fail;
 use std::thread::Threads;
-
-const FAST: &str = "fork fast from base\nset fast at 8 desk service 2 2";
 
 const NO_MODEL: &str = "cloner: cannot read the model\n";
 
@@ -63,8 +61,8 @@ fn fetches_fail(rt: HostRuntime) -> Result<(), Fail> {
     Ok(())
 }
 
-/// Put `put` of the run, which begins after `before` bytes and has `length`, fails after some of them; once more with an
-/// error sink that fails too.
+/// Put `put` of the run, which begins after `before` bytes and has `length`, fails after some of them; once more with
+/// an error sink that fails too.
 fn put_fails<R: Threads + Wait + Sync>(
     rt: &R,
     alloc: Global,
@@ -80,7 +78,7 @@ fn put_fails<R: Threads + Wait + Sync>(
         };
         let size = before.saturating_add(taken);
         let cut = Fault {
-            shows: "",
+            shows: "a put that fails",
             outside,
             status: 8,
             size,
@@ -91,7 +89,7 @@ fn put_fails<R: Threads + Wait + Sync>(
             ..outside
         };
         let untold = Fault {
-            shows: "",
+            shows: "a put that fails, and then the line of error",
             outside,
             status: 8,
             size,
@@ -113,8 +111,9 @@ fn puts_fail(rt: HostRuntime) -> Result<(), Fail> {
     Ok(())
 }
 
+/// A sink that is full before the end cuts the output off, and one that holds just all of it does not.
 #[test]
-fn other_faults(rt: HostRuntime) -> Result<(), Fail> {
+fn sinks_that_hold_so_much(rt: HostRuntime) -> Result<(), Fail> {
     let whole = texts::BASE_AND_FAST
         .len()
         .saturating_add(texts::BASE_AND_FAST_REPORT.len());
@@ -139,6 +138,20 @@ fn other_faults(rt: HostRuntime) -> Result<(), Fail> {
             size: whole,
             errors: "",
         },
+    ];
+    for fault in faults {
+        assert!(rt; fault.holds(&rt, rt.alloc()), "{}", fault.shows);
+    }
+    Ok(())
+}
+
+/// Calls that would fail and are not made: those after the last, and a second line of error.
+#[test]
+fn faults_of_no_call(rt: HostRuntime) -> Result<(), Fail> {
+    let whole = texts::BASE_AND_FAST
+        .len()
+        .saturating_add(texts::BASE_AND_FAST_REPORT.len());
+    let faults = [
         Fault {
             shows: "calls after the last",
             outside: Outside {

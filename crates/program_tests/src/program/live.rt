@@ -1,7 +1,7 @@
 //! Live studies: analysts who decide and look while the engine runs.
 use super::{GOOD, Outcome, both, ended, models, texts};
 use crew_pool::{Gate, NoGate};
-use sample_models::{CLINIC, ONE_DESK};
+use sample_models::{CLINIC, ONE_DESK, QUIET_JOURNAL};
 use sim_base::NoMemory;
 use std::alloc::Global;
 use std::process::Abort;
@@ -16,18 +16,6 @@ const LIVE: &[&str] = &["live", "m", "s"];
 
 /// How long a gate waits for the other side.
 const TURNS: u32 = 1_000_000;
-
-/// The journal of one desk without decisions and looks.
-const QUIET_JOURNAL: &str = "journal 0 7
-# front 5
-# front 7
-# front 10
-# front 13
-# front 15
-# front 17
-# front 20
-looks 0
-";
 
 /// Where a piece stands in a text.
 fn place_of(text: &[u8], piece: &[u8]) -> Option<usize> {
@@ -137,8 +125,8 @@ fn journal_is_cut_off(rt: HostRuntime) -> Result<(), Fail> {
     Ok(())
 }
 
-/// Whether `live` of one desk leaves what it has to where put `put`, of a piece behind these bytes, fails after so many;
-/// once more with an error sink that fails too.
+/// Whether `live` of one desk leaves what it has to where put `put`, of a piece behind these bytes, fails after so
+/// many; once more with an error sink that fails too.
 fn put_fails<R: Threads + Wait + Sync>(
     rt: &R,
     alloc: Global,

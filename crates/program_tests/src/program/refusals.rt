@@ -142,7 +142,7 @@ const LIMITS: &[Row] = &[
         ..REFUSED
     },
     Row {
-        shows: "a limit that is just kept",
+        shows: "a limit that is just not met",
         model: models::LIMIT_4,
         ..PLAIN
     },

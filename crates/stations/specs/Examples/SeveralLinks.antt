@@ -26,8 +26,8 @@ abbrev pub out : ℕ
 out = 4
 
 -- a link to a station, with this delay and weight
-abbrev pub weighted : ℕ → ℕ → ℕ → Link
-weighted to delay weight = record { to = to; delay = delay; weight = weight }
+abbrev pub weighted_link : ℕ → ℕ → ℕ → Link
+weighted_link to delay weight = record { to = to; delay = delay; weight = weight }
 
 -- all three draw from stream 54; the delay has a link back to itself
 abbrev pub several_links : Net
@@ -42,19 +42,19 @@ several_links = record {
         name = codes "gate";
         kind = Source 1 10 6 1;
         stream = 54;
-        links = weighted desk 2 4 ∷ weighted hold 3 6 ∷ [];
+        links = weighted_link desk 2 4 ∷ weighted_link hold 3 6 ∷ [];
       }
       ∷ record {
         name = codes "desk";
         kind = Server 1 5 1 10 false;
         stream = 54;
-        links = weighted hold 2 4 ∷ weighted out 2 6 ∷ [];
+        links = weighted_link hold 2 4 ∷ weighted_link out 2 6 ∷ [];
       }
       ∷ record {
         name = codes "hold";
         kind = Delay 0 10;
         stream = 54;
-        links = weighted desk 2 4 ∷ weighted out 2 6 ∷ weighted hold 4 3 ∷ [];
+        links = weighted_link desk 2 4 ∷ weighted_link out 2 6 ∷ weighted_link hold 4 3 ∷ [];
       }
       ∷ record { name = codes "out"; kind = Sink; stream = 4; links = [] } ∷ [];
 }

@@ -4,9 +4,9 @@ use Rattle.cloner_top.proofs.live.run_live.Goals as goal
 
 pub returns-in-Ok-clause-ok : goal.returns-in-Ok-clause-ok
 returns-in-Ok-clause-ok g c =
-    live_ok _ _ _ _ _ _ c.in-Ok.ensures.ran _ _ _ c.ended.ensures.ok c.ended.ensures.few c.ended.ensures.within
-    c.ended.ensures.planned
+    live_ok _ _ _ _ _ _ c.in-Ok.ensures.ran _ _ _ c.world_or_halt.ensures.ok c.world_or_halt.ensures.few
+    c.world_or_halt.ensures.within c.world_or_halt.ensures.planned
 
 pub returns-in-Ok-clause-err : goal.returns-in-Ok-clause-err
 returns-in-Ok-clause-err g c =
-    on_err _ (live_stops _ _ _ _ _ _ c.in-Ok.ensures.ran _ c.deref.ensures) c.ended.ensures.err
+    on_err _ (live_stops _ _ _ _ _ _ c.in-Ok.ensures.ran _ c.deref.ensures) c.world_or_halt.ensures.err

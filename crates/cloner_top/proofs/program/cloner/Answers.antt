@@ -1,6 +1,6 @@
 use Rattle.sim_outer.specs.Views.{SinkView}
 use Rattle.cloner_top.proofs.FactLaws.{completes, cut_cause, finished, formless, idle}
-use Rattle.cloner_top.proofs.FactLaws.{kept, stop_cause, told_for, unread_cause, usage_cause}
+use Rattle.cloner_top.proofs.FactLaws.{output_same, stop_cause, told_for, unread_cause, usage_cause}
 use Rattle.std.proofs.Common.{ap}
 use Rattle.cloner_top.proofs.program.cloner.Goals as goal
 
@@ -19,8 +19,8 @@ returns-clause-refused g c = stop_cause _ _ _ _ c.answer.ensures.answer
 pub returns-clause-cut : goal.returns-clause-cut
 returns-clause-cut g c = cut_cause _ _ _ _ c.answer.ensures.answer
 
-pub returns-clause-kept : goal.returns-clause-kept
-returns-clause-kept g c = λ not_0 not_8. let same = kept _ _ _ _ c.answer.ensures.answer not_0 not_8 in
+pub returns-clause-output_same : goal.returns-clause-output_same
+returns-clause-output_same g c = λ not_0 not_8. let same = output_same _ _ _ _ c.answer.ensures.answer not_0 not_8 in
     (ap (λ (s : SinkView). s.bytes) same, ap (λ (s : SinkView). s.calls) same)
 
 pub returns-clause-told : goal.returns-clause-told

@@ -5,20 +5,20 @@ use Rattle.cloner_top.proofs.program.decide_and_write.Goals as goal
 
 pub write_study-requires-clause-net : goal.write_study-requires-clause-net
 write_study-requires-clause-net g c κs within =
-    plan_net (request_view c.args.request.now).asked _ _ _ _ c.in-Ok.ensures.decided c.in-Ok.ensures.model
+    plan_net (request_view c.args.request.now).asked _ _ _ _ c.in-Ok.ensures.book c.in-Ok.ensures.model
 
 pub write_study-requires-clause-accepted : goal.write_study-requires-clause-accepted
 write_study-requires-clause-accepted g c κs within =
-    plan_accepted (request_view c.args.request.now).asked _ _ _ _ c.in-Ok.ensures.decided c.in-Ok.ensures.model
+    plan_accepted (request_view c.args.request.now).asked _ _ _ _ c.in-Ok.ensures.book c.in-Ok.ensures.model
 
 pub returns-in-Ok-clause-ok : goal.returns-in-Ok-clause-ok
 returns-in-Ok-clause-ok g c =
-    decided_put (request_view c.args.request.now).asked _ _ _ _ c.in-Ok.ensures.decided c.in-Ok.ensures.model _ _ _ _ _
+    decided_put (request_view c.args.request.now).asked _ _ _ _ c.in-Ok.ensures.book c.in-Ok.ensures.model _ _ _ _ _
     c.write_study.ensures.ok
 
 pub returns-in-Ok-clause-err : goal.returns-in-Ok-clause-err
 returns-in-Ok-clause-err g c =
-    decided_not_put (request_view c.args.request.now).asked _ _ _ _ c.in-Ok.ensures.decided c.in-Ok.ensures.model _ _ _
+    decided_not_put (request_view c.args.request.now).asked _ _ _ _ c.in-Ok.ensures.book c.in-Ok.ensures.model _ _ _
     _ _ c.write_study.ensures.err
 
 pub returns-in-Err-clause-err : goal.returns-in-Err-clause-err

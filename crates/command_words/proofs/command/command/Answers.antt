@@ -1,12 +1,12 @@
 use Rattle.std.proofs.Common.{ap₂, ◌∙◌, ◌≡◌, codes}
 use Rattle.std.proofs.lemmas.Result.{IfOk-weaker}
 use Rattle.clap.specs.Words.{app_of, with_rule}
-use Rattle.command_words.specs.Application.{bare, option}
+use Rattle.command_words.specs.Application.{bare_app, option}
 use Rattle.command_words.proofs.command.command.Goals as goal
 
 pub returns : goal.returns
 returns c =
-    let one : app_of c.in_ok-command.command ≡ with_rule bare (option (codes "workers")) =
+    let one : app_of c.in_ok-command.command ≡ with_rule bare_app (option (codes "workers")) =
     c.in_ok-command.ensures.value ∙ ap₂ with_rule c.bare_command.ensures.value c.option_arg.ensures.rule in
     let two = c.in_ok-command-2.ensures.value ∙ ap₂ with_rule one c.option_arg-2.ensures.rule in
     let three = c.in_ok-command-3.ensures.value ∙ ap₂ with_rule two c.positional_arg.ensures.rule in

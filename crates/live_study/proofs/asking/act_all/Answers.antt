@@ -3,7 +3,7 @@ use Rattle.std.proofs.Math.ListN.{length-take}
 use Rattle.decision_script.specs.declared.item.Act.{Act as OfAct}
 use Rattle.live_study.specs.Asking.{HasAsked}
 use Rattle.live_study.specs.Showing.{HasLooked}
-use Rattle.live_study.proofs.Doing.{acts_more, room_for_one, same_on}
+use Rattle.live_study.proofs.Doing.{acts_more, free_for_one, same_on}
 use Rattle.live_study.proofs.asking.act_all.Goals as goal
 
 pub loop-k-preserved : goal.loop-k-preserved
@@ -26,13 +26,13 @@ loop-k-preserved g c =
       same = same_on c.args.analyst.now c.loop-k.analyst new inv.same e.same;
     }
 
-pub act_once-requires-clause-room : goal.act_once-requires-clause-room
-act_once-requires-clause-room g c =
+pub act_once-requires-clause-free : goal.act_once-requires-clause-free
+act_once-requires-clause-free g c =
     let inv = c.loop-k.invariant in
     let analyst = c.loop-k.analyst in
     let items = analyst.todo.items in
     let below : c.loop-k.k < length items =
     omega (arith, c.loop-k-test.true, c.len-k-end.ensures, ap length inv.same.todo) in
-    room_for_one c.args.model.now (take c.loop-k.k items) analyst c.loop-k.seat (length items) inv.looked
+    free_for_one c.args.model.now (take c.loop-k.k items) analyst c.loop-k.seat (length items) inv.looked
     (omega (arith, length-take {A = OfAct} c.loop-k.k items, below))
-    (omega (arith, c.requires.room, ap length inv.same.todo, inv.same.room))
+    (omega (arith, c.requires.reserved, ap length inv.same.todo, inv.same.reserved))

@@ -1,5 +1,5 @@
 use Rattle.std.proofs.Common.{take}
-use Rattle.live_study.specs.Asking.{HasAsked, IsSame}
+use Rattle.live_study.specs.Asking.{HasAsked, IsSameAnalyst}
 use Rattle.live_study.specs.Showing.{HasLooked}
 use Rattle.live_study.proofs.asking.act_all.Given as goal
 
@@ -7,5 +7,5 @@ abbrev pub invariant-loop-k : goal.invariant-loop-k
 invariant-loop-k g l = record {
   asked : HasAsked l.desk.table.shared.table_id (take l.k l.analyst.todo.items) l.analyst;
   looked : HasLooked l.model (take l.k l.analyst.todo.items) (l.analyst, l.seat);
-  same : IsSame l.fn.analyst l.analyst;
+  same : IsSameAnalyst l.fn.analyst l.analyst;
 }

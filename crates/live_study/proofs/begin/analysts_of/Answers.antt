@@ -23,7 +23,7 @@ loop-pass-preserved g c =
       seats = λ opening h. (All-pop (λ s. s ≡ opening) _ _ (Some c.in-Some-pop.seat) popped (inv.seats opening h)).0;
       fresh = λ opening h. fresh_more opening _ _ _ pushed (inv.fresh opening h) (record {
         quiet = ap (λ (r : ReservedView Looked). r.items) c.in_ok-looks.ensures.value;
-        room = let r = ap (λ (r : ReservedView Looked). r.reserved) c.in_ok-looks.ensures.value in omega (arith, r);
+        reserved = let r = ap (λ (r : ReservedView Looked). r.reserved) c.in_ok-looks.ensures.value in omega (arith, r);
         seat = (All-pop (λ s. s ≡ opening) _ _ (Some c.in-Some-pop.seat) popped (inv.seats opening h)).1;
       });
     }

@@ -6,7 +6,7 @@ use Rattle.live_study.proofs.engine.drive.Given as goal
 abbrev pub invariant-turns : goal.invariant-turns
 invariant-turns g l = record {
   steers : Steers l.initial.helm l.helm;
-  stands : InStep l.helm l.world;
+  in_step : InStep l.helm l.world;
   shown : AreShownOf l.helm l.world l.stocker.published;
 }
 

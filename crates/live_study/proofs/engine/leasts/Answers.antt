@@ -1,5 +1,5 @@
-use Rattle.std.proofs.Common.{◌≡◌, ◌∙◌, ℕ, ◌+◌, ◌<◌, ◌≤◌, List, ◌++◌, ◌∷◌, [], Option, None, ap, ap₂, sym, arith, length, take}
-use Rattle.std.proofs.Common.{get_or}
+use Rattle.std.proofs.Common.{◌≡◌, ◌∙◌, ℕ, ◌+◌, ◌<◌, ◌≤◌, List, ◌++◌, ◌∷◌, [], Option, None, ap, ap₂, sym, arith}
+use Rattle.std.proofs.Common.{get_or, length, take}
 use Rattle.std.proofs.lemmas.List.{get_or-map, length-map, take_all, take_more}
 use Rattle.std.proofs.lemmas.Option.{unwrap_or-slice_get}
 use Rattle.sim_base.specs.Clones.{Clone, clone_at, nobody}

@@ -29,7 +29,7 @@ push_reserved-requires g c =
     (search rules) (search rules)) c.loop-one.yielded _ c.loop-one.yielded_by _ c.next.new.self c.in-Some.one
     c.in-Some.is c.next.ensures.steps in
     let f = λ (a : Seated). a.0.pass in
-    let first = c.args.room.passes in
+    let first = c.args.reserve.passes in
     omega (
       arith,
       step.0,
@@ -48,7 +48,7 @@ push_reserved-requires-in-loop-one g c =
     (search rules) (search rules)) c.loop-one.yielded _ c.loop-one.yielded_by _ c.next.new.self c.in-Some.one
     c.in-Some.is c.next.ensures.steps in
     let f = λ (a : Seated). a.0.looks in
-    let first = c.args.room.looks in
+    let first = c.args.reserve.looks in
     omega (
       arith,
       step.0,
@@ -68,15 +68,15 @@ loop-one-preserved g c =
     let i = c.loop-one.invariant in
     let e = c.comes_to_end-comes.ensures in
     record {
-      passes = with_image (λ (a : Seated). a.0.pass) c.args.room.passes.items c.loop-one.passes.items
+      passes = with_image (λ (a : Seated). a.0.pass) c.args.reserve.passes.items c.loop-one.passes.items
           c.push_reserved.new.self.items c.loop-one.yielded one i.passes c.push_reserved.ensures.items;
-      looks = with_image (λ (a : Seated). a.0.looks) c.args.room.looks.items c.loop-one.looks.items
+      looks = with_image (λ (a : Seated). a.0.looks) c.args.reserve.looks.items c.loop-one.looks.items
           c.push_reserved-in-loop-one.new.self.items c.loop-one.yielded one i.looks
           c.push_reserved-in-loop-one.ensures.items;
       for_passes = stays (vec_capacity c.push_reserved.new.self) (vec_capacity c.loop-one.passes)
-          (vec_capacity c.args.room.passes) c.push_reserved.ensures.capacity i.for_passes;
+          (vec_capacity c.args.reserve.passes) c.push_reserved.ensures.capacity i.for_passes;
       for_looks = stays (vec_capacity c.push_reserved-in-loop-one.new.self) (vec_capacity c.loop-one.looks)
-          (vec_capacity c.args.room.looks) c.push_reserved-in-loop-one.ensures.capacity i.for_looks;
+          (vec_capacity c.args.reserve.looks) c.push_reserved-in-loop-one.ensures.capacity i.for_looks;
       published = e.published ∙ i.published;
       caught_up = elim c.if-caught_up.branch [
         | then-caught_up w ↦ λ all. all_caught_more net c.args.stocker.now.published c.loop-one.yielded one

@@ -3,10 +3,10 @@ use Rattle.net_model.specs.Net.{Net}
 use Rattle.net_model.specs.Rules.{IsNet}
 use Rattle.decision_book.specs.Books.{BookView}
 use Rattle.decision_book.specs.Right.{IsRight}
-use Rattle.decision_desk.specs.Passes.{Passed}
+use Rattle.decision_desk.specs.Passes.{PassView}
 use Rattle.world_core.specs.Worlds.{WorldView}
 use Rattle.live_study.specs.Asking.{Seated}
-use Rattle.live_study.specs.Lives.{AreTold, IsFinished}
+use Rattle.live_study.specs.Lives.{AreTrueLooks, IsAtHorizon}
 use Rattle.live_study.proofs.Counting.{all_done, asked_in, finished_if, of_desk}
 use Rattle.live_study.proofs.Ending.{if_kept, if_stopped}
 use Rattle.live_study.proofs.Told.{all_looked, looks_of, made_all, told_if}
@@ -16,27 +16,27 @@ pub close-book-requires-clause-passes : goal.close-book-requires-clause-passes
 close-book-requires-clause-passes g c k d less =
     let desk = c.args.desk.table.shared.table_id in
     let new = c.side_by_side-helm.result.1.items in
-    let are : c.gather-room.result.0.passes.items ≡ map (λ (a : Seated). a.0.pass) new =
-    c.gather-room.ensures.passes ∙ ap (λ l. l ++ map (λ (a : Seated). a.0.pass) new) c.requires.room.no_passes in
+    let are : c.gather-reserve.result.0.passes.items ≡ map (λ (a : Seated). a.0.pass) new =
+    c.gather-reserve.ensures.passes ∙ ap (λ l. l ++ map (λ (a : Seated). a.0.pass) new) c.requires.reserve.no_passes in
     let s = c.side_by_side-helm.ensures in
     let done = all_done desk new (λ i d less. s.done i d (omega (arith, less, s.len))) in
-    subst (λ l. (k : ℕ) (d : Passed) → k < length l → (slice_index_or l k d).desk ≡ desk) (sym are)
+    subst (λ l. (k : ℕ) (d : PassView) → k < length l → (slice_index_or l k d).desk ≡ desk) (sym are)
     (of_desk desk new done) k d less
 
 pub returns-clause-asked : goal.returns-clause-asked
 returns-clause-asked g c =
     let desk = c.args.desk.table.shared.table_id in
     let new = c.side_by_side-helm.result.1.items in
-    let are : c.gather-room.result.0.passes.items ≡ map (λ (a : Seated). a.0.pass) new =
-    c.gather-room.ensures.passes ∙ ap (λ l. l ++ map (λ (a : Seated). a.0.pass) new) c.requires.room.no_passes in
+    let are : c.gather-reserve.result.0.passes.items ≡ map (λ (a : Seated). a.0.pass) new =
+    c.gather-reserve.ensures.passes ∙ ap (λ l. l ++ map (λ (a : Seated). a.0.pass) new) c.requires.reserve.no_passes in
     let s = c.side_by_side-helm.ensures in
     asked_in desk c.args.helm c.side_by_side-helm.result.0.0 c.args.seated.items new
-    c.gather-room.result.0.passes.items c.close-book.result s.steers c.requires.fresh are c.close-book.ensures.closed
+    c.gather-reserve.result.0.passes.items c.close-book.result s.steers c.requires.fresh are c.close-book.ensures.closed
     (subst (λ (b : BookView). IsRight b.net b.events) c.book.ensures.value c.front-legal.ensures.right)
     c.book.ensures.goes_on s.len s.done s.same c.requires.few
 
-pub gather-room-requires-clause-there : goal.gather-room-requires-clause-there
-gather-room-requires-clause-there g c k d less =
+pub gather-reserve-requires-clause-there : goal.gather-reserve-requires-clause-there
+gather-reserve-requires-clause-there g c k d less =
     let s = c.side_by_side-helm.ensures in
     (s.looked k d (omega (arith, less, s.len))).there
 
@@ -44,9 +44,9 @@ pub returns-clause-made : goal.returns-clause-made
 returns-clause-made g c =
     let new = c.side_by_side-helm.result.1.items in
     let s = c.side_by_side-helm.ensures in
-    let looks = c.gather-room.result.0.looks.items in
+    let looks = c.gather-reserve.result.0.looks.items in
     let are : looks ≡ looks_of new =
-    c.gather-room.ensures.looks ∙ ap (λ l. l ++ looks_of new) c.requires.room.no_looks in
+    c.gather-reserve.ensures.looks ∙ ap (λ l. l ++ looks_of new) c.requires.reserve.no_looks in
     made_all c.args.model.now c.args.seated.items new looks
     (all_looked c.args.model.now new (λ i d less. s.looked i d (omega (arith, less, s.len)))) s.len s.same are
 
@@ -56,24 +56,24 @@ returns-clause-looked g c =
     let helm = c.side_by_side-helm.result.0.0 in
     let new = c.side_by_side-helm.result.1.items in
     let s = c.side_by_side-helm.ensures in
-    let looks = c.gather-room.result.0.looks.items in
+    let looks = c.gather-reserve.result.0.looks.items in
     let events = c.close-book.result.events in
     let are : looks ≡ looks_of new =
-    c.gather-room.ensures.looks ∙ ap (λ l. l ++ looks_of new) c.requires.room.no_looks in
-    subst (λ (n : Net). IfOk c.if_caught_up.result (λ w. AreTold n events looks)) (sym c.requires.net)
-    (told_if net helm events c.side_by_side-helm.result.0.1.published new looks c.gather-room.result.1
+    c.gather-reserve.ensures.looks ∙ ap (λ l. l ++ looks_of new) c.requires.reserve.no_looks in
+    subst (λ (n : Net). IfOk c.if_caught_up.result (λ w. AreTrueLooks n events looks)) (sym c.requires.net)
+    (told_if net helm events c.side_by_side-helm.result.0.1.published new looks c.gather-reserve.result.1
     c.side_by_side-helm.result.0.2 c.if_caught_up.result (s.steers.net ∙ c.requires.net)
-    c.close-book.ensures.closed.only_calls s.stands s.shown c.gather-room.ensures.caught_up
+    c.close-book.ensures.closed.only_calls s.in_step s.shown c.gather-reserve.ensures.caught_up
     (all_looked net new (λ i d less. s.looked i d (omega (arith, less, s.len)))) are c.if_caught_up.ensures.ok)
 
 pub returns-clause-finished : goal.returns-clause-finished
 returns-clause-finished g c =
     let s = c.side_by_side-helm.ensures in
-    if_kept (λ (w : WorldView). IsFinished c.args.helm.net c.close-book.result w) c.gather-room.result.1
+    if_kept (λ (w : WorldView). IsAtHorizon c.args.helm.net c.close-book.result w) c.gather-reserve.result.1
     c.side_by_side-helm.result.0.2 c.if_caught_up.result c.if_caught_up.ensures.ok
-    (finished_if c.args.helm c.side_by_side-helm.result.0.0 c.gather-room.result.0.passes.items c.close-book.result
+    (finished_if c.args.helm c.side_by_side-helm.result.0.0 c.gather-reserve.result.0.passes.items c.close-book.result
     c.side_by_side-helm.result.0.2 s.steers c.close-book.ensures.closed
-    (subst (λ (b : BookView). IsRight b.net b.events) c.book.ensures.value c.front-legal.ensures.right) s.stands)
+    (subst (λ (b : BookView). IsRight b.net b.events) c.book.ensures.value c.front-legal.ensures.right) s.in_step)
 
 pub returns-clause-stopped : goal.returns-clause-stopped
 returns-clause-stopped g c =

@@ -2,7 +2,7 @@ use Rattle.std.proofs.Common.{◌≡◌, ◌∙◌, ◌∷◌, [], ap, length, s
 use Rattle.sim_base.specs.Clones.{base}
 use Rattle.net_model.specs.Net.{Net}
 use Rattle.world_core.specs.Worlds.{WorldView}
-use Rattle.live_study.specs.Opening.{IsOpening}
+use Rattle.live_study.specs.Opening.{AreOpeningRacks}
 use Rattle.live_study.proofs.study.open_world.Goals as goal
 
 -- a world that begins
@@ -17,7 +17,8 @@ returns c =
     ∙ ap begun c.in_ok-try_clone.ensures in
     record {
       world = world;
-      racks = subst (λ (n : Net). IsOpening c.opening_racks.new.world (length n.sites) racks)
+      racks = subst (λ (n : Net). AreOpeningRacks c.opening_racks.new.world (length n.sites) racks)
           (ap (λ (w : WorldView). w.net) world)
-          (subst (λ (w : WorldView). IsOpening w (length w.net.sites) racks) (sym same) c.in_ok-racks.ensures.opening);
+          (subst (λ (w : WorldView). AreOpeningRacks w (length w.net.sites) racks) (sym same)
+          c.in_ok-racks.ensures.opening);
     }

@@ -7,6 +7,6 @@ returns c = record {
     racks = c.in_ok-world.ensures.racks;
     passes = c.in_ok-desk.ensures.passes;
     helm = c.in_ok-desk.ensures.helm;
-    room = c.in_ok-room.ensures.value;
+    reserve = c.in_ok-reserve.ensures.value;
   };
 }

@@ -1,10 +1,10 @@
 use Rattle.std.proofs.Common.{arith, length, subst}
 use Rattle.std.proofs.lemmas.Result.{IfErr-weaker, IfOk-weaker}
 use Rattle.net_model.specs.Net.{Net}
-use Rattle.live_study.specs.Lives.{AreTold, IsFinished, IsStopped, kept}
+use Rattle.live_study.specs.Lives.{AreTrueLooks, IsAtHorizon, IsStopped, all_looks}
 use Rattle.live_study.specs.Looks.{AreLooks}
 use Rattle.live_study.proofs.Begun.{begins_in_step}
-use Rattle.live_study.proofs.Preparing.{all_parts, each_ready, enough_room, helm_net, journal_is, little_todo}
+use Rattle.live_study.proofs.Preparing.{all_parts, each_ready, enough_reserved, helm_net, journal_is, little_todo}
 use Rattle.live_study.proofs.Preparing.{looks_are, made_are, many_passes, may_begin, shown_first}
 use Rattle.live_study.proofs.study.run_prepared.Goals as goal
 
@@ -29,8 +29,8 @@ run_live-requires-clause-parts g c κs within =
     all_parts c.args.model.now (length c.args.script.now.analysts) c.args.prepared c.in_ok-stocker.seated.items
     c.requires.prepared c.analysts-valid.ensures.valid.few_analysts c.in_ok-stocker.ensures.passes
 
-pub run_live-requires-clause-stands : goal.run_live-requires-clause-stands
-run_live-requires-clause-stands g c κs within =
+pub run_live-requires-clause-in_step : goal.run_live-requires-clause-in_step
+run_live-requires-clause-in_step g c κs within =
     let p = c.args.prepared in
     begins_in_step p.desk.table.shared.table_id c.args.model.now (length c.args.script.now.analysts) p.helm p.world
     c.requires.prepared.helm c.requires.prepared.world
@@ -51,9 +51,9 @@ run_live-requires-clause-few g c κs within =
     little_todo c.args.model.now c.args.script.now c.args.prepared c.in_ok-stocker.seated.items c.requires.prepared
     c.analysts-valid.ensures.valid.few_items c.in_ok-stocker.ensures.todo
 
-pub run_live-requires-clause-room : goal.run_live-requires-clause-room
-run_live-requires-clause-room g c κs within =
-    enough_room c.args.model.now (length c.args.script.now.analysts) c.args.prepared c.in_ok-stocker.seated.items
+pub run_live-requires-clause-reserve : goal.run_live-requires-clause-reserve
+run_live-requires-clause-reserve g c κs within =
+    enough_reserved c.args.model.now (length c.args.script.now.analysts) c.args.prepared c.in_ok-stocker.seated.items
     c.requires.prepared c.in_ok-stocker.ensures.passes
 
 pub returns-clause-journal : goal.returns-clause-journal
@@ -70,8 +70,8 @@ returns-clause-made g c =
 pub returns-clause-looks : goal.returns-clause-looks
 returns-clause-looks g c =
     let r = c.run_live.result in
-    IfOk-weaker r.run (λ w. AreTold c.args.prepared.helm.net r.book.events r.looks.items)
-    (λ w. AreLooks c.args.model.now c.args.script.now r.book.events (kept r.looks.items))
+    IfOk-weaker r.run (λ w. AreTrueLooks c.args.prepared.helm.net r.book.events r.looks.items)
+    (λ w. AreLooks c.args.model.now c.args.script.now r.book.events (all_looks r.looks.items))
     (λ w told. looks_are c.args.model.now c.args.script.now c.args.prepared c.in_ok-stocker.seated.items r.book.events
     r.looks.items c.requires.prepared c.in_ok-stocker.ensures.numbers c.in_ok-stocker.ensures.todo
     c.run_live.ensures.made told) c.run_live.ensures.looked
@@ -80,8 +80,8 @@ pub returns-clause-finished : goal.returns-clause-finished
 returns-clause-finished g c =
     let own = helm_net c.args.model.now (length c.args.script.now.analysts) c.args.prepared c.requires.prepared in
     let r = c.run_live.result in
-    IfOk-weaker r.run (IsFinished c.args.prepared.helm.net r.book) (IsFinished c.args.model.now r.book)
-    (λ w. subst (λ (n : Net). IsFinished n r.book w) own) c.run_live.ensures.finished
+    IfOk-weaker r.run (IsAtHorizon c.args.prepared.helm.net r.book) (IsAtHorizon c.args.model.now r.book)
+    (λ w. subst (λ (n : Net). IsAtHorizon n r.book w) own) c.run_live.ensures.finished
 
 pub returns-clause-stopped : goal.returns-clause-stopped
 returns-clause-stopped g c =

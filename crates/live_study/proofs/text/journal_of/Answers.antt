@@ -4,7 +4,7 @@ use Rattle.decision_book.specs.Books.{BookView, journal_of}
 use Rattle.decision_book.specs.Journal.{calls_of}
 use Rattle.journal_text.specs.declared.looked.Looked.{Looked}
 use Rattle.journal_text.specs.JournalText.{journal_text}
-use Rattle.live_study.specs.Lives.{kept}
+use Rattle.live_study.specs.Lives.{all_looks}
 use Rattle.live_study.proofs.Texts.{callers_within, lookers_within}
 use Rattle.live_study.proofs.text.journal_of.Goals as goal
 
@@ -18,20 +18,20 @@ journal_text-requires-clause-callers c =
 
 pub journal_text-requires-clause-lookers : goal.journal_text-requires-clause-lookers
 journal_text-requires-clause-lookers c =
-    let all : List Looked = kept c.args.live.now.looks.items in
+    let all : List Looked = all_looks c.args.live.now.looks.items in
     let many = length c.args.script.now.analysts in
     let looks : c.as_slice-2.result.now ≡ all =
-    c.as_slice-2.ensures.value ∙ c.in_ok-looks.ensures.value ∙ ap kept c.as_slice.ensures.value in
+    c.as_slice-2.ensures.value ∙ c.in_ok-looks.ensures.value ∙ ap all_looks c.as_slice.ensures.value in
     subst (All (λ (l : Looked). (1 ≤ l.analyst) × (l.analyst ≤ many))) (sym looks)
     (lookers_within c.args.script.now all c.requires.made)
 
 pub returns : goal.returns
 returns c =
     let book = c.args.live.now.book in
-    let all : List Looked = kept c.args.live.now.looks.items in
+    let all : List Looked = all_looks c.args.live.now.looks.items in
     let analysts = c.args.script.now.analysts in
     let looks : c.as_slice-2.result.now ≡ all =
-    c.as_slice-2.ensures.value ∙ c.in_ok-looks.ensures.value ∙ ap kept c.as_slice.ensures.value in
+    c.as_slice-2.ensures.value ∙ c.in_ok-looks.ensures.value ∙ ap all_looks c.as_slice.ensures.value in
     let events : journal_of c.calls.result.now c.fronts.result.now ≡ book.events =
     ap₂ journal_of c.calls.ensures.value c.fronts.ensures.value ∙ sym c.calls.ensures.whole
     ∙ ap (λ (b : BookView). b.events) c.book-book.ensures.value in

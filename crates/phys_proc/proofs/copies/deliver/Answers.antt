@@ -1,21 +1,21 @@
 use Rattle.std.proofs.Common.{arith, sym, ap, ap₂, ◌∙◌, get_or, slice_set, length, eqb-true}
 use Rattle.std.proofs.lemmas.Bool.{false≢true}
 use Rattle.clone_sets.specs.Sets.{minus, empty}
-use Rattle.phys_proc.specs.Own.{StationCopy, given, but_pending}
-use Rattle.phys_proc.proofs.Given.{changed_more, changed_all, length-changed, rest_more, given_to_all}
+use Rattle.phys_proc.specs.Own.{StationCopy, with_message, but_pending}
+use Rattle.phys_proc.proofs.Given.{map_first-suc, map_first-length, length-map_first, rest_more, given_to_all}
 use Rattle.phys_proc.proofs.Noted.{leasts_long, least_at, leasts_set}
 use Rattle.phys_proc.proofs.Shares.{same_set}
 use Rattle.phys_proc.proofs.copies.deliver.Goals as goal
 
 pub loop-i-preserved : goal.loop-i-preserved
 loop-i-preserved c =
-    let f = given c.args.msg c.args.set in
+    let f = with_message c.args.msg c.args.set in
     let d = c.index_mut.result.now in
     let h = c.loop-i.invariant.given in
     record {
       given = ap₂ (λ l y. slice_set l c.loop-i.i y) h
           (c.in_ok-give.ensures.given ∙ ap f (c.index_mut.ensures.value ∙ ap (λ l. get_or l c.loop-i.i d) h))
-          ∙ changed_more f c.loop-i.i c.args.copies.now.items d
+          ∙ map_first-suc f c.loop-i.i c.args.copies.now.items d
           (omega (arith, c.loop-i-test.true, c.loop-i.auto.i-end, c.len-i-end.ensures, c.args.copies.now.ok.0));
       same = same_set c.loop-i.i c.loop-i.copies.items c.give.new.copy d
           (omega (
@@ -25,7 +25,7 @@ loop-i-preserved c =
             c.len-i-end.ensures,
             c.args.copies.now.ok.0,
             ap length c.loop-i.invariant.given,
-            length-changed (given c.args.msg c.args.set) c.loop-i.i c.args.copies.now.items,
+            length-map_first (with_message c.args.msg c.args.set) c.loop-i.i c.args.copies.now.items,
           ))
           (c.in_ok-give.ensures.same ∙ ap but_pending c.index_mut.ensures.value) ∙ c.loop-i.invariant.same;
       each = leasts_set c.loop-i.leasts.items c.loop-i.copies.items c.loop-i.i c.give.new.least c.give.new.copy
@@ -44,7 +44,7 @@ returns-then-is_empty-clause-given c = c.loop-i.invariant.given
 
 pub returns-clause-given : goal.returns-clause-given
 returns-clause-given c = c.loop-i.invariant.given
-    ∙ changed_all (given c.args.msg c.args.set) c.loop-i.i c.args.copies.now.items
+    ∙ map_first-length (with_message c.args.msg c.args.set) c.loop-i.i c.args.copies.now.items
     (omega (arith, c.loop-i-test.false, c.loop-i.auto.i-end, c.len-i-end.ensures, c.args.copies.now.ok.0))
 
 pub returns-in_err-give-clause-same : goal.returns-in_err-give-clause-same
@@ -58,7 +58,7 @@ returns-in_err-give-clause-same c =
       c.len-i-end.ensures,
       c.args.copies.now.ok.0,
       ap length c.loop-i.invariant.given,
-      length-changed (given c.args.msg c.args.set) c.loop-i.i c.args.copies.now.items,
+      length-map_first (with_message c.args.msg c.args.set) c.loop-i.i c.args.copies.now.items,
     ))
     (c.in_err-give.ensures.same ∙ ap but_pending c.index_mut.ensures.value) ∙ c.loop-i.invariant.same
 
@@ -71,7 +71,7 @@ index_mut-requires-in-loop-i c = omega (
   c.args.copies.now.ok.0,
   c.loop-i.leasts.ok.0,
   ap length c.loop-i.invariant.given,
-  length-changed (given c.args.msg c.args.set) c.loop-i.i c.args.copies.now.items,
+  length-map_first (with_message c.args.msg c.args.set) c.loop-i.i c.args.copies.now.items,
   leasts_long c.loop-i.leasts.items c.loop-i.copies.items c.loop-i.invariant.each,
 )
 
@@ -85,7 +85,7 @@ give-requires c = record {
         c.len-i-end.ensures,
         c.args.copies.now.ok.0,
         ap length c.loop-i.invariant.given,
-        length-changed (given c.args.msg c.args.set) c.loop-i.i c.args.copies.now.items,
+        length-map_first (with_message c.args.msg c.args.set) c.loop-i.i c.args.copies.now.items,
       )) c.index_mut-in-loop-i.ensures.value c.index_mut.ensures.value;
 }
 

@@ -1,6 +1,6 @@
 use Rattle.std.proofs.Common.{arith, sym, ap, ◌∙◌, slice_set, eqb-true}
 use Rattle.clone_sets.specs.Sets.{minus, empty}
-use Rattle.phys_proc.specs.Own.{StationCopy, given, but_pending}
+use Rattle.phys_proc.specs.Own.{StationCopy, with_message, but_pending}
 use Rattle.phys_proc.proofs.Given.{given_alone, given_first}
 use Rattle.phys_proc.proofs.Noted.{leasts_long, least_at, leasts_set}
 use Rattle.phys_proc.proofs.Shares.{disjoint_same, same_set}
@@ -20,7 +20,7 @@ returns-then-is_empty-clause-given c =
     c.requires.disjoint
     (c.minus-rest.ensures.value ∙ ap (λ (u : StationCopy). minus c.args.set u.set)
     (c.behind-copies.view_is ∙ c.index.ensures))
-    (c.in_ok-give.ensures.given ∙ ap (given c.args.msg c.args.set) c.index_mut.ensures.value)
+    (c.in_ok-give.ensures.given ∙ ap (with_message c.args.msg c.args.set) c.index_mut.ensures.value)
     (eqb-true c.minus-rest.result empty (sym c.if-is_empty.ensures.value))
 
 pub returns-then-is_empty-clause-same : goal.returns-then-is_empty-clause-same
@@ -53,7 +53,7 @@ returns-clause-given c = c.in_ok-place.ensures.given
     c.requires.disjoint
     (c.minus-rest.ensures.value ∙ ap (λ (u : StationCopy). minus c.args.set u.set)
     (c.behind-copies.view_is ∙ c.index.ensures))
-    (c.in_ok-give.ensures.given ∙ ap (given c.args.msg c.args.set) c.index_mut.ensures.value)
+    (c.in_ok-give.ensures.given ∙ ap (with_message c.args.msg c.args.set) c.index_mut.ensures.value)
 
 pub returns-clause-same : goal.returns-clause-same
 returns-clause-same c = c.in_ok-place.ensures.same

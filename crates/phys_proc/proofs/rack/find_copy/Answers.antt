@@ -1,6 +1,6 @@
 use Rattle.std.proofs.Common.{sym, ap, ◌∙◌, length}
 use Rattle.clone_sets.specs.Sets.{has, size}
-use Rattle.phys_proc.specs.Racks.{SeenCopy}
+use Rattle.phys_proc.specs.Racks.{SeenView}
 use Rattle.phys_proc.proofs.Seeing.{in_at}
 use Rattle.phys_proc.proofs.rack.find_copy.Goals as goal
 
@@ -9,7 +9,7 @@ returns-then-has-clause-some c =
     let is = c.copy.view_is in (
       c.copy-item.result,
       in_at c.args.copies.now c.loop-copy.copy-index c.copy-item.result c.loop-copy-test.true c.copy-item.is,
-      ap (λ (u : SeenCopy). has u.set c.args.c) (sym is) ∙ sym c.if-has.ensures,
-      c.len.ensures.value ∙ ap (λ (u : SeenCopy). length u.log) is,
-      c.len-then-has.ensures.value ∙ ap (λ (u : SeenCopy). size u.set) is,
+      ap (λ (u : SeenView). has u.set c.args.c) (sym is) ∙ sym c.if-has.ensures,
+      c.len.ensures.value ∙ ap (λ (u : SeenView). length u.log) is,
+      c.len-then-has.ensures.value ∙ ap (λ (u : SeenView). size u.set) is,
     )

@@ -1,6 +1,6 @@
 use Rattle.std.proofs.Common.{◌++◌, refl, subst, sym}
 use Rattle.phys_proc.specs.Gone.{ends_in}
-use Rattle.phys_proc.specs.Own.{Stepping}
+use Rattle.phys_proc.specs.Own.{IsStepResult}
 use Rattle.phys_proc.proofs.AllCopies.{idle}
 use Rattle.phys_proc.proofs.stepping.step_copies.Goals as goal
 
@@ -16,8 +16,8 @@ returns-clause-stepped g c =
     let net = c.args.model.now in
     let ends = ends_in net.horizon c.args.ends.now in
     let new = c.step_standing.new in
-    subst (λ d. Stepping net c.args.station ends c.args.bound c.args.copies d new.stage.sent.items new.stage.over
+    subst (λ d. IsStepResult net c.args.station ends c.args.bound c.args.copies d new.stage.sent.items new.stage.over
     c.args.steps.now new.steps) (sym c.in_ok-put_before.ensures.all)
-    (subst (λ k. Stepping net c.args.station ends c.args.bound k (new.copies.items ++ new.stage.done)
+    (subst (λ k. IsStepResult net c.args.station ends c.args.bound k (new.copies.items ++ new.stage.done)
     new.stage.sent.items new.stage.over c.args.steps.now new.steps) c.into_parts-standing.ensures.same
     c.in_ok-least.ensures.stepped)

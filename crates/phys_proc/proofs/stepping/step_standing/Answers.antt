@@ -1,7 +1,7 @@
 use Rattle.std.proofs.Common.{◌≡◌, ◌<◌, arith, ap, refl, subst, sym, length, take, slice_set}
 use Rattle.std.proofs.lemmas.List.{length-set, take_more_set}
 use Rattle.phys_proc.specs.Gone.{ends_in}
-use Rattle.phys_proc.specs.Own.{StationCopy, IsCopy, IsLate, AreLate, Advanced, may_handle}
+use Rattle.phys_proc.specs.Own.{StationCopy, IsCopy, IsLate, AreLate, IsAdvance, may_handle}
 use Rattle.phys_proc.specs.Stops.{IsStop}
 use Rattle.phys_proc.proofs.Late.{late_put, late_before}
 use Rattle.phys_proc.proofs.Noted.{leasts_long, least_at, leasts_set, leasts_without}
@@ -117,7 +117,7 @@ loop-i-preserved g c =
           l.i l.stage.sent.items l.stage.over c.args.steps.now l.steps l.invariant.far there c.index_mut.result.now
           c.index_mut.ensures.value c.requires.disjoint y after s.done f.done s.sent.items f.sent.items s.over f.over
           c.go_on.new.steps c.finish.new.steps one.onward
-          (subst (λ (u : StationCopy). Advanced net c.args.station ends c.args.bound u s.done f.done s.sent.items
+          (subst (λ (u : StationCopy). IsAdvance net c.args.station ends c.args.bound u s.done f.done s.sent.items
           f.sent.items s.over f.over c.go_on.new.steps c.finish.new.steps) same come.comes)
           c.remove-copy.ensures.items one.done one.over;
       late = subst (AreLate l.least) (sym (without_take cs after l.i y there c.remove-copy.ensures.items))

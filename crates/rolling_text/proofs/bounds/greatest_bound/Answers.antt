@@ -3,7 +3,7 @@ use Rattle.sim_base.specs.Clones.{clone_at}
 use Rattle.stations.specs.Runs.{simulation, trace_of}
 use Rattle.run_laws.specs.SharedTexts.{from_on}
 use Rattle.rolling_text.specs.Texts.{HaveShortLines, body}
-use Rattle.rolling_text.specs.WorldTraces.{TracesView}
+use Rattle.rolling_text.specs.WorldTraces.{WorldTracesView}
 use Rattle.rolling_text.proofs.ShortLines.{fits_more, short_at}
 use Rattle.rolling_text.proofs.bounds.greatest_bound.Goals as goal
 
@@ -12,9 +12,10 @@ bound_of-requires-clause-short c =
     let v = c.args.traces.now in
     let is = c.len-c-end.ensures in
     let there : c.loop-c.c < length v.clones = omega (arith, c.loop-c-test.true, is.value) in
-    subst (λ (v : TracesView). HaveShortLines v.net (trace_of v.net (clone_at v.clones c.loop-c.c))) (sym c.traces.view_is)
+    subst (λ (v : WorldTracesView). HaveShortLines v.net (trace_of v.net (clone_at v.clones c.loop-c.c)))
+    (sym c.traces.view_is)
     (short_at v.net is.valid v.clones is.in_net c.loop-c.c c.parts_at.result there c.parts_at.ensures.value
-    c.loop-c.invariant.short (subst (λ (v : TracesView). HaveShortLines v.net (from_on (simulation v.net)
+    c.loop-c.invariant.short (subst (λ (v : WorldTracesView). HaveShortLines v.net (from_on (simulation v.net)
     c.parts_at.result (trace_of v.net (clone_at v.clones c.loop-c.c)))) c.traces.view_is c.meet_rest.ensures.short))
 
 pub loop-c-preserved : goal.loop-c-preserved
@@ -23,7 +24,7 @@ loop-c-preserved c =
     let h = c.loop-c.invariant in
     let is = c.len-c-end.ensures in
     let there : c.loop-c.c < length v.clones = omega (arith, c.loop-c-test.true, is.value) in
-    let here = subst (λ (v : TracesView). length (body v.net (clone_at v.clones c.loop-c.c)) ≤ c.bound_of.result)
+    let here = subst (λ (v : WorldTracesView). length (body v.net (clone_at v.clones c.loop-c.c)) ≤ c.bound_of.result)
     c.traces.view_is c.bound_of.ensures.bound in
     let back : c.loop-c.c ≡ c.loop-c.c + 1 - 1 = omega arith in
     record {
@@ -31,7 +32,7 @@ loop-c-preserved c =
           (omega (arith, c.max-most.ensures)) (omega (arith, c.max-most.ensures));
       short = λ more. subst (λ k. HaveShortLines v.net (trace_of v.net (clone_at v.clones k))) back
           (short_at v.net is.valid v.clones is.in_net c.loop-c.c c.parts_at.result there c.parts_at.ensures.value
-          h.short (subst (λ (v : TracesView). HaveShortLines v.net (from_on (simulation v.net)
+          h.short (subst (λ (v : WorldTracesView). HaveShortLines v.net (from_on (simulation v.net)
           c.parts_at.result (trace_of v.net (clone_at v.clones c.loop-c.c)))) c.traces.view_is
           c.meet_rest.ensures.short));
       few = omega (arith, h.few, c.bound_of.ensures.few, c.max-most.ensures);

@@ -1,6 +1,6 @@
 use Rattle.std.proofs.Common.{◌<◌, ◌≤◌, length, take, drop}
 use Rattle.std.specs.List.{flat_map}
-use Rattle.sim_outer.specs.Bytes.{Appended}
+use Rattle.sim_outer.specs.Bytes.{IsAppended}
 use Rattle.sim_outer.specs.Causes.{AreCounted}
 use Rattle.rolling_text.specs.Texts.{AreLeft, CanPut}
 use Rattle.trace_report.specs.Outputs.{clone_text}
@@ -13,7 +13,7 @@ invariant-loop-c g l = record {
   margin : 32 ≤ length l.texts.page.text;
   reserved : l.fn.texts.page.reserved ≤ l.texts.page.reserved;
   left : l.c < l.clones → AreLeft l.traces.net l.traces.clones l.c l.dropped (drop 32 l.texts.page.text);
-  appended : Appended (g.O.Sink.seen l.fn.out).bytes
+  appended : IsAppended (g.O.Sink.seen l.fn.out).bytes
       (flat_map (clone_text l.traces.net) (take l.c l.traces.clones))
       (g.O.Sink.seen l.out).bytes;
   later : (g.O.Sink.seen l.fn.out).faults ≤ (g.O.Sink.seen l.out).faults;

@@ -1,7 +1,7 @@
 use Rattle.std.proofs.Common.{◌≡◌, ◌+◌, ◌∙◌, arith, length, subst, sym}
 use Rattle.sim_base.specs.Clones.{clone_at}
 use Rattle.rolling_text.specs.Texts.{body, rest}
-use Rattle.rolling_text.specs.WorldTraces.{TracesView}
+use Rattle.rolling_text.specs.WorldTraces.{WorldTracesView}
 use Rattle.rolling_text.proofs.Joined.{next_before, rest_fits, still_joined}
 use Rattle.rolling_text.proofs.Keeping.{dropped_next}
 use Rattle.rolling_text.proofs.Puts.{cut_part, end_cut, rest_cut, text_put}
@@ -40,7 +40,7 @@ returns-in-Ok-put-clause-left g c next =
     let clone = clone_at v.clones c.args.c in
     let begun = c.begin_text-start in
     let put = c.in-Ok-put_rest.ensures in
-    let len = subst (λ (v : TracesView). c.len_between.result + length (rest v.net (clone_at v.clones c.args.c)
+    let len = subst (λ (v : WorldTracesView). c.len_between.result + length (rest v.net (clone_at v.clones c.args.c)
     c.max-late.result) ≡ length (rest v.net (clone_at v.clones c.args.c) c.args.next)) c.traces.view_is
     c.len_between.ensures.value in
     record {

@@ -6,9 +6,9 @@ pub returns-clause-plain : goal.returns-clause-plain
 unfolding run_to
 returns-clause-plain c = refl
 
-pub returns-clause-decided : goal.returns-clause-decided
+pub returns-clause-busy : goal.returns-clause-busy
 unfolding run_to
-returns-clause-decided c = refl
+returns-clause-busy c = refl
 
 pub returns-clause-ended : goal.returns-clause-ended
 unfolding run_to

@@ -11,6 +11,7 @@ loop-s-preserved c =
       opened = rw c.in_ok-push.ensures.items
           (opened_more net c.loop-s.s c.loop-s.states.items c.in_ok-state.state inv.opened
           (ap (λ o. o.state) s.opened) s.fits s.suits);
-      first = c.in_ok-put_first.ensures ∙ first_more net c.loop-s.s _ _ c.in_ok-state.first inv.first
+      first = c.in_ok-put_first.ensures.ok ∙ first_more net c.loop-s.s _ _ c.in_ok-state.first inv.first
           (ap (λ o. o.first) s.opened);
+      stations = c.in_ok-put_first.ensures.stations ∙ inv.stations;
     }

@@ -1,4 +1,5 @@
 use Rattle.std.proofs.Common.{◌≤◌}
+use Rattle.net_model.specs.declared.limits.TheConstants.{MOST_TIME}
 use Rattle.net_model.specs.declared.station.Link.{Link}
 use Rattle.stations.proofs.Links.{are_weights}
 use Rattle.stations.proofs.Places.{all_at}
@@ -9,5 +10,5 @@ pick_link-requires-clause-valid c = rw (c.as_slice.ensures.value, c.link_weights
     (are_weights c.args.links.now c.requires.valid)
 
 pub returns-clause-near : goal.returns-clause-near
-returns-clause-near c = all_at (λ (l : Link). l.delay ≤ 1000000) c.args.links.now _ c.pick_link.result
+returns-clause-near c = all_at (λ (l : Link). l.delay ≤ MOST_TIME) c.args.links.now _ c.pick_link.result
     c.requires.valid.near c.pick_link.ensures.link

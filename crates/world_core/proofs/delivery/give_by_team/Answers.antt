@@ -11,7 +11,7 @@ pub returns : goal.returns
 returns g c =
     let w = c.in_ok-work.work.value in
     record {
-      given = mail_answered w.net (ends_in w.net.horizon w.ended) w.bound c.args.sent.now c.args.procs.items
+      given = mail_answered w.net (ends_in w.net.horizon w.ends) w.bound c.args.sent.now c.args.procs.items
           c.in_ok-posts.posts.items c.in_ok-jobs.jobs.items c.in_ok-given.given.items c.in_ok-team.dones.items
           c.in_ok-jobs.ensures.jobs c.in_ok-given.ensures.procs c.in_ok-posts.ensures.posts
           c.in_ok-team.ensures.count c.in_ok-team.ensures.answers;

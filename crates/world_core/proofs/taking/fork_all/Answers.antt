@@ -25,7 +25,7 @@ loop-i-preserved c =
     c.fork.new.self c.loop-i.invariant
     (omega (arith, c.loop-i-test.true, c.loop-i.auto.i-end, c.len-i-end.ensures, c.args.procs.now.ok.0))
     c.index_mut.ensures.value
-    (record { stands = f.stands; proc = f.proc; station = f.station; living = f.living; once = f.handled })
+    (record { copies = f.copies; proc = f.proc; station = f.station; living = f.living; once = f.handled })
 
 pub returns : goal.returns
 returns c = record {

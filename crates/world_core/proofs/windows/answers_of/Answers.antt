@@ -22,15 +22,15 @@ returns-in_ok-flows-in-Some-clause-flows g c =
     let w = c.in_ok-work-in-Some.work.value in
     let procs = c.args.procs.items in
     let flows = c.in_ok-flows-in-Some.flows.items in
-    subst (λ (w : WindowView). AllFlow w.net (ends_in w.net.horizon w.ended) w.bound procs flows)
+    subst (λ (w : WindowView). AllFlow w.net (ends_in w.net.horizon w.ends) w.bound procs flows)
     c.in_ok-work-in-Some.ensures.ok
-    (steps_answered w.net (ends_in w.net.horizon w.ended) w.bound procs c.in_ok-jobs.jobs.items flows
+    (steps_answered w.net (ends_in w.net.horizon w.ends) w.bound procs c.in_ok-jobs.jobs.items flows
     c.in_ok-team-in-Some.dones.items c.in_ok-jobs.ensures.jobs c.in_ok-flows-in-Some.ensures.flows
     c.in_ok-team-in-Some.ensures.answers)
 
 pub returns-in_ok-flows-in-None-clause-flows : goal.returns-in_ok-flows-in-None-clause-flows
 returns-in_ok-flows-in-None-clause-flows g c =
     let w = c.args.work in
-    steps_answered w.net (ends_in w.net.horizon w.ended) w.bound c.args.procs.items c.in_ok-jobs.jobs.items
+    steps_answered w.net (ends_in w.net.horizon w.ends) w.bound c.args.procs.items c.in_ok-jobs.jobs.items
     c.in_ok-flows-in-None.flows.items c.in_ok-dones-in-None.dones.items c.in_ok-jobs.ensures.jobs
     c.in_ok-flows-in-None.ensures.flows c.in_ok-dones-in-None.ensures.answers

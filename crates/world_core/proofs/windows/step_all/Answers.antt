@@ -11,7 +11,7 @@ step_in_place-requires-clause-numbered g c κs within = subst (λ (w : WindowVie
 pub returns-then-small-clause-stepped : goal.returns-then-small-clause-stepped
 returns-then-small-clause-stepped g c =
     let s = c.in_ok-stepped.stepped in
-    subst (λ (w : WindowView). AllStepped w.net (ends_in w.net.horizon w.ended) w.bound c.args.procs.items
+    subst (λ (w : WindowView). AllStepped w.net (ends_in w.net.horizon w.ends) w.bound c.args.procs.items
     s.procs.items s.outbox.all.items s.over c.args.steps.now c.step_in_place.new.steps)
     c.in_ok-work.ensures.value c.in_ok-stepped.ensures.stepped
 
@@ -24,13 +24,13 @@ returns-clause-stepped g c =
     let s = c.in_ok-stepped-2.stepped in
     let flows = c.in_ok-flows.ensures in
     let done = c.in_ok-stepped-2.ensures in
-    subst (λ (w : WindowView). AllStepped w.net (ends_in w.net.horizon w.ended) w.bound c.args.procs.items
+    subst (λ (w : WindowView). AllStepped w.net (ends_in w.net.horizon w.ends) w.bound c.args.procs.items
     s.procs.items s.outbox.all.items s.over c.args.steps.now c.answers_of.new.steps) c.in_ok-work.ensures.value
     (record {
       flows = c.in_ok-flows.flows.items;
       count = flows.count;
-      stepped = flows.flows;
-      done = done.procs;
+      each = flows.flows;
+      procs = done.procs;
       sent_is = done.sent;
       first = done.over;
       steps_are = flows.cost;

@@ -11,10 +11,10 @@ use Rattle.world_core.proofs.windows.step_place.Goals as goal
 
 pub returns-clause-stepped : goal.returns-clause-stepped
 returns-clause-stepped g c =
-    let v : WindowView = record { net = c.deref.result.now; ended = c.deref-2.result.now; bound = c.work.inside.bound } in
-    let here : v ≡ c.args.work.now = ap₂ (λ n e. record { net = n; ended = e; bound = c.work.inside.bound })
+    let v : WindowView = record { net = c.deref.result.now; ends = c.deref-2.result.now; bound = c.work.inside.bound } in
+    let here : v ≡ c.args.work.now = ap₂ (λ n e. record { net = n; ends = e; bound = c.work.inside.bound })
     c.deref.ensures c.deref-2.ensures ∙ c.work.view_is in
-    let ends = ends_in v.net.horizon v.ended in
+    let ends = ends_in v.net.horizon v.ends in
     let items = c.args.procs.now.items in
     let i = c.args.i in
     let x = c.index_mut.result.now in
@@ -25,7 +25,7 @@ returns-clause-stepped g c =
     let flow : Flow = record { done = y; sent = c.advance.new.sent; over = c.in_ok-gain.gain.over; handled = c.in_ok-gain.gain.handled } in
     let sent : c.put_behind.new.all.items ≡ c.args.outbox.now.all.items ++ c.advance.new.sent.items =
     c.in_ok-put_behind.ensures.both ∙ ap (λ l. c.args.outbox.now.all.items ++ l) c.as_slice.ensures.value in
-    subst (λ (w : WindowView). SteppedAt w.net (ends_in w.net.horizon w.ended) w.bound i items (slice_set items i y)
+    subst (λ (w : WindowView). SteppedAt w.net (ends_in w.net.horizon w.ends) w.bound i items (slice_set items i y)
     c.args.outbox.now.all.items c.put_behind.new.all.items flow.over flow.handled) here
     (stepped_at v.net ends v.bound i items (slice_set items i y) c.args.outbox.now.all.items
     c.put_behind.new.all.items x flow got

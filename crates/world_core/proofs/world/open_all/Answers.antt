@@ -10,7 +10,7 @@ loop-s-preserved c =
     rw (c.in_ok-push.ensures.items, c.in_ok-of.ensures.same) (record {
       count = omega (arith, n, l);
       first = first_push c.args.model.now c.loop-s.procs.items p.proc c.loop-s.s n c.loop-s.invariant.first (record {
-        numbered = record { proc = p.ensures.proc; number = p.ensures.station };
+        station = record { proc = p.ensures.proc; number = p.ensures.station };
         copies = p.ensures.first;
         living = p.ensures.living;
         once = p.ensures.handled;

@@ -7,7 +7,7 @@ pub invariant_of-self-2 : goal.invariant_of-self-2
 invariant_of-self-2 c =
     let b = c.self.inside in
     rw c.in_ok-push.ensures.ok (advanced b.model.value b.lists b.calls b.fronts b.front c.args.front c.self.invariant
-    (rw (← c.self.view_is, c.self.invariant.stands) at c.requires.above)
+    (rw (← c.self.view_is, c.self.invariant.situation) at c.requires.above)
     (rw (← c.self.view_is) at c.requires.within))
 
 pub returns-clause-ok : goal.returns-clause-ok

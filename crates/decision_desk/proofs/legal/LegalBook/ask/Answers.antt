@@ -4,4 +4,4 @@ use Rattle.decision_desk.proofs.legal.LegalBook.ask.Goals as goal
 pub invariant_of-self : goal.invariant_of-self
 invariant_of-self c =
     goes_on_told c.self.inside.book c.ask.new.self c.args.caller c.args.d.now c.ask.result.0 c.ask.result.1
-    c.self.invariant c.ask.ensures.told
+    c.self.invariant c.ask.ensures.call

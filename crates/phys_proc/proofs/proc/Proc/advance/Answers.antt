@@ -3,7 +3,7 @@ use Rattle.std.proofs.lemmas.Nat.{mul-le}
 use Rattle.clone_sets.specs.Sets.{has, size, empty}
 use Rattle.stations.specs.Runs.{simulation}
 use Rattle.run_laws.specs.Copies.{IsStepped, AreOver, GainTogether}
-use Rattle.phys_proc.specs.Own.{all_sizes, Stepping}
+use Rattle.phys_proc.specs.Own.{all_sizes, IsStepResult}
 use Rattle.phys_proc.specs.Procs.{ProcView, IsProc, KeepsShares}
 use Rattle.phys_proc.specs.Gone.{ends_in}
 use Rattle.phys_proc.proofs.AllCopies.{all_stepped, all_over, all_gained, all_few, all_shared}
@@ -24,9 +24,9 @@ overflow_add-self g c =
     let i = c.self.inside in
     let h = subst (IsProc net) (sym c.self.view_is) c.requires.proc in
     let st = c.step_copies.new.stage in
-    let far = subst (λ s. Stepping net s ends c.args.bound i.copies st.done st.sent.items st.over c.args.steps.now
+    let far = subst (λ s. IsStepResult net s ends c.args.bound i.copies st.done st.sent.items st.over c.args.steps.now
     c.step_copies.new.steps) (ap (λ (u : ProcView). u.station) (c.self-2.view_is ∙ c.take_copies-copies.ensures.none))
-    (subst (λ k. Stepping net c.self-2.inside.station ends c.args.bound k st.done st.sent.items st.over
+    (subst (λ k. IsStepResult net c.self-2.inside.station ends c.args.bound k st.done st.sent.items st.over
     c.args.steps.now c.step_copies.new.steps) c.take_copies-copies.ensures.copies
     c.in_ok-step_copies.ensures.stepped) in
     let sizes = few_clones i.living i.copies c.self.invariant.shares
@@ -44,9 +44,9 @@ invariant_of-self-then-is_empty g c =
     let i = c.self.inside in
     let h = subst (IsProc net) (sym c.self.view_is) c.requires.proc in
     let st = c.step_copies.new.stage in
-    let far = subst (λ s. Stepping net s ends c.args.bound i.copies st.done st.sent.items st.over c.args.steps.now
+    let far = subst (λ s. IsStepResult net s ends c.args.bound i.copies st.done st.sent.items st.over c.args.steps.now
     c.step_copies.new.steps) (ap (λ (u : ProcView). u.station) (c.self-2.view_is ∙ c.take_copies-copies.ensures.none))
-    (subst (λ k. Stepping net c.self-2.inside.station ends c.args.bound k st.done st.sent.items st.over
+    (subst (λ k. IsStepResult net c.self-2.inside.station ends c.args.bound k st.done st.sent.items st.over
     c.args.steps.now c.step_copies.new.steps) c.take_copies-copies.ensures.copies
     c.in_ok-step_copies.ensures.stepped) in
     let none = eqb-true st.over empty (sym c.if-is_empty.ensures.value) in
@@ -66,9 +66,9 @@ returns-clause-windows g c =
     let i = c.self.inside in
     let h = subst (IsProc net) (sym c.self.view_is) c.requires.proc in
     let st = c.step_copies.new.stage in
-    let far = subst (λ s. Stepping net s ends c.args.bound i.copies st.done st.sent.items st.over c.args.steps.now
+    let far = subst (λ s. IsStepResult net s ends c.args.bound i.copies st.done st.sent.items st.over c.args.steps.now
     c.step_copies.new.steps) (ap (λ (u : ProcView). u.station) (c.self-2.view_is ∙ c.take_copies-copies.ensures.none))
-    (subst (λ k. Stepping net c.self-2.inside.station ends c.args.bound k st.done st.sent.items st.over
+    (subst (λ k. IsStepResult net c.self-2.inside.station ends c.args.bound k st.done st.sent.items st.over
     c.args.steps.now c.step_copies.new.steps) c.take_copies-copies.ensures.copies
     c.in_ok-step_copies.ensures.stepped) in
     λ none. elim c.if-is_empty.branch [
@@ -87,9 +87,9 @@ returns-clause-over g c =
     let i = c.self.inside in
     let h = subst (IsProc net) (sym c.self.view_is) c.requires.proc in
     let st = c.step_copies.new.stage in
-    let far = subst (λ s. Stepping net s ends c.args.bound i.copies st.done st.sent.items st.over c.args.steps.now
+    let far = subst (λ s. IsStepResult net s ends c.args.bound i.copies st.done st.sent.items st.over c.args.steps.now
     c.step_copies.new.steps) (ap (λ (u : ProcView). u.station) (c.self-2.view_is ∙ c.take_copies-copies.ensures.none))
-    (subst (λ k. Stepping net c.self-2.inside.station ends c.args.bound k st.done st.sent.items st.over
+    (subst (λ k. IsStepResult net c.self-2.inside.station ends c.args.bound k st.done st.sent.items st.over
     c.args.steps.now c.step_copies.new.steps) c.take_copies-copies.ensures.copies
     c.in_ok-step_copies.ensures.stepped) in
     subst (λ (u : ProcView). AreOver (simulation net) has ends u.station c.args.bound u.copies st.over) c.self.view_is
@@ -103,9 +103,9 @@ returns-clause-gained g c =
     let i = c.self.inside in
     let h = subst (IsProc net) (sym c.self.view_is) c.requires.proc in
     let st = c.step_copies.new.stage in
-    let far = subst (λ s. Stepping net s ends c.args.bound i.copies st.done st.sent.items st.over c.args.steps.now
+    let far = subst (λ s. IsStepResult net s ends c.args.bound i.copies st.done st.sent.items st.over c.args.steps.now
     c.step_copies.new.steps) (ap (λ (u : ProcView). u.station) (c.self-2.view_is ∙ c.take_copies-copies.ensures.none))
-    (subst (λ k. Stepping net c.self-2.inside.station ends c.args.bound k st.done st.sent.items st.over
+    (subst (λ k. IsStepResult net c.self-2.inside.station ends c.args.bound k st.done st.sent.items st.over
     c.args.steps.now c.step_copies.new.steps) c.take_copies-copies.ensures.copies
     c.in_ok-step_copies.ensures.stepped) in
     subst (λ (u : ProcView). GainTogether (simulation net) has ends u.station c.args.bound u.copies st.handled)
@@ -120,9 +120,9 @@ returns-clause-few g c =
     let i = c.self.inside in
     let h = subst (IsProc net) (sym c.self.view_is) c.requires.proc in
     let st = c.step_copies.new.stage in
-    let far = subst (λ s. Stepping net s ends c.args.bound i.copies st.done st.sent.items st.over c.args.steps.now
+    let far = subst (λ s. IsStepResult net s ends c.args.bound i.copies st.done st.sent.items st.over c.args.steps.now
     c.step_copies.new.steps) (ap (λ (u : ProcView). u.station) (c.self-2.view_is ∙ c.take_copies-copies.ensures.none))
-    (subst (λ k. Stepping net c.self-2.inside.station ends c.args.bound k st.done st.sent.items st.over
+    (subst (λ k. IsStepResult net c.self-2.inside.station ends c.args.bound k st.done st.sent.items st.over
     c.args.steps.now c.step_copies.new.steps) c.take_copies-copies.ensures.copies
     c.in_ok-step_copies.ensures.stepped) in
     subst (λ (u : ProcView). st.handled ≤ size u.living * net.limit) c.self.view_is

@@ -16,8 +16,8 @@ invariant_of-self c =
     (ap (λ (u : ProcView). has u.living c.args.old) is ∙ c.requires.old)
     (ap (λ (u : ProcView). has u.living c.args.new) is ∙ c.requires.new) c.self.invariant)
 
-pub returns-clause-stands : goal.returns-clause-stands
-returns-clause-stands c = λ net ends f.
+pub returns-clause-each_forked : goal.returns-clause-each_forked
+returns-clause-each_forked c = λ net ends f.
     let i = c.self.inside in
     let h = subst (IsProc net) (sym c.self.view_is) f in
     let fresh = fresh_in c.args.old c.args.new i.living i.copies c.self.invariant.shares.together

@@ -13,4 +13,4 @@ invariant_of-result c =
     let i = c.self.inside in
     rw c.in_ok-copies.ensures.seen (shows net cs i.station c.args.front i.copies c.requires.few c.requires.early
     (subst (λ (u : ProcView). Stands (simulation net) has cs c.args.front u.station u.copies)
-    (sym c.self.view_is) c.requires.stands))
+    (sym c.self.view_is) c.requires.right))

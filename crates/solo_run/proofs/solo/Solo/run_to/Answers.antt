@@ -1,6 +1,7 @@
 use Rattle.std.proofs.Common.{refl, ap, sym, subst, ◌∙◌, length, arith}
 use Rattle.sim_base.specs.Order.{msg_cmp}
 use Rattle.run_laws.specs.Machine.{Reach, stay, go}
+use Rattle.solo_run.specs.EventLists.{EventListView}
 use Rattle.solo_run.specs.SoloView.{SoloView, IsSolo, config_of}
 use Rattle.solo_run.specs.Turns.{step_of}
 use Rattle.solo_run.proofs.ToFront.{next_turn, run_ends, short, stops}
@@ -11,9 +12,9 @@ loop-due-init g c = record { solo = c.requires.solo; ran = stay; steps = refl }
 
 pub turn-requires-clause-solo : goal.turn-requires-clause-solo
 turn-requires-clause-solo g c =
-    let taken = ap (λ p. let v : SoloView = record {
+    let taken = ap (λ (p : EventListView). let v : SoloView = record {
       states = c.self.inside.states.items;
-      pending = p;
+      pending = p.messages;
       trace = c.self.inside.trace;
     } in v) c.in-Some.ensures.some.0 in
     subst (λ (v : SoloView). IsSolo c.args.model.now v) (sym c.self.view_is ∙ taken) c.loop-due.invariant.solo
@@ -31,12 +32,12 @@ loop-due-preserved g c =
     let some = c.in-Some.ensures.some in
     let w : SoloView = record {
       states = c.self.inside.states.items;
-      pending = c.take_before.new.self;
+      pending = c.take_before.new.self.messages;
       trace = c.self.inside.trace;
     } in
-    let taken = ap (λ p. let v : SoloView = record {
+    let taken = ap (λ (p : EventListView). let v : SoloView = record {
       states = c.self.inside.states.items;
-      pending = p;
+      pending = p.messages;
       trace = c.self.inside.trace;
     } in v) some.0 in
     let ran = subst (λ (v : SoloView). Reach msg_cmp (λ m. m.key.time) (step_of net) c.args.front
@@ -44,7 +45,7 @@ loop-due-preserved g c =
     let same = ap (λ (v : SoloView). length v.trace) c.self.view_is in
     record {
       solo = c.in-Ok.ensures.solo;
-      ran = go ran (next_turn net c.requires.solo.valid c.args.front w c.in-Some.due.0 c.turn.new.self some.1
+      ran = go ran (next_turn net c.requires.solo.valid c.args.front w c.in-Some.due c.turn.new.self some.1
           c.in-Ok.ensures.turned);
       steps = omega (arith, inv.steps, same, c.in-Ok.ensures.counted, c.in-Ok.ensures.longer);
     }
@@ -56,12 +57,12 @@ returns-in-Err-clause-stops g c =
     let some = c.in-Some.ensures.some in
     let w : SoloView = record {
       states = c.self.inside.states.items;
-      pending = c.take_before.new.self;
+      pending = c.take_before.new.self.messages;
       trace = c.self.inside.trace;
     } in
-    let taken = ap (λ p. let v : SoloView = record {
+    let taken = ap (λ (p : EventListView). let v : SoloView = record {
       states = c.self.inside.states.items;
-      pending = p;
+      pending = p.messages;
       trace = c.self.inside.trace;
     } in v) some.0 in
     let is = sym c.self.view_is ∙ taken in
@@ -70,7 +71,7 @@ returns-in-Err-clause-stops g c =
     (config_of net c.args.self) (config_of net v)) is inv.ran in
     let same = ap (λ (v : SoloView). length v.trace) c.self.view_is in
     let count = inv.steps in
-    stops net c.requires.solo.valid c.args.front c.args.self w c.in-Some.due.0 _ _ c.loop-due.steps c.in-Err.fault
+    stops net c.requires.solo.valid c.args.front c.args.self w c.in-Some.due _ _ c.loop-due.steps c.in-Err.fault
     c.requires.solo here ran some.1 c.in-Err.ensures.full (omega (arith, count, same))
 
 pub returns-clause-ok : goal.returns-clause-ok
@@ -80,16 +81,16 @@ returns-clause-ok g c =
     let none = c.in_default.ensures.none in
     let w : SoloView = record {
       states = c.self.inside.states.items;
-      pending = c.self.inside.pending;
+      pending = c.self.inside.pending.messages;
       trace = c.self.inside.trace;
     } in
     let back = sym c.self.view_is in
     let here = subst (λ (v : SoloView). IsSolo net v) back inv.solo in
     let ran = subst (λ (v : SoloView). Reach msg_cmp (λ m. m.key.time) (step_of net) c.args.front
     (config_of net c.args.self) (config_of net v)) back inv.ran in
-    ap (λ p. let v : SoloView = record {
+    ap (λ (p : EventListView). let v : SoloView = record {
       states = c.self.inside.states.items;
-      pending = p;
+      pending = p.messages;
       trace = c.self.inside.trace;
     } in config_of net v) none.0
     ∙ run_ends net c.requires.solo.valid c.args.front c.args.self w c.requires.solo here ran none.1

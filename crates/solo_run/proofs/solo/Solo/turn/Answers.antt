@@ -1,7 +1,7 @@
-use Rattle.std.proofs.Common.{subst, sym}
+use Rattle.std.proofs.Common.{subst, sym, []}
 use Rattle.solo_run.specs.SoloView.{SoloView, IsSolo, with_due}
 use Rattle.solo_run.specs.Turns.{Turned}
-use Rattle.solo_run.proofs.OneTurn.{solo_is, turned}
+use Rattle.solo_run.proofs.OneTurn.{sends_may_be_pending, solo_is, turned}
 use Rattle.solo_run.proofs.solo.Solo.turn.Goals as goal
 
 pub handle_at-requires-clause-suits : goal.handle_at-requires-clause-suits
@@ -16,25 +16,41 @@ handle_at-requires-clause-numbers g c i st is =
     (sym c.self.view_is) c.requires.solo in
     (solo.states i st is).station
 
+pub put_all-requires : goal.put_all-requires
+put_all-requires g c =
+    let net = c.args.model.now in
+    let m = c.args.msg.now in
+    let v : SoloView = record {
+      states = c.self.inside.states.items;
+      pending = c.self.inside.pending.messages;
+      trace = c.self.inside.trace;
+    } in
+    let solo = subst (λ (w : SoloView). IsSolo net (with_due m w)) (sym c.self.view_is) c.requires.solo in
+    record {
+      all = rw c.as_slice.ensures.value
+          (sends_may_be_pending net solo.valid v m c.handle_at.new.states.items [] _ _ c.requires.early solo
+          c.in_ok-line.ensures.ok c.self.inside.pending.stations c.self.invariant);
+    }
+
 pub returns-clause-turned : goal.returns-clause-turned
 returns-clause-turned g c =
     let net = c.args.model.now in
     let m = c.args.msg.now in
     let v : SoloView = record {
       states = c.self.inside.states.items;
-      pending = c.self.inside.pending;
+      pending = c.self.inside.pending.messages;
       trace = c.self.inside.trace;
     } in
     let solo = subst (λ (w : SoloView). IsSolo net (with_due m w)) (sym c.self.view_is) c.requires.solo in
     let new : SoloView = record {
       states = c.handle_at.new.states.items;
-      pending = c.put_all.new.pending;
+      pending = c.put_all.new.pending.messages;
       trace = c.push.new.self;
     } in
     subst (λ (w : SoloView). Turned net w m new) c.self.view_is
     (rw c.in-Ok-push.ensures.ok
-    (turned net solo.valid v m c.handle_at.new.states.items c.put_all.new.pending _ _ c.requires.early solo
-    c.in_ok-line.ensures.ok (rw c.as_slice.ensures.value at c.in-Ok.ensures)))
+    (turned net solo.valid v m c.handle_at.new.states.items c.put_all.new.pending.messages _ _ c.requires.early solo
+    c.in_ok-line.ensures.ok (rw c.as_slice.ensures.value at c.in-Ok.ensures.ok)))
 
 pub returns-clause-solo : goal.returns-clause-solo
 returns-clause-solo g c =
@@ -42,9 +58,9 @@ returns-clause-solo g c =
     let m = c.args.msg.now in
     let v : SoloView = record {
       states = c.self.inside.states.items;
-      pending = c.self.inside.pending;
+      pending = c.self.inside.pending.messages;
       trace = c.self.inside.trace;
     } in
     let solo = subst (λ (w : SoloView). IsSolo net (with_due m w)) (sym c.self.view_is) c.requires.solo in
-    rw c.in-Ok-push.ensures.ok (solo_is net solo.valid v m c.handle_at.new.states.items c.put_all.new.pending _ _
-    c.requires.early solo c.in_ok-line.ensures.ok (rw c.as_slice.ensures.value at c.in-Ok.ensures))
+    rw c.in-Ok-push.ensures.ok (solo_is net solo.valid v m c.handle_at.new.states.items c.put_all.new.pending.messages _ _
+    c.requires.early solo c.in_ok-line.ensures.ok (rw c.as_slice.ensures.value at c.in-Ok.ensures.ok))

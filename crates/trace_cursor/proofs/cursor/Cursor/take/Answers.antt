@@ -1,4 +1,5 @@
 use Rattle.std.proofs.Common.{Some, arith}
+use Rattle.log_chain.specs.Stored.{entry_in}
 use Rattle.trace_cursor.proofs.Stepping.{stepped, given, turn_is, turn_some, turn_fits}
 use Rattle.trace_cursor.proofs.cursor.Cursor.take.Goals as goal
 
@@ -30,7 +31,7 @@ word-requires-clause-fit c =
     let walks = c.self.inside.walks in
     turn_fits walks.items c.self.inside.tree _ _ c.self.invariant c.least-place.result c.least-place.ensures.value
     c.args.self.now c.self.view_is c.requires.some c.index_mut.result.now c.take-entry.new.self c.index.result.now
-    c.take-entry.result c.index_mut.ensures.value c.take-entry.ensures.value c.index.ensures
+    (entry_in c.take-entry.result) c.index_mut.ensures.value c.take-entry.ensures.value c.index.ensures
 
 pub set-requires : goal.set-requires
 set-requires c =
@@ -38,7 +39,7 @@ set-requires c =
     let h = c.self.invariant in
     let there = turn_is walks.items c.self.inside.tree _ _ h c.least-place.result c.least-place.ensures.value
     c.args.self.now c.self.view_is c.requires.some in
-    record { there = omega (arith, there, h.place, h.there) }
+    record { there = omega (arith, there, h.within, h.there) }
 
 pub invariant_of-self : goal.invariant_of-self
 invariant_of-self c =
@@ -47,7 +48,7 @@ invariant_of-self c =
     c.least-place.ensures.value c.args.self.now c.self.view_is c.requires.some in
     stepped walks.items c.self.inside.tree _ _ c.self.invariant c.least-place.result c.least-place.ensures.value there
     c.index_mut.result.now c.take-entry.new.self c.index_mut.ensures.value
-    (Some c.take-entry.result) c.take-entry.ensures.value tt
+    (Some (entry_in c.take-entry.result)) c.take-entry.ensures.value tt
     c.set.new.self c.word.result c.index.result.now c.index.ensures c.word.ensures.value c.set.ensures.value
 
 pub returns-clause-value : goal.returns-clause-value
@@ -57,5 +58,5 @@ returns-clause-value c =
     c.least-place.ensures.value c.args.self.now c.self.view_is c.requires.some in
     given walks.items c.self.inside.tree _ _ c.self.invariant c.least-place.result c.least-place.ensures.value there
     c.index_mut.result.now c.take-entry.new.self c.index_mut.ensures.value
-    (Some c.take-entry.result) c.take-entry.ensures.value tt
+    (Some (entry_in c.take-entry.result)) c.take-entry.ensures.value tt
     c.args.self.now c.self.view_is

@@ -9,11 +9,11 @@ use Rattle.world_core.proofs.windows.Window.stepped.Goals as goal
 pub returns-clause-flow : goal.returns-clause-flow
 returns-clause-flow g c =
     let same = c.lend-sent.ensures.same in
-    let v : WindowView = record { net = c.deref.result.now; ended = c.deref-2.result.now; bound = c.self.inside.bound } in
-    let here : v ≡ c.args.self.now = ap₂ (λ n e. record { net = n; ended = e; bound = c.self.inside.bound })
+    let v : WindowView = record { net = c.deref.result.now; ends = c.deref-2.result.now; bound = c.self.inside.bound } in
+    let here : v ≡ c.args.self.now = ap₂ (λ n e. record { net = n; ends = e; bound = c.self.inside.bound })
     c.deref.ensures c.deref-2.ensures ∙ c.self.view_is in
     let net = v.net in
-    let ends = ends_in v.net.horizon v.ended in
+    let ends = ends_in v.net.horizon v.ends in
     let e = c.in_ok-gain.ensures in
     let flow : Flow = record {
       done = c.advance.new.self;
@@ -21,7 +21,7 @@ returns-clause-flow g c =
       over = c.in_ok-gain.gain.over;
       handled = c.in_ok-gain.gain.handled;
     } in
-    subst (λ (w : WindowView). IsFlow w.net (ends_in w.net.horizon w.ended) w.bound c.args._i c.args.proc flow) here
+    subst (λ (w : WindowView). IsFlow w.net (ends_in w.net.horizon w.ends) w.bound c.args._i c.args.proc flow) here
     (subst (λ (p : ProcView). IsFlow net ends c.self.inside.bound c.args._i p flow) same
     (is_flow net ends c.self.inside.bound c.args._i c.lend-sent.new.self flow
     (ap (λ (p : ProcView). p.station) same ∙ c.requires.numbered.number)

@@ -1,5 +1,7 @@
 use Rattle.std.proofs.Common.{◌≡◌, ◌-◌, ◌≤◌, sym, ap, ◌∙◌, subst, arith, length}
 use Rattle.std.specs.List.{AllByRecursion}
+use Rattle.sim_base.specs.declared.lists.TheConstants.{MOST_CLONES}
+use Rattle.net_model.specs.declared.limits.TheConstants.{MOST_LIMIT}
 use Rattle.stations.specs.Runs.{copies, handled, alone}
 use Rattle.phys_proc.specs.Own.{StationCopy, all_sizes, handled_alone}
 use Rattle.world_core.specs.Worlds.{WorldView}
@@ -16,7 +18,7 @@ alone_in-requires-clause-short c =
     let got = got_at procs (c.args.station - 1) p (omega (arith, c.requires.low, high, many)) c.index-proc.ensures in
     let proc = (c.self.invariant.each (c.args.station - 1) p got).proc in
     let short = c.self.invariant.valid.short in
-    subst (AllByRecursion (λ (a : StationCopy). length a.log ≤ 65536)) (sym c.copies-2.ensures.value)
+    subst (AllByRecursion (λ (a : StationCopy). length a.log ≤ MOST_LIMIT)) (sym c.copies-2.ensures.value)
     (all_short c.self.inside.model.value p.station p.copies (omega (arith, short)) proc.copies)
 
 pub alone_in-requires-clause-few : goal.alone_in-requires-clause-few
@@ -28,7 +30,7 @@ alone_in-requires-clause-few c =
     let got = got_at procs (c.args.station - 1) p (omega (arith, c.requires.low, high, many)) c.index-proc.ensures in
     let f = figured c.self.inside.model.value c.self.inside.lists.clones c.self.inside.ends c.self.inside.front procs
     c.self.invariant c.args.station p c.requires.low got in
-    subst (λ k. all_sizes k ≤ 256) (sym c.copies-2.ensures.value) f.sizes
+    subst (λ k. all_sizes k ≤ MOST_CLONES) (sym c.copies-2.ensures.value) f.sizes
 
 pub returns-clause-copies : goal.returns-clause-copies
 returns-clause-copies c =

@@ -4,8 +4,8 @@ use Rattle.world_core.proofs.Places.{got_at}
 use Rattle.world_core.proofs.Worlds.{stands_for_reader}
 use Rattle.world_core.proofs.world.World.rack.Goals as goal
 
-pub rack-requires-clause-stands : goal.rack-requires-clause-stands
-rack-requires-clause-stands c =
+pub rack-requires-clause-copies : goal.rack-requires-clause-copies
+rack-requires-clause-copies c =
     let procs = c.self.inside.procs.items in
     let p = c.index_mut.result.now in
     let high = subst (λ (w : WorldView). c.args.station ≤ length w.net.sites) (sym c.self.view_is) c.requires.high in

@@ -30,7 +30,7 @@ returns-in-Some-clause-fault g c =
     (sym c.self.view_is) c.requires.within in
     let later : front < bound = subst (λ (w : WorldView). w.front < c.args.bound)
     (sym c.self.view_is) c.requires.above in
-    let stepped = c.in-Ok.ensures.stepped.stepped in
+    let stepped = c.in-Ok.ensures.stepped.each in
     let many = c.in-Ok.ensures.stepped.count in
     let first = subst (FirstOver flows) c.in-Some.is c.in-Ok.ensures.stepped.first in
     let few = few_are net cs ended front bound procs c.self.invariant later soon flows many stepped in
@@ -61,9 +61,9 @@ give_all-requires-clause-numbered g c =
     (sym c.self.view_is) c.requires.within in
     let later : front < bound = subst (λ (w : WorldView). w.front < c.args.bound)
     (sym c.self.view_is) c.requires.above in
-    let stepped = c.in-Ok.ensures.stepped.stepped in
+    let stepped = c.in-Ok.ensures.stepped.each in
     let many = c.in-Ok.ensures.stepped.count in
-    subst AreNumbered (sym c.in-Ok.ensures.stepped.done)
+    subst AreNumbered (sym c.in-Ok.ensures.stepped.procs)
     (done_numbered net cs ended front bound procs c.self.invariant later soon flows many stepped)
 
 pub invariant_of-result : goal.invariant_of-result
@@ -80,13 +80,13 @@ invariant_of-result g c =
     (sym c.self.view_is) c.requires.within in
     let later : front < bound = subst (λ (w : WorldView). w.front < c.args.bound)
     (sym c.self.view_is) c.requires.above in
-    let stepped = c.in-Ok.ensures.stepped.stepped in
+    let stepped = c.in-Ok.ensures.stepped.each in
     let many = c.in-Ok.ensures.stepped.count in
     let none = subst (FirstOver flows) c.in_default-over.is c.in-Ok.ensures.stepped.first in
     world_after net cs ended front bound procs c.self.invariant later soon flows many stepped none
     c.in-Ok-give_all.procs.items
     (subst (λ (k : List ProcView). AllDelivered (all_sent flows) k c.in-Ok-give_all.procs.items)
-    c.in-Ok.ensures.stepped.done
+    c.in-Ok.ensures.stepped.procs
     (subst (λ (k : Marked). AllDelivered k c.in-Ok.stepped.procs.items c.in-Ok-give_all.procs.items)
     (c.as_slice-sent.ensures.value ∙ c.in-Ok.ensures.stepped.sent_is) c.in-Ok-give_all.ensures.given))
 
@@ -104,7 +104,7 @@ returns-in-Ok-give_all-clause-steps g c =
     (sym c.self.view_is) c.requires.within in
     let later : front < bound = subst (λ (w : WorldView). w.front < c.args.bound)
     (sym c.self.view_is) c.requires.above in
-    let stepped = c.in-Ok.ensures.stepped.stepped in
+    let stepped = c.in-Ok.ensures.stepped.each in
     let many = c.in-Ok.ensures.stepped.count in
     let none = subst (FirstOver flows) c.in_default-over.is c.in-Ok.ensures.stepped.first in
     let grown = steps_sum net cs ended front bound procs c.self.invariant later soon flows many stepped none in
@@ -126,7 +126,7 @@ returns-in-Ok-give_all-clause-short g c =
     (sym c.self.view_is) c.requires.within in
     let later : front < bound = subst (λ (w : WorldView). w.front < c.args.bound)
     (sym c.self.view_is) c.requires.above in
-    let stepped = c.in-Ok.ensures.stepped.stepped in
+    let stepped = c.in-Ok.ensures.stepped.each in
     let many = c.in-Ok.ensures.stepped.count in
     let none = subst (FirstOver flows) c.in_default-over.is c.in-Ok.ensures.stepped.first in
     subst (λ (w : WorldView). NoneBeyond w.net w.clones c.args.bound) c.self.view_is

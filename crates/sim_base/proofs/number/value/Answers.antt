@@ -1,5 +1,5 @@
-use Rattle.command_words.proofs.Digits.{value_more}
-use Rattle.command_words.proofs.number.value.Goals as goal
+use Rattle.sim_base.proofs.Digits.{value_more}
+use Rattle.sim_base.proofs.number.value.Goals as goal
 
 pub loop-digit-preserved : goal.loop-digit-preserved
 loop-digit-preserved c =

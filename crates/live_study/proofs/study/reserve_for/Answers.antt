@@ -1,5 +1,5 @@
 use Rattle.std.proofs.Common.{arith}
-use Rattle.live_study.proofs.study.room_for.Goals as goal
+use Rattle.live_study.proofs.study.reserve_for.Goals as goal
 
 pub returns : goal.returns
 returns c = record {

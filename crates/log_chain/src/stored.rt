@@ -1,0 +1,41 @@
+//! One entry as a log stores it.
+ghost use Rattle.std.specs.Prelude.{◌≡◌};
+
+use crate::packed::{Packed, is_wide, unpack};
+use sim_base::Entry;
+
+/// An entry of a log as the log stores it: packed in 32 bytes, or whole where a number of it is too large. What writes a
+/// packed entry somewhere else reads it part by part, and never has the whole entry in memory.
+#[derive(Clone, Copy)]
+pub enum StoredEntry<'a> {
+    Packed(&'a Packed),
+    Whole(&'a Entry),
+}
+
+impl<'a> StoredEntry<'a> {
+    ghost use Rattle.log_chain.specs.Packing.{entry_of};
+    ghost use Rattle.log_chain.specs.Stored.{entry_in};
+
+    /// The entry of a packed one; `wide` is the side list.
+    #[inline(always)]
+    pub(crate) fn new(packed: &'a Packed, wide: &'a [Entry]) -> StoredEntry<'a>
+        ensures value { entry_in result ≡ entry_of wide.now packed.now }
+    {
+        if is_wide(&packed.msg) && (packed.msg.count as usize) < wide.len() {
+            StoredEntry::Whole(&wide[packed.msg.count as usize])
+        } else {
+            StoredEntry::Packed(packed)
+        }
+    }
+
+    /// The entry.
+    #[inline(always)]
+    pub fn entry(self) -> Entry
+        ensures value { result ≡ entry_in self.entry }
+    {
+        match self {
+            StoredEntry::Packed(packed) => packed.entry(),
+            StoredEntry::Whole(entry) => *entry,
+        }
+    }
+}

@@ -1,0 +1,20 @@
+use Rattle.std.proofs.Common.{◌≡◌, ◌∙◌, ap, arith, length, replicate, []}
+use Rattle.std.proofs.lemmas.List.{length-replicate}
+use Rattle.solo_run.proofs.Events.{nothing_is, merged-nothing, view_is}
+use Rattle.solo_run.proofs.event_list.EventList.new.Goals as goal
+
+pub invariant_of-result : goal.invariant_of-result
+invariant_of-result c =
+    let end : c.loop-station._station ≡ c.args.stations = omega arith in
+    nothing_is c.args.stations c.loop-station.lists.items c.in_ok-words.words
+    c.requires.few (c.loop-station.invariant ∙ ap (λ n. replicate n []) end) c.in_ok-words.ensures.value
+
+pub returns : goal.returns
+returns c =
+    let lists = c.loop-station.lists.items in
+    let end : c.loop-station._station ≡ c.args.stations = omega arith in
+    let empty = c.loop-station.invariant ∙ ap (λ n. replicate n []) end in
+    record {
+      value = view_is _ [] _ c.args.stations (merged-nothing c.args.stations lists empty)
+          (ap length empty ∙ length-replicate c.args.stations []);
+    }

@@ -1,0 +1,179 @@
+//! The pending messages of all stations: the future event list.
+//!
+//! Each station has a list of its own, so that an insert looks only among the messages to one station, and a
+//! tournament of the lists' first keys tells which list has the first message of all:
+//!
+//!     gate [3 9 ..]   desk [8 12 ..]   out []          least word: 3 gate
+//!
+//! A key is one word of 64 bits, with the place of its list as the last six, so that a step is one `min` a level and
+//! no branch. A key fits with a time below 2^30, a sender below 128 and a number below 2^21, as those of a run do;
+//! where one does not, all lists are looked through.
+ghost use Rattle.std.specs.Prelude.{ℕ, length, get_or, ◌≡◌, ◌∷◌, [], ◌≤◌, ◌<◌, ◌^◌, IfOk, IfNone, IfSome, OnOk, OnErr};
+ghost use Rattle.std.specs.List.{AllByRecursion};
+ghost use Rattle.sim_base.specs.Order.{msg_cmp};
+ghost use Rattle.run_laws.specs.Queue.{insert};
+ghost use Rattle.solo_run.specs.EventLists.{HasFirst, IsEventList, IsFound, IsListOf, MayBePending, first_found, merged};
+ghost use Rattle.solo_run.specs.EventLists.{word_of, word_of_key};
+
+use sim_base::message::compare;
+use sim_base::{Key, Msg, NoMemory, Pending};
+use std::alloc::Global;
+use std::marker::Model;
+use trace_cursor::Tree;
+
+/// Pending messages in their order, for so many stations.
+#[derive(Drop)]
+pub struct EventList {
+    // the list at i is that of the station i + 1
+    lists: Vec<Pending<()>>,
+    // the word at i is that of the first message of the list at i
+    words: Tree,
+}
+
+impl Model for EventList {
+    ghost use Rattle.std.specs.Prelude.{length};
+    ghost use Rattle.solo_run.specs.EventLists.{EventListView, IsEventList, merged};
+
+    ghost Value = { EventListView };
+
+    ghost view = { λ e. record { messages = merged e.lists.items; stations = length e.lists.items } };
+
+    ghost invariant = { λ e. IsEventList e.lists.items e.words };
+}
+
+impl EventList {
+    /// Nothing is pending.
+    pub(crate) fn new(alloc: Global, stations: u32) -> Result<EventList, NoMemory>
+        requires some { 1 ≤ stations }
+        requires few { stations ≤ 64 }
+        ensures value { IfOk result (λ e. e ≡ record { messages = []; stations = stations }) }
+    {
+        let mut lists = Vec::new(alloc);
+        for _station in 0..stations {
+            lists.push(Pending::new(alloc))?;
+        }
+        let words = Tree::new(alloc, stations as usize)?;
+        Ok(EventList { lists, words })
+    }
+
+    /// Adds a message; one that is there already is not added again.
+    ///
+    /// Out of memory leaves all unchanged.
+    pub(crate) fn insert(&mut self, msg: Msg) -> Result<(), NoMemory>
+        requires pending { MayBePending self.old.stations msg }
+        ensures ok { OnOk result (self.new ≡ record self.old { messages = insert msg_cmp msg self.old.messages }) }
+        ensures err { OnErr result (self.new ≡ self.old) }
+    {
+        let i = msg.to as usize - 1;
+        self.lists[i].insert(msg, ())?;
+        let word = word_of(&self.lists[i], i);
+        self.words.set(i, word);
+        Ok(())
+    }
+
+    /// Takes the first message out if its time is before the bound. None changes nothing.
+    pub(crate) fn take_before(&mut self, bound: u64) -> Option<Msg>
+        requires soon { bound < 2 ^ 30 }
+        ensures some { IfSome result (λ m. (self.old ≡ record self.new { messages = m ∷ self.new.messages })
+            × (m.key.time < bound)) }
+        ensures none { IfNone result ((self.new ≡ self.old)
+            × AllByRecursion (λ m. bound ≤ m.key.time) self.old.messages) }
+    {
+        let i = first_before(&self.lists, &self.words, bound)?;
+        let msg = self.lists[i].take_message();
+        let word = word_of(&self.lists[i], i);
+        self.words.set(i, word);
+        Some(msg)
+    }
+}
+
+// The place of the list that has the first message of all, if that is before the bound.
+#[inline(always)]
+fn first_before(lists: &Vec<Pending<()>>, words: &Tree, bound: u64) -> Option<usize>
+    requires lists { IsEventList lists.now.items words.now }
+    requires soon { bound < 2 ^ 30 }
+    ensures some { IfSome result (λ i. HasFirst lists.now.items bound i) }
+    ensures none { IfNone result (AllByRecursion (λ m. bound ≤ m.key.time) (merged lists.now.items)) }
+{
+    let word = words.least();
+    if word == 0 {
+        return look_through(lists, bound);
+    }
+    if word / 17_179_869_184 < bound {
+        Some((word % 64) as usize)
+    } else {
+        None
+    }
+}
+
+// The same by all first messages, where a key fits no word.
+fn look_through(lists: &Vec<Pending<()>>, bound: u64) -> Option<usize>
+    requires lists { (i : ℕ) → i < length lists.now.items → IsListOf i (get_or lists.now.items i []) }
+    ensures some { IfSome result (λ i. HasFirst lists.now.items bound i) }
+    ensures none { IfNone result (AllByRecursion (λ m. bound ≤ m.key.time) (merged lists.now.items)) }
+{
+    match find_first(lists) {
+        Some((i, msg)) if msg.key.time < bound => Some(i),
+        _ => None,
+    }
+}
+
+// The list whose first message none of the lists' firsts comes before, with that message.
+fn find_first(lists: &Vec<Pending<()>>) -> Option<(usize, Msg)>
+    ensures value { IsFound lists.now.items (length lists.now.items) result }
+{
+    let mut found = None;
+    for i in 0..lists.len() {
+        found = first_found(found, i, lists[i].least());
+    }
+    found
+}
+
+// What was found, or the first message of a further list where that comes before it.
+fn first_found(
+    found: Option<(usize, Msg)>,
+    i: usize,
+    first: Option<(Msg, ())>,
+) -> Option<(usize, Msg)>
+    ensures value { result ≡ first_found found i first }
+{
+    match (found, first) {
+        (found, None) => found,
+        (None, Some((msg, ()))) => Some((i, msg)),
+        (Some((place, least)), Some((msg, ()))) => {
+            if compare(&msg, &least).is_lt() {
+                Some((i, msg))
+            } else {
+                Some((place, least))
+            }
+        }
+    }
+}
+
+// The word of the first message of the list at place i.
+#[inline(always)]
+fn word_of(list: &Pending<()>, i: usize) -> u64
+    requires few { i < 64 }
+    ensures value { result ≡ word_of i list.now }
+{
+    match list.least() {
+        Some((msg, ())) => word_of_key(msg.key, i),
+        None => u64::MAX,
+    }
+}
+
+// A key as a word, with the place of its list.
+#[inline(always)]
+fn word_of_key(key: Key, i: usize) -> u64
+    requires few { i < 64 }
+    ensures value { result ≡ word_of_key i key }
+{
+    if key.time >= 1_073_741_824 {
+        return u64::MAX;
+    }
+    if key.sender < 128 && key.number < 2_097_152 {
+        ((key.time * 128 + u64::from(key.sender)) * 2_097_152 + key.number) * 64 + i as u64
+    } else {
+        0
+    }
+}
