@@ -23,8 +23,8 @@ use Rattle.cloner_top.specs.declared.stop.Stop.TheVariants.{BadModel, BadScript,
 use Rattle.cloner_top.specs.Answers.{Comes, IsAnswer, IsDisobeyed, IsRefused, IsUnobeyed, Outside}
 use Rattle.cloner_top.specs.Answers as answer
 use Rattle.cloner_top.specs.Deciding.{IsDecided, IsRefusal}
-use Rattle.cloner_top.specs.Endings.{DecidesFirst, Ending, MayCome, MayEnd, MaySimulate}
-use Rattle.cloner_top.specs.Endings.{StoppedFor, Wrote, overrun, stopped, written}
+use Rattle.cloner_top.specs.Endings.{DecidesFirst, Ending, MayEnd, MaySimulate}
+use Rattle.cloner_top.specs.Endings.{StoppedFor, Wrote, early_stop, overrun, whole_output}
 use Rattle.cloner_top.specs.Endings as ends
 use Rattle.cloner_top.specs.Outsides.{ArePut, ArePutOrCut, IsFailed, IsStudyPut, IsHalted, IsNotPut}
 use Rattle.cloner_top.specs.Plans.{IsRead, IsUnreadStudy, StopsEarly}
@@ -93,7 +93,7 @@ refused_end a net stated steps out NoScript first h = absurd h
 refused_end a net stated steps out (Stopped stop) first h = (of_stop stop h, refl)
   where
     of_stop : (stop : Stop) → IsRefusal net stated stop → StoppedFor (MayEnd a net stated) steps steps [] stop
-    of_stop (Refused reply line) h = ends.at_once refl (ends.refused reply line first h) refl
+    of_stop (Refused reply line) h = ends.at_once refl (ends.refused_decision reply line first h) refl
     of_stop (BadModel fault) h = absurd h
     of_stop (BadScript fault) h = absurd h
     of_stop (NoClone name) h = absurd h
@@ -118,11 +118,11 @@ fetched_twice = twice
 
 module _ (P Q : Ending → Type 0) (on : (end : Ending) → P end → Q end) (old_steps new_steps : ℕ) where
   wrote_on : (texts : List (List ℕ)) → Wrote P old_steps new_steps texts → Wrote Q old_steps new_steps texts
-  wrote_on texts w = record { work = w.work; may = on (written texts w.work) w.may; steps = w.steps }
+  wrote_on texts w = record { work = w.work; may = on (whole_output texts w.work) w.may; steps = w.steps }
 
   stopped_on : (told : List (List ℕ)) (stop : Stop) → StoppedFor P old_steps new_steps told stop
       → StoppedFor Q old_steps new_steps told stop
-  stopped_on told stop (ends.at_once none may same) = ends.at_once none (on (stopped stop) may) same
+  stopped_on told stop (ends.at_once none may same) = ends.at_once none (on (early_stop stop) may) same
   stopped_on told stop (ends.at_limit most may few) = ends.at_limit most (on (overrun told stop most) may) few
 
   -- where every ending of one kind is of another, a study written for the one is written for the other
@@ -195,8 +195,8 @@ unread_is rose files a steps out CannotWrite h = absurd h
 
 -- ---- texts that were put
 
-module _ (P : Ending → Type 0) (old_steps new_steps work : ℕ) (texts : List (List ℕ)) (may : P (written texts work))
-    (steps : new_steps ≡ old_steps + work) (old new : SinkView) where
+module _ (P : Ending → Type 0) (old_steps new_steps work : ℕ) (texts : List (List ℕ))
+    (may : P (whole_output texts work)) (steps : new_steps ≡ old_steps + work) (old new : SinkView) where
   -- where the texts of a lawful ending were put, the study is written
   pub all_put : ArePut texts old new → IsStudyPut P old_steps new_steps old new
   all_put put = record { texts = texts; wrote = record { work = work; may = may; steps = steps }; put = put }
@@ -244,7 +244,7 @@ module _ (words : Option Assignment) (before after : Outside) where
   by_refusal a Usage is h told = absurd h
   by_refusal a NoModel is h told = answer.no_model a is h.0 (record { output = h.1; told_is = told }) h.2
   by_refusal a NoScript is h told = answer.no_script a is h.0 h.1 (record { output = h.2; told_is = told }) h.3
-  by_refusal a (Stopped stop) is h told = answer.stopped a is [] stop h.0 (record { output = h.1; told_is = told })
+  by_refusal a (Stopped stop) is h told = answer.study_stop a is [] stop h.0 (record { output = h.1; told_is = told })
   by_refusal a CannotWrite is h told = answer.cut a is h told
 
   -- where what is asked was not written, and a line was told, the status of that cause is the answer
@@ -261,4 +261,4 @@ module _ (words : Option Assignment) (before after : Outside) where
       → after.output ≡ before.output → ArePutOrCut (journal ∷ stop_line stop ∷ []) before.errors after.errors
       → status ≡ stop_status stop → IsAnswer words before after status
   overrun_is a journal stop status asks h output told is = subst (IsAnswer words before after) (sym is)
-      (answer.stopped a asks (journal ∷ []) stop h (record { output = output; told_is = told }))
+      (answer.study_stop a asks (journal ∷ []) stop h (record { output = output; told_is = told }))

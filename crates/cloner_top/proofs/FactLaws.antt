@@ -20,10 +20,10 @@ use Rattle.cloner_top.specs.declared.refusal.Refusal.TheVariants.{NoScript, Stop
 use Rattle.cloner_top.specs.declared.stop.Stop.{Stop}
 use Rattle.cloner_top.specs.declared.stop.Stop.TheVariants.{BadModel, BadScript, Refused, NoClone, LimitMet}
 use Rattle.cloner_top.specs.Answers.{Comes, InputsFailed, IsAnswer, Outside, cut, memory}
-use Rattle.cloner_top.specs.Answers.{no_model, no_script, stopped as stops, usage, written as writes}
+use Rattle.cloner_top.specs.Answers.{no_model, no_script, study_stop, success, usage}
 use Rattle.cloner_top.specs.Deciding.{clones_of}
 use Rattle.cloner_top.specs.Endings.{Ending, MayCome, MayEnd, MayLive, MayRun, MayRunAlone, MaySimulate}
-use Rattle.cloner_top.specs.Endings.{StoppedFor, overrun, run_texts, study_texts, stopped, written}
+use Rattle.cloner_top.specs.Endings.{StoppedFor, early_stop, overrun, run_texts, study_texts, whole_output}
 use Rattle.cloner_top.specs.Endings as ends
 use Rattle.cloner_top.specs.Outsides.{ArePut, ArePutOrCut}
 use Rattle.cloner_top.specs.Plans.{IsRead}
@@ -36,12 +36,12 @@ use Rattle.cloner_top.specs.Texts.{AreTexts, IsUnread}
 module _ (words : Option Assignment) (before after : Outside) where
   -- status 2 means that the command line has no known form
   pub usage_cause : (status : ℕ) → IsAnswer words before after status → status ≡ 2 → words ≡ None
-  usage_cause _ (writes a is finished fetches quiet) two = absurd (omega (arith, two))
+  usage_cause _ (success a is finished fetches quiet) two = absurd (omega (arith, two))
   usage_cause _ (memory refused) two = absurd (omega (arith, two))
   usage_cause _ (usage none refused inputs steps) two = none
   usage_cause _ (no_model a is unread refused steps) two = absurd (omega (arith, two))
   usage_cause _ (no_script a is has unread refused steps) two = absurd (omega (arith, two))
-  usage_cause _ (stops a is told stop why refused) two = absurd (not_two stop two)
+  usage_cause _ (study_stop a is told stop why refused) two = absurd (not_two stop two)
     where
       not_two : (s : Stop) → stop_status s ≡ 2 → ⊥
       not_two (BadModel fault) h = omega (arith, h)
@@ -56,12 +56,12 @@ module _ (words : Option Assignment) (before after : Outside) where
 
   -- a command line of no known form gets status 1 or 2
   pub formless : (status : ℕ) → IsAnswer words before after status → words ≡ None → (status ≡ 1) ⊎ (status ≡ 2)
-  formless _ (writes a is finished fetches quiet) none = absurd (none_is a is none)
+  formless _ (success a is finished fetches quiet) none = absurd (none_is a is none)
   formless _ (memory refused) none = inl refl
   formless _ (usage n refused inputs steps) none = inr refl
   formless _ (no_model a is unread refused steps) none = absurd (none_is a is none)
   formless _ (no_script a is has unread refused steps) none = absurd (none_is a is none)
-  formless _ (stops a is told stop why refused) none = absurd (none_is a is none)
+  formless _ (study_stop a is told stop why refused) none = absurd (none_is a is none)
   formless _ (cut a is off told) none = absurd (none_is a is none)
 
 -- the status of a stop
@@ -82,45 +82,45 @@ high (LimitMet limit station clone) = omega arith
 module _ (words : Option Assignment) (before after : Outside) where
   -- status 3 means that a text was not read
   pub unread_cause : (status : ℕ) → IsAnswer words before after status → status ≡ 3 → IsUnreadFor words before after
-  unread_cause _ (writes a is finished fetches quiet) three = absurd (omega (arith, three))
+  unread_cause _ (success a is finished fetches quiet) three = absurd (omega (arith, three))
   unread_cause _ (memory refused) three = absurd (omega (arith, three))
   unread_cause _ (usage none refused inputs steps) three = absurd (omega (arith, three))
   unread_cause _ (no_model a is unread refused steps) three = record { a = a; asks = is; unread = inl unread }
   unread_cause _ (no_script a is has unread refused steps) three = record { a = a; asks = is; unread = inr unread }
-  unread_cause _ (stops a is told stop why refused) three = absurd (let l = low stop in omega (arith, three, l))
+  unread_cause _ (study_stop a is told stop why refused) three = absurd (let l = low stop in omega (arith, three, l))
   unread_cause _ (cut a is off told) three = absurd (omega (arith, three))
 
   -- statuses 4 to 7 mean that the study stopped, and that a line tells why
   pub stop_cause : (status : ℕ) → IsAnswer words before after status → 4 ≤ status → status ≤ 7
       → IsStoppedFor words before after status
-  stop_cause _ (writes a is finished fetches quiet) l h = absurd (omega (arith, l))
+  stop_cause _ (success a is finished fetches quiet) l h = absurd (omega (arith, l))
   stop_cause _ (memory refused) l h = absurd (omega (arith, l))
   stop_cause _ (usage none refused inputs steps) l h = absurd (omega (arith, l))
   stop_cause _ (no_model a is unread refused steps) l h = absurd (omega (arith, l))
   stop_cause _ (no_script a is has unread refused steps) l h = absurd (omega (arith, l))
-  stop_cause _ (stops a is told stop why refused) l h =
+  stop_cause _ (study_stop a is told stop why refused) l h =
       record { a = a; asks = is; told = told; stop = stop; is = refl; stops = why; told_is = refused.told_is }
   stop_cause _ (cut a is off told) l h = absurd (omega (arith, h))
 
   -- status 8 means that a prefix of the output was written, and that the output had a fault
   pub cut_cause : (status : ℕ) → IsAnswer words before after status → status ≡ 8 → IsCutFor words before after
-  cut_cause _ (writes a is finished fetches quiet) eight = absurd (omega (arith, eight))
+  cut_cause _ (success a is finished fetches quiet) eight = absurd (omega (arith, eight))
   cut_cause _ (memory refused) eight = absurd (omega (arith, eight))
   cut_cause _ (usage none refused inputs steps) eight = absurd (omega (arith, eight))
   cut_cause _ (no_model a is unread refused steps) eight = absurd (omega (arith, eight))
   cut_cause _ (no_script a is has unread refused steps) eight = absurd (omega (arith, eight))
-  cut_cause _ (stops a is told stop why refused) eight = absurd (let h = high stop in omega (arith, eight, h))
+  cut_cause _ (study_stop a is told stop why refused) eight = absurd (let h = high stop in omega (arith, eight, h))
   cut_cause _ (cut a is off told) eight = record { a = a; asks = is; cut = off }
 
   -- where the status is neither 0 nor 8, the output is as before
   pub output_same : (status : ℕ) → IsAnswer words before after status → status ≢ 0 → status ≢ 8
       → after.output ≡ before.output
-  output_same _ (writes a is finished fetches quiet) not_0 not_8 = absurd (not_0 refl)
+  output_same _ (success a is finished fetches quiet) not_0 not_8 = absurd (not_0 refl)
   output_same _ (memory refused) not_0 not_8 = refused.output
   output_same _ (usage none refused inputs steps) not_0 not_8 = refused.output
   output_same _ (no_model a is unread refused steps) not_0 not_8 = refused.output
   output_same _ (no_script a is has unread refused steps) not_0 not_8 = refused.output
-  output_same _ (stops a is told stop why refused) not_0 not_8 = refused.output
+  output_same _ (study_stop a is told stop why refused) not_0 not_8 = refused.output
   output_same _ (cut a is off told) not_0 not_8 = absurd (not_8 refl)
 
 -- ---- only status 7 comes after work
@@ -209,12 +209,12 @@ module _ (words : Option Assignment) (before after : Outside) where
 
   -- after any status but 0 a line tells why
   pub told_for : (status : ℕ) → IsAnswer words before after status → status ≢ 0 → IsToldFor words before after status
-  told_for _ (writes a is finished fetches quiet) not_0 = absurd (not_0 refl)
+  told_for _ (success a is finished fetches quiet) not_0 = absurd (not_0 refl)
   told_for _ (memory refused) not_0 = one_line OutOfMemory refused.told_is
   told_for _ (usage none refused inputs steps) not_0 = one_line Usage refused.told_is
   told_for _ (no_model a is unread refused steps) not_0 = one_line NoModel refused.told_is
   told_for _ (no_script a is has unread refused steps) not_0 = one_line NoScript refused.told_is
-  told_for _ (stops a is told stop why refused) not_0 = record {
+  told_for _ (study_stop a is told stop why refused) not_0 = record {
     told = told;
     refusal = Stopped stop;
     is = refl;
@@ -226,12 +226,13 @@ module _ (words : Option Assignment) (before after : Outside) where
 module _ (words : Option Assignment) (before after : Outside) where
   -- where the status is 2 to 6, no message was handled
   pub idle : (status : ℕ) → IsAnswer words before after status → 2 ≤ status → status ≤ 6 → after.steps ≡ before.steps
-  idle _ (writes a is finished fetches quiet) l h = absurd (omega (arith, l))
+  idle _ (success a is finished fetches quiet) l h = absurd (omega (arith, l))
   idle _ (memory refused) l h = absurd (omega (arith, l))
   idle _ (usage none refused inputs steps) l h = steps
   idle _ (no_model a is unread refused steps) l h = steps
   idle _ (no_script a is has unread refused steps) l h = steps
-  idle _ (stops a is told stop why refused) l h = idle_stop before.inputs.files a before.steps after.steps told stop why h
+  idle _ (study_stop a is told stop why refused) l h =
+      idle_stop before.inputs.files a before.steps after.steps told stop why h
   idle _ (cut a is off told) l h = absurd (omega (arith, h))
 
 -- ---- what is written
@@ -239,7 +240,7 @@ module _ (words : Option Assignment) (before after : Outside) where
 writes_all : (before after : Outside) (a : Assignment) (net : Net) (s : ScriptView) (texts : Net → List Clone
     → List (List ℕ)) (put : List (List ℕ)) (work : ℕ)
     → IsStudy before.inputs.files a net s
-    → MayRun net (clones_of net s) (texts net (clones_of net s)) (written put work)
+    → MayRun net (clones_of net s) (texts net (clones_of net s)) (whole_output put work)
     → ArePut put before.output after.output → after.steps ≡ before.steps + work → WritesAll texts before after a
 writes_all before after a net s texts put work study (ends.within within) are steps =
     record { net = net; stated = s; study = study; within = within; put = are; steps = steps }
@@ -247,14 +248,14 @@ writes_all before after a net s texts put work study (ends.within within) are st
 writes_one : (before after : Outside) (a : Assignment) (net : Net) (s : ScriptView) (name : List ℕ)
     (put : List (List ℕ))
     (work : ℕ)
-    → IsStudy before.inputs.files a net s → MayRunAlone net (clones_of net s) name (written put work)
+    → IsStudy before.inputs.files a net s → MayRunAlone net (clones_of net s) name (whole_output put work)
     → ArePut put before.output after.output → after.steps ≡ before.steps + work → WritesOne name before after a
 writes_one before after a net s name put work study (ends.fits k is within) are steps =
     record { net = net; stated = s; study = study; place = k; named = is; within = within; put = are; steps = steps }
 
 writes_by : (before after : Outside) (a : Assignment) (net : Net) (s : ScriptView) (put : List (List ℕ)) (work : ℕ)
     (mode : Mode) (source : Source)
-    → IsStudy before.inputs.files a net s → MaySimulate mode source net (clones_of net s) (written put work)
+    → IsStudy before.inputs.files a net s → MaySimulate mode source net (clones_of net s) (whole_output put work)
     → ArePut put before.output after.output → after.steps ≡ before.steps + work → Writes mode source before after a
 writes_by before after a net s put work All (named m t) study may are steps =
     writes_all before after a net s run_texts put work study may are steps
@@ -265,7 +266,7 @@ writes_by before after a net s put work (One name) source study may are steps =
 writes_by before after a net s put work Live source study may are steps = absurd may
 
 writes_live : (before after : Outside) (a : Assignment) (net : Net) (s : ScriptView) (put : List (List ℕ)) (work : ℕ)
-    → IsRead a.source before.inputs.files net s → MayLive net s (written put work)
+    → IsRead a.source before.inputs.files net s → MayLive net s (whole_output put work)
     → ArePut put before.output after.output → after.steps ≡ before.steps + work → WritesLive before after a
 writes_live before after a net s put work read (ends.finished book looks journal last seen within) are steps = record {
   net = net;
@@ -284,7 +285,7 @@ writes_live before after a net s put work read (ends.finished book looks journal
 writes_end : (before after : Outside) (a : Assignment) (m s : List ℕ) (net : Net) (stated : ScriptView)
     (put : List (List ℕ)) (work : ℕ)
     → AreTexts a.source before.inputs.files m s → model m ≡ Ok net → script s ≡ Ok stated
-    → MayEnd a net stated (written put work)
+    → MayEnd a net stated (whole_output put work)
     → ArePut put before.output after.output → after.steps ≡ before.steps + work → Writes a.mode a.source before after a
 writes_end before after a m s net stated put work texts is_model is_script (ends.simulation end none may) are steps =
     writes_by before after a net stated put work a.mode a.source (record {
@@ -297,7 +298,7 @@ writes_end before after a m s net stated put work texts is_model is_script (ends
     (record { m = m; s = s; texts = texts; is_model = is_model; is_script = is_script }) may are steps)
 
 writes_come : (before after : Outside) (a : Assignment) (m s : List ℕ) (put : List (List ℕ)) (work : ℕ)
-    → AreTexts a.source before.inputs.files m s → MayCome a m s (written put work)
+    → AreTexts a.source before.inputs.files m s → MayCome a m s (whole_output put work)
     → ArePut put before.output after.output → after.steps ≡ before.steps + work → Writes a.mode a.source before after a
 writes_come before after a m s put work texts (ends.study net stated end is_model is_script may) are steps =
     writes_end before after a m s net stated put work texts is_model is_script may are steps
@@ -305,7 +306,7 @@ writes_come before after a m s put work texts (ends.study net stated end is_mode
 module _ (words : Option Assignment) (before after : Outside) where
   -- status 0 means that the whole output is written, and nothing told
   pub finished : (status : ℕ) → IsAnswer words before after status → status ≡ 0 → IsWritten words before after
-  finished _ (writes a is done fetches quiet) is_0 = record {
+  finished _ (success a is done fetches quiet) is_0 = record {
     a = a;
     asks = is;
     writes = writes_come before after a done.wrote.may.m done.wrote.may.s done.texts done.wrote.work
@@ -318,7 +319,7 @@ module _ (words : Option Assignment) (before after : Outside) where
   finished _ (usage none refused inputs steps) is_0 = absurd (omega (arith, is_0))
   finished _ (no_model a is unread refused steps) is_0 = absurd (omega (arith, is_0))
   finished _ (no_script a is has unread refused steps) is_0 = absurd (omega (arith, is_0))
-  finished _ (stops a is told stop why refused) is_0 = absurd (let l = low stop in omega (arith, is_0, l))
+  finished _ (study_stop a is told stop why refused) is_0 = absurd (let l = low stop in omega (arith, is_0, l))
   finished _ (cut a is off told) is_0 = absurd (omega (arith, is_0))
 
 -- ---- an ending comes
@@ -329,7 +330,7 @@ module _ (before after : Outside) where
       → (end : Ending) × (Comes before.inputs.files a end × Meets end
       (HasRisen before.output.faults after.output.faults)
       (stop_status stop))
-  comes_stopped a told stop (ends.at_once none may same) = (stopped stop, (may, refl))
+  comes_stopped a told stop (ends.at_once none may same) = (early_stop stop, (may, refl))
   comes_stopped a told stop (ends.at_limit most may few) = (overrun told stop most, (may, refl))
 
   without : (a : Assignment) (text : Text) (source : Source) → ¬ (InputsFailed before after)
@@ -346,9 +347,9 @@ module _ (before after : Outside) where
   -- where no input failed, the answer is out of memory, usage, a text that is not there, or a lawful ending
   pub completes : (words : Option Assignment) (status : ℕ) → IsAnswer words before after status
       → Completes words before after status
-  completes words _ (writes a is done fetches quiet) =
+  completes words _ (success a is done fetches quiet) =
       subst (λ w. Completes w before after 0) (sym is)
-      (λ well. inr (inr (written done.texts done.wrote.work, (done.wrote.may, inl refl))))
+      (λ well. inr (inr (whole_output done.texts done.wrote.work, (done.wrote.may, inl refl))))
   completes words _ (memory refused) = of_memory words
   completes words _ (usage none refused inputs steps) = subst (λ w. Completes w before after 2) (sym none) (inr refl)
   completes words _ (no_model a is unread refused steps) =
@@ -357,8 +358,9 @@ module _ (before after : Outside) where
   completes words _ (no_script a is has unread refused steps) =
       subst (λ w. Completes w before after 3) (sym is)
       (λ well. inr (inl (refl, inr (without a Script a.source well unread))))
-  completes words _ (stops a is told stop why refused) =
-      subst (λ w. Completes w before after (stop_status stop)) (sym is) (λ well. inr (inr (comes_stopped a told stop why)))
+  completes words _ (study_stop a is told stop why refused) =
+      subst (λ w. Completes w before after (stop_status stop)) (sym is)
+      (λ well. inr (inr (comes_stopped a told stop why)))
   completes words _ (cut a is off told) =
       subst (λ w. Completes w before after 8) (sym is)
-      (λ well. inr (inr (written off.texts off.wrote.work, (off.wrote.may, inr (refl, off.cut.failed)))))
+      (λ well. inr (inr (whole_output off.texts off.wrote.work, (off.wrote.may, inr (refl, off.cut.failed)))))

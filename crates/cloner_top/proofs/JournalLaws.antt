@@ -18,7 +18,7 @@ use Rattle.live_study.specs.Asking.{decisions_asked, decisions_in}
 use Rattle.live_study.specs.Scripts.{acts_by}
 use Rattle.live_study.proofs.Texts.{callers_within}
 use Rattle.cloner_top.specs.Deciding.{by_line, decision_lines, first_refused}
-use Rattle.cloner_top.specs.Endings.{MayRun, run_texts, simulation, within, written}
+use Rattle.cloner_top.specs.Endings.{MayRun, run_texts, simulation, whole_output, within}
 use Rattle.cloner_top.specs.Journals.{JournalRunsTheSame}
 use Rattle.world_core.specs.Worlds.{total_handled}
 
@@ -87,14 +87,16 @@ journal_runs net s book model text valid stated journal short =
     (acts_decide (acts_by a s.items) (acts_are many a s.items items))) in
     let some : 0 < net.horizon = let h = valid.horizon in omega (arith, h) in
     let r : IsScriptOf net s.analysts book.events =
-    journal_reads_as_script net s book.events stated journal.legal.right some (let h = valid.soon in omega (arith, h)) calls in
+    journal_reads_as_script net s book.events stated journal.legal.right some
+    (let h = valid.soon in omega (arith, h)) calls in
     let none : first_refused net r.again ≡ None =
     ap (option_map (by_line (decision_lines r.again.items))) r.accepted in
     record {
       again = r.again;
       read = r.read;
-      may = simulation (written (run_texts net (after net book.events).clones)
+      may = simulation (whole_output (run_texts net (after net book.events).clones)
           (total_handled net (after net book.events).clones net.horizon)) none
-          (subst (λ (cs : List Clone). MayRun net cs (run_texts net cs) (written (run_texts net (after net book.events).clones)
+          (subst (λ (cs : List Clone). MayRun net cs (run_texts net cs)
+          (whole_output (run_texts net (after net book.events).clones)
           (total_handled net (after net book.events).clones net.horizon))) (sym r.clones) (within short));
     }

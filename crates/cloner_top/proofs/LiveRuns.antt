@@ -25,7 +25,7 @@ use Rattle.cloner_top.specs.declared.halt.Halt.TheVariants as halt
 use Rattle.cloner_top.specs.declared.refusal.Refusal.{Refusal}
 use Rattle.cloner_top.specs.declared.refusal.Refusal.TheVariants.{OutOfMemory, Usage, NoModel}
 use Rattle.cloner_top.specs.declared.refusal.Refusal.TheVariants.{NoScript, Stopped, CannotWrite}
-use Rattle.cloner_top.specs.Endings.{MayLive, StoppedFor, at_limit, finished, limit_met, over, run_texts, written}
+use Rattle.cloner_top.specs.Endings.{MayLive, StoppedFor, at_limit, finished, limit_met, over, run_texts, whole_output}
 use Rattle.cloner_top.specs.LiveRuns.{HaltsFor, HasRun, IsLiveWorld, IsOverrun, IsPlaced, StopsLive}
 use Rattle.cloner_top.specs.Outsides.{ArePut, IsFailed, IsHalted, IsNotPut, IsStudyPut}
 use Rattle.cloner_top.proofs.Endings.{all_put, not_put}
@@ -79,21 +79,18 @@ module _ (net : Net) (s : ScriptView) (old_steps new_steps : ℕ) (live : LiveRu
         let all : ArePlanned net (after net live.book.events).clones =
         subst (λ (n : Net). ArePlanned n (after n live.book.events).clones) ran.journal.net_is planned in
         record {
-          net_is = net_is;
-          at_horizon = front_is;
-          few = few;
-          within = within;
+          may_report = record { net = net_is; ended = front_is; few = few; within = within };
           short = subst AreShort (sym clones_are) (short_planned net (after net live.book.events).clones all);
-          may = subst (λ x. MayLive net s (written (x ∷ run_texts net w.clones)
+          may = subst (λ x. MayLive net s (whole_output (x ∷ run_texts net w.clones)
               (total_handled net w.clones net.horizon))) (sym (same ∙ ran.text_is))
-              (subst (λ cs. MayLive net s (written
+              (subst (λ cs. MayLive net s (whole_output
               (journal_text s.analysts live.book.events (all_looks live.looks.items) ∷ run_texts net cs)
               (total_handled net cs net.horizon))) (sym clones_are)
               (finished live.book (all_looks live.looks.items) ran.journal ends.last (of_ok
               (λ v. AreLooks net s live.book.events (all_looks live.looks.items)) live.run w is ran.looks)
               (subst (λ cs. AreWithin net cs) clones_are within)));
-          steps = of_ok (λ (v : WorldView). new_steps ≡ old_steps + total_handled net v.clones net.horizon) live.run w is
-              ran.steps;
+          steps = of_ok (λ (v : WorldView). new_steps ≡ old_steps + total_handled net v.clones net.horizon) live.run w
+              is ran.steps;
         }
 
   -- the same of what is handed on
@@ -115,7 +112,9 @@ module _ (net : Net) (s : ScriptView) (old_steps new_steps : ℕ) (live : LiveRu
       (subst (λ (n : Net). HaltsFor n live.book.events text why.0 h) same why.1.1)
     where
       told_limit : (station who : ℕ) (h : Halt) → IsStopped net live.book (LimitMet station who)
-          → new_steps ≡ old_steps → IsOverrun text (limit_met net station (clone_at (after net live.book.events).clones who).name) h → StopsLive net s old_steps new_steps h
+          → new_steps ≡ old_steps
+          → IsOverrun text (limit_met net station (clone_at (after net live.book.events).clones who).name) h
+          → StopsLive net s old_steps new_steps h
       told_limit station who (halt.Refused refusal) stopped idle is = absurd is
       told_limit station who (halt.Overrun journal stop) stopped idle is =
           subst (λ x. StoppedFor (MayLive net s) old_steps new_steps (x ∷ []) stop) (sym (is.0 ∙ ran.text_is))

@@ -27,10 +27,6 @@ use Rattle.cloner_top.proofs.Runs.{on_err, on_ok}
 
 module _ (a : Assignment) (net told : Net) (stated : ScriptView) (book : BookView) (is : IsDecided net stated book)
     (same : told ≡ net) where
-  -- the book is of the network
-  pub plan_net : book.net ≡ told
-  plan_net = is.net_is ∙ sym same
-
   -- the decisions in the book were all accepted in its network
   pub plan_accepted : AllAccepted book.net book.events
   plan_accepted = subst (λ n. AllAccepted n book.events) (sym is.net_is) is.accepted

@@ -19,24 +19,24 @@ use Rattle.command_words.specs.Requests.{Source}
 use Rattle.cloner_top.specs.declared.stop.Stop.TheVariants.{NoClone}
 use Rattle.cloner_top.specs.Deciding.{by_line, clones_of, decision_lines, first_refused}
 use Rattle.cloner_top.specs.Endings.{Ending, MayEnd, MayRunAlone, beyond, fits, simulation}
-use Rattle.cloner_top.specs.Endings.{limit_met, live, missing, overrun, refused, stopped, written}
+use Rattle.cloner_top.specs.Endings.{early_stop, limit_met, live, no_clone, overrun, refused_decision, whole_output}
 use Rattle.cloner_top.specs.OwnScripts.{OwnScriptWritesTheSame}
 
 -- how the run of one clone may end, by the clone itself
 data MayRunIt (net : Net) (name : List ℕ) : Option Clone → Ending → Type 0 where
-  it_misses : MayRunIt net name None (stopped (NoClone name))
+  it_misses : MayRunIt net name None (early_stop (NoClone name))
   it_fits : (c : Clone) → IsWithin net c
-      → MayRunIt net name (Some c) (written (clone_text net c ∷ []) (length (trace_of net c)))
+      → MayRunIt net name (Some c) (whole_output (clone_text net c ∷ []) (length (trace_of net c)))
   it_stops : (c : Clone) (station : ℕ) → MeetsLimitAlone net c station
       → MayRunIt net name (Some c) (overrun [] (limit_met net station name) (most_handled net 1))
 
 to_it : (net : Net) (name : List ℕ) (clones : List Clone) (end : Ending) → MayRunAlone net clones name end
     → MayRunIt net name (clone_named name clones) end
-to_it net name clones _ (missing none) =
-    subst (λ o. MayRunIt net name o (stopped (NoClone name))) (sym (clone_named-none name clones none)) it_misses
+to_it net name clones _ (no_clone none) =
+    subst (λ o. MayRunIt net name o (early_stop (NoClone name))) (sym (clone_named-none name clones none)) it_misses
 to_it net name clones _ (fits k is within) =
     subst (λ o. MayRunIt net name o
-    (written (clone_text net (clone_at clones k) ∷ []) (length (trace_of net (clone_at clones k)))))
+    (whole_output (clone_text net (clone_at clones k) ∷ []) (length (trace_of net (clone_at clones k)))))
     (sym (clone_named-place name clones k is)) (it_fits (clone_at clones k) within)
 to_it net name clones _ (beyond k station is meets) =
     subst (λ o. MayRunIt net name o (overrun [] (limit_met net station name) (most_handled net 1)))
@@ -44,7 +44,7 @@ to_it net name clones _ (beyond k station is meets) =
 
 of_none : (net : Net) (name : List ℕ) (clones : List Clone) (end : Ending) → place_of name clones ≡ None
     → MayRunIt net name None end → MayRunAlone net clones name end
-of_none net name clones _ none it_misses = missing none
+of_none net name clones _ none it_misses = no_clone none
 
 of_some : (net : Net) (name : List ℕ) (clones : List Clone) (k : ℕ) (end : Ending) → place_of name clones ≡ Some k
     → MayRunIt net name (Some (clone_at clones k)) end → MayRunAlone net clones name end
@@ -65,7 +65,7 @@ none_of lines (Some r) h = absurd (cc)
 module _ (net : Net) (source : Source) (who : List ℕ) where
   run_of_end : (s : ScriptView) (end : Ending) → first_refused net s ≡ None
       → MayEnd (record { mode = One who; source = source }) net s end → MayRunAlone net (clones_of net s) who end
-  run_of_end s _ none (refused reply line first is) = absurd (let e = sym none ∙ is in cc)
+  run_of_end s _ none (refused_decision reply line first is) = absurd (let e = sym none ∙ is in cc)
   run_of_end s _ none (simulation end n may) = may
   run_of_end s _ none (live end is may) = absurd (not_live is)
     where

@@ -7,7 +7,7 @@ use Rattle.std.proofs.lemmas.List.Folds.{concat-append, flat_map-map}
 use Rattle.std.specs.List.{concat, flat_map}
 use Rattle.std.proofs.Math.Seq.{take-append-add}
 use Rattle.sim_outer.specs.Bytes.{IsAppended, IsPrefixAppended}
-use Rattle.sim_outer.specs.Causes.{AreCounted, Counted, HasRisen, counts_after, next_count}
+use Rattle.sim_outer.specs.Causes.{AreCounted, IsCounted, HasRisen, counts_after, next_count}
 use Rattle.sim_outer.specs.Views.{SinkView}
 use Rattle.rolling_text.proofs.Pieces.{appended_then}
 use Rattle.cloner_top.specs.declared.refusal.Refusal.{Refusal}
@@ -33,20 +33,20 @@ part_second a b (Some o) mid new h k =
           ∙ ap (λ t. o ++ t) (sym (take-append-add a b k2.0)))),
     )
 
-one_more : (n : ℕ) (old mid new : Option ℕ) → AreCounted n old mid → Counted mid new → AreCounted (n + 1) old new
+one_more : (n : ℕ) (old mid new : Option ℕ) → AreCounted n old mid → IsCounted mid new → AreCounted (n + 1) old new
 one_more n None mid new h k = let m : mid ≡ None = h in (rw m at k)
 one_more n (Some o) mid new h k =
     let e : n + 1 ≡ suc n = omega arith in
     (rw h at k) ∙ ap (λ m. Some (counts_after m o)) (sym e)
 
-one : (old new : Option ℕ) → Counted old new → AreCounted 1 old new
+one : (old new : Option ℕ) → IsCounted old new → AreCounted 1 old new
 one None new h = h
 one (Some o) new h = h
 
 -- ---- one text
 
 -- a text that was appended in one call was put
-pub put_one : (text : List ℕ) (old new : SinkView) → IsAppended old.bytes text new.bytes → Counted old.calls new.calls
+pub put_one : (text : List ℕ) (old new : SinkView) → IsAppended old.bytes text new.bytes → IsCounted old.calls new.calls
     → ArePut (text ∷ []) old new
 put_one text old new bytes calls = record {
   bytes = subst (λ t. IsAppended old.bytes t new.bytes) (sym (append-nil text)) bytes;
@@ -55,7 +55,7 @@ put_one text old new bytes calls = record {
 
 -- a text of which a prefix was appended, in a call that failed, was cut off
 pub cut_one : (text : List ℕ) (old new : SinkView) → IsPrefixAppended old.bytes text new.bytes
-    → HasRisen old.faults new.faults → Counted old.calls new.calls → AreCut (text ∷ []) old new
+    → HasRisen old.faults new.faults → IsCounted old.calls new.calls → AreCut (text ∷ []) old new
 cut_one text old new bytes failed calls = record {
   bytes = subst (λ t. IsPrefixAppended old.bytes t new.bytes) (sym (append-nil text)) bytes;
   failed = failed;
@@ -87,7 +87,7 @@ module _ {X : Type 0} (f : X → List ℕ) (xs : List X) (last : List ℕ) where
           (one_more (length xs) old.calls mid.calls new.calls calls (of_one mid.calls new.calls put.calls));
     }
       where
-        of_one : (a b : Option ℕ) → AreCounted 1 a b → Counted a b
+        of_one : (a b : Option ℕ) → AreCounted 1 a b → IsCounted a b
         of_one None b h = h
         of_one (Some o) b h = h
 
@@ -107,7 +107,7 @@ module _ {X : Type 0} (f : X → List ℕ) (xs : List X) (last : List ℕ) where
           (of_some mid.calls new.calls cut.puts cut.some cut.few cut.calls);
     }
       where
-        of_some : (a b : Option ℕ) (n : ℕ) → 1 ≤ n → n ≤ 1 → AreCounted n a b → Counted a b
+        of_some : (a b : Option ℕ) (n : ℕ) → 1 ≤ n → n ≤ 1 → AreCounted n a b → IsCounted a b
         of_some None b n low high h = h
         of_some (Some o) b n low high h = let e : n ≡ 1 = omega (arith, low, high) in (rw e at h)
 

@@ -79,7 +79,8 @@ module _ (journal : List ℕ) (told net : Net) (those cs : List Clone) (same_net
   run_same = ap (λ (n : Net). run_texts n those) same_net ∙ ap (run_texts net) same_clones
 
   -- where the texts of the run were put after the journal, all of them were put
-  pub journal_put : OnOk r (ArePut (run_texts told those) mid new) → OnOk r (ArePut (journal ∷ run_texts net cs) old new)
+  pub journal_put : OnOk r (ArePut (run_texts told those) mid new)
+      → OnOk r (ArePut (journal ∷ run_texts net cs) old new)
   journal_put h = on_ok r (λ more. put_then journal (run_texts net cs) old mid new put
       (subst (λ t. ArePut t mid new) run_same more)) h
 

@@ -18,7 +18,7 @@ use Rattle.cloner_top.specs.declared.stop.Stop.{Stop}
 use Rattle.command_words.specs.declared.request.Mode.{Mode}
 use Rattle.command_words.specs.Requests.{Source}
 use Rattle.cloner_top.specs.Endings.{MayRun, MayRunAlone, MaySimulate, StoppedFor, at_limit, beyond}
-use Rattle.cloner_top.specs.Endings.{fits, limit_met, over, within, written}
+use Rattle.cloner_top.specs.Endings.{fits, limit_met, over, whole_output, within}
 use Rattle.cloner_top.specs.Outsides.{ArePut, IsFailed, IsStudyPut, IsNotPut}
 use Rattle.cloner_top.proofs.Endings.{all_put, not_put}
 
@@ -50,7 +50,7 @@ module _ (texts_of : Net → List Clone → List (List ℕ)) (net told : Net) (c
   texts_same : texts_of told those ≡ texts_of net cs
   texts_same = ap (λ (n : Net). texts_of n those) same_net ∙ ap (texts_of net) same_clones
 
-  may_run : MayRun net cs (texts_of net cs) (written (texts_of net cs) (total_handled net cs net.horizon))
+  may_run : MayRun net cs (texts_of net cs) (whole_output (texts_of net cs) (total_handled net cs net.horizon))
   may_run = within (subst (AreWithin net) same_clones short)
 
   steps_same : new_steps ≡ old_steps + total_handled net cs net.horizon
@@ -98,7 +98,7 @@ module _ (net told : Net) (cs those : List Clone) (name : List ℕ) (k old_steps
         ∙ ap (λ l. clone_text net (clone_at l k)) same_clones))
 
     may_alone : MayRunAlone net cs name
-        (written (clone_text net (clone_at cs k) ∷ []) (length (trace_of net (clone_at cs k))))
+        (whole_output (clone_text net (clone_at cs k) ∷ []) (length (trace_of net (clone_at cs k))))
     may_alone = fits k found (subst (λ l. IsWithin net (clone_at l k)) same_clones
         (subst (λ (n : Net). IsWithin n (clone_at those k)) same_net short))
 

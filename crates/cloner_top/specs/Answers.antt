@@ -48,7 +48,7 @@ InputsFailed before after = HasRisen before.inputs.faults after.inputs.faults
 -- how the program ends, by its status
 pub data IsAnswer (words : Option Assignment) (before after : Outside) : ℕ → Type 0 where
   -- all is written: each text was put, and each file was fetched, once
-  written : (a : Assignment) → words ≡ Some a
+  success : (a : Assignment) → words ≡ Some a
       → IsStudyPut (Comes before.inputs.files a) before.steps after.steps before.output after.output
       → AreCounted (all_fetches a.source) before.inputs.calls after.inputs.calls → after.errors ≡ before.errors
       → IsAnswer words before after 0
@@ -65,7 +65,7 @@ pub data IsAnswer (words : Option Assignment) (before after : Outside) : ℕ →
       → IsUnread (InputsFailed before after) a.source Script before.inputs.files
       → IsRefused before after [] NoScript → after.steps ≡ before.steps → IsAnswer words before after 3
   -- the study stops; at the limit of a live one, its journal is told before the line
-  stopped : (a : Assignment) → words ≡ Some a → (told : List (List ℕ)) (stop : Stop)
+  study_stop : (a : Assignment) → words ≡ Some a → (told : List (List ℕ)) (stop : Stop)
       → StoppedFor (Comes before.inputs.files a) before.steps after.steps told stop
       → IsRefused before after told (Stopped stop) → IsAnswer words before after (stop_status stop)
   -- the output was cut off

@@ -30,8 +30,8 @@ use Rattle.cloner_top.specs.Deciding.{clones_of, first_refused}
 -- an ending: these texts are written, for which so many messages were handled; nothing is, for this cause, and none was
 -- handled; or the limit is met, of which these texts are told before the line, and at most so many were handled
 pub data Ending : Type 0 where
-  written : List (List ℕ) → ℕ → Ending
-  stopped : Stop → Ending
+  whole_output : List (List ℕ) → ℕ → Ending
+  early_stop : Stop → Ending
   overrun : List (List ℕ) → Stop → ℕ → Ending
 
 -- the stop where the limit is met: the limit, the name of the station of this number, and the clone's name
@@ -40,16 +40,16 @@ limit_met net station clone = LimitMet net.limit (site_of net station).name clon
 
 -- how a run of these clones may end, which is to write these texts
 pub data MayRun (net : Net) (clones : List Clone) (texts : List (List ℕ)) : Ending → Type 0 where
-  within : AreWithin net clones → MayRun net clones texts (written texts (total_handled net clones net.horizon))
+  within : AreWithin net clones → MayRun net clones texts (whole_output texts (total_handled net clones net.horizon))
   over : (station who : ℕ) → MeetsLimit net clones station who
       → MayRun net clones texts (overrun [] (limit_met net station (clone_at clones who).name)
       (most_handled net (length clones)))
 
 -- how a run of the clone of this name by itself may end
 pub data MayRunAlone (net : Net) (clones : List Clone) (name : List ℕ) : Ending → Type 0 where
-  missing : place_of name clones ≡ None → MayRunAlone net clones name (stopped (NoClone name))
+  no_clone : place_of name clones ≡ None → MayRunAlone net clones name (early_stop (NoClone name))
   fits : (k : ℕ) → place_of name clones ≡ Some k → IsWithin net (clone_at clones k)
-      → MayRunAlone net clones name (written (clone_text net (clone_at clones k) ∷ [])
+      → MayRunAlone net clones name (whole_output (clone_text net (clone_at clones k) ∷ [])
       (length (trace_of net (clone_at clones k))))
   beyond : (k station : ℕ) → place_of name clones ≡ Some k → MeetsLimitAlone net (clone_at clones k) station
       → MayRunAlone net clones name (overrun [] (limit_met net station name) (most_handled net 1))
@@ -76,7 +76,8 @@ pub data MayLive (net : Net) (s : ScriptView) : Ending → Type 0 where
   finished : (book : BookView) (looks : List Looked) → IsJournalOf net s book
       → (after net book.events).front ≡ net.horizon → AreLooks net s book.events looks
       → AreWithin net (after net book.events).clones
-      → MayLive net s (written (journal_text s.analysts book.events looks ∷ run_texts net (after net book.events).clones)
+      → MayLive net s
+      (whole_output (journal_text s.analysts book.events looks ∷ run_texts net (after net book.events).clones)
       (total_handled net (after net book.events).clones net.horizon))
   over : (book : BookView) (looks : List Looked) (station who : ℕ) → IsJournalOf net s book → HasMadeLooks s looks
       → MeetsLimitLast net book.events station who
@@ -92,17 +93,17 @@ DecidesFirst Live = ⊥
 
 -- how a script's study of a model may end
 pub data MayEnd (a : Assignment) (net : Net) (s : ScriptView) : Ending → Type 0 where
-  refused : (reply : Reply) (line : ℕ) → DecidesFirst a.mode → first_refused net s ≡ Some (reply, line)
-      → MayEnd a net s (stopped (Refused reply line))
+  refused_decision : (reply : Reply) (line : ℕ) → DecidesFirst a.mode → first_refused net s ≡ Some (reply, line)
+      → MayEnd a net s (early_stop (Refused reply line))
   simulation : (end : Ending) → first_refused net s ≡ None → MaySimulate a.mode a.source net (clones_of net s) end
       → MayEnd a net s end
   live : (end : Ending) → a.mode ≡ Live → MayLive net s end → MayEnd a net s end
 
 -- how the study of two texts may end
 pub data MayCome (a : Assignment) (m s : List ℕ) : Ending → Type 0 where
-  bad_model : (fault : ModelFault) → model m ≡ Err fault → MayCome a m s (stopped (BadModel fault))
+  bad_model : (fault : ModelFault) → model m ≡ Err fault → MayCome a m s (early_stop (BadModel fault))
   bad_script : (net : Net) (fault : ScriptFault) → model m ≡ Ok net → script s ≡ Err fault
-      → MayCome a m s (stopped (BadScript fault))
+      → MayCome a m s (early_stop (BadScript fault))
   study : (net : Net) (stated : ScriptView) (end : Ending) → model m ≡ Ok net → script s ≡ Ok stated
       → MayEnd a net stated end
       → MayCome a m s end
@@ -110,12 +111,12 @@ pub data MayCome (a : Assignment) (m s : List ℕ) : Ending → Type 0 where
 -- what was written for an ending for which this holds; the steps are the messages handled
 pub record Wrote (P : Ending → Type 0) (old_steps new_steps : ℕ) (texts : List (List ℕ)) : Type 0 where
   pub work : ℕ
-  pub may : P (written texts work)
+  pub may : P (whole_output texts work)
   pub steps : new_steps ≡ old_steps + work
 
 -- a stop of an ending for which this holds, with what is told before its line: before anything is handled, or at the
 -- limit
 pub data StoppedFor (P : Ending → Type 0) (old_steps new_steps : ℕ) (told : List (List ℕ)) (stop : Stop) : Type 0 where
-  at_once : told ≡ [] → P (stopped stop) → new_steps ≡ old_steps → StoppedFor P old_steps new_steps told stop
+  at_once : told ≡ [] → P (early_stop stop) → new_steps ≡ old_steps → StoppedFor P old_steps new_steps told stop
   at_limit : (most : ℕ) → P (overrun told stop most) → new_steps ≤ old_steps + most
       → StoppedFor P old_steps new_steps told stop

@@ -23,7 +23,7 @@ use Rattle.cloner_top.specs.declared.refusal.Refusal.{Refusal}
 use Rattle.cloner_top.specs.declared.stop.Stop.{Stop}
 use Rattle.cloner_top.specs.Answers.{Comes, InputsFailed, Outside}
 use Rattle.cloner_top.specs.Deciding.{clones_of, first_refused}
-use Rattle.cloner_top.specs.Endings.{Ending, StoppedFor, overrun, run_texts, stopped, written}
+use Rattle.cloner_top.specs.Endings.{Ending, StoppedFor, early_stop, overrun, run_texts, whole_output}
 use Rattle.cloner_top.specs.Outsides.{ArePut, ArePutOrCut, IsStudyCut}
 use Rattle.cloner_top.specs.Plans.{IsRead}
 use Rattle.cloner_top.specs.Refusals.{line_of, status_of}
@@ -69,7 +69,8 @@ pub record WritesLive (before after : Outside) (a : Assignment) : Type 0 where
   pub at_horizon : (after_events net book.events).front ≡ net.horizon
   pub looks_are : AreLooks net stated book.events looks
   pub within : AreWithin net (after_events net book.events).clones
-  pub put : ArePut (journal_text stated.analysts book.events looks ∷ run_texts net (after_events net book.events).clones)
+  pub put : ArePut
+      (journal_text stated.analysts book.events looks ∷ run_texts net (after_events net book.events).clones)
       before.output after.output
   pub steps : after.steps ≡ before.steps + total_handled net (after_events net book.events).clones net.horizon
 
@@ -128,8 +129,8 @@ pub record IsToldFor (words : Option Assignment) (before after : Outside) (statu
 
 -- an ending comes, or the output's fault
 abbrev pub Meets : Ending → Type 0 → ℕ → Type 0
-Meets (written texts work) output_failed status = (status ≡ 0) ⊎ ((status ≡ 8) × output_failed)
-Meets (stopped stop) output_failed status = status ≡ stop_status stop
+Meets (whole_output texts work) output_failed status = (status ≡ 0) ⊎ ((status ≡ 8) × output_failed)
+Meets (early_stop stop) output_failed status = status ≡ stop_status stop
 Meets (overrun told stop most) output_failed status = status ≡ stop_status stop
 
 -- where the inputs have no fault a lawful ending comes, or out of memory; or the files are known, and one is not there

@@ -13,7 +13,7 @@ use Rattle.study_run.specs.Limits.{AreWithin}
 use Rattle.live_study.specs.Scripts.{IsJournalOf}
 use Rattle.command_words.specs.declared.request.Mode.TheVariants.{All}
 use Rattle.command_words.specs.Requests.{named}
-use Rattle.cloner_top.specs.Endings.{MayEnd, run_texts, written}
+use Rattle.cloner_top.specs.Endings.{MayEnd, run_texts, whole_output}
 
 -- the lines of a journal's calls and fronts, without comments, are read as a script, with which `run` may end by
 -- writing the texts of the clones that the journal leaves
@@ -21,7 +21,7 @@ pub record IsRunAgain (net : Net) (s : ScriptView) (book : BookView) (model text
   pub again : ScriptView
   pub read : script (without_comments (events_text s.analysts book.events)) ≡ Ok again
   pub may : MayEnd (record { mode = All; source = named model text }) net again
-      (written (run_texts net (after net book.events).clones)
+      (whole_output (run_texts net (after net book.events).clones)
       (total_handled net (after net book.events).clones net.horizon))
 
 -- so it is of each journal of a script over a network, of which no log is beyond the limit

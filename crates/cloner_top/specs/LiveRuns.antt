@@ -1,12 +1,11 @@
 -- What a live study leaves, for its texts.
 use Rattle.std.specs.Prelude.{◌≡◌, ℕ, ◌+◌, ◌<◌, ◌≤◌, List, [], ◌∷◌, length, IfOk, IfErr}
 use Rattle.sim_base.specs.Clones.{clone_at}
-use Rattle.sim_base.specs.declared.lists.TheConstants.{MOST_CLONES}
 use Rattle.net_model.specs.Net.{Net}
 use Rattle.decision_script.specs.Stating.{ScriptView}
 use Rattle.decision_book.specs.Journal.{Event, after}
 use Rattle.world_core.specs.Worlds.{WorldView, total_handled}
-use Rattle.study_run.specs.Limits.{AreWithin}
+use Rattle.study_run.specs.Reports.{MayReport}
 use Rattle.study_run.specs.declared.fault.StudyFault.{StudyFault}
 use Rattle.study_run.specs.declared.fault.StudyFault.TheVariants.{NoMemory, LimitMet}
 use Rattle.rolling_text.specs.WorldTraces.{AreShort}
@@ -19,7 +18,7 @@ use Rattle.cloner_top.specs.declared.halt.Halt.{Halt}
 use Rattle.cloner_top.specs.declared.halt.Halt.TheVariants.{Refused, Overrun}
 use Rattle.cloner_top.specs.declared.refusal.Refusal.TheVariants.{OutOfMemory}
 use Rattle.cloner_top.specs.declared.stop.Stop.{Stop}
-use Rattle.cloner_top.specs.Endings.{MayLive, StoppedFor, limit_met, run_texts, written}
+use Rattle.cloner_top.specs.Endings.{MayLive, StoppedFor, limit_met, run_texts, whole_output}
 
 -- a live study of a script was run, and this is the text of its journal
 pub record HasRun (net : Net) (s : ScriptView) (old_steps new_steps : ℕ) (live : LiveRun) (text : List ℕ) : Type 0 where
@@ -52,12 +51,10 @@ HaltsFor net events text (LimitMet station who) halt =
 -- the world of a live study at the horizon, and the text of its journal
 pub record IsLiveWorld (net : Net) (s : ScriptView) (old_steps new_steps : ℕ) (world : WorldView) (text : List ℕ) :
     Type 0 where
-  pub net_is : world.net ≡ net
-  pub at_horizon : world.front ≡ net.horizon
-  pub few : length world.clones ≤ MOST_CLONES
-  pub within : AreWithin net world.clones
+  pub may_report : MayReport net world
   pub short : AreShort world.clones
-  pub may : MayLive net s (written (text ∷ run_texts net world.clones) (total_handled net world.clones net.horizon))
+  pub may : MayLive net s (whole_output (text ∷ run_texts net world.clones)
+      (total_handled net world.clones net.horizon))
   pub steps : new_steps ≡ old_steps + total_handled net world.clones net.horizon
 
 -- why there is none: out of memory needs no cause; else the limit is met, and the journal is told

@@ -1,5 +1,5 @@
 //! Decides what a script asks for.
-ghost use Rattle.std.specs.Prelude.{◌≡◌, [], IfErr, IfOk, OnOk};
+ghost use Rattle.std.specs.Prelude.{◌≡◌, IfErr, IfOk, OnOk};
 ghost use Rattle.decision_book.specs.Journal.{after};
 ghost use Rattle.cloner_top.specs.Deciding.{AcceptsAct, IsDecided, IsRefusal, RefusesAct, journal_after};
 ghost use Rattle.study_run.specs.Accepted.{AllAccepted};

@@ -25,11 +25,12 @@ pub(crate) struct Study {
     pub(crate) script: Script,
 }
 
-/// A model, and a book with the decisions that were accepted.
+/// A model, and a book over it with the decisions that were accepted.
 #[derive(Drop)]
 pub(crate) struct Plan {
     pub(crate) model: Arc<Model>,
     pub(crate) book: Book,
+    ghost net_is: { book.net ≡ model.value },
 }
 
 /// The plan of a study: all its decisions are made at front 0, before the simulation begins. Nothing is simulated.

@@ -1,12 +1,11 @@
 //! Puts the texts of a study, each in one call whose parts are put as they are made, once all memory was taken.
-ghost use Rattle.std.specs.Prelude.{◌≡◌, ◌≤◌, ◌∷◌, [], length, IfErr, IfOk, OnOk};
-ghost use Rattle.sim_base.specs.declared.lists.TheConstants.{MOST_CLONES};
+ghost use Rattle.std.specs.Prelude.{◌≡◌, ◌≤◌, ◌∷◌, [], IfErr, IfOk, OnOk};
 ghost use Rattle.trace_report.specs.Outputs.{report};
 ghost use Rattle.trace_report.specs.TraceText.{trace_text};
 ghost use Rattle.rolling_text.specs.WorldTraces.{AreShort};
-ghost use Rattle.study_run.specs.Limits.{AreWithin};
+ghost use Rattle.study_run.specs.Reports.{MayReport};
 ghost use Rattle.cloner_top.specs.Endings.{run_texts};
-ghost use Rattle.cloner_top.specs.Outsides.{AreCut, ArePut, ArePutOrCut, IsNotPut};
+ghost use Rattle.cloner_top.specs.Outsides.{ArePut, ArePutOrCut, IsNotPut};
 ghost use Rattle.cloner_top.specs.RunTexts.{IsReadyRun};
 
 use crate::refusal::Refusal;
@@ -59,10 +58,7 @@ pub(crate) fn put_report<O: Sink>(
     world: &World,
     out: &mut O,
 ) -> Result<(), Refusal>
-    requires net { world.now.net ≡ model.now }
-    requires at_horizon { world.now.front ≡ model.now.horizon }
-    requires few { length world.now.clones ≤ MOST_CLONES }
-    requires within { AreWithin model.now world.now.clones }
+    requires may_report { MayReport model.now world.now }
     ensures ok { OnOk result (ArePut (report model.now world.now.clones ∷ []) (O.seen out.old) (O.seen out.new)) }
     ensures err { IfErr result (λ r. IsNotPut (report model.now world.now.clones ∷ [])
         (O.seen out.old) (O.seen out.new) r) }
@@ -83,10 +79,7 @@ struct RunTexts<'a> {
 
 // Takes all memory that the texts of a world at the horizon need.
 fn prepare_run<'a>(alloc: Global, model: &Model, world: &'a World) -> Result<RunTexts<'a>, NoMemory>
-    requires net { world.now.net ≡ model.now }
-    requires at_horizon { world.now.front ≡ model.now.horizon }
-    requires few { length world.now.clones ≤ MOST_CLONES }
-    requires within { AreWithin model.now world.now.clones }
+    requires may_report { MayReport model.now world.now }
     requires short { AreShort world.now.clones }
     ensures ready { IfOk result (λ run. IsReadyRun model.now world.now.clones run) }
 {
@@ -135,10 +128,7 @@ pub(crate) fn put_run<O: Sink, R: Threads + Wait + Sync>(
     world: &World,
     out: &mut O,
 ) -> Result<(), Refusal>
-    requires net { world.now.net ≡ model.now }
-    requires at_horizon { world.now.front ≡ model.now.horizon }
-    requires few { length world.now.clones ≤ MOST_CLONES }
-    requires within { AreWithin model.now world.now.clones }
+    requires may_report { MayReport model.now world.now }
     requires short { AreShort world.now.clones }
     ensures ok { OnOk result (ArePut (run_texts model.now world.now.clones) (O.seen out.old) (O.seen out.new)) }
     ensures err { IfErr result (λ r. IsNotPut (run_texts model.now world.now.clones)
@@ -160,10 +150,7 @@ pub(crate) fn put_live<O: Sink, R: Threads + Wait + Sync>(
     journal: &[u8],
     out: &mut O,
 ) -> Result<(), Refusal>
-    requires net { world.now.net ≡ model.now }
-    requires at_horizon { world.now.front ≡ model.now.horizon }
-    requires few { length world.now.clones ≤ MOST_CLONES }
-    requires within { AreWithin model.now world.now.clones }
+    requires may_report { MayReport model.now world.now }
     requires short { AreShort world.now.clones }
     ensures ok { OnOk result (ArePut (journal.now ∷ run_texts model.now world.now.clones)
         (O.seen out.old) (O.seen out.new)) }

@@ -1,11 +1,10 @@
 //! Runs a planned study, and puts its texts.
 ghost use Rattle.std.specs.Prelude.{◌≡◌, ◌+◌, ◌≤◌, ℕ, List, [], ◌∷◌, length, IfErr, IfOk, OnOk};
-ghost use Rattle.sim_base.specs.declared.lists.TheConstants.{MOST_CLONES};
 ghost use Rattle.decision_book.specs.Journal.{after};
 ghost use Rattle.rolling_text.specs.WorldTraces.{AreShort};
 ghost use Rattle.world_core.specs.Worlds.{total_handled};
-ghost use Rattle.study_run.specs.Limits.{AreWithin};
 ghost use Rattle.study_run.specs.Accepted.{AllAccepted};
+ghost use Rattle.study_run.specs.Reports.{MayReport};
 ghost use Rattle.command_words.specs.Requests.{source_view};
 ghost use Rattle.cloner_top.specs.Endings.{DecidesFirst, MayRun, MayRunAlone, MaySimulate};
 ghost use Rattle.cloner_top.specs.Endings.{StoppedFor, limit_met, run_texts};
@@ -50,13 +49,9 @@ fn run_world<G: Gate, L: Ledger, R: Threads + Wait + Sync>(
     plan: &Plan,
     steps: &mut Steps<L>,
 ) -> Result<World, Refusal>
-    requires net { plan.now.book.net ≡ plan.now.model.value }
     requires accepted { AllAccepted plan.now.book.net plan.now.book.events }
-    ensures net { IfOk result (λ w. w.net ≡ plan.now.model.value) }
+    ensures may_report { IfOk result (λ w. MayReport plan.now.model.value w) }
     ensures clones { IfOk result (λ w. w.clones ≡ (after plan.now.book.net plan.now.book.events).clones) }
-    ensures front { IfOk result (λ w. w.front ≡ plan.now.model.value.horizon) }
-    ensures few { IfOk result (λ w. length w.clones ≤ MOST_CLONES) }
-    ensures within { IfOk result (λ w. AreWithin plan.now.model.value w.clones) }
     ensures short { IfOk result (λ w. AreShort w.clones) }
     ensures steps { IfOk result (λ w.
         steps.new ≡ steps.old + total_handled plan.now.model.value w.clones plan.now.model.value.horizon) }
@@ -99,7 +94,6 @@ fn write_run<O: Sink, G: Gate, L: Ledger, R: Threads + Wait + Sync>(
     out: &mut O,
     steps: &mut Steps<L>,
 ) -> Result<(), Refusal>
-    requires net { plan.now.book.net ≡ plan.now.model.value }
     requires accepted { AllAccepted plan.now.book.net plan.now.book.events }
     ensures ok { OnOk result (IsStudyPut
         (MayRun plan.now.model.value (after plan.now.book.net plan.now.book.events).clones
@@ -126,7 +120,6 @@ fn write_report<O: Sink, G: Gate, L: Ledger, R: Threads + Wait + Sync>(
     out: &mut O,
     steps: &mut Steps<L>,
 ) -> Result<(), Refusal>
-    requires net { plan.now.book.net ≡ plan.now.model.value }
     requires accepted { AllAccepted plan.now.book.net plan.now.book.events }
     ensures ok { OnOk result (IsStudyPut
         (MayRun plan.now.model.value (after plan.now.book.net plan.now.book.events).clones
@@ -151,7 +144,6 @@ fn write_alone<O: Sink, L: Ledger>(
     out: &mut O,
     steps: &mut Steps<L>,
 ) -> Result<(), Refusal>
-    requires net { plan.now.book.net ≡ plan.now.model.value }
     ensures ok { OnOk result (IsStudyPut
         (MayRunAlone plan.now.model.value (after plan.now.book.net plan.now.book.events).clones name.now)
         steps.old steps.new (O.seen out.old) (O.seen out.new)) }
@@ -183,7 +175,6 @@ pub(crate) fn write_study<O: Sink, G: Gate, L: Ledger, R: Threads + Wait + Sync>
     steps: &mut Steps<L>,
 ) -> Result<(), Refusal>
     requires first { DecidesFirst request.now.mode }
-    requires net { plan.now.book.net ≡ plan.now.model.value }
     requires accepted { AllAccepted plan.now.book.net plan.now.book.events }
     ensures ok { OnOk result (IsStudyPut
         (MaySimulate request.now.mode (source_view request.now.source) plan.now.model.value

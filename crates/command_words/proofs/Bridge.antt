@@ -17,7 +17,7 @@ use Rattle.clap.specs.declared.error.kind.ErrorKind.{ErrorKind}
 use Rattle.clap.specs.declared.error.kind.ErrorKind.TheVariants as kind
 use Rattle.command_words.specs.Application.{cloner}
 use Rattle.command_words.specs.Clap.{ClapFindsTheValues, clap_values, unless_fault, up_to_three, values_in}
-use Rattle.command_words.specs.Rules.{Dashed, OptionName, after_dashed, clone, dashed_word, ending, is_dashed}
+use Rattle.command_words.specs.Rules.{DashedWord, OptionName, after_dashed, clone, dashed_word, ending, is_dashed}
 use Rattle.command_words.specs.Rules.{named, read, unknown, valued, values, with_positionals, with_value, workers}
 use Rattle.command_words.specs.Values.{Values}
 use Rattle.command_words.proofs.ClapRows.{Stage, Stands, at_start, fault-missing, fault-twice}
@@ -61,7 +61,7 @@ many_value clone v rest w None x y z u more again = again None w (Some v) more
 many_value clone v rest w (Some o) x y z u more again = refl
 
 -- nor is a word with a dash
-many_dashed : (d : Dashed) (rest : List Text) (w c : Option Text) (x y z u : Text) (more : List Text)
+many_dashed : (d : DashedWord) (rest : List Text) (w c : Option Text) (x y z u : Text) (more : List Text)
     → StaysMany rest x y z u
     → option_and_then up_to_three (after_dashed d rest (read rest) (many w c x y z u more)) ≡ None
 many_dashed ending rest w c x y z u more again = more_than_three w c x y z u (more ++ rest)
@@ -179,7 +179,7 @@ doomed_behind (word ∷ rest) rows p waiting (three a b d) k ks fault =
     (fault_of_fourth_behind word rows p waiting)
 
 -- at a word with a dash
-doomed_dashed : (d : Dashed) (word : Text) (rest : List Text) (rows : List Row) (p : Option (Text × List Text))
+doomed_dashed : (d : DashedWord) (word : Text) (rest : List Text) (rows : List Row) (p : Option (Text × List Text))
     (waiting : Waiting) (s : Stage) (k : ErrorKind) (ks : Kinds) → Says d word → pending_fault rows p ≡ k ∷ ks
     → found (at rows p waiting (place s) false) (word ∷ rest) ≡ None
 doomed_dashed ending word rest rows p waiting s k ks e fault =
@@ -282,7 +282,7 @@ value_step clone v rest free rows p w (Some o) s clear st =
     (repeat (codes "clone") (rows_with rows p) st.clone_row.there))
 
 -- a word with a dash, where nothing is due
-free_dashed : (d : Dashed) (word : Text) (rest : List Text) → Free rest → Due rest → Says d word → (rows : List Row)
+free_dashed : (d : DashedWord) (word : Text) (rest : List Text) → Free rest → Due rest → Says d word → (rows : List Row)
     (p : Option (Text × List Text)) (w c : Option Text) (s : Stage) → pending_fault rows p ≡ []
     → Stands (rows_with rows p) w c s
     → found (at rows p idle (place s) false) (word ∷ rest)

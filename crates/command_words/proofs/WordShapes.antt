@@ -15,7 +15,7 @@ use Rattle.std.proofs.lemmas.Slice.Eq.{bytes_eq-Decides, starts_is}
 use Rattle.std.proofs.lemmas.Str.{IsUtf8-past_char, chars-encodes, encode_ascii}
 use Rattle.clap.specs.Lexer.{long_of_rest, short_of_rest, strip_byte}
 use Rattle.clap.specs.Walk.{Text}
-use Rattle.command_words.specs.Rules.{Dashed, OptionName, clone, dashed_word, ending, is_dashed, named, unknown}
+use Rattle.command_words.specs.Rules.{DashedWord, OptionName, clone, dashed_word, ending, is_dashed, named, unknown}
 use Rattle.command_words.specs.Rules.{valued, workers}
 use Rattle.command_words.proofs.ClapSteps.{IsPlain, IsRefused, id_of, long, long_name, refused_long, refused_short}
 
@@ -138,7 +138,7 @@ refused (b ∷ c ∷ text) u h o = dashes b c text (eqb-true b 45 h) u o
         (second c text (is_dash c) (subst (λ x. IsUtf8 (x ∷ c ∷ text)) e u) (subst (λ x. IsOther (x ∷ c ∷ text)) e o))
 
 -- what clap makes of it
-abbrev pub Says : Dashed → Text → Type 0
+abbrev pub Says : DashedWord → Text → Type 0
 Says ending word = word ≡ codes "--"
 Says (named name) word = word ≡ long name
 Says (valued name v) word = word ≡ long name ++ (61 ∷ v)

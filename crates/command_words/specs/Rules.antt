@@ -17,18 +17,18 @@ is_dashed (b ∷ []) = false
 is_dashed (b ∷ c ∷ rest) = b == 45
 
 -- what such a word says, where no value is due and no `--` stands before it
-pub data Dashed : Type 0 where
+pub data DashedWord : Type 0 where
   -- `--`: the options end here
-  ending : Dashed
+  ending : DashedWord
   -- `--workers` or `--clone`: the next word is the value
-  named : OptionName → Dashed
+  named : OptionName → DashedWord
   -- `--workers=V` or `--clone=V`: V is the value
-  valued : OptionName → List ℕ → Dashed
+  valued : OptionName → List ℕ → DashedWord
   -- anything else; names aren't abbreviated
-  unknown : Dashed
+  unknown : DashedWord
 
 -- what such a word says: `--`, or an option with or without its value in the word, and else unknown
-abbrev pub dashed_word : List ℕ → Dashed
+abbrev pub dashed_word : List ℕ → DashedWord
 dashed_word word =
     if bytes_eq word (codes "--") then ending
     else if bytes_eq word (codes "--workers") then named workers
@@ -47,7 +47,7 @@ abbrev pub with_positionals : List (List ℕ) → Values → Values
 with_positionals words v = record v { positionals = v.positionals ++ words }
 
 -- after a word that begins with `-`, where `read_on` reads the words behind it
-abbrev pub after_dashed : Dashed → List (List ℕ) → (Option OptionName → Values → Option Values) → Values → Option Values
+abbrev pub after_dashed : DashedWord → List (List ℕ) → (Option OptionName → Values → Option Values) → Values → Option Values
 after_dashed ending rest read_on v = Some (with_positionals rest v)
 after_dashed (named name) rest read_on v = read_on (Some name) v
 after_dashed (valued name value) rest read_on v = option_and_then (read_on None) (with_value name value v)

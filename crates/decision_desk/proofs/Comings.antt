@@ -1,4 +1,4 @@
--- How the view of a pass goes through a turn.
+-- How a pass and the helm come to their turns, and that a pass has a free place for its call's receipt.
 use Rattle.std.proofs.Common.{◌≡◌, ◌≢◌, ⊎_elim, ℕ, ◌+◌, ◌<◌, ◌≤◌, Bool, true, false}
 use Rattle.std.proofs.Common.{List, [], ◌∷◌, ◌++◌, length, Some, None, sym, refl, ap}
 use Rattle.std.proofs.Common.{◌∙◌, subst, arith, map, true≢false, is_some, if◌then◌else◌, nat_eq, suc}
@@ -13,42 +13,43 @@ use Rattle.decision_desk.specs.declared.pass.Receipt.{Receipt}
 use Rattle.sim_base.specs.Reserved.{ReservedView}
 use Rattle.atomic_table.specs.Seated.{TableId}
 use Rattle.decision_desk.specs.Accounts.{Account, AreAccounts, Begins, OnlyCalls, front_of, calls_from, calls_by}
-use Rattle.decision_desk.specs.Turns.{Slot, book_of, turned_to, pass_view, helm_view, with_call, full_account}
+use Rattle.decision_desk.specs.Turns.{Slot, book_of, view_with_turn, pass_view, helm_view, with_call, full_account}
 use Rattle.decision_desk.specs.Passes.{first_account, turn_view, HelmHasTurn, HasTurn, IsTurn, IsPass, receipt_of}
 
-abbrev Seen : Type 0
-Seen = Me Slot View
+-- what a seat has: its view, and the slots that are out with it
+abbrev Hand : Type 0
+Hand = Me Slot View
 
 -- a pass at rest that has drawn a ticket waits with it, without the turn
-pub drawn : (m m1 : Seen) (a : Account) (t : ℕ) → m ≡ (pass_view m.0.net m.0.seen a, [])
-    → m1 ≡ (turned_to m.0 true t false m.0.seen, m.1)
-    → m1 ≡ (turned_to (pass_view m.0.net m.0.seen a) true t false m.0.seen, [])
-drawn m m1 a t rest drew = drew ∙ ap (λ (x : Seen). (turned_to x.0 true t false x.0.seen, x.1)) rest
+pub waits_with_ticket : (m m1 : Hand) (a : Account) (t : ℕ) → m ≡ (pass_view m.0.net m.0.seen a, [])
+    → m1 ≡ (view_with_turn m.0 true t false m.0.seen, m.1)
+    → m1 ≡ (view_with_turn (pass_view m.0.net m.0.seen a) true t false m.0.seen, [])
+waits_with_ticket m m1 a t rest drew = drew ∙ ap (λ (x : Hand). (view_with_turn x.0 true t false x.0.seen, x.1)) rest
 
 -- once it is served, it has the turn, sees the journal as it then stands, and carries the book
-pub served : (m m1 m2 : Seen) (a : Account) (t : ℕ) (j : List Event) → m ≡ (pass_view m.0.net m.0.seen a, [])
-    → m1 ≡ (turned_to m.0 true t false m.0.seen, m.1)
-    → m2 ≡ (turned_to m1.0 true m1.0.ticket true j, (0, book_of m1.0.net j) ∷ m1.1)
+pub comes_to_turn : (m m1 m2 : Hand) (a : Account) (t : ℕ) (j : List Event) → m ≡ (pass_view m.0.net m.0.seen a, [])
+    → m1 ≡ (view_with_turn m.0 true t false m.0.seen, m.1)
+    → m2 ≡ (view_with_turn m1.0 true m1.0.ticket true j, (0, book_of m1.0.net j) ∷ m1.1)
     → m2 ≡ (turn_view m.0.net j a t, (0, book_of m.0.net j) ∷ [])
-served m m1 m2 a t j rest drew turn =
-    turn ∙ ap (λ (x : Seen). (turned_to x.0 true x.0.ticket true j, (0, book_of x.0.net j) ∷ x.1))
-    (drawn m m1 a t rest drew)
+comes_to_turn m m1 m2 a t j rest drew turn =
+    turn ∙ ap (λ (x : Hand). (view_with_turn x.0 true x.0.ticket true j, (0, book_of x.0.net j) ∷ x.1))
+    (waits_with_ticket m m1 a t rest drew)
 
 -- so a pass at rest that has drawn a ticket and is served has come to its turn
-pub has_turn : (m m1 m2 : Seen) (a : Account) (t : ℕ) (j : List Event) → m ≡ (pass_view m.0.net m.0.seen a, [])
-    → m1 ≡ (turned_to m.0 true t false m.0.seen, m.1)
+pub has_turn : (m m1 m2 : Hand) (a : Account) (t : ℕ) (j : List Event) → m ≡ (pass_view m.0.net m.0.seen a, [])
+    → m1 ≡ (view_with_turn m.0 true t false m.0.seen, m.1)
     → Begins m1.0.seen j → length (calls_of j) ≤ MOST_CALLS → AreAccounts j m1.0.accounts
-    → m2 ≡ (turned_to m1.0 true m1.0.ticket true j, (0, book_of m1.0.net j) ∷ m1.1) → front_of m1.0.seen ≤ front_of j
-    → HasTurn m.0.net m.0.seen a m2 j
+    → m2 ≡ (view_with_turn m1.0 true m1.0.ticket true j, (0, book_of m1.0.net j) ∷ m1.1)
+    → front_of m1.0.seen ≤ front_of j → HasTurn m.0.net m.0.seen a m2 j
 has_turn m m1 m2 a t j rest drew begins few right turn rises =
-    let e = drawn m m1 a t rest drew in
+    let e = waits_with_ticket m m1 a t rest drew in
     record {
       ticket = t;
-      begins = subst (λ (x : Seen). Begins x.0.seen j) e begins;
-      rises = subst (λ (x : Seen). front_of x.0.seen ≤ front_of j) e rises;
-      right = subst (λ (x : Seen). AreAccounts j x.0.accounts) e right;
+      begins = subst (λ (x : Hand). Begins x.0.seen j) e begins;
+      rises = subst (λ (x : Hand). front_of x.0.seen ≤ front_of j) e rises;
+      right = subst (λ (x : Hand). AreAccounts j x.0.accounts) e right;
       few = few;
-      is = served m m1 m2 a t j rest drew turn;
+      is = comes_to_turn m m1 m2 a t j rest drew turn;
     }
 
 short_or : (b : Bool) (n : ℕ) (c : Call) (xs : List (ℕ × Call)) (k : ℕ) → length xs ≤ k
@@ -70,7 +71,7 @@ map_length [] = refl
 map_length (p ∷ ps) = ap suc (map_length ps)
 
 -- a pass has a free place for the receipt of a call that is in the journal
-pub places_left : (caller : ℕ) (receipts : ReservedView Receipt) (desk : TableId) (m new : Seen) (d : Decision)
+pub places_left : (caller : ℕ) (receipts : ReservedView Receipt) (desk : TableId) (m new : Hand) (d : Decision)
     (receipt : Receipt) (j : List Event)
     → IsPass caller receipts desk m → IsTurn m.0.net m.0.seen (first_account m.0.accounts) d receipt new j
     → is_some receipt.entry ≡ true → length receipts.items < receipts.reserved
@@ -90,33 +91,37 @@ places_left caller receipts desk m new d receipt j p t some_entry = ⊎_elim
     absurd (true≢false (sym some_entry ∙ ap is_some h.1)))
     t.outcome
 
--- the same for the helm
-helm_drawn : (m m1 : Seen) (t : ℕ) → m ≡ (helm_view m.0.net m.0.parts m.0.seen m.0.helm m.0.made m.0.accounts, [])
-    → m1 ≡ (turned_to m.0 true t false m.0.seen, m.1)
-    → m1 ≡ (turned_to (helm_view m.0.net m.0.parts m.0.seen m.0.helm m.0.made m.0.accounts) true t false m.0.seen, [])
-helm_drawn m m1 t rest drew = drew ∙ ap (λ (x : Seen). (turned_to x.0 true t false x.0.seen, x.1)) rest
+-- a helm at rest that has drawn a ticket waits with it, without the turn
+helm_waits_with_ticket : (m m1 : Hand) (t : ℕ)
+    → m ≡ (helm_view m.0.net m.0.parts m.0.seen m.0.helm m.0.made m.0.accounts, [])
+    → m1 ≡ (view_with_turn m.0 true t false m.0.seen, m.1)
+    → m1 ≡ (
+      view_with_turn (helm_view m.0.net m.0.parts m.0.seen m.0.helm m.0.made m.0.accounts) true t false m.0.seen,
+      [],
+    )
+helm_waits_with_ticket m m1 t rest drew = drew ∙ ap (λ (x : Hand). (view_with_turn x.0 true t false x.0.seen, x.1)) rest
 
 -- a helm at rest that has drawn a ticket waits without the turn, and has a part as before
-pub helm_waits : (m m1 : Seen) (t : ℕ) → m ≡ (helm_view m.0.net m.0.parts m.0.seen m.0.helm m.0.made m.0.accounts, [])
-    → m1 ≡ (turned_to m.0 true t false m.0.seen, m.1) → 0 < m.0.parts
+pub helm_waits : (m m1 : Hand) (t : ℕ) → m ≡ (helm_view m.0.net m.0.parts m.0.seen m.0.helm m.0.made m.0.accounts, [])
+    → m1 ≡ (view_with_turn m.0 true t false m.0.seen, m.1) → 0 < m.0.parts
     → (m1.0.waits ≡ true) × (m1.0.turn ≡ false) × (0 < m1.0.parts)
 helm_waits m m1 t rest drew part =
-    let e = helm_drawn m m1 t rest drew in (
-      ap (λ (x : Seen). x.0.waits) e,
-      ap (λ (x : Seen). x.0.turn) e,
-      subst (λ n. 0 < n) (sym (ap (λ (x : Seen). x.0.parts) e)) part,
+    let e = helm_waits_with_ticket m m1 t rest drew in (
+      ap (λ (x : Hand). x.0.waits) e,
+      ap (λ (x : Hand). x.0.turn) e,
+      subst (λ n. 0 < n) (sym (ap (λ (x : Hand). x.0.parts) e)) part,
     )
 
 -- and once it is served, it has come to its turn
-pub helm_has_turn : (m m1 m2 : Seen) (t : ℕ) (j : List Event)
+pub helm_has_turn : (m m1 m2 : Hand) (t : ℕ) (j : List Event)
     → m ≡ (helm_view m.0.net m.0.parts m.0.seen m.0.helm m.0.made m.0.accounts, [])
-    → m1 ≡ (turned_to m.0 true t false m.0.seen, m.1)
+    → m1 ≡ (view_with_turn m.0 true t false m.0.seen, m.1)
     → (m1.0.steers ≡ true → OnlyCalls m1.0.helm j)
-    → m2 ≡ (turned_to m1.0 true m1.0.ticket true j, (0, book_of m1.0.net j) ∷ m1.1) → HelmHasTurn m.0 m2 j
+    → m2 ≡ (view_with_turn m1.0 true m1.0.ticket true j, (0, book_of m1.0.net j) ∷ m1.1) → HelmHasTurn m.0 m2 j
 helm_has_turn m m1 m2 t j rest drew only turn =
-    let e = helm_drawn m m1 t rest drew in
+    let e = helm_waits_with_ticket m m1 t rest drew in
     record {
       ticket = t;
-      only_calls = subst (λ (x : Seen). OnlyCalls x.0.helm j) e (only (ap (λ (x : Seen). x.0.steers) e));
-      is = turn ∙ ap (λ (x : Seen). (turned_to x.0 true x.0.ticket true j, (0, book_of x.0.net j) ∷ x.1)) e;
+      only_calls = subst (λ (x : Hand). OnlyCalls x.0.helm j) e (only (ap (λ (x : Hand). x.0.steers) e));
+      is = turn ∙ ap (λ (x : Hand). (view_with_turn x.0 true x.0.ticket true j, (0, book_of x.0.net j) ∷ x.1)) e;
     }

@@ -36,8 +36,9 @@ use Rattle.decision_book.proofs.AloneLaw.{opened, IsOpen}
 use Rattle.decision_book.proofs.ClonesByName.{place_of-cons}
 use Rattle.decision_book.proofs.JournalScripts.{Passes, kind_of, fold_append, each_later, net_stays}
 use Rattle.decision_desk.specs.Accounts.{front_of, front_from}
-use Rattle.decision_desk.specs.Leasts.{leasts_of, earliest, leasts_with, changed_at, changed_by, helm_at, calls_at}
-use Rattle.decision_desk.specs.Passes.{IsSince, IsAhead, IsGoneOn}
+use Rattle.decision_desk.specs.Leasts.{leasts_of, earliest, leasts_with, leasts_with_at, leasts_with_calls}
+use Rattle.decision_desk.specs.Leasts.{helm_at, calls_at}
+use Rattle.decision_desk.specs.Passes.{IsSince, IsTurnAhead, IsGoneOn}
 use Rattle.decision_desk.specs.declared.helm.Turn.{Turn}
 use Rattle.decision_desk.proofs.Journals.{front_calls}
 use Rattle.decision_book.specs.Books.{BookView}
@@ -120,11 +121,11 @@ skip_change net (Some s) change more h = skip_fault (accepts (site_of net s) cha
 timely_set : (s : Situation) (clone : ℕ) (who : List ℕ) (at : ℕ) (station : List ℕ) (change : Change)
     → first_row (rows s clone (Set who at station change)) ≡ Accepted → IsTimely s at
 timely_set s clone who at station change h =
-    let room = row (nat_le MOST_DECISIONS (length (clone_at s.clones clone).plans)) ListFull in
+    let full = row (nat_le MOST_DECISIONS (length (clone_at s.clones clone).plans)) ListFull in
     let times = time_rows s.net s.front at in
     let one = skip_row (is_none (number_of station s.net)) UnknownStation
-    (change_row s.net (number_of station s.net) change ∷ room ∷ times) (λ e. cc) h in
-    let two = skip_change s.net (number_of station s.net) change (room ∷ times) one in
+    (change_row s.net (number_of station s.net) change ∷ full ∷ times) (λ e. cc) h in
+    let two = skip_change s.net (number_of station s.net) change (full ∷ times) one in
     timely s at (skip_row (nat_le MOST_DECISIONS (length (clone_at s.clones clone).plans)) ListFull times (λ e. cc) two)
 
 some_is : (a b : ℕ) → Some a ≡ Some b → a ≡ b
@@ -149,7 +150,7 @@ least_at net front cs i lt = slice_get-map (λ c. least_of (simulation net) c fr
 
 -- an accepted decision changes the least times so
 abbrev Changes : Situation → ℕ → Decision → Type 0
-Changes s p d = changed_at p (Some (least_of (simulation s.net) (clone_at s.clones p) s.front))
+Changes s p d = leasts_with_at p (Some (least_of (simulation s.net) (clone_at s.clones p) s.front))
     (leasts_of s.net s.clones s.front) d ≡ leasts_of s.net (clones_after s.net s.clones d) s.front
 
 changes_fork : (s : Situation) (p : ℕ) (new old : List ℕ) → clone_place old s.clones ≡ p
@@ -201,17 +202,18 @@ changes s (End who at) valid o = changes_end s o.clone who at valid (ap (λ q. u
 -- ---- calls
 
 -- the least times after calls, where the clones are these at last
-leads : (net : Net) (before : List Event) (cs : List Call) (s : Situation) (all : List Clone) → IsNet s.net
-    → after net before ≡ s → EachAfter (MayFollow net) before (map asked cs)
+leasts_with_calls-accepted : (net : Net) (before : List Event) (cs : List Call) (s : Situation) (all : List Clone)
+    → IsNet s.net → after net before ≡ s → EachAfter (MayFollow net) before (map asked cs)
     → all ≡ (fold after_event s (map asked cs)).clones
-    → changed_by all (leasts_of s.net s.clones s.front) (accepted_of cs) ≡ leasts_of s.net all s.front
-leads net before [] s all valid is right end = ap (λ cl. leasts_of s.net cl s.front) (sym end)
-leads net before (c ∷ cs) s all valid is right end =
+    → leasts_with_calls all (leasts_of s.net s.clones s.front) (accepted_of cs) ≡ leasts_of s.net all s.front
+leasts_with_calls-accepted net before [] s all valid is right end = ap (λ cl. leasts_of s.net cl s.front) (sym end)
+leasts_with_calls-accepted net before (c ∷ cs) s all valid is right end =
     let d = c.decision in
     let ts = leasts_of s.net s.clones s.front in
     let then = fold_append (outset net) before (asked c ∷ []) ∙ ap (λ (x : Situation). after_event x (asked c)) is in
     let answer : c.reply ≡ reply s d = right.0.answer ∙ ap (λ (x : Situation). reply x d) is in
-    let more = leads net (before ++ asked c ∷ []) cs (after_event s (asked c)) all valid then right.1 end in
+    let more = leasts_with_calls-accepted net (before ++ asked c ∷ []) cs (after_event s (asked c)) all valid then
+    right.1 end in
     ⊎_elim
     (λ (h : c.reply ≡ Accepted).
     let o = opened s d (sym answer ∙ h) in
@@ -219,42 +221,45 @@ leads net before (c ∷ cs) s all valid is right end =
     ∙ place_of-calls (subject d) s (c ∷ cs) o.clone o.place in
     let one : leasts_with (place_of (subject d) all) ts d ≡ leasts_of s.net (clones_after s.net s.clones d) s.front =
     ap (λ q. leasts_with q ts d) place
-    ∙ (ap (λ t. changed_at o.clone t ts d)
+    ∙ (ap (λ t. leasts_with_at o.clone t ts d)
     (least_at s.net s.front s.clones o.clone (inside (subject d) s.clones o.clone o.place))
     ∙ changes s d valid o) in
-    ap (λ r. changed_by all ts (if_taken r c (accepted_of cs))) h
-    ∙ (ap (λ us. changed_by all us (accepted_of cs))
+    ap (λ r. leasts_with_calls all ts (if_taken r c (accepted_of cs))) h
+    ∙ (ap (λ us. leasts_with_calls all us (accepted_of cs))
     (one ∙ sym (ap (λ r. leasts_of s.net (if_accepted r (clones_after s.net s.clones d) s.clones) s.front) h))
     ∙ more))
     (λ (h : Passes c.reply).
-    ap (changed_by all ts) (h.0 c (accepted_of cs))
-    ∙ (ap (λ cl. changed_by all (leasts_of s.net cl s.front) (accepted_of cs))
+    ap (leasts_with_calls all ts) (h.0 c (accepted_of cs))
+    ∙ (ap (λ cl. leasts_with_calls all (leasts_of s.net cl s.front) (accepted_of cs))
     (sym (h.1 (clones_after s.net s.clones d) s.clones)) ∙ more))
     (kind_of c.reply)
 
--- the front of a journal is the one that it stands at
-front_stands : (s : Situation) (es : List Event) → (fold after_event s es).front ≡ front_from s.front es
-front_stands s [] = refl
-front_stands s (raised f ∷ es) = front_stands (after_event s (raised f)) es
-front_stands s (asked c ∷ es) = front_stands (after_event s (asked c)) es
+-- the front after events is the last that was raised in them, or the one before them
+front-fold : (s : Situation) (es : List Event) → (fold after_event s es).front ≡ front_from s.front es
+front-fold s [] = refl
+front-fold s (raised f ∷ es) = front-fold (after_event s (raised f)) es
+front-fold s (asked c ∷ es) = front-fold (after_event s (asked c)) es
 
 -- the front after a journal is the last that was raised in it, or 0
 pub front_is : (net : Net) (es : List Event) → (after net es).front ≡ front_of es
-front_is net es = front_stands (outset net) es
+front_is net es = front-fold (outset net) es
 
 -- the least times after the calls since the helm's last turn
 pub leasts_after : (net : Net) (helm : List Event) (cs : List Call) → IsNet net → IsRight net (helm ++ map asked cs)
-    → changed_by (after net (helm ++ map asked cs)).clones (leasts_of net (after net helm).clones (front_of helm))
-    (accepted_of cs) ≡ leasts_of net (after net (helm ++ map asked cs)).clones (front_of helm)
+    → leasts_with_calls (after net (helm ++ map asked cs)).clones
+    (leasts_of net (after net helm).clones (front_of helm)) (accepted_of cs)
+    ≡ leasts_of net (after net (helm ++ map asked cs)).clones (front_of helm)
 leasts_after net helm cs valid right =
     let s = after net helm in
     let all = (after net (helm ++ map asked cs)).clones in
     let same : s.net ≡ net = net_stays (outset net) helm in
-    let l = leads net helm cs s all (subst (λ n. IsNet n) (sym same) valid) refl
+    let l = leasts_with_calls-accepted net helm cs s all (subst (λ n. IsNet n) (sym same) valid) refl
     (each_later (MayFollow net) [] helm (map asked cs) right)
     (ap (λ (x : Situation). x.clones) (fold_append (outset net) helm (map asked cs))) in
-    subst (λ f. changed_by all (leasts_of net s.clones f) (accepted_of cs) ≡ leasts_of net all f) (front_is net helm)
-    (subst (λ n. changed_by all (leasts_of n s.clones s.front) (accepted_of cs) ≡ leasts_of n all s.front) same l)
+    subst (λ f. leasts_with_calls all (leasts_of net s.clones f) (accepted_of cs) ≡ leasts_of net all f)
+    (front_is net helm)
+    (subst (λ n. leasts_with_calls all (leasts_of n s.clones s.front) (accepted_of cs) ≡ leasts_of n all s.front)
+    same l)
 
 -- ---- the earliest of all
 
@@ -278,7 +283,7 @@ earlier_none (Some a) = refl
 -- the front that ends the window of these least times
 pub next_is : (net : Net) (helm : List Event) (cs : List Call) → IsNet net → IsRight net (helm ++ map asked cs)
     → window_end (simulation net) (earliest
-    (changed_by (after net (helm ++ map asked cs)).clones (leasts_of net (after net helm).clones (front_of helm))
+    (leasts_with_calls (after net (helm ++ map asked cs)).clones (leasts_of net (after net helm).clones (front_of helm))
     (accepted_of cs)))
     ≡ next_front (simulation net) (after net (helm ++ map asked cs)).clones (front_of helm)
 next_is net helm cs valid right = ap (λ t. window_end (simulation net) t)
@@ -302,9 +307,9 @@ calls_since (raised f ∷ es) cs = calls_since es cs
 calls_since (asked c ∷ es) cs = ap (λ l. c ∷ l) (calls_since es cs)
 
 -- the journal as it stood when so many calls were known is the one that only calls follow
-pub parted : (es helm : List Event) (cs : List Call) (known : ℕ) → es ≡ helm ++ map asked cs
+pub helm_and_calls_at : (es helm : List Event) (cs : List Call) (known : ℕ) → es ≡ helm ++ map asked cs
     → known ≡ length (calls_of helm) → (helm_at known es ≡ helm) × (calls_at known es ≡ cs)
-parted es helm cs known is count =
+helm_and_calls_at es helm cs known is count =
     let calls : calls_of es ≡ calls_of helm ++ cs = ap calls_of is ∙ calls_since helm cs in
     let longer : length (calls_of es) ≡ length (calls_of helm) + length cs =
     ap length calls ∙ length-append (calls_of helm) cs in
@@ -327,27 +332,28 @@ parted es helm cs known is count =
     drop_first [] ys = refl
     drop_first (x ∷ xs) ys = drop_first xs ys
 
--- what is found ahead of a book
-ahead : (b : BookView) (helm : List Event) (cs fresh : List Call) (known front : ℕ) (least ts : List (Option ℕ))
+-- what the helm's next turn will give, behind a journal that is only calls behind another
+turn_ahead : (b : BookView) (helm : List Event) (cs fresh : List Call) (known front : ℕ) (least ts : List (Option ℕ))
     (all : List Clone) → b.events ≡ helm ++ map asked cs → known ≡ length (calls_of helm)
     → front_of helm < b.net.horizon → least ≡ leasts_of b.net (after b.net helm).clones (front_of helm) → IsNet b.net
     → IsRight b.net b.events
     → fresh ≡ accepted_of (drop known (calls_of b.events)) → all ≡ (after b.net b.events).clones
-    → ts ≡ changed_by all least fresh → front ≡ window_end (simulation b.net) (earliest ts)
-    → IsAhead b helm cs fresh front
-ahead b helm cs fresh known front least ts all is count below least_is valid right fresh_is all_is ts_is front_at =
+    → ts ≡ leasts_with_calls all least fresh → front ≡ window_end (simulation b.net) (earliest ts)
+    → IsTurnAhead b helm cs fresh front
+turn_ahead b helm cs fresh known front least ts all is count below least_is valid right fresh_is all_is ts_is front_at =
     let net = b.net in
     let here = (after net b.events).clones in
-    let same : fresh ≡ accepted_of cs = fresh_is ∙ ap accepted_of (parted b.events helm cs known is count).1 in
-    let times : ts ≡ changed_by here (leasts_of net (after net helm).clones (front_of helm)) (accepted_of cs) =
-    ts_is ∙ (ap (λ a. changed_by a least fresh) all_is
-    ∙ (ap (λ l. changed_by here l fresh) least_is
-    ∙ ap (changed_by here (leasts_of net (after net helm).clones (front_of helm))) same)) in
+    let same : fresh ≡ accepted_of cs =
+    fresh_is ∙ ap accepted_of (helm_and_calls_at b.events helm cs known is count).1 in
+    let times : ts ≡ leasts_with_calls here (leasts_of net (after net helm).clones (front_of helm)) (accepted_of cs) =
+    ts_is ∙ (ap (λ a. leasts_with_calls a least fresh) all_is
+    ∙ (ap (λ l. leasts_with_calls here l fresh) least_is
+    ∙ ap (leasts_with_calls here (leasts_of net (after net helm).clones (front_of helm))) same)) in
     let next : window_end (simulation net)
-    (earliest (changed_by here (leasts_of net (after net helm).clones (front_of helm)) (accepted_of cs)))
+    (earliest (leasts_with_calls here (leasts_of net (after net helm).clones (front_of helm)) (accepted_of cs)))
     ≡ next_front (simulation net) here (front_of helm) =
     subst (λ (es : List Event). window_end (simulation net)
-    (earliest (changed_by (after net es).clones (leasts_of net (after net helm).clones (front_of helm))
+    (earliest (leasts_with_calls (after net es).clones (leasts_of net (after net helm).clones (front_of helm))
     (accepted_of cs))) ≡ next_front (simulation net) (after net es).clones (front_of helm))
     (sym is) (next_is net helm cs valid (subst (λ (es : List Event). IsRight net es) is right)) in
     let found : front ≡ next_front (simulation net) here (front_of helm) =
@@ -367,17 +373,17 @@ ahead b helm cs fresh known front least ts all is count below least_is valid rig
     }
 
 -- where only calls came since so many were known, the accepted ones of these and the next front are found
-pub looked_ahead : (b : BookView) (fresh : List Call) (known front : ℕ) (least ts : List (Option ℕ))
+pub is_turn_ahead : (b : BookView) (fresh : List Call) (known front : ℕ) (least ts : List (Option ℕ))
     (all : List Clone) → IsSince b known least → IsNet b.net → IsRight b.net b.events
     → fresh ≡ accepted_of (drop known (calls_of b.events)) → all ≡ (after b.net b.events).clones
-    → ts ≡ changed_by all least fresh → front ≡ window_end (simulation b.net) (earliest ts)
-    → IsAhead b (helm_at known b.events) (calls_at known b.events) fresh front
-looked_ahead b fresh known front least ts all s valid right fresh_is all_is ts_is front_at =
-    let p = parted b.events s.helm s.calls known s.events s.known_is in
-    subst (λ (h : List Event). IsAhead b h (calls_at known b.events) fresh front) (sym p.0)
-    (subst (λ (cs : List Call). IsAhead b s.helm cs fresh front) (sym p.1)
-    (ahead b s.helm s.calls fresh known front least ts all s.events s.known_is s.below s.least_is valid right fresh_is
-    all_is ts_is front_at))
+    → ts ≡ leasts_with_calls all least fresh → front ≡ window_end (simulation b.net) (earliest ts)
+    → IsTurnAhead b (helm_at known b.events) (calls_at known b.events) fresh front
+is_turn_ahead b fresh known front least ts all s valid right fresh_is all_is ts_is front_at =
+    let p = helm_and_calls_at b.events s.helm s.calls known s.events s.known_is in
+    subst (λ (h : List Event). IsTurnAhead b h (calls_at known b.events) fresh front) (sym p.0)
+    (subst (λ (cs : List Call). IsTurnAhead b s.helm cs fresh front) (sym p.1)
+    (turn_ahead b s.helm s.calls fresh known front least ts all s.events s.known_is s.below s.least_is valid right
+    fresh_is all_is ts_is front_at))
 
 -- the calls since then are calls of the book
 pub known_calls : (b : BookView) (known : ℕ) (least : List (Option ℕ)) → IsSince b known least
@@ -390,12 +396,12 @@ known_calls b known least s = omega (
 )
 
 -- the book after a turn of the helm
-pub gone_on : (old new : BookView) (known : ℕ) (turn : Turn) (helm : List Event) (cs : List Call)
+pub is_gone_on : (old new : BookView) (known : ℕ) (turn : Turn) (helm : List Event) (cs : List Call)
     → old.events ≡ helm ++ map asked cs → known ≡ length (calls_of helm)
-    → IsAhead old (helm_at known old.events) (calls_at known old.events) turn.fresh.items turn.front
+    → IsTurnAhead old (helm_at known old.events) (calls_at known old.events) turn.fresh.items turn.front
     → new ≡ record old { events = old.events ++ raised turn.front ∷ [] } → IsGoneOn old helm cs turn new
-gone_on old new known turn helm cs is count a then =
-    let p = parted old.events helm cs known is count in
+is_gone_on old new known turn helm cs is count a then =
+    let p = helm_and_calls_at old.events helm cs known is count in
     record {
       fresh = a.fresh_is ∙ ap accepted_of p.1;
       front = a.front_is ∙ ap (λ (h : List Event). next_front (simulation old.net) (after old.net old.events).clones

@@ -1,4 +1,4 @@
--- A legal journal goes on.
+-- A legal journal stays legal with one call more, and with one front more that is the next.
 use Rattle.std.proofs.Common.{◌≡◌, List, ◌++◌, ◌∷◌, [], ℕ, subst, sym}
 use Rattle.std.proofs.Common.{Option, Some, None, Result, Ok, Err, OnOk, OnErr}
 use Rattle.decision_book.specs.Books.{BookView, IsCallUnlessFull}

@@ -1,7 +1,7 @@
 -- Steps between turns: looks at the front, passes made and taken in, the beginning and the end.
 use Rattle.std.proofs.Common.{◌≡◌, ◌≢◌, ℕ, zero, suc, ◌+◌, ◌-◌, ◌%◌, ◌^◌, ◌<◌, ◌≤◌, true}
 use Rattle.std.proofs.Common.{false, true≢false, List, [], ◌∷◌, ◌++◌, length, set, sym, refl, ap, ◌∙◌}
-use Rattle.std.proofs.Common.{subst, ⊎_elim, inl, inr, arith, nat_eq, if◌then◌else◌, slice_index, slice_set, Some}
+use Rattle.std.proofs.Common.{subst, ⊎_elim, inl, inr, arith, slice_index, slice_set, Some}
 use Rattle.std.specs.Prelude.{None}
 use Rattle.std.proofs.Math.Nat.{mod-add-mod}
 use Rattle.std.proofs.lemmas.Bool.{cases_eq}
@@ -19,21 +19,22 @@ use Rattle.decision_desk.specs.Passes.{HelmView, view_of_helm, IsClosed}
 use Rattle.decision_desk.specs.Accounts.{Account, AreAccounts, IsAccount, accounts_of}
 use Rattle.decision_desk.specs.Accounts.{calls_by, front_of, Begins, OnlyCalls}
 use Rattle.decision_desk.specs.Turns.{Slot, book_of, total, ticket_count, has_ticket, has_caller, Fits}
-use Rattle.decision_desk.specs.Turns.{EachFits, NoTurn, BookIsHomeOrInTurn, OneHelm, IsDesk, turned_to, new_account}
-use Rattle.decision_desk.specs.Turns.{pass_view, helm_view, spent_view, after_look, full_account}
+use Rattle.decision_desk.specs.Turns.{EachFits, NoTurn, BookIsHomeOrInTurn, OneHelm, IsDesk, view_with_turn}
+use Rattle.decision_desk.specs.Turns.{new_account, pass_view, helm_view, spent_view, view_after_look, full_account}
 use Rattle.decision_desk.specs.Turns.{HasSeenFront, HasEndedFullTurn}
 use Rattle.decision_desk.proofs.Journals.{begins_refl, seen_front}
 use Rattle.decision_desk.proofs.Journals.{account_looked, account_full, accounts_append, counted_append}
 use Rattle.decision_desk.proofs.Turnings.{Becomes, Alike, heads_same, total_set, two_below, each_set, no_turn_set}
 use Rattle.decision_desk.proofs.Turnings.{parts_stay, once_stays, unmade_stays, one_helm_stays, others_stay, rest_home}
-use Rattle.decision_desk.proofs.Turnings.{others_idle, stands, in_turn, fits_served, once_less}
+use Rattle.decision_desk.proofs.Turnings.{others_idle, ticket_in_line, in_turn, fits_served, once_less}
+use Rattle.decision_desk.proofs.Turnings.{none_waiting, no_tickets, one_waiting, only_ticket}
 
 -- a change of a seat's knowledge while it is at rest
 at_rest : (net : Net) (serve : ℕ) (j : List Event) (v w : View) → w.waits ≡ false → w.turn ≡ false → w.parts ≡ v.parts
     → w.net ≡ v.net → Begins w.seen j → (w.steers ≡ true → OnlyCalls w.helm j)
     → (v.parts ≡ 0 → w.accounts ≡ []) → AreAccounts j w.accounts → Fits net serve j v → Fits net serve j w
 at_rest net serve j v w idle still parts about seen helm unowned accounts f = record {
-  part = let e : ticket_count w ≡ 0 = ap (λ b. if b then 1 else 0) idle in omega (arith, e);
+  part = omega (arith, none_waiting w idle);
   idle = λ z. unowned (sym parts ∙ z);
   about = λ some_part. about ∙ f.about (omega (arith, parts, some_part));
   seen = seen;
@@ -42,20 +43,14 @@ at_rest net serve j v w idle still parts about seen helm unowned accounts f = re
   accounts = accounts;
 }
 
-no_tickets : (x : ℕ) (v : View) → v.waits ≡ false → has_ticket x v ≡ 0
-no_tickets x v idle = ap (λ b. if b then (if nat_eq v.ticket x then 1 else 0) else 0) idle
-
-none_waiting : (v : View) → v.waits ≡ false → ticket_count v ≡ 0
-none_waiting v idle = ap (λ b. if b then 1 else 0) idle
-
 -- a pass at rest may read the front: it sees the journal up to there, and its account notes the front
 pub looks : (slots id : ℕ) (m : Me Slot View) → m.0.waits ≡ false → m.0.turn ≡ false → 0 < m.0.parts
     → m.0.steers ≡ false → (a : Account) → m.0.accounts ≡ a ∷ []
     → Allows IsDesk slots id m 0 (λ n. n) (λ n m'. (j : List Event) × Begins m.0.seen j × (n ≡ front_of j)
-    × (m' ≡ (after_look m.0 a j, m.1)) × (front_of m.0.seen ≤ n))
+    × (m' ≡ (view_after_look m.0 a j, m.1)) × (front_of m.0.seen ≤ n))
 looks slots id m idle still some_part plain a mine s k one at small =
     let v : View = m.0 in
-    let w : View = after_look v a k.journal in
+    let w : View = view_after_look v a k.journal in
     let f = k.fits id v at in
     let same : Alike v w = record {
       parts = refl;
@@ -103,9 +98,9 @@ looks slots id m idle still some_part plain a mine s k one at small =
 pub leaves_full : (slots id : ℕ) (v : View) → 0 < v.parts → v.turn ≡ true → (a : Account) → v.accounts ≡ a ∷ []
     → length (calls_of v.seen) ≡ MOST_CALLS
     → Allows IsDesk slots id (v, (0, book_of v.net v.seen) ∷ []) 2 (λ n. (n + 1) % 2 ^ 64)
-    (λ _ m'. m' ≡ (record (turned_to v false 0 false v.seen) { accounts = full_account a ∷ [] }, []))
+    (λ _ m'. m' ≡ (record (view_with_turn v false 0 false v.seen) { accounts = full_account a ∷ [] }, []))
 leaves_full slots id v some_part turn a mine whole s k one at small =
-    let w : View = record (turned_to v false 0 false v.seen) { accounts = full_account a ∷ [] } in
+    let w : View = record (view_with_turn v false 0 false v.seen) { accounts = full_account a ∷ [] } in
     let f = k.fits id v at in
     let t = f.turn turn in
     let same : Alike v w = record {
@@ -115,13 +110,10 @@ leaves_full slots id v some_part turn a mine whole s k one at small =
       made = refl;
     } in
     let idle = others_idle s k id v at t.0 t.1 in
-    let line = stands s k id v at t.0 in
+    let line = ticket_in_line s k id v at t.0 in
     let right : IsAccount k.journal a = (subst (AreAccounts k.journal) mine f.accounts).0 in
     let whole' : length (calls_of k.journal) ≡ MOST_CALLS = ap (λ l. length (calls_of l)) (sym t.2) ∙ whole in
-    let was_waiting : ticket_count v ≡ 1 = ap (λ b. if b then 1 else 0) t.0 in
-    let had : (y : ℕ) → has_ticket y v ≡ (if nat_eq k.serve y then 1 else 0) =
-    λ y. ap (λ b. if b then (if nat_eq v.ticket y then 1 else 0) else 0) t.0
-    ∙ ap (λ z. if nat_eq z y then 1 else 0) t.1 in (
+    let was_waiting : ticket_count v ≡ 1 = one_waiting v t.0 in (
       w,
       gives,
       tt,
@@ -141,7 +133,7 @@ leaves_full slots id v some_part turn a mine whole s k one at small =
           arith,
           total_set (has_ticket y) s.views id v w at,
           k.each_once y,
-          had y,
+          only_ticket k.serve y v t.0 t.1,
           once_less y k.serve k.next (omega (arith, line, t.1)),
         );
         fits = λ i u e. ⊎_elim
@@ -433,7 +425,7 @@ all_zero f [] each = refl
 all_zero f (u ∷ us) each = omega (arith, each 0 u refl, all_zero f us (λ i v e. each (suc i) v e))
 
 -- what the book is, once one seat has every part and is at rest
-pub record Ended (v : View) (slots : List Slot) : Type 0 where
+pub record HasEnded (v : View) (slots : List Slot) : Type 0 where
   pub journal : List Event
   pub book : get_elem? slots 0 ≡ some (book_of v.net journal)
   pub seen : Begins v.seen journal
@@ -443,7 +435,7 @@ pub record Ended (v : View) (slots : List Slot) : Type 0 where
 
 -- this is so of a seat without the turn that has all 17 parts, when the desk ends
 pub ends : (id : ℕ) (v : View) (ws : List ℕ) (xs : List Slot) → v.parts ≡ 17 → v.turn ≡ false
-    → Final (Seen IsDesk id v) ws xs → Ended v xs
+    → Final (Seen IsDesk id v) ws xs → HasEnded v xs
 ends id v ws xs whole still final =
     let s = final.0 in
     let k : IsDesk s = final.1.0 in
@@ -456,8 +448,7 @@ ends id v ws xs whole still final =
     (sym turn ∙ (ap (λ (y : View). y.turn)
     (some-injective u v (sym e ∙ (ap (λ (i : ℕ). get_elem? s.views i) same ∙ at))) ∙ still)) in
     let g = k.fits j u e in
-    let w : ticket_count u ≡ 1 = ap (λ b. if b then 1 else 0) (g.turn turn).0 in
-    omega (arith, partless j u apart e, g.part, w) in
+    omega (arith, partless j u apart e, g.part, one_waiting u (g.turn turn).0) in
     let home : s.homes ≡ some (book_of k.net k.journal) ∷ [] =
     ⊎_elim (λ (h : (s.homes ≡ some (book_of k.net k.journal) ∷ []) × NoTurn s.views). h.0)
     (λ (h : (s.homes ≡ none ∷ []) × ((j : ℕ) × (u : View) × (get_elem? s.views j ≡ some u) × (u.turn ≡ true))).
@@ -497,7 +488,7 @@ looks_said slots id m idle still some_part plain a mine s k one at small =
         r.4.0,
         r.4.1,
         r.4.2,
-        subst (λ (e : Account). Becomes (r.0, carried_after m.1 r.1) (after_look m.0 e r.4.0, m.1))
+        subst (λ (e : Account). Becomes (r.0, carried_after m.1 r.1) (view_after_look m.0 e r.4.0, m.1))
             (heads_same a b m.0.accounts mine too) r.4.3,
         r.4.4,
       ),
@@ -516,7 +507,7 @@ leaves_full_said slots id v some_part turn a mine whole s k one at small =
       r.2,
       r.3,
       λ b too. subst (λ (e : Account). Becomes (r.0, carried_after c r.1)
-          (record (turned_to v false 0 false v.seen) { accounts = full_account e ∷ [] }, []))
+          (record (view_with_turn v false 0 false v.seen) { accounts = full_account e ∷ [] }, []))
           (heads_same a b v.accounts mine too) r.4,
     )
 
@@ -528,9 +519,9 @@ some_book a b e = ap {B = BookView} inside e
     inside None = a
 
 -- the book that comes out of the slot at the end
-pub closed : (h : HelmView) (t : TableId) (v : View) (xs : List Slot) (o : Slot) (b : BookView) → view_of_helm t v ≡ h
-    → v.steers ≡ true → Ended v xs → get_elem? xs 0 ≡ some o → o ≡ Some b → IsClosed h b
-closed h t v xs o b is steers e at out =
+pub is_closed : (h : HelmView) (t : TableId) (v : View) (xs : List Slot) (o : Slot) (b : BookView)
+    → view_of_helm t v ≡ h → v.steers ≡ true → HasEnded v xs → get_elem? xs 0 ≡ some o → o ≡ Some b → IsClosed h b
+is_closed h t v xs o b is steers e at out =
     let same : b ≡ record { net = v.net; events = e.journal } =
     some_book b (record { net = v.net; events = e.journal })
     (sym out ∙ some-injective o (book_of v.net e.journal) (sym at ∙ e.book)) in

@@ -16,8 +16,8 @@ use Rattle.decision_desk.specs.Accounts.{Account, AreAccounts, IsAccount, accoun
 use Rattle.decision_desk.specs.Accounts.{calls_by, front_of, RisesFrom, OnlyCalls}
 use Rattle.decision_desk.specs.Turns.{Slot, book_of, total, ticket_count, has_ticket, has_caller, in_line, Fits}
 use Rattle.decision_desk.specs.Turns.{EachFits, NoTurn, BookIsHomeOrInTurn, NoAccountAboveMade, OneHelm, IsDesk}
-use Rattle.decision_desk.specs.Turns.{turned_to, after_call, after_front, HasDrawnTicket, HasTurnIf, HasTurnIfServed}
-use Rattle.decision_desk.specs.Turns.{HasAddedCall, HasEndedTurn}
+use Rattle.decision_desk.specs.Turns.{view_with_turn, view_after_call, view_after_front, HasDrawnTicket, HasTurnIf}
+use Rattle.decision_desk.specs.Turns.{HasTurnIfServed, HasAddedCall, HasEndedTurn}
 use Rattle.decision_desk.proofs.Journals.{calls_raised, front_asked, front_raised, calls_longer, by_other}
 use Rattle.decision_desk.proofs.Journals.{by_raised, begins_refl, begins_more, only_calls_refl, only_calls_more}
 use Rattle.decision_desk.proofs.Journals.{account_called, accounts_raised, accounts_other, one_account, rises_asked}
@@ -65,6 +65,24 @@ not_true false h = refl
 
 ticket_here : (v : View) (x : ℕ) → v.waits ≡ true → v.ticket ≡ x → has_ticket x v ≡ 1
 ticket_here v x w e = ap (λ b. if b then (if nat_eq v.ticket x then 1 else 0) else 0) w ∙ grind (arith, e)
+
+-- a seat that doesn't wait has no ticket
+pub none_waiting : (v : View) → v.waits ≡ false → ticket_count v ≡ 0
+none_waiting v idle = ap (λ b. if b then 1 else 0) idle
+
+-- whichever ticket is asked for
+pub no_tickets : (x : ℕ) (v : View) → v.waits ≡ false → has_ticket x v ≡ 0
+no_tickets x v idle = ap (λ b. if b then (if nat_eq v.ticket x then 1 else 0) else 0) idle
+
+-- a seat that waits has one ticket
+pub one_waiting : (v : View) → v.waits ≡ true → ticket_count v ≡ 1
+one_waiting v waits = ap (λ b. if b then 1 else 0) waits
+
+-- its own, and no other
+pub only_ticket : (x y : ℕ) (v : View) → v.waits ≡ true → v.ticket ≡ x
+    → has_ticket y v ≡ (if nat_eq x y then 1 else 0)
+only_ticket x y v waits is = ap (λ b. if b then (if nat_eq v.ticket y then 1 else 0) else 0) waits
+    ∙ ap (λ z. if nat_eq z y then 1 else 0) is
 
 one_line : (x from to : ℕ) → in_line x from to ≤ 1
 one_line x from to = grind arith
@@ -146,8 +164,8 @@ module _ (s : State Slot View) (k : IsDesk s) (id : ℕ) (v w : View) (at : get_
 module _ (s : State Slot View) (k : IsDesk s) (id : ℕ) (v : View) (at : get_elem? s.views id ≡ some v)
     (waits : v.waits ≡ true) where
   -- its ticket is in line
-  pub stands : (k.serve ≤ v.ticket) × (v.ticket < k.next)
-  stands = in_line_in v.ticket k.serve k.next
+  pub ticket_in_line : (k.serve ≤ v.ticket) × (v.ticket < k.next)
+  ticket_in_line = in_line_in v.ticket k.serve k.next
       (omega (
         arith,
         k.each_once v.ticket,
@@ -202,12 +220,9 @@ pub draws : (slots id : ℕ) (m : Me Slot View) → m.0.waits ≡ false → m.0.
     → Allows IsDesk slots id m 1 (λ n. (n + 1) % 2 ^ 64) (HasDrawnTicket m)
 draws slots id m idle still some_part s k one at small =
     let v : View = m.0 in
-    let w : View = turned_to v true k.next false v.seen in
+    let w : View = view_with_turn v true k.next false v.seen in
     let f = k.fits id v at in
-    let same : Alike v w = alike_refl v w refl refl refl refl in
-    let none_waiting : ticket_count v ≡ 0 = ap (λ b. if b then 1 else 0) idle in
-    let no_ticket : (x : ℕ) → has_ticket x v ≡ 0 =
-    λ x. ap (λ b. if b then (if nat_eq v.ticket x then 1 else 0) else 0) idle in (
+    let same : Alike v w = alike_refl v w refl refl refl refl in (
       w,
       keeps,
       tt,
@@ -222,12 +237,12 @@ draws slots id m idle still some_part s k one at small =
         few = k.few;
         rising = k.rising;
         parts = parts_stay s k id v w at same;
-        line = omega (arith, total_set ticket_count s.views id v w at, k.line, none_waiting);
+        line = omega (arith, total_set ticket_count s.views id v w at, k.line, none_waiting v idle);
         each_once = λ x. omega (
           arith,
           total_set (has_ticket x) s.views id v w at,
           k.each_once x,
-          no_ticket x,
+          no_tickets x v idle,
           once_more x k.serve k.next (omega (arith, k.line)),
         );
         fits = each_set k.net k.serve k.journal s.views id w
@@ -291,10 +306,10 @@ serves_at id m some_part waits still s k at false is = (
 )
 serves_at id m some_part waits still s k at true is =
     let v : View = m.0 in
-    let w : View = turned_to v true v.ticket true k.journal in
+    let w : View = view_with_turn v true v.ticket true k.journal in
     let f = k.fits id v at in
     let same : Alike v w = alike_refl v w refl refl refl refl in
-    let line = stands s k id v at waits in
+    let line = ticket_in_line s k id v at waits in
     let found : slice_index s.words 2 ≡ k.serve % 2 ^ 64 = ap (λ ws. slice_index ws 2) k.words in
     let equal : slice_index s.words 2 ≡ v.ticket % 2 ^ 64 = grind (arith, is) in
     let mine : v.ticket ≡ k.serve = same_place k.serve v.ticket k.next (slice_index s.words 2) line.0 line.1
@@ -309,7 +324,7 @@ serves_at id m some_part waits still s k at true is =
     absurd (true≢false (sym h.1.3 ∙ idle h.1.0 h.1.1 apart h.1.2))) k.home in
     let as_before : (x : ℕ) → has_ticket x v ≡ has_ticket x w =
     λ x. ap (λ b. if b then (if nat_eq v.ticket x then 1 else 0) else 0) waits in
-    let was_waiting : ticket_count v ≡ 1 = ap (λ b. if b then 1 else 0) waits in
+    let was_waiting : ticket_count v ≡ 1 = one_waiting v waits in
     let net : k.net ≡ v.net = sym (f.about some_part) in (
       w,
       takes 0 (book_of v.net k.journal),
@@ -402,10 +417,10 @@ fits_served net serve j u still f = record {
 pub calls : (said : List Call) (a : Account) (c : Call) (slots id : ℕ) (m : Me Slot View) → said ≡ c ∷ []
     → m.0.accounts ≡ a ∷ [] → c.caller ≡ a.caller → m.0.turn ≡ true → length (calls_of m.0.seen) < MOST_CALLS
     → Allows IsDesk slots id m 3 (λ n. (n + 1) % 2 ^ 64) (λ n m'. (n ≡ length (calls_of m.0.seen))
-    × (m' ≡ (after_call m.0 a c, m.1)))
+    × (m' ≡ (view_after_call m.0 a c, m.1)))
 calls said a c slots id m is_said mine by turn free s k one at small =
     let v : View = m.0 in
-    let w : View = after_call v a c in
+    let w : View = view_after_call v a c in
     let f = k.fits id v at in
     let t = f.turn turn in
     let is : v.seen ≡ k.journal = t.2 in
@@ -420,7 +435,7 @@ calls said a c slots id m is_said mine by turn free s k one at small =
     λ i u n e.
     omega (arith, k.once c.caller, two_below (has_caller c.caller) s.views id i v u n at e, here) in
     let as_before : (y : ℕ) → has_ticket y v ≡ has_ticket y w = λ y. refl in
-    let was_waiting : ticket_count v ≡ 1 = ap (λ b. if b then 1 else 0) t.0 in
+    let was_waiting : ticket_count v ≡ 1 = one_waiting v t.0 in
     let longer : (length (calls_of k.journal) + 1) % 2 ^ 64 ≡ length (calls_of (j ++ asked c ∷ [])) =
     mod-eq_of_lt (omega (arith, k.few)) ∙ (ap (λ l. length (calls_of l) + 1) (sym is) ∙ sym (calls_longer j c)) in
     let front : front_of k.journal ≡ front_of (j ++ asked c ∷ []) = ap front_of (sym is) ∙ sym (front_asked j c) in
@@ -477,10 +492,10 @@ calls said a c slots id m is_said mine by turn free s k one at small =
 
 -- the helm in its turn may raise the front to one above the last
 pub raises : (f slots id : ℕ) (m : Me Slot View) → m.0.turn ≡ true → m.0.steers ≡ true → front_of m.0.seen < f
-    → Allows IsDesk slots id m 0 (λ _. f) (λ _ m'. m' ≡ (after_front m.0 f, m.1))
+    → Allows IsDesk slots id m 0 (λ _. f) (λ _ m'. m' ≡ (view_after_front m.0 f, m.1))
 raises g slots id m turn steers above s k one at small =
     let v : View = m.0 in
-    let w : View = after_front v g in
+    let w : View = view_after_front v g in
     let f = k.fits id v at in
     let t = f.turn turn in
     let is : v.seen ≡ k.journal = t.2 in
@@ -536,16 +551,13 @@ pub leaves : (slots id : ℕ) (v : View) → 0 < v.parts → v.turn ≡ true
     → Allows IsDesk slots id (v, (0, book_of v.net v.seen) ∷ []) 2 (λ n. (n + 1) % 2 ^ 64)
     (HasEndedTurn (v, (0, book_of v.net v.seen) ∷ []))
 leaves slots id v some_part turn s k one at small =
-    let w : View = turned_to v false 0 false v.seen in
+    let w : View = view_with_turn v false 0 false v.seen in
     let f = k.fits id v at in
     let t = f.turn turn in
     let same : Alike v w = alike_refl v w refl refl refl refl in
     let idle = others_idle s k id v at t.0 t.1 in
-    let line = stands s k id v at t.0 in
-    let was_waiting : ticket_count v ≡ 1 = ap (λ b. if b then 1 else 0) t.0 in
-    let had : (y : ℕ) → has_ticket y v ≡ (if nat_eq k.serve y then 1 else 0) =
-    λ y. ap (λ b. if b then (if nat_eq v.ticket y then 1 else 0) else 0) t.0
-    ∙ ap (λ z. if nat_eq z y then 1 else 0) t.1 in (
+    let line = ticket_in_line s k id v at t.0 in
+    let was_waiting : ticket_count v ≡ 1 = one_waiting v t.0 in (
       w,
       gives,
       tt,
@@ -565,7 +577,7 @@ leaves slots id v some_part turn s k one at small =
           arith,
           total_set (has_ticket y) s.views id v w at,
           k.each_once y,
-          had y,
+          only_ticket k.serve y v t.0 t.1,
           once_less y k.serve k.next (omega (arith, line, t.1)),
         );
         fits = λ i u e. ⊎_elim
@@ -627,9 +639,9 @@ calls_said said a c slots id m is_said mine by turn free s k one at small =
       r.3,
       λ b d said_too mine_too. (
         r.4.0,
-        subst (λ (e : Call). Becomes (r.0, carried_after m.1 r.1) (after_call m.0 b e, m.1))
+        subst (λ (e : Call). Becomes (r.0, carried_after m.1 r.1) (view_after_call m.0 b e, m.1))
             (said_same c d said is_said said_too)
-            (subst (λ (e : Account). Becomes (r.0, carried_after m.1 r.1) (after_call m.0 e c, m.1))
+            (subst (λ (e : Account). Becomes (r.0, carried_after m.1 r.1) (view_after_call m.0 e c, m.1))
             (heads_same a b m.0.accounts mine mine_too) r.4.1),
       ),
     )

@@ -23,20 +23,21 @@ earliest (t ∷ ts) = earlier t (earliest ts)
 
 -- an accepted decision on the clone at this place, whose least time was the given one: a fork starts with it, a set
 -- makes it the lesser of it and the set's time, and an end drops it where it isn't below the end
-abbrev pub changed_at : ℕ → Option (Option ℕ) → List (Option ℕ) → Decision → List (Option ℕ)
-changed_at p None ts d = ts
-changed_at p (Some t) ts (Fork new old) = ts ++ t ∷ []
-changed_at p (Some t) ts (Set who at station change) = slice_set ts p (earlier (Some at) t)
-changed_at p (Some t) ts (End who at) = slice_set ts p (time_before at t)
+abbrev pub leasts_with_at : ℕ → Option (Option ℕ) → List (Option ℕ) → Decision → List (Option ℕ)
+leasts_with_at p None ts d = ts
+leasts_with_at p (Some t) ts (Fork new old) = ts ++ t ∷ []
+leasts_with_at p (Some t) ts (Set who at station change) = slice_set ts p (earlier (Some at) t)
+leasts_with_at p (Some t) ts (End who at) = slice_set ts p (time_before at t)
 
 -- an accepted decision on the clone that has this place, if any
 abbrev pub leasts_with : Option ℕ → List (Option ℕ) → Decision → List (Option ℕ)
 leasts_with None ts d = ts
-leasts_with (Some p) ts d = changed_at p (slice_get ts p) ts d
+leasts_with (Some p) ts d = leasts_with_at p (slice_get ts p) ts d
 
 -- accepted calls, where the clones are these at last
-abbrev pub changed_by : List Clone → List (Option ℕ) → List Call → List (Option ℕ)
-changed_by clones ts calls = fold (λ us c. leasts_with (place_of (subject c.decision) clones) us c.decision) ts calls
+abbrev pub leasts_with_calls : List Clone → List (Option ℕ) → List Call → List (Option ℕ)
+leasts_with_calls clones ts calls =
+    fold (λ us c. leasts_with (place_of (subject c.decision) clones) us c.decision) ts calls
 
 -- a journal as it stood when so many calls were known, where only calls came since
 abbrev pub helm_at : ℕ → List Event → List Event

@@ -1,4 +1,4 @@
--- Legal journals.
+-- Legal journals: right ones, in which each front is the next one of the lists before it.
 use Rattle.std.specs.Prelude.{◌≡◌, List, []}
 use Rattle.net_model.specs.Net.{Net}
 use Rattle.stations.specs.Runs.{next_front}

@@ -17,7 +17,7 @@ use Rattle.decision_book.specs.Scripts.{accepted_of}
 use Rattle.decision_book.specs.Right.{IsRight}
 use Rattle.decision_desk.specs.Accounts.{Account, AreAccounts, accounts_of, calls_by, Begins, OnlyCalls, front_of}
 use Rattle.decision_desk.specs.Leasts.{leasts_of}
-use Rattle.decision_desk.specs.Turns.{Slot, book_of, turned_to, pass_view}
+use Rattle.decision_desk.specs.Turns.{Slot, book_of, view_with_turn, pass_view}
 use Rattle.decision_desk.specs.Turns.{helm_view, new_account, with_call, full_account}
 use Rattle.decision_desk.specs.declared.view.View.{View}
 use Rattle.stations.specs.Runs.{next_front}
@@ -54,7 +54,7 @@ pub record IsPass (caller : ℕ) (receipts : ReservedView Receipt) (desk : Table
   pub receipts_are : receipts.items ≡ map receipt_of (first_account me.0.accounts).calls
   pub reserved : receipts.reserved ≡ MOST_CALLS
 
--- a decision has the reply of the table, and is the last call of the book; or the book is full, and stays as it was
+-- the call is that of this decision and this reply, and the last of the new book; the old one had a free place for it
 pub record IsLastEntry (old : BookView) (caller : ℕ) (d : Decision) (answer : Reply) (call : Call) (new : BookView) :
     Type 0 where
   pub is : call ≡ call_of caller old.events d answer
@@ -62,7 +62,8 @@ pub record IsLastEntry (old : BookView) (caller : ℕ) (d : Decision) (answer : 
   pub free : length (calls_of old.events) < MOST_CALLS
   pub not_full : answer ≢ Full
 
--- the reply of the table to a decision, with its call as the last of the book, or with none where the book is full
+-- the reply of the table of refusals to a decision, with its call as the last of the book, or with none where the book
+-- is full, and stays as it was
 abbrev pub HasAnswered : BookView → ℕ → Decision → Reply → Option Call → BookView → Type 0
 HasAnswered old caller d answer told new = (answer ≡ reply (after old.net old.events) d)
     × MatchOption told ((answer ≡ Full) × (MOST_CALLS ≤ length (calls_of old.events)) × (new ≡ old))
@@ -70,7 +71,7 @@ HasAnswered old caller d answer told new = (answer ≡ reply (after old.net old.
 
 -- the view of a pass in its turn
 abbrev pub turn_view : Net → List Event → Account → ℕ → View
-turn_view net j a ticket = turned_to (pass_view net j a) true ticket true j
+turn_view net j a ticket = view_with_turn (pass_view net j a) true ticket true j
 
 -- a seat that came to its turn, behind the events j
 pub record HasTurn (net : Net) (seen : List Event) (a : Account) (me : Me Slot View) (j : List Event) : Type 0 where
@@ -81,7 +82,7 @@ pub record HasTurn (net : Net) (seen : List Event) (a : Account) (me : Me Slot V
   pub few : length (calls_of j) ≤ MOST_CALLS
   pub is : me ≡ (turn_view net j a ticket, (0, book_of net j) ∷ [])
 
--- what became of a pass in its turn, behind the events j: the call is in the journal, or it was Full
+-- the result of a pass's turn, behind the events j: the call is in the journal, or the reply was Full
 pub record IsTurn (net : Net) (seen : List Event) (a : Account) (d : Decision) (receipt : Receipt)
     (new : Me Slot View) (j : List Event) : Type 0 where
   pub begins : Begins seen j
@@ -164,8 +165,8 @@ abbrev pub new_helm : TableId → Net → ℕ → HelmView
 new_helm desk net n = record { desk = desk; net = net; parts = 17 - n; seen = []; helm = []; made = n; accounts = [] }
 
 -- the front was seen, behind the events j
-abbrev pub looked_at : PassView → List Event → PassView
-looked_at p j = record p { seen = j; account = record p.account { fronts = p.account.fronts ++ front_of j ∷ [] } }
+abbrev pub pass_after_look : PassView → List Event → PassView
+pass_after_look p j = record p { seen = j; account = record p.account { fronts = p.account.fronts ++ front_of j ∷ [] } }
 
 -- the front, where this time is below it, and else none
 abbrev pub late_front : ℕ → ℕ → Option ℕ
@@ -184,7 +185,7 @@ pub record IsClosed (helm : HelmView) (book : BookView) : Type 0 where
 -- the view of the helm in its turn
 abbrev pub helm_turn : Net → ℕ → List Event → List Event → ℕ → List Account → ℕ → View
 helm_turn net parts j helm made accounts ticket =
-    turned_to (helm_view net parts j helm made accounts) true ticket true j
+    view_with_turn (helm_view net parts j helm made accounts) true ticket true j
 
 -- a helm that came to its turn: only calls were made since it last raised the front
 pub record HelmHasTurn (old : View) (me : Me Slot View) (j : List Event) : Type 0 where
@@ -202,7 +203,7 @@ pub record IsSince (book : BookView) (known : ℕ) (least : List (Option ℕ)) :
   pub least_is : least ≡ leasts_of book.net (after book.net helm).clones (front_of helm)
 
 -- the accepted ones of the calls since the helm's last turn, and the next front
-pub record IsAhead (book : BookView) (helm : List Event) (cs fresh : List Call) (front : ℕ) : Type 0 where
+pub record IsTurnAhead (book : BookView) (helm : List Event) (cs fresh : List Call) (front : ℕ) : Type 0 where
   pub fresh_is : fresh ≡ accepted_of cs
   pub front_is : front ≡ next_front book.net (after book.net book.events).clones (front_of helm)
   -- no call raises the front, so it is the next one from where the book stands

@@ -5,6 +5,7 @@ use Rattle.std.specs.declared.option.Option.{Option as Option'}
 use mathlib.Core.Option.{Option, some, none}
 use lib.ListN.{get_elem?}
 use Rattle.atomic_table.specs.Table.{State, Me}
+use Rattle.atomic_table.specs.Seated.{TableId}
 use Rattle.net_model.specs.Net.{Net}
 use Rattle.decision_book.specs.declared.call.Call.{Call}
 use Rattle.decision_book.specs.declared.call.TheConstants.{MOST_CALLS}
@@ -13,6 +14,12 @@ use Rattle.decision_book.specs.Books.{BookView}
 use Rattle.decision_desk.specs.Accounts.{Account, AreAccounts, accounts_of, calls_by}
 use Rattle.decision_desk.specs.Accounts.{front_of, RisesFrom, Begins, OnlyCalls}
 use Rattle.decision_desk.specs.declared.view.View.{View}
+
+-- the seat is at this board, which has four words, front, ticket, serving and count, and the slot of the book
+pub record IsSeatOf (board seat : TableId) : Type 0 where
+  pub table : seat ≡ board
+  pub words : board.words ≡ 4
+  pub slots : board.slots ≡ 1
 
 -- what lies in the slot
 abbrev pub Slot : Type 0
@@ -96,20 +103,23 @@ pub record IsDesk (s : State Slot View) : Type 0 where
   pub one_helm : OneHelm s.views
 
 -- a seat that changes in the course of a turn: what its ticket, turn and knowledge become
-abbrev pub turned_to : View → Bool → ℕ → Bool → List Event → View
-turned_to v waits ticket turn seen = record v { waits = waits; ticket = ticket; turn = turn; seen = seen }
+abbrev pub view_with_turn : View → Bool → ℕ → Bool → List Event → View
+view_with_turn v waits ticket turn seen = record v { waits = waits; ticket = ticket; turn = turn; seen = seen }
 
 -- what the steps do: a seat that drew a ticket waits with it, and the number read is the ticket modulo 2 ^ 64
 abbrev pub HasDrawnTicket : Me Slot View → ℕ → Me Slot View → Type 0
-HasDrawnTicket m n m' = (t : ℕ) × (n ≡ t % 2 ^ 64) × (m' ≡ (turned_to m.0 true t false m.0.seen, m.1))
+HasDrawnTicket m n m' = (t : ℕ) × (n ≡ t % 2 ^ 64) × (m' ≡ (view_with_turn m.0 true t false m.0.seen, m.1))
 
--- where it is so, a seat has the turn, the journal as it then stands and the book; else it is as it was
-abbrev pub HasTurnIf : Bool → Me Slot View → Me Slot View → Type 0
-HasTurnIf b m m' = MatchBool b
-    ((j : List Event) × Begins m.0.seen j × (length (calls_of j) ≤ MOST_CALLS)
+-- a seat has the turn, the journal as it then stands and the book
+abbrev pub HasComeToTurn : Me Slot View → Me Slot View → Type 0
+HasComeToTurn m m' = (j : List Event) × Begins m.0.seen j × (length (calls_of j) ≤ MOST_CALLS)
     × (m.0.steers ≡ true → OnlyCalls m.0.helm j) × AreAccounts j m.0.accounts
-    × (m' ≡ (turned_to m.0 true m.0.ticket true j, (0, book_of m.0.net j) ∷ m.1)) × (front_of m.0.seen ≤ front_of j))
-    (m' ≡ m)
+    × (m' ≡ (view_with_turn m.0 true m.0.ticket true j, (0, book_of m.0.net j) ∷ m.1))
+    × (front_of m.0.seen ≤ front_of j)
+
+-- where it is so, a seat has come to its turn; else it is as it was
+abbrev pub HasTurnIf : Bool → Me Slot View → Me Slot View → Type 0
+HasTurnIf b m m' = MatchBool b (HasComeToTurn m m') (m' ≡ m)
 
 -- a seat looked who is served, and it is so where the number read is that of its ticket
 abbrev pub HasTurnIfServed : Me Slot View → ℕ → Me Slot View → Type 0
@@ -123,25 +133,25 @@ with_call a journal c = record a {
 }
 
 -- and the journal that its seat sees
-abbrev pub after_call : View → Account → Call → View
-after_call v a c = record v { seen = v.seen ++ asked c ∷ []; accounts = with_call a v.seen c ∷ [] }
+abbrev pub view_after_call : View → Account → Call → View
+view_after_call v a c = record v { seen = v.seen ++ asked c ∷ []; accounts = with_call a v.seen c ∷ [] }
 
 -- the step that adds a call tells the call's place, and the seat has it in its journal and account
 abbrev pub HasAddedCall : List Call → Me Slot View → ℕ → Me Slot View → Type 0
-HasAddedCall said m n m' = (a : Account) (c : Call) → said ≡ c ∷ [] → m.0.accounts ≡ a ∷ []
-    → (n ≡ length (calls_of m.0.seen)) × (m' ≡ (after_call m.0 a c, m.1))
+HasAddedCall calls m n m' = (a : Account) (c : Call) → calls ≡ c ∷ [] → m.0.accounts ≡ a ∷ []
+    → (n ≡ length (calls_of m.0.seen)) × (m' ≡ (view_after_call m.0 a c, m.1))
 
 -- the front joins the journal
-abbrev pub after_front : View → ℕ → View
-after_front v f = record v { seen = v.seen ++ raised f ∷ []; helm = v.seen ++ raised f ∷ [] }
+abbrev pub view_after_front : View → ℕ → View
+view_after_front v f = record v { seen = v.seen ++ raised f ∷ []; helm = v.seen ++ raised f ∷ [] }
 
 -- a seat that raised the front has it in its journal
 abbrev pub HasRaisedFront : Me Slot View → ℕ → Me Slot View → Type 0
-HasRaisedFront m n m' = m' ≡ (after_front m.0 n, m.1)
+HasRaisedFront m n m' = m' ≡ (view_after_front m.0 n, m.1)
 
 -- a seat that left its turn is at rest, and carries nothing
 abbrev pub HasEndedTurn : Me Slot View → ℕ → Me Slot View → Type 0
-HasEndedTurn m n m' = m' ≡ (turned_to m.0 false 0 false m.0.seen, [])
+HasEndedTurn m n m' = m' ≡ (view_with_turn m.0 false 0 false m.0.seen, [])
 
 -- the account of a caller whose pass was just made
 abbrev pub new_account : ℕ → Account
@@ -198,13 +208,13 @@ spent_view = record {
 }
 
 -- a look at the front: the journal is seen as it then stands, and its front is noted
-abbrev pub after_look : View → Account → List Event → View
-after_look v a j = record v { seen = j; accounts = record a { fronts = a.fronts ++ front_of j ∷ [] } ∷ [] }
+abbrev pub view_after_look : View → Account → List Event → View
+view_after_look v a j = record v { seen = j; accounts = record a { fronts = a.fronts ++ front_of j ∷ [] } ∷ [] }
 
 -- the step that looks at the front tells the front of the journal then, which is no less than the one seen before
 abbrev pub HasSeenFront : Me Slot View → ℕ → Me Slot View → Type 0
 HasSeenFront m n m' = (a : Account) → m.0.accounts ≡ a ∷ [] → (j : List Event) × Begins m.0.seen j × (n ≡ front_of j)
-    × (m' ≡ (after_look m.0 a j, m.1)) × (front_of m.0.seen ≤ n)
+    × (m' ≡ (view_after_look m.0 a j, m.1)) × (front_of m.0.seen ≤ n)
 
 -- the turn ends, and the caller was answered Full
 abbrev pub full_account : Account → Account
@@ -213,4 +223,4 @@ full_account a = record a { full = true }
 -- a seat that left its turn so is at rest with this account, and carries nothing
 abbrev pub HasEndedFullTurn : Me Slot View → ℕ → Me Slot View → Type 0
 HasEndedFullTurn m n m' = (a : Account) → m.0.accounts ≡ a ∷ []
-    → m' ≡ (record (turned_to m.0 false 0 false m.0.seen) { accounts = full_account a ∷ [] }, [])
+    → m' ≡ (record (view_with_turn m.0 false 0 false m.0.seen) { accounts = full_account a ∷ [] }, [])

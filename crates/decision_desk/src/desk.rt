@@ -4,7 +4,7 @@ ghost use Rattle.std.specs.Prelude.{List, All, Some, length, map, IfOk, OnOk, On
 ghost use Rattle.decision_book.specs.Journal.{Event};
 ghost use Rattle.decision_desk.specs.Accounts.{Begins, front_of};
 ghost use Rattle.decision_desk.specs.Turns.{new_account};
-ghost use Rattle.decision_desk.specs.Passes.{IsAsked, IsClosed, late_front, looked_at, new_passes, new_helm};
+ghost use Rattle.decision_desk.specs.Passes.{IsAsked, IsClosed, late_front, pass_after_look, new_passes, new_helm};
 
 use crate::helm::Helm;
 use crate::legal::LegalBook;
@@ -138,7 +138,7 @@ impl Desk {
         requires desk { pass.old.desk ≡ self.now.table.shared.table_id }
         ensures rises { front_of pass.old.seen ≤ result }
         ensures seen { (j : List Event) × Begins pass.old.seen j
-            × (result ≡ front_of j) × (pass.new ≡ looked_at pass.old j) }
+            × (result ≡ front_of j) × (pass.new ≡ pass_after_look pass.old j) }
     {
         look_at_front(&self.table.shared, &mut pass.seat)
     }
@@ -148,7 +148,7 @@ impl Desk {
         requires desk { pass.old.desk ≡ self.now.table.shared.table_id }
         ensures rises { (f : ℕ) → result ≡ Some f → front_of pass.old.seen ≤ f }
         ensures late { (j : List Event) × Begins pass.old.seen j
-            × (result ≡ late_front (front_of j) time) × (pass.new ≡ looked_at pass.old j) }
+            × (result ≡ late_front (front_of j) time) × (pass.new ≡ pass_after_look pass.old j) }
     {
         let front = self.front(pass);
         if time < front { Some(front) } else { None }

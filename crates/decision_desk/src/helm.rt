@@ -1,12 +1,9 @@
-//! The engine's seat.
-ghost use Rattle.std.specs.Prelude.{◌≡◌, ℕ, ◌<◌, ◌≤◌, ◌++◌, ◌∷◌, [], List, map, None, MatchResult, length};
-ghost use Rattle.decision_book.specs.Journal.{Event, raised, asked, after};
+//! The helm, the engine's seat: its turns raise the front, the boundary of the next window.
+ghost use Rattle.std.specs.Prelude.{◌≡◌, ◌<◌, ◌++◌, ◌∷◌, [], List, None, MatchResult};
+ghost use Rattle.decision_book.specs.Journal.{Event, raised, after};
 ghost use Rattle.decision_book.specs.declared.call.Call.{Call};
-ghost use Rattle.decision_book.specs.Right.{IsRight};
-ghost use Rattle.decision_book.specs.Scripts.{accepted_of};
-ghost use Rattle.stations.specs.Runs.{next_front};
-ghost use Rattle.decision_desk.specs.Accounts.{Begins, OnlyCalls, front_of};
-ghost use Rattle.decision_desk.specs.Turns.{book_of, helm_view};
+ghost use Rattle.decision_desk.specs.Accounts.{front_of};
+ghost use Rattle.decision_desk.specs.Turns.{IsSeatOf, helm_view};
 ghost use Rattle.decision_desk.specs.Passes.{HelmHasTurn, helm_turn, IsNextTurn, IsMissed};
 ghost use Rattle.decision_desk.specs.Leasts.{leasts_of};
 
@@ -47,8 +44,7 @@ impl std::marker::Model for Helm {
 
 /// Waits for the turn of the helm.
 fn come_to_helm_turn<R: Wait>(rt: &R, board: &Board, seat: &mut Chair)
-    requires table { (seat.old.table_id ≡ board.now.table_id) × (board.now.table_id.words ≡ 4)
-        × (board.now.table_id.slots ≡ 1) }
+    requires table { IsSeatOf board.now.table_id seat.old.table_id }
     requires rest { seat.old.me ≡ (
       helm_view seat.old.me.0.net seat.old.me.0.parts seat.old.me.0.seen
           seat.old.me.0.helm seat.old.me.0.made seat.old.me.0.accounts,
@@ -64,8 +60,7 @@ fn come_to_helm_turn<R: Wait>(rt: &R, board: &Board, seat: &mut Chair)
 
 /// Tells of a front, and ends the turn.
 fn raise_and_leave(board: &Board, seat: &mut Chair, book: LegalBook, front: u64)
-    requires table { (seat.old.table_id ≡ board.now.table_id) × (board.now.table_id.words ≡ 4)
-        × (board.now.table_id.slots ≡ 1) }
+    requires table { IsSeatOf board.now.table_id seat.old.table_id }
     requires turn { seat.old.me ≡ (
       helm_turn seat.old.me.0.net seat.old.me.0.parts seat.old.me.0.seen
           seat.old.me.0.helm seat.old.me.0.made seat.old.me.0.accounts seat.old.me.0.ticket,
@@ -89,8 +84,7 @@ fn raise_and_leave(board: &Board, seat: &mut Chair, book: LegalBook, front: u64)
 
 /// Ends the turn with the book as it was.
 fn leave_as_it_was(board: &Board, seat: &mut Chair, book: LegalBook)
-    requires table { (seat.old.table_id ≡ board.now.table_id) × (board.now.table_id.words ≡ 4)
-        × (board.now.table_id.slots ≡ 1) }
+    requires table { IsSeatOf board.now.table_id seat.old.table_id }
     requires turn { seat.old.me ≡ (
       helm_turn seat.old.me.0.net seat.old.me.0.parts seat.old.me.0.seen
           seat.old.me.0.helm seat.old.me.0.made seat.old.me.0.accounts seat.old.me.0.ticket,

@@ -1,9 +1,7 @@
-//! A book whose journal is legal.
-ghost use Rattle.std.specs.Prelude.{◌≡◌, ◌<◌, ◌≤◌, ◌++◌, ◌∷◌, [], OnOk, OnErr, IfOk, length, IsTrue, ◌↔◌};
+//! A book whose journal is legal: each front in it is the next one of the lists before it.
+ghost use Rattle.std.specs.Prelude.{◌≡◌, ◌<◌, ◌≤◌, ◌++◌, ◌∷◌, [], OnOk, OnErr, IfOk};
 ghost use Rattle.stations.specs.Runs.{next_front};
-ghost use Rattle.decision_book.specs.Journal.{after, raised, asked, calls_of, fronts_of};
-ghost use Rattle.decision_book.specs.Replies.{reply};
-ghost use Rattle.decision_book.specs.Right.{IsRight};
+ghost use Rattle.decision_book.specs.Journal.{after, raised};
 ghost use Rattle.decision_desk.specs.Legal.{GoesOn};
 ghost use Rattle.decision_desk.specs.Passes.{HasAnswered};
 

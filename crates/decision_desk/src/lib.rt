@@ -24,10 +24,10 @@
 //! for nobody.
 //!
 //! The desk carries the promise that a live study has one legal history: each analyst's decisions stand in the journal
-//! in order, each once, with the reply that the table gives at its place. All that a seat knows of the journal is one
-//! beginning of it: what its pass has seen. The rule of the table, in `specs/Turns.antt`, says what each step of a seat
-//! does to the words front, ticket, serving and count, and to the slot that holds the book; the book's own type keeps
-//! that its journal is legal, which means that each front is the next one of the lists before it.
+//! in order, each once, with the reply that the table of refusals gives at its place. All that a seat knows of the
+//! journal is one beginning of it: what its pass has seen. The rule of the desk, in `specs/Turns.antt`, says what each
+//! step of a seat does to the words front, ticket, serving and count, and to the slot that holds the book; the book's
+//! own type keeps that its journal is legal, which means that each front is the next one of the lists before it.
 #![tactic(auto)]
 
 pub mod desk;

@@ -1,8 +1,6 @@
 //! The helm's turn over the book: the accepted calls since its last one, and the next front.
-ghost use Rattle.std.specs.Prelude.{◌≡◌, ◌≤◌, ◌<◌, ◌++◌, ◌∷◌, [], List};
+ghost use Rattle.std.specs.Prelude.{◌≡◌, ◌≤◌, ◌++◌, ◌∷◌, List};
 ghost use Rattle.std.specs.Prelude.{map, drop, length, IfOk, OnOk, MatchResult, if◌then◌else◌};
-ghost use Rattle.sim_base.specs.Clones.{place_of};
-ghost use Rattle.sim_base.specs.Decisions.{subject};
 ghost use Rattle.net_model.specs.Rules.{IsNet};
 ghost use Rattle.run_laws.specs.Fronts.{window_end};
 ghost use Rattle.run_laws.specs.FrontLaws.{time_before as time_before'};
@@ -10,8 +8,8 @@ ghost use Rattle.stations.specs.Runs.{simulation};
 ghost use Rattle.decision_book.specs.Journal.{Event, asked, calls_of};
 ghost use Rattle.decision_book.specs.Scripts.{if_taken, accepted_of};
 ghost use Rattle.decision_book.specs.declared.call.Call.{Call};
-ghost use Rattle.decision_desk.specs.Passes.{IsGoneOn, IsAhead, IsSince};
-ghost use Rattle.decision_desk.specs.Leasts.{earliest as earliest', leasts_with, changed_by, helm_at, calls_at};
+ghost use Rattle.decision_desk.specs.Passes.{IsGoneOn, IsTurnAhead, IsSince};
+ghost use Rattle.decision_desk.specs.Leasts.{earliest as earliest', leasts_with, leasts_with_calls, helm_at, calls_at};
 
 use crate::helm::Turn;
 use crate::legal::LegalBook;
@@ -84,7 +82,7 @@ fn change(times: &mut Vec<Option<u64>>, place: Option<u32>, d: &Decision) -> Res
 
 // The least times after these accepted calls.
 fn change_all(times: &mut Vec<Option<u64>>, lists: &Lists, fresh: &[Call]) -> Result<(), NoMemory>
-    ensures ok { OnOk result (times.new.items ≡ changed_by lists.now.clones times.old.items fresh.now) }
+    ensures ok { OnOk result (times.new.items ≡ leasts_with_calls lists.now.clones times.old.items fresh.now) }
 {
     for call in fresh {
         change(times, lists.find(&call.decision.subject()), &call.decision)?;
@@ -125,7 +123,7 @@ impl LegalBook {
         least: &[Option<u64>],
     ) -> Result<Turn, NoMemory>
         requires since { IsSince self.now known least.now }
-        ensures ahead { IfOk result (λ turn. IsAhead self.now
+        ensures ahead { IfOk result (λ turn. IsTurnAhead self.now
             (helm_at known self.now.events) (calls_at known self.now.events) turn.fresh.items turn.front) }
     {
         let book = self.book();

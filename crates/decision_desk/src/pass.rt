@@ -1,10 +1,8 @@
 //! Passes: what an analyst asks the desk with.
-ghost use Rattle.std.specs.Prelude.{◌≡◌, ◌++◌, ◌∷◌, [], ℕ, List, ◌<◌, ◌≤◌, length, Some, None, false};
-ghost use Rattle.atomic_table.specs.Table.{rest};
+ghost use Rattle.std.specs.Prelude.{◌≡◌, ◌++◌, ◌∷◌, [], List, ◌<◌, length, None};
 ghost use Rattle.decision_book.specs.declared.call.TheConstants.{MOST_CALLS};
 ghost use Rattle.decision_book.specs.Journal.{Event, asked, calls_of};
-ghost use Rattle.decision_desk.specs.Accounts.{Account, front_of, Begins};
-ghost use Rattle.decision_desk.specs.Turns.{book_of, pass_view, with_call, full_account};
+ghost use Rattle.decision_desk.specs.Turns.{IsSeatOf, book_of, pass_view, with_call, full_account};
 ghost use Rattle.decision_desk.specs.Passes.{HasTurn, IsTurn, first_account, turn_view};
 
 use crate::legal::LegalBook;
@@ -41,8 +39,7 @@ impl Model for Pass {
 
 /// Takes the book out of the slot.
 pub(crate) fn take_book(board: &Board, seat: &mut Chair) -> LegalBook
-    requires table { (seat.old.table_id ≡ board.now.table_id) × (board.now.table_id.words ≡ 4)
-        × (board.now.table_id.slots ≡ 1) }
+    requires table { IsSeatOf board.now.table_id seat.old.table_id }
     requires held { seat.old.me.1 ≡ (0, book_of seat.old.me.0.net seat.old.me.0.seen) ∷ [] }
     ensures table { seat.new.table_id ≡ seat.old.table_id }
     ensures book { result ≡ record { net = seat.old.me.0.net; events = seat.old.me.0.seen } }
@@ -53,8 +50,7 @@ pub(crate) fn take_book(board: &Board, seat: &mut Chair) -> LegalBook
 
 /// Puts the book back.
 pub(crate) fn give_book(board: &Board, seat: &mut Chair, book: LegalBook)
-    requires table { (seat.old.table_id ≡ board.now.table_id) × (board.now.table_id.words ≡ 4)
-        × (board.now.table_id.slots ≡ 1) }
+    requires table { IsSeatOf board.now.table_id seat.old.table_id }
     requires held { seat.old.me.1 ≡ (0, None) ∷ [] }
     requires book { book ≡ record { net = seat.old.me.0.net; events = seat.old.me.0.seen } }
     ensures table { seat.new.table_id ≡ seat.old.table_id }
@@ -65,8 +61,7 @@ pub(crate) fn give_book(board: &Board, seat: &mut Chair, book: LegalBook)
 
 /// Waits for the turn of a pass.
 pub(crate) fn come_to_turn<R: Wait>(rt: &R, board: &Board, seat: &mut Chair)
-    requires table { (seat.old.table_id ≡ board.now.table_id) × (board.now.table_id.words ≡ 4)
-        × (board.now.table_id.slots ≡ 1) }
+    requires table { IsSeatOf board.now.table_id seat.old.table_id }
     requires rest { seat.old.me ≡ (
       pass_view seat.old.me.0.net seat.old.me.0.seen
           (first_account seat.old.me.0.accounts),
@@ -82,8 +77,7 @@ pub(crate) fn come_to_turn<R: Wait>(rt: &R, board: &Board, seat: &mut Chair)
 
 /// Counts a call, puts the book back and ends the turn; gives the call's place in the journal.
 pub(crate) fn tell_and_leave(board: &Board, seat: &mut Chair, book: LegalBook, call: &Call) -> u64
-    requires table { (seat.old.table_id ≡ board.now.table_id) × (board.now.table_id.words ≡ 4)
-        × (board.now.table_id.slots ≡ 1) }
+    requires table { IsSeatOf board.now.table_id seat.old.table_id }
     requires turn { seat.old.me ≡ (
       turn_view seat.old.me.0.net seat.old.me.0.seen
           (first_account seat.old.me.0.accounts) seat.old.me.0.ticket,
@@ -108,8 +102,7 @@ pub(crate) fn tell_and_leave(board: &Board, seat: &mut Chair, book: LegalBook, c
 
 /// Ends the turn of a caller that was answered Full.
 pub(crate) fn leave_full(board: &Board, seat: &mut Chair, book: LegalBook)
-    requires table { (seat.old.table_id ≡ board.now.table_id) × (board.now.table_id.words ≡ 4)
-        × (board.now.table_id.slots ≡ 1) }
+    requires table { IsSeatOf board.now.table_id seat.old.table_id }
     requires turn { seat.old.me ≡ (
       turn_view seat.old.me.0.net seat.old.me.0.seen
           (first_account seat.old.me.0.accounts) seat.old.me.0.ticket,
@@ -136,8 +129,7 @@ pub(crate) fn take_turn<R: Wait>(
     caller: u32,
     d: &Decision,
 ) -> Receipt
-    requires table { (seat.old.table_id ≡ board.now.table_id) × (board.now.table_id.words ≡ 4)
-        × (board.now.table_id.slots ≡ 1) }
+    requires table { IsSeatOf board.now.table_id seat.old.table_id }
     requires rest { seat.old.me ≡ (
       pass_view seat.old.me.0.net seat.old.me.0.seen
           (first_account seat.old.me.0.accounts),

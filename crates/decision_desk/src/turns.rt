@@ -1,11 +1,10 @@
 //! The steps of a turn: a ticket lock over the words and the slot of a table.
-ghost use Rattle.std.specs.Prelude.{◌≡◌, ℕ, ◌+◌, ◌-◌, ◌%◌, ◌^◌, ◌<◌, ◌≤◌, []};
-ghost use Rattle.std.specs.Prelude.{◌∷◌, ◌++◌, List, length, Some, None, true, false, MatchBool};
+ghost use Rattle.std.specs.Prelude.{◌≡◌, ℕ, ◌%◌, ◌^◌, ◌<◌, ◌≤◌, [], ◌∷◌, List, length, true, false};
 ghost use Rattle.decision_book.specs.Journal.{Event, calls_of};
-ghost use Rattle.decision_book.specs.declared.call.Call.{Call};
 ghost use Rattle.decision_book.specs.declared.call.TheConstants.{MOST_CALLS};
-ghost use Rattle.decision_desk.specs.Accounts.{Account, AreAccounts, Begins, OnlyCalls, front_of};
-ghost use Rattle.decision_desk.specs.Turns.{book_of, turned_to, after_call, after_front, after_look, full_account};
+ghost use Rattle.decision_desk.specs.Accounts.{Account, Begins, front_of};
+ghost use Rattle.decision_desk.specs.Turns.{IsSeatOf, HasComeToTurn, HasTurnIf, book_of, view_with_turn};
+ghost use Rattle.decision_desk.specs.Turns.{view_after_call, view_after_front, view_after_look, full_account};
 
 use crate::legal::LegalBook;
 use crate::view::View;
@@ -82,29 +81,29 @@ impl Play<Option<LegalBook>, View> for RaiseFront {
     ghost then = { λ _ m n w. HasRaisedFront m n w };
 }
 
-/// The call that a step tells of. Each use picks it.
-pub trait Said {
+/// The call that a step adds, alone in a list. Each use picks it.
+pub trait AddedCall {
     ghost use Rattle.std.specs.Prelude.{List};
     ghost use Rattle.decision_book.specs.declared.call.Call.{Call};
 
-    ghost said: { List Call };
+    ghost calls: { List Call };
 }
 
-impl Said for Brand {
+impl AddedCall for Brand {
     ghost use Rattle.std.specs.Prelude.{[]};
 
-    ghost said = { [] };
+    ghost calls = { [] };
 }
 
 /// The step that counts a call, and adds it to the journal.
-pub struct RaiseCount<E: Said> {
+pub struct RaiseCount<E: AddedCall> {
     of: PhantomData<E>,
 }
 
-impl<E: Said> Play<Option<LegalBook>, View> for RaiseCount<E> {
+impl<E: AddedCall> Play<Option<LegalBook>, View> for RaiseCount<E> {
     ghost use Rattle.decision_desk.specs.Turns.{HasAddedCall};
 
-    ghost then = { λ _ m n w. HasAddedCall E.said m n w };
+    ghost then = { λ _ m n w. HasAddedCall E.calls m n w };
 }
 
 /// A pass that is cut off the helm's seat, and one that is taken in.
@@ -136,50 +135,33 @@ pub type Board = Shared<Option<LegalBook>, View, Model, Law>;
 
 /// Draws a ticket, and gives its number modulo 2^64.
 pub fn draw_ticket(board: &Board, seat: &mut Chair) -> u64
-    requires table { (seat.old.table_id ≡ board.now.table_id) × (board.now.table_id.words ≡ 4)
-        × (board.now.table_id.slots ≡ 1) }
+    requires table { IsSeatOf board.now.table_id seat.old.table_id }
     requires rest { (seat.old.me.0.waits ≡ false) × (seat.old.me.0.turn ≡ false) × (0 < seat.old.me.0.parts) }
     ensures table { seat.new.table_id ≡ seat.old.table_id }
     ensures waits { (t : ℕ) × (result ≡ t % 2 ^ 64)
-        × (seat.new.me ≡ (turned_to seat.old.me.0 true t false seat.old.me.0.seen, seat.old.me.1)) }
+        × (seat.new.me ≡ (view_with_turn seat.old.me.0 true t false seat.old.me.0.seen, seat.old.me.1)) }
 {
     board.fetch_add::<Draw>(seat, 1, 1)
 }
 
 /// Looks whether it is the seat's turn.
 pub fn is_served(board: &Board, seat: &mut Chair, ticket: u64) -> bool
-    requires table { (seat.old.table_id ≡ board.now.table_id) × (board.now.table_id.words ≡ 4)
-        × (board.now.table_id.slots ≡ 1) }
+    requires table { IsSeatOf board.now.table_id seat.old.table_id }
     requires waits { (seat.old.me.0.waits ≡ true) × (seat.old.me.0.turn ≡ false) × (0 < seat.old.me.0.parts) }
     requires ticket { ticket ≡ seat.old.me.0.ticket % 2 ^ 64 }
     ensures table { seat.new.table_id ≡ seat.old.table_id }
-    ensures turn { MatchBool result
-        ((j : List Event) × Begins seat.old.me.0.seen j × (length (calls_of j) ≤ MOST_CALLS)
-        × (seat.old.me.0.steers ≡ true → OnlyCalls seat.old.me.0.helm j) × AreAccounts j seat.old.me.0.accounts
-        × (seat.new.me ≡ (
-          turned_to seat.old.me.0 true seat.old.me.0.ticket true j,
-          (0, book_of seat.old.me.0.net j) ∷ seat.old.me.1,
-        ))
-        × (front_of seat.old.me.0.seen ≤ front_of j))
-        (seat.new.me ≡ seat.old.me) }
+    ensures turn { HasTurnIf result seat.old.me seat.new.me }
 {
     board.load::<Serve>(seat, 2) == ticket
 }
 
 /// Waits for the seat's turn.
 pub fn wait_turn<R: Wait>(rt: &R, board: &Board, seat: &mut Chair, ticket: u64)
-    requires table { (seat.old.table_id ≡ board.now.table_id) × (board.now.table_id.words ≡ 4)
-        × (board.now.table_id.slots ≡ 1) }
+    requires table { IsSeatOf board.now.table_id seat.old.table_id }
     requires waits { (seat.old.me.0.waits ≡ true) × (seat.old.me.0.turn ≡ false) × (0 < seat.old.me.0.parts) }
     requires ticket { ticket ≡ seat.old.me.0.ticket % 2 ^ 64 }
     ensures table { seat.new.table_id ≡ seat.old.table_id }
-    ensures turn { (j : List Event) × Begins seat.old.me.0.seen j × (length (calls_of j) ≤ MOST_CALLS)
-        × (seat.old.me.0.steers ≡ true → OnlyCalls seat.old.me.0.helm j) × AreAccounts j seat.old.me.0.accounts
-        × (seat.new.me ≡ (
-          turned_to seat.old.me.0 true seat.old.me.0.ticket true j,
-          (0, book_of seat.old.me.0.net j) ∷ seat.old.me.1,
-        ))
-        × (front_of seat.old.me.0.seen ≤ front_of j) }
+    ensures turn { HasComeToTurn seat.old.me seat.new.me }
 {
     for _ in rt.forever() {
         if is_served(board, seat, ticket) {
@@ -190,48 +172,44 @@ pub fn wait_turn<R: Wait>(rt: &R, board: &Board, seat: &mut Chair, ticket: u64)
 }
 
 /// Counts a call, and gives its place in the journal.
-pub fn raise_count<E: Said>(board: &Board, seat: &mut Chair, call: &Call) -> u64
-    requires table { (seat.old.table_id ≡ board.now.table_id) × (board.now.table_id.words ≡ 4)
-        × (board.now.table_id.slots ≡ 1) }
-    requires said { E.said ≡ call.now ∷ [] }
+pub fn raise_count<E: AddedCall>(board: &Board, seat: &mut Chair, call: &Call) -> u64
+    requires table { IsSeatOf board.now.table_id seat.old.table_id }
+    requires calls { E.calls ≡ call.now ∷ [] }
     requires turn { (seat.old.me.0.turn ≡ true) × (length (calls_of seat.old.me.0.seen) < MOST_CALLS) }
     requires account { (a : Account) × (seat.old.me.0.accounts ≡ a ∷ []) × (call.now.caller ≡ a.caller) }
     ensures table { seat.new.table_id ≡ seat.old.table_id }
     ensures count { result ≡ length (calls_of seat.old.me.0.seen) }
     ensures call { (a : Account) → seat.old.me.0.accounts ≡ a ∷ []
-        → seat.new.me ≡ (after_call seat.old.me.0 a call.now, seat.old.me.1) }
+        → seat.new.me ≡ (view_after_call seat.old.me.0 a call.now, seat.old.me.1) }
 {
     board.fetch_add::<RaiseCount<E>>(seat, 3, 1)
 }
 
 /// Raises the front.
 pub fn raise_front(board: &Board, seat: &mut Chair, front: u64)
-    requires table { (seat.old.table_id ≡ board.now.table_id) × (board.now.table_id.words ≡ 4)
-        × (board.now.table_id.slots ≡ 1) }
+    requires table { IsSeatOf board.now.table_id seat.old.table_id }
     requires turn { (seat.old.me.0.turn ≡ true) × (seat.old.me.0.steers ≡ true) }
     requires above { front_of seat.old.me.0.seen < front }
     ensures table { seat.new.table_id ≡ seat.old.table_id }
-    ensures front { seat.new.me ≡ (after_front seat.old.me.0 front, seat.old.me.1) }
+    ensures front { seat.new.me ≡ (view_after_front seat.old.me.0 front, seat.old.me.1) }
 {
     board.store::<RaiseFront>(seat, 0, front)
 }
 
 /// Ends the turn.
 pub fn end_turn(board: &Board, seat: &mut Chair)
-    requires table { (seat.old.table_id ≡ board.now.table_id) × (board.now.table_id.words ≡ 4)
-        × (board.now.table_id.slots ≡ 1) }
+    requires table { IsSeatOf board.now.table_id seat.old.table_id }
     requires turn { (seat.old.me.0.turn ≡ true) × (0 < seat.old.me.0.parts) }
     requires home { seat.old.me.1 ≡ (0, book_of seat.old.me.0.net seat.old.me.0.seen) ∷ [] }
     ensures table { seat.new.table_id ≡ seat.old.table_id }
-    ensures rest { seat.new.me ≡ (turned_to seat.old.me.0 false 0 false seat.old.me.0.seen, []) }
+    ensures rest { seat.new.me ≡ (view_with_turn seat.old.me.0 false 0 false seat.old.me.0.seen, []) }
 {
     board.fetch_add::<Leave>(seat, 2, 1);
 }
 
 /// Ends the turn of a caller that was answered Full.
 pub fn end_full_turn(board: &Board, seat: &mut Chair)
-    requires table { (seat.old.table_id ≡ board.now.table_id) × (board.now.table_id.words ≡ 4)
-        × (board.now.table_id.slots ≡ 1) }
+    requires table { IsSeatOf board.now.table_id seat.old.table_id }
     requires turn { (seat.old.me.0.turn ≡ true) × (0 < seat.old.me.0.parts) }
     requires home { seat.old.me.1 ≡ (0, book_of seat.old.me.0.net seat.old.me.0.seen) ∷ [] }
     requires full { length (calls_of seat.old.me.0.seen) ≡ MOST_CALLS }
@@ -239,7 +217,7 @@ pub fn end_full_turn(board: &Board, seat: &mut Chair)
     ensures table { seat.new.table_id ≡ seat.old.table_id }
     ensures rest { (a : Account) → seat.old.me.0.accounts ≡ a ∷ []
         → seat.new.me ≡ (
-          record (turned_to seat.old.me.0 false 0 false seat.old.me.0.seen)
+          record (view_with_turn seat.old.me.0 false 0 false seat.old.me.0.seen)
               { accounts = full_account a ∷ [] },
           [],
         ) }
@@ -249,14 +227,13 @@ pub fn end_full_turn(board: &Board, seat: &mut Chair)
 
 /// Loads the front. It waits for nobody.
 pub fn look_at_front(board: &Board, seat: &mut Chair) -> u64
-    requires table { (seat.old.table_id ≡ board.now.table_id) × (board.now.table_id.words ≡ 4)
-        × (board.now.table_id.slots ≡ 1) }
+    requires table { IsSeatOf board.now.table_id seat.old.table_id }
     requires rest { (seat.old.me.0.waits ≡ false) × (seat.old.me.0.turn ≡ false) × (0 < seat.old.me.0.parts)
         × (seat.old.me.0.steers ≡ false) }
     requires account { (a : Account) × (seat.old.me.0.accounts ≡ a ∷ []) }
     ensures table { seat.new.table_id ≡ seat.old.table_id }
     ensures seen { (a : Account) → seat.old.me.0.accounts ≡ a ∷ [] → (j : List Event) × Begins seat.old.me.0.seen j
-        × (result ≡ front_of j) × (seat.new.me ≡ (after_look seat.old.me.0 a j, seat.old.me.1))
+        × (result ≡ front_of j) × (seat.new.me ≡ (view_after_look seat.old.me.0 a j, seat.old.me.1))
         × (front_of seat.old.me.0.seen ≤ result) }
 {
     board.load::<Look>(seat, 0)

@@ -6,11 +6,9 @@ use crew_pool::{Crew, Forked, Gate, NoGate, Serial, Stealing, Work, Workers};
 use sim_base::{NoMemory, Steps};
 use std::alloc::Global;
 use std::marker::Brand;
-use std::process::Abort;
 use std::sync::Wait;
 use std::sync::atomic::{AtomicU64, Ordering};
 use std::sync::ledger::{Blank, Ledger};
-use std::test::Fail;
 use std::thread;
 use std::thread::Threads;
 
@@ -71,23 +69,22 @@ pub(crate) fn items(alloc: Global, tasks: u32) -> Result<Vec<Vec<u64>>, NoMemory
     Ok(items)
 }
 
-/// Runs so many tasks on the counter that the blank makes.
+/// Runs the tasks of these items on the counter that the blank makes.
 fn run_counted<C: Crew, G: Gate, L: Ledger, R: Threads + Wait + Sync>(
     rt: &R,
     alloc: Global,
     crew: &C,
     gate: &G,
     work: &Appends,
-    tasks: u32,
+    items: Vec<Vec<u64>>,
     blank: Blank,
 ) -> Result<Vec<Vec<u64>>, NoMemory>
-    requires few { tasks ≤ MOST_TASKS }
+    requires few { length items.items ≤ MOST_TASKS }
     requires name { blank.name ≡ L.name }
     requires parts { blank.parts ≡ L.parts }
     requires some { 0 < L.parts }
 {
     let mut steps = Steps::<L>::new(blank);
-    let items = items(alloc, tasks)?;
     crew.all(rt, alloc, work, items, gate, &mut steps)
 }
 
@@ -102,52 +99,60 @@ fn run<C: Crew, G: Gate, R: Threads + Wait + Sync>(
 ) -> Result<Vec<Vec<u64>>, NoMemory>
     requires few { tasks ≤ MOST_TASKS }
 {
-    run_counted::<C, G, Brand, R>(rt, alloc, crew, gate, work, tasks, Blank::new(1))
+    let items = items(alloc, tasks)?;
+    run_counted::<C, G, Brand, R>(rt, alloc, crew, gate, work, items, Blank::new(1))
 }
 
-/// Runs so many tasks behind a gate, and looks at each answer.
-fn answers_stand<C: Crew, G: Gate, R: Threads + Wait + Abort + Sync>(
+/// Whether these are the answers of so many tasks.
+pub(crate) fn are_answers(outs: &[Vec<u64>], tasks: u32) -> bool {
+    if outs.len() != tasks as usize {
+        return false;
+    }
+    for i in 0..outs.len() {
+        let number = i as u64;
+        if outs[i].as_slice() != [number.wrapping_mul(10), number].as_slice() {
+            return false;
+        }
+    }
+    true
+}
+
+/// Whether so many tasks behind a gate have the answers that they should.
+fn answers_stand<C: Crew, G: Gate, R: Threads + Wait + Sync>(
     rt: &R,
     alloc: Global,
     crew: &C,
     gate: &G,
     small: bool,
     tasks: u32,
-) -> Result<(), Fail>
+) -> bool
     requires few { tasks ≤ MOST_TASKS }
 {
     let work = Appends {
         refused: None,
         small,
     };
-    let outs = run(rt, alloc, crew, gate, &work, tasks)?;
-    assert!(rt; outs.len() == tasks as usize);
-    for i in 0..outs.len() {
-        let number = i as u64;
-        assert_eq!(rt;
-            outs[i].as_slice(),
-            [number.wrapping_mul(10), number].as_slice()
-        );
+    match run(rt, alloc, crew, gate, &work, tasks) {
+        Ok(outs) => are_answers(outs.as_slice(), tasks),
+        Err(NoMemory) => false,
     }
-    Ok(())
 }
 
-/// Runs no task, one, and the most, and five of which the third is out of memory.
-fn all_sizes<C: Crew, R: Threads + Wait + Abort + Sync>(
-    rt: &R,
-    alloc: Global,
-    crew: &C,
-) -> Result<(), Fail> {
-    answers_stand(rt, alloc, crew, &NoGate, false, 0)?;
-    answers_stand(rt, alloc, crew, &NoGate, false, 1)?;
-    answers_stand(rt, alloc, crew, &NoGate, false, 64)?;
-    let refused = Appends {
+/// Whether five tasks of which the third is out of memory have no answers.
+fn is_refused<C: Crew, R: Threads + Wait + Sync>(rt: &R, alloc: Global, crew: &C) -> bool {
+    let work = Appends {
         refused: Some(2),
         small: false,
     };
-    let outs = run(rt, alloc, crew, &NoGate, &refused, 5);
-    assert!(rt; matches!(outs, Err(NoMemory)));
-    Ok(())
+    run(rt, alloc, crew, &NoGate, &work, 5).is_err()
+}
+
+/// Whether no task, one, and the most have their answers, and five of which the third is out of memory have none.
+fn all_sizes<C: Crew, R: Threads + Wait + Sync>(rt: &R, alloc: Global, crew: &C) -> bool {
+    answers_stand(rt, alloc, crew, &NoGate, false, 0)
+        && answers_stand(rt, alloc, crew, &NoGate, false, 1)
+        && answers_stand(rt, alloc, crew, &NoGate, false, 64)
+        && is_refused(rt, alloc, crew)
 }
 
 /// Counts its calls, those out of order or of another worker than the first by a thousand.
@@ -166,19 +171,18 @@ impl Gate for InOrder {
     fn before_call<R: Wait>(&self, _rt: &R, _analyst: u32, _k: u32) {}
 }
 
-/// Runs five tasks, all in the caller's thread and in order.
-fn in_order<C: Crew, R: Threads + Wait + Abort + Sync>(
+/// Whether five tasks run all in the caller's thread and in order.
+fn in_order<C: Crew, R: Threads + Wait + Sync>(
     rt: &R,
     alloc: Global,
     crew: &C,
     small: bool,
-) -> Result<(), Fail> {
+) -> bool {
     let gate = InOrder {
         calls: AtomicU64::new(0),
     };
-    answers_stand(rt, alloc, crew, &gate, small, 5)?;
-    assert!(rt; gate.calls.load(Ordering::SeqCst) == 5);
-    Ok(())
+    let stand = answers_stand(rt, alloc, crew, &gate, small, 5);
+    stand && gate.calls.load(Ordering::SeqCst) == 5
 }
 
 /// Holds the first task begun until a second worker has begun one, and then counts their meeting.
@@ -210,19 +214,14 @@ impl Gate for Meeting {
     fn before_call<R: Wait>(&self, _rt: &R, _analyst: u32, _k: u32) {}
 }
 
-/// Runs five tasks of which the first begun is held until another worker has begun one.
-fn meet<C: Crew, R: Threads + Wait + Abort + Sync>(
-    rt: &R,
-    alloc: Global,
-    crew: &C,
-) -> Result<(), Fail> {
+/// Whether of five tasks the first begun, which is held, is met by one that another worker has begun.
+fn meet<C: Crew, R: Threads + Wait + Sync>(rt: &R, alloc: Global, crew: &C) -> bool {
     let gate = Meeting {
         first: AtomicU64::new(0),
         meetings: AtomicU64::new(0),
     };
-    answers_stand(rt, alloc, crew, &gate, false, 5)?;
-    assert!(rt; gate.meetings.load(Ordering::SeqCst) == 1);
-    Ok(())
+    let stand = answers_stand(rt, alloc, crew, &gate, false, 5);
+    stand && gate.meetings.load(Ordering::SeqCst) == 1
 }
 
 /// Holds one task until the other four have begun, and notes where it gave up.
@@ -251,53 +250,60 @@ impl Gate for HoldOne {
     fn before_call<R: Wait>(&self, _rt: &R, _analyst: u32, _k: u32) {}
 }
 
-#[test]
-fn one_worker_runs_in_order(rt: HostRuntime) -> Result<(), Fail> {
-    in_order(&rt, rt.alloc(), &Serial, false)?;
-    all_sizes(&rt, rt.alloc(), &Serial)
-}
-
-#[test]
-fn small_work_stays_in_the_callers_thread(rt: HostRuntime) -> Result<(), Fail> {
-    let workers = Workers { count: 4 };
-    in_order(&rt, rt.alloc(), &Forked { workers }, true)?;
-    in_order(&rt, rt.alloc(), &Stealing { workers }, true)
-}
-
-#[test]
-fn workers_meet(rt: HostRuntime) -> Result<(), Fail> {
+/// Whether the other four tasks are stolen while this one is held.
+fn are_stolen<R: Threads + Wait + Sync>(rt: &R, alloc: Global, held: u32) -> bool {
     let workers = Workers { count: 2 };
-    meet(&rt, rt.alloc(), &Forked { workers })?;
-    meet(&rt, rt.alloc(), &Stealing { workers })
+    let gate = HoldOne {
+        held,
+        begun: AtomicU64::new(0),
+        gave_up: AtomicU64::new(0),
+    };
+    let stand = answers_stand(rt, alloc, &Stealing { workers }, &gate, false, 5);
+    stand && gate.gave_up.load(Ordering::SeqCst) == 0 && gate.begun.load(Ordering::SeqCst) == 4
+}
+
+/// Whether so many workers answer all sizes, in both crews.
+fn both_crews_stand<R: Threads + Wait + Sync>(rt: &R, alloc: Global, count: u32) -> bool {
+    match Workers::new(count) {
+        Some(workers) => {
+            workers.count == count
+                && all_sizes(rt, alloc, &Forked { workers })
+                && all_sizes(rt, alloc, &Stealing { workers })
+        }
+        None => false,
+    }
+}
+
+#[test]
+fn one_worker_runs_in_order(rt: HostRuntime) {
+    assert!(rt; in_order(&rt, rt.alloc(), &Serial, false));
+    assert!(rt; all_sizes(&rt, rt.alloc(), &Serial));
+}
+
+#[test]
+fn small_work_stays_in_the_callers_thread(rt: HostRuntime) {
+    let workers = Workers { count: 4 };
+    assert!(rt; in_order(&rt, rt.alloc(), &Forked { workers }, true));
+    assert!(rt; in_order(&rt, rt.alloc(), &Stealing { workers }, true));
+}
+
+#[test]
+fn workers_meet(rt: HostRuntime) {
+    let workers = Workers { count: 2 };
+    assert!(rt; meet(&rt, rt.alloc(), &Forked { workers }));
+    assert!(rt; meet(&rt, rt.alloc(), &Stealing { workers }));
 }
 
 // Where the tasks were dealt to the workers beforehand, one of the two runs would give up.
 #[test]
-fn tasks_stolen(rt: HostRuntime) -> Result<(), Fail> {
-    let workers = Workers { count: 2 };
-    for held in 0..2u32 {
-        let gate = HoldOne {
-            held,
-            begun: AtomicU64::new(0),
-            gave_up: AtomicU64::new(0),
-        };
-        answers_stand(&rt, rt.alloc(), &Stealing { workers }, &gate, false, 5)?;
-        assert!(rt; gate.gave_up.load(Ordering::SeqCst) == 0);
-        assert!(rt; gate.begun.load(Ordering::SeqCst) == 4);
-    }
-    Ok(())
+fn tasks_stolen(rt: HostRuntime) {
+    assert!(rt; are_stolen(&rt, rt.alloc(), 0) && are_stolen(&rt, rt.alloc(), 1));
 }
 
 #[test]
-fn one_to_sixteen_workers(rt: HostRuntime) -> Result<(), Fail> {
+fn one_to_sixteen_workers(rt: HostRuntime) {
     assert!(rt; Workers::new(0).is_none() && Workers::new(17).is_none());
     for count in 1..17u32 {
-        let Some(workers) = Workers::new(count) else {
-            continue;
-        };
-        assert!(rt; workers.count == count);
-        all_sizes(&rt, rt.alloc(), &Forked { workers })?;
-        all_sizes(&rt, rt.alloc(), &Stealing { workers })?;
+        assert!(rt; both_crews_stand(&rt, rt.alloc(), count));
     }
-    Ok(())
 }

@@ -5,15 +5,14 @@ ghost use Rattle.run_laws.specs.Fronts.{least_of};
 ghost use Rattle.stations.specs.Runs.{simulation};
 ghost use Rattle.decision_desk.specs.Passes.{new_passes, new_helm};
 
-use decision_book::Reply;
+use decision_book::{Call, Reply};
 use decision_desk::{Desk, Helm, Pass, Receipt};
-use net_model::read_model;
+use net_model::{Model, read_model};
 use sample_models::ONE_DESK;
 use sim_base::{Change, Decision, Name, NoMemory, Param};
 use std::alloc::Global;
 use std::process::Abort;
 use std::sync::{Arc, Wait};
-use std::test::Fail;
 use std::thread;
 use std::thread::Threads;
 use world_core::World;
@@ -42,6 +41,18 @@ fn set<R: Abort>(rt: &R, at: u64) -> Decision {
     }
 }
 
+/// The first time that is due in a network, where its horizon is not 0.
+fn first_due(alloc: Global, model: Arc<Model>) -> Result<Option<u64>, NoMemory>
+    ensures least { IfOk result (λ l. l ≡ least_of (simulation model.value) base 0) }
+    ensures horizon { IfOk result (λ l. 0 < model.value.horizon) }
+{
+    let world = World::new(alloc, model)?;
+    if world.model().horizon() == 0 {
+        return Err(NoMemory);
+    }
+    Ok(world.least_of(0))
+}
+
 /// A desk of so many analysts, from 1 to 16, with the first time that is due in its network.
 fn begun(alloc: Global, analysts: u32) -> Result<(Desk, Vec<Pass>, Helm, Option<u64>), NoMemory>
     requires some { 1 ≤ analysts }
@@ -55,17 +66,27 @@ fn begun(alloc: Global, analysts: u32) -> Result<(Desk, Vec<Pass>, Helm, Option<
         return Err(NoMemory);
     };
     let model = Arc::new(alloc, model)?;
-    let world = World::new(alloc, Arc::try_clone(&model)?)?;
-    if world.model().horizon() == 0 {
-        return Err(NoMemory);
-    }
-    let least = world.least_of(0);
+    let least = first_due(alloc, Arc::try_clone(&model)?)?;
     let (desk, passes, helm) = Desk::begin(alloc, model, analysts)?;
     Ok((desk, passes, helm, least))
 }
 
+/// A desk of one analyst.
+fn begun_alone(alloc: Global) -> Result<(Desk, Pass, Helm, Option<u64>), NoMemory>
+    ensures pass { IfOk result (λ r. r.1.desk ≡ r.0.table.shared.table_id) }
+    ensures helm { IfOk result (λ r. r.2 ≡ new_helm r.0.table.shared.table_id r.2.net 1) }
+    ensures least { IfOk result (λ r. r.3 ≡ least_of (simulation r.2.net) base 0) }
+    ensures horizon { IfOk result (λ r. 0 < r.2.net.horizon) }
+{
+    let (desk, mut passes, helm, least) = begun(alloc, 1)?;
+    let Some(pass) = passes.pop() else {
+        return Err(NoMemory);
+    };
+    Ok((desk, pass, helm, least))
+}
+
 /// The results of calls: how many were accepted, whether their entries rise, and the sum of these.
-#[derive(Clone, Copy, Debug, PartialEq, Eq)]
+#[derive(Clone, Copy)]
 struct Outcome {
     accepted: u32,
     rising: bool,
@@ -115,105 +136,87 @@ fn first_turn<R: Wait>(
     Some(turn.front)
 }
 
-#[test]
-fn a_full_desk(rt: HostRuntime) -> Result<(), Fail> {
-    let (desk, mut passes, _helm, _least) = begun(rt.alloc(), 1)?;
-    let Some(mut pass) = passes.pop() else {
-        return Err(NoMemory.into());
+/// Whether the desk takes 4,096 calls of this pass, of which it accepts one, and answers Full to the next.
+fn fills<R: Wait + Abort>(rt: &R, desk: &Desk, pass: &mut Pass) -> bool
+    requires desk { pass.old.desk ≡ desk.now.table.shared.table_id }
+{
+    let all = ask(rt, desk, pass, &fork(rt, b"x", b"base"), 4096);
+    let full = Receipt {
+        entry: None,
+        reply: Reply::Full,
     };
-    let x = fork(&rt, b"x", b"base");
-    assert_eq!(rt;
-        ask(&rt, &desk, &mut pass, &x, 4096),
-        Outcome {
-            accepted: 1,
-            rising: true,
-            sum: 2048 * 4095
-        }
-    );
-    let full = desk.decide(&rt, &mut pass, set(&rt, 0));
-    assert_eq!(rt;
-        full,
-        Receipt {
-            entry: None,
-            reply: Reply::Full
-        }
-    );
-    Ok(())
+    all.accepted == 1
+        && all.rising
+        && all.sum == 2048 * 4095
+        && desk.decide(rt, pass, set(rt, 0)) == full
 }
 
-/// Two callers fork to one name: whoever comes first, one fork is accepted, and each entry is one call's.
-#[test]
-fn a_fork_by_two(rt: HostRuntime) -> Result<(), Fail> {
-    let (desk, mut passes, _helm, _least) = begun(rt.alloc(), 2)?;
-    let Some(mut one) = passes.pop() else {
-        return Err(NoMemory.into());
-    };
-    let Some(mut two) = passes.pop() else {
-        return Err(NoMemory.into());
-    };
-    let x = fork(&rt, b"x", b"base");
-    let (run, shared, d) = (&rt, &desk, &x);
-    let (a, b) = thread::join(
-        run,
-        move || -> Outcome
-            requires { one.desk ≡ shared.now.table.shared.table_id }
-        { ask(run, shared, &mut one, d, 1000) },
-        move || -> Outcome
-            requires { two.desk ≡ shared.now.table.shared.table_id }
-        { ask(run, shared, &mut two, d, 1000) },
-    );
-    assert_eq!(rt; a.accepted.saturating_add(b.accepted), 1);
-    assert!(rt; a.rising && b.rising);
-    assert_eq!(rt; a.sum.saturating_add(b.sum), 1000 * 1999);
-    Ok(())
+/// The same of a desk that begins.
+fn fills_at_last<R: Wait + Abort>(rt: &R, alloc: Global) -> Result<bool, NoMemory> {
+    let (desk, mut pass, _helm, _least) = begun_alone(alloc)?;
+    Ok(fills(rt, &desk, &mut pass))
 }
 
-/// A set at the front is in time, and one right before it is not.
-#[test]
-fn late_by_a_hair(rt: HostRuntime) -> Result<(), Fail> {
-    let (desk, mut passes, mut helm, least) = begun(rt.alloc(), 1)?;
-    let Some(mut pass) = passes.pop() else {
-        return Err(NoMemory.into());
-    };
-    assert_eq!(rt;
-        first_turn(&rt, rt.alloc(), &desk, &mut helm, least),
-        Some(5)
-    );
-    let late = desk.decide(&rt, &mut pass, set(&rt, 4));
-    assert_eq!(rt; late.reply, Reply::Late { front: 5 });
-    let timely = desk.decide(&rt, &mut pass, set(&rt, 5));
-    assert_eq!(rt; timely.reply, Reply::Accepted);
-    Ok(())
-}
-
-/// A front that another thread raised is seen.
-#[test]
-fn late_by_another_thread(rt: HostRuntime) -> Result<(), Fail> {
-    let (desk, mut passes, mut helm, least) = begun(rt.alloc(), 1)?;
-    let Some(mut pass) = passes.pop() else {
-        return Err(NoMemory.into());
-    };
-    let x = fork(&rt, b"x", b"base");
-    let (run, alloc, shared, d) = (&rt, rt.alloc(), &desk, &x);
-    let (front, mut pass) = thread::join(
-        run,
+/// The helm's first turn, and calls of this pass beside it.
+fn turn_beside<R: Threads + Wait + Sync>(
+    rt: &R,
+    alloc: Global,
+    desk: &Desk,
+    pass: Pass,
+    helm: Helm,
+    least: Option<u64>,
+    d: &Decision,
+) -> (Option<u64>, Pass)
+    requires pass { pass.desk ≡ desk.now.table.shared.table_id }
+    requires helm { helm.desk ≡ desk.now.table.shared.table_id }
+    requires first { helm.helm ≡ [] }
+    requires horizon { 0 < helm.net.horizon }
+    requires least { least ≡ least_of (simulation helm.net) base 0 }
+    ensures pass { result.1.desk ≡ desk.now.table.shared.table_id }
+{
+    let mut helm = helm;
+    let mut pass = pass;
+    thread::join(
+        rt,
         move || -> Option<u64>
-            requires { (helm.desk ≡ shared.now.table.shared.table_id) × (helm.helm ≡ []) × (0 < helm.net.horizon)
+            requires { (helm.desk ≡ desk.now.table.shared.table_id) × (helm.helm ≡ []) × (0 < helm.net.horizon)
                 × (least ≡ least_of (simulation helm.net) base 0) }
-        { first_turn(run, alloc, shared, &mut helm, least) },
+        { first_turn(rt, alloc, desk, &mut helm, least) },
         move || -> Pass
-            requires { pass.desk ≡ shared.now.table.shared.table_id }
-            ensures { result.desk ≡ shared.entry.now.table.shared.table_id }
+            requires { pass.desk ≡ desk.now.table.shared.table_id }
+            ensures { result.desk ≡ desk.entry.now.table.shared.table_id }
         {
-            ask(run, shared, &mut pass, d, 100);
+            ask(rt, desk, &mut pass, d, 100);
             pass
         },
-    );
-    assert_eq!(rt; front, Some(5));
-    assert_eq!(rt; desk.is_late(&mut pass, 4), Some(5));
-    assert_eq!(rt; desk.is_late(&mut pass, 5), None);
-    assert_eq!(rt; desk.front(&mut pass), 5);
-    Ok(())
+    )
+}
+
+/// Whether the pass sees front 5: a set at the front is in time, and one right before it is not.
+fn is_late_by_a_hair<R: Wait + Abort>(rt: &R, desk: &Desk, pass: &mut Pass) -> bool
+    requires desk { pass.old.desk ≡ desk.now.table.shared.table_id }
+{
+    let before = desk.is_late(pass, 4);
+    let there = desk.is_late(pass, 5);
+    let front = desk.front(pass);
+    let late = desk.decide(rt, pass, set(rt, 4));
+    let timely = desk.decide(rt, pass, set(rt, 5));
+    before == Some(5)
+        && there.is_none()
+        && front == 5
+        && late.reply == Reply::Late { front: 5 }
+        && timely.reply == Reply::Accepted
+}
+
+/// Whether a front that another thread raised is seen.
+fn is_late_by_another<R: Threads + Wait + Abort + Sync>(
+    rt: &R,
+    alloc: Global,
+) -> Result<bool, NoMemory> {
+    let (desk, pass, helm, least) = begun_alone(alloc)?;
+    let x = fork(rt, b"x", b"base");
+    let (front, mut pass) = turn_beside(rt, alloc, &desk, pass, helm, least, &x);
+    Ok(front == Some(5) && is_late_by_a_hair(rt, &desk, &mut pass))
 }
 
 /// All passes ask for this, side by side, fifty times each.
@@ -235,21 +238,41 @@ fn ask_all<R: Threads + Wait + Sync>(rt: &R, desk: &Desk, passes: &mut Vec<Pass>
     );
 }
 
-#[tactic(auto, using(crate::proofs::NewPasses::new_count, crate::proofs::NewPasses::new_desks))]
-#[test]
-fn sixteen_passes(rt: HostRuntime) -> Result<(), Fail> {
-    let (desk, mut passes, helm, _least) = begun(rt.alloc(), 16)?;
-    let x = fork(&rt, b"x", b"base");
-    ask_all(&rt, &desk, &mut passes, &x);
-    let closed = desk.close(passes, helm);
-    let calls = closed.book().calls();
-    assert_eq!(rt; calls.len(), 800);
+/// How many of the calls were accepted.
+fn accepted_of(calls: &[Call]) -> u32 {
     let mut accepted = 0u32;
     for call in calls {
         if call.reply == Reply::Accepted {
             accepted = accepted.saturating_add(1);
         }
     }
-    assert_eq!(rt; accepted, 1);
-    Ok(())
+    accepted
+}
+
+/// Whether sixteen callers who fork to one name make a journal of all their calls, and one of them is accepted.
+#[tactic(auto, using(crate::proofs::NewPasses::new_count, crate::proofs::NewPasses::new_desks))]
+fn one_of_sixteen_forks<R: Threads + Wait + Abort + Sync>(
+    rt: &R,
+    alloc: Global,
+) -> Result<bool, NoMemory> {
+    let (desk, mut passes, helm, _least) = begun(alloc, 16)?;
+    ask_all(rt, &desk, &mut passes, &fork(rt, b"x", b"base"));
+    let closed = desk.close(passes, helm);
+    let calls = closed.book().calls();
+    Ok(calls.len() == 800 && accepted_of(calls) == 1)
+}
+
+#[test]
+fn a_full_desk(rt: HostRuntime) {
+    assert!(rt; fills_at_last(&rt, rt.alloc()) == Ok(true));
+}
+
+#[test]
+fn late_by_another_thread(rt: HostRuntime) {
+    assert!(rt; is_late_by_another(&rt, rt.alloc()) == Ok(true));
+}
+
+#[test]
+fn sixteen_passes(rt: HostRuntime) {
+    assert!(rt; one_of_sixteen_forks(&rt, rt.alloc()) == Ok(true));
 }

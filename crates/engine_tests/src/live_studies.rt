@@ -3,7 +3,7 @@ ghost use Rattle.std.specs.Prelude.{◌≡◌, ◌<◌};
 
 use crew_pool::{Crew, NoGate, Serial};
 use decision_script::read_script;
-use live_study::live_study;
+use live_study::{LiveRun, live_study};
 use net_model::read_model;
 use sample_models::ONE_DESK;
 use sim_base::Steps;
@@ -11,7 +11,6 @@ use std::alloc::Global;
 use std::marker::Brand;
 use std::sync::ledger::{Blank, Ledger};
 use std::sync::{Arc, Wait};
-use std::test::Fail;
 use std::thread::Threads;
 
 /// Looks at a clone that is there, at one that isn't, and at no station.
@@ -22,13 +21,13 @@ look fast desk
 look base gate
 ";
 
-// How many fronts there are, and whether each look saw a station.
-fn looked<C: Crew + Sync, L: Ledger, R: Threads + Wait + Sync>(
+/// A run with these looks.
+fn run_counted<C: Crew + Sync, L: Ledger, R: Threads + Wait + Sync>(
     rt: &R,
     alloc: Global,
     crew: &C,
     blank: Blank,
-) -> Option<(usize, Vec<bool>)>
+) -> Option<LiveRun>
     requires name { blank.name ≡ L.name }
     requires parts { blank.parts ≡ L.parts }
     requires some { 0 < L.parts }
@@ -37,24 +36,34 @@ fn looked<C: Crew + Sync, L: Ledger, R: Threads + Wait + Sync>(
     let model = read_model(alloc, ONE_DESK.as_bytes()).ok()?;
     let model = Arc::new(alloc, model).ok()?;
     let script = read_script(alloc, LOOKS.as_bytes()).ok()?;
-    let live = live_study(rt, alloc, crew, &NoGate, &model, &script, &mut steps).ok()?;
-    let mut known = Vec::new(alloc);
+    live_study(rt, alloc, crew, &NoGate, &model, &script, &mut steps).ok()
+}
+
+/// Whether so many looks were made, and each of them saw a station or none, as it should.
+fn have_seen(live: &LiveRun, stations: &[bool]) -> bool {
+    let mut next = 0usize;
     for own in live.looks.as_slice() {
         for look in own.as_slice() {
-            known.push(look.glance.is_some()).ok()?;
+            if next >= stations.len() || stations[next] != look.glance.is_some() {
+                return false;
+            }
+            next = next.saturating_add(1);
         }
     }
-    live.run.ok()?;
-    Some((live.book.book().fronts().len(), known))
+    next == stations.len()
+}
+
+/// Whether the run came to its end, how many fronts there are, and what each look saw.
+fn looks_stand<R: Threads + Wait + Sync>(rt: &R, alloc: Global) -> Option<bool> {
+    let live = run_counted::<Serial, Brand, R>(rt, alloc, &Serial, Blank::new(1))?;
+    Some(
+        live.run.is_ok()
+            && live.book.book().fronts().len() == 7
+            && have_seen(&live, &[true, false, true, true]),
+    )
 }
 
 #[test]
-fn looks_are_told_in_order(rt: HostRuntime) -> Result<(), Fail> {
-    let seen = looked::<Serial, Brand, HostRuntime>(&rt, rt.alloc(), &Serial, Blank::new(1));
-    let Some((fronts, known)) = seen else {
-        panic!(rt; "no run");
-    };
-    assert_eq!(rt; fronts, 7);
-    assert_eq!(rt; known.as_slice(), [true, false, true, true].as_slice());
-    Ok(())
+fn looks_are_told_in_order(rt: HostRuntime) {
+    assert!(rt; looks_stand(&rt, rt.alloc()) == Some(true));
 }

@@ -1,43 +1,36 @@
 //! What no clause says of teams: calls that find memory, workers that take their part, and what is left to the caller.
-ghost use Rattle.std.specs.Prelude.{◌≡◌, ◌<◌, ◌≤◌};
+ghost use Rattle.std.specs.Prelude.{◌≡◌, ◌<◌, ◌≤◌, length};
 ghost use Rattle.crew_pool.specs.declared.crew.TheConstants.{MOST_TASKS};
 
-use crate::crews::{Appends, items};
+use crate::crews::{Appends, are_answers, items};
 use crew_pool::{Gate, NoGate, Workers};
 use sim_base::{NoMemory, Steps};
-use standing_crew::{Bell, Team, serve_all};
+use standing_crew::{Bell, Member, Team, serve_all};
 use std::alloc::Global;
 use std::marker::Brand;
-use std::process::Abort;
 use std::sync::atomic::{AtomicU64, Ordering};
 use std::sync::ledger::{Blank, Ledger};
 use std::sync::{Arc, Wait};
-use std::test::Fail;
 use std::thread;
 use std::thread::Threads;
 
-/// A call of so many tasks, on the counter that the blank makes.
+/// A call with these items, on the counter that the blank makes.
 fn call_counted<G: Gate, L: Ledger, R: Threads + Wait + Sync>(
     rt: &R,
     alloc: Global,
     gate: &G,
     team: Team<Appends>,
-    refused: Option<u32>,
-    tasks: u32,
+    work: Arc<Appends>,
+    items: Vec<Vec<u64>>,
     blank: Blank,
 ) -> Result<(Team<Appends>, Vec<Vec<u64>>), NoMemory>
-    requires few { tasks ≤ MOST_TASKS }
+    requires few { length items.items ≤ MOST_TASKS }
     requires name { blank.name ≡ L.name }
     requires parts { blank.parts ≡ L.parts }
     requires some { 0 < L.parts }
 {
     let mut steps = Steps::<L>::new(blank);
-    let work = Appends {
-        refused,
-        small: false,
-    };
-    let items = items(alloc, tasks)?;
-    team.all(rt, alloc, Arc::new(alloc, work)?, items, gate, &mut steps)
+    team.all(rt, alloc, work, items, gate, &mut steps)
 }
 
 /// A call of so many tasks.
@@ -51,85 +44,131 @@ fn call<G: Gate, R: Threads + Wait + Sync>(
 ) -> Result<(Team<Appends>, Vec<Vec<u64>>), NoMemory>
     requires few { tasks ≤ MOST_TASKS }
 {
-    call_counted::<G, Brand, R>(rt, alloc, gate, team, refused, tasks, Blank::new(1))
+    let items = items(alloc, tasks)?;
+    let work = Appends {
+        refused,
+        small: false,
+    };
+    let work = Arc::new(alloc, work)?;
+    call_counted::<G, Brand, R>(rt, alloc, gate, team, work, items, Blank::new(1))
 }
 
-/// Looks at each answer of so many tasks.
-fn answers_stand<R: Abort>(rt: &R, outs: &[Vec<u64>], tasks: u32) -> Result<(), Fail> {
-    assert!(rt; outs.len() == tasks as usize);
-    for i in 0..outs.len() {
-        let number = i as u64;
-        assert_eq!(rt;
-            outs[i].as_slice(),
-            [number.wrapping_mul(10), number].as_slice()
-        );
-    }
-    Ok(())
-}
-
-/// Calls of no task, of one, of five and of the most, one after the other, and then one in which a task is refused
-/// memory.
-fn all_sizes<G: Gate, R: Threads + Wait + Abort + Sync>(
+/// The team after a call of so many tasks, where they have the answers that they should.
+fn answered<G: Gate, R: Threads + Wait + Sync>(
     rt: &R,
     alloc: Global,
     gate: &G,
     team: Team<Appends>,
-) -> Result<(), Fail> {
-    let (team, outs) = call(rt, alloc, gate, team, None, 0)?;
-    answers_stand(rt, outs.as_slice(), 0)?;
-    let (team, outs) = call(rt, alloc, gate, team, None, 1)?;
-    answers_stand(rt, outs.as_slice(), 1)?;
-    let (team, outs) = call(rt, alloc, gate, team, None, 5)?;
-    answers_stand(rt, outs.as_slice(), 5)?;
-    let (team, outs) = call(rt, alloc, gate, team, None, 64)?;
-    answers_stand(rt, outs.as_slice(), 64)?;
-    let refused = call(rt, alloc, gate, team, Some(2), 5);
-    assert!(rt; matches!(refused, Err(NoMemory)));
-    Ok(())
+    tasks: u32,
+) -> Option<Team<Appends>>
+    requires few { tasks ≤ MOST_TASKS }
+{
+    let (team, outs) = call(rt, alloc, gate, team, None, tasks).ok()?;
+    if are_answers(outs.as_slice(), tasks) {
+        Some(team)
+    } else {
+        None
+    }
+}
+
+/// The team after calls of no task, of one, of five and of the most, one after the other.
+fn all_answered<G: Gate, R: Threads + Wait + Sync>(
+    rt: &R,
+    alloc: Global,
+    gate: &G,
+    team: Team<Appends>,
+) -> Option<Team<Appends>> {
+    let team = answered(rt, alloc, gate, team, 0)?;
+    let team = answered(rt, alloc, gate, team, 1)?;
+    let team = answered(rt, alloc, gate, team, 5)?;
+    answered(rt, alloc, gate, team, 64)
+}
+
+/// Whether these calls have their answers, and then one in which a task is refused memory has none.
+fn all_sizes<G: Gate, R: Threads + Wait + Sync>(
+    rt: &R,
+    alloc: Global,
+    gate: &G,
+    team: Team<Appends>,
+) -> bool {
+    match all_answered(rt, alloc, gate, team) {
+        Some(team) => call(rt, alloc, gate, team, Some(2), 5).is_err(),
+        None => false,
+    }
 }
 
 /// All these calls, and then the bell rings, whatever their results.
-fn lead<G: Gate, R: Threads + Wait + Abort + Sync>(
+fn lead<G: Gate, R: Threads + Wait + Sync>(
     rt: &R,
     alloc: Global,
     gate: &G,
     team: Team<Appends>,
     bell: &Bell,
-) -> Result<(), Fail> {
-    let done = all_sizes(rt, alloc, gate, team);
+) -> bool {
+    let stand = all_sizes(rt, alloc, gate, team);
     bell.end();
-    done
+    stand
 }
 
-/// The same beside the workers of the team.
-fn all_sizes_beside<G: Gate, R: Threads + Wait + Abort + Sync>(
+/// The same beside these workers of the team.
+fn lead_beside<G: Gate, R: Threads + Wait + Sync>(
     rt: &R,
     alloc: Global,
     gate: &G,
-    workers: Workers,
-) -> Result<(), Fail> {
-    let (team, members) = Team::<Appends>::begin(alloc, workers)?;
-    assert!(rt; members.len() + 1 == workers.count as usize);
-    let bell = team.bell()?;
-    let bell: &Bell = &bell;
-    let (_, done) = thread::join(
+    team: Team<Appends>,
+    members: Vec<Member<Appends>>,
+    bell: &Bell,
+) -> bool {
+    let (_, stand) = thread::join(
         rt,
         move || serve_all(rt, alloc, gate, bell, members),
         move || lead(rt, alloc, gate, team, bell),
     );
-    done
+    stand
 }
 
-/// Counts the tasks that a worker other than the caller began.
+/// A team of so many.
+fn gathered(alloc: Global, count: u32) -> Option<(Team<Appends>, Vec<Member<Appends>>)> {
+    let workers = Workers::new(count)?;
+    let (team, members) = Team::<Appends>::begin(alloc, workers).ok()?;
+    if members.len() + 1 == count as usize {
+        Some((team, members))
+    } else {
+        None
+    }
+}
+
+/// The same by a team of so many.
+fn all_sizes_beside<G: Gate, R: Threads + Wait + Sync>(
+    rt: &R,
+    alloc: Global,
+    gate: &G,
+    count: u32,
+) -> Option<bool> {
+    let (team, members) = gathered(alloc, count)?;
+    let bell = team.bell().ok()?;
+    Some(lead_beside(rt, alloc, gate, team, members, &bell))
+}
+
+/// Whether a caller runs all by itself where nobody sits at the mailboxes: it takes every task back.
+fn all_sizes_alone<R: Threads + Wait + Sync>(rt: &R, alloc: Global) -> Option<bool> {
+    let (team, _members) = Team::<Appends>::begin(alloc, Workers { count: 4 }).ok()?;
+    Some(all_sizes(rt, alloc, &NoGate, team))
+}
+
+/// Counts the tasks that a worker other than the caller began. The caller is held until there is one, but not at a
+/// call's first task, which may be the only one.
 #[derive(Drop)]
 struct Helped {
     tasks: AtomicU64,
 }
 
 impl Gate for Helped {
-    fn before<R: Wait>(&self, _rt: &R, worker: u32, _task: u32) {
+    fn before<R: Wait>(&self, _rt: &R, worker: u32, task: u32) {
         if worker != 0 {
             self.tasks.fetch_add(1, Ordering::SeqCst);
+        }
+        if worker != 0 || task == 0 {
             return;
         }
         for _ in 0..1_000_000u32 {
@@ -144,32 +183,23 @@ impl Gate for Helped {
 }
 
 #[test]
-fn teams_of_one_to_sixteen(rt: HostRuntime) -> Result<(), Fail> {
+fn teams_of_one_to_sixteen(rt: HostRuntime) {
     for count in 1..17u32 {
-        let Some(workers) = Workers::new(count) else {
-            continue;
-        };
-        all_sizes_beside(&rt, rt.alloc(), &NoGate, workers)?;
+        assert!(rt; all_sizes_beside(&rt, rt.alloc(), &NoGate, count) == Some(true));
     }
-    Ok(())
 }
 
-// The caller's first task is held until a worker has begun one.
+// The caller's second task is held until a worker has begun one.
 #[test]
-fn workers_take_their_part(rt: HostRuntime) -> Result<(), Fail> {
+fn workers_take_their_part(rt: HostRuntime) {
     let gate = Helped {
         tasks: AtomicU64::new(0),
     };
-    all_sizes_beside(&rt, rt.alloc(), &gate, Workers { count: 2 })?;
-    assert!(rt; gate.tasks.load(Ordering::SeqCst) != 0);
-    Ok(())
+    let stand = all_sizes_beside(&rt, rt.alloc(), &gate, 2) == Some(true);
+    assert!(rt; stand && gate.tasks.load(Ordering::SeqCst) != 0);
 }
 
-// Nobody sits at the mailboxes: the caller takes every task back.
 #[test]
-fn alone_the_caller_runs_all(rt: HostRuntime) -> Result<(), Fail> {
-    let (team, members) = Team::<Appends>::begin(rt.alloc(), Workers { count: 4 })?;
-    all_sizes(&rt, rt.alloc(), &NoGate, team)?;
-    drop(members);
-    Ok(())
+fn alone_the_caller_runs_all(rt: HostRuntime) {
+    assert!(rt; all_sizes_alone(&rt, rt.alloc()) == Some(true));
 }

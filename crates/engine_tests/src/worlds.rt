@@ -11,20 +11,21 @@ use net_model::{Model, read_model};
 use phys_proc::{Found, Glance};
 use sample_models::ONE_DESK;
 use sim_base::{Change, Decision, Entry, Figures, Name, Param, Steps};
-use standing_crew::{Bell, Team, serve_all};
+use standing_crew::{Bell, Member, Team, serve_all};
 use std::alloc::Global;
 use std::marker::Brand;
 use std::sync::atomic::{AtomicU64, Ordering};
 use std::sync::ledger::{Blank, Ledger};
 use std::sync::{Arc, Wait};
-use std::test::Fail;
 use std::thread;
 use std::thread::Threads;
 use world_core::{Window, World, WorldFault};
 
-/// The fronts, and after each the copies, the messages handled once and those alone, of the gate, the desk and the
-/// exit.
-const WINDOWS: [(u64, [u64; 3], [u64; 3], [u64; 3]); 7] = [
+/// A front, and there the copies, the messages handled once and those alone, of the gate, the desk and the exit.
+type Row = (u64, [u64; 3], [u64; 3], [u64; 3]);
+
+/// What each window comes to.
+const WINDOWS: [Row; 7] = [
     (5, [1, 1, 2], [1, 0, 0], [1, 0, 0]),
     (7, [1, 2, 4], [1, 1, 2], [1, 0, 0]),
     (10, [1, 2, 4], [2, 6, 7], [1, 0, 0]),
@@ -163,16 +164,19 @@ fn two_clones(alloc: Global, text: &str) -> Option<World> {
     opened(alloc, text, &[fork("fast")?, faster(8)?])
 }
 
-/// A window to the bound, or to the next front where that is less.
-fn window<C: Crew, G: Gate, L: Ledger, R: Threads + Wait + Sync>(
+/// A window to the bound, or to the next front where that is less, on the counter that the blank makes.
+fn window_counted<C: Crew, G: Gate, L: Ledger, R: Threads + Wait + Sync>(
     rt: &R,
     alloc: Global,
     crew: &C,
     gate: &G,
     world: World,
     bound: u64,
-    steps: &mut Steps<L>,
+    blank: Blank,
 ) -> Result<World, WorldFault>
+    requires name { blank.name ≡ L.name }
+    requires parts { blank.parts ≡ L.parts }
+    requires some { 0 < L.parts }
     ensures net { IfOk result (λ w. w.net ≡ world.net) }
     ensures clones { IfOk result (λ w. w.clones ≡ world.clones) }
 {
@@ -180,7 +184,23 @@ fn window<C: Crew, G: Gate, L: Ledger, R: Threads + Wait + Sync>(
     if world.front() >= bound {
         return Ok(world);
     }
-    world.window(rt, alloc, crew, gate, bound, steps)
+    let mut steps = Steps::<L>::new(blank);
+    world.window(rt, alloc, crew, gate, bound, &mut steps)
+}
+
+/// The same, on a counter of its own.
+pub(crate) fn window<C: Crew, G: Gate, R: Threads + Wait + Sync>(
+    rt: &R,
+    alloc: Global,
+    crew: &C,
+    gate: &G,
+    world: World,
+    bound: u64,
+) -> Result<World, WorldFault>
+    ensures net { IfOk result (λ w. w.net ≡ world.net) }
+    ensures clones { IfOk result (λ w. w.clones ≡ world.clones) }
+{
+    window_counted::<C, G, Brand, R>(rt, alloc, crew, gate, world, bound, Blank::new(1))
 }
 
 /// Whether the station's figures are these.
@@ -197,14 +217,8 @@ fn has_figures(world: &World, station: u32, figures: [u64; 3]) -> bool {
         }
 }
 
-/// Whether the clone's trace has these messages.
-fn has_trace(alloc: Global, world: &World, who: u32, keys: &[(u64, u32, u32, u64)]) -> bool {
-    if who >= world.lists().len() {
-        return false;
-    }
-    let Ok(trace) = world.trace(alloc, who) else {
-        return false;
-    };
+/// Whether a trace has these messages.
+fn are_keys(trace: &[Entry], keys: &[(u64, u32, u32, u64)]) -> bool {
     if trace.len() != keys.len() {
         return false;
     }
@@ -219,34 +233,26 @@ fn has_trace(alloc: Global, world: &World, who: u32, keys: &[(u64, u32, u32, u64
     true
 }
 
-/// Station, clone, and what a look at the station's rack finds of it, after the last window.
-const SHOWN: [(u32, &str, Option<Found>); 4] = [
-    (
-        1,
-        "fast",
-        Some(Found {
-            handled: 2,
-            shared: 2,
-        }),
-    ),
-    (
-        2,
-        "base",
-        Some(Found {
-            handled: 4,
-            shared: 1,
-        }),
-    ),
-    (
-        2,
-        "fast",
-        Some(Found {
-            handled: 5,
-            shared: 1,
-        }),
-    ),
-    (2, "slow", None),
-];
+/// Whether the clone's trace has these messages.
+fn has_trace(alloc: Global, world: &World, who: u32, keys: &[(u64, u32, u32, u64)]) -> bool {
+    if who >= world.lists().len() {
+        return false;
+    }
+    match world.trace(alloc, who) {
+        Ok(trace) => are_keys(trace.as_slice(), keys),
+        Err(_) => false,
+    }
+}
+
+/// Whether the two clones have these traces.
+fn has_traces(
+    alloc: Global,
+    world: &World,
+    base: &[(u64, u32, u32, u64)],
+    fast: &[(u64, u32, u32, u64)],
+) -> bool {
+    has_trace(alloc, world, 0, base) && has_trace(alloc, world, 1, fast)
+}
 
 /// Whether a look at the station's rack finds this of the clone.
 fn has_glance(
@@ -274,61 +280,44 @@ fn has_glance(
             }
 }
 
-/// Whether all looks find what stands in the table.
-fn has_glances(alloc: Global, world: &mut World) -> bool {
-    for i in 0..SHOWN.len() {
-        let (station, who, found) = SHOWN[i];
-        if !has_glance(alloc, world, station, who, found) {
-            return false;
-        }
+/// Whether the world stands at the row's front, with its figures.
+fn has_row(world: &World, row: Row) -> bool {
+    let (front, at_gate, at_desk, at_exit) = row;
+    world.front() == front
+        && has_figures(world, 1, at_gate)
+        && has_figures(world, 2, at_desk)
+        && has_figures(world, 3, at_exit)
+}
+
+/// The world after a window, where it comes to what stands in the row.
+fn come_to_row<C: Crew, G: Gate, R: Threads + Wait + Sync>(
+    rt: &R,
+    alloc: Global,
+    crew: &C,
+    gate: &G,
+    world: World,
+    row: Row,
+) -> Option<World> {
+    let world = window(rt, alloc, crew, gate, world, 20).ok()?;
+    if has_row(&world, row) {
+        Some(world)
+    } else {
+        None
     }
-    true
 }
 
 /// Whether each window of the two clones comes to what stands in the table, and the run to the two traces.
-fn windows_are<C: Crew, G: Gate, L: Ledger, R: Threads + Wait + Sync>(
+fn windows_are<C: Crew, G: Gate, R: Threads + Wait + Sync>(
     rt: &R,
     alloc: Global,
     crew: &C,
     gate: &G,
-    blank: Blank,
-) -> bool
-    requires name { blank.name ≡ L.name }
-    requires parts { blank.parts ≡ L.parts }
-    requires some { 0 < L.parts }
-{
-    let mut steps = Steps::<L>::new(blank);
-    let Some(begun) = two_clones(alloc, ONE_DESK) else {
-        return false;
-    };
-    let mut world = begun;
+) -> Option<bool> {
+    let mut world = two_clones(alloc, ONE_DESK)?;
     for i in 0..WINDOWS.len() {
-        let (front, at_gate, at_desk, at_exit) = WINDOWS[i];
-        let Ok(next) = window(rt, alloc, crew, gate, world, 20, &mut steps) else {
-            return false;
-        };
-        world = next;
-        let stands = world.front() == front
-            && has_figures(&world, 1, at_gate)
-            && has_figures(&world, 2, at_desk)
-            && has_figures(&world, 3, at_exit);
-        if !stands {
-            return false;
-        }
+        world = come_to_row(rt, alloc, crew, gate, world, WINDOWS[i])?;
     }
-    has_trace(alloc, &world, 0, &BASE)
-        && has_trace(alloc, &world, 1, &FAST)
-        && has_glances(alloc, &mut world)
-}
-
-/// The same, on a counter of its own.
-fn windows_by<C: Crew, G: Gate, R: Threads + Wait + Sync>(
-    rt: &R,
-    alloc: Global,
-    crew: &C,
-    gate: &G,
-) -> bool {
-    windows_are::<C, G, Brand, R>(rt, alloc, crew, gate, Blank::new(1))
+    Some(has_traces(alloc, &world, &BASE, &FAST))
 }
 
 /// Counts its calls.
@@ -374,41 +363,39 @@ impl Gate for Ran {
     fn before_call<R: Wait>(&self, _rt: &R, _analyst: u32, _k: u32) {}
 }
 
+/// The world of that model, before anything is handled.
+fn busy(alloc: Global) -> Option<World> {
+    let model = model_of(alloc, BUSY)?;
+    begun(alloc, &model)
+}
+
 /// Three windows of a world by two workers, each with some of the tasks.
-fn three_windows<G: Gate, L: Ledger, R: Threads + Wait + Sync>(
+fn three_windows<G: Gate, R: Threads + Wait + Sync>(
     rt: &R,
     alloc: Global,
     gate: &G,
-    team: Option<Team<Window>>,
-    blank: Blank,
-) -> Option<World>
-    requires name { blank.name ≡ L.name }
-    requires parts { blank.parts ≡ L.parts }
-    requires some { 0 < L.parts }
-{
-    let mut steps = Steps::<L>::new(blank);
+    world: World,
+) -> Option<World> {
     let crew = Forked {
         workers: Workers { count: 2 },
     };
-    let model = model_of(alloc, BUSY)?;
-    let mut world = begun(alloc, &model)?;
-    if let Some(team) = team {
-        world = world.with_team(team);
-    }
+    let mut world = world;
     for _ in 0..3 {
-        world = window(rt, alloc, &crew, gate, world, 36000, &mut steps).ok()?;
+        world = window(rt, alloc, &crew, gate, world, 36000).ok()?;
     }
     Some(world)
 }
 
-/// The same, on a counter of its own.
-fn three_busy_windows<G: Gate, R: Threads + Wait + Sync>(
-    rt: &R,
-    alloc: Global,
-    gate: &G,
-    team: Option<Team<Window>>,
-) -> Option<World> {
-    three_windows::<G, Brand, R>(rt, alloc, gate, team, Blank::new(1))
+/// Whether the three windows came to what they should, whoever ran them.
+fn have_come(world: Option<World>) -> bool {
+    match world {
+        Some(world) => {
+            world.front() == 27001
+                && has_figures(&world, 1, [1, 27000, 27000])
+                && has_figures(&world, 2, [1, 18000, 18000])
+        }
+        None => false,
+    }
 }
 
 /// Which workers ran a task. The caller's task is held until the other worker has begun one, but for the first two
@@ -437,88 +424,79 @@ impl Gate for Helped {
     fn before_call<R: Wait>(&self, _rt: &R, _analyst: u32, _k: u32) {}
 }
 
-/// Whether both worlds have come as far, and the gate and the exit of both have handled as much.
-fn come_alike(one: &World, other: &World) -> bool {
-    let stations = one.model().len().min(other.model().len());
-    stations == 2
-        && one.front() == other.front()
-        && one.figures(1) == other.figures(1)
-        && one.figures(2) == other.figures(2)
-}
-
-/// The same with a team, and then the bell rings, whatever the result.
-fn three_windows_of<G: Gate, R: Threads + Wait + Sync>(
+/// The three windows, and then the bell rings, whatever the result.
+fn three_windows_led<G: Gate, R: Threads + Wait + Sync>(
     rt: &R,
     alloc: Global,
     gate: &G,
-    team: Team<Window>,
+    world: World,
     bell: &Bell,
 ) -> Option<World> {
-    let world = three_busy_windows(rt, alloc, gate, Some(team));
+    let world = three_windows(rt, alloc, gate, world);
     bell.end();
     world
 }
 
-/// The same beside the other worker of the team.
+/// The same beside the other worker of the world's team.
 fn three_windows_beside<G: Gate, R: Threads + Wait + Sync>(
     rt: &R,
     alloc: Global,
     gate: &G,
+    world: World,
+    members: Vec<Member<Window>>,
+    bell: &Bell,
 ) -> Option<World> {
-    let (team, members) = Team::<Window>::begin(alloc, Workers { count: 2 }).ok()?;
-    let bell = team.bell().ok()?;
-    let bell: &Bell = &bell;
     let (_, world) = thread::join(
         rt,
         move || serve_all(rt, alloc, gate, bell, members),
-        move || three_windows_of(rt, alloc, gate, team, bell),
+        move || three_windows_led(rt, alloc, gate, world, bell),
     );
     world
 }
 
-/// Twenty windows, each so long at the most.
-fn run_to_end<L: Ledger, R: Threads + Wait + Sync>(
+/// The three windows by a team.
+fn three_windows_by_team<G: Gate, R: Threads + Wait + Sync>(
     rt: &R,
     alloc: Global,
-    world: World,
-    unit: u64,
-    blank: Blank,
-) -> Option<World>
-    requires name { blank.name ≡ L.name }
-    requires parts { blank.parts ≡ L.parts }
-    requires some { 0 < L.parts }
-{
-    let mut steps = Steps::<L>::new(blank);
-    let mut world = world;
-    for _ in 0..20 {
-        let bound = world.front().saturating_add(unit);
-        world = window(rt, alloc, &Serial, &NoGate, world, bound, &mut steps).ok()?;
-    }
-    Some(world)
+    gate: &G,
+) -> Option<World> {
+    let world = busy(alloc)?;
+    let (team, members) = Team::<Window>::begin(alloc, Workers { count: 2 }).ok()?;
+    let bell = team.bell().ok()?;
+    three_windows_beside(rt, alloc, gate, world.with_team(team), members, &bell)
 }
 
-/// The same, on a counter of its own.
+/// Twenty windows, each so long at the most.
 fn run_all<R: Threads + Wait + Sync>(
     rt: &R,
     alloc: Global,
     world: World,
     unit: u64,
 ) -> Option<World> {
-    run_to_end::<Brand, R>(rt, alloc, world, unit, Blank::new(1))
+    let mut world = world;
+    for _ in 0..20 {
+        let bound = world.front().saturating_add(unit);
+        world = window(rt, alloc, &Serial, &NoGate, world, bound).ok()?;
+    }
+    Some(world)
+}
+
+/// The world of a model's text with these decisions, at its end.
+fn run_of<R: Threads + Wait + Sync>(
+    rt: &R,
+    alloc: Global,
+    text: &str,
+    decisions: &[Decision],
+) -> Option<World> {
+    let world = opened(alloc, text, decisions)?;
+    run_all(rt, alloc, world, 20)
 }
 
 /// Whether short windows come to the same traces and figures.
-fn short_windows_are<R: Threads + Wait + Sync>(rt: &R, alloc: Global) -> bool {
-    let Some(world) = two_clones(alloc, ONE_DESK) else {
-        return false;
-    };
-    let Some(world) = run_all(rt, alloc, world, 1) else {
-        return false;
-    };
-    has_trace(alloc, &world, 0, &BASE)
-        && has_trace(alloc, &world, 1, &FAST)
-        && has_figures(&world, 2, [2, 8, 9])
-        && has_figures(&world, 3, [2, 3, 4])
+fn short_windows_are<R: Threads + Wait + Sync>(rt: &R, alloc: Global) -> Option<bool> {
+    let world = two_clones(alloc, ONE_DESK)?;
+    let world = run_all(rt, alloc, world, 1)?;
+    Some(has_row(&world, WINDOWS[6]) && has_traces(alloc, &world, &BASE, &FAST))
 }
 
 /// Forks off the base clone, for so many clones in all.
@@ -538,34 +516,40 @@ fn forks(alloc: Global, clones: u32) -> Option<Vec<Decision>> {
     Some(forks)
 }
 
-/// Whether 256 clones that are alike share every message, and the last one has its trace.
+/// Whether all is shared by 256 clones, and the last one has its trace.
+fn share_all(alloc: Global, world: &World) -> bool {
+    has_figures(world, 1, [1, 2, 512])
+        && has_figures(world, 2, [1, 4, 1024])
+        && has_figures(world, 3, [1, 2, 512])
+        && has_trace(alloc, world, 255, &BASE)
+}
+
+/// Whether 256 clones that are alike share every message.
 fn all_is_shared<R: Threads + Wait + Sync>(rt: &R, alloc: Global) -> Option<bool> {
     let forks = forks(alloc, 256)?;
-    let world = opened(alloc, ONE_DESK, forks.as_slice())?;
-    let world = run_all(rt, alloc, world, 20)?;
-    Some(
-        has_figures(&world, 1, [1, 2, 512])
-            && has_figures(&world, 2, [1, 4, 1024])
-            && has_figures(&world, 3, [1, 2, 512])
-            && has_trace(alloc, &world, 255, &BASE),
-    )
+    let world = run_of(rt, alloc, ONE_DESK, forks.as_slice())?;
+    Some(share_all(alloc, &world))
 }
 
 /// Whether a clone that ends at 13 handles nothing from then on.
 fn ended_clone_rests<R: Threads + Wait + Sync>(rt: &R, alloc: Global) -> Option<bool> {
     let decisions = [fork("fast")?, faster(8)?, end(13)?];
-    let world = opened(alloc, ONE_DESK, &decisions)?;
-    let world = run_all(rt, alloc, world, 20)?;
-    Some(
-        has_trace(alloc, &world, 0, &BASE)
-            && has_trace(alloc, &world, 1, &FAST[..8])
-            && has_figures(&world, 3, [2, 2, 3]),
-    )
+    let world = run_of(rt, alloc, ONE_DESK, &decisions)?;
+    Some(has_traces(alloc, &world, &BASE, &FAST[..8]) && has_figures(&world, 3, [2, 2, 3]))
 }
 
-/// Clone, and what a look at the desk finds of it, where two of three clones are alike there.
-const LOOKED: [(&str, Option<Found>); 4] = [
+/// Station, clone, and what a look at the station's rack finds of it, where two of three clones are alike.
+const LOOKED: [(u32, &str, Option<Found>); 5] = [
     (
+        1,
+        "fast",
+        Some(Found {
+            handled: 2,
+            shared: 3,
+        }),
+    ),
+    (
+        2,
         "base",
         Some(Found {
             handled: 4,
@@ -573,6 +557,7 @@ const LOOKED: [(&str, Option<Found>); 4] = [
         }),
     ),
     (
+        2,
         "fast",
         Some(Found {
             handled: 5,
@@ -580,72 +565,82 @@ const LOOKED: [(&str, Option<Found>); 4] = [
         }),
     ),
     (
+        2,
         "like_base",
         Some(Found {
             handled: 4,
             shared: 2,
         }),
     ),
-    ("slow", None),
+    (2, "slow", None),
 ];
+
+/// Whether all looks find what stands in the table.
+fn has_glances(alloc: Global, world: &mut World) -> bool {
+    for i in 0..LOOKED.len() {
+        let (station, who, found) = LOOKED[i];
+        if !has_glance(alloc, world, station, who, found) {
+            return false;
+        }
+    }
+    true
+}
 
 /// Whether looks find the three clones and no fourth, with what each has handled and how many share it.
 fn looks_find_three<R: Threads + Wait + Sync>(rt: &R, alloc: Global) -> Option<bool> {
     let decisions = [fork("fast")?, fork("like_base")?, faster(8)?];
-    let world = opened(alloc, ONE_DESK, &decisions)?;
-    let mut world = run_all(rt, alloc, world, 20)?;
-    for i in 0..LOOKED.len() {
-        let (who, found) = LOOKED[i];
-        if !has_glance(alloc, &mut world, 2, who, found) {
-            return Some(false);
-        }
-    }
-    Some(true)
+    let mut world = run_of(rt, alloc, ONE_DESK, &decisions)?;
+    Some(has_glances(alloc, &mut world))
 }
 
-/// Forks `fast` at front 10, and has it served faster from then on: the next front is 12.
-fn forks_late<L: Ledger, R: Threads + Wait + Sync>(
-    rt: &R,
-    alloc: Global,
-    blank: Blank,
-) -> Option<bool>
-    requires name { blank.name ≡ L.name }
-    requires parts { blank.parts ≡ L.parts }
-    requires some { 0 < L.parts }
+/// The world of `base` alone at front 10.
+fn at_ten<R: Threads + Wait + Sync>(rt: &R, alloc: Global, model: &Arc<Model>) -> Option<World>
+    ensures net { IfSome result (λ w. w.net ≡ model.now.value) }
+    ensures alone { IfSome result (λ w. w.clones ≡ base ∷ []) }
 {
-    let mut steps = Steps::<L>::new(blank);
-    let model = model_of(alloc, ONE_DESK)?;
-    let mut world = begun(alloc, &model)?;
+    let mut world = begun(alloc, model)?;
     for _ in 0..3 {
-        world = window(rt, alloc, &Serial, &NoGate, world, 20, &mut steps).ok()?;
+        world = window(rt, alloc, &Serial, &NoGate, world, 20).ok()?;
     }
-    let at = world.front();
-    let decisions = [fork("fast")?, faster(10)?];
-    let world = decided(alloc, &model, world, &decisions)?;
-    let next = world.bound();
-    let world = window(rt, alloc, &Serial, &NoGate, world, 20, &mut steps).ok()?;
-    Some(at == 10 && next == 12 && has_figures(&world, 2, [2, 4, 7]))
+    if world.front() == 10 {
+        Some(world)
+    } else {
+        None
+    }
 }
 
-/// Where a station may handle three messages, `fast` is over the limit at the desk, in the window to 10.
-fn limit_is_met<L: Ledger, R: Threads + Wait + Sync>(
-    rt: &R,
-    alloc: Global,
-    blank: Blank,
-) -> Option<bool>
-    requires name { blank.name ≡ L.name }
-    requires parts { blank.parts ≡ L.parts }
-    requires some { 0 < L.parts }
-{
-    let mut steps = Steps::<L>::new(blank);
+/// The same, with `fast`, which is forked there and served faster from then on.
+fn forked_at_ten<R: Threads + Wait + Sync>(rt: &R, alloc: Global) -> Option<World> {
+    let decisions = [fork("fast")?, faster(10)?];
+    let model = model_of(alloc, ONE_DESK)?;
+    let world = at_ten(rt, alloc, &model)?;
+    decided(alloc, &model, world, &decisions)
+}
+
+/// Whether the front after such a fork is 12, and what the desks have handled there.
+fn forks_late<R: Threads + Wait + Sync>(rt: &R, alloc: Global) -> Option<bool> {
+    let world = forked_at_ten(rt, alloc)?;
+    let next = world.bound();
+    let world = window(rt, alloc, &Serial, &NoGate, world, 20).ok()?;
+    Some(next == 12 && has_figures(&world, 2, [2, 4, 7]))
+}
+
+/// The two clones at 7, where a station may handle three messages.
+fn limited<R: Threads + Wait + Sync>(rt: &R, alloc: Global) -> Option<World> {
     let text = ONE_DESK
         .replacen(alloc, "horizon = 20", "horizon = 20\nlimit = 3", 1)
         .ok()?;
     let mut world = two_clones(alloc, &text)?;
     for _ in 0..2 {
-        world = window(rt, alloc, &Serial, &NoGate, world, 20, &mut steps).ok()?;
+        world = window(rt, alloc, &Serial, &NoGate, world, 20).ok()?;
     }
-    match window(rt, alloc, &Serial, &NoGate, world, 20, &mut steps) {
+    Some(world)
+}
+
+/// Whether `fast` is over the limit at the desk then, in the window to 10.
+fn limit_is_met<R: Threads + Wait + Sync>(rt: &R, alloc: Global) -> Option<bool> {
+    let world = limited(rt, alloc)?;
+    match window(rt, alloc, &Serial, &NoGate, world, 20) {
         Err(WorldFault::EventLimit { station, who, kept }) => Some(
             station == 2 && who == 1 && kept == 3,
         ),
@@ -653,114 +648,74 @@ fn limit_is_met<L: Ledger, R: Threads + Wait + Sync>(
     }
 }
 
-/// The last two, each on a counter of its own.
-fn forks_on<R: Threads + Wait + Sync>(rt: &R, alloc: Global) -> Option<bool> {
-    forks_late::<Brand, R>(rt, alloc, Blank::new(1))
-}
-
-fn meets_limit<R: Threads + Wait + Sync>(rt: &R, alloc: Global) -> Option<bool> {
-    limit_is_met::<Brand, R>(rt, alloc, Blank::new(1))
-}
-
 #[test]
-fn worked_example_by_three_crews(rt: HostRuntime) -> Result<(), Fail> {
-    let workers = Workers { count: 2 };
-    let serial = windows_by(&rt, rt.alloc(), &Serial, &NoGate);
-    let forked = windows_by(&rt, rt.alloc(), &Forked { workers }, &NoGate);
-    let stealing = windows_by(&rt, rt.alloc(), &Stealing { workers }, &NoGate);
-    assert!(rt; serial && forked && stealing);
-    Ok(())
-}
-
-#[test]
-fn worked_example_by_any_number_of_workers(rt: HostRuntime) -> Result<(), Fail> {
+fn worked_example_by_any_number_of_workers(rt: HostRuntime) {
     for count in 1..=16 {
         let workers = Workers { count };
         assert!(rt;
-            windows_by(&rt, rt.alloc(), &Stealing { workers }, &NoGate),
+            windows_are(&rt, rt.alloc(), &Stealing { workers }, &NoGate) == Some(true),
             "{}",
             count
         );
     }
-    Ok(())
 }
 
 #[test]
-fn clones_that_are_alike(rt: HostRuntime) -> Result<(), Fail> {
-    assert!(rt; all_is_shared(&rt, rt.alloc()) == Some(true));
-    Ok(())
-}
-
-#[test]
-fn looks_at_three_clones(rt: HostRuntime) -> Result<(), Fail> {
-    assert!(rt; looks_find_three(&rt, rt.alloc()) == Some(true));
-    Ok(())
-}
-
-#[test]
-fn windows_counted(rt: HostRuntime) -> Result<(), Fail> {
+fn windows_counted(rt: HostRuntime) {
     let gate = Counts {
         calls: AtomicU64::new(0),
     };
-    let stands = windows_by(&rt, rt.alloc(), &Serial, &gate);
+    let stands = windows_are(&rt, rt.alloc(), &Serial, &gate) == Some(true);
     assert!(rt; stands && gate.calls.load(Ordering::SeqCst) == 21);
-    Ok(())
 }
 
 #[test]
-fn busy_windows_run_on_two_threads(rt: HostRuntime) -> Result<(), Fail> {
+fn clones_that_are_alike(rt: HostRuntime) {
+    assert!(rt; all_is_shared(&rt, rt.alloc()) == Some(true));
+}
+
+#[test]
+fn looks_at_three_clones(rt: HostRuntime) {
+    assert!(rt; looks_find_three(&rt, rt.alloc()) == Some(true));
+}
+
+#[test]
+fn busy_windows_run_on_two_threads(rt: HostRuntime) {
     let gate = Ran {
         workers: AtomicU64::new(0),
     };
-    let front = match three_busy_windows(&rt, rt.alloc(), &gate, None) {
-        Some(world) => world.front(),
-        None => 0,
+    let world = match busy(rt.alloc()) {
+        Some(world) => three_windows(&rt, rt.alloc(), &gate, world),
+        None => None,
     };
-    let ran = gate.workers.load(Ordering::SeqCst);
-    assert!(rt;
-        front == 27001 && ran == 0b11,
-        "front {}, workers {}",
-        front,
-        ran
-    );
-    Ok(())
+    let stands = have_come(world);
+    assert!(rt; stands && gate.workers.load(Ordering::SeqCst) == 0b11);
 }
 
 #[test]
-fn busy_windows_run_by_a_team(rt: HostRuntime) -> Result<(), Fail> {
+fn busy_windows_run_by_a_team(rt: HostRuntime) {
     let gate = Helped {
         calls: AtomicU64::new(0),
         ran: Ran {
             workers: AtomicU64::new(0),
         },
     };
-    let by_team = three_windows_beside(&rt, rt.alloc(), &gate);
-    let alone = three_busy_windows(&rt, rt.alloc(), &NoGate, None);
-    let alike = match (by_team, alone) {
-        (Some(one), Some(other)) => come_alike(&one, &other),
-        _ => false,
-    };
-    let ran = gate.ran.workers.load(Ordering::SeqCst);
-    assert!(rt; alike && ran == 0b11, "alike {}, workers {}", alike, ran);
-    Ok(())
+    let stands = have_come(three_windows_by_team(&rt, rt.alloc(), &gate));
+    assert!(rt; stands && gate.ran.workers.load(Ordering::SeqCst) == 0b11);
 }
 
 #[test]
-fn other_cuttings_and_ends(rt: HostRuntime) -> Result<(), Fail> {
-    let short = short_windows_are(&rt, rt.alloc());
-    let ended = ended_clone_rests(&rt, rt.alloc());
-    assert!(rt; short && ended == Some(true));
-    Ok(())
+fn other_cuttings_and_ends(rt: HostRuntime) {
+    assert!(rt; short_windows_are(&rt, rt.alloc()) == Some(true));
+    assert!(rt; ended_clone_rests(&rt, rt.alloc()) == Some(true));
 }
 
 #[test]
-fn fork_in_the_middle(rt: HostRuntime) -> Result<(), Fail> {
-    assert!(rt; forks_on(&rt, rt.alloc()) == Some(true));
-    Ok(())
+fn fork_in_the_middle(rt: HostRuntime) {
+    assert!(rt; forks_late(&rt, rt.alloc()) == Some(true));
 }
 
 #[test]
-fn limit_names_least_station_and_clone(rt: HostRuntime) -> Result<(), Fail> {
-    assert!(rt; meets_limit(&rt, rt.alloc()) == Some(true));
-    Ok(())
+fn limit_names_least_station_and_clone(rt: HostRuntime) {
+    assert!(rt; limit_is_met(&rt, rt.alloc()) == Some(true));
 }

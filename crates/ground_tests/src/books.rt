@@ -1,48 +1,17 @@
 //! Worked books, the table of refusals in its order, and full books.
 
+use crate::lines::decision;
 use decision_book::{Book, Reply};
 use net_model::read_model;
 use sample_models::ONE_DESK;
-use sim_base::{Change, Decision, Name, NoMemory, Param};
+use sim_base::{Decision, Name, NoMemory};
 use std::alloc::Global;
 use std::process::Abort;
 use std::sync::Arc;
 use std::test::Fail;
 
-fn name<R: Abort>(rt: &R, text: &[u8]) -> Name {
-    Name::read(text).expect(rt, "a name")
-}
-
-fn fork<R: Abort>(rt: &R, new: &[u8], old: &[u8]) -> Decision {
-    Decision::Fork {
-        new: name(rt, new),
-        old: name(rt, old),
-    }
-}
-
-fn set<R: Abort>(rt: &R, who: &[u8], at: u64, station: &[u8], change: Change) -> Decision {
-    Decision::Set {
-        who: name(rt, who),
-        at,
-        station: name(rt, station),
-        change,
-    }
-}
-
-fn end<R: Abort>(rt: &R, who: &[u8], at: u64) -> Decision {
-    Decision::End {
-        who: name(rt, who),
-        at,
-    }
-}
-
-fn service(low: u64, high: u64) -> Change {
-    Change {
-        param: Param::Service,
-        a: low,
-        b: high,
-    }
-}
+/// The line of a decision, and the reply to it.
+type Row = (&'static str, Reply);
 
 /// A book of one desk, with no call.
 fn begun(alloc: Global) -> Option<Book> {
@@ -58,20 +27,25 @@ fn raise(book: &mut Book, front: u64) -> bool {
 
 /// Whether the book's front goes up to each of these in turn.
 fn raise_all(book: &mut Book, fronts: &[u64]) -> bool {
-    let mut all = true;
     for front in fronts {
-        all = raise(book, *front) && all;
+        if !raise(book, *front) {
+            return false;
+        }
     }
-    all
+    true
 }
 
-/// The replies to a fork at front 10, a set at it and a set right before it.
-fn decided_at_ten<R: Abort>(rt: &R, book: &mut Book) -> [Reply; 3] {
-    [
-        book.decide(1, fork(rt, b"fast", b"base")),
-        book.decide(1, set(rt, b"fast", 10, b"desk", service(2, 2))),
-        book.decide(2, set(rt, b"fast", 9, b"desk", service(2, 2))),
-    ]
+/// The place of the first of these decisions that has another reply than the one beside it, or how many there are.
+fn first_wrong(alloc: Global, book: &mut Book, rows: &[Row]) -> usize {
+    for (i, (line, reply)) in rows.iter().enumerate() {
+        let Some(decision) = decision(alloc, line) else {
+            return i;
+        };
+        if book.decide(1, decision) != *reply {
+            return i;
+        }
+    }
+    rows.len()
 }
 
 /// Whether so many fronts were there at each call.
@@ -84,27 +58,27 @@ fn have_fronts(book: &Book, fronts: u32, calls: usize) -> bool {
     book.calls().len() == calls
 }
 
-/// Whether three decisions at front 10 have their replies, and stand among the fronts.
-fn is_decided_at_ten<R: Abort>(rt: &R, book: &mut Book) -> bool {
-    raise_all(book, &[5, 7, 10])
-        && decided_at_ten(rt, book) == [Reply::Accepted, Reply::Accepted, Reply::Late { front: 10 }]
-        && raise_all(book, &[13, 15, 17, 20])
-        && have_fronts(book, 3, 3)
-        && book.fronts() == [5, 7, 10, 13, 15, 17, 20].as_slice()
-        && book.front() == 20
-        && book.lists().len() == 2
-}
+/// A set at the front is accepted, and one right before it is late.
+const AT_TEN: &[Row] = &[
+    ("fork fast from base", Reply::Accepted),
+    ("set fast at 10 desk service 2 2", Reply::Accepted),
+    ("set fast at 9 desk service 2 2", Reply::Late { front: 10 }),
+];
 
 #[test]
 fn decisions_during_a_run(rt: HostRuntime) -> Result<(), Fail> {
     let mut book = begun(rt.alloc()).ok_or(NoMemory)?;
-    assert!(rt; is_decided_at_ten(&rt, &mut book));
+    assert!(rt; raise_all(&mut book, &[5, 7, 10]));
+    assert!(rt; first_wrong(rt.alloc(), &mut book, AT_TEN) == AT_TEN.len());
+    assert!(rt; raise_all(&mut book, &[13, 15, 17, 20]));
+    assert!(rt; have_fronts(&book, 3, 3) && book.lists().len() == 2);
+    assert!(rt; book.fronts() == [5, 7, 10, 13, 15, 17, 20].as_slice() && book.front() == 20);
     Ok(())
 }
 
 /// Whether a book at the horizon is closed to a decision and to what is asked.
 fn is_closed(book: &mut Book, decision: &Decision) -> bool {
-    if !raise_all(book, &[5, 20]) || book.decide(1, *decision) != Reply::Closed {
+    if book.decide(1, *decision) != Reply::Closed {
         return false;
     }
     let more = book.ask(2, decision);
@@ -113,84 +87,97 @@ fn is_closed(book: &mut Book, decision: &Decision) -> bool {
 
 #[test]
 fn a_book_at_the_horizon_is_closed(rt: HostRuntime) -> Result<(), Fail> {
+    let fork = decision(rt.alloc(), "fork x from base").expect(&rt, "a decision");
     let mut book = begun(rt.alloc()).ok_or(NoMemory)?;
-    assert!(rt; is_closed(&mut book, &fork(&rt, b"x", b"base")));
+    assert!(rt; raise_all(&mut book, &[5, 20]) && is_closed(&mut book, &fork));
     Ok(())
 }
 
-/// A name of four bytes for each number below 1,000.
-fn numbered<R: Abort>(rt: &R, n: u32) -> Name {
-    let digit = |d: u32| b'0' + (d % 10) as u8;
-    name(rt, &[b'c', digit(n / 100), digit(n / 10), digit(n)])
+fn digit(d: u32) -> u8 {
+    b'0' + (d % 10) as u8
 }
 
-/// Fills a book with 256 clones: `base` with 256 decisions, `late` with none, `over` with an end, and others.
-fn crowd<R: Abort>(rt: &R, book: &mut Book) -> bool {
-    let mut all = true;
-    for decision in [
-        fork(rt, b"late", b"base"),
-        fork(rt, b"over", b"base"),
-        end(rt, b"over", 12),
-    ] {
-        all = book.decide(1, decision) == Reply::Accepted && all;
-    }
-    for _ in 0..256 {
-        let more = set(rt, b"base", 15, b"desk", service(2, 2));
-        all = book.decide(1, more) == Reply::Accepted && all;
-    }
-    for n in 0..253 {
-        let branch = Decision::Fork {
-            new: numbered(rt, n),
-            old: name(rt, b"base"),
+/// A fork of the base under a name of four bytes, another for each number below 1,000.
+fn numbered(n: u32) -> Option<Decision> {
+    let new = Name::read(&[b'c', digit(n / 100), digit(n / 10), digit(n)])?;
+    let old = Name::read(b"base")?;
+    Some(Decision::Fork { new, old })
+}
+
+/// Forks the base so often.
+fn forks(book: &mut Book, count: u32) -> bool {
+    for n in 0..count {
+        let Some(fork) = numbered(n) else {
+            return false;
         };
-        all = book.decide(2, branch) == Reply::Accepted && all;
-    }
-    all
-}
-
-/// Decisions for a crowded book at front 10. Each refusal comes first where the one after it in the two tables, or a
-/// later one, holds too.
-fn refused_by_names<R: Abort>(rt: &R) -> [(Decision, Reply); 6] {
-    let out = service(0, 0);
-    let over = Reply::Ended { at: 12 };
-    [
-        (set(rt, b"ghost", 9, b"nowhere", out), Reply::UnknownClone),
-        (fork(rt, b"base", b"over"), over),
-        (set(rt, b"over", 25, b"nowhere", out), over),
-        (fork(rt, b"late", b"base"), Reply::NameTaken),
-        (fork(rt, b"fresh", b"base"), Reply::TooManyClones),
-        (set(rt, b"base", 25, b"nowhere", out), Reply::UnknownStation),
-    ]
-}
-
-/// And those in which all names are known.
-fn refused_by_values<R: Abort>(rt: &R) -> [(Decision, Reply); 7] {
-    let (out, good) = (service(0, 0), service(2, 2));
-    let late = Reply::Late { front: 10 };
-    [
-        (set(rt, b"base", 25, b"gate", out), Reply::WrongParameter),
-        (set(rt, b"base", 25, b"desk", out), Reply::OutOfRange),
-        (set(rt, b"base", 25, b"desk", good), Reply::ListFull),
-        (set(rt, b"late", 20, b"desk", good), Reply::PastHorizon),
-        (end(rt, b"base", 20), Reply::PastHorizon),
-        (set(rt, b"late", 9, b"desk", good), late),
-        (end(rt, b"base", 9), late),
-    ]
-}
-
-/// The place of the first of these decisions that has another reply than the one beside it.
-fn first_wrong(book: &mut Book, table: &[(Decision, Reply)]) -> Option<usize> {
-    for (i, (decision, reply)) in table.iter().enumerate() {
-        if book.decide(1, *decision) != *reply {
-            return Some(i);
+        if book.decide(2, fork) != Reply::Accepted {
+            return false;
         }
     }
-    None
+    true
 }
 
+/// Decides the same so often, and answers whether each has this reply.
+fn repeat(book: &mut Book, decision: &Decision, count: u32, reply: Reply) -> bool {
+    for _ in 0..count {
+        if book.decide(3, *decision) != reply {
+            return false;
+        }
+    }
+    true
+}
+
+/// The first decisions on a crowded book.
+const FIRST: &[Row] = &[
+    ("fork late from base", Reply::Accepted),
+    ("fork over from base", Reply::Accepted),
+    ("end over at 12", Reply::Accepted),
+];
+
+/// Fills a book with 256 clones: `base` with 256 decisions, `late` with none, `over` with an end, and others.
+fn crowd(alloc: Global, book: &mut Book) -> bool {
+    let Some(set) = decision(alloc, "set base at 15 desk service 2 2") else {
+        return false;
+    };
+    first_wrong(alloc, book, FIRST) == FIRST.len()
+        && repeat(book, &set, 256, Reply::Accepted)
+        && forks(book, 253)
+}
+
+/// Decisions for a crowded book at front 10. Each refusal comes first where the one after it in this table, or a
+/// later one, holds too: in the first six some name decides, and in the others all names are known.
+const REFUSED: &[Row] = &[
+    ("set ghost at 9 nowhere service 0 0", Reply::UnknownClone),
+    ("fork base from over", Reply::Ended { at: 12 }),
+    (
+        "set over at 25 nowhere service 0 0",
+        Reply::Ended { at: 12 },
+    ),
+    ("fork late from base", Reply::NameTaken),
+    ("fork fresh from base", Reply::TooManyClones),
+    ("set base at 25 nowhere service 0 0", Reply::UnknownStation),
+    ("set base at 25 gate service 0 0", Reply::WrongParameter),
+    ("set base at 25 desk service 0 0", Reply::OutOfRange),
+    ("set base at 25 desk service 2 2", Reply::ListFull),
+    ("set late at 20 desk service 2 2", Reply::PastHorizon),
+    ("end base at 20", Reply::PastHorizon),
+    ("set late at 9 desk service 2 2", Reply::Late { front: 10 }),
+    ("end base at 9", Reply::Late { front: 10 }),
+];
+
+/// The numbers of their replies.
+const NUMBERS: &[u32] = &[3, 12, 12, 4, 5, 6, 7, 8, 9, 10, 10, 11, 11];
+
+/// Decisions that no refusal keeps out.
+const ACCEPTED: &[Row] = &[
+    ("set late at 10 desk service 2 2", Reply::Accepted),
+    ("set late at 19 desk service 2 2", Reply::Accepted),
+    ("end base at 19", Reply::Accepted),
+];
+
 /// Whether the replies of a table have these numbers, in the order of the table.
-fn have_numbers(table: &[(Decision, Reply)], numbers: &[u32]) -> bool {
-    for (i, (_, reply)) in table.iter().enumerate() {
+fn have_numbers(rows: &[Row], numbers: &[u32]) -> bool {
+    for (i, (_, reply)) in rows.iter().enumerate() {
         if numbers.get(i) != Some(&reply.number()) {
             return false;
         }
@@ -205,66 +192,33 @@ fn first_clone(book: &Book) -> (u32, usize, Option<u64>) {
     (count, lists.list(0).len(), lists.end_of(0))
 }
 
-/// Decisions that no refusal keeps out.
-fn accepted<R: Abort>(rt: &R) -> [(Decision, Reply); 3] {
-    let good = service(2, 2);
-    [
-        (set(rt, b"late", 10, b"desk", good), Reply::Accepted),
-        (set(rt, b"late", 19, b"desk", good), Reply::Accepted),
-        (end(rt, b"base", 19), Reply::Accepted),
-    ]
-}
-
-/// Whether a crowded book at front 10 has these replies, and changes by what it accepts alone.
-fn replies_so(
-    book: &mut Book,
-    by_names: &[(Decision, Reply)],
-    by_values: &[(Decision, Reply)],
-    accepted: &[(Decision, Reply)],
-) -> bool {
-    raise(book, 10)
-        && first_wrong(book, by_names).is_none()
-        && first_wrong(book, by_values).is_none()
-        && first_clone(book) == (256, 256, None)
-        && first_wrong(book, accepted).is_none()
-        && first_clone(book) == (256, 256, Some(19))
-}
-
 #[test]
 fn refusals_in_their_order(rt: HostRuntime) -> Result<(), Fail> {
-    let by_names = refused_by_names(&rt);
-    let by_values = refused_by_values(&rt);
-    assert!(rt; have_numbers(&by_names, &[3, 12, 12, 4, 5, 6]));
-    assert!(rt; have_numbers(&by_values, &[7, 8, 9, 10, 10, 11, 11]));
+    assert!(rt; have_numbers(REFUSED, NUMBERS));
     let mut book = begun(rt.alloc()).ok_or(NoMemory)?;
-    assert!(rt; crowd(&rt, &mut book));
-    assert!(rt; replies_so(&mut book, &by_names, &by_values, &accepted(&rt)));
+    assert!(rt; crowd(rt.alloc(), &mut book) && raise(&mut book, 10));
+    assert_eq!(rt; first_wrong(rt.alloc(), &mut book, REFUSED), REFUSED.len());
+    assert!(rt; first_clone(&book) == (256, 256, None));
+    assert_eq!(rt;
+        first_wrong(rt.alloc(), &mut book, ACCEPTED),
+        ACCEPTED.len()
+    );
+    assert!(rt; first_clone(&book) == (256, 256, Some(19)));
     Ok(())
-}
-
-/// Asks the same until the book is full, and answers whether it was always closed.
-fn fill(book: &mut Book, decision: &Decision) -> bool {
-    for _ in 0..4096 {
-        let reply = book.decide(3, *decision);
-        if reply != Reply::Closed {
-            return false;
-        }
-    }
-    true
 }
 
 /// Whether a book that is full has no place more.
 fn is_full(book: &mut Book, decision: &Decision) -> bool {
-    raise(book, 20)
-        && fill(book, decision)
-        && book.decide(3, *decision) == Reply::Full
+    book.decide(3, *decision) == Reply::Full
         && book.ask(3, decision) == (Reply::Full, None)
         && book.calls().len() == 4096
 }
 
 #[test]
 fn a_full_book(rt: HostRuntime) -> Result<(), Fail> {
+    let fork = decision(rt.alloc(), "fork fresh from nobody").expect(&rt, "a decision");
     let mut book = begun(rt.alloc()).ok_or(NoMemory)?;
-    assert!(rt; is_full(&mut book, &fork(&rt, b"fresh", b"nobody")));
+    assert!(rt; raise(&mut book, 20) && repeat(&mut book, &fork, 4096, Reply::Closed));
+    assert!(rt; is_full(&mut book, &fork));
     Ok(())
 }

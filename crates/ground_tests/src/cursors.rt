@@ -99,20 +99,22 @@ fn fill<'a>(cursor: &mut Cursor<'a>, logs: &'a [Log]) -> bool
     true
 }
 
-// The next keys that a cursor gives, each with the place of its log.
-fn taken(alloc: Global, cursor: &mut Cursor<'_>, count: u64) -> Result<Vec<(Key, u32)>, NoMemory>
+// Whether a cursor gives these keys next, each from the log at this place.
+fn gives(cursor: &mut Cursor<'_>, want: &[(Key, u32)]) -> bool
     ensures most { cursor.new.most ≡ cursor.old.most }
 {
-    let mut found = Vec::new(alloc);
-    for _ in 0..count {
-        if let Some(entry) = cursor.next() {
-            found.push((entry.msg.key, entry.msg.to))?;
+    for pair in want {
+        let Some(entry) = cursor.next() else {
+            return false;
+        };
+        if (entry.msg.key, entry.msg.to) != *pair {
+            return false;
         }
     }
-    Ok(found)
+    true
 }
 
-// The same by a sort.
+// The keys of all logs by a sort, each with the place of its log.
 fn sorted(alloc: Global, logs: &[Log]) -> Result<Vec<(Key, u32)>, NoMemory> {
     let mut found = Vec::new(alloc);
     for log in logs {
@@ -127,57 +129,77 @@ fn sorted(alloc: Global, logs: &[Log]) -> Result<Vec<(Key, u32)>, NoMemory> {
     Ok(found)
 }
 
-// Whether a cursor gives what a sort does and then ends, also where it was left in the middle before.
+// Whether a cursor that was left in the middle gives these keys from the front, and then ends.
+fn gives_again<'a>(cursor: &mut Cursor<'a>, logs: &'a [Log], want: &[(Key, u32)]) -> bool
+    requires places { length logs.now ≤ cursor.old.most }
+{
+    fill(cursor, logs)
+        && gives(cursor, &want[..want.len() / 2])
+        && fill(cursor, logs)
+        && gives(cursor, want)
+        && cursor.next().is_none()
+        && cursor.next().is_none()
+}
+
+// Whether a cursor gives what a sort does.
 fn merges(alloc: Global, logs: &[Log]) -> Result<bool, NoMemory> {
     if logs.len() > 64 {
         return Ok(false);
     }
     let want = sorted(alloc, logs)?;
-    let count = want.len() as u64;
     let mut cursor = Cursor::new(alloc, logs.len().max(1))?;
-    let first = fill(&mut cursor, logs);
-    let half = taken(alloc, &mut cursor, count / 2)?;
-    let second = fill(&mut cursor, logs);
-    let all = taken(alloc, &mut cursor, count)?;
-    let ends = cursor.next().is_none() && cursor.next().is_none();
-    Ok(first && second && half.as_slice() == &want[..want.len() / 2] && all == want && ends)
+    Ok(gives_again(&mut cursor, logs, want.as_slice()))
+}
+
+// A log for each of these lists of keys, of which there are at most 64.
+fn logs_of(alloc: Global, rows: &[&[(u64, u32, u64)]]) -> Result<Vec<Log>, NoMemory> {
+    let mut logs = Vec::new(alloc);
+    for (place, keys) in rows.iter().enumerate() {
+        logs.push(log_of(alloc, keys, place.min(63) as u32)?)?;
+    }
+    Ok(logs)
 }
 
 #[test]
 fn a_cursor_merges_as_a_sort_does(rt: HostRuntime) -> Result<(), Fail> {
-    let alloc = rt.alloc();
     for row in ROWS {
-        let mut logs = Vec::new(alloc);
-        for (place, keys) in row.logs.iter().enumerate() {
-            logs.push(log_of(alloc, keys, place as u32)?)?;
-        }
-        assert!(rt; merges(alloc, logs.as_slice())?, "{}", row.shows);
+        let logs = logs_of(rt.alloc(), row.logs)?;
+        assert!(rt; merges(rt.alloc(), logs.as_slice())?, "{}", row.shows);
     }
     Ok(())
 }
 
-#[test]
-fn sixty_four_logs_merge(rt: HostRuntime) -> Result<(), Fail> {
-    let alloc = rt.alloc();
+// The log of a station of a pace of its own; each seventh entry is another's message.
+fn paced_log(alloc: Global, place: u32, count: u64) -> Result<Log, NoMemory> {
+    let mut log = Log::new(alloc);
+    for number in 0..count {
+        let sender = if number % 7 == 0 {
+            64u32.saturating_sub(place)
+        } else {
+            place.saturating_add(1)
+        };
+        let key = Key {
+            time: number.wrapping_mul(u64::from(place % 5 + 1)),
+            sender,
+            number,
+        };
+        log.push(entry(key, place))?;
+    }
+    Ok(log)
+}
+
+// Logs of many paces, the last of them with nothing to do.
+fn sixty_four_logs(alloc: Global) -> Result<Vec<Log>, NoMemory> {
     let mut logs = Vec::new(alloc);
     for place in 0..64_u32 {
-        let mut log = Log::new(alloc);
-        // stations of many paces, the last of them with nothing to do; each seventh entry is another's message
-        for number in 0..u64::from(63 - place) * 4 {
-            let sender = if number % 7 == 0 {
-                64 - place
-            } else {
-                place + 1
-            };
-            let key = Key {
-                time: number * u64::from(place % 5 + 1),
-                sender,
-                number,
-            };
-            log.push(entry(key, place))?;
-        }
-        logs.push(log)?;
+        logs.push(paced_log(alloc, place, u64::from(63 - place) * 4)?)?;
     }
-    assert!(rt; merges(alloc, logs.as_slice())?);
+    Ok(logs)
+}
+
+#[test]
+fn sixty_four_logs_merge(rt: HostRuntime) -> Result<(), Fail> {
+    let logs = sixty_four_logs(rt.alloc())?;
+    assert!(rt; merges(rt.alloc(), logs.as_slice())?);
     Ok(())
 }

@@ -1,12 +1,13 @@
 //! The texts of journals, as people expect them.
 ghost use Rattle.std.specs.Prelude.{◌≡◌, ◌≤◌, All, length, true};
 
+use crate::lines::decision;
 use decision_book::{Call, Reply};
 use decision_script::{Script, read_script};
 use journal_text::{Looked, journal_text};
 use phys_proc::{Found, Glance};
 use sample_models::QUIET_JOURNAL;
-use sim_base::{Change, Decision, Name, Param};
+use sim_base::Name;
 use std::alloc::Global;
 use std::process::Abort;
 
@@ -42,31 +43,19 @@ fn name<R: Abort>(rt: &R, text: &str) -> Name {
     Name::read(text.as_bytes()).expect(rt, "a name")
 }
 
-fn fork<R: Abort>(rt: &R, new: &str) -> Decision {
-    Decision::Fork {
-        new: name(rt, new),
-        old: name(rt, "base"),
-    }
-}
-
-fn faster<R: Abort>(rt: &R, at: u64) -> Decision {
-    Decision::Set {
-        who: name(rt, "fast"),
-        at,
-        station: name(rt, "desk"),
-        change: Change {
-            param: Param::Service,
-            a: 2,
-            b: 2,
-        },
-    }
-}
-
-fn call(caller: u32, fronts: u32, decision: Decision, reply: Reply) -> Call {
+/// A call at so many fronts with the decision of this line.
+fn call<R: Abort>(
+    rt: &R,
+    alloc: Global,
+    caller: u32,
+    fronts: u32,
+    line: &str,
+    reply: Reply,
+) -> Call {
     Call {
         caller,
         fronts,
-        decision,
+        decision: decision(alloc, line).expect(rt, "a decision"),
         reply,
     }
 }
@@ -106,12 +95,20 @@ fn writes(
     }
 }
 
-fn four_calls<R: Abort>(rt: &R) -> [Call; 4] {
+fn four_calls<R: Abort>(rt: &R, alloc: Global) -> [Call; 4] {
+    let late = Reply::Late { front: 10 };
     [
-        call(1, 3, fork(rt, "fast"), Reply::Accepted),
-        call(1, 3, faster(rt, 10), Reply::Accepted),
-        call(1, 3, faster(rt, 9), Reply::Late { front: 10 }),
-        call(1, 7, fork(rt, "x"), Reply::Closed),
+        call(rt, alloc, 1, 3, "fork fast from base", Reply::Accepted),
+        call(
+            rt,
+            alloc,
+            1,
+            3,
+            "set fast at 10 desk service 2 2",
+            Reply::Accepted,
+        ),
+        call(rt, alloc, 1, 3, "set fast at 9 desk service 2 2", late),
+        call(rt, alloc, 1, 7, "fork x from base", Reply::Closed),
     ]
 }
 
@@ -119,7 +116,7 @@ fn four_calls<R: Abort>(rt: &R) -> [Call; 4] {
 fn calls_stand_among_the_fronts(rt: HostRuntime) {
     let script = b"fork fast from base\n";
     let fronts = [5, 7, 10, 12, 15, 17, 20];
-    let calls = four_calls(&rt);
+    let calls = four_calls(&rt, rt.alloc());
     assert!(rt; writes(rt.alloc(), script, &calls, &fronts, &[], FOUR_CALLS));
 }
 
@@ -168,11 +165,8 @@ fn three_looks<R: Abort>(rt: &R) -> [Looked; 3] {
 
 #[test]
 fn looks_tell_what_they_found(rt: HostRuntime) {
-    let end = Decision::End {
-        who: name(&rt, "base"),
-        at: 900,
-    };
-    let calls = [call(2, 0, end, Reply::Ended { at: 30 })];
+    let ended = Reply::Ended { at: 30 };
+    let calls = [call(&rt, rt.alloc(), 2, 0, "end base at 900", ended)];
     let looks = three_looks(&rt);
     assert!(rt; writes(rt.alloc(), b"analyst ben\n", &calls, &[], &looks, LOOKS));
 }

@@ -11,7 +11,8 @@
 //! handling                    stations          sinks      sim_outer
 //! ```
 //!
-//! `counts` is none of them: the tables of three modules are written with it.
+//! `counts` and `lines` are none of them: the tables of three modules are written with the one, and the decisions of
+//! two are read by the other.
 //!
 //! They show what no clause says: that calls find memory, and that clauses mean what they should, by values from
 //! outside. A table has a row for each case, and its test goes over the rows: the text or the decision first, and then
@@ -31,6 +32,8 @@ mod cursors;
 mod handling;
 #[cfg(test)]
 mod journals;
+#[cfg(test)]
+mod lines;
 #[cfg(test)]
 mod lists;
 #[cfg(test)]

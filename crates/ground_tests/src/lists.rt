@@ -1,6 +1,8 @@
-//! Decision lists that go separate ways after a fork, and lists with memory reserved.
+//! Decision lists that go separate ways after a fork.
 
-use sim_base::{Change, Lists, Name, Param, Planned, Reserved};
+use sim_base::{Change, Lists, Name, Param, Planned};
+use std::alloc::Global;
+use std::process::Abort;
 use std::test::Fail;
 
 fn plan(at: u64, station: u32) -> Planned {
@@ -16,68 +18,66 @@ fn plan(at: u64, station: u32) -> Planned {
     }
 }
 
+fn name<R: Abort>(rt: &R, text: &[u8]) -> Name {
+    Name::read(text).expect(rt, "a name")
+}
+
+/// Adds a decision to a clone's list, where the clone is there.
+fn add(lists: &mut Lists, c: u32, plan: Planned) -> bool {
+    c < lists.len() && lists.add(c, plan).is_ok()
+}
+
+/// Gives a clone its end, where it is there and has none.
+fn end(lists: &mut Lists, c: u32, at: u64) -> bool {
+    if c >= lists.len() || lists.end_of(c).is_some() {
+        return false;
+    }
+    lists.end(c, at);
+    true
+}
+
+/// Forks the base, where there is no clone of this name.
+fn fork(lists: &mut Lists, alloc: Global, new: Name) -> bool {
+    match lists.find(&new) {
+        Some(_) => false,
+        None => lists.len() < 256 && lists.fork(alloc, new, 0).is_ok(),
+    }
+}
+
+/// Whether a clone has these decisions and this end.
+fn has(lists: &Lists, c: u32, plans: &[Planned], end: Option<u64>) -> bool {
+    c < lists.len() && lists.list(c) == plans && lists.end_of(c) == end
+}
+
+/// Whether a clone has this name.
+fn is_named(lists: &Lists, c: u32, name: Name) -> bool {
+    c < lists.len() && lists.name(c) == name && lists.find(&name) == Some(c)
+}
+
 #[test]
 fn forks_go_separate_ways(rt: HostRuntime) -> Result<(), Fail> {
-    let left = Name::read(b"left").expect(&rt, "left is a name");
+    let left = name(&rt, b"left");
     let mut lists = Lists::new(rt.alloc())?;
-    lists.add(0, plan(5, 1))?;
-    assert_eq!(rt; lists.find(&left), None);
-    assert_eq!(rt; lists.fork(rt.alloc(), left, 0), Ok(()));
-    assert_eq!(rt; lists.add(0, plan(6, 2)), Ok(()));
-    assert_eq!(rt; lists.add(1, plan(7, 3)), Ok(()));
-    assert_eq!(rt; lists.list(0), [plan(5, 1), plan(6, 2)].as_slice());
-    assert_eq!(rt; lists.list(1), [plan(5, 1), plan(7, 3)].as_slice());
+    assert!(rt; add(&mut lists, 0, plan(5, 1)) && end(&mut lists, 0, 90));
+    assert!(rt; fork(&mut lists, rt.alloc(), left));
+    assert!(rt; add(&mut lists, 0, plan(6, 2)) && add(&mut lists, 1, plan(7, 3)));
+    assert!(rt; lists.len() == 2);
+    assert!(rt; is_named(&lists, 0, name(&rt, b"base")) && is_named(&lists, 1, left));
+    assert!(rt; has(&lists, 0, &[plan(5, 1), plan(6, 2)], Some(90)));
+    assert!(rt; has(&lists, 1, &[plan(5, 1), plan(7, 3)], None));
     Ok(())
 }
 
-#[test]
-fn a_fork_has_a_name_and_no_end(rt: HostRuntime) -> Result<(), Fail> {
-    let base = Name::read(b"base").expect(&rt, "base is a name");
-    let left = Name::read(b"left").expect(&rt, "left is a name");
-    let mut lists = Lists::new(rt.alloc())?;
-    assert_eq!(rt; lists.end_of(0), None);
-    lists.end(0, 90);
-    assert_eq!(rt; lists.find(&left), None);
-    assert_eq!(rt; lists.fork(rt.alloc(), left, 0), Ok(()));
-    assert_eq!(rt; (lists.end_of(0), lists.end_of(1)), (Some(90), None));
-    assert_eq!(rt;
-        (lists.name(0), lists.name(1), lists.len()),
-        (base, left, 2)
-    );
-    assert_eq!(rt; (lists.find(&base), lists.find(&left)), (Some(0), Some(1)));
-    Ok(())
-}
-
+/// Memory is reserved for two clones of one decision, and a second decision needs more.
 #[test]
 fn copies_stay_as_they_were(rt: HostRuntime) -> Result<(), Fail> {
-    let left = Name::read(b"left").expect(&rt, "left is a name");
     let mut lists = Lists::with_room(rt.alloc(), 2, 1)?;
-    lists.add(0, plan(5, 1))?;
+    assert!(rt; add(&mut lists, 0, plan(5, 1)));
     let before = lists.copy(rt.alloc())?;
-    assert_eq!(rt; lists.find(&left), None);
-    lists.fork_in_reserved(left, 0);
-    assert_eq!(rt; lists.end_of(1), None);
-    lists.end(1, 40);
-    let after = lists.copy(rt.alloc())?;
-    lists.add(0, plan(6, 2))?;
-    assert_eq!(rt; (before.len(), before.end_of(0)), (1, None));
-    assert_eq!(rt; before.list(0), [plan(5, 1)].as_slice());
-    assert_eq!(rt;
-        (after.len(), after.name(1), after.end_of(1)),
-        (2, left, Some(40))
-    );
-    assert_eq!(rt; after.list(0), [plan(5, 1)].as_slice());
-    assert_eq!(rt; after.list(1), [plan(5, 1)].as_slice());
-    Ok(())
-}
-
-#[test]
-fn reserved_lists_grow_at_the_end(rt: HostRuntime) -> Result<(), Fail> {
-    let mut list = Reserved::with_capacity(rt.alloc(), 2)?;
-    assert_eq!(rt; (list.reserved(), list.is_empty()), (2, true));
-    assert_eq!(rt; list.push(4u32), Ok(()));
-    assert_eq!(rt; list.extend(&[5, 6, 7]), Ok(()));
-    assert_eq!(rt; (list.pop(), list.len()), (Some(7), 3));
-    assert_eq!(rt; list.as_slice(), [4, 5, 6].as_slice());
+    assert!(rt; fork(&mut lists, rt.alloc(), name(&rt, b"left")));
+    assert!(rt; end(&mut lists, 1, 40) && add(&mut lists, 0, plan(6, 2)));
+    assert!(rt; before.len() == 1 && has(&before, 0, &[plan(5, 1)], None));
+    assert!(rt; has(&lists, 0, &[plan(5, 1), plan(6, 2)], None));
+    assert!(rt; has(&lists, 1, &[plan(5, 1)], Some(40)));
     Ok(())
 }

@@ -2,6 +2,7 @@
 
 use log_chain::Log;
 use sim_base::{Change, Entry, Job, Key, Line, Msg, NoMemory, Param, Payload};
+use std::alloc::Global;
 use std::test::Fail;
 
 /// The entries of each kind in turn.
@@ -68,43 +69,56 @@ fn walks_from(log: &Log, at: u64, count: u64) -> bool {
     true
 }
 
+/// A log of the first entry.
+fn begun(alloc: Global) -> Result<Log, NoMemory> {
+    let mut log = Log::new(alloc);
+    log.push(entry(0))?;
+    Ok(log)
+}
+
+/// Whether a log has two entries, the first and this one.
+fn goes_on_with(log: &Log, number: u64) -> bool {
+    log.len() == 2 && log.get(0) == entry(0) && log.get(1) == entry(number)
+}
+
 #[test]
 fn shared_logs_grow_apart(rt: HostRuntime) -> Result<(), Fail> {
-    let alloc = rt.alloc();
-    let mut first = Log::new(alloc);
-    assert!(rt; first.is_empty() && first.walk_from(0).next().is_none());
-    first.push(entry(0))?;
-    let mut second = first.share(alloc)?;
-    assert_eq!(rt; (first.segments(), second.segments()), (1, 1));
-    first.push(entry(1))?;
-    second.push(entry(9))?;
-    assert!(rt; walks_from(&first, 0, 3) && first.len() == 2);
-    assert!(rt; second.get(0) == entry(0) && second.get(1) == entry(9) && second.len() == 2);
+    let mut first = begun(rt.alloc())?;
+    let mut second = first.share(rt.alloc())?;
+    assert!(rt; first.segments() == 1 && second.segments() == 1);
+    assert!(rt; first.push(entry(1)).is_ok() && second.push(entry(9)).is_ok());
+    assert!(rt; goes_on_with(&first, 1) && goes_on_with(&second, 9));
+    assert!(rt; walks_from(&first, 0, 3));
     Ok(())
 }
 
 #[test]
 fn a_copied_log_grows_apart(rt: HostRuntime) -> Result<(), Fail> {
-    let alloc = rt.alloc();
-    let mut first = Log::new(alloc);
-    first.push(entry(0))?;
-    let mut second = first.copy(alloc)?;
-    second.push(entry(2))?;
-    assert!(rt; first.get(0) == entry(0) && first.len() == 1);
-    assert!(rt; second.get(0) == entry(0) && second.get(1) == entry(2) && second.len() == 2);
+    let first = begun(rt.alloc())?;
+    let mut second = first.copy(rt.alloc())?;
+    assert!(rt; second.push(entry(2)).is_ok() && goes_on_with(&second, 2));
+    assert!(rt; first.len() == 1 && first.get(0) == entry(0));
     Ok(())
 }
 
+/// Shares a log, and says whether both halves have the same segments, and few.
+fn shares(log: &mut Log, alloc: Global) -> bool {
+    match log.share(alloc) {
+        Ok(other) => other.segments() == log.segments() && log.segments() <= 16,
+        Err(_) => false,
+    }
+}
+
+/// Pushes an entry, and shares the log behind each fortieth.
+fn grows(log: &mut Log, alloc: Global, number: u64) -> bool {
+    log.push(entry(number)).is_ok() && (number % 40 != 39 || shares(log, alloc))
+}
+
 #[test]
-fn a_long_log_has_few_segments(rt: HostRuntime) -> Result<(), Fail> {
-    let alloc = rt.alloc();
-    let mut log = Log::new(alloc);
+fn a_long_log_has_few_segments(rt: HostRuntime) {
+    let mut log = Log::new(rt.alloc());
     for number in 0..65_536 {
-        log.push(entry(number))?;
-        if number % 40 == 39 {
-            let other = log.share(alloc)?;
-            assert!(rt; other.segments() == log.segments() && log.segments() <= 16);
-        }
+        assert!(rt; grows(&mut log, rt.alloc(), number), "at {number}");
     }
     assert!(rt; log.len() == 65_536 && log.is_packed());
     for hundred in 0..656 {
@@ -113,22 +127,19 @@ fn a_long_log_has_few_segments(rt: HostRuntime) -> Result<(), Fail> {
             "from {hundred} hundred"
         );
     }
-    Ok(())
 }
 
 #[test]
-fn a_long_tail_is_walked(rt: HostRuntime) -> Result<(), Fail> {
-    let alloc = rt.alloc();
-    let mut log = Log::new(alloc);
+fn a_long_tail_is_walked(rt: HostRuntime) {
+    let mut log = Log::new(rt.alloc());
     for number in 0..1_000 {
-        log.push(entry(number))?;
+        assert!(rt; log.push(entry(number)).is_ok());
     }
-    assert_eq!(rt; log.segments(), 0);
-    for at in [0, 63, 64, 65, 128, 959, 960, 999, 1_000, 2_000] {
-        assert!(rt; at > 1_000 || walks_from(&log, at, 1_000), "from {at}");
+    assert!(rt; log.segments() == 0);
+    for at in [0, 63, 64, 65, 128, 959, 960, 999, 1_000] {
+        assert!(rt; walks_from(&log, at, 1_000), "from {at}");
     }
     assert!(rt; log.walk_from(2_000).next().is_none());
-    Ok(())
 }
 
 /// The greatest numbers of a packed entry.
@@ -154,45 +165,107 @@ fn greatest() -> Entry {
     }
 }
 
-fn is_packed(rt: &HostRuntime, entry: Entry) -> Result<bool, NoMemory> {
-    let mut log = Log::new(rt.alloc());
-    log.push(entry)?;
-    Ok(log.is_packed())
+/// That entry with another key, receiver, payload or line.
+fn with_key(time: u64, sender: u32, number: u64) -> Entry {
+    let entry = greatest();
+    let key = Key {
+        time,
+        sender,
+        number,
+    };
+    Entry {
+        msg: Msg { key, ..entry.msg },
+        line: entry.line,
+    }
 }
 
-#[test]
-fn entries_that_do_not_fit_come_back(rt: HostRuntime) -> Result<(), Fail> {
-    let mut rows = [greatest(); 7];
-    rows[0].msg.key.time = 1 << 30;
-    rows[1].msg.key.sender = 128;
-    rows[2].msg.key.number = 1 << 21;
-    rows[3].msg.to = 256;
-    rows[4].msg.payload = Payload::Set(Change {
+fn with_receiver(to: u32) -> Entry {
+    let entry = greatest();
+    Entry {
+        msg: Msg { to, ..entry.msg },
+        line: entry.line,
+    }
+}
+
+fn with_payload(payload: Payload) -> Entry {
+    let entry = greatest();
+    Entry {
+        msg: Msg {
+            payload,
+            ..entry.msg
+        },
+        line: entry.line,
+    }
+}
+
+fn with_line(line: Line) -> Entry {
+    Entry {
+        msg: greatest().msg,
+        line,
+    }
+}
+
+/// In each one number is too great for a packed entry.
+fn too_great() -> [Entry; 7] {
+    let weight = Payload::Set(Change {
         param: Param::Weight,
         a: 1 << 32,
         b: 0,
     });
-    rows[5].line = Line::Server {
+    let wait = Line::Server {
         busy: 0,
         wait: 1 << 16,
         done: 0,
         lost: u64::MAX,
     };
-    rows[6].line = Line::Sink {
+    let stay = Line::Sink {
         got: 0,
         stay: 1 << 48,
     };
-    assert!(rt; is_packed(&rt, greatest())?);
-    let mut log = Log::new(rt.alloc());
-    for row in rows {
-        assert!(rt; !is_packed(&rt, row)?);
-        log.push(greatest())?;
-        log.push(row)?;
-        let _other = log.share(rt.alloc())?;
+    [
+        with_key(1 << 30, 127, (1 << 21) - 1),
+        with_key((1 << 30) - 1, 128, (1 << 21) - 1),
+        with_key((1 << 30) - 1, 127, 1 << 21),
+        with_receiver(256),
+        with_payload(weight),
+        with_line(wait),
+        with_line(stay),
+    ]
+}
+
+/// Whether a log of this entry alone is packed, or None where it is out of memory.
+fn is_packed(alloc: Global, entry: Entry) -> Option<bool> {
+    let mut log = Log::new(alloc);
+    match log.push(entry) {
+        Ok(()) => Some(log.is_packed()),
+        Err(_) => None,
     }
+}
+
+/// Pushes a packed entry and another, and shares the log.
+fn pushes_both(log: &mut Log, alloc: Global, other: Entry) -> bool {
+    log.push(greatest()).is_ok() && log.push(other).is_ok() && log.share(alloc).is_ok()
+}
+
+/// Whether a log has just these entries, each behind a packed one.
+fn has_both(log: &Log, others: &[Entry]) -> bool {
     let mut walk = log.walk_from(0);
-    for row in rows {
-        assert!(rt; walk.next() == Some(greatest()) && walk.next() == Some(row));
+    for other in others {
+        if walk.next() != Some(greatest()) || walk.next() != Some(*other) {
+            return false;
+        }
     }
-    Ok(())
+    walk.next().is_none()
+}
+
+#[test]
+fn entries_that_do_not_fit_come_back(rt: HostRuntime) {
+    let rows = too_great();
+    let mut log = Log::new(rt.alloc());
+    assert!(rt; is_packed(rt.alloc(), greatest()) == Some(true));
+    for (i, row) in rows.iter().enumerate() {
+        assert!(rt; is_packed(rt.alloc(), *row) == Some(false), "row {i}");
+        assert!(rt; pushes_both(&mut log, rt.alloc(), *row));
+    }
+    assert!(rt; has_both(&log, &rows));
 }

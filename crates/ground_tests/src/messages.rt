@@ -17,43 +17,43 @@ pub fn message(time: u64, sender: u32, number: u64) -> Msg {
     }
 }
 
+const NAMES: &[&str] = &["a", "desk_2", "abcdefghijklmnop"];
+
+const NO_NAMES: &[&str] = &["", "Desk", "2nd", "_a", "a-b", "abcdefghijklmnopq"];
+
+/// Whether a text is read as a name, and is its text.
+fn is_name(text: &str) -> bool {
+    match Name::read(text.as_bytes()) {
+        Some(name) => name.text() == text,
+        None => false,
+    }
+}
+
 #[test]
 fn names_are_read(rt: HostRuntime) {
-    for text in [
-        b"a".as_slice(),
-        b"desk_2".as_slice(),
-        b"abcdefghijklmnop".as_slice(),
-    ] {
-        let Some(name) = Name::read(text) else {
-            panic!(rt; "a name is refused");
-        };
-        assert!(rt; name.text().as_bytes() == text);
+    for text in NAMES {
+        assert!(rt; is_name(text), "{text}");
     }
-    for text in [
-        b"".as_slice(),
-        b"Desk".as_slice(),
-        b"2nd".as_slice(),
-        b"_a".as_slice(),
-        b"a-b".as_slice(),
-        b"abcdefghijklmnopq".as_slice(),
-    ] {
-        assert!(rt; Name::read(text).is_none(), "{text:?}");
+    for text in NO_NAMES {
+        assert!(rt; Name::read(text.as_bytes()).is_none(), "{text}");
     }
+}
+
+/// Whether a message comes before another, by both orders of the two.
+fn comes_before(first: Msg, later: Msg) -> bool {
+    compare(&first, &later) == Ordering::Less && compare(&later, &first) == Ordering::Greater
 }
 
 #[test]
 fn messages_are_ordered(rt: HostRuntime) {
     let first = message(5, 1, 7);
-    let mut with_job = first;
-    with_job.payload = Payload::Job(Job::default());
-    for later in [
-        message(6, 0, 0),
-        message(5, 2, 0),
-        message(5, 1, 8),
-        with_job,
-    ] {
-        assert!(rt; compare(&first, &later) == Ordering::Less, "{later:?}");
-        assert!(rt; compare(&later, &first) == Ordering::Greater, "{later:?}");
-    }
+    let with_job = Msg {
+        payload: Payload::Job(Job::default()),
+        ..first
+    };
+    assert!(rt; comes_before(first, message(6, 0, 0)), "by time");
+    assert!(rt; comes_before(first, message(5, 2, 0)), "by sender");
+    assert!(rt; comes_before(first, message(5, 1, 8)), "by number");
+    assert!(rt; comes_before(first, with_job), "by payload");
     assert!(rt; compare(&first, &first) == Ordering::Equal);
 }

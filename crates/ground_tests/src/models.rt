@@ -25,30 +25,44 @@ fn is_refused(alloc: Global, text: &[u8], number: u32, place: u32, key: &str) ->
 }
 
 // Whether the changed text is refused as the change says.
-fn is_refused_so(alloc: Global, text: &str, change: &Change) -> Result<bool, AllocError> {
-    let changed = text.replacen(alloc, change.old, change.new, 1)?;
-    Ok(is_refused(
-        alloc,
-        changed.as_bytes(),
-        change.number,
-        change.place,
-        change.key,
-    ))
+fn is_refused_so(alloc: Global, text: &str, change: &Change) -> bool {
+    match text.replacen(alloc, change.old, change.new, 1) {
+        Ok(changed) => is_refused(
+            alloc,
+            changed.as_bytes(),
+            change.number,
+            change.place,
+            change.key,
+        ),
+        Err(_) => false,
+    }
+}
+
+// The place of the first change whose text is not refused as it says, or how many there are.
+fn first_wrong(alloc: Global, text: &str, changes: &[Change]) -> usize {
+    for (i, change) in changes.iter().enumerate() {
+        if !is_refused_so(alloc, text, change) {
+            return i;
+        }
+    }
+    changes.len()
 }
 
 #[test]
-fn changed_texts_are_refused(rt: HostRuntime) -> Result<(), Fail> {
-    for change in SMALL_CHANGES {
-        assert!(rt; is_refused_so(rt.alloc(), SMALL, change)?, "{change:?}");
-    }
-    for change in OTHER_TEXTS {
-        assert!(rt; is_refused_so(rt.alloc(), SMALL, change)?, "{change:?}");
-    }
-    for change in ROAD_CHANGES {
-        assert!(rt; is_refused_so(rt.alloc(), ROAD, change)?, "{change:?}");
-    }
+fn changed_texts_are_refused(rt: HostRuntime) {
+    assert_eq!(rt;
+        first_wrong(rt.alloc(), SMALL, SMALL_CHANGES),
+        SMALL_CHANGES.len()
+    );
+    assert_eq!(rt;
+        first_wrong(rt.alloc(), SMALL, OTHER_TEXTS),
+        OTHER_TEXTS.len()
+    );
+    assert_eq!(rt;
+        first_wrong(rt.alloc(), ROAD, ROAD_CHANGES),
+        ROAD_CHANGES.len()
+    );
     assert!(rt; is_refused(rt.alloc(), b"\xff", 2, 0, ""), "not UTF-8");
-    Ok(())
 }
 
 #[test]
@@ -183,17 +197,22 @@ fn model_files_are_read(rt: HostRuntime) {
     assert!(rt; is_road(rt.alloc(), ROAD));
 }
 
+// Pushes a router of this number, with sixteen links.
+fn push_router(alloc: Global, text: &mut Vec<u8>, i: u32) -> Result<(), AllocError> {
+    let head = format!(in alloc;
+        "\n[[station]]\nname = \"x{i}\"\nkind = \"router\"\nby = \"turn\"\nlink = ["
+    )?;
+    text.extend_from_slice(head.as_bytes())?;
+    push_pieces(text, b"{ to = \"x7\", delay = 2 }, ", 16)?;
+    text.push(b']')?;
+    Ok(())
+}
+
 // Sixty-four routers of sixteen links each, with a comment before them.
 fn full_text(alloc: Global, comment: u32) -> Result<Vec<u8>, AllocError> {
     let mut text = repeated(alloc, b"lookahead = 2\nhorizon = 20\n#", b".", comment)?;
     for i in 0..64u32 {
-        let head = format!(in alloc;
-            "\n[[station]]\nname = \"x{i}\"\nkind = \"router\"\nby = \"turn\"\n"
-        )?;
-        text.extend_from_slice(head.as_bytes())?;
-        let links = repeated(alloc, b"link = [", b"{ to = \"x7\", delay = 2 }, ", 16)?;
-        text.extend_from_slice(links.as_slice())?;
-        text.extend_from_slice(b"]")?;
+        push_router(alloc, &mut text, i)?;
     }
     Ok(text)
 }
@@ -223,12 +242,18 @@ fn the_fullest_model_is_read(rt: HostRuntime) -> Result<(), Fail> {
     Ok(())
 }
 
-// A text of so many pieces behind a front.
-fn repeated(alloc: Global, front: &[u8], piece: &[u8], times: u32) -> Result<Vec<u8>, AllocError> {
-    let mut text = Vec::from_slice(alloc, front)?;
+// Pushes a piece so many times.
+fn push_pieces(text: &mut Vec<u8>, piece: &[u8], times: u32) -> Result<(), AllocError> {
     for _ in 0..times {
         text.extend_from_slice(piece)?;
     }
+    Ok(())
+}
+
+// A text of so many pieces behind a front.
+fn repeated(alloc: Global, front: &[u8], piece: &[u8], times: u32) -> Result<Vec<u8>, AllocError> {
+    let mut text = Vec::from_slice(alloc, front)?;
+    push_pieces(&mut text, piece, times)?;
     Ok(text)
 }
 
@@ -242,25 +267,40 @@ fn many_keys(alloc: Global, count: u32) -> Result<Vec<u8>, AllocError> {
     Ok(text)
 }
 
+// Whether the text is refused within a second with this number at the top, and names this key, or none.
+fn is_refused_soon(rt: &HostRuntime, text: &[u8], number: u32, key: &str) -> Result<bool, Fail> {
+    let start = Instant::now(rt)?;
+    let is = is_refused(rt.alloc(), text, number, 0, key);
+    let took = start.elapsed(rt)?;
+    println!(*rt; "refusal {number}: {took:?}")?;
+    Ok(is && took < Duration::from_secs(1))
+}
+
 #[test]
-fn hostile_texts_are_refused_soon(rt: HostRuntime) -> Result<(), Fail> {
+fn a_million_brackets_are_refused_soon(rt: HostRuntime) -> Result<(), Fail> {
+    let text = repeated(rt.alloc(), b"x = ", b"[", 1_048_572)?;
+    assert!(rt; is_refused_soon(&rt, text.as_slice(), 2, "")?);
+    Ok(())
+}
+
+#[test]
+fn a_million_spaces_are_refused_soon(rt: HostRuntime) -> Result<(), Fail> {
+    let text = repeated(rt.alloc(), b"", b" ", 1_048_577)?;
+    assert!(rt; is_refused_soon(&rt, text.as_slice(), 1, "")?);
+    Ok(())
+}
+
+#[test]
+fn many_keys_are_refused_soon(rt: HostRuntime) -> Result<(), Fail> {
+    let text = many_keys(rt.alloc(), 50_000)?;
+    assert!(rt; is_refused_soon(&rt, text.as_slice(), 5, "k0")?);
+    Ok(())
+}
+
+#[test]
+fn many_tables_are_refused_soon(rt: HostRuntime) -> Result<(), Fail> {
     let top = b"lookahead = 2\nhorizon = 20\n";
-    let brackets = repeated(rt.alloc(), b"x = ", b"[", 1_048_572)?;
-    let spaces = repeated(rt.alloc(), b"", b" ", 1_048_577)?;
-    let keys = many_keys(rt.alloc(), 50_000)?;
-    let tables = repeated(rt.alloc(), top.as_slice(), b"[[station]]\n", 80_000)?;
-    for (text, number, key) in [
-        (brackets, 2, ""),
-        (spaces, 1, ""),
-        (keys, 5, "k0"),
-        (tables, 12, ""),
-    ] {
-        let start = Instant::now(&rt)?;
-        let is = is_refused(rt.alloc(), text.as_slice(), number, 0, key);
-        let took = start.elapsed(&rt)?;
-        println!(rt; "refusal {number}: {took:?}")?;
-        assert!(rt; is, "refusal {number}");
-        assert!(rt; took < Duration::from_secs(1), "it took {took:?}");
-    }
+    let text = repeated(rt.alloc(), top.as_slice(), b"[[station]]\n", 80_000)?;
+    assert!(rt; is_refused_soon(&rt, text.as_slice(), 12, "")?);
     Ok(())
 }

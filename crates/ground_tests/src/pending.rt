@@ -2,12 +2,12 @@
 ghost use Rattle.std.specs.Prelude.{bit_or, bit_and, ◌==◌, if◌then◌else◌, Option, Some, None};
 
 use crate::messages::message;
-use sim_base::{Marks, NoMemory, Pending};
+use sim_base::{Marks, Msg, NoMemory, Pending};
 use std::alloc::Global;
 use std::test::Fail;
 
 /// Sets of the numbers below 8, a bit for each.
-#[derive(Clone, Copy, Debug, PartialEq, Eq)]
+#[derive(Clone, Copy, PartialEq, Eq)]
 struct Bits {
     bits: u8,
 }
@@ -33,106 +33,149 @@ fn set(bits: u8) -> Bits {
     Bits { bits }
 }
 
-/// Two messages, of which the first comes twice.
+/// The message that comes first, and the one after it.
+fn first() -> Msg {
+    message(3, 1, 0)
+}
+
+fn second() -> Msg {
+    message(4, 1, 1)
+}
+
+/// These two, of which the first comes twice.
 fn with_a_message_twice(alloc: Global) -> Result<Pending<Bits>, NoMemory> {
     let mut pending = Pending::new(alloc);
-    pending.insert(message(4, 1, 1), set(0b011))?;
-    pending.insert(message(3, 1, 0), set(0b001))?;
-    pending.insert(message(3, 1, 0), set(0b100))?;
+    pending.insert(second(), set(0b011))?;
+    pending.insert(first(), set(0b001))?;
+    pending.insert(first(), set(0b100))?;
     Ok(pending)
+}
+
+/// Whether the least message is this one with these marks; it is taken out.
+fn takes(pending: &mut Pending<Bits>, msg: Msg, marks: u8) -> bool {
+    pending.take_least() == Some((msg, set(marks)))
 }
 
 #[test]
 fn equal_messages_join_marks(rt: HostRuntime) -> Result<(), Fail> {
-    let m = message(3, 1, 0);
-    let n = message(4, 1, 1);
     let mut pending = with_a_message_twice(rt.alloc())?;
-    assert_eq!(rt; pending.least(), Some((m, set(0b101))));
-    assert_eq!(rt; pending.least_with(set(0b010)), Some((n, set(0b010))));
-    assert_eq!(rt; pending.least_with(set(0b1000)), None);
-    assert_eq!(rt; pending.take_least(), Some((m, set(0b101))));
-    assert_eq!(rt; pending.take_least(), Some((n, set(0b011))));
-    assert_eq!(rt; pending.least(), None);
+    assert!(rt; pending.least() == Some((first(), set(0b101))));
+    assert!(rt; pending.least_with(set(0b010)) == Some((second(), set(0b010))));
+    assert!(rt; pending.least_with(set(0b1000)).is_none());
+    assert!(rt; takes(&mut pending, first(), 0b101) && takes(&mut pending, second(), 0b011));
+    assert!(rt; pending.least().is_none());
     Ok(())
 }
 
+/// The second message is not for clone 2, which gets the first alone.
 #[test]
-fn marks_are_cut_and_spread(rt: HostRuntime) -> Result<(), Fail> {
-    let m = message(3, 1, 0);
-    let n = message(4, 1, 1);
-    let mut pending = with_a_message_twice(rt.alloc())?;
+fn marks_are_cut(rt: HostRuntime) -> Result<(), Fail> {
+    let pending = with_a_message_twice(rt.alloc())?;
     let mut part = pending.cut(rt.alloc(), set(0b100))?;
-    assert_eq!(rt; part.take_least(), Some((m, set(0b100))));
-    assert_eq!(rt; part.take_least(), None, "n is not for clone 2");
-    pending.spread(set(0b010), set(0b1000));
-    assert_eq!(rt;
-        pending.take_least(),
-        Some((m, set(0b101))),
-        "m is not for clone 1"
-    );
-    assert_eq!(rt; pending.take_least(), Some((n, set(0b1011))));
+    assert!(rt; takes(&mut part, first(), 0b100) && part.is_empty());
     Ok(())
+}
+
+/// The first message is not for clone 1, and so not for clone 3, which gets what clone 1 has.
+#[test]
+fn marks_are_spread(rt: HostRuntime) -> Result<(), Fail> {
+    let mut pending = with_a_message_twice(rt.alloc())?;
+    pending.spread(set(0b010), set(0b1000));
+    assert!(rt; takes(&mut pending, first(), 0b101) && takes(&mut pending, second(), 0b1011));
+    Ok(())
+}
+
+/// Whether just this message, or none, comes before a bound; it is taken out.
+fn takes_before(pending: &mut Pending<()>, bound: u64, want: Option<Msg>) -> bool {
+    match pending.take_before(bound) {
+        Some((msg, ())) => want == Some(msg),
+        None => want.is_none(),
+    }
+}
+
+/// Messages at 3 and 5.
+fn at_three_and_five(alloc: Global) -> Result<Pending<()>, NoMemory> {
+    let mut pending = Pending::new(alloc);
+    pending.insert(message(5, 1, 1), ())?;
+    pending.insert(first(), ())?;
+    Ok(pending)
 }
 
 #[test]
 fn a_message_at_the_bound_stays(rt: HostRuntime) -> Result<(), Fail> {
-    let mut pending = Pending::new(rt.alloc());
-    let m = message(3, 1, 0);
-    let n = message(5, 1, 1);
-    pending.insert(n, ())?;
-    pending.insert(m, ())?;
-    assert_eq!(rt; pending.least_time(), Some(3));
-    assert_eq!(rt; pending.take_before(5), Some((m, ())));
-    assert_eq!(rt; pending.take_before(5), None);
-    assert_eq!(rt; pending.least_time(), Some(5));
-    assert_eq!(rt; pending.take_before(6), Some((n, ())));
-    assert_eq!(rt; pending.take_before(6), None);
-    assert!(rt; pending.is_empty());
+    let mut pending = at_three_and_five(rt.alloc())?;
+    assert!(rt; pending.least_time() == Some(3));
+    assert!(rt; takes_before(&mut pending, 5, Some(first())));
+    assert!(rt; takes_before(&mut pending, 5, None) && pending.least_time() == Some(5));
+    assert!(rt; takes_before(&mut pending, 6, Some(message(5, 1, 1))));
+    assert!(rt; takes_before(&mut pending, 6, None) && pending.is_empty());
     Ok(())
 }
 
-/// Whether the least message is this one with these marks; it is taken out.
-fn takes(pending: &mut Pending<Bits>, time: u64, marks: Bits) -> bool {
-    match pending.take_least() {
-        Some((msg, found)) => msg == message(time, 1, 0) && found == marks,
-        None => false,
-    }
+/// Puts a message of this time in.
+fn puts(pending: &mut Pending<Bits>, time: u64, marks: u8) -> bool {
+    pending.insert(message(time, 1, 0), set(marks)).is_ok()
 }
 
 /// 60,000 messages with times from 0 on, put in in scrambled order, and each third of them twice.
 #[test]
-fn sixty_thousand_messages_wait_in_one_list(rt: HostRuntime) -> Result<(), Fail> {
+fn sixty_thousand_messages_wait_in_one_list(rt: HostRuntime) {
     let mut pending = Pending::new(rt.alloc());
     for i in 0..60_000_u64 {
-        pending.insert(message(i * 7_919 % 60_000, 1, 0), set(0b01))?;
+        assert!(rt; puts(&mut pending, i * 7_919 % 60_000, 0b01));
     }
     for i in 0..20_000_u64 {
-        pending.insert(message(i * 3, 1, 0), set(0b10))?;
+        assert!(rt; puts(&mut pending, i * 3, 0b10));
     }
     for time in 0..60_000_u64 {
         let marks = if time % 3 == 0 { 0b11 } else { 0b01 };
-        assert!(rt; takes(&mut pending, time, set(marks)));
+        assert!(rt; takes(&mut pending, message(time, 1, 0), marks));
     }
     assert!(rt; pending.is_empty());
-    Ok(())
 }
 
-/// The even ones of 1,000 messages go to a list of their own, and the odd ones stay.
-#[test]
-fn a_long_list_is_parted(rt: HostRuntime) -> Result<(), Fail> {
-    let alloc = rt.alloc();
+/// Messages at each time below 1,000, the even ones with other marks than the odd ones.
+fn even_and_odd(alloc: Global) -> Result<Pending<Bits>, NoMemory> {
     let mut all = Pending::new(alloc);
     for i in 0..1_000_u64 {
         let marks = if i % 2 == 0 { 0b10 } else { 0b01 };
         all.insert(message(i, 1, 0), set(marks))?;
     }
-    let mut odd = all.copy(alloc)?;
-    let mut even = all.cut(alloc, set(0b10))?;
-    odd.keep(set(0b01));
+    Ok(all)
+}
+
+/// Whether just each second message is there, from this time on, with these marks; they are taken out.
+fn takes_each_second(pending: &mut Pending<Bits>, from: u64, marks: u8) -> bool {
     for i in 0..500_u64 {
-        assert!(rt; takes(&mut even, 2 * i, set(0b10)));
-        assert!(rt; takes(&mut odd, 2 * i + 1, set(0b01)));
+        if !takes(pending, message(from.wrapping_add(2 * i), 1, 0), marks) {
+            return false;
+        }
     }
-    assert!(rt; even.is_empty() && odd.is_empty() && takes(&mut all, 0, set(0b10)));
+    pending.is_empty()
+}
+
+fn even_are_cut(alloc: Global, all: &Pending<Bits>) -> bool {
+    match all.cut(alloc, set(0b10)) {
+        Ok(mut even) => takes_each_second(&mut even, 0, 0b10),
+        Err(_) => false,
+    }
+}
+
+fn odd_are_left(alloc: Global, all: &Pending<Bits>) -> bool {
+    match all.copy(alloc) {
+        Ok(mut odd) => {
+            odd.keep(set(0b01));
+            takes_each_second(&mut odd, 1, 0b01)
+        }
+        Err(_) => false,
+    }
+}
+
+/// The even ones of 1,000 messages go to a list of their own, and the odd ones stay.
+#[test]
+fn a_long_list_is_parted(rt: HostRuntime) -> Result<(), Fail> {
+    let mut all = even_and_odd(rt.alloc())?;
+    assert!(rt; even_are_cut(rt.alloc(), &all) && odd_are_left(rt.alloc(), &all));
+    assert!(rt; takes(&mut all, message(0, 1, 0), 0b10));
     Ok(())
 }

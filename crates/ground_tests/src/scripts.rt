@@ -3,8 +3,8 @@
 
 mod texts;
 
-use decision_script::{Act, Item, Script, alone, print_script, read_script};
-use sim_base::{Change, Decision, Name, NoMemory, Param};
+use decision_script::{Script, alone, print_script, read_script};
+use sim_base::Name;
 use std::alloc::{AllocError, Global};
 use std::test::Fail;
 use texts::{FAULTS, OWN_SCRIPTS, Own, READ, Refused};
@@ -24,15 +24,15 @@ fn is_refused_so(alloc: Global, refused: &Refused) -> bool {
 
 #[test]
 fn faults_are_named_with_their_lines(rt: HostRuntime) {
-    for refused in FAULTS {
-        assert!(rt; is_refused_so(rt.alloc(), refused), "{refused:?}");
+    for (i, refused) in FAULTS.iter().enumerate() {
+        assert!(rt; is_refused_so(rt.alloc(), refused), "row {i}");
     }
 }
 
 #[test]
 fn lines_are_read_to_their_ends(rt: HostRuntime) {
     for text in READ {
-        assert!(rt; fault_of(rt.alloc(), text.as_bytes()) == (0, 0), "{text:?}");
+        assert!(rt; fault_of(rt.alloc(), text.as_bytes()) == (0, 0), "{text}");
     }
 }
 
@@ -45,133 +45,87 @@ fn lines(alloc: Global, line: &str, count: u32) -> Result<Vec<u8>, AllocError> {
     Ok(text)
 }
 
-// Sections of so many analysts besides main, each twice.
-fn sections(alloc: Global, count: u8) -> Result<Vec<u8>, AllocError> {
-    let mut text = Vec::new(alloc);
-    for i in 0..count {
-        let letter = b'a' + i % 26;
-        text.extend_from_slice(b"analyst x")?;
-        text.push(letter)?;
-        text.extend_from_slice(b"\nanalyst x")?;
-        text.push(letter)?;
-        text.push(b'\n')?;
-    }
-    Ok(text)
-}
-
-#[test]
-fn limits_are_kept(rt: HostRuntime) -> Result<(), Fail> {
-    let alloc = rt.alloc();
-    let Ok(most_items) = read_script(alloc, lines(alloc, "look base desk\n", 4_096)?.as_slice())
-    else {
-        panic!(rt; "4,096 items are refused");
-    };
-    assert_eq!(rt; most_items.len(), 4_096);
-    let items = lines(alloc, "look base desk\n", 4_097)?;
-    assert_eq!(rt; fault_of(alloc, items.as_slice()), (5, 4_097));
-    let Ok(most_analysts) = read_script(alloc, sections(alloc, 15)?.as_slice()) else {
-        panic!(rt; "16 analysts are refused");
-    };
-    assert_eq!(rt; most_analysts.analysts(), 16);
-    let analysts = sections(alloc, 16)?;
-    assert_eq!(rt; fault_of(alloc, analysts.as_slice()), (6, 31));
-    Ok(())
-}
-
 #[test]
 fn long_texts_are_refused(rt: HostRuntime) -> Result<(), Fail> {
-    let alloc = rt.alloc();
-    let mut text = lines(alloc, "#234567890123456789012345678901\n", 32_768)?;
-    assert_eq!(rt;
-        (text.len(), fault_of(alloc, text.as_slice())),
-        (1_048_576, (0, 0))
-    );
+    let mut text = lines(rt.alloc(), "#234567890123456789012345678901\n", 32_768)?;
+    assert!(rt; text.len() == 1_048_576 && fault_of(rt.alloc(), text.as_slice()) == (0, 0));
     text.push(b'\n')?;
-    assert_eq!(rt; fault_of(alloc, text.as_slice()), (1, 0));
+    assert!(rt; fault_of(rt.alloc(), text.as_slice()) == (1, 0));
     Ok(())
 }
 
-// The lines and analysts of the items.
-fn places(alloc: Global, script: &Script) -> Result<Vec<(u32, u32)>, AllocError> {
-    let mut places = Vec::new(alloc);
-    for i in 0..script.len() {
-        let item = script.item(i);
-        places.push((item.line, item.analyst))?;
+// The script of a text, or of one clone of it where there is a name.
+fn own_script(alloc: Global, own: &Own) -> Option<Script> {
+    let script = read_script(alloc, own.text.as_bytes()).ok()?;
+    match Name::read(own.who.as_bytes()) {
+        Some(who) => alone(alloc, &script, &who).ok(),
+        None => Some(script),
     }
-    Ok(places)
 }
 
-// The two results of a text's script, for one clone or for all: its canonical text and its places.
-fn own_text(alloc: Global, own: &Own) -> Result<Option<(Vec<u8>, Vec<(u32, u32)>)>, NoMemory> {
-    let Ok(script) = read_script(alloc, own.text.as_bytes()) else {
-        return Ok(None);
-    };
-    let script = match Name::read(own.who.as_bytes()) {
-        Some(who) => alone(alloc, &script, &who)?,
-        None => script,
-    };
-    let text = print_script(alloc, &script)?;
-    Ok(Some((text, places(alloc, &script)?)))
+fn is_printed(alloc: Global, script: &Script, canonical: &str) -> bool {
+    match print_script(alloc, script) {
+        Ok(text) => text.as_slice() == canonical.as_bytes(),
+        Err(_) => false,
+    }
+}
+
+// Whether the items stand in these lines, each of this analyst.
+fn has_places(script: &Script, places: &[(u32, u32)]) -> bool {
+    let mut i = 0;
+    for place in places {
+        if i >= script.len() {
+            return false;
+        }
+        let item = script.item(i);
+        if (item.line, item.analyst) != *place {
+            return false;
+        }
+        i = i.wrapping_add(1);
+    }
+    i == script.len()
+}
+
+fn is_own(alloc: Global, own: &Own) -> bool {
+    match own_script(alloc, own) {
+        Some(script) => is_printed(alloc, &script, own.canonical)
+            && has_places(&script, own.places),
+        None => false,
+    }
 }
 
 #[test]
-fn own_scripts_are_printed(rt: HostRuntime) -> Result<(), Fail> {
+fn own_scripts_are_printed(rt: HostRuntime) {
     for own in OWN_SCRIPTS {
-        let Some((text, places)) = own_text(rt.alloc(), own)? else {
-            panic!(rt; "a script is refused");
-        };
-        assert!(rt; text.as_slice() == own.canonical.as_bytes(), "{own:?}");
-        assert!(rt; places.as_slice() == own.places, "{own:?}");
+        assert!(rt; is_own(rt.alloc(), own), "{}", own.canonical);
     }
-    Ok(())
+}
+
+// The canonical text of a text of so many items.
+fn printed(alloc: Global, text: &[u8], items: u32) -> Option<Vec<u8>> {
+    let script = read_script(alloc, text).ok()?;
+    if script.len() != items {
+        return None;
+    }
+    print_script(alloc, &script).ok()
+}
+
+// Whether the canonical text of a text of so many items is that of itself.
+fn is_read_again(alloc: Global, text: &[u8], items: u32) -> bool {
+    let Some(once) = printed(alloc, text, items) else {
+        return false;
+    };
+    match printed(alloc, once.as_slice(), items) {
+        Some(again) => again.as_slice() == once.as_slice(),
+        None => false,
+    }
 }
 
 #[test]
 fn the_largest_script_is_read_again(rt: HostRuntime) -> Result<(), Fail> {
-    let alloc = rt.alloc();
     let pair =
         "analyst abcdefghijklmnop\nset abcdefghijklmnop at 4294967295 abcdefghijklmnop service 4294967295 4294967295\nanalyst main\nend b at 1\n";
-    let Ok(script) = read_script(alloc, lines(alloc, pair, 2_048)?.as_slice()) else {
-        panic!(rt; "a script is refused");
-    };
-    let text = print_script(alloc, &script)?;
-    let Ok(again) = read_script(alloc, text.as_slice()) else {
-        panic!(rt; "a canonical text is refused");
-    };
-    assert_eq!(rt; (script.len(), again.len()), (4_096, 4_096));
-    assert!(rt; print_script(alloc, &again)?.as_slice() == text.as_slice());
+    let text = lines(rt.alloc(), pair, 2_048)?;
+    assert!(rt; is_read_again(rt.alloc(), text.as_slice(), 4_096));
     Ok(())
-}
-
-#[test]
-fn items_are_what_the_lines_say(rt: HostRuntime) {
-    let text = b"analyst ada\nset base at 8 desk weight 2 30";
-    let Ok(script) = read_script(rt.alloc(), text) else {
-        panic!(rt; "a script is refused");
-    };
-    let (Some(who), Some(station)) = (Name::read(b"base"), Name::read(b"desk")) else {
-        panic!(rt; "a name is refused");
-    };
-    assert_eq!(rt; (script.len(), script.analysts()), (1, 2));
-    if script.len() == 1 && script.analysts() == 2 {
-        let change = Change {
-            param: Param::Weight,
-            a: 2,
-            b: 30,
-        };
-        let act = Act::Decide(Decision::Set {
-            who,
-            at: 8,
-            station,
-            change,
-        });
-        let item = Item {
-            line: 2,
-            analyst: 2,
-            act,
-        };
-        assert!(rt; script.item(0) == item);
-        assert!(rt; script.analyst(1).as_bytes() == b"main".as_slice());
-        assert!(rt; script.analyst(2).as_bytes() == b"ada".as_slice());
-    }
 }

@@ -6,46 +6,93 @@ use sim_outer::{
     PutFailed, Sink, Word,
 };
 use std::alloc::Global;
-use std::convert::AsStr;
 use std::path::PathBuf;
 use std::test::Fail;
 use std::{env, fs, process};
-
-fn length<S: AsStr>(text: &S) -> usize {
-    text.as_str().len()
-}
-
-#[test]
-fn a_word_is_a_text(rt: HostRuntime) -> Result<(), Fail> {
-    let word = Word::new(rt.alloc(), "--workers=4")?;
-    assert_eq!(rt; word.text(), "--workers=4");
-    assert_eq!(rt; length(&word), 11);
-    Ok(())
-}
 
 fn file(alloc: Global, name: &str, bytes: &[u8]) -> Result<(Word, Vec<u8>), NoMemory> {
     Ok((Word::new(alloc, name)?, Vec::from_slice(alloc, bytes)?))
 }
 
-/// Two files of one name, and a third.
-fn three_files(alloc: Global) -> Result<Vec<(Word, Vec<u8>)>, NoMemory> {
+/// Two files of one name, and a third; the third fetch fails.
+fn three_files(alloc: Global) -> Result<MemInputs, NoMemory> {
     let mut files = Vec::new(alloc);
     files.push(file(alloc, "a", b"first")?)?;
     files.push(file(alloc, "a", b"second")?)?;
     files.push(file(alloc, "b", b"other")?)?;
-    Ok(files)
+    MemInputs::new(alloc, files, Vec::from_slice(alloc, &[3u32])?)
+}
+
+/// Whether a fetch gives these bytes.
+fn gives<I: Inputs>(inputs: &mut I, alloc: Global, name: &str, bytes: &[u8]) -> bool {
+    match inputs.fetch(alloc, name) {
+        Ok(found) => found.as_slice() == bytes,
+        Err(_) => false,
+    }
+}
+
+/// Whether a fetch fails, and not since memory is refused.
+fn fails<I: Inputs>(inputs: &mut I, alloc: Global, name: &str) -> bool {
+    match inputs.fetch(alloc, name) {
+        Ok(_) => false,
+        Err(fault) => fault == FetchFault::Failed,
+    }
 }
 
 #[test]
 fn files_are_fetched_by_name(rt: HostRuntime) -> Result<(), Fail> {
-    let alloc = rt.alloc();
-    let failing = vec![in alloc; 3u32]?;
-    let mut inputs = MemInputs::new(alloc, three_files(alloc)?, failing)?;
-    assert_eq!(rt; inputs.fetch(alloc, "b")?.as_slice(), b"other".as_slice());
-    assert_eq!(rt; inputs.fetch(alloc, "a")?.as_slice(), b"first".as_slice());
-    assert!(rt; matches!(inputs.fetch(alloc, "a"), Err(FetchFault::Failed)));
-    assert_eq!(rt; inputs.fetch(alloc, "a")?.as_slice(), b"first".as_slice());
-    assert!(rt; matches!(inputs.fetch(alloc, "c"), Err(FetchFault::Failed)));
+    let mut inputs = three_files(rt.alloc())?;
+    assert!(rt; gives(&mut inputs, rt.alloc(), "b", b"other"));
+    assert!(rt; gives(&mut inputs, rt.alloc(), "a", b"first"));
+    assert!(rt; fails(&mut inputs, rt.alloc(), "a"), "the third call fails");
+    assert!(rt; gives(&mut inputs, rt.alloc(), "a", b"first"));
+    assert!(rt;
+        fails(&mut inputs, rt.alloc(), "c"),
+        "there is no such file"
+    );
+    Ok(())
+}
+
+/// A sink of so many bytes, of which the second call fails after so many.
+fn failing_sink(alloc: Global, capacity: usize, takes: usize) -> Result<MemSink, NoMemory> {
+    MemSink::new(alloc, capacity, Vec::from_slice(alloc, &[(2u32, takes)])?)
+}
+
+/// Whether a put fails, and leaves the sink with these bytes.
+fn is_cut(sink: &mut MemSink, piece: &[u8], bytes: &[u8]) -> bool {
+    sink.put(piece) == Err(PutFailed) && sink.bytes() == bytes
+}
+
+#[test]
+fn a_sink_takes_what_fits(rt: HostRuntime) -> Result<(), Fail> {
+    let mut sink = failing_sink(rt.alloc(), 8, 2)?;
+    assert!(rt; sink.put(b"abc").is_ok());
+    assert!(rt;
+        is_cut(&mut sink, b"defg", b"abcde"),
+        "the second call fails"
+    );
+    assert!(rt;
+        is_cut(&mut sink, b"fghi", b"abcdefgh"),
+        "there is no place for more"
+    );
+    assert!(rt; sink.put(b"").is_ok());
+    assert!(rt; is_cut(&mut sink, b"i", b"abcdefgh"));
+    assert!(rt; NullSink.put(b"abc").is_ok());
+    Ok(())
+}
+
+/// Whether two parts and the rest are taken.
+fn takes_parts<S: Sink>(sink: &mut S, parts: [&[u8]; 2], rest: &[u8]) -> bool {
+    sink.put_part(parts[0]).is_ok() && sink.put_part(parts[1]).is_ok() && sink.put(rest).is_ok()
+}
+
+#[test]
+fn parts_and_the_rest_are_one_call(rt: HostRuntime) -> Result<(), Fail> {
+    let mut sink = failing_sink(rt.alloc(), 64, 5)?;
+    assert!(rt; takes_parts(&mut sink, [b"clone ", b"base"], b"\n"));
+    assert!(rt; sink.put_part(b"3 g").is_ok() && sink.put_part(b"ate") == Err(PutFailed));
+    assert!(rt; sink.put(b"!").is_ok());
+    assert!(rt; sink.bytes() == b"clone base\n3 gat!".as_slice());
     Ok(())
 }
 
@@ -58,49 +105,14 @@ fn long_file(alloc: Global, size: usize) -> Result<Vec<u8>, NoMemory> {
     Ok(bytes)
 }
 
-#[test]
-fn a_long_file_is_cut(rt: HostRuntime) -> Result<(), Fail> {
-    let alloc = rt.alloc();
-    let mut files = Vec::new(alloc);
-    files.push((
-        Word::new(alloc, "long")?,
-        long_file(alloc, MOST_FETCHED + 1)?,
-    ))?;
-    let mut inputs = MemInputs::new(alloc, files, Vec::new(alloc))?;
-    let prefix = long_file(alloc, MOST_FETCHED)?;
-    assert!(rt; inputs.fetch(alloc, "long")?.as_slice() == prefix.as_slice());
-    Ok(())
-}
-
-#[test]
-fn a_sink_takes_what_fits(rt: HostRuntime) -> Result<(), Fail> {
-    let alloc = rt.alloc();
-    let failing = vec![in alloc; (2u32, 2usize)]?;
-    let mut sink = MemSink::new(alloc, 8, failing)?;
-    assert_eq!(rt; sink.put(b"abc"), Ok(()));
-    assert_eq!(rt; sink.put(b"defg"), Err(PutFailed));
-    assert_eq!(rt; sink.bytes(), b"abcde".as_slice());
-    assert_eq!(rt; sink.put(b"fghi"), Err(PutFailed));
-    assert_eq!(rt; sink.bytes(), b"abcdefgh".as_slice());
-    assert_eq!(rt; sink.put(b""), Ok(()));
-    assert_eq!(rt; sink.put(b"i"), Err(PutFailed));
-    assert_eq!(rt; NullSink.put(b"abc"), Ok(()));
-    Ok(())
-}
-
-#[test]
-fn parts_and_the_rest_are_one_call(rt: HostRuntime) -> Result<(), Fail> {
-    let alloc = rt.alloc();
-    let failing = vec![in alloc; (2u32, 5usize)]?;
-    let mut sink = MemSink::new(alloc, 64, failing)?;
-    assert_eq!(rt; sink.put_part(b"clone "), Ok(()));
-    assert_eq!(rt; sink.put_part(b"base"), Ok(()));
-    assert_eq!(rt; sink.put(b"\n"), Ok(()));
-    assert_eq!(rt; sink.put_part(b"3 g"), Ok(()));
-    assert_eq!(rt; sink.put_part(b"ate"), Err(PutFailed));
-    assert_eq!(rt; sink.put(b"!"), Ok(()));
-    assert_eq!(rt; sink.bytes(), b"clone base\n3 gat!".as_slice());
-    Ok(())
+/// Whether they are those of a long file from its beginning.
+fn begin_long_file(bytes: &[u8]) -> bool {
+    for (i, byte) in bytes.iter().enumerate() {
+        if usize::from(*byte) != i % 251 {
+            return false;
+        }
+    }
+    true
 }
 
 /// A path of this process alone.
@@ -110,45 +122,63 @@ fn path_of_own(rt: &HostRuntime, name: &str) -> Result<PathBuf, Fail> {
     Ok(env::temp_dir(rt)?.join(alloc, name.as_str())?)
 }
 
+/// Whether the real file of a path is these bytes.
+fn reads(rt: &HostRuntime, path: &PathBuf, bytes: &[u8]) -> bool {
+    gives(&mut FileInputs::new(rt), rt.alloc(), path.as_str(), bytes)
+}
+
+/// Whether it cannot be read.
+fn is_unread(rt: &HostRuntime, path: &PathBuf) -> bool {
+    fails(&mut FileInputs::new(rt), rt.alloc(), path.as_str())
+}
+
 #[test]
 fn real_files_are_read(rt: HostRuntime) -> Result<(), Fail> {
-    let alloc = rt.alloc();
     let path = path_of_own(&rt, "sim_outer")?;
-    let long = long_file(alloc, MOST_FETCHED + 1)?;
-    let prefix = long_file(alloc, MOST_FETCHED)?;
-    let mut inputs = FileInputs::new(&rt);
-    assert!(rt; matches!(inputs.fetch(alloc, path.as_str()), Err(FetchFault::Failed)));
+    assert!(rt; is_unread(&rt, &path), "there is no such file");
     fs::write(&rt, &path, b"short".as_slice())?;
-    assert_eq!(rt;
-        inputs.fetch(alloc, path.as_str())?.as_slice(),
-        b"short".as_slice()
-    );
-    fs::write(&rt, &path, long.as_slice())?;
-    assert!(rt; inputs.fetch(alloc, path.as_str())?.as_slice() == prefix.as_slice());
+    assert!(rt; reads(&rt, &path, b"short"));
     fs::remove_file(&rt, &path)?;
-    let directory = env::temp_dir(&rt)?;
-    assert!(rt;
-        matches!(
-            inputs.fetch(alloc, directory.as_str()),
-            Err(FetchFault::Failed)
-        )
-    );
+    Ok(())
+}
+
+/// Whether just the first bytes of a long file are fetched.
+fn is_read_cut(rt: &HostRuntime, path: &PathBuf) -> bool {
+    match FileInputs::new(rt).fetch(rt.alloc(), path.as_str()) {
+        Ok(bytes) => bytes.len() == MOST_FETCHED && begin_long_file(bytes.as_slice()),
+        Err(_) => false,
+    }
+}
+
+#[test]
+fn a_long_file_is_cut(rt: HostRuntime) -> Result<(), Fail> {
+    let path = path_of_own(&rt, "sim_outer_long")?;
+    fs::write(
+        &rt,
+        &path,
+        long_file(rt.alloc(), MOST_FETCHED + 1)?.as_slice(),
+    )?;
+    assert!(rt; is_read_cut(&rt, &path));
+    fs::remove_file(&rt, &path)?;
     Ok(())
 }
 
 #[test]
-fn real_output_takes_bytes(rt: HostRuntime) -> Result<(), Fail> {
+fn a_folder_is_not_read(rt: HostRuntime) -> Result<(), Fail> {
+    let folder = env::temp_dir(&rt)?;
+    assert!(rt; is_unread(&rt, &folder));
+    Ok(())
+}
+
+#[test]
+fn real_output_takes_bytes(rt: HostRuntime) {
     let mut sink = OutSink::new(&rt);
-    assert_eq!(rt; sink.put(b"a line of output\n"), Ok(()));
-    assert_eq!(rt; sink.put(b""), Ok(()));
-    Ok(())
+    assert!(rt; sink.put(b"a line of output\n").is_ok() && sink.put(b"").is_ok());
 }
 
 #[test]
-fn standard_error_takes_text(rt: HostRuntime) -> Result<(), Fail> {
+fn standard_error_takes_text(rt: HostRuntime) {
     let mut sink = ErrSink::new(&rt);
-    assert_eq!(rt; sink.put(b"a line of errors\n"), Ok(()));
-    assert_eq!(rt; sink.put(b""), Ok(()));
-    assert_eq!(rt; sink.put(b"\xff"), Err(PutFailed));
-    Ok(())
+    assert!(rt; sink.put(b"a line of errors\n").is_ok() && sink.put(b"").is_ok());
+    assert!(rt; sink.put(b"\xff") == Err(PutFailed));
 }

@@ -2,7 +2,7 @@
 ghost use Rattle.std.specs.Prelude.{◌≡◌, ◌<◌, ◌^◌, sum_by};
 
 use crate::counts::change;
-use net_model::read_model;
+use net_model::{Model, read_model};
 use sample_models::ONE_DESK;
 use sim_base::{Entry, Figures, Job, Key, Line, Msg, Name, Param, Payload};
 use std::alloc::Global;
@@ -58,16 +58,20 @@ fn job(source: u32, count: u64) -> Job {
 
 /// Whether the trace text of these entries is the expected one.
 fn writes(alloc: Global, model: &str, entries: &[Entry], expected: &str) -> bool {
-    let Ok(model) = read_model(alloc, model.as_bytes()) else {
-        return false;
-    };
     let Some(name) = Name::read(b"fast") else {
         return false;
     };
-    let Ok(text) = trace_text(alloc, &model, &name, entries) else {
-        return false;
-    };
-    text.as_slice() == expected.as_bytes()
+    match read_model(alloc, model.as_bytes()) {
+        Ok(model) => traces(alloc, &model, &name, entries, expected),
+        Err(_) => false,
+    }
+}
+
+fn traces(alloc: Global, model: &Model, name: &Name, entries: &[Entry], expected: &str) -> bool {
+    match trace_text(alloc, model, name, entries) {
+        Ok(text) => text.as_slice() == expected.as_bytes(),
+        Err(_) => false,
+    }
 }
 
 /// Whether the report text of these figures is the expected one.
@@ -81,10 +85,10 @@ fn reports(alloc: Global, figures: &[Figures], expected: &str) -> bool
     if figures.len() != model.len() as usize {
         return false;
     }
-    let Ok(text) = report_text(alloc, &model, figures) else {
-        return false;
-    };
-    text.as_slice() == expected.as_bytes()
+    match report_text(alloc, &model, figures) {
+        Ok(text) => text.as_slice() == expected.as_bytes(),
+        Err(_) => false,
+    }
 }
 
 #[test]

@@ -11,7 +11,7 @@ use Rattle.decision_script.specs.declared.item.Act.{Act}
 use Rattle.decision_script.specs.declared.item.Item.{Item}
 use Rattle.phys_proc.specs.Racks.{RackView}
 use Rattle.world_core.specs.Worlds.{WorldView}
-use Rattle.live_study.specs.Asking.{Seated}
+use Rattle.live_study.specs.Asking.{SeatedAnalyst}
 use Rattle.live_study.specs.Opening.{IsFresh, AreOpeningRacks, IsRackNow, numbers_to}
 use Rattle.live_study.specs.Scripts.{acts_by, each_acts, own_act}
 
@@ -83,7 +83,7 @@ pub mapped_more : {A B : Type 0} (f : A → B) (xs zs : List A) (x : A) (ys : Li
 mapped_more f xs zs x ys e h = ap (map f) e ∙ map-append f xs (x ∷ []) ∙ ap (λ l. l ++ f x ∷ []) h
 
 -- fresh analysts with one more that is fresh are all fresh
-pub fresh_more : (opening : List RackView) (xs zs : List Seated) (x : Seated) → zs ≡ xs ++ x ∷ []
+pub fresh_more : (opening : List RackView) (xs zs : List SeatedAnalyst) (x : SeatedAnalyst) → zs ≡ xs ++ x ∷ []
     → AllByRecursion (IsFresh opening) xs → IsFresh opening x → AllByRecursion (IsFresh opening) zs
 fresh_more opening xs zs x e all own =
     subst (AllByRecursion (IsFresh opening)) (sym e) (all_push (IsFresh opening) xs x all own)

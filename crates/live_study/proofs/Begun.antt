@@ -17,7 +17,7 @@ use Rattle.decision_book.specs.Journal.{Event}
 use Rattle.decision_desk.specs.Accounts.{Account, accounts_of, calls_by}
 use Rattle.decision_desk.specs.Passes.{HelmView, PassView, new_helm, new_pass, new_passes}
 use Rattle.world_core.specs.Worlds.{WorldView}
-use Rattle.live_study.specs.Asking.{AllAsked, AskedSo, IsReady, Seated}
+use Rattle.live_study.specs.Asking.{AllAsked, AskedSo, IsReady, SeatedAnalyst}
 use Rattle.live_study.specs.Asking.{decisions_asked, decisions_in, total_todo}
 use Rattle.live_study.specs.Engines.{InStep}
 use Rattle.live_study.specs.Lives.{IsAllAsked}
@@ -71,7 +71,7 @@ total_of-push : (xs : List (List Act)) (ds : List Act) → total_of (xs ++ ds �
 total_of-push [] ds = omega arith
 total_of-push (x ∷ xs) ds = omega (arith, total_of-push xs ds)
 
-total_is : (analysts : List Seated) → total_todo analysts ≡ total_of (map (λ (a : Seated). a.0.todo.items) analysts)
+total_is : (analysts : List SeatedAnalyst) → total_todo analysts ≡ total_of (map (λ (a : SeatedAnalyst). a.0.todo.items) analysts)
 total_is [] = refl
 total_is (a ∷ more) = omega (arith, total_is more)
 
@@ -116,16 +116,16 @@ total_of-items [] n = omega (arith, total_of-no_items n)
 total_of-items (i ∷ is) n = omega (arith, total_of-item i is n, at_most_one (nat_le i.analyst n), total_of-items is n)
 
 -- all together ask no more than the script has items
-pub few_todo : (items : List Item) (analysts : List Seated) (n : ℕ)
-    → map (λ (a : Seated). a.0.todo.items) analysts ≡ each_acts items n → length items ≤ 4096
+pub few_todo : (items : List Item) (analysts : List SeatedAnalyst) (n : ℕ)
+    → map (λ (a : SeatedAnalyst). a.0.todo.items) analysts ≡ each_acts items n → length items ≤ 4096
     → total_todo analysts ≤ 4096
 few_todo items analysts n are few = let same = ap total_of are in
     omega (arith, total_is analysts, same, total_of-items items n, few)
 
 -- ---- what a run begins with
-pub many_analysts : (desk : TableId) (net : Net) (n : ℕ) (passes : List PassView) (analysts : List Seated)
-    → map (λ (a : Seated). a.0.pass) analysts ≡ passes → passes ≡ new_passes desk net n → length analysts ≡ n
-many_analysts desk net n passes analysts are new = sym (length-map analysts (λ (a : Seated). a.0.pass))
+pub many_analysts : (desk : TableId) (net : Net) (n : ℕ) (passes : List PassView) (analysts : List SeatedAnalyst)
+    → map (λ (a : SeatedAnalyst). a.0.pass) analysts ≡ passes → passes ≡ new_passes desk net n → length analysts ≡ n
+many_analysts desk net n passes analysts are new = sym (length-map analysts (λ (a : SeatedAnalyst). a.0.pass))
     ∙ ap length (are ∙ new) ∙ length-new_passes desk net n
 
 ready_new : (desk : TableId) (net : Net) (x : ℕ) (p : PassView) → p ≡ new_pass desk net x
@@ -134,13 +134,13 @@ ready_new desk net x p is = subst (λ (q : PassView). (q.desk ≡ desk) × Asked
     (refl, record { all = λ e. refl; few = omega arith; fewer = λ e. absurd cc })
 
 -- analysts with new passes of a desk have asked nothing there yet
-pub all_ready : (desk : TableId) (net : Net) (n : ℕ) (passes : List PassView) (analysts : List Seated)
-    → map (λ (a : Seated). a.0.pass) analysts ≡ passes → passes ≡ new_passes desk net n
-    → (k : ℕ) (d : Seated) → k < length analysts → IsReady desk (get_or analysts k d).0
+pub all_ready : (desk : TableId) (net : Net) (n : ℕ) (passes : List PassView) (analysts : List SeatedAnalyst)
+    → map (λ (a : SeatedAnalyst). a.0.pass) analysts ≡ passes → passes ≡ new_passes desk net n
+    → (k : ℕ) (d : SeatedAnalyst) → k < length analysts → IsReady desk (get_or analysts k d).0
 all_ready desk net n passes analysts are new k d less =
     let len = many_analysts desk net n passes analysts are new in
     let own : (get_or analysts k d).0.pass ≡ new_pass desk net (k + 1) =
-    sym (get_or-map (λ (a : Seated). a.0.pass) analysts k d d.0.pass less)
+    sym (get_or-map (λ (a : SeatedAnalyst). a.0.pass) analysts k d d.0.pass less)
     ∙ ap (λ ps. get_or ps k d.0.pass) (are ∙ new) ∙ new_passes-at desk net n k d.0.pass
     (omega (arith, less, len)) in
     let r = ready_new desk net (k + 1) (get_or analysts k d).0.pass own in
@@ -155,10 +155,10 @@ begins_in_step desk net n h w is begins =
     (record { net = refl; clones = refl; front = refl }))
 
 -- ---- what the journal says of the script
-asked_at : (events : List Event) (analysts : List Seated) → AllAsked events analysts
+asked_at : (events : List Event) (analysts : List SeatedAnalyst) → AllAsked events analysts
     → (k : ℕ) (p : PassView) (t : List Act) → k < length analysts
-    → decisions_in (calls_by (get_or (map (λ (a : Seated). a.0.pass) analysts) k p).account.caller events)
-    ≡ decisions_asked (get_or (map (λ (a : Seated). a.0.todo.items) analysts) k t)
+    → decisions_in (calls_by (get_or (map (λ (a : SeatedAnalyst). a.0.pass) analysts) k p).account.caller events)
+    ≡ decisions_asked (get_or (map (λ (a : SeatedAnalyst). a.0.todo.items) analysts) k t)
 asked_at events [] all k p t less = absurd (omega (arith, less))
 asked_at events (a ∷ more) all zero p t less = all.0
 asked_at events (a ∷ more) all (suc k) p t less = asked_at events more all.1 k p t (omega (arith, less))
@@ -184,10 +184,10 @@ no_account desk net (suc n) x h =
     ∙ omega (arith, last, no_account desk net n x before)
 
 -- where analysts with new passes have asked all acts of the script, the journal is one of the script
-pub journal_of_script : (desk : TableId) (net : Net) (s : ScriptView) (passes : List PassView) (analysts : List Seated)
-    (book : BookView) → map (λ (a : Seated). a.0.pass) analysts ≡ passes
+pub journal_of_script : (desk : TableId) (net : Net) (s : ScriptView) (passes : List PassView) (analysts : List SeatedAnalyst)
+    (book : BookView) → map (λ (a : SeatedAnalyst). a.0.pass) analysts ≡ passes
     → passes ≡ new_passes desk net (length s.analysts)
-    → map (λ (a : Seated). a.0.todo.items) analysts ≡ each_acts s.items (length s.analysts)
+    → map (λ (a : SeatedAnalyst). a.0.todo.items) analysts ≡ each_acts s.items (length s.analysts)
     → IsAllAsked net analysts book → IsJournalOf net s book
 journal_of_script desk net s passes analysts book are new todo asked =
     let n = length s.analysts in
@@ -199,10 +199,10 @@ journal_of_script desk net s passes analysts book are new todo asked =
           let back : a - 1 + 1 ≡ a = omega (arith, low) in
           let p : PassView = new_pass desk net 0 in
           let below : a - 1 < n = omega (arith, low, high) in
-          let caller : (get_or (map (λ (x : Seated). x.0.pass) analysts) (a - 1) p).account.caller ≡ a =
+          let caller : (get_or (map (λ (x : SeatedAnalyst). x.0.pass) analysts) (a - 1) p).account.caller ≡ a =
           ap (λ (q : PassView). q.account.caller) (ap (λ ps. get_or ps (a - 1) p) (are ∙ new)
           ∙ new_passes-at desk net n (a - 1) p below) ∙ back in
-          let own : get_or (map (λ (x : Seated). x.0.todo.items) analysts) (a - 1) [] ≡ acts_by a s.items =
+          let own : get_or (map (λ (x : SeatedAnalyst). x.0.todo.items) analysts) (a - 1) [] ≡ acts_by a s.items =
           ap (λ ts. get_or ts (a - 1) []) todo ∙ each_acts-at s.items n (a - 1) [] below
           ∙ ap (λ k. acts_by k s.items) back in
           ap (λ x. decisions_in (calls_by x book.events)) (sym caller) ∙ asked_at book.events analysts asked.asked_all

@@ -8,7 +8,7 @@ use Rattle.sim_base.proofs.ListLaws.{all_push}
 use Rattle.net_model.specs.Net.{Net}
 use Rattle.phys_proc.specs.Racks.{RackView}
 use Rattle.shelf.specs.Racks.{AreLegal}
-use Rattle.live_study.specs.Asking.{Seated}
+use Rattle.live_study.specs.Asking.{SeatedAnalyst}
 use Rattle.live_study.specs.Looks.{AreCaughtUp, IsAt, IsCaughtUp}
 use Rattle.live_study.specs.Showing.{AllCaughtUp}
 
@@ -24,9 +24,9 @@ caught_more front told read seat n legal begins known last before s low high = �
     (cases_lt s (n + 1))
 
 -- one seat more is caught up
-pub all_caught_more : (net : Net) (published : List RackView) (done : List Seated) (a : Seated)
+pub all_caught_more : (net : Net) (published : List RackView) (done : List SeatedAnalyst) (a : SeatedAnalyst)
     → AllCaughtUp net published done → AreCaughtUp net published a.1 → AllCaughtUp net published (done ++ a ∷ [])
-all_caught_more net published done a all one = all_push (λ (b : Seated). AreCaughtUp net published b.1) done a all one
+all_caught_more net published done a all one = all_push (λ (b : SeatedAnalyst). AreCaughtUp net published b.1) done a all one
 
 -- ---- what is gathered
 -- one image more behind those that were there

@@ -15,7 +15,7 @@ use Rattle.decision_desk.specs.Passes.{HelmView, IsClosed, PassView}
 use Rattle.decision_desk.proofs.Leasts.{front_is}
 use Rattle.world_core.specs.Worlds.{WorldView}
 use Rattle.study_run.specs.declared.fault.StudyFault.{StudyFault}
-use Rattle.live_study.specs.Asking.{Seated, decisions_asked, decisions_in, IsDone, IsSameAnalyst}
+use Rattle.live_study.specs.Asking.{SeatedAnalyst, decisions_asked, decisions_in, IsDone, IsSameAnalyst}
 use Rattle.live_study.specs.Asking.{accounts_in, total_todo, AllDone, AllAsked}
 use Rattle.live_study.specs.Engines.{InStep, Steers}
 use Rattle.live_study.specs.Lives.{IsAllAsked, IsAtHorizon}
@@ -67,22 +67,22 @@ covered n (c ∷ cs) others' others =
     (others x e)) in
     omega (arith, sum_more n c cs others', has, more)
 
-abbrev total_calls : List Seated → ℕ
+abbrev total_calls : List SeatedAnalyst → ℕ
 total_calls [] = 0
 total_calls (a ∷ others') = length a.0.pass.account.calls + total_calls others'
 
-sums_same : (events : List Event) (others' : List Seated) → AreAccounts events (accounts_in others')
+sums_same : (events : List Event) (others' : List SeatedAnalyst) → AreAccounts events (accounts_in others')
     → sum_calls 0 (calls_of events) (accounts_in others') ≡ total_calls others'
 sums_same events [] all = refl
 sums_same events (a ∷ others') all = omega (arith, ap length all.0.calls, sums_same events others' all.1)
 
-few_calls : (desk : TableId) (others' : List Seated) → AllDone desk others' → total_calls others' ≤ total_todo others'
+few_calls : (desk : TableId) (others' : List SeatedAnalyst) → AllDone desk others' → total_calls others' ≤ total_todo others'
 few_calls desk [] all = omega arith
 few_calls desk (a ∷ others') all =
     omega (arith, all.0.all.few, length-decisions_asked a.0.todo.items, few_calls desk others' all.1)
 
 -- where all calls together are as many as a journal holds, none of these was answered Full
-asked_each : (desk : TableId) (events : List Event) (before : ℕ) (others' : List Seated) → AllDone desk others'
+asked_each : (desk : TableId) (events : List Event) (before : ℕ) (others' : List SeatedAnalyst) → AllDone desk others'
     → AreAccounts events (accounts_in others')
     → ((e : length (calls_of events) ≡ 4096) → 4096 ≤ before + total_calls others')
     → before + total_todo others' ≤ 4096 → AllAsked events others'
@@ -109,7 +109,7 @@ asked_each desk events before (a ∷ others') all right whole few =
     is_false false h = refl
 
 -- where all have asked all, few enough for a journal, each one's calls in it are that one's decisions
-pub all_asked : (desk : TableId) (events : List Event) (others' : List Seated) → AllDone desk others'
+pub all_asked : (desk : TableId) (events : List Event) (others' : List SeatedAnalyst) → AllDone desk others'
     → AreAccounts events (accounts_in others')
     → ((x : ℕ) → accounts_of x (accounts_in others') ≡ 0 → calls_by x events ≡ [])
     → total_todo others' ≤ 4096 → AllAsked events others'
@@ -123,18 +123,18 @@ all_asked desk events others' all right others few =
     )) (omega (arith, few))
 
 -- the index form of a fact on each analyst
-pub all_done : (desk : TableId) (others' : List Seated)
-    → ((i : ℕ) (d : Seated) → i < length others' → IsDone desk (slice_index_or others' i d).0) → AllDone desk others'
+pub all_done : (desk : TableId) (others' : List SeatedAnalyst)
+    → ((i : ℕ) (d : SeatedAnalyst) → i < length others' → IsDone desk (slice_index_or others' i d).0) → AllDone desk others'
 all_done desk [] each = tt
 all_done desk (a ∷ others') each =
     (each 0 a (omega arith), all_done desk others' (λ i d less. each (suc i) d (omega (arith, less))))
 
-abbrev SameAt : List Seated → List Seated → Type 0
-SameAt old new = (i : ℕ) (d : Seated) → i < length old
+abbrev SameAt : List SeatedAnalyst → List SeatedAnalyst → Type 0
+SameAt old new = (i : ℕ) (d : SeatedAnalyst) → i < length old
     → IsSameAnalyst (slice_index_or old i d).0 (slice_index_or new i d).0
 
 -- what was asked is what was to be asked before the run
-asked_before : (events : List Event) (old new : List Seated) → length new ≡ length old → SameAt old new
+asked_before : (events : List Event) (old new : List SeatedAnalyst) → length new ≡ length old → SameAt old new
     → AllAsked events new → AllAsked events old
 asked_before events [] new len same all = tt
 asked_before events (a ∷ old) [] len same all = absurd (omega (arith, len))
@@ -144,7 +144,7 @@ asked_before events (a ∷ old) (b ∷ new) len same all =
       asked_before events old new (omega (arith, len)) (λ i d less. same (suc i) d (omega (arith, less))) all.1,
     )
 
-callers_before : (x : ℕ) (old new : List Seated) → length new ≡ length old → SameAt old new
+callers_before : (x : ℕ) (old new : List SeatedAnalyst) → length new ≡ length old → SameAt old new
     → accounts_of x (accounts_in new) ≡ accounts_of x (accounts_in old)
 callers_before x [] [] len same = refl
 callers_before x [] (b ∷ new) len same = absurd (omega (arith, len))
@@ -155,7 +155,7 @@ callers_before x (a ∷ old) (b ∷ new) len same =
     ∙ ap (λ n. (if nat_eq a.0.pass.account.caller x then 1 else 0) + n)
     (callers_before x old new (omega (arith, len)) (λ i d less. same (suc i) d (omega (arith, less))))
 
-todo_before : (old new : List Seated) → length new ≡ length old → SameAt old new → total_todo new ≡ total_todo old
+todo_before : (old new : List SeatedAnalyst) → length new ≡ length old → SameAt old new → total_todo new ≡ total_todo old
 todo_before [] [] len same = refl
 todo_before [] (b ∷ new) len same = absurd (omega (arith, len))
 todo_before (a ∷ old) [] len same = absurd (omega (arith, len))
@@ -170,15 +170,15 @@ todo_before (a ∷ old) (b ∷ new) len same =
 
 -- ---- a run that is closed
 -- the passes of analysts that have asked all are of the desk
-pub of_desk : (desk : TableId) (analysts : List Seated) → AllDone desk analysts → (k : ℕ) (d : PassView)
-    → k < length (map (λ (a : Seated). a.0.pass) analysts)
-    → (slice_index_or (map (λ (a : Seated). a.0.pass) analysts) k d).desk ≡ desk
+pub of_desk : (desk : TableId) (analysts : List SeatedAnalyst) → AllDone desk analysts → (k : ℕ) (d : PassView)
+    → k < length (map (λ (a : SeatedAnalyst). a.0.pass) analysts)
+    → (slice_index_or (map (λ (a : SeatedAnalyst). a.0.pass) analysts) k d).desk ≡ desk
 of_desk desk [] all k d less = absurd (omega (arith, less))
 of_desk desk (a ∷ more) all zero d less = all.0.desk_is
 of_desk desk (a ∷ more) all (suc k) d less = of_desk desk more all.1 k d (omega (arith, less))
 
 -- the accounts of the analysts' passes are the accounts of the analysts
-pub accounts_are : (analysts : List Seated) → map (λ p. p.account) (map (λ (a : Seated). a.0.pass) analysts)
+pub accounts_are : (analysts : List SeatedAnalyst) → map (λ p. p.account) (map (λ (a : SeatedAnalyst). a.0.pass) analysts)
     ≡ accounts_in analysts
 accounts_are [] = refl
 accounts_are (a ∷ more) = ap (λ l. a.0.pass.account ∷ l) (accounts_are more)
@@ -188,9 +188,9 @@ abbrev pub closing : HelmView → List PassView → HelmView
 closing helm passes = record helm { parts = 17; accounts = helm.accounts ++ map (λ p. p.account) passes }
 
 -- all that analysts had to ask is in the journal
-all_asked_in : (desk : TableId) (helm0 helm1 : HelmView) (new : List Seated) (passes : List PassView) (book : BookView)
+all_asked_in : (desk : TableId) (helm0 helm1 : HelmView) (new : List SeatedAnalyst) (passes : List PassView) (book : BookView)
     → Steers helm0 helm1 → helm0.accounts ≡ []
-    → passes ≡ map (λ (a : Seated). a.0.pass) new → IsClosed (closing helm1 passes) book → AllDone desk new
+    → passes ≡ map (λ (a : SeatedAnalyst). a.0.pass) new → IsClosed (closing helm1 passes) book → AllDone desk new
     → total_todo new ≤ 4096 → IsRight book.net book.events → GoesOn book.net book.events
     → IsAllAsked helm0.net new book
 all_asked_in desk helm0 helm1 new passes book steers fresh are closed done few right goes =
@@ -209,11 +209,11 @@ all_asked_in desk helm0 helm1 new passes book steers fresh are closed done few r
     }
 
 -- and so is all that they had to ask as they stood before the run
-pub asked_in : (desk : TableId) (helm0 helm1 : HelmView) (old new : List Seated) (passes : List PassView)
+pub asked_in : (desk : TableId) (helm0 helm1 : HelmView) (old new : List SeatedAnalyst) (passes : List PassView)
     (book : BookView) → Steers helm0 helm1 → helm0.accounts ≡ []
-    → passes ≡ map (λ (a : Seated). a.0.pass) new → IsClosed (closing helm1 passes) book
+    → passes ≡ map (λ (a : SeatedAnalyst). a.0.pass) new → IsClosed (closing helm1 passes) book
     → IsRight book.net book.events → GoesOn book.net book.events
-    → length new ≡ length old → ((i : ℕ) (d : Seated) → i < length old → IsDone desk (slice_index_or new i d).0)
+    → length new ≡ length old → ((i : ℕ) (d : SeatedAnalyst) → i < length old → IsDone desk (slice_index_or new i d).0)
     → SameAt old new → total_todo old ≤ 4096
     → IsAllAsked helm0.net old book
 asked_in desk helm0 helm1 old new passes book steers fresh are closed right goes len done same few =

@@ -14,7 +14,7 @@ use Rattle.decision_script.specs.declared.item.Item.{Item}
 use Rattle.decision_script.specs.Stating.{ScriptView}
 use Rattle.decision_book.specs.Journal.{Event}
 use Rattle.journal_text.specs.declared.looked.Looked.{Looked}
-use Rattle.live_study.specs.Asking.{Seated}
+use Rattle.live_study.specs.Asking.{SeatedAnalyst}
 use Rattle.live_study.specs.Lives.{AreTrueLooks, all_looks, looks_made}
 use Rattle.live_study.specs.Looks.{AreLooks, HasMadeLooks, IsNoEarlier, NeverFall, asked_for}
 use Rattle.live_study.specs.Opening.{numbers_to}
@@ -74,8 +74,8 @@ AreOfEach [] (r ∷ rs) = ⊥
 AreOfEach (x ∷ xs) [] = ⊥
 AreOfEach (x ∷ xs) (r ∷ rs) = AreOf x r.items × AreOfEach xs rs
 
-each_own : (seated : List Seated) (looks : List (ReservedView Looked)) → looks_made looks ≡ looks_to_make seated
-    → AreOfEach (map (λ (a : Seated). a.0.number) seated) looks
+each_own : (seated : List SeatedAnalyst) (looks : List (ReservedView Looked)) → looks_made looks ≡ looks_to_make seated
+    → AreOfEach (map (λ (a : SeatedAnalyst). a.0.number) seated) looks
 each_own [] [] e = tt
 each_own [] (r ∷ rs) e = absurd (cc)
 each_own (a ∷ more) [] e = absurd (cc)
@@ -129,9 +129,9 @@ looks_of_each [] todo = []
 looks_of_each (x ∷ xs) [] = []
 looks_of_each (x ∷ xs) (acts ∷ todo) = looks_in x acts ∷ looks_of_each xs todo
 
-to_make_is : (seated : List Seated)
-    → looks_to_make seated ≡ looks_of_each (map (λ (a : Seated). a.0.number) seated)
-    (map (λ (a : Seated). a.0.todo.items) seated)
+to_make_is : (seated : List SeatedAnalyst)
+    → looks_to_make seated ≡ looks_of_each (map (λ (a : SeatedAnalyst). a.0.number) seated)
+    (map (λ (a : SeatedAnalyst). a.0.todo.items) seated)
 to_make_is [] = refl
 to_make_is (a ∷ more) = ap (λ qs. looks_in a.0.number a.0.todo.items ∷ qs) (to_make_is more)
 
@@ -154,19 +154,19 @@ in_script_order items (suc n) =
     ∙ ap₂ (λ us vs. us ++ vs) (in_script_order items n) (append-nil own)
 
 -- all looks of the script were made, in order
-pub made_of_script : (s : ScriptView) (n : ℕ) (seated : List Seated) (looks : List (ReservedView Looked))
-    → n ≡ length s.analysts → map (λ (a : Seated). a.0.number) seated ≡ numbers_to n
-    → map (λ (a : Seated). a.0.todo.items) seated ≡ each_acts s.items n
+pub made_of_script : (s : ScriptView) (n : ℕ) (seated : List SeatedAnalyst) (looks : List (ReservedView Looked))
+    → n ≡ length s.analysts → map (λ (a : SeatedAnalyst). a.0.number) seated ≡ numbers_to n
+    → map (λ (a : SeatedAnalyst). a.0.todo.items) seated ≡ each_acts s.items n
     → looks_made looks ≡ looks_to_make seated → HasMadeLooks s (all_looks looks)
 made_of_script s n seated looks many numbers todo made =
     made_in_order looks ∙ ap joined (made ∙ to_make_is seated ∙ ap₂ looks_of_each numbers todo)
     ∙ in_script_order s.items n ∙ ap (each_looks s.items) many
 
 -- and at the horizon they are the looks of the script over the journal
-pub looks_of_script : (net : Net) (s : ScriptView) (n : ℕ) (events : List Event) (seated : List Seated)
+pub looks_of_script : (net : Net) (s : ScriptView) (n : ℕ) (events : List Event) (seated : List SeatedAnalyst)
     (looks : List (ReservedView Looked)) → n ≡ length s.analysts
-    → map (λ (a : Seated). a.0.number) seated ≡ numbers_to n
-    → map (λ (a : Seated). a.0.todo.items) seated ≡ each_acts s.items n
+    → map (λ (a : SeatedAnalyst). a.0.number) seated ≡ numbers_to n
+    → map (λ (a : SeatedAnalyst). a.0.todo.items) seated ≡ each_acts s.items n
     → looks_made looks ≡ looks_to_make seated → AreTrueLooks net events looks → AreLooks net s events (all_looks looks)
 looks_of_script net s n events seated looks many numbers todo made told = record {
   made = made_of_script s n seated looks many numbers todo made;

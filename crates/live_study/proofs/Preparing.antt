@@ -16,7 +16,7 @@ use Rattle.shelf.proofs.Legals.{latest-all, opens}
 use Rattle.journal_text.specs.declared.looked.Looked.{Looked}
 use Rattle.world_core.specs.Worlds.{WorldView}
 use Rattle.live_study.specs.declared.prepared.Prepared.{Prepared}
-use Rattle.live_study.specs.Asking.{IsReady, Seated, total_todo}
+use Rattle.live_study.specs.Asking.{IsReady, SeatedAnalyst, total_todo}
 use Rattle.live_study.specs.Closing.{HasReservedFor}
 use Rattle.live_study.specs.Lives.{AreTrueLooks, IsAllAsked, all_looks, looks_made}
 use Rattle.live_study.specs.Looks.{AreLooks, HasMadeLooks, HasRacks, IsRackOf, IsRead, NeverFall, asked_for}
@@ -98,15 +98,15 @@ shown_first net many p published h e = subst (AreShownOf p.helm p.world) (sym e)
 })
 
 -- ---- the analysts
-pub all_parts : (net : Net) (many : ℕ) (p : Prepared) (seated : List Seated) → IsPrepared net many p → many ≤ 16
-    → map (λ (a : Seated). a.0.pass) seated ≡ p.passes.items → p.helm.parts + length seated ≡ 17
+pub all_parts : (net : Net) (many : ℕ) (p : Prepared) (seated : List SeatedAnalyst) → IsPrepared net many p → many ≤ 16
+    → map (λ (a : SeatedAnalyst). a.0.pass) seated ≡ p.passes.items → p.helm.parts + length seated ≡ 17
 all_parts net many p seated h few are =
     let len = many_analysts p.desk.table.shared.table_id net many p.passes.items seated are h.passes in
     let parts = ap (λ (x : HelmView). x.parts) h.helm in
     omega (arith, parts, len, few)
 
 -- an analyst that has seen nothing has made no looks
-none_made : (net : Net) (a : Seated) (opening : List RackView) → IsFresh opening a → HasRacks net opening
+none_made : (net : Net) (a : SeatedAnalyst) (opening : List RackView) → IsFresh opening a → HasRacks net opening
     → HasLooked net [] a × HasReserved a.0
 none_made net a opening f there = (
   record {
@@ -119,9 +119,9 @@ none_made net a opening f there = (
 )
 
 -- so each analyst has asked nothing and made no looks yet, and has memory reserved for all its looks
-pub each_ready : (net : Net) (many : ℕ) (p : Prepared) (seated : List Seated) → IsPrepared net many p
-    → map (λ (a : Seated). a.0.pass) seated ≡ p.passes.items → AllByRecursion (IsFresh p.racks.items) seated
-    → (k : ℕ) (d : Seated) → k < length seated
+pub each_ready : (net : Net) (many : ℕ) (p : Prepared) (seated : List SeatedAnalyst) → IsPrepared net many p
+    → map (λ (a : SeatedAnalyst). a.0.pass) seated ≡ p.passes.items → AllByRecursion (IsFresh p.racks.items) seated
+    → (k : ℕ) (d : SeatedAnalyst) → k < length seated
     → IsReady p.desk.table.shared.table_id (get_or seated k d).0 × HasLooked net [] (get_or seated k d)
     × HasReserved (get_or seated k d).0
 each_ready net many p seated h are fresh k d less =
@@ -133,30 +133,30 @@ each_ready net many p seated h are fresh k d less =
     )
 
 -- what they have to do, by the number of passes and by that of analysts
-own_todo : (net : Net) (s : ScriptView) (p : Prepared) (seated : List Seated) → IsPrepared net (length s.analysts) p
-    → map (λ (a : Seated). a.0.todo.items) seated ≡ each_acts s.items (length p.passes.items)
-    → map (λ (a : Seated). a.0.todo.items) seated ≡ each_acts s.items (length s.analysts)
+own_todo : (net : Net) (s : ScriptView) (p : Prepared) (seated : List SeatedAnalyst) → IsPrepared net (length s.analysts) p
+    → map (λ (a : SeatedAnalyst). a.0.todo.items) seated ≡ each_acts s.items (length p.passes.items)
+    → map (λ (a : SeatedAnalyst). a.0.todo.items) seated ≡ each_acts s.items (length s.analysts)
 own_todo net s p seated h todo = todo ∙ ap (each_acts s.items) (many_passes net (length s.analysts) p h)
 
 -- analysts of a script of at most 4096 items have at most 4096 acts together
-pub little_todo : (net : Net) (s : ScriptView) (p : Prepared) (seated : List Seated)
+pub little_todo : (net : Net) (s : ScriptView) (p : Prepared) (seated : List SeatedAnalyst)
     → IsPrepared net (length s.analysts) p → length s.items ≤ 4096
-    → map (λ (a : Seated). a.0.todo.items) seated ≡ each_acts s.items (length p.passes.items)
+    → map (λ (a : SeatedAnalyst). a.0.todo.items) seated ≡ each_acts s.items (length p.passes.items)
     → total_todo seated ≤ 4096
 little_todo net s p seated h few todo =
     few_todo s.items seated (length s.analysts) (own_todo net s p seated h todo) few
 
 -- what was prepared has free places for what these analysts leave
-pub enough_reserved : (net : Net) (many : ℕ) (p : Prepared) (seated : List Seated) → IsPrepared net many p
-    → map (λ (a : Seated). a.0.pass) seated ≡ p.passes.items → HasReservedFor (length seated) p.reserve
+pub enough_reserved : (net : Net) (many : ℕ) (p : Prepared) (seated : List SeatedAnalyst) → IsPrepared net many p
+    → map (λ (a : SeatedAnalyst). a.0.pass) seated ≡ p.passes.items → HasReservedFor (length seated) p.reserve
 enough_reserved net many p seated h are =
     let len = many_analysts p.desk.table.shared.table_id net many p.passes.items seated are h.passes in
     subst (λ n. HasReservedFor n p.reserve) (sym len) h.reserve
 
 -- ---- the journal
-pub journal_is : (net : Net) (s : ScriptView) (p : Prepared) (seated : List Seated) (book : BookView)
-    → IsPrepared net (length s.analysts) p → map (λ (a : Seated). a.0.pass) seated ≡ p.passes.items
-    → map (λ (a : Seated). a.0.todo.items) seated ≡ each_acts s.items (length p.passes.items)
+pub journal_is : (net : Net) (s : ScriptView) (p : Prepared) (seated : List SeatedAnalyst) (book : BookView)
+    → IsPrepared net (length s.analysts) p → map (λ (a : SeatedAnalyst). a.0.pass) seated ≡ p.passes.items
+    → map (λ (a : SeatedAnalyst). a.0.todo.items) seated ≡ each_acts s.items (length p.passes.items)
     → IsAllAsked p.helm.net seated book → IsJournalOf net s book
 journal_is net s p seated book h are todo asked =
     journal_of_script p.desk.table.shared.table_id net s p.passes.items seated book are h.passes
@@ -164,19 +164,19 @@ journal_is net s p seated book h are todo asked =
     (subst (λ (n : Net). IsAllAsked n seated book) (helm_net net (length s.analysts) p h) asked)
 
 -- ---- the looks
-pub made_are : (net : Net) (s : ScriptView) (p : Prepared) (seated : List Seated) (looks : List (ReservedView Looked))
+pub made_are : (net : Net) (s : ScriptView) (p : Prepared) (seated : List SeatedAnalyst) (looks : List (ReservedView Looked))
     → IsPrepared net (length s.analysts) p
-    → map (λ (a : Seated). a.0.number) seated ≡ numbers_to (length p.passes.items)
-    → map (λ (a : Seated). a.0.todo.items) seated ≡ each_acts s.items (length p.passes.items)
+    → map (λ (a : SeatedAnalyst). a.0.number) seated ≡ numbers_to (length p.passes.items)
+    → map (λ (a : SeatedAnalyst). a.0.todo.items) seated ≡ each_acts s.items (length p.passes.items)
     → looks_made looks ≡ looks_to_make seated → HasMadeLooks s (all_looks looks)
 made_are net s p seated looks h numbers todo made =
     made_of_script s (length p.passes.items) seated looks (many_passes net (length s.analysts) p h) numbers todo made
 
 -- looks that are made as the script asks, and told truly, are the looks of the script over the journal
-pub looks_are : (net : Net) (s : ScriptView) (p : Prepared) (seated : List Seated) (events : List Event)
+pub looks_are : (net : Net) (s : ScriptView) (p : Prepared) (seated : List SeatedAnalyst) (events : List Event)
     (looks : List (ReservedView Looked)) → IsPrepared net (length s.analysts) p
-    → map (λ (a : Seated). a.0.number) seated ≡ numbers_to (length p.passes.items)
-    → map (λ (a : Seated). a.0.todo.items) seated ≡ each_acts s.items (length p.passes.items)
+    → map (λ (a : SeatedAnalyst). a.0.number) seated ≡ numbers_to (length p.passes.items)
+    → map (λ (a : SeatedAnalyst). a.0.todo.items) seated ≡ each_acts s.items (length p.passes.items)
     → looks_made looks ≡ looks_to_make seated → AreTrueLooks p.helm.net events looks
     → AreLooks net s events (all_looks looks)
 looks_are net s p seated events looks h numbers todo made told =

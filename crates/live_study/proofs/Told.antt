@@ -13,7 +13,7 @@ use Rattle.phys_proc.specs.Racks.{RackView}
 use Rattle.journal_text.specs.declared.looked.Looked.{Looked}
 use Rattle.world_core.specs.Worlds.{WorldView}
 use Rattle.study_run.specs.declared.fault.StudyFault.{StudyFault}
-use Rattle.live_study.specs.Asking.{IsSameAnalyst, Seated}
+use Rattle.live_study.specs.Asking.{IsSameAnalyst, SeatedAnalyst}
 use Rattle.live_study.specs.Engines.{InStep}
 use Rattle.live_study.specs.Lives.{AreTrueLooks, all_looks, looks_made}
 use Rattle.live_study.specs.Looks.{IsRead, IsTrueLook, NeverFall}
@@ -22,30 +22,30 @@ use Rattle.live_study.specs.Showing.{AllCaughtUp, AreShownOf, HasLooked, looks_t
 use Rattle.live_study.proofs.Truth.{true_look}
 
 -- the looks that each analyst has made
-abbrev pub looks_of : List Seated → List (ReservedView Looked)
-looks_of seated = map (λ (a : Seated). a.0.looks) seated
+abbrev pub looks_of : List SeatedAnalyst → List (ReservedView Looked)
+looks_of seated = map (λ (a : SeatedAnalyst). a.0.looks) seated
 
 -- each has made all its looks
-abbrev pub AllLooked : Net → List Seated → Type 0
-AllLooked net seated = AllByRecursion (λ (a : Seated). HasLooked net a.0.todo.items a) seated
+abbrev pub AllLooked : Net → List SeatedAnalyst → Type 0
+AllLooked net seated = AllByRecursion (λ (a : SeatedAnalyst). HasLooked net a.0.todo.items a) seated
 
 -- the index form of that
-pub all_looked : (net : Net) (seated : List Seated)
-    → ((i : ℕ) (d : Seated) → i < length seated
+pub all_looked : (net : Net) (seated : List SeatedAnalyst)
+    → ((i : ℕ) (d : SeatedAnalyst) → i < length seated
     → HasLooked net (slice_index_or seated i d).0.todo.items (slice_index_or seated i d)) → AllLooked net seated
 all_looked net [] each = tt
 all_looked net (a ∷ more) each =
     (each 0 a (omega arith), all_looked net more (λ i d less. each (suc i) d (omega (arith, less))))
 
 -- in order, what they were to look at
-asked_in_order : (net : Net) (seated : List Seated) → AllLooked net seated
+asked_in_order : (net : Net) (seated : List SeatedAnalyst) → AllLooked net seated
     → looks_made (looks_of seated) ≡ looks_to_make seated
 asked_in_order net [] all = refl
 asked_in_order net (a ∷ more) all = ap₂ (λ u us. u ∷ us) all.0.asked (asked_in_order net more all.1)
 
 -- what they had to look at before the run
-asked_before : (old new : List Seated) → length new ≡ length old
-    → ((i : ℕ) (d : Seated) → i < length old → IsSameAnalyst (slice_index_or old i d).0 (slice_index_or new i d).0)
+asked_before : (old new : List SeatedAnalyst) → length new ≡ length old
+    → ((i : ℕ) (d : SeatedAnalyst) → i < length old → IsSameAnalyst (slice_index_or old i d).0 (slice_index_or new i d).0)
     → looks_to_make new ≡ looks_to_make old
 asked_before [] [] len same = refl
 asked_before [] (b ∷ new) len same = absurd (omega (arith, len))
@@ -57,7 +57,7 @@ asked_before (a ∷ old) (b ∷ new) len same =
 
 -- all that they saw is true
 true_looks : (net : Net) (h : HelmView) (w : WorldView) (events : List Event) (published : List RackView)
-    (seated : List Seated) → h.net ≡ net → w.net ≡ net → w.front ≡ w.net.horizon → Begins h.helm events
+    (seated : List SeatedAnalyst) → h.net ≡ net → w.net ≡ net → w.front ≡ w.net.horizon → Begins h.helm events
     → AreShownOf h w published → AllCaughtUp net published seated → AllLooked net seated
     → AllByRecursion (IsTrueLook net events) (all_looks (looks_of seated))
 true_looks net h w events published [] of world last begins shown up all = tt
@@ -68,22 +68,22 @@ true_looks net h w events published (a ∷ more) of world last begins shown up a
     (true_looks net h w events published more of world last begins shown up.1 all.1)
 
 -- all looks that they had to make were made
-pub made_all : (net : Net) (old new : List Seated) (looks : List (ReservedView Looked)) → AllLooked net new
+pub made_all : (net : Net) (old new : List SeatedAnalyst) (looks : List (ReservedView Looked)) → AllLooked net new
     → length new ≡ length old
-    → ((i : ℕ) (d : Seated) → i < length old → IsSameAnalyst (slice_index_or old i d).0 (slice_index_or new i d).0)
+    → ((i : ℕ) (d : SeatedAnalyst) → i < length old → IsSameAnalyst (slice_index_or old i d).0 (slice_index_or new i d).0)
     → looks ≡ looks_of new → looks_made looks ≡ looks_to_make old
 made_all net old new looks all len same are =
     ap looks_made are ∙ asked_in_order net new all ∙ asked_before old new len same
 
 -- no front of one of them falls
-none_falls : (net : Net) (seated : List Seated) → AllLooked net seated
+none_falls : (net : Net) (seated : List SeatedAnalyst) → AllLooked net seated
     → AllByRecursion (λ (r : ReservedView Looked). NeverFall r.items) (looks_of seated)
 none_falls net [] all = tt
 none_falls net (a ∷ more) all = (all.0.rise, none_falls net more all.1)
 
 -- so it is of a run that came to the horizon
 told_at_horizon : (net : Net) (h : HelmView) (w : WorldView) (events : List Event) (published : List RackView)
-    (seated : List Seated) (looks : List (ReservedView Looked)) → h.net ≡ net → InStep h w
+    (seated : List SeatedAnalyst) (looks : List (ReservedView Looked)) → h.net ≡ net → InStep h w
     → w.front ≡ w.net.horizon → OnlyCalls h.helm events → AreShownOf h w published
     → AllCaughtUp net published seated → AllLooked net seated → looks ≡ looks_of seated → AreTrueLooks net events looks
 told_at_horizon net h w events published seated looks of in_step last calls shown up all are = record {
@@ -94,7 +94,7 @@ told_at_horizon net h w events published seated looks of in_step last calls show
 }
 
 -- and it is, where the run is handed back as finished
-pub told_if : (net : Net) (h : HelmView) (events : List Event) (published : List RackView) (seated : List Seated)
+pub told_if : (net : Net) (h : HelmView) (events : List Event) (published : List RackView) (seated : List SeatedAnalyst)
     (looks : List (ReservedView Looked)) (caught_up : Bool) (run end : Result WorldView StudyFault) → h.net ≡ net
     → OnlyCalls h.helm events → IfOk run (λ w. InStep h w × (w.front ≡ w.net.horizon))
     → IfOk run (λ w. AreShownOf h w published) → (caught_up ≡ true → AllCaughtUp net published seated)

@@ -47,26 +47,26 @@ pub record IsSameAnalyst (old new : Analyst) : Type 0 where
   pub reserved : new.looks.reserved ≡ old.looks.reserved
 
 -- an analyst and its seat, as contracts see them
-abbrev pub Seated : Type 0
-Seated = Analyst × List RackView
+abbrev pub SeatedAnalyst : Type 0
+SeatedAnalyst = Analyst × List RackView
 
 -- the accounts of analysts, in order
-abbrev pub accounts_in : List Seated → List Account
+abbrev pub accounts_in : List SeatedAnalyst → List Account
 accounts_in [] = []
 accounts_in (a ∷ others) = a.0.pass.account ∷ accounts_in others
 
 -- how many acts these analysts have
-abbrev pub total_todo : List Seated → ℕ
+abbrev pub total_todo : List SeatedAnalyst → ℕ
 total_todo [] = 0
 total_todo (a ∷ others) = length a.0.todo.items + total_todo others
 
 -- each has asked all
-abbrev pub AllDone : TableId → List Seated → Type 0
+abbrev pub AllDone : TableId → List SeatedAnalyst → Type 0
 AllDone desk [] = Unit {0}
 AllDone desk (a ∷ others) = IsDone desk a.0 × AllDone desk others
 
 -- each analyst's calls in the journal are its decisions, in order
-abbrev pub AllAsked : List Event → List Seated → Type 0
+abbrev pub AllAsked : List Event → List SeatedAnalyst → Type 0
 AllAsked events [] = Unit {0}
 AllAsked events (a ∷ others) =
     (decisions_in (calls_by a.0.pass.account.caller events) ≡ decisions_asked a.0.todo.items) × AllAsked events others

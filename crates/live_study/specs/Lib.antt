@@ -1,5 +1,6 @@
 pub mod Asking
 pub mod Closing
+pub mod Driving
 pub mod Engines
 pub mod Laws
 pub mod Looks

@@ -10,13 +10,13 @@ use Rattle.decision_desk.specs.Legal.{IsLegal}
 use Rattle.journal_text.specs.declared.looked.Looked.{Looked}
 use Rattle.world_core.specs.Worlds.{WorldView}
 use Rattle.study_run.specs.declared.fault.StudyFault.{StudyFault}
-use Rattle.live_study.specs.Asking.{AllAsked, Seated, accounts_in}
+use Rattle.live_study.specs.Asking.{AllAsked, SeatedAnalyst, accounts_in}
 use Rattle.live_study.specs.Engines.{StopsAt}
 use Rattle.live_study.specs.Looks.{IsTrueLook, NeverFall, asked_for}
 
 -- a journal in which all was asked: it is legal, each analyst's calls in it are its decisions, in order, and nobody
 -- else has calls
-pub record IsAllAsked (net : Net) (seated : List Seated) (book : BookView) : Type 0 where
+pub record IsAllAsked (net : Net) (seated : List SeatedAnalyst) (book : BookView) : Type 0 where
   pub net_is : book.net ≡ net
   pub legal : IsLegal net book.events
   pub asked_all : AllAsked book.events seated

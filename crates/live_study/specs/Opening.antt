@@ -8,7 +8,7 @@ use Rattle.phys_proc.specs.Racks.{RackView}
 use Rattle.shelf.specs.Racks.{OneEach}
 use Rattle.world_core.specs.Worlds.{WorldView}
 use Rattle.live_study.specs.declared.prepared.Prepared.{Prepared}
-use Rattle.live_study.specs.Asking.{Seated}
+use Rattle.live_study.specs.Asking.{SeatedAnalyst}
 use Rattle.live_study.specs.Closing.{HasReservedFor}
 
 -- 1 .. n
@@ -17,7 +17,7 @@ numbers_to zero = []
 numbers_to (suc n) = numbers_to n ++ (n + 1) ∷ []
 
 -- an analyst that has seen nothing, with memory reserved for all its looks, at a seat that shows the opening racks
-pub record IsFresh (opening : List RackView) (a : Seated) : Type 0 where
+pub record IsFresh (opening : List RackView) (a : SeatedAnalyst) : Type 0 where
   pub quiet : a.0.looks.items ≡ []
   pub reserved : a.0.looks.reserved ≡ length a.0.todo.items
   pub seat : a.1 ≡ opening

@@ -9,13 +9,13 @@ use Rattle.decision_desk.specs.Passes.{HelmView}
 use Rattle.phys_proc.specs.Racks.{RackView}
 use Rattle.world_core.specs.Worlds.{WorldView}
 use Rattle.live_study.specs.declared.analyst.Analyst.{Analyst}
-use Rattle.live_study.specs.Asking.{Seated}
+use Rattle.live_study.specs.Asking.{SeatedAnalyst}
 use Rattle.live_study.specs.Looks.{AreAllAt, AreCaughtUp, HasRacks, IsAt, IsRackOf, IsRead, NeverFall, asked_for}
 use Rattle.live_study.specs.Scripts.{looks_in}
 
 -- an analyst that has made the looks of these acts, each of them at a beginning of what its seat has read, and none at
 -- an earlier front than one of the same station before it
-pub record HasLooked (net : Net) (acts : List Act) (a : Seated) : Type 0 where
+pub record HasLooked (net : Net) (acts : List Act) (a : SeatedAnalyst) : Type 0 where
   pub asked : map asked_for a.0.looks.items ≡ looks_in a.0.number acts
   pub read : AllByRecursion (IsRead net a.1) a.0.looks.items
   pub rise : NeverFall a.0.looks.items
@@ -47,9 +47,9 @@ pub record Raises (old new : HelmView) (front : ℕ) : Type 0 where
   pub helm : new.helm ≡ (old.helm ++ map asked calls) ++ raised front ∷ []
 
 -- what each of them has to look at, in order
-abbrev pub looks_to_make : List Seated → List (List (ℕ × List ℕ × List ℕ))
+abbrev pub looks_to_make : List SeatedAnalyst → List (List (ℕ × List ℕ × List ℕ))
 looks_to_make as' = map (λ a. looks_in a.0.number a.0.todo.items) as'
 
 -- all of them came to the horizon with what was published
-abbrev pub AllCaughtUp : Net → List RackView → List Seated → Type 0
+abbrev pub AllCaughtUp : Net → List RackView → List SeatedAnalyst → Type 0
 AllCaughtUp net published as' = AllByRecursion (λ a. AreCaughtUp net published a.1) as'

@@ -1,8 +1,6 @@
 //! What the thread of an analyst does: it asks the desk for its decisions and observes the stations at its looks.
-ghost use Rattle.std.specs.Prelude.{◌≡◌, ◌++◌, ◌∷◌, ◌<◌, ◌≤◌, [], All, List, ℕ, length, slice_index_or};
+ghost use Rattle.std.specs.Prelude.{◌≡◌, ◌++◌, ◌∷◌, ◌<◌, [], All, List, ℕ, length, slice_index_or};
 ghost use mathlib.Core.List.{IsPrefix};
-ghost use Rattle.atomic_table.specs.Seated.{TableId};
-ghost use Rattle.net_model.specs.Net.{Net};
 ghost use Rattle.decision_script.specs.declared.item.Act.{Act as OfAct};
 ghost use Rattle.decision_script.specs.declared.item.Act.TheVariants.{Decide, Look};
 ghost use Rattle.live_study.specs.Asking.{HasAsked, IsReady, IsDone, IsSameAnalyst};

@@ -1,5 +1,5 @@
 //! The analysts of a script, and the racks of time 0 that are shown to them before the engine begins.
-ghost use Rattle.std.specs.Prelude.{◌≡◌, ℕ, ◌++◌, ◌∷◌, ◌<◌, ◌≤◌, [], length, map, All, IfOk, OnOk};
+ghost use Rattle.std.specs.Prelude.{◌≡◌, ◌++◌, ◌≤◌, length, map, All, IfOk, OnOk};
 ghost use Rattle.std.specs.List.{AllByRecursion};
 ghost use Rattle.decision_script.specs.declared.script.TheConstants.{MOST_ITEMS};
 ghost use Rattle.live_study.specs.Opening.{AreOpeningRacks, IsFresh, numbers_to};

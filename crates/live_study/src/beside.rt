@@ -1,7 +1,5 @@
 //! The engine beside the workers of a team, which step the stations (logical processes) of its larger windows.
-ghost use Rattle.std.specs.Prelude.{◌≡◌, IfOk, IfErr};
-ghost use Rattle.live_study.specs.Engines.{InStep, Steers, StopsAt};
-ghost use Rattle.live_study.specs.Showing.{AreShownOf};
+ghost use Rattle.live_study.specs.Driving.{HasDriven, MayDrive};
 
 use crate::engine::drive_alone;
 use crew_pool::{Crew, Gate, Kind};
@@ -28,13 +26,8 @@ fn drive_and_end<C: Crew, G: Gate, J: Naming, W: Wait + Drop, R: Threads + Wait 
     watched: &[bool],
     bell: &Bell,
 ) -> (Helm, Stocker<J, W>, Result<World, StudyFault>)
-    requires desk { helm.desk ≡ desk.now.table.shared.table_id }
-    requires in_step { InStep helm world }
-    requires shown { AreShownOf helm world stocker.published }
-    ensures steers { Steers helm result.0 }
-    ensures in_step { IfOk result.2 (λ w. InStep result.0 w × (w.front ≡ w.net.horizon)) }
-    ensures shown { IfOk result.2 (λ w. AreShownOf result.0 w result.1.published) }
-    ensures stops { IfErr result.2 (λ e. StopsAt result.0.net result.0.helm e) }
+    requires may_drive { MayDrive desk.now.table.shared.table_id helm world stocker.published }
+    ensures driven { HasDriven helm result.0 result.1.published result.2 }
 {
     let done = drive_alone(rt, alloc, crew, gate, desk, helm, world, stocker, watched);
     bell.end();
@@ -55,24 +48,15 @@ fn drive_beside<C: Crew, G: Gate, J: Naming, W: Wait + Drop, R: Threads + Wait +
     members: Vec<Member<Window>>,
     bell: &Bell,
 ) -> (Helm, Stocker<J, W>, Result<World, StudyFault>)
-    requires desk { helm.desk ≡ desk.now.table.shared.table_id }
-    requires in_step { InStep helm world }
-    requires shown { AreShownOf helm world stocker.published }
-    ensures steers { Steers helm result.0 }
-    ensures in_step { IfOk result.2 (λ w. InStep result.0 w × (w.front ≡ w.net.horizon)) }
-    ensures shown { IfOk result.2 (λ w. AreShownOf result.0 w result.1.published) }
-    ensures stops { IfErr result.2 (λ e. StopsAt result.0.net result.0.helm e) }
+    requires may_drive { MayDrive desk.now.table.shared.table_id helm world stocker.published }
+    ensures driven { HasDriven helm result.0 result.1.published result.2 }
 {
     let (_, done) = thread::join(
         rt,
         move || serve_all(rt, alloc, gate, bell, members),
         move || -> (Helm, Stocker<J, W>, Result<World, StudyFault>)
-            requires { (helm.desk ≡ desk.now.table.shared.table_id) × InStep helm world
-                × AreShownOf helm world stocker.published }
-            ensures { Steers helm result.0
-                × IfOk result.2 (λ w. InStep result.0 w × (w.front ≡ w.net.horizon))
-                × IfOk result.2 (λ w. AreShownOf result.0 w result.1.published)
-                × IfErr result.2 (λ e. StopsAt result.0.net result.0.helm e) }
+            requires { MayDrive desk.now.table.shared.table_id helm world stocker.published }
+            ensures { HasDriven helm result.0 result.1.published result.2 }
         {
             drive_and_end(
                 rt, alloc, crew, gate, desk, helm, world, stocker, watched, bell,
@@ -101,13 +85,8 @@ pub(crate) fn drive_with_team<
     stocker: Stocker<J, W>,
     watched: &[bool],
 ) -> (Helm, Stocker<J, W>, Result<World, StudyFault>)
-    requires desk { helm.desk ≡ desk.now.table.shared.table_id }
-    requires in_step { InStep helm world }
-    requires shown { AreShownOf helm world stocker.published }
-    ensures steers { Steers helm result.0 }
-    ensures in_step { IfOk result.2 (λ w. InStep result.0 w × (w.front ≡ w.net.horizon)) }
-    ensures shown { IfOk result.2 (λ w. AreShownOf result.0 w result.1.published) }
-    ensures stops { IfErr result.2 (λ e. StopsAt result.0.net result.0.helm e) }
+    requires may_drive { MayDrive desk.now.table.shared.table_id helm world stocker.published }
+    ensures driven { HasDriven helm result.0 result.1.published result.2 }
 {
     let workers = match crew.kind() {
         Kind::Serial => {

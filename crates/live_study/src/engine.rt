@@ -1,7 +1,7 @@
 //! The engine's part: conservative time windows up to the fronts that the desk gives, until the horizon.
 ghost use Rattle.std.specs.Prelude.{◌≡◌, ◌-◌, ◌<◌, ◌≤◌, length, IfOk, IfErr, OnOk};
-ghost use Rattle.decision_desk.specs.Accounts.{front_of};
 ghost use Rattle.decision_desk.specs.Leasts.{leasts_of};
+ghost use Rattle.live_study.specs.Driving.{HasDriven, MayDrive};
 ghost use Rattle.live_study.specs.Engines.{InStep, IsAhead, Steers, StopsAt};
 ghost use Rattle.live_study.specs.Looks.{AreAtFront};
 ghost use Rattle.live_study.specs.Showing.{AreShownOf, AreShownTo, Raises};
@@ -181,13 +181,8 @@ fn drive<C: Crew, G: Gate, J: Naming, L: Ledger, W: Wait + Drop, R: Threads + Wa
     watched: &[bool],
     steps: &mut Steps<L>,
 ) -> (Helm, Result<World, StudyFault>)
-    requires desk { helm.desk ≡ desk.now.table.shared.table_id }
-    requires in_step { InStep helm world }
-    requires shown { AreShownOf helm world stocker.old.published }
-    ensures steers { Steers helm result.0 }
-    ensures in_step { IfOk result.1 (λ w. InStep result.0 w × (w.front ≡ w.net.horizon)) }
-    ensures shown { IfOk result.1 (λ w. AreShownOf result.0 w stocker.new.published) }
-    ensures stops { IfErr result.1 (λ e. StopsAt result.0.net result.0.helm e) }
+    requires may_drive { MayDrive desk.now.table.shared.table_id helm world stocker.old.published }
+    ensures driven { HasDriven helm result.0 stocker.new.published result.1 }
 {
     'turns: while world.front() < world.model().horizon() {
         world = match go_on(
@@ -213,16 +208,11 @@ fn drive_counted<C: Crew, G: Gate, J: Naming, L: Ledger, W: Wait + Drop, R: Thre
     watched: &[bool],
     blank: Blank,
 ) -> (Helm, Result<World, StudyFault>)
-    requires desk { helm.desk ≡ desk.now.table.shared.table_id }
-    requires in_step { InStep helm world }
-    requires shown { AreShownOf helm world stocker.old.published }
+    requires may_drive { MayDrive desk.now.table.shared.table_id helm world stocker.old.published }
     requires name { blank.name ≡ L.name }
     requires parts { blank.parts ≡ L.parts }
     requires some { 0 < L.parts }
-    ensures steers { Steers helm result.0 }
-    ensures in_step { IfOk result.1 (λ w. InStep result.0 w × (w.front ≡ w.net.horizon)) }
-    ensures shown { IfOk result.1 (λ w. AreShownOf result.0 w stocker.new.published) }
-    ensures stops { IfErr result.1 (λ e. StopsAt result.0.net result.0.helm e) }
+    ensures driven { HasDriven helm result.0 stocker.new.published result.1 }
 {
     let mut steps = Steps::<L>::new(blank);
     drive(
@@ -243,13 +233,8 @@ pub(crate) fn drive_alone<C: Crew, G: Gate, J: Naming, W: Wait + Drop, R: Thread
     mut stocker: Stocker<J, W>,
     watched: &[bool],
 ) -> (Helm, Stocker<J, W>, Result<World, StudyFault>)
-    requires desk { helm.desk ≡ desk.now.table.shared.table_id }
-    requires in_step { InStep helm world }
-    requires shown { AreShownOf helm world stocker.published }
-    ensures steers { Steers helm result.0 }
-    ensures in_step { IfOk result.2 (λ w. InStep result.0 w × (w.front ≡ w.net.horizon)) }
-    ensures shown { IfOk result.2 (λ w. AreShownOf result.0 w result.1.published) }
-    ensures stops { IfErr result.2 (λ e. StopsAt result.0.net result.0.helm e) }
+    requires may_drive { MayDrive desk.now.table.shared.table_id helm world stocker.published }
+    ensures driven { HasDriven helm result.0 result.1.published result.2 }
 {
     let (helm, world) = drive_counted::<C, G, J, Brand, W, R>(
         rt,

@@ -4,12 +4,12 @@ ghost use Rattle.std.specs.Prelude.{Ok, Err, IfOk, IfErr, true, slice_index_or, 
 ghost use mathlib.Core.List.{IsPrefix};
 ghost use Rattle.decision_book.specs.declared.call.TheConstants.{MOST_CALLS};
 ghost use Rattle.shelf.specs.Racks.{AreLegal};
-ghost use Rattle.live_study.specs.Asking.{IsReady, IsDone, IsSameAnalyst, total_todo};
+ghost use Rattle.live_study.specs.Asking.{IsDone, IsSameAnalyst, total_todo};
 ghost use Rattle.live_study.specs.Closing.{AreReadyAll, HasReservedFor};
-ghost use Rattle.live_study.specs.Engines.{InStep, Steers, StopsAt};
+ghost use Rattle.live_study.specs.Driving.{HasDriven, MayDrive};
 ghost use Rattle.live_study.specs.Lives.{AreTrueLooks, IsAllAsked, IsAtHorizon, IsStopped, looks_made};
 ghost use Rattle.live_study.specs.Looks.{AreCaughtUp, HasRacks, IsAt};
-ghost use Rattle.live_study.specs.Showing.{AllCaughtUp, AreShownOf, HasLooked, HasReserved, looks_to_make};
+ghost use Rattle.live_study.specs.Showing.{AllCaughtUp, HasLooked, looks_to_make};
 
 use crate::analyst::Analyst;
 use crate::asking::act_everyone;
@@ -18,10 +18,8 @@ use crate::reserve::Reserve;
 use crate::run::LiveRun;
 use crew_pool::{Crew, Gate};
 use decision_desk::{Desk, Helm};
-use journal_text::Looked;
 use net_model::Model;
 use shelf::{Naming, Seat, Stocker, Told};
-use sim_base::Reserved;
 use std::alloc::Global;
 use std::sync::Wait;
 use std::thread;
@@ -52,14 +50,9 @@ fn side_by_side<
     (Helm, Stocker<J, W>, Result<World, StudyFault>),
     Vec<(Analyst, Seat<J>)>,
 )
-    requires desk { helm.desk ≡ desk.now.table.shared.table_id }
-    requires in_step { InStep helm world }
-    requires shown { AreShownOf helm world stocker.published }
+    requires may_drive { MayDrive desk.now.table.shared.table_id helm world stocker.published }
     requires ready { AreReadyAll desk.now.table.shared.table_id model.now seated.items }
-    ensures steers { Steers helm result.0.0 }
-    ensures in_step { IfOk result.0.2 (λ w. InStep result.0.0 w × (w.front ≡ w.net.horizon)) }
-    ensures shown { IfOk result.0.2 (λ w. AreShownOf result.0.0 w result.0.1.published) }
-    ensures stops { IfErr result.0.2 (λ e. StopsAt result.0.0.net result.0.0.helm e) }
+    ensures driven { HasDriven helm result.0.0 result.0.1.published result.0.2 }
     ensures len { length result.1.items ≡ length seated.items }
     ensures done { (i : ℕ) (d : _) → i < length seated.items →
         IsDone desk.now.table.shared.table_id (slice_index_or result.1.items i d).0 }
@@ -71,12 +64,8 @@ fn side_by_side<
     thread::join(
         rt,
         move || -> (Helm, Stocker<J, W>, Result<World, StudyFault>)
-            requires { (helm.desk ≡ desk.now.table.shared.table_id) × InStep helm world
-                × AreShownOf helm world stocker.published }
-            ensures { Steers helm result.0
-                × IfOk result.2 (λ w. InStep result.0 w × (w.front ≡ w.net.horizon))
-                × IfOk result.2 (λ w. AreShownOf result.0 w result.1.published)
-                × IfErr result.2 (λ e. StopsAt result.0.net result.0.helm e) }
+            requires { MayDrive desk.now.table.shared.table_id helm world stocker.published }
+            ensures { HasDriven helm result.0 result.1.published result.2 }
         { drive_with_team(rt, alloc, crew, gate, desk, helm, world, stocker, watched) },
         move || -> Vec<(Analyst, Seat<J>)>
             requires { AreReadyAll desk.now.table.shared.table_id model.now seated.items }
@@ -210,12 +199,10 @@ pub(crate) fn run_live<
     seated: Vec<(Analyst, Seat<J>)>,
     reserve: Reserve,
 ) -> LiveRun
-    requires desk { helm.desk ≡ desk.table.shared.table_id }
+    requires may_drive { MayDrive desk.table.shared.table_id helm world stocker.published }
     requires net { helm.net ≡ model.now }
     requires parts { helm.parts + length seated.items ≡ 17 }
     requires fresh { helm.accounts ≡ [] }
-    requires in_step { InStep helm world }
-    requires shown { AreShownOf helm world stocker.published }
     requires ready { AreReadyAll desk.table.shared.table_id model.now seated.items }
     requires few { total_todo seated.items ≤ MOST_CALLS }
     requires reserve { HasReservedFor (length seated.items) reserve }

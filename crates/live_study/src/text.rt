@@ -1,5 +1,5 @@
 //! The text of a live study's journal, with its looks behind it.
-ghost use Rattle.std.specs.Prelude.{◌≡◌, ◌++◌, IfOk, OnOk};
+ghost use Rattle.std.specs.Prelude.{◌≡◌, IfOk};
 ghost use Rattle.net_model.specs.Net.{Net};
 ghost use Rattle.journal_text.specs.JournalText.{journal_text as text_of};
 ghost use Rattle.live_study.specs.Lives.{all_looks};

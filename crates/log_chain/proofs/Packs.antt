@@ -6,10 +6,11 @@ use Rattle.std.proofs.lemmas.Bool.{false≢true}
 use Rattle.std.proofs.lemmas.List.{map-append}
 use Rattle.std.proofs.Math.ListN.{get_or-append}
 use Rattle.std.proofs.Math.Seq.{get_or-append_seam}
+use Rattle.sim_base.specs.KeyWords.{FitsWord}
 use Rattle.sim_base.specs.declared.entry.Entry.{Entry}
 use Rattle.sim_base.specs.declared.entry.Line.{Line}
 use Rattle.sim_base.specs.declared.message.Msg.{Msg}
-use Rattle.log_chain.specs.Packing.{packed_entry, is_wide, entry_of, entries_of, FitsWord}
+use Rattle.log_chain.specs.Packing.{packed_entry, is_wide, entry_of, entries_of}
 use Rattle.log_chain.specs.Packing.{IsPlaced, ArePlaced, FitWords}
 use Rattle.log_chain.specs.declared.packed.Packed.{Packed}
 

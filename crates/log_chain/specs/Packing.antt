@@ -1,6 +1,7 @@
 -- Entries in 32 bytes, and those that do not fit.
 use Rattle.std.specs.Prelude.{◌≡◌, ℕ, ◌+◌, ◌*◌, ◌^◌, ◌<◌, Bool, true, false, List, map, slice_index_or, if◌then◌else◌}
 use Rattle.std.specs.List.{AllByRecursion}
+use Rattle.sim_base.specs.KeyWords.{FitsWord}
 use Rattle.sim_base.specs.declared.entry.Entry.{Entry}
 use Rattle.sim_base.specs.declared.entry.Line.{Line}
 use Rattle.sim_base.specs.declared.entry.Line.TheVariants.{Source, Server, Passed, Sink}
@@ -75,12 +76,6 @@ entry_of wide p = if is_wide p.msg.kind then slice_index_or wide p.msg.count (pa
 -- the entries, one after another
 abbrev pub entries_of : List (Entry Msg Line) → List Packed → List (Entry Msg Line)
 entries_of wide ps = map (entry_of wide) ps
-
--- a key that fits one word of 64 bits: its time, sender and number
-pub record FitsWord (k : Key) : Type 0 where
-  pub time : k.time < 2 ^ 30
-  pub sender : k.sender < 2 ^ 7
-  pub number : k.number < 2 ^ 21
 
 -- a message that fits, and its key fits one word
 pub record IsNarrow (m : PackedMsg) : Type 0 where

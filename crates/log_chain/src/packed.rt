@@ -206,9 +206,8 @@ fn with_payload(msg: &Msg, kind: Kind, job: Job) -> Option<PackedMsg>
     ensures value { IfSome result (λ m. msg_of m ≡ record msg.now { payload = payload_of kind job }) }
     ensures narrow { IfSome result (λ m. IsNarrow m) }
 {
-    let key = &msg.key;
-    let is_small = key.time < 1 << 30 && key.sender < 1 << 7 && key.number < 1 << 21;
-    if is_small
+    let key = msg.key;
+    if key.fits_word()
         && msg.to < 1 << 8
         && job.source < 1 << 8
         && job.count < 1 << 32

@@ -21,8 +21,8 @@ use Rattle.run_laws.proofs.Queue.{all_in}
 use Rattle.run_laws.proofs.Parts.{all_part_of}
 use Rattle.run_laws.proofs.Steps.{so_far_none, so_far_more, stepped, are_over}
 use Rattle.run_laws.proofs.Gaining.{gained_alone, together_push}
-use Rattle.phys_proc.specs.Own.{StationCopy, Marked, IsCopy, IsLate, AreLate}
-use Rattle.phys_proc.specs.Own.{IsAdvance, IsStepResult, takes_at, all_sizes, handled_alone}
+use Rattle.phys_proc.specs.Own.{StationCopy, MarkedMessages, IsCopy, IsLate, AreLate}
+use Rattle.phys_proc.specs.Own.{IsAdvance, IsStepResult, takes_at, all_sizes, handled_alone_by}
 use Rattle.phys_proc.proofs.Counting.{all_sizes-append, alone-append}
 use Rattle.phys_proc.proofs.Parted.{same_none}
 use Rattle.phys_proc.proofs.Onward.{sets_join, good_state, all_both, onward_start, answer_rest}
@@ -61,7 +61,7 @@ module _ (net : Net) (valid : IsNet net) (s : ℕ) (ends : ℕ → ℕ) (bound :
   }
 
   -- one copy more
-  pub stepping_more : (ys zs : List StationCopy) (x : StationCopy) (done new : List StationCopy) (sent next : Marked)
+  pub stepping_more : (ys zs : List StationCopy) (x : StationCopy) (done new : List StationCopy) (sent next : MarkedMessages)
       (over over1 : CloneSet) (steps0 steps steps1 : ℕ) → Disjoint has (ys ++ x ∷ zs) →
       IsStepResult net s ends bound ys done sent over steps0 steps
       → IsAdvance net s ends bound x done new sent next over over1 steps steps1
@@ -98,7 +98,7 @@ module _ (net : Net) (valid : IsNet net) (s : ℕ) (ends : ℕ → ℕ) (bound :
             let h0 = f.shared over_none in
             let h1 = a.shared none in
             let b = alone-append ys (x ∷ []) in
-            let c = ap handled_alone a.done in
+            let c = ap handled_alone_by a.done in
             let d = alone-append done a.results in
             omega (arith, h0, h1, b, c, d);
       }
@@ -115,7 +115,7 @@ module _ (net : Net) (valid : IsNet net) (s : ℕ) (ends : ℕ → ℕ) (bound :
           ])
 
   -- a copy with nothing due stays
-  pub stays : (x : StationCopy) (done : List StationCopy) (sent : Marked) (over : CloneSet) (steps : ℕ)
+  pub stays : (x : StationCopy) (done : List StationCopy) (sent : MarkedMessages) (over : CloneSet) (steps : ℕ)
       → IsCopy net s x → IsLate bound x
       → IsAdvance net s ends bound x done (done ++ x ∷ []) sent sent over over steps steps
   stays x done sent over steps f late =
@@ -144,7 +144,7 @@ module _ (net : Net) (valid : IsNet net) (s : ℕ) (ends : ℕ → ℕ) (bound :
       → Disjoint has xs → IsStepResult net s ends bound xs xs [] empty steps steps
   idle xs steps f late dis = all_stay [] xs steps f late dis (stepping_start steps)
 
-  module _ (xs : List StationCopy) (done : List StationCopy) (sent : Marked) (over : CloneSet) (steps0 steps : ℕ)
+  module _ (xs : List StationCopy) (done : List StationCopy) (sent : MarkedMessages) (over : CloneSet) (steps0 steps : ℕ)
       (fits : AllByRecursion (IsCopy net s) xs)
       (far : IsStepResult net s ends bound xs done sent over steps0 steps) where
     fine : (a : StationCopy) → In a xs → IsGood net s a.state × SortedMarked msg_cmp a.pending
@@ -170,5 +170,5 @@ module _ (net : Net) (valid : IsNet net) (s : ℕ) (ends : ℕ → ℕ) (bound :
     all_few n h = let k = far.counted in let f = far.few in omega (arith, h, k, f)
 
     -- with what the clones had handled alone, no more than they then have, where none is over the limit
-    pub all_shared : (n : ℕ) → n + steps0 ≡ steps → over ≡ empty → handled_alone xs + n ≤ handled_alone done
+    pub all_shared : (n : ℕ) → n + steps0 ≡ steps → over ≡ empty → handled_alone_by xs + n ≤ handled_alone_by done
     all_shared n h none = let k = far.counted in let f = far.shared none in omega (arith, h, k, f)

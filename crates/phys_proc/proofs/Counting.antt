@@ -14,7 +14,7 @@ use Rattle.run_laws.specs.Queue.{In}
 use Rattle.run_laws.specs.Copies.{Carries, Disjoint}
 use Rattle.run_laws.proofs.Bools.{or_cases}
 use Rattle.run_laws.proofs.Queue.{all_in}
-use Rattle.phys_proc.specs.Own.{StationCopy, all_clones, handled_alone, all_sizes}
+use Rattle.phys_proc.specs.Own.{StationCopy, all_clones, handled_alone_by, all_sizes}
 
 -- ---- sizes of sets
 
@@ -86,13 +86,13 @@ all_sizes-append (x ∷ xs) ys = let h = all_sizes-append xs ys in omega (arith,
 -- ---- handled alone
 
 -- what two lists of copies would have handled alone is that of both added up
-pub alone-append : (xs ys : List StationCopy) → handled_alone (xs ++ ys) ≡ handled_alone xs + handled_alone ys
+pub alone-append : (xs ys : List StationCopy) → handled_alone_by (xs ++ ys) ≡ handled_alone_by xs + handled_alone_by ys
 alone-append [] ys = omega arith
 alone-append (x ∷ xs) ys = let h = alone-append xs ys in omega (arith, h)
 
 -- where no log is longer than the limit, what is handled alone is at most the limit for each clone
 pub alone_short : (limit : ℕ) (xs : List StationCopy) → AllByRecursion (λ a. length a.log ≤ limit) xs
-    → handled_alone xs ≤ all_sizes xs * limit
+    → handled_alone_by xs ≤ all_sizes xs * limit
 alone_short limit [] f = omega arith
 alone_short limit (x ∷ xs) f =
     let h = alone_short limit xs f.1 in

@@ -5,7 +5,7 @@ use Rattle.clone_sets.specs.Sets.{has, minus, union, size}
 use Rattle.clone_sets.specs.declared.set.CloneSet.{CloneSet}
 use Rattle.net_model.specs.Net.{Net}
 use Rattle.run_laws.proofs.Parts.{all_part_of}
-use Rattle.phys_proc.specs.Own.{StationCopy, Marked, IsCopy, IsAdvance, Onward, NextDue, NothingDue, half}
+use Rattle.phys_proc.specs.Own.{StationCopy, MarkedMessages, IsCopy, IsAdvance, Onward, NextDue, NothingDue, half}
 use Rattle.phys_proc.specs.Own.{IsLate, may_handle, takes_at}
 use Rattle.phys_proc.specs.Stops.{IsFull, IsParting}
 use Rattle.phys_proc.proofs.Parted.{same_none}
@@ -43,7 +43,7 @@ module _ (ends : ℕ → ℕ) (bound : ℕ) (a b : StationCopy) where
 
 -- ---- its end
 
-module _ (net : Net) (s : ℕ) (ends : ℕ → ℕ) (bound : ℕ) (copy : StationCopy) (sent : Marked) (steps : ℕ)
+module _ (net : Net) (s : ℕ) (ends : ℕ → ℕ) (bound : ℕ) (copy : StationCopy) (sent : MarkedMessages) (steps : ℕ)
     (fits : IsCopy net s copy) where
   abbrev begun : Onward net s ends bound copy copy sent sent steps steps
   begun = onward_start net s ends bound copy sent steps fits
@@ -99,7 +99,7 @@ module _ (net : Net) (s : ℕ) (ends : ℕ → ℕ) (bound : ℕ) (copy : Statio
 
     -- the ends of both halves are together an end of the copy
     pub of_parts : (a a1 b b1 : StationCopy) (done done1 done2 done3 done4 : List StationCopy)
-        (sent1 sent2 sent3 sent4 : Marked) (over over1 over2 over3 over4 : CloneSet) (steps1 steps2 steps3 steps4 : ℕ)
+        (sent1 sent2 sent3 sent4 : MarkedMessages) (over over1 over2 over3 over4 : CloneSet) (steps1 steps2 steps3 steps4 : ℕ)
         → a ≡ half copy takers → b ≡ half copy (minus copy.set takers)
         → Onward net s ends bound a a1 sent sent1 steps steps1 → done1 ≡ done → over1 ≡ over
         → IsAdvance net s ends bound a1 done1 done2 sent1 sent2 over1 over2 steps1 steps2

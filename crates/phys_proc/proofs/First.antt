@@ -16,7 +16,7 @@ use Rattle.stations.specs.Runs.{simulation}
 use Rattle.stations.proofs.GoodLaws.{stations-to_stations}
 use Rattle.sim_base.specs.Marked.{SortedMarked}
 use Rattle.run_laws.specs.Copies.{first_copy, first_pending}
-use Rattle.phys_proc.specs.Own.{Marked, IsCopy, AreMarks, pending_of}
+use Rattle.phys_proc.specs.Own.{MarkedMessages, IsCopy, AreMarks, pending_of}
 
 module _ (net : Net) (valid : IsNet net) (s : ℕ) (low : 1 ≤ s) (high : s ≤ length net.sites) (st : StateView)
     (first : Option Msg) (opened : setup net s ≡ record { state = st; first = first }) where
@@ -25,7 +25,7 @@ module _ (net : Net) (valid : IsNet net) (s : ℕ) (low : 1 ≤ s) (high : s ≤
   same_pending (Some m) = refl
 
   -- what a station opens with, for clone 0 alone, is the first copy as the laws have it
-  pub is_first : (set : CloneSet) (pending : Marked) → set ≡ one 0 → pending ≡ pending_of first set
+  pub is_first : (set : CloneSet) (pending : MarkedMessages) → set ≡ one 0 → pending ≡ pending_of first set
       → record { set = set; state = st; log = []; pending = pending } ≡ first_copy (simulation net) (one 0) s
   is_first set pending e p =
       (λ i. record { set = e i; state = st; log = []; pending = (p ∙ ap (pending_of first) e ∙ same_pending first) i })
@@ -62,7 +62,7 @@ module _ (net : Net) (valid : IsNet net) (s : ℕ) (low : 1 ≤ s) (high : s ≤
   )
 
   -- and it is a copy of the station
-  pub first_fits : (set : CloneSet) (pending : Marked) → set ≡ one 0 → pending ≡ pending_of first set → FitsState st
+  pub first_fits : (set : CloneSet) (pending : MarkedMessages) → set ≡ one 0 → pending ≡ pending_of first set → FitsState st
       → SuitsNet net st → st.sender.station ≡ s → st.handled ≡ 0
       → IsCopy net s (record { set = set; state = st; log = []; pending = pending })
   first_fits set pending e p fits suits own none =

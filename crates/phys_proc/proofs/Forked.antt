@@ -20,8 +20,8 @@ use Rattle.sim_base.specs.Marked.{SortedMarked}
 use Rattle.run_laws.specs.Copies.{IsForked, Carries, Disjoint, origin_of, part}
 use Rattle.std.proofs.lemmas.Bool.{false≢true}
 use Rattle.sim_base.proofs.Placing.{all_weaker}
-use Rattle.phys_proc.specs.Own.{StationCopy, Marked, AreMarks, IsCopy, IsLate}
-use Rattle.phys_proc.specs.Own.{AreLate, copy_after_fork, taken_at, all_clones, handled_alone}
+use Rattle.phys_proc.specs.Own.{StationCopy, MarkedMessages, AreMarks, IsCopy, IsLate}
+use Rattle.phys_proc.specs.Own.{AreLate, copy_after_fork, taken_at, all_clones, handled_alone_by}
 use Rattle.phys_proc.specs.Procs.{KeepsShares}
 use Rattle.phys_proc.proofs.Counting.{size_disjoint}
 
@@ -87,10 +87,10 @@ module _ (old new : ℕ) where
       ]
 
   -- pending messages with the new clone beside the old one
-  abbrev pub spread : Marked → Marked
+  abbrev pub spread : MarkedMessages → MarkedMessages
   spread xs = spread_marks union common (one old) (one new) xs
 
-  taken_spread : (ends : ℕ → ℕ) (c : ℕ) (xs : Marked) → AllByRecursion (λ x. has x.1 new ≡ false) xs
+  taken_spread : (ends : ℕ → ℕ) (c : ℕ) (xs : MarkedMessages) → AllByRecursion (λ x. has x.1 new ≡ false) xs
       → part (λ m k c. has k c && nat_lt m.key.time (ends (origin_of old new c))) c (spread xs) ≡ taken_at ends
       (origin_of old new c) xs
   taken_spread ends c [] f = refl
@@ -102,12 +102,12 @@ module _ (old new : ℕ) where
       ∙ ap (λ l. cond (has x.1 (origin_of old new c) && nat_lt x.0.key.time (ends (origin_of old new c))) (x.0 ∷ l) l)
       (taken_spread ends c xs f.1)
 
-  above_spread : (m : Msg) (xs : Marked) → AllByRecursion (λ y. msg_cmp m y.0 ≡ Less) xs
+  above_spread : (m : Msg) (xs : MarkedMessages) → AllByRecursion (λ y. msg_cmp m y.0 ≡ Less) xs
       → AllByRecursion (λ y. msg_cmp m y.0 ≡ Less) (spread xs)
   above_spread m [] f = tt
   above_spread m (x ∷ xs) f = (f.0, above_spread m xs f.1)
 
-  sorted_spread : (xs : Marked) → SortedMarked msg_cmp xs → SortedMarked msg_cmp (spread xs)
+  sorted_spread : (xs : MarkedMessages) → SortedMarked msg_cmp xs → SortedMarked msg_cmp (spread xs)
   sorted_spread [] s = tt
   sorted_spread (x ∷ xs) s = (above_spread x.0 xs s.0, sorted_spread xs s.1)
 
@@ -134,11 +134,11 @@ module _ (old new : ℕ) where
   grown_stays : (k : CloneSet) → has k old ≡ false → grown old new k ≡ k
   grown_stays k n = ap (λ b. cond b (union k (one new)) k) (test_is old new k ∙ n)
 
-  spread_stays : (xs : Marked) → AllByRecursion (λ x. has x.1 old ≡ false) xs → spread old new xs ≡ xs
+  spread_stays : (xs : MarkedMessages) → AllByRecursion (λ x. has x.1 old ≡ false) xs → spread old new xs ≡ xs
   spread_stays [] f = refl
   spread_stays (x ∷ xs) f = λ i. (x.0, grown_stays x.1 f.0 i) ∷ spread_stays xs f.1 i
 
-  no_mark : (set : CloneSet) (c : ℕ) (xs : Marked) → has set c ≡ false → AllByRecursion (λ x. AreMarks set x.1) xs
+  no_mark : (set : CloneSet) (c : ℕ) (xs : MarkedMessages) → has set c ≡ false → AllByRecursion (λ x. AreMarks set x.1) xs
       → AllByRecursion (λ x. has x.1 c ≡ false) xs
   no_mark set c xs n f = all_weaker (λ x. AreMarks set x.1) (λ x. has x.1 c ≡ false) xs
       (λ x m. elim (cases_Bool (has x.1 c)) [ inl y ↦ absurd (false≢true (sym n ∙ m.within c y)) | inr o ↦ o ]) f
@@ -165,7 +165,7 @@ module _ (old new : ℕ) where
       }
 
   module _ (net : Net) (s : ℕ) where
-    marks_grow : (set : CloneSet) (xs : Marked) → has set new ≡ false → AllByRecursion (λ x. AreMarks set x.1) xs
+    marks_grow : (set : CloneSet) (xs : MarkedMessages) → has set new ≡ false → AllByRecursion (λ x. AreMarks set x.1) xs
         → AllByRecursion (λ x. AreMarks (grown old new set) x.1) (spread old new xs)
     marks_grow set [] n f = tt
     marks_grow set (x ∷ xs) n f = (
@@ -192,7 +192,7 @@ module _ (old new : ℕ) where
             none_at c true h = or_first (has k c) (has (one new) c) (sym (has-union k (one new) c) ∙ h)
             none_at c false h = h
 
-    targets_stay : (xs : Marked) → AllByRecursion (λ x. x.0.to ≡ s) xs
+    targets_stay : (xs : MarkedMessages) → AllByRecursion (λ x. x.0.to ≡ s) xs
         → AllByRecursion (λ x. x.0.to ≡ s) (spread old new xs)
     targets_stay [] f = tt
     targets_stay (x ∷ xs) f = (f.0, targets_stay xs f.1)
@@ -346,7 +346,7 @@ module _ (old new : ℕ) where
       by_test false = omega arith
 
   more_alone : (xs : List StationCopy) → AllByRecursion (λ a. has a.set new ≡ false) xs
-      → handled_alone xs ≤ handled_alone (map (copy_after_fork old new) xs)
+      → handled_alone_by xs ≤ handled_alone_by (map (copy_after_fork old new) xs)
   more_alone [] n = omega arith
   more_alone (x ∷ xs) n =
       let h = more_alone xs n.1 in
@@ -377,7 +377,7 @@ module _ (old new : ℕ) where
       }
 
   -- no time changes
-  late_spread : (t : ℕ) (xs : Marked) → AllByRecursion (λ x. t ≤ x.0.key.time) xs
+  late_spread : (t : ℕ) (xs : MarkedMessages) → AllByRecursion (λ x. t ≤ x.0.key.time) xs
       → AllByRecursion (λ x. t ≤ x.0.key.time) (spread old new xs)
   late_spread t [] f = tt
   late_spread t (x ∷ xs) f = (f.0, late_spread t xs f.1)

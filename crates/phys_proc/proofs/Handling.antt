@@ -14,7 +14,7 @@ use Rattle.clone_sets.proofs.SetLaws.{has-union}
 use Rattle.net_model.specs.Net.{Net}
 use Rattle.stations.specs.Fits.{FitsState, SuitsNet}
 use Rattle.stations.specs.Handling.{StateView, handle}
-use Rattle.run_laws.specs.Simulation.{Handled}
+use Rattle.run_laws.specs.Simulation.{Outcome}
 use Rattle.run_laws.specs.World.{to_it}
 use Rattle.sim_base.specs.Marked.{SortedMarked}
 use Rattle.run_laws.specs.Copies.{insert_marked_all}
@@ -24,21 +24,21 @@ use Rattle.run_laws.proofs.Parts.{sorted_insert_marked_all}
 use Rattle.stations.specs.Opening.{setup}
 use Rattle.stations.specs.Runs.{replay}
 use Rattle.run_laws.specs.World as world
-use Rattle.phys_proc.specs.Own.{StationCopy, Marked, AreMarks, IsCopy, IsHandled, pending_after, sent_after}
+use Rattle.phys_proc.specs.Own.{StationCopy, MarkedMessages, AreMarks, IsCopy, IsHandled, pending_after, sent_after}
 use Rattle.phys_proc.proofs.Sends.{all_inserted_all, marks_inserted_all, marks_join, whole_marks}
 
 -- the first of some messages, or the one that is given for it where there are none
-abbrev pub head_msg : Marked → Msg → Msg
+abbrev pub head_msg : MarkedMessages → Msg → Msg
 head_msg [] d = d
 head_msg (x ∷ xs) d = x.0
 
 -- the messages behind the first
-abbrev pub tail_of : Marked → Marked
+abbrev pub tail_of : MarkedMessages → MarkedMessages
 tail_of [] = []
 tail_of (x ∷ xs) = xs
 
-module _ (net : Net) (s : ℕ) (a : StationCopy) (m0 : Msg) (k0 : CloneSet) (q0 : Marked) (st : StateView) (line : Line)
-    (out : List Msg) (log : List (Entry Msg Line)) (pending before after : Marked)
+module _ (net : Net) (s : ℕ) (a : StationCopy) (m0 : Msg) (k0 : CloneSet) (q0 : MarkedMessages) (st : StateView) (line : Line)
+    (out : List Msg) (log : List (Entry Msg Line)) (pending before after : MarkedMessages)
     (there : a.pending ≡ (m0, k0) ∷ q0) (fits : IsCopy net s a) (below : length a.log < net.limit)
     (gives : handle net a.state m0 ≡ record { state = st; sends = out; line = line }) (fits_new : FitsState st)
     (suits_new : SuitsNet net st) (own : st.sender.station ≡ a.state.sender.station)
@@ -46,7 +46,7 @@ module _ (net : Net) (s : ℕ) (a : StationCopy) (m0 : Msg) (k0 : CloneSet) (q0 
     (log_is : log ≡ a.log ++ record { msg = m0; line = line } ∷ [])
     (pending_is : pending ≡ pending_after s a.set out q0)
     (aside : after ≡ sent_after s a.set out before) where
-  abbrev made : Handled StateView Msg Line → Msg → Marked → StationCopy
+  abbrev made : Outcome StateView Msg Line → Msg → MarkedMessages → StationCopy
   made h m q = record {
     set = a.set;
     state = h.state;

@@ -11,7 +11,7 @@ use Rattle.clone_sets.specs.Sets.{meet, union, empty}
 use Rattle.clone_sets.specs.declared.set.CloneSet.{CloneSet}
 use Rattle.sim_base.specs.Marked.{SortedMarked}
 use Rattle.sim_base.proofs.Placing.{all_weaker}
-use Rattle.phys_proc.specs.Own.{StationCopy, Marked, IsLate, AreLate, with_message}
+use Rattle.phys_proc.specs.Own.{StationCopy, MarkedMessages, IsLate, AreLate, with_message}
 use Rattle.phys_proc.proofs.Sends.{all_inserted}
 use Rattle.phys_proc.proofs.Onward.{all_both}
 
@@ -19,7 +19,7 @@ use Rattle.phys_proc.proofs.Onward.{all_both}
 pub from_time : (a : StationCopy) (t : ℕ) → Some t ≡ first_time a.pending → SortedMarked msg_cmp a.pending → IsLate t a
 from_time a t e sorted = of_pending a.pending e sorted
   where
-    of_pending : (q : Marked) → Some t ≡ first_time q → SortedMarked msg_cmp q
+    of_pending : (q : MarkedMessages) → Some t ≡ first_time q → SortedMarked msg_cmp q
         → AllByRecursion (λ (y : Msg × CloneSet). t ≤ y.0.key.time) q
     of_pending [] e s = tt
     of_pending (x ∷ xs) e s = let h : t ≡ x.0.key.time = cc in (
@@ -32,7 +32,7 @@ from_time a t e sorted = of_pending a.pending e sorted
 pub from_none : (a : StationCopy) (t : ℕ) → None ≡ first_time a.pending → IsLate t a
 from_none a t e = of_pending a.pending e
   where
-    of_pending : (q : Marked) → None ≡ first_time q → AllByRecursion (λ (y : Msg × CloneSet). t ≤ y.0.key.time) q
+    of_pending : (q : MarkedMessages) → None ≡ first_time q → AllByRecursion (λ (y : Msg × CloneSet). t ≤ y.0.key.time) q
     of_pending [] e = tt
     of_pending (x ∷ xs) e = absurd (cc)
 
@@ -50,7 +50,7 @@ pub late_zero : (xs : List StationCopy) → AreLate 0 xs
 late_zero [] = tt
 late_zero (x ∷ xs) = (none_before x.pending, late_zero xs)
   where
-    none_before : (q : Marked) → AllByRecursion (λ (y : Msg × CloneSet). 0 ≤ y.0.key.time) q
+    none_before : (q : MarkedMessages) → AllByRecursion (λ (y : Msg × CloneSet). 0 ≤ y.0.key.time) q
     none_before [] = tt
     none_before (y ∷ ys) = (omega arith, none_before ys)
 

@@ -9,7 +9,7 @@ use Rattle.sim_base.specs.declared.message.Msg.{Msg}
 use Rattle.sim_base.proofs.Placing.{all_weaker}
 use Rattle.clone_sets.specs.Sets.{union}
 use Rattle.clone_sets.specs.declared.set.CloneSet.{CloneSet}
-use Rattle.phys_proc.specs.Own.{StationCopy, Marked, IsLate, copy_after_fork}
+use Rattle.phys_proc.specs.Own.{StationCopy, MarkedMessages, IsLate, copy_after_fork}
 use Rattle.phys_proc.proofs.Forked.{late_forked}
 use Rattle.phys_proc.proofs.Sends.{all_inserted}
 
@@ -69,7 +69,7 @@ leasts_forked old new (t ∷ ts) (x ∷ xs) f = (
 )
 
 -- with a message put among those that are pending, nothing is before the time so far or its own, whichever is less
-pub least_inserted : (t u : ℕ) (m : Msg) (k : CloneSet) (q r : Marked) → u ≡ min t m.key.time
+pub least_inserted : (t u : ℕ) (m : Msg) (k : CloneSet) (q r : MarkedMessages) → u ≡ min t m.key.time
     → r ≡ insert_marked union msg_cmp m k q → AllByRecursion (λ (x : Msg × CloneSet). t ≤ x.0.key.time) q
     → AllByRecursion (λ (x : Msg × CloneSet). u ≤ x.0.key.time) r
 least_inserted t u m k q r e is f = subst (AllByRecursion (λ (x : Msg × CloneSet). u ≤ x.0.key.time)) (sym is)

@@ -22,7 +22,7 @@ use Rattle.run_laws.specs.Copies.{Ends, sends_aside}
 use Rattle.run_laws.proofs.Ends.{ends_done, ends_over, ends_handle, ends_same, ends_split}
 use Rattle.phys_proc.proofs.Counting.{few_more, few_apart, shared_more, shared_apart, alone-append}
 use Rattle.std.proofs.Math.Nat.{add-mul}
-use Rattle.phys_proc.specs.Own.{StationCopy, Marked, handled_alone, may_handle, takes_at, IsCopy}
+use Rattle.phys_proc.specs.Own.{StationCopy, MarkedMessages, handled_alone_by, may_handle, takes_at, IsCopy}
 use Rattle.phys_proc.specs.Own.{IsSameToClones, NextDue, NothingDue, IsHandled, IsAdvance, Onward, half}
 use Rattle.phys_proc.proofs.Parted.{copy_same, narrowed_same, copy_half, narrowed_half}
 
@@ -60,8 +60,8 @@ or_true true b e = refl
 or_true false b e = e
 
 -- a copy that has handled a message has one entry more
-pub longer_log : (net : Net) (s : ℕ) (copy new : StationCopy) (before after : Marked) (m : Msg) (k : CloneSet)
-    (q : Marked) → copy.pending ≡ (m, k) ∷ q → IsHandled net s copy new before after
+pub longer_log : (net : Net) (s : ℕ) (copy new : StationCopy) (before after : MarkedMessages) (m : Msg) (k : CloneSet)
+    (q : MarkedMessages) → copy.pending ≡ (m, k) ∷ q → IsHandled net s copy new before after
     → length new.log ≡ length copy.log + 1
 longer_log net s copy new before after m k q p h = ap (λ (u : StationCopy). length u.log) (h m k q p).0
     ∙ length-append copy.log _
@@ -69,15 +69,15 @@ longer_log net s copy new before after m k q p h = ap (λ (u : StationCopy). len
 module _ (net : Net) (s : ℕ) (ends : ℕ → ℕ) (bound : ℕ) where
   -- the end of a copy of the station at the bound: the copies that it becomes, what it sends, who goes over and what
   -- it gains
-  abbrev pub Comes : StationCopy → List StationCopy → Marked → Marked → CloneSet → CloneSet → ℕ → Type 0
+  abbrev pub Comes : StationCopy → List StationCopy → MarkedMessages → MarkedMessages → CloneSet → CloneSet → ℕ → Type 0
   Comes = Ends (simulation net) has ends s bound
 
   -- how far a copy of the station has come on its way to the bound
-  abbrev pub On : StationCopy → StationCopy → Marked → Marked → ℕ → ℕ → Type 0
+  abbrev pub On : StationCopy → StationCopy → MarkedMessages → MarkedMessages → ℕ → ℕ → Type 0
   On = Onward net s ends bound
 
   -- at first a copy is where it began, and no step was taken
-  pub onward_start : (first : StationCopy) (start : Marked) (steps : ℕ) → IsCopy net s first
+  pub onward_start : (first : StationCopy) (start : MarkedMessages) (steps : ℕ) → IsCopy net s first
       → On first first start start steps steps
   onward_start first start steps f =
       record {
@@ -94,7 +94,7 @@ module _ (net : Net) (s : ℕ) (ends : ℕ → ℕ) (bound : ℕ) where
       plus_none n = omega arith
 
   -- messages were passed over
-  abbrev pub onward_same : (first copy new : StationCopy) (start sent : Marked) (steps0 steps : ℕ)
+  abbrev pub onward_same : (first copy new : StationCopy) (start sent : MarkedMessages) (steps0 steps : ℕ)
       → On first copy start sent steps0 steps → IsSameToClones ends copy new → On first new start sent steps0 steps
   onward_same first copy new start sent steps0 steps o h = record {
     fits = copy_same ends net s copy new o.fits h;
@@ -107,7 +107,7 @@ module _ (net : Net) (s : ℕ) (ends : ℕ → ℕ) (bound : ℕ) where
         over_after n (narrowed_same ends net s copy new h) (λ c i. subst (λ k. has k c ≡ true) (sym h.set) i) e);
   }
 
-  module _ (first copy new : StationCopy) (start sent : Marked) (steps0 steps : ℕ)
+  module _ (first copy new : StationCopy) (start sent : MarkedMessages) (steps0 steps : ℕ)
       (o : On first copy start sent steps0 steps) (m : Msg) (takers : CloneSet)
       (d : NextDue ends bound copy new m takers) where
     -- without the messages that none of its clones takes, the copy has come as far
@@ -135,7 +135,7 @@ module _ (net : Net) (s : ℕ) (ends : ℕ → ℕ) (bound : ℕ) where
         (let h = onward_new.fits.short in omega arith) d.pending (all_take e) d.early)
 
     -- all take it
-    pub came_on : (next : StationCopy) (after : Marked) (steps1 : ℕ) → takers ≡ new.set → length new.log < net.limit
+    pub came_on : (next : StationCopy) (after : MarkedMessages) (steps1 : ℕ) → takers ≡ new.set → length new.log < net.limit
         → IsHandled net s new next sent after → steps1 ≡ steps + 1 → On first next start after steps0 steps1
     came_on next after steps1 e room handled tick =
         let x = handled m d.marks d.rest d.pending in
@@ -162,7 +162,7 @@ module _ (net : Net) (s : ℕ) (ends : ℕ → ℕ) (bound : ℕ) where
         one_more n t = omega arith
 
     -- some take it and some do not
-    pub came_apart : (mid after : Marked) (e1 e2 : List StationCopy) (over over1 over2 : CloneSet) (x1 x2 : ℕ)
+    pub came_apart : (mid after : MarkedMessages) (e1 e2 : List StationCopy) (over over1 over2 : CloneSet) (x1 x2 : ℕ)
         → Comes (half new takers) e1 sent mid over over1 x1
         → Comes (half new (minus new.set takers)) e2 mid after over1 over2 x2 →
         Comes first (e1 ++ e2) start after over over2 ((x1 + x2) + o.taken)
@@ -245,7 +245,7 @@ module _ (net : Net) (s : ℕ) (ends : ℕ → ℕ) (bound : ℕ) where
             ∙ (ap (λ k. has k c) (sym e) ∙ (has-union a new.set c ∙ or_true (has a c) (has new.set c) i)))
 
     -- where some clones take the message and some do not, the ends of both halves are together an end of the first copy
-    pub answer_apart : (done0 done1 done2 done3 : List StationCopy) (mid after : Marked)
+    pub answer_apart : (done0 done1 done2 done3 : List StationCopy) (mid after : MarkedMessages)
         (over0 over1 over2 over3 : CloneSet) (steps1 steps2 : ℕ) → done1 ≡ done0 → over1 ≡ over0 →
         IsAdvance net s ends bound (half new takers) done1 done2 sent mid over1 over2 steps steps1
         → IsAdvance net s ends bound (half new (minus new.set takers)) done2 done3 mid after over2 over3 steps1
@@ -266,7 +266,7 @@ module _ (net : Net) (s : ℕ) (ends : ℕ → ℕ) (bound : ℕ) where
           let h = alone-append a.results b.results in
           let k = shared_apart (size first.set) (length first.log) (length new.log) o.taken net.limit clones_some
           new_log onward_new.fits.short (size takers) (size (minus new.set takers)) a.gained b.gained
-          (handled_alone a.results) (handled_alone b.results)
+          (handled_alone_by a.results) (handled_alone_by b.results)
           parts_size (a.shared (first_none none)) (b.shared none) in
           omega (arith, h, k);
     }
@@ -312,7 +312,7 @@ module _ (net : Net) (s : ℕ) (ends : ℕ → ℕ) (bound : ℕ) where
     second_smaller = minus_smaller new.set takers (λ e. d.some (sym takers_meet ∙ e))
 
   -- nothing is left before the bound
-  pub came_to_rest : (first copy new : StationCopy) (start sent : Marked) (steps0 steps : ℕ)
+  pub came_to_rest : (first copy new : StationCopy) (start sent : MarkedMessages) (steps0 steps : ℕ)
       (o : On first copy start sent steps0 steps) → NothingDue ends bound copy new → (over : CloneSet)
       → Comes first (new ∷ []) start sent over over (0 + o.taken) × IsCopy net s new
   came_to_rest first copy new start sent steps0 steps o d over =
@@ -324,7 +324,7 @@ module _ (net : Net) (s : ℕ) (ends : ℕ → ℕ) (bound : ℕ) where
       )
 
   -- where nothing is due, the copy as it is is the end of the first copy
-  pub answer_rest : (first copy new : StationCopy) (start sent : Marked) (steps0 steps : ℕ)
+  pub answer_rest : (first copy new : StationCopy) (start sent : MarkedMessages) (steps0 steps : ℕ)
       (o : On first copy start sent steps0 steps) (d : NothingDue ends bound copy new)
       (done0 done1 done2 : List StationCopy) (over0 over1 : CloneSet) →
       done1 ≡ done0 → over1 ≡ over0 → done2 ≡ done1 ++ new ∷ []
@@ -353,14 +353,14 @@ module _ (net : Net) (s : ℕ) (ends : ℕ → ℕ) (bound : ℕ) where
       clones_some = subst (λ k. 0 < size k) n.set
           (size_some new.set (some_set new.set n.fits.inhabited.0 n.fits.inhabited.1))
 
-  module _ (first copy : StationCopy) (start sent : Marked) (steps0 steps : ℕ)
+  module _ (first copy : StationCopy) (start sent : MarkedMessages) (steps0 steps : ℕ)
       (o : On first copy start sent steps0 steps) where
     first_some : 0 < size first.set
     first_some = subst (λ k. 0 < size k) o.set
         (size_some copy.set (some_set copy.set o.fits.inhabited.0 o.fits.inhabited.1))
 
     -- the end of the copy from here on is an end of the first
-    pub answer_on : (done0 done1 : List StationCopy) (after : Marked) (over0 over1 : CloneSet) (steps1 : ℕ)
+    pub answer_on : (done0 done1 : List StationCopy) (after : MarkedMessages) (over0 over1 : CloneSet) (steps1 : ℕ)
         → IsAdvance net s ends bound copy done0 done1 sent after over0 over1 steps steps1
         → IsAdvance net s ends bound first done0 done1 start after over0 over1 steps0 steps1
     answer_on done0 done1 after over0 over1 steps1 a = record {

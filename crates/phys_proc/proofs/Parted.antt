@@ -13,27 +13,27 @@ use Rattle.clone_sets.proofs.SetLaws.{common_none, common_some, common_is}
 use Rattle.net_model.specs.Net.{Net}
 use Rattle.stations.specs.Runs.{simulation}
 use Rattle.sim_base.specs.Marked.{SortedMarked}
-use Rattle.run_laws.specs.Copies.{Narrowed}
+use Rattle.run_laws.specs.Copies.{IsNarrowed}
 use Rattle.sim_base.proofs.OrderEqual.{msg-timed}
 use Rattle.sim_base.proofs.Placing.{all_weaker}
 use Rattle.run_laws.proofs.Parts.{part_no, all_part_of}
 use Rattle.phys_proc.specs.Gone.{ends_in, is_gone}
 use Rattle.phys_proc.proofs.Gone.{gone_is, not_gone}
 use Rattle.std.proofs.lemmas.Bool.{false≢true}
-use Rattle.phys_proc.specs.Own.{StationCopy, Marked, AreMarks, takes_at, taken_at}
+use Rattle.phys_proc.specs.Own.{StationCopy, MarkedMessages, AreMarks, takes_at, taken_at}
 use Rattle.phys_proc.specs.Own.{IsCopy, IsSameToClones, NextDue, NothingDue, half}
 
 -- what a pair leaves in a cut, and what of it a clone of the cut takes
 module _ (by : CloneSet) where
-  abbrev cut : Marked → Marked
+  abbrev cut : MarkedMessages → MarkedMessages
   cut xs = cut_by common by xs
 
   -- the rest, with the message before it where marks are left to it
-  abbrev pub kept_of : Option CloneSet → Msg → Marked → Marked
+  abbrev pub kept_of : Option CloneSet → Msg → MarkedMessages → MarkedMessages
   kept_of o m rest = cons_option (option_map (λ k. (m, k)) o) rest
 
   module _ (ends : ℕ → ℕ) (c : ℕ) (in_by : has by c ≡ true) where
-    taken_one : (o : Option CloneSet) (x : Msg × CloneSet) (xs rest : Marked) → common x.1 by ≡ o
+    taken_one : (o : Option CloneSet) (x : Msg × CloneSet) (xs rest : MarkedMessages) → common x.1 by ≡ o
         → taken_at ends c rest ≡ taken_at ends c xs → taken_at ends c (kept_of o x.0 rest) ≡ taken_at ends c (x ∷ xs)
     taken_one None x xs rest e h =
         let no : has x.1 c ≡ false = and_true (has x.1 c) (ap (λ b. has x.1 c && b) (sym in_by)
@@ -54,21 +54,21 @@ module _ (by : CloneSet) where
         with_true false = refl
 
     -- a clone of the cut takes what it took
-    pub taken_cut : (xs : Marked) → taken_at ends c (cut xs) ≡ taken_at ends c xs
+    pub taken_cut : (xs : MarkedMessages) → taken_at ends c (cut xs) ≡ taken_at ends c xs
     taken_cut [] = refl
     taken_cut (x ∷ xs) = taken_one (common x.1 by) x xs (cut xs) refl (taken_cut xs)
 
-  all_kept : (P : Msg → Type 0) (o : Option CloneSet) (m : Msg) (rest : Marked) → P m
+  all_kept : (P : Msg → Type 0) (o : Option CloneSet) (m : Msg) (rest : MarkedMessages) → P m
       → AllByRecursion (λ x. P x.0) rest → AllByRecursion (λ x. P x.0) (kept_of o m rest)
   all_kept P None m rest p f = f
   all_kept P (Some k) m rest p f = (p, f)
 
   -- what holds of all messages holds of those of the cut
-  pub all_cut : (P : Msg → Type 0) (xs : Marked) → AllByRecursion (λ x. P x.0) xs → AllByRecursion (λ x. P x.0) (cut xs)
+  pub all_cut : (P : Msg → Type 0) (xs : MarkedMessages) → AllByRecursion (λ x. P x.0) xs → AllByRecursion (λ x. P x.0) (cut xs)
   all_cut P [] f = tt
   all_cut P (x ∷ xs) f = all_kept P (common x.1 by) x.0 (cut xs) f.0 (all_cut P xs f.1)
 
-  marks_kept : (o : Option CloneSet) (x : Msg × CloneSet) (rest : Marked) → common x.1 by ≡ o
+  marks_kept : (o : Option CloneSet) (x : Msg × CloneSet) (rest : MarkedMessages) → common x.1 by ≡ o
       → AllByRecursion (λ y. AreMarks by y.1) rest → AllByRecursion (λ y. AreMarks by y.1) (kept_of o x.0 rest)
   marks_kept None x rest e f = f
   marks_kept (Some k) x rest e f = (
@@ -85,53 +85,53 @@ module _ (by : CloneSet) where
       and_second false b h = absurd (false≢true h)
 
   -- marks in a cut are some of the clones that it is for
-  pub marks_cut : (xs : Marked) → AllByRecursion (λ y. AreMarks by y.1) (cut xs)
+  pub marks_cut : (xs : MarkedMessages) → AllByRecursion (λ y. AreMarks by y.1) (cut xs)
   marks_cut [] = tt
   marks_cut (x ∷ xs) = marks_kept (common x.1 by) x (cut xs) refl (marks_cut xs)
 
-  sorted_kept : (o : Option CloneSet) (m : Msg) (rest : Marked) → AllByRecursion (λ x. msg_cmp m x.0 ≡ Less) rest
+  sorted_kept : (o : Option CloneSet) (m : Msg) (rest : MarkedMessages) → AllByRecursion (λ x. msg_cmp m x.0 ≡ Less) rest
       → SortedMarked msg_cmp rest → SortedMarked msg_cmp (kept_of o m rest)
   sorted_kept None m rest f s = s
   sorted_kept (Some k) m rest f s = (f, s)
 
   -- and their order stays
-  pub sorted_cut : (xs : Marked) → SortedMarked msg_cmp xs → SortedMarked msg_cmp (cut xs)
+  pub sorted_cut : (xs : MarkedMessages) → SortedMarked msg_cmp xs → SortedMarked msg_cmp (cut xs)
   sorted_cut [] s = tt
   sorted_cut (x ∷ xs) s = sorted_kept (common x.1 by) x.0 (cut xs) (all_cut (λ z. msg_cmp x.0 z ≡ Less) xs s.0)
       (sorted_cut xs s.1)
 
 -- a list in order stays so without its first ones
-pub sorted_rest : (xs ys : Marked) → SortedMarked msg_cmp (xs ++ ys) → SortedMarked msg_cmp ys
+pub sorted_rest : (xs ys : MarkedMessages) → SortedMarked msg_cmp (xs ++ ys) → SortedMarked msg_cmp ys
 sorted_rest [] ys s = s
 sorted_rest (x ∷ xs) ys s = sorted_rest xs ys s.1
 
-all_rest : (P : Msg × CloneSet → Type 0) (xs ys : Marked) → AllByRecursion P (xs ++ ys) → AllByRecursion P ys
+all_rest : (P : Msg × CloneSet → Type 0) (xs ys : MarkedMessages) → AllByRecursion P (xs ++ ys) → AllByRecursion P ys
 all_rest P [] ys f = f
 all_rest P (x ∷ xs) ys f = all_rest P xs ys f.1
 
 -- the first of a list
-pub first_of : (q : Marked) (x : Msg × CloneSet) → Some x ≡ slice_get q 0 → (rest : Marked) × (q ≡ x ∷ rest)
+pub first_of : (q : MarkedMessages) (x : Msg × CloneSet) → Some x ≡ slice_get q 0 → (rest : MarkedMessages) × (q ≡ x ∷ rest)
 first_of [] x e = absurd (cc)
 first_of (y ∷ ys) x e = let h : y ≡ x = cc in (ys, ap (λ z. z ∷ ys) h)
 
-abbrev tail_of : Marked → Marked
+abbrev tail_of : MarkedMessages → MarkedMessages
 tail_of [] = []
 tail_of (x ∷ xs) = xs
 
 -- a list that has a first has as its first what is read at place 0
-pub first_is : (q : Marked) (x y : Msg × CloneSet) (rest : Marked) → Some x ≡ slice_get q 0 → q ≡ y ∷ rest
+pub first_is : (q : MarkedMessages) (x y : Msg × CloneSet) (rest : MarkedMessages) → Some x ≡ slice_get q 0 → q ≡ y ∷ rest
     → q ≡ x ∷ rest
 first_is [] x y rest e f = absurd (cc)
 first_is (z ∷ zs) x y rest e f = let h : z ≡ x = cc in let t : zs ≡ rest = ap tail_of f in λ i. h i ∷ t i
 
 -- where there is a first time, there is a first message of that time
-pub first_timed : (q : Marked) (t : ℕ) → Some t ≡ first_time q
+pub first_timed : (q : MarkedMessages) (t : ℕ) → Some t ≡ first_time q
     → (x : Msg × CloneSet) × (Some x ≡ slice_get q 0) × (x.0.key.time ≡ t)
 first_timed [] t e = absurd (cc)
 first_timed (x ∷ xs) t e = let h : t ≡ x.0.key.time = cc in (x, refl, sym h)
 
 -- and with the first marks
-pub first_marked : (q : Marked) (t : ℕ) (k : CloneSet) → Some t ≡ first_time q → Some k ≡ first_marks q
+pub first_marked : (q : MarkedMessages) (t : ℕ) (k : CloneSet) → Some t ≡ first_time q → Some k ≡ first_marks q
     → (m : Msg) × (Some (m, k) ≡ slice_get q 0) × (m.key.time ≡ t)
 first_marked [] t k e f = absurd (cc)
 first_marked (x ∷ xs) t k e f =
@@ -140,23 +140,23 @@ first_marked (x ∷ xs) t k e f =
     (x.0, ap (λ l. Some (x.0, l)) g, sym h)
 
 -- where there is none, there is no message
-pub none_timed : (q : Marked) → None ≡ first_time q → None ≡ slice_get q 0
+pub none_timed : (q : MarkedMessages) → None ≡ first_time q → None ≡ slice_get q 0
 none_timed [] e = refl
 none_timed (x ∷ xs) e = absurd (cc)
 
 -- where there is a first time, a message waits
-pub some_waits : (q : Marked) (t : ℕ) → Some t ≡ first_time q → 0 < length q
+pub some_waits : (q : MarkedMessages) (t : ℕ) → Some t ≡ first_time q → 0 < length q
 some_waits [] t e = absurd (cc)
 some_waits (x ∷ xs) t e = omega arith
 
 -- a list with nothing at place 0 is empty
-pub none_of : (q : Marked) → None ≡ slice_get q 0 → q ≡ []
+pub none_of : (q : MarkedMessages) → None ≡ slice_get q 0 → q ≡ []
 none_of [] e = refl
 none_of (y ∷ ys) e = absurd (cc)
 
 module _ (ends : ℕ → ℕ) where
   -- with the least message at the bound or later nothing is due
-  late_one : (c bound : ℕ) (m : Msg) (k : CloneSet) (q : Marked) → bound ≤ m.key.time
+  late_one : (c bound : ℕ) (m : Msg) (k : CloneSet) (q : MarkedMessages) → bound ≤ m.key.time
       → AllByRecursion (λ x. msg_cmp m x.0 ≡ Less) q
       → AllByRecursion (λ m. bound ≤ m.key.time) (taken_at ends c ((m, k) ∷ q))
   late_one c bound m k q late f = all_part_of (takes_at ends) c (λ m. bound ≤ m.key.time) ((m, k) ∷ q) (
@@ -228,7 +228,7 @@ module _ (ends : ℕ → ℕ) where
     }
 
     -- and its clones see what they saw
-    pub narrowed_same : (a b : StationCopy) → IsSameToClones ends a b → Narrowed (simulation net) has ends a b
+    pub narrowed_same : (a b : StationCopy) → IsSameToClones ends a b → IsNarrowed (simulation net) has ends a b
     narrowed_same a b h = record {
       state = h.state;
       log = h.log;
@@ -255,7 +255,7 @@ module _ (ends : ℕ → ℕ) where
 
     -- whose clones see what they saw
     pub narrowed_half : (a : StationCopy) (some : CloneSet) → ((c : ℕ) → has some c ≡ true → has a.set c ≡ true)
-        → Narrowed (simulation net) has ends a (half a some)
+        → IsNarrowed (simulation net) has ends a (half a some)
     narrowed_half a some within = record {
       state = refl;
       log = refl;

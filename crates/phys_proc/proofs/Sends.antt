@@ -12,10 +12,10 @@ use Rattle.clone_sets.proofs.SetLaws.{has-union, has-empty, empty_from_none}
 use Rattle.clone_sets.specs.declared.set.CloneSet.{CloneSet}
 use Rattle.run_laws.specs.Copies.{insert_marked_all}
 use Rattle.run_laws.proofs.Bools.{or_cases}
-use Rattle.phys_proc.specs.Own.{Marked, AreMarks}
+use Rattle.phys_proc.specs.Own.{MarkedMessages, AreMarks}
 
 module _ (P : Msg → Type 0) (set : CloneSet) where
-  all_placed : (r : Ordering) (m : Msg) (y : Msg × CloneSet) (ys rest : Marked) → P m
+  all_placed : (r : Ordering) (m : Msg) (y : Msg × CloneSet) (ys rest : MarkedMessages) → P m
       → AllByRecursion (λ x. P x.0) (y ∷ ys) → AllByRecursion (λ x. P x.0) rest
       → AllByRecursion (λ x. P x.0) (place_marked union r m set y ys rest)
   all_placed Less m y ys rest p f g = (p, f)
@@ -23,14 +23,14 @@ module _ (P : Msg → Type 0) (set : CloneSet) where
   all_placed Greater m y ys rest p f g = (f.0, g)
 
   -- what holds of the messages that are there and of a new one holds of all, once it is put in its place
-  pub all_inserted : (m : Msg) (q : Marked) → P m → AllByRecursion (λ x. P x.0) q
+  pub all_inserted : (m : Msg) (q : MarkedMessages) → P m → AllByRecursion (λ x. P x.0) q
       → AllByRecursion (λ x. P x.0) (insert_marked union msg_cmp m set q)
   all_inserted m [] p f = (p, tt)
   all_inserted m (y ∷ ys) p f = all_placed (msg_cmp m y.0) m y ys (insert_marked union msg_cmp m set ys) p f
       (all_inserted m ys p f.1)
 
   -- what holds of the messages that are there and of the new ones
-  pub all_inserted_all : (ms : List Msg) (q : Marked) → AllByRecursion P ms → AllByRecursion (λ x. P x.0) q
+  pub all_inserted_all : (ms : List Msg) (q : MarkedMessages) → AllByRecursion P ms → AllByRecursion (λ x. P x.0) q
       → AllByRecursion (λ x. P x.0) (insert_marked_all union msg_cmp ms set q)
   all_inserted_all [] q p f = f
   all_inserted_all (m ∷ ms) q p f = all_inserted_all ms (insert_marked union msg_cmp m set q) p.1
@@ -39,7 +39,7 @@ module _ (P : Msg → Type 0) (set : CloneSet) where
 -- what holds of the marks that are there and of the new ones, and of marks that are joined
 module _ (P : CloneSet → Type 0) (joined : (a b : CloneSet) → P a → P b → P (union a b)) (set : CloneSet)
     (new : P set) where
-  marks_placed : (r : Ordering) (m : Msg) (y : Msg × CloneSet) (ys rest : Marked)
+  marks_placed : (r : Ordering) (m : Msg) (y : Msg × CloneSet) (ys rest : MarkedMessages)
       → AllByRecursion (λ x. P x.1) (y ∷ ys) → AllByRecursion (λ x. P x.1) rest
       → AllByRecursion (λ x. P x.1) (place_marked union r m set y ys rest)
   marks_placed Less m y ys rest f g = (new, f)
@@ -47,14 +47,14 @@ module _ (P : CloneSet → Type 0) (joined : (a b : CloneSet) → P a → P b �
   marks_placed Greater m y ys rest f g = (f.0, g)
 
   -- it holds of all marks once a message with the new marks is put in its place
-  pub marks_inserted : (m : Msg) (q : Marked) → AllByRecursion (λ x. P x.1) q
+  pub marks_inserted : (m : Msg) (q : MarkedMessages) → AllByRecursion (λ x. P x.1) q
       → AllByRecursion (λ x. P x.1) (insert_marked union msg_cmp m set q)
   marks_inserted m [] f = (new, tt)
   marks_inserted m (y ∷ ys) f = marks_placed (msg_cmp m y.0) m y ys (insert_marked union msg_cmp m set ys) f
       (marks_inserted m ys f.1)
 
   -- and once several are
-  pub marks_inserted_all : (ms : List Msg) (q : Marked) → AllByRecursion (λ x. P x.1) q
+  pub marks_inserted_all : (ms : List Msg) (q : MarkedMessages) → AllByRecursion (λ x. P x.1) q
       → AllByRecursion (λ x. P x.1) (insert_marked_all union msg_cmp ms set q)
   marks_inserted_all [] q f = f
   marks_inserted_all (m ∷ ms) q f = marks_inserted_all ms (insert_marked union msg_cmp m set q) (marks_inserted m q f)

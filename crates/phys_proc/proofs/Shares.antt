@@ -14,8 +14,8 @@ use Rattle.net_model.specs.Net.{Net}
 use Rattle.stations.specs.Runs.{simulation}
 use Rattle.run_laws.specs.Copies.{Carries, Disjoint, IsStepped}
 use Rattle.run_laws.proofs.Queue.{all_from}
-use Rattle.phys_proc.specs.Own.{StationCopy, Marked, IsCopy, all_clones}
-use Rattle.phys_proc.specs.Own.{all_sizes, handled_alone, may_handle, but_pending}
+use Rattle.phys_proc.specs.Own.{StationCopy, MarkedMessages, IsCopy, all_clones}
+use Rattle.phys_proc.specs.Own.{all_sizes, handled_alone_by, may_handle, but_pending}
 use Rattle.phys_proc.specs.Procs.{AreShared, KeepsShares}
 use Rattle.phys_proc.proofs.Counting.{in_some, some_in, size_all, all_sizes-append, alone_short}
 
@@ -49,7 +49,7 @@ clones_map : (xs : List StationCopy) → all_clones (map but_pending xs) ≡ all
 clones_map [] = refl
 clones_map (x ∷ xs) = ap (λ k. union x.set k) (clones_map xs)
 
-alone_map : (xs : List StationCopy) → handled_alone (map but_pending xs) ≡ handled_alone xs
+alone_map : (xs : List StationCopy) → handled_alone_by (map but_pending xs) ≡ handled_alone_by xs
 alone_map [] = refl
 alone_map (x ∷ xs) = ap (λ n. size x.set * length x.log + n) (alone_map xs)
 
@@ -71,7 +71,7 @@ shares_same s handled living xs ys e k = record {
     disjoint = disjoint_same xs ys e k.shares.disjoint;
     together = sym (clones_map ys) ∙ (ap all_clones e ∙ (clones_map xs ∙ k.shares.together));
   };
-  once = let a = alone_map xs in let b = alone_map ys in let c = ap handled_alone e in let h = k.once in
+  once = let a = alone_map xs in let b = alone_map ys in let c = ap handled_alone_by e in let h = k.once in
       omega (arith, a, b, c, h);
 }
 
@@ -84,7 +84,7 @@ same_set (suc i) (x ∷ xs) y d l e = ap (λ t. but_pending x ∷ t) (same_set i
 
 -- ---- after a step
 
-module _ (net : Net) (s : ℕ) (ends : ℕ → ℕ) (bound : ℕ) (old new : List StationCopy) (sent : Marked)
+module _ (net : Net) (s : ℕ) (ends : ℕ → ℕ) (bound : ℕ) (old new : List StationCopy) (sent : MarkedMessages)
     (stepped : IsStepped (simulation net) has ends s bound old new sent) where
   some_clone : (a : StationCopy) (c : ℕ) → Carries has a c → a.set ≢ empty
   some_clone a c i e = false≢true (sym (has-empty c) ∙ (ap (λ k. has k c) (sym e) ∙ i))
@@ -100,8 +100,8 @@ module _ (net : Net) (s : ℕ) (ends : ℕ → ℕ) (bound : ℕ) (old new : Lis
   ]
 
   -- the new copies share out the clones that the old ones did
-  pub shares_after : (living : CloneSet) (handled more : ℕ) → all_clones old ≡ living → handled ≤ handled_alone old
-      → handled_alone old + more ≤ handled_alone new
+  pub shares_after : (living : CloneSet) (handled more : ℕ) → all_clones old ≡ living → handled ≤ handled_alone_by old
+      → handled_alone_by old + more ≤ handled_alone_by new
       → KeepsShares (record { station = s; living = living; handled = handled + more; copies = new })
   shares_after living handled more e l m = record {
     shares = record {
@@ -139,7 +139,7 @@ few_next limit h ys zs x l k f =
 
 -- so much was handled at most
 pub few_handled : (net : Net) (s handled : ℕ) (copies : List StationCopy) → AllByRecursion (IsCopy net s) copies
-    → all_sizes copies ≤ 256 → net.limit ≤ 65536 → handled ≤ handled_alone copies → handled ≤ 2 ^ 32
+    → all_sizes copies ≤ 256 → net.limit ≤ 65536 → handled ≤ handled_alone_by copies → handled ≤ 2 ^ 32
 few_handled net s handled copies f l k h =
     let a = alone_short net.limit copies (all_short copies f) in
     let c = mul-le (all_sizes copies) net.limit 256 65536 l k in

@@ -15,7 +15,7 @@ use Rattle.run_laws.specs.Copies.{Disjoint, Carries}
 use Rattle.run_laws.proofs.Queue.{all_in, all_from}
 use Rattle.run_laws.proofs.Lists.{in_append, append_old, append_new}
 use Rattle.run_laws.proofs.Ends.{disjoint_append}
-use Rattle.phys_proc.specs.Own.{StationCopy, Marked, IsCopy, IsAdvance, Onward, IsStepResult, NothingDue, IsLate}
+use Rattle.phys_proc.specs.Own.{StationCopy, MarkedMessages, IsCopy, IsAdvance, Onward, IsStepResult, NothingDue, IsLate}
 use Rattle.phys_proc.specs.Own.{all_sizes, may_handle}
 use Rattle.phys_proc.proofs.Counting.{alone-append}
 use Rattle.phys_proc.proofs.Shares.{few_next}
@@ -133,7 +133,7 @@ disjoint_turned a m b d =
 
 module _ (net : Net) (s : ℕ) (ends : ℕ → ℕ) (bound : ℕ) where
   -- nothing that a step says depends on the order of what is done
-  stepping_turned : (old a m b : List StationCopy) (sent : Marked) (over : CloneSet) (steps0 steps : ℕ)
+  stepping_turned : (old a m b : List StationCopy) (sent : MarkedMessages) (over : CloneSet) (steps0 steps : ℕ)
       → IsStepResult net s ends bound old ((a ++ m) ++ b) sent over steps0 steps
       → IsStepResult net s ends bound old ((a ++ b) ++ m) sent over steps0 steps
   stepping_turned old a m b sent over steps0 steps f =
@@ -170,7 +170,7 @@ module _ (net : Net) (s : ℕ) (ends : ℕ → ℕ) (bound : ℕ) where
       }
 
   -- copies that were done before stay
-  advanced_behind : (front : List StationCopy) (r : StationCopy) (done0 done1 : List StationCopy) (sent0 sent1 : Marked)
+  advanced_behind : (front : List StationCopy) (r : StationCopy) (done0 done1 : List StationCopy) (sent0 sent1 : MarkedMessages)
       (over0 over1 : CloneSet) (steps0 steps1 : ℕ)
       → IsAdvance net s ends bound r done0 done1 sent0 sent1 over0 over1 steps0 steps1
       → IsAdvance net s ends bound r (front ++ done0) (front ++ done1) sent0 sent1 over0 over1 steps0 steps1
@@ -189,14 +189,14 @@ module _ (net : Net) (s : ℕ) (ends : ℕ → ℕ) (bound : ℕ) where
 
 -- the copies before a place are done, and so are those that came of copies that were taken out
 pub record Standing (net : Net) (s : ℕ) (ends : ℕ → ℕ) (bound : ℕ) (all : List StationCopy) (i : ℕ)
-    (cs more : List StationCopy) (sent : Marked) (over : CloneSet) (steps0 steps : ℕ) : Type 0 where
+    (cs more : List StationCopy) (sent : MarkedMessages) (over : CloneSet) (steps0 steps : ℕ) : Type 0 where
   pub passed : List StationCopy
   pub whole : all ≡ passed ++ drop i cs
   pub far : IsStepResult net s ends bound passed (take i cs ++ more) sent over steps0 steps
 
 module _ (net : Net) (valid : IsNet net) (s : ℕ) (ends : ℕ → ℕ) (bound : ℕ) where
   -- at first none is done
-  pub standing_start : (all more : List StationCopy) (sent : Marked) (over : CloneSet) (steps : ℕ) → more ≡ []
+  pub standing_start : (all more : List StationCopy) (sent : MarkedMessages) (over : CloneSet) (steps : ℕ) → more ≡ []
       → sent ≡ [] → over ≡ empty → Standing net s ends bound all 0 all more sent over steps steps
   standing_start all more sent over steps e f g = record {
     passed = [];
@@ -208,7 +208,7 @@ module _ (net : Net) (valid : IsNet net) (s : ℕ) (ends : ℕ → ℕ) (bound :
   }
 
   -- a copy that the loop comes to
-  module _ (all cs more : List StationCopy) (i : ℕ) (sent : Marked) (over : CloneSet) (steps0 steps : ℕ)
+  module _ (all cs more : List StationCopy) (i : ℕ) (sent : MarkedMessages) (over : CloneSet) (steps0 steps : ℕ)
       (h : Standing net s ends bound all i cs more sent over steps0 steps) (there : i < length cs)
       (x : StationCopy) (is : x ≡ get_or cs i x) where
     abbrev left : List StationCopy
@@ -234,7 +234,7 @@ module _ (net : Net) (valid : IsNet net) (s : ℕ) (ends : ℕ → ℕ) (bound :
         few_next net.limit handled h.passed left x (omega (arith, few, sizes)) valid.short (omega (arith, f, k, e))
 
     -- it stays where it stands
-    pub standing_next : Disjoint has all → (y : StationCopy) (after more1 : List StationCopy) (next : Marked)
+    pub standing_next : Disjoint has all → (y : StationCopy) (after more1 : List StationCopy) (next : MarkedMessages)
         (over1 : CloneSet) (steps1 : ℕ) → Onward net s ends bound x y sent next steps steps1 → NothingDue ends bound y y
         → after ≡ slice_set cs i y → more1 ≡ more → over1 ≡ over
         → Standing net s ends bound all (i + 1) after more1 next over1 steps0 steps1
@@ -262,7 +262,7 @@ module _ (net : Net) (valid : IsNet net) (s : ℕ) (ends : ℕ → ℕ) (bound :
         refl
 
     -- it is taken out, and the copies that it becomes are put with the others
-    pub standing_out : Disjoint has all → (y : StationCopy) (after more1 more2 : List StationCopy) (mid next : Marked)
+    pub standing_out : Disjoint has all → (y : StationCopy) (after more1 more2 : List StationCopy) (mid next : MarkedMessages)
         (over1 over2 : CloneSet) (steps1 steps2 : ℕ) → Onward net s ends bound x y sent mid steps steps1
         → IsAdvance net s ends bound y more1 more2 mid next over1 over2 steps1 steps2
         → after ≡ remove (slice_set cs i y) i → more1 ≡ more → over1 ≡ over
@@ -283,7 +283,7 @@ module _ (net : Net) (valid : IsNet net) (s : ℕ) (ends : ℕ → ℕ) (bound :
         }
 
   -- all are done
-  pub standing_end : (all cs more : List StationCopy) (i : ℕ) (sent : Marked) (over : CloneSet) (steps0 steps : ℕ)
+  pub standing_end : (all cs more : List StationCopy) (i : ℕ) (sent : MarkedMessages) (over : CloneSet) (steps0 steps : ℕ)
       → Standing net s ends bound all i cs more sent over steps0 steps → length cs ≤ i
       → IsStepResult net s ends bound all (cs ++ more) sent over steps0 steps
   standing_end all cs more i sent over steps0 steps h end =

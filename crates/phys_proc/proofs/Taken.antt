@@ -20,7 +20,7 @@ use Rattle.run_laws.proofs.Bools.{and_cases}
 use Rattle.run_laws.proofs.Queue.{all_in}
 use Rattle.run_laws.proofs.Parts.{all_part_of}
 use Rattle.run_laws.proofs.Lists.{in_cons_if, cons_if_new, in_append, append_old, append_new}
-use Rattle.phys_proc.specs.Own.{StationCopy, Marked, IsLate, takes_at, taken_at}
+use Rattle.phys_proc.specs.Own.{StationCopy, MarkedMessages, IsLate, takes_at, taken_at}
 use Rattle.phys_proc.specs.Procs.{IsTakenBy, IsLeastTime, IsLeastOf, IsLeast, IsWithCopy}
 use Rattle.phys_proc.specs.Gone.{ends_in, is_gone}
 use Rattle.phys_proc.proofs.Gone.{gone_is, ends_soon}
@@ -28,7 +28,7 @@ use Rattle.phys_proc.proofs.Parted.{kept_of}
 
 -- ---- what a clone takes
 
-in_taken : (ends : ℕ → ℕ) (c : ℕ) (q : Marked) (z : Msg) → In z (taken_at ends c q) → (k : CloneSet) × In (z, k) q
+in_taken : (ends : ℕ → ℕ) (c : ℕ) (q : MarkedMessages) (z : Msg) → In z (taken_at ends c q) → (k : CloneSet) × In (z, k) q
     × (takes_at ends z k c ≡ true)
 in_taken ends c [] z i = absurd i
 in_taken ends c (x ∷ xs) z i = elim (in_cons_if (takes_at ends x.0 x.1 c) x.0 (taken_at ends c xs) z i) [
@@ -36,7 +36,7 @@ in_taken ends c (x ∷ xs) z i = elim (in_cons_if (takes_at ends x.0 x.1 c) x.0 
   | inr h ↦ let r = in_taken ends c xs z h in (r.0, inr r.1, r.2)
 ]
 
-taken_has : (ends : ℕ → ℕ) (c : ℕ) (q : Marked) (x : Msg × CloneSet) → In x q → takes_at ends x.0 x.1 c ≡ true
+taken_has : (ends : ℕ → ℕ) (c : ℕ) (q : MarkedMessages) (x : Msg × CloneSet) → In x q → takes_at ends x.0 x.1 c ≡ true
     → In x.0 (taken_at ends c q)
 taken_has ends c [] x i t = absurd i
 taken_has ends c (y ∷ ys) x (inl e) t = cons_if_new (takes_at ends y.0 y.1 c) y.0 (taken_at ends c ys) x.0
@@ -50,21 +50,21 @@ taken_has ends c (y ∷ ys) x (inr i) t = later (takes_at ends y.0 y.1 c) (taken
 -- ---- the first message whose marks meet a set
 
 -- m is the first, and j is what its marks share with the set k
-pub record IsFirstWith (k : CloneSet) (q : Marked) (m : Msg) (j : CloneSet) : Type 0 where
+pub record IsFirstWith (k : CloneSet) (q : MarkedMessages) (m : Msg) (j : CloneSet) : Type 0 where
   pub marks : CloneSet
   pub there : In (m, marks) q
   pub meets : common marks k ≡ Some j
   pub least : (c : ℕ) → has k c ≡ true → (x : Msg × CloneSet) → In x q → has x.1 c ≡ true → m.key.time ≤ x.0.key.time
 
 -- no message has marks of the set
-abbrev pub NoneWith : CloneSet → Marked → Type 0
+abbrev pub NoneWith : CloneSet → MarkedMessages → Type 0
 NoneWith k q = (c : ℕ) → has k c ≡ true → (x : Msg × CloneSet) → In x q → has x.1 c ≡ true → ⊥
 
 not_met : (k : CloneSet) (x : Msg × CloneSet) → common x.1 k ≡ None → (c : ℕ) → has k c ≡ true → has x.1 c ≡ true → ⊥
 not_met k x e c i j = false≢true (sym (common_none x.1 k e c) ∙ (ap (λ b. b && has k c) j ∙ i))
 
 -- the first message of the cut by a set is the first whose marks meet the set
-pub first_with : (k : CloneSet) (q : Marked) (p : Msg × CloneSet) → SortedMarked msg_cmp q
+pub first_with : (k : CloneSet) (q : MarkedMessages) (p : Msg × CloneSet) → SortedMarked msg_cmp q
     → Some p ≡ slice_get (cut_by common k q) 0 → IsFirstWith k q p.0 p.1
 first_with k [] p s e = absurd (cc)
 first_with k (x ∷ xs) p s e = by_met (common x.1 k) refl e (λ f. first_with k xs p s.1 f)
@@ -96,7 +96,7 @@ first_with k (x ∷ xs) p s e = by_met (common x.1 k) refl e (λ f. first_with k
         })
 
 -- where the cut by a set is empty, no message has marks of the set
-pub none_with : (k : CloneSet) (q : Marked) → None ≡ slice_get (cut_by common k q) 0 → NoneWith k q
+pub none_with : (k : CloneSet) (q : MarkedMessages) → None ≡ slice_get (cut_by common k q) 0 → NoneWith k q
 none_with k [] e = λ c i x m t. m
 none_with k (x ∷ xs) e = by_met (common x.1 k) refl e (λ f. none_with k xs f)
   where
@@ -112,7 +112,7 @@ none_with k (x ∷ xs) e = by_met (common x.1 k) refl e (λ f. none_with k xs f)
 -- ---- one clone
 
 -- it takes the first message that is marked with it, if that comes before its end
-pub least_one : (ends : ℕ → ℕ) (c end : ℕ) (q : Marked) (p : Msg × CloneSet) → end ≡ ends c → SortedMarked msg_cmp q
+pub least_one : (ends : ℕ → ℕ) (c end : ℕ) (q : MarkedMessages) (p : Msg × CloneSet) → end ≡ ends c → SortedMarked msg_cmp q
     → Some p ≡ slice_get (cut_by common (one c) q) 0 → p.0.key.time < end
     → IsLeastTime (λ m. In m (taken_at ends c q)) (Some p.0.key.time)
 least_one ends c end q p e s first soon =
@@ -134,7 +134,7 @@ least_one ends c end q p e s first soon =
     )
 
 -- it takes nothing, if that comes at its end or later
-pub least_ended : (ends : ℕ → ℕ) (c end : ℕ) (q : Marked) (p : Msg × CloneSet) → end ≡ ends c → SortedMarked msg_cmp q
+pub least_ended : (ends : ℕ → ℕ) (c end : ℕ) (q : MarkedMessages) (p : Msg × CloneSet) → end ≡ ends c → SortedMarked msg_cmp q
     → Some p ≡ slice_get (cut_by common (one c) q) 0 → end ≤ p.0.key.time → (z : Msg) → ¬ (In z (taken_at ends c q))
 least_ended ends c end q p e s first late z i =
     let f = first_with (one c) q p s first in
@@ -145,7 +145,7 @@ least_ended ends c end q p e s first late z i =
     absurd (omega (arith, l, b, late, e))
 
 -- nor does it where no message is marked with it
-pub least_unmarked : (ends : ℕ → ℕ) (c : ℕ) (q : Marked) → None ≡ slice_get (cut_by common (one c) q) 0 → (z : Msg)
+pub least_unmarked : (ends : ℕ → ℕ) (c : ℕ) (q : MarkedMessages) → None ≡ slice_get (cut_by common (one c) q) 0 → (z : Msg)
     → ¬ (In z (taken_at ends c q))
 least_unmarked ends c q none z i =
     let k = in_taken ends c q z i in
@@ -160,15 +160,15 @@ least_beside A P (Some t) h a = ((a.0.0, (h, a.0.1), a.0.2), λ m p. a.1 m p.1)
 -- ---- any clone of a copy
 
 -- a message that some clone of the set takes
-abbrev pub AnyTakes : (ℕ → ℕ) → CloneSet → Marked → Msg → Type 0
+abbrev pub AnyTakes : (ℕ → ℕ) → CloneSet → MarkedMessages → Msg → Type 0
 AnyTakes ends set q m = (c : ℕ) × (has set c ≡ true) × In m (taken_at ends c q)
 
 -- the clones of the set that are not in `alive` take nothing
-pub record OthersNone (ends : ℕ → ℕ) (set alive : CloneSet) (q : Marked) : Type 0 where
+pub record OthersNone (ends : ℕ → ℕ) (set alive : CloneSet) (q : MarkedMessages) : Type 0 where
   pub within : (c : ℕ) → has alive c ≡ true → has set c ≡ true
   pub none : (c : ℕ) → has set c ≡ true → has alive c ≡ false → (m : Msg) → ¬ (In m (taken_at ends c q))
 
-module _ (horizon : ℕ) (es : List (ℕ × ℕ)) (set alive : CloneSet) (q : Marked)
+module _ (horizon : ℕ) (es : List (ℕ × ℕ)) (set alive : CloneSet) (q : MarkedMessages)
     (h : OthersNone (ends_in horizon es) set alive q) (sorted : SortedMarked msg_cmp q) where
   -- none of them has a message
   pub none_alive : None ≡ slice_get (cut_by common alive q) 0 → (m : Msg) → ¬ (AnyTakes (ends_in horizon es) set q m)

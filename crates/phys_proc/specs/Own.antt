@@ -23,15 +23,15 @@ abbrev pub StationCopy : Type 0
 StationCopy = Copy StateView Msg Line CloneSet
 
 -- messages, each with its marks
-abbrev pub Marked : Type 0
-Marked = List (Msg × CloneSet)
+abbrev pub MarkedMessages : Type 0
+MarkedMessages = List (Msg × CloneSet)
 
 -- a clone that ends then takes a message with these marks
 abbrev pub takes_at : (ℕ → ℕ) → Msg → CloneSet → ℕ → Bool
 takes_at ends m k c = has k c && nat_lt m.key.time (ends c)
 
 -- the messages among these that the clone takes
-abbrev pub taken_at : (ℕ → ℕ) → ℕ → Marked → List Msg
+abbrev pub taken_at : (ℕ → ℕ) → ℕ → MarkedMessages → List Msg
 taken_at ends c xs = part (takes_at ends) c xs
 
 -- marks of a message in a copy: at least one clone, and only clones that the copy stands for
@@ -72,9 +72,9 @@ all_sizes [] = 0
 all_sizes (a ∷ rest) = size a.set + all_sizes rest
 
 -- how many messages their clones would have handled each by itself
-abbrev pub handled_alone : List StationCopy → ℕ
-handled_alone [] = 0
-handled_alone (a ∷ rest) = size a.set * length a.log + handled_alone rest
+abbrev pub handled_alone_by : List StationCopy → ℕ
+handled_alone_by [] = 0
+handled_alone_by (a ∷ rest) = size a.set * length a.log + handled_alone_by rest
 
 -- how many messages the clones of a copy may handle before their logs meet the limit
 abbrev pub may_handle : ℕ → StationCopy → ℕ
@@ -90,14 +90,14 @@ pub record IsSameToClones (ends : ℕ → ℕ) (a b : StationCopy) : Type 0 wher
   pub state : b.state ≡ a.state
   pub log : b.log ≡ a.log
   pub parts : (c : ℕ) → has a.set c ≡ true → taken_at ends c b.pending ≡ taken_at ends c a.pending
-  pub passed : Marked
+  pub passed : MarkedMessages
   pub pending : a.pending ≡ passed ++ b.pending
 
 -- and its least message comes before the bound, and these take it
 pub record NextDue (ends : ℕ → ℕ) (bound : ℕ) (a b : StationCopy) (m : Msg) (takers : CloneSet) : Type 0 where
   pub same : IsSameToClones ends a b
   pub marks : CloneSet
-  pub rest : Marked
+  pub rest : MarkedMessages
   pub pending : b.pending ≡ (m, marks) ∷ rest
   pub early : m.key.time < bound
   pub take : (c : ℕ) → has takers c ≡ (has a.set c && takes_at ends m marks c)
@@ -109,11 +109,11 @@ pub record NothingDue (ends : ℕ → ℕ) (bound : ℕ) (a b : StationCopy) : T
   pub settled : (c : ℕ) → has a.set c ≡ true → AllByRecursion (λ m. bound ≤ m.key.time) (taken_at ends c b.pending)
 
 -- what a station sends to itself becomes pending to these clones
-abbrev pub pending_after : ℕ → CloneSet → List Msg → Marked → Marked
+abbrev pub pending_after : ℕ → CloneSet → List Msg → MarkedMessages → MarkedMessages
 pending_after s set sends q = insert_marked_all union msg_cmp (to_it (λ (m : Msg). m.to) s sends) set q
 
 -- and the rest is laid aside, behind what was laid aside before
-abbrev pub sent_after : ℕ → CloneSet → List Msg → Marked → Marked
+abbrev pub sent_after : ℕ → CloneSet → List Msg → MarkedMessages → MarkedMessages
 sent_after s set sends sent = sent ++ map (λ x. (x, set)) (to_others (λ (m : Msg). m.to) s sends)
 
 -- the copy for these clones
@@ -121,26 +121,26 @@ abbrev pub half : StationCopy → CloneSet → StationCopy
 half a some = record { set = some; state = a.state; log = a.log; pending = cut_by common some a.pending }
 
 -- the copy has handled its least message
-abbrev pub IsHandled : Net → ℕ → StationCopy → StationCopy → Marked → Marked → Type 0
-IsHandled net s old new before after = (m : Msg) (k : CloneSet) (q : Marked) → old.pending ≡ (m, k) ∷ q →
+abbrev pub IsHandled : Net → ℕ → StationCopy → StationCopy → MarkedMessages → MarkedMessages → Type 0
+IsHandled net s old new before after = (m : Msg) (k : CloneSet) (q : MarkedMessages) → old.pending ≡ (m, k) ∷ q →
     (new ≡ handled_by (simulation net) union s old m q) × (after ≡ before ++ sends_aside (simulation net) s old m) ×
     IsCopy net s new
 
 -- the first copy has become this one in so many steps: each end that this one may have is one of the first
-pub record Onward (net : Net) (s : ℕ) (ends : ℕ → ℕ) (bound : ℕ) (first copy : StationCopy) (start sent : Marked)
+pub record Onward (net : Net) (s : ℕ) (ends : ℕ → ℕ) (bound : ℕ) (first copy : StationCopy) (start sent : MarkedMessages)
     (steps0 steps : ℕ) : Type 0 where
   pub fits : IsCopy net s copy
   pub set : copy.set ≡ first.set
   pub taken : ℕ
   pub log : length copy.log ≡ length first.log + taken
   pub counted : steps ≡ steps0 + taken
-  pub next : (results : List StationCopy) (after : Marked) (over over_after : CloneSet) (n : ℕ) →
+  pub next : (results : List StationCopy) (after : MarkedMessages) (over over_after : CloneSet) (n : ℕ) →
       Ends (simulation net) has ends s bound copy results sent after over over_after n →
       Ends (simulation net) has ends s bound first results start after over over_after (n + taken)
 
 -- the copies at the bound that a copy became, and what it sent to others
 pub record IsAdvance (net : Net) (s : ℕ) (ends : ℕ → ℕ) (bound : ℕ) (r : StationCopy) (done0 done1 : List StationCopy)
-    (sent0 sent1 : Marked) (over0 over1 : CloneSet) (steps0 steps1 : ℕ) : Type 0 where
+    (sent0 sent1 : MarkedMessages) (over0 over1 : CloneSet) (steps0 steps1 : ℕ) : Type 0 where
   pub results : List StationCopy
   pub gained : ℕ
   pub done : done1 ≡ done0 ++ results
@@ -148,7 +148,7 @@ pub record IsAdvance (net : Net) (s : ℕ) (ends : ℕ → ℕ) (bound : ℕ) (r
   pub comes : Ends (simulation net) has ends s bound r results sent0 sent1 over0 over1 gained
   pub fits : AllByRecursion (IsCopy net s) results
   pub few : gained ≤ may_handle net.limit r
-  pub shared : over1 ≡ empty → size r.set * length r.log + gained ≤ handled_alone results
+  pub shared : over1 ≡ empty → size r.set * length r.log + gained ≤ handled_alone_by results
 
 -- the copy, where the message is pending to those of its clones that are in the set
 abbrev pub with_message : Msg → CloneSet → StationCopy → StationCopy
@@ -166,12 +166,12 @@ copy_after_fork old new a = if has a.set old then record {
 } else a
 
 -- a first message, if there is one, pending to these clones
-abbrev pub pending_of : Option Msg → CloneSet → Marked
+abbrev pub pending_of : Option Msg → CloneSet → MarkedMessages
 pending_of None k = []
 pending_of (Some m) k = (m, k) ∷ []
 
 -- the copies at the bound that all copies became, and what they sent to others
-pub record IsStepResult (net : Net) (s : ℕ) (ends : ℕ → ℕ) (bound : ℕ) (old done : List StationCopy) (sent : Marked)
+pub record IsStepResult (net : Net) (s : ℕ) (ends : ℕ → ℕ) (bound : ℕ) (old done : List StationCopy) (sent : MarkedMessages)
     (over : CloneSet) (steps0 steps : ℕ) : Type 0 where
   pub far : SoFar (simulation net) has ends s bound old done sent empty over
   pub count : ℕ
@@ -179,4 +179,4 @@ pub record IsStepResult (net : Net) (s : ℕ) (ends : ℕ → ℕ) (bound : ℕ)
   pub counted : steps ≡ steps0 + count
   pub fits : AllByRecursion (IsCopy net s) done
   pub few : count ≤ all_sizes old * net.limit
-  pub shared : over ≡ empty → handled_alone old + count ≤ handled_alone done
+  pub shared : over ≡ empty → handled_alone_by old + count ≤ handled_alone_by done

@@ -9,7 +9,7 @@ use Rattle.net_model.specs.Rules.{IsNet}
 use Rattle.run_laws.specs.Queue.{In}
 use Rattle.run_laws.specs.Fronts.{earlier}
 use Rattle.run_laws.specs.Copies.{Carries, Disjoint}
-use Rattle.phys_proc.specs.Own.{StationCopy, IsCopy, IsLate, all_clones, handled_alone, taken_at}
+use Rattle.phys_proc.specs.Own.{StationCopy, IsCopy, IsLate, all_clones, handled_alone_by, taken_at}
 
 -- what contracts see of the copies of a station: the station's number, the living clones, how many messages were
 -- handled, once for all clones of a copy, and the copies
@@ -28,7 +28,7 @@ pub record AreShared (living : CloneSet) (copies : List StationCopy) : Type 0 wh
 -- they share out the living clones; and no more was handled once than the clones would have handled each by itself
 pub record KeepsShares (p : ProcView) : Type 0 where
   pub shares : AreShared p.living p.copies
-  pub once : p.handled ≤ handled_alone p.copies
+  pub once : p.handled ≤ handled_alone_by p.copies
 
 -- they are copies of a station of the network, each with the state that the replay of its log gives
 pub record IsProc (net : Net) (p : ProcView) : Type 0 where

@@ -1,12 +1,7 @@
-//! The tests of the program as one call, and of the words of its command line. The library is empty.
+//! The tests of the program as one call, `cloner_top`. The library is empty.
 //!
-//! A crate's tests are proved together with the crate, so a crate with tests is proved twice. Those of these crates
-//! stand here, where they are proved once, and so are their crates. Each module tests one crate by its public items:
-//!
-//! ```text
-//! words      command_words
-//! program    cloner_top
-//! ```
+//! A crate's tests are proved together with the crate, so a crate with tests is proved twice. Those of `cloner_top`
+//! stand here, where they are proved once, and so are that crate and `command_words`, whose command lines they try.
 //!
 //! They show what no clause says: that calls find memory, and that clauses mean what they should, by values from
 //! outside. A row has a name, the words and the texts of a run, and its result: the status, and each byte that is
@@ -15,5 +10,3 @@
 
 #[cfg(test)]
 mod program;
-#[cfg(test)]
-mod words;

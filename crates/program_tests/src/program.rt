@@ -38,19 +38,25 @@ const GOOD: Outside<'static> = Outside {
     takes: 8_000_000,
 };
 
-/// How the program ended.
+/// How the program ended, and what its sinks hold.
 #[derive(Drop)]
 struct Outcome {
     status: u8,
-    output: Vec<u8>,
-    errors: Vec<u8>,
+    out: MemSink,
+    err: MemSink,
 }
 
 impl Outcome {
+    fn output(&self) -> &[u8] {
+        self.out.bytes()
+    }
+
+    fn errors(&self) -> &[u8] {
+        self.err.bytes()
+    }
+
     fn is(&self, status: u8, output: &[u8], errors: &str) -> bool {
-        self.status == status
-            && self.output.as_slice() == output
-            && self.errors.as_slice() == errors.as_bytes()
+        self.status == status && self.output() == output && self.errors() == errors.as_bytes()
     }
 }
 
@@ -94,27 +100,32 @@ const REFUSED: Row<'static> = Row {
 
 impl<'a> Row<'a> {
     fn holds<R: Threads + Wait + Sync>(&self, rt: &R, alloc: Global) -> bool {
-        let ended = ended(
-            rt,
-            alloc,
-            &NoGate,
-            self.words,
-            self.model,
-            self.script,
-            &GOOD,
-        );
-        match (ended, both(alloc, self.traces, self.report)) {
-            (Ok(ended), Ok(whole)) => ended.is(self.status, whole.as_slice(), self.errors),
-            _ => false,
+        let (words, model, script) = (self.words, self.model, self.script);
+        match ended(rt, alloc, &NoGate, words, model, script, &GOOD) {
+            Ok(ended) => {
+                ended.status == self.status
+                    && is_both(ended.output(), self.traces, self.report)
+                    && ended.errors() == self.errors.as_bytes()
+            }
+            Err(_) => false,
         }
     }
 }
 
-/// Traces with a report behind them.
-fn both(alloc: Global, traces: &str, report: &str) -> Result<Vec<u8>, NoMemory> {
-    let mut whole = Vec::from_slice(alloc, traces.as_bytes())?;
-    whole.extend_from_slice(report.as_bytes())?;
-    Ok(whole)
+/// Whether these are all bytes of some traces with a report behind them.
+fn is_both(output: &[u8], traces: &str, report: &str) -> bool {
+    match (output.get(..traces.len()), output.get(traces.len()..)) {
+        (Some(first), Some(rest)) => first == traces.as_bytes() && rest == report.as_bytes(),
+        _ => false,
+    }
+}
+
+/// Whether these are the first bytes of some traces with a report behind them.
+fn begins_both(output: &[u8], traces: &str, report: &str) -> bool {
+    match output.get(traces.len()..) {
+        Some(rest) => output.starts_with(traces.as_bytes()) && report.as_bytes().starts_with(rest),
+        None => traces.as_bytes().starts_with(output),
+    }
 }
 
 fn words_of(alloc: Global, words: &[&str]) -> Result<Vec<Word>, NoMemory> {
@@ -125,47 +136,47 @@ fn words_of(alloc: Global, words: &[&str]) -> Result<Vec<Word>, NoMemory> {
     Ok(all)
 }
 
-fn files_of(alloc: Global, model: &str, script: &str) -> Result<Vec<(Word, Vec<u8>)>, NoMemory> {
-    let mut files = Vec::new(alloc);
-    let text = Vec::from_slice(alloc, model.as_bytes())?;
-    files.push((Word::new(alloc, "m")?, text))?;
-    let text = Vec::from_slice(alloc, script.as_bytes())?;
-    files.push((Word::new(alloc, "s")?, text))?;
-    Ok(files)
+fn file(alloc: Global, name: &str, text: &str) -> Result<(Word, Vec<u8>), NoMemory> {
+    Ok((
+        Word::new(alloc, name)?,
+        Vec::from_slice(alloc, text.as_bytes())?,
+    ))
 }
 
-/// How the program ends on these words, over these inputs and sinks.
+/// A model in the file `m` and a script in the file `s`, where these fetches fail.
+fn inputs_of(
+    alloc: Global,
+    model: &str,
+    script: &str,
+    failing: &[u32],
+) -> Result<MemInputs, NoMemory> {
+    let mut files = Vec::new(alloc);
+    files.push(file(alloc, "m", model)?)?;
+    files.push(file(alloc, "s", script)?)?;
+    MemInputs::new(alloc, files, Vec::from_slice(alloc, failing)?)
+}
+
+fn sink_of(alloc: Global, takes: usize, failing: &[(u32, usize)]) -> Result<MemSink, NoMemory> {
+    MemSink::new(alloc, takes, Vec::from_slice(alloc, failing)?)
+}
+
+/// The status with which the program ends on these words, over these inputs and sinks.
 fn counted<G: Gate, L: Ledger, R: Threads + Wait + Sync>(
     rt: &R,
     alloc: Global,
     gate: &G,
-    words: Vec<Word>,
-    inputs: MemInputs,
-    out: MemSink,
-    err: MemSink,
+    words: &[Word],
+    inputs: &mut MemInputs,
+    out: &mut MemSink,
+    err: &mut MemSink,
     blank: Blank,
-) -> Result<Outcome, NoMemory>
+) -> u8
     requires name { blank.name ≡ L.name }
     requires parts { blank.parts ≡ L.parts }
     requires some { 0 < L.parts }
 {
     let mut steps = Steps::<L>::new(blank);
-    let (mut inputs, mut out, mut err) = (inputs, out, err);
-    let status = cloner(
-        rt,
-        alloc,
-        words.as_slice(),
-        &mut inputs,
-        &mut out,
-        &mut err,
-        gate,
-        &mut steps,
-    );
-    Ok(Outcome {
-        status,
-        output: Vec::from_slice(alloc, out.bytes())?,
-        errors: Vec::from_slice(alloc, err.bytes())?,
-    })
+    cloner(rt, alloc, words, inputs, out, err, gate, &mut steps)
 }
 
 /// How the program ends on a model in the file `m` and a script in the file `s`.
@@ -179,9 +190,18 @@ fn ended<G: Gate, R: Threads + Wait + Sync>(
     outside: &Outside,
 ) -> Result<Outcome, NoMemory> {
     let words = words_of(alloc, words)?;
-    let files = files_of(alloc, model, script)?;
-    let inputs = MemInputs::new(alloc, files, Vec::from_slice(alloc, outside.fetch)?)?;
-    let out = MemSink::new(alloc, outside.takes, Vec::from_slice(alloc, outside.put)?)?;
-    let err = MemSink::new(alloc, 1000, Vec::from_slice(alloc, outside.error)?)?;
-    counted::<G, Brand, R>(rt, alloc, gate, words, inputs, out, err, Blank::new(1))
+    let mut inputs = inputs_of(alloc, model, script, outside.fetch)?;
+    let mut out = sink_of(alloc, outside.takes, outside.put)?;
+    let mut err = sink_of(alloc, 1000, outside.error)?;
+    let status = counted::<G, Brand, R>(
+        rt,
+        alloc,
+        gate,
+        words.as_slice(),
+        &mut inputs,
+        &mut out,
+        &mut err,
+        Blank::new(1),
+    );
+    Ok(Outcome { status, out, err })
 }

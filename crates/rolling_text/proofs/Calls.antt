@@ -1,6 +1,6 @@
 -- Calls, one after the other.
 use Rattle.std.proofs.Common.{◌≡◌, ℕ, suc, ◌+◌, ◌≤◌, refl, sym, ap, ◌∙◌, arith, Option, Some, None}
-use Rattle.sim_outer.specs.Causes.{counts_after, AreCounted, Counted}
+use Rattle.sim_outer.specs.Causes.{counts_after, AreCounted, IsCounted}
 use Rattle.rolling_text.specs.Counting.{AreCountedTo}
 
 -- after no calls the count is what it was
@@ -9,7 +9,7 @@ none_counted None = refl
 none_counted (Some b) = refl
 
 -- one call more
-pub counted_more : (n : ℕ) (old mid new : Option ℕ) → AreCounted n old mid → Counted mid new
+pub counted_more : (n : ℕ) (old mid new : Option ℕ) → AreCounted n old mid → IsCounted mid new
     → AreCounted (n + 1) old new
 counted_more n None mid new h k = let m : mid ≡ None = h in (rw m at k)
 counted_more n (Some b) mid new h k =
@@ -18,7 +18,7 @@ counted_more n (Some b) mid new h k =
     (rw m at k) ∙ ap (λ j. Some (counts_after j b)) (sym up)
 
 -- so many calls, of at most so many
-pub counted_to : (n most : ℕ) (old mid new : Option ℕ) → n + 1 ≤ most → AreCounted n old mid → Counted mid new
+pub counted_to : (n most : ℕ) (old mid new : Option ℕ) → n + 1 ≤ most → AreCounted n old mid → IsCounted mid new
     → AreCountedTo most old new
 counted_to n most old mid new l h k = record {
   calls = n + 1;

@@ -24,7 +24,8 @@ use Rattle.stations.specs.Laws.{IsCounted}
 use Rattle.stations.specs.Runs.{simulation, trace_of, log_at}
 use Rattle.stations.proofs.GoodLaws.{lawful-stations, stations-to_stations, fresh-stations}
 use Rattle.stations.proofs.KeyLaws.{log_keys-small}
-use Rattle.log_chain.specs.Packing.{FitsWord, FitWords}
+use Rattle.sim_base.specs.KeyWords.{FitsWord}
+use Rattle.log_chain.specs.Packing.{FitWords}
 use Rattle.log_chain.specs.Times.{RiseByTime, from_time, times_of}
 use Rattle.trace_report.specs.TraceText.{entry_line}
 use Rattle.trace_cursor.specs.Rests.{merge_of_rests}

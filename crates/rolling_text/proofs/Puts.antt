@@ -2,7 +2,7 @@
 use Rattle.std.proofs.Common.{◌≡◌, ℕ, ◌+◌, ◌≤◌, refl, sym, ap, subst, ◌∙◌, arith, Bool, true, false, List, [], ◌++◌}
 use Rattle.std.proofs.Common.{append-nil, length, length-append, if◌then◌else◌}
 use Rattle.std.proofs.lemmas.List.{append_assoc}
-use Rattle.sim_outer.specs.Causes.{Counted, HasRisen}
+use Rattle.sim_outer.specs.Causes.{IsCounted, HasRisen}
 use Rattle.sim_outer.specs.Views.{SinkView}
 use Rattle.rolling_text.specs.Pages.{PageView}
 use Rattle.rolling_text.specs.Puts.{IsTaken, IsPut, IsCutOff, IsPutTo}
@@ -26,7 +26,7 @@ pub put_then : (a b : List ℕ) (old mid new : SinkView) → IsTaken a old mid �
 put_then a b old mid new h k = let x = h.later in let y = k.later in record {
   bytes = appended_then a b old.bytes mid.bytes new.bytes h.bytes k.bytes;
   later = omega (arith, x, y);
-  counted = subst (λ n. Counted n new.calls) h.same k.counted;
+  counted = subst (λ n. IsCounted n new.calls) h.same k.counted;
 }
 
 -- a count that rose from a later value on rose from an earlier one on
@@ -40,7 +40,7 @@ cut_then a b c old mid new h k = let x = h.later in let y = k.later in record {
   bytes = part_then a b c old.bytes mid.bytes new.bytes h.bytes k.bytes;
   failed = rose_earlier old.faults mid.faults new.faults x k.failed;
   later = omega (arith, x, y);
-  counted = subst (λ n. Counted n new.calls) h.same k.counted;
+  counted = subst (λ n. IsCounted n new.calls) h.same k.counted;
 }
 
 -- where the first part of what is left is cut off, all that is left is

@@ -1,7 +1,8 @@
 -- A call adds one decision to one list at most.
-use Rattle.std.proofs.Common.{ℕ, zero, suc, ◌+◌, ◌^◌, ◌≤◌, List}
+use Rattle.std.proofs.Common.{ℕ, zero, suc, ◌+◌, ◌≤◌, List}
 use Rattle.std.proofs.Common.{[], ◌∷◌, ◌++◌, arith, length, length-append, slice_set, Some, None}
 use Rattle.sim_base.specs.Clones.{Clone, base, clone_at, clones_with_plan, clones_with_end, clones_with_fork}
+use Rattle.sim_base.specs.KeyWords.{most_numbers}
 use Rattle.sim_base.specs.declared.decision.Decision.{Decision}
 use Rattle.sim_base.specs.declared.decision.Decision.TheVariants.{Fork, Set, End}
 use Rattle.sim_base.specs.declared.decision.Planned.{Planned}
@@ -66,8 +67,8 @@ none_of_base : (k : ℕ) → length (clone_at (base ∷ []) k).plans ≤ 0
 none_of_base zero = omega arith
 none_of_base (suc k) = omega arith
 
--- after at most 2^21 calls each clone has at most 2^21 decisions
-pub short_after_calls : (net : Net) (calls : List Call) → length calls ≤ 2 ^ 21
+-- after few calls each clone has few decisions
+pub short_after_calls : (net : Net) (calls : List Call) → length calls ≤ most_numbers
     → AreShort (clones_after_calls net (base ∷ []) calls)
 short_after_calls net calls l k there = let h = calls_within net calls 0 (base ∷ []) none_of_base k in
     omega (arith, h, l)

@@ -1,6 +1,7 @@
 -- The traces of the clones of a world.
-use Rattle.std.specs.Prelude.{◌≡◌, ℕ, ◌^◌, ◌<◌, ◌≤◌, List, length}
+use Rattle.std.specs.Prelude.{◌≡◌, ℕ, ◌<◌, ◌≤◌, List, length}
 use Rattle.sim_base.specs.Clones.{Clone, clone_at}
+use Rattle.sim_base.specs.KeyWords.{most_numbers}
 use Rattle.sim_base.specs.declared.lists.TheConstants.{MOST_CLONES}
 use Rattle.net_model.specs.Net.{Net}
 use Rattle.net_model.specs.Rules.{IsNet}
@@ -15,9 +16,9 @@ pub record WorldTracesView : Type 0 where
   pub net : Net
   pub clones : List Clone
 
--- each clone has at most 2^21 decisions, so that their numbers fit a word
+-- each clone has few enough decisions for their numbers to fit a word
 abbrev pub AreShort : List Clone → Type 0
-AreShort cs = (k : ℕ) → k < length cs → length (clone_at cs k).plans ≤ 2 ^ 21
+AreShort cs = (k : ℕ) → k < length cs → length (clone_at cs k).plans ≤ most_numbers
 
 -- a world at the horizon
 pub record IsOver (world : WorldView) : Type 0 where

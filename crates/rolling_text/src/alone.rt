@@ -1,5 +1,5 @@
 //! The text of a clone that ran by itself, whose trace stands in one log.
-ghost use Rattle.std.specs.Prelude.{◌≡◌, ◌<◌, ◌≤◌, ◌++◌, length, take, drop, codes, OnOk, OnErr};
+ghost use Rattle.std.specs.Prelude.{◌≡◌, ◌<◌, ◌≤◌, ◌++◌, length, take, codes, OnOk, OnErr};
 ghost use Rattle.std.specs.List.{flat_map};
 ghost use Rattle.trace_report.specs.Slots.{AreNames};
 ghost use Rattle.trace_report.specs.declared.line.TheConstants.{MOST_LINE};
@@ -13,8 +13,8 @@ use sim_base::Name;
 use sim_outer::{PutFailed, Sink};
 use trace_report::{MOST_LINE, Names, write_stored};
 
-// Makes lines of the next entries of a walk, `left` of them, as long as there is place, and counts them down. Returns how
-// many bytes they have.
+// Makes lines of the next entries of a walk, `left` of them, as long as there is place, and counts them down. Returns
+// how many bytes they have.
 fn make_piece(
     walk: &mut Walk<'_>,
     left: &mut u64,
@@ -79,8 +79,8 @@ fn put_log<O: Sink>(model: &Model, log: &Log, out: &mut O) -> Result<(), PutFail
     Ok(())
 }
 
-/// Puts the text of a clone of this name that handled what a log has, in one call whose parts are put as they are made. It
-/// takes no memory.
+/// Puts the text of a clone of this name that handled what a log has, in one call whose parts are put as they are made.
+/// It takes no memory.
 pub fn put_alone<O: Sink>(
     model: &Model,
     name: &Name,

@@ -44,8 +44,8 @@ fn put_next<'a, O: Sink>(
     }
 }
 
-// Puts a span that is given to makers piece by piece, and every so often to this worker: while it puts its own piece, they
-// make the next ones. Where one is out of memory, it puts what is left, and takes none.
+// Puts a span that is given to makers piece by piece, and every so often to this worker: while it puts its own piece,
+// they make the next ones. Where one is out of memory, it puts what is left, and takes none.
 fn put_given<'a, O: Sink, R: Wait>(
     rt: &R,
     alloc: Global,

@@ -1,8 +1,8 @@
 //! How many bytes texts have at most, told before any is made.
 //!
-//! No line is longer than `MOST_LINE`, since its numbers are words and names have at most 16 bytes. A clone's entries fro
-//! No line is longer than `MOST_LINE`, since its numbers are words and names have at most 16 bytes. A clone's entries from
-//! where it parts from the one before it are met once each, which shows it of them; those before are the other clone's.
+//! No line is longer than `MOST_LINE`, since its numbers are words and names have at most 16 bytes. A clone's entries
+//! from where it parts from the one before it are met once each, which shows it of them; those before are the other
+//! clone's.
 ghost use Rattle.std.specs.Prelude.{◌≡◌, ℕ, ◌^◌, ◌<◌, ◌≤◌, length};
 ghost use Rattle.sim_base.specs.Clones.{clone_at};
 ghost use Rattle.stations.specs.Runs.{simulation, trace_of};

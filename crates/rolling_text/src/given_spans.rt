@@ -148,8 +148,8 @@ impl<'a> GivenSpans<'a> {
         Ok(makers)
     }
 
-    /// Whose the first span is, with its lines where a maker has made them. A maker is given the next one at once, so that
-    /// it works while these are put.
+    /// Whose the first span is, with its lines where a maker has made them. A maker is given the next one at once, so
+    /// that it works while these are put.
     ///
     /// None where no span is given, or where there is no memory.
     pub(crate) fn next<R: Wait>(&mut self, rt: &R, alloc: Global) -> Option<NextSpan>

@@ -1,5 +1,5 @@
 //! The lines of the entries that a clone's logs have, merged, and made piece by piece.
-ghost use Rattle.std.specs.Prelude.{◌≡◌, ◌+◌, ◌<◌, ◌≤◌, [], true, length, take, drop, ◌++◌, OnOk, OnErr};
+ghost use Rattle.std.specs.Prelude.{◌≡◌, ◌+◌, ◌<◌, ◌≤◌, true, length, take, drop, ◌++◌, OnOk, OnErr};
 ghost use Rattle.std.specs.List.{flat_map};
 ghost use Rattle.sim_base.specs.Clones.{clone_at};
 ghost use Rattle.stations.specs.Runs.{simulation, trace_of};

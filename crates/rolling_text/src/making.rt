@@ -1,5 +1,5 @@
 //! Makers: workers that stay for one whole text, and make the lines of one span of time after another.
-ghost use Rattle.std.specs.Prelude.{◌≡◌, ◌+◌, ◌<◌, ◌≤◌, [], None, Some, length, IfOk};
+ghost use Rattle.std.specs.Prelude.{◌≡◌, ◌<◌, ◌≤◌, None, Some, length, IfOk};
 ghost use Rattle.rolling_text.specs.Orders.{Span, IsMade, span_between};
 
 use crate::world_traces::WorldTraces;
@@ -110,9 +110,9 @@ fn serve<R: Wait>(rt: &R, alloc: Global, ended: &AtomicBool, maker: Maker<'_>) {
     }
 }
 
-// Runs all makers, each in a thread of its own, until no more is ordered. Where no thread can be made they run one after
-// another. So in a join with the caller's part it comes first: a join runs its first closure in a new thread, or where
-// none can be made after the second, when all has ended.
+// Runs all makers, each in a thread of its own, until no more is ordered. Where no thread can be made they run one
+// after another. So in a join with the caller's part it comes first: a join runs its first closure in a new thread, or
+// where none can be made after the second, when all has ended.
 fn serve_all<R: Threads + Wait + Sync>(
     rt: &R,
     alloc: Global,

@@ -38,8 +38,8 @@ fn put_head(page: &mut Page, name: &Name) -> usize
     at - 6
 }
 
-// Cuts the page to the lines that a clone has in common with the one before it, from which it parts at a time, so that so
-// many bytes are dropped, and puts its name line before them. Returns where that begins.
+// Cuts the page to the lines that a clone has in common with the one before it, from which it parts at a time, so that
+// so many bytes are dropped, and puts its name line before them. Returns where that begins.
 fn begin_text(traces: &WorldTraces<'_>, c: u32, time: u64, dropped: usize, page: &mut Page) -> usize
     requires there { c < length traces.now.clones }
     requires time { time ≡ parting_at traces.now.net traces.now.clones c }
@@ -59,8 +59,8 @@ fn begin_text(traces: &WorldTraces<'_>, c: u32, time: u64, dropped: usize, page:
     put_head(page, &traces.name(c))
 }
 
-// Puts the lines of a clone from where it parts from the one before it. Those before the time at which the next one parts
-// from it are kept, and what comes then is put alone.
+// Puts the lines of a clone from where it parts from the one before it. Those before the time at which the next one
+// parts from it are kept, and what comes then is put alone.
 fn put_rest<'a, O: Sink, R: Threads + Wait + Sync>(
     rt: &R,
     alloc: Global,
@@ -110,8 +110,8 @@ fn put_rest<'a, O: Sink, R: Threads + Wait + Sync>(
     }
 }
 
-// Puts the text of a clone. The page has lines of the clone before it, of which so many bytes are dropped. Returns how many
-// bytes of what is kept the next one drops, which parts from it at a time.
+// Puts the text of a clone. The page has lines of the clone before it, of which so many bytes are dropped. Returns how
+// many bytes of what is kept the next one drops, which parts from it at a time.
 fn put_text<'a, O: Sink, R: Threads + Wait + Sync>(
     rt: &R,
     alloc: Global,
@@ -155,48 +155,16 @@ fn put_text<'a, O: Sink, R: Threads + Wait + Sync>(
     }
 }
 
-// The texts, whose memory is given.
-fn put_all<'a, O: Sink, R: Threads + Wait + Sync>(
-    rt: &R,
-    alloc: Global,
-    traces: &WorldTraces<'a>,
-    workers: u32,
-    texts: &mut Texts<'a>,
-    out: &mut O,
-) -> Result<(), PutFailed>
-    requires ready { IsReady traces.now.net traces.now.clones texts.old }
-    ensures ok { OnOk result (IsAppended (O.seen out.old).bytes (clone_texts traces.now.net traces.now.clones)
-        (O.seen out.new).bytes) }
-    ensures part { OnErr result (IsPrefixAppended (O.seen out.old).bytes (clone_texts traces.now.net traces.now.clones)
-        (O.seen out.new).bytes) }
-    ensures cause { OnErr result (HasRisen (O.seen out.old).faults (O.seen out.new).faults) }
-    ensures later { (O.seen out.old).faults ≤ (O.seen out.new).faults }
-    ensures each { OnOk result (AreCounted (length traces.now.clones) (O.seen out.old).calls (O.seen out.new).calls) }
-    ensures some { OnErr result (AreCountedTo (length traces.now.clones) (O.seen out.old).calls (O.seen out.new).calls) }
-{
-    let clones = traces.len();
-    let mut dropped = 0;
-    for c in 0..clones {
-        // where there is no next clone, nobody asks what it drops
-        let next = parts_at(traces, (c + 1).min(clones - 1));
-        match put_text(rt, alloc, traces, workers, texts, c, dropped, next, out) {
-            Ok(drops) => dropped = drops,
-            Err(failed) => return Err(failed),
-        }
-    }
-    Ok(())
-}
-
 /// Puts the text of each clone, its name line and its lines, in one call whose parts are put as they are made.
 ///
-/// The lines that a clone shares with the one before it are kept, and not made again. Long texts are made by so many workers,
-/// if there is memory for it, and else by one, which takes none.
+/// The lines that a clone shares with the one before it are kept, and not made again. Long texts are made by so many
+/// workers, if there is memory for it, and else by one, which takes none.
 pub fn put_texts<'a, O: Sink, R: Threads + Wait + Sync>(
     rt: &R,
     alloc: Global,
     traces: &WorldTraces<'a>,
     workers: u32,
-    texts: Texts<'a>,
+    mut texts: Texts<'a>,
     out: &mut O,
 ) -> Result<(), PutFailed>
     requires ready { IsReady traces.now.net traces.now.clones texts }
@@ -207,8 +175,20 @@ pub fn put_texts<'a, O: Sink, R: Threads + Wait + Sync>(
     ensures cause { OnErr result (HasRisen (O.seen out.old).faults (O.seen out.new).faults) }
     ensures later { (O.seen out.old).faults ≤ (O.seen out.new).faults }
     ensures each { OnOk result (AreCounted (length traces.now.clones) (O.seen out.old).calls (O.seen out.new).calls) }
-    ensures some { OnErr result (AreCountedTo (length traces.now.clones) (O.seen out.old).calls (O.seen out.new).calls) }
+    ensures some { OnErr result (AreCountedTo (length traces.now.clones) (O.seen out.old).calls
+        (O.seen out.new).calls) }
 {
-    let mut texts = texts;
-    put_all(rt, alloc, traces, workers, &mut texts, out)
+    let clones = traces.len();
+    let mut dropped = 0;
+    for c in 0..clones {
+        // where there is no next clone, nobody asks what it drops
+        let next = parts_at(traces, (c + 1).min(clones - 1));
+        match put_text(
+            rt, alloc, traces, workers, &mut texts, c, dropped, next, out,
+        ) {
+            Ok(drops) => dropped = drops,
+            Err(failed) => return Err(failed),
+        }
+    }
+    Ok(())
 }

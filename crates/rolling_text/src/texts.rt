@@ -12,7 +12,8 @@ use trace_cursor::Cursor;
 /// A name line is `clone `, at most 16 bytes and a line feed.
 pub(crate) const MARGIN: usize = 32;
 
-/// How many bytes of lines are made at once: they stay near the processor from when they are made to when they are taken.
+/// How many bytes of lines are made at once: they stay near the processor from when they are made to when they are
+/// taken.
 pub(crate) const PIECE: usize = 16_384;
 
 /// All that the texts of clones need: a buffer for what texts have in common, a cursor, and room for some lines.

@@ -11,7 +11,7 @@ use Rattle.run_laws.specs.World.{and_first, openings, begin}
 use Rattle.run_laws.specs.Runs.{run, end_of, run_of, log_at, state_at, all_due, due_at}
 use Rattle.run_laws.specs.Handlers.{IsStation, HandlesLawfully, SendsToStations}
 use Rattle.sim_base.specs.Marked.{SortedMarked}
-use Rattle.run_laws.specs.Copies.{Copy, Carries, takes, taken, first_pending, first_copy, ends_of, Stands}
+use Rattle.run_laws.specs.Copies.{Copy, Carries, takes, messages_taken, first_pending, first_copy, ends_of, Stands}
 use Rattle.run_laws.proofs.Bools.{and_cases}
 use Rattle.run_laws.proofs.Queue.{in_insert_all, insert_all_new, same_elements}
 use Rattle.run_laws.proofs.Lists.{in_filter, filter_keeps, sorted_filter, in_own}
@@ -46,7 +46,7 @@ module _ {S M N : Type 0} (sim : Simulation S M N) where
 
 module _ {S M N K : Type 0} (sim : Simulation S M N) (has : K → ℕ → Bool) (only : K) (ends : ℕ → ℕ) (c : ℕ) where
   -- what a clone takes of what a station opens with
-  in_first_pending : (f : Option M) (z : M) → In z (taken sim has ends c (first_pending sim only f)) →
+  in_first_pending : (f : Option M) (z : M) → In z (messages_taken sim has ends c (first_pending sim only f)) →
       (f ≡ Some z) × (takes sim has ends z only c ≡ true)
   in_first_pending None z i = absurd i
   in_first_pending (Some m) z i = elim (cases_Bool (takes sim has ends m only c)) [
@@ -59,8 +59,8 @@ module _ {S M N K : Type 0} (sim : Simulation S M N) (has : K → ℕ → Bool) 
 
   -- it takes the first message, where its marks have it and it comes before its end
   first_pending_has : (f : Option M) (z : M) → f ≡ Some z → takes sim has ends z only c ≡ true →
-      In z (taken sim has ends c (first_pending sim only f))
-  first_pending_has f z e t = subst (λ f. In z (taken sim has ends c (first_pending sim only f))) (sym e)
+      In z (messages_taken sim has ends c (first_pending sim only f))
+  first_pending_has f z e t = subst (λ f. In z (messages_taken sim has ends c (first_pending sim only f))) (sym e)
       (subst (In z) (sym (part_yes (takes sim has ends) c (z, only) [] t)) (inl refl))
 
   -- one message is in order
@@ -72,13 +72,13 @@ module _ {S M N K : Type 0} {sim : Simulation S M N} {Good : ℕ → S → Type 
     (to_stations : SendsToStations sim Good) (has : K → ℕ → Bool) (only : K)
     (first_alone : (c : ℕ) → (has only c ≡ true) ↔ (c ≡ 0)) (s : ℕ) (here : IsStation sim s) where
   -- what the first clone takes of it is what is due to it
-  due_first : taken sim has (ends_of sim (base ∷ [])) 0 (first_pending sim only (sim.setup s).first)
+  due_first : messages_taken sim has (ends_of sim (base ∷ [])) 0 (first_pending sim only (sim.setup s).first)
       ≡ due_at sim base s 0
   due_first =
       let early : M → Bool = λ m. nat_lt (sim.time m) (end_of sim base) in
       let all : List M = openings sim sim.stations ++ [] in
       let begun : (run_of sim base 0).pending ≡ insert_all sim.order all [] = ap (λ w. w.pending) (run_at_0 sim base) in
-      same_elements law.order.order (taken sim has (ends_of sim (base ∷ [])) 0
+      same_elements law.order.order (messages_taken sim has (ends_of sim (base ∷ [])) 0
       (first_pending sim only (sim.setup s).first)) (due_at sim base s 0)
       (sorted_part (takes sim has (ends_of sim (base ∷ []))) sim.order 0 (first_pending sim only (sim.setup s).first)
       (first_sorted sim has only (ends_of sim (base ∷ [])) 0 (sim.setup s).first))
@@ -130,8 +130,9 @@ module _ {S M N K : Type 0} {sim : Simulation S M N} {Good : ℕ → S → Type 
             (sym e.0) (subst (λ d. (sim.setup s).state ≡ state_at sim (clone_at (base ∷ []) d) s 0) (sym e.1)
             (ap (λ w. w.at.states s) (sym (run_at_0 sim base))));
         due = λ x c i h. let e = is_0 x c i h in
-            subst (λ u. taken sim has (ends_of sim (base ∷ [])) c u.pending ≡ due_at sim (clone_at (base ∷ []) c) s 0)
-            (sym e.0) (subst (λ d. taken sim has (ends_of sim (base ∷ [])) d a.pending ≡ due_at sim
+            subst (λ u. messages_taken sim has (ends_of sim (base ∷ [])) c u.pending
+            ≡ due_at sim (clone_at (base ∷ []) c) s 0)
+            (sym e.0) (subst (λ d. messages_taken sim has (ends_of sim (base ∷ [])) d a.pending ≡ due_at sim
             (clone_at (base ∷ []) d) s 0) (sym e.1) due_first);
         shared = λ x y c d i l h k e. (is_0 x c i h).0 ∙ sym (is_0 y d l k).0;
         sorted = λ x i. elim i [

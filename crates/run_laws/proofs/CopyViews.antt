@@ -14,7 +14,7 @@ use Rattle.run_laws.specs.Window.{Part, to_others, earlier_than, part_step}
 use Rattle.run_laws.specs.Handlers.{IsTimed}
 use Rattle.sim_base.specs.Marked.{JoinsMarks, SortedMarked}
 use Rattle.run_laws.specs.Copies.{Copy, Carries, insert_marked_all, handle_until, handled_by}
-use Rattle.run_laws.specs.Copies.{sends_aside, takes, taken, view}
+use Rattle.run_laws.specs.Copies.{sends_aside, takes, messages_taken, view}
 use Rattle.run_laws.proofs.Queue.{all_in, all_from}
 use Rattle.run_laws.proofs.Lists.{filter_swap, filter-congr, filter_none}
 use Rattle.run_laws.proofs.Machine.{reach_first, done_no_next, done_stays}
@@ -162,21 +162,23 @@ module _ {S M N K : Type 0} (sim : Simulation S M N) (has : K → ℕ → Bool) 
 
   -- what is sent in a handling for other clones, clone c doesn't see
   pub others_sent : (s c : ℕ) (a : Copy S M N K) (m : M) (sent : List (M × K)) → has a.set c ≡ false →
-      taken sim has ends c (sent ++ sends_aside sim s a m) ≡ taken sim has ends c sent
+      messages_taken sim has ends c (sent ++ sends_aside sim s a m) ≡ messages_taken sim has ends c sent
   others_sent s c a m sent e =
       let xs : List M = to_others sim.to s (sim.handle s a.state m).sends in
       part-append (takes sim has ends) c sent (sends_aside sim s a m)
-      ∙ ap (λ l. taken sim has ends c sent ++ l) (part-map (takes sim has ends) c a.set xs ∙ taken_without a.set c xs e)
-      ∙ append-nil (taken sim has ends c sent)
+      ∙ ap (λ l. messages_taken sim has ends c sent ++ l)
+      (part-map (takes sim has ends) c a.set xs ∙ taken_without a.set c xs e)
+      ∙ append-nil (messages_taken sim has ends c sent)
 
 module _ {S M N K : Type 0} (sim : Simulation S M N) (has : K → ℕ → Bool) (ends : ℕ → ℕ) (s : ℕ) where
   -- what is sent to others for a set that has it, a clone sees laid aside, before its end
   taken_aside : (c : ℕ) (k : K) (sends : List M) (sent : List (M × K)) → has k c ≡ true →
-      taken sim has ends c (sent ++ map (λ x. (x, k)) (to_others sim.to s sends)) ≡ taken sim has ends c sent
+      messages_taken sim has ends c (sent ++ map (λ x. (x, k)) (to_others sim.to s sends))
+      ≡ messages_taken sim has ends c sent
       ++ to_others sim.to s (earlier_than sim.time (ends c) sends)
   taken_aside c k sends sent e =
       part-append (takes sim has ends) c sent (map (λ x. (x, k)) (to_others sim.to s sends))
-      ∙ ap (λ l. taken sim has ends c sent ++ l)
+      ∙ ap (λ l. messages_taken sim has ends c sent ++ l)
       (part-map (takes sim has ends) c k (to_others sim.to s sends)
       ∙ taken_within sim has ends k c (to_others sim.to s sends) e
       ∙ filter_swap (λ m. nat_lt (sim.time m) (ends c)) (λ m. not (sim.to m == s)) sends)
@@ -191,11 +193,11 @@ module _ {S M N K : Type 0} (sim : Simulation S M N) {has : K → ℕ → Bool} 
     (ends : ℕ → ℕ) (o : IsTimed sim.order sim.time) (s : ℕ) where
   -- what is sent to itself for a set that has it, a clone has pending, before its end
   taken_queue : (c : ℕ) (k : K) (sends : List M) (q : List (M × K)) → SortedMarked sim.order q → has k c ≡ true →
-      taken sim has ends c (insert_marked_all join sim.order (to_it sim.to s sends) k q) ≡ insert_all sim.order
-      (to_it sim.to s (earlier_than sim.time (ends c) sends)) (taken sim has ends c q)
+      messages_taken sim has ends c (insert_marked_all join sim.order (to_it sim.to s sends) k q) ≡ insert_all sim.order
+      (to_it sim.to s (earlier_than sim.time (ends c) sends)) (messages_taken sim has ends c q)
   taken_queue c k sends q sorted e =
       part-insert_all (takes sim has ends) join (takes_join sim j ends) o.order c (to_it sim.to s sends) k q sorted
-      ∙ ap (λ l. insert_all sim.order l (taken sim has ends c q))
+      ∙ ap (λ l. insert_all sim.order l (messages_taken sim has ends c q))
       (taken_within sim has ends k c (to_it sim.to s sends) e ∙ filter_swap (λ m. nat_lt (sim.time m) (ends c))
       (λ m. sim.to m == s) sends)
 
@@ -208,8 +210,8 @@ module _ {S M N K : Type 0} (sim : Simulation S M N) {has : K → ℕ → Bool} 
       let sq : SortedMarked sim.order ((m, k) ∷ q) = subst (SortedMarked sim.order) p sorted in
       record {
         m = m;
-        q = taken sim has ends c q;
-        pending = ap (taken sim has ends c) p ∙ part_yes (takes sim has ends) c (m, k) q takes_it;
+        q = messages_taken sim has ends c q;
+        pending = ap (messages_taken sim has ends c) p ∙ part_yes (takes sim has ends) c (m, k) q takes_it;
         early = early;
         is = station_parts (sim.handle s a.state m).state
             (a.log ++ record { msg = m; line = (sim.handle s a.state m).line } ∷ []) _ _ _ _

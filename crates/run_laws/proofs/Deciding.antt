@@ -14,7 +14,7 @@ use Rattle.run_laws.specs.Runs.{run, end_of, run_of, log_at, state_at, due_at}
 use Rattle.run_laws.specs.Handlers.{HandlesLawfully}
 use Rattle.run_laws.specs.Laws.{with_plan, with_end, AddsDue, DropsDue}
 use Rattle.sim_base.specs.Marked.{SortedMarked}
-use Rattle.run_laws.specs.Copies.{Copy, Carries, Disjoint, takes, taken, takes_as}
+use Rattle.run_laws.specs.Copies.{Copy, Carries, Disjoint, takes, messages_taken, takes_as}
 use Rattle.run_laws.specs.Copies.{origin_of, IsGiven, IsForked, ends_of, Stands}
 use Rattle.run_laws.proofs.Forks.{end_of-fork}
 use Rattle.run_laws.proofs.Queue.{all_in}
@@ -25,7 +25,8 @@ use Rattle.run_laws.proofs.Delivery.{zip_from, zip_each, one_of, disjoint_given}
 
 module _ {S M N K : Type 0} (sim : Simulation S M N) (has : K → ℕ → Bool) where
   -- what a clone takes depends on its own end alone
-  taken_ends : (e f : ℕ → ℕ) (c : ℕ) (xs : List (M × K)) → e c ≡ f c → taken sim has e c xs ≡ taken sim has f c xs
+  taken_ends : (e f : ℕ → ℕ) (c : ℕ) (xs : List (M × K)) → e c ≡ f c
+      → messages_taken sim has e c xs ≡ messages_taken sim has f c xs
   taken_ends e f c xs same = part-congr (takes sim has e)
       (takes sim has f) c c xs (λ m k. ap (λ t. has k c && nat_lt (sim.time m) t) same)
 
@@ -43,7 +44,7 @@ module _ {S M N K : Type 0} (sim : Simulation S M N) (has : K → ℕ → Bool) 
 
   -- with an earlier end a clone takes what comes before it
   taken_earlier : (e f : ℕ → ℕ) (c : ℕ) (xs : List (M × K)) → f c ≤ e c →
-      taken sim has f c xs ≡ earlier_than sim.time (f c) (taken sim has e c xs)
+      messages_taken sim has f c xs ≡ earlier_than sim.time (f c) (messages_taken sim has e c xs)
   taken_earlier e f c xs l = part-filter (takes sim has e) (takes sim has f)
       (λ m. nat_lt (sim.time m) (f c)) c xs (λ m k. earlier_test (has k c) (sim.time m) (f c) (e c) l)
 
@@ -53,7 +54,7 @@ module _ {S M N K : Type 0} (sim : Simulation S M N) (has : K → ℕ → Bool) 
     pub log : b.log ≡ a.log
     pub state : b.state ≡ a.state
     pub due : (c : ℕ) → Carries has a c
-        → taken sim has (ends_of sim cs) c b.pending ≡ due_at sim (clone_at cs c) s front
+        → messages_taken sim has (ends_of sim cs) c b.pending ≡ due_at sim (clone_at cs c) s front
     pub sorted : SortedMarked sim.order b.pending
 
   -- copies that match those that stood for the clones stand for the changed clones
@@ -218,7 +219,7 @@ module _ {S M N K : Type 0} {sim : Simulation S M N} {Good : ℕ → S → Type 
           due = λ c g. taken_ends sim has (ends_of sim (clones_with_end cs who at))
               (λ t. end_of sim (clone_at (clones_with_end cs who at) c)) c b.pending refl
               ∙ set_cases (λ c k. Carries has b c
-              → taken sim has (λ t. end_of sim k) c b.pending ≡ due_at sim k s front) cs who
+              → messages_taken sim has (λ t. end_of sim k) c b.pending ≡ due_at sim k s front) cs who
               (with_end (clone_at cs who) at) is_there
               (λ g. taken_earlier sim has (ends_of sim cs) (λ t. at) who b.pending within
               ∙ ap (earlier_than sim.time at) (st.due b who i g) ∙ sym (drops.due_here s))

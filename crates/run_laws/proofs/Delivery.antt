@@ -8,7 +8,7 @@ use Rattle.run_laws.specs.Simulation.{Simulation}
 use Rattle.run_laws.specs.Handlers.{IsOrder}
 use Rattle.sim_base.specs.Marked.{SortedMarked}
 use Rattle.run_laws.specs.Copies.{part, Copy, Carries, Disjoint, takes}
-use Rattle.run_laws.specs.Copies.{taken, IsGiven, SoFarGiven, ends_of, IsDelivered}
+use Rattle.run_laws.specs.Copies.{messages_taken, IsGiven, SoFarGiven, ends_of, IsDelivered}
 use Rattle.run_laws.proofs.Queue.{all_in, in_insert, insert_old, insert_new}
 use Rattle.run_laws.proofs.Lists.{in_cons_if, cons_if_new, in_append, append_old, append_new}
 use Rattle.run_laws.proofs.Parts.{part-append}
@@ -110,9 +110,9 @@ module _ {S M N K : Type 0} (sim : Simulation S M N) (has : K → ℕ → Bool) 
     from = λ b i.
         let y = zip_from (IsGiven sim has ends m k) done next b zip i in
         let x = h.from y.0 y.1 in
-        let q : ℕ → List M = λ c. taken sim has ends c y.0.pending in
-        let given : Bool → ℕ → List M = λ t c. cond t (insert sim.order m (taken sim has ends c y.0.pending))
-        (taken sim has ends c y.0.pending) in (
+        let q : ℕ → List M = λ c. messages_taken sim has ends c y.0.pending in
+        let given : Bool → ℕ → List M = λ t c. cond t (insert sim.order m (messages_taken sim has ends c y.0.pending))
+        (messages_taken sim has ends c y.0.pending) in (
           x.0,
           x.1,
           y.2.set ∙ x.2,
@@ -120,8 +120,9 @@ module _ {S M N K : Type 0} (sim : Simulation S M N) (has : K → ℕ → Bool) 
           y.2.state ∙ x.4,
           λ c z g l.
               let p = y.2.parts c (subst (λ t. has t c ≡ true) (sym x.2) g) in
-              let was : In z (taken sim has ends c y.0.pending) → In z (taken sim has ends c x.0.pending)
-              ⊎ In z (taken sim has ends c (msgs ++ (m, k) ∷ [])) = λ u. elim (x.5 c z g u) [
+              let was : In z (messages_taken sim has ends c y.0.pending)
+              → In z (messages_taken sim has ends c x.0.pending)
+              ⊎ In z (messages_taken sim has ends c (msgs ++ (m, k) ∷ [])) = λ u. elim (x.5 c z g u) [
                 | inl v ↦ inl v
                 | inr v ↦ inr (part_push_old (takes sim has ends) c msgs (m, k) z v)
               ] in
@@ -134,7 +135,8 @@ module _ {S M N K : Type 0} (sim : Simulation S M N) (has : K → ℕ → Bool) 
               ],
           λ c z g l.
               let p = y.2.parts c (subst (λ t. has t c ≡ true) (sym x.2) g) in
-              let was : In z (taken sim has ends c y.0.pending) → In z (taken sim has ends c b.pending) =
+              let was : In z (messages_taken sim has ends c y.0.pending)
+              → In z (messages_taken sim has ends c b.pending) =
               λ u. subst (In z) (sym p) (elim (cases_Bool (takes sim has ends m k c)) [
                 | inl e ↦ subst (λ b. In z (given b c)) (sym e) (insert_old o m (q c) z u)
                 | inr e ↦ subst (λ b. In z (given b c)) (sym e) u
@@ -158,10 +160,10 @@ module _ {S M N K : Type 0} (sim : Simulation S M N) (has : K → ℕ → Bool) 
 -- where the messages are, for each clone, those that the stations sent to s, all is delivered
 pub delivered : {S M N K : Type 0} (sim : Simulation S M N) (has : K → ℕ → Bool) (cs : List Clone) (s : ℕ)
     (sent : ℕ → List (M × K)) (msgs : List (M × K)) (new done : List (Copy S M N K)) →
-    ((c : ℕ) (z : M) → In z (taken sim has (ends_of sim cs) c msgs)
-    → (r : ℕ) × In z (taken sim has (ends_of sim cs) c (sent r)) × (sim.to z ≡ s)) →
-    ((c r : ℕ) (z : M) → In z (taken sim has (ends_of sim cs) c (sent r)) → sim.to z ≡ s
-    → In z (taken sim has (ends_of sim cs) c msgs)) →
+    ((c : ℕ) (z : M) → In z (messages_taken sim has (ends_of sim cs) c msgs)
+    → (r : ℕ) × In z (messages_taken sim has (ends_of sim cs) c (sent r)) × (sim.to z ≡ s)) →
+    ((c r : ℕ) (z : M) → In z (messages_taken sim has (ends_of sim cs) c (sent r)) → sim.to z ≡ s
+    → In z (messages_taken sim has (ends_of sim cs) c msgs)) →
     SoFarGiven sim has (ends_of sim cs) msgs new done → IsDelivered sim has cs s sent new done
 delivered sim has cs s sent msgs new done f g h = record {
   from = λ b i. let x = h.from b i in (

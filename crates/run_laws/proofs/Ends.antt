@@ -14,7 +14,7 @@ use Rattle.run_laws.specs.Handlers.{IsLawful, HandlesLawfully}
 use Rattle.run_laws.specs.Prefixes.{IsCount, IsGained}
 use Rattle.sim_base.specs.Marked.{JoinsMarks, SortedMarked}
 use Rattle.run_laws.specs.Copies.{Copy, Carries, Disjoint, handle_until, handled_by, sends_aside, takes}
-use Rattle.run_laws.specs.Copies.{taken, view, Narrowed, Turns, Settled, IsCutLog, Ends}
+use Rattle.run_laws.specs.Copies.{messages_taken, view, IsNarrowed, Turns, IsSettled, IsCutLog, Ends}
 use Rattle.run_laws.proofs.Bools.{or_cases, or_first, or_second}
 use Rattle.run_laws.proofs.Queue.{all_in, all_from, not_below_itself}
 use Rattle.run_laws.proofs.Lists.{in_filter, in_own, in_append, append_old, append_new}
@@ -66,8 +66,8 @@ module _ {S M N K : Type 0} {sim : Simulation S M N} {Good : ℕ → S → Type 
   Goes = Turns sim has ends s bound
 
   -- it has nothing left before the bound
-  abbrev IsSettled : Config (Part S M N) M → Type 0
-  IsSettled = Settled sim has ends s bound
+  abbrev Settles : Config (Part S M N) M → Type 0
+  Settles = IsSettled sim has ends s bound
 
   -- the logs that the clones come to, cut to the limit
   abbrev Cut : Copy S M N K → List (M × K) → List (Entry M N) → Type 0
@@ -75,13 +75,13 @@ module _ {S M N K : Type 0} {sim : Simulation S M N} {Good : ℕ → S → Type 
 
   -- each clone of a copy comes to an end of its turns
   pub comes_to_end : (r : Copy S M N K) (sent : List (M × K)) (c : ℕ) → Good s r.state →
-      SortedMarked sim.order r.pending → (d : Config (Part S M N) M) × Goes c (seen c r sent) d × IsSettled d
+      SortedMarked sim.order r.pending → (d : Config (Part S M N) M) × Goes c (seen c r sent) d × Settles d
   comes_to_end r sent c g sorted =
       let h = run_reach law.order (until_lawful law (ends c) s) bound bound (seen c r sent) (omega arith)
       (record {
         good = g;
         sorted = sorted_part (takes sim has ends) sim.order c r.pending sorted;
-        from_t = all_from_zero sim.time (taken sim has ends c r.pending);
+        from_t = all_from_zero sim.time (messages_taken sim has ends c r.pending);
       }) in (
         run_to sim.order (part_step sim.to (handle_until sim (ends c)) s) sim.time (seen c r sent) bound,
         h.0,
@@ -90,19 +90,19 @@ module _ {S M N K : Type 0} {sim : Simulation S M N} {Good : ℕ → S → Type 
 
   -- with all that is pending at the bound or later every clone is settled
   pub settled_if_late : (r : Copy S M N K) (sent : List (M × K)) (c : ℕ) →
-      AllByRecursion (λ x. bound ≤ sim.time x.0) r.pending → IsSettled (seen c r sent)
+      AllByRecursion (λ x. bound ≤ sim.time x.0) r.pending → Settles (seen c r sent)
   settled_if_late r sent c late = all_part_of (takes sim has ends) c (λ m. bound ≤ sim.time m) r.pending late
 
   -- a copy whose clones are settled stays
   pub ends_done : (r : Copy S M N K) (sent : List (M × K)) (over : K) → (c : ℕ) × Carries has r c →
-      length r.log ≤ sim.limit → ((c : ℕ) → Carries has r c → IsSettled (seen c r sent)) →
+      length r.log ≤ sim.limit → ((c : ℕ) → Carries has r c → Settles (seen c r sent)) →
       Ends sim has ends s bound r (r ∷ []) sent sent over over 0
   ends_done r sent over any short f = record {
     inhabited = λ b i. elim i [ inl e ↦ (any.0, subst (λ x. Carries has x any.0) (sym e) any.1) | inr n ↦ absurd n ];
     gained = cut_done sim has ends s bound r sent short f;
     within = λ b c i h. elim i [ inl e ↦ subst (λ x. Carries has x c) e h | inr n ↦ absurd n ];
     ran = λ b c i h. elim i [
-      | inl e ↦ subst (λ x. Goes c (seen c r sent) (seen c x sent) × IsSettled (seen c x sent))
+      | inl e ↦ subst (λ x. Goes c (seen c r sent) (seen c x sent) × Settles (seen c x sent))
           (sym e) (stay, f c (subst (λ x. Carries has x c) e h))
       | inr n ↦ absurd n
     ];
@@ -130,8 +130,8 @@ module _ {S M N K : Type 0} {sim : Simulation S M N} {Good : ℕ → S → Type 
       | inl e ↦ inl e
       | inr e ↦ inr (
         e,
-        goes_over sim has ends s bound r sent c m (taken sim has ends c q) full
-            (ap (taken sim has ends c) p ∙ part_yes (takes sim has ends) c (m, k) q (all c e)) early,
+        goes_over sim has ends s bound r sent c m (messages_taken sim has ends c q) full
+            (ap (messages_taken sim has ends c) p ∙ part_yes (takes sim has ends) c (m, k) q (all c e)) early,
       )
     ];
     still_over = λ c h. j.joined over r.set c ∙ or_first (has over c) (has r.set c) h;
@@ -180,7 +180,7 @@ module _ {S M N K : Type 0} {sim : Simulation S M N} {Good : ℕ → S → Type 
           | inr e ↦ inr (
             e.0,
             λ d t done. elim (reach_first t (next c e.0)) [
-              | inl a ↦ absurd (done_no_next (seen c r sent) (seen c new out) (subst IsSettled a done) (next c e.0))
+              | inl a ↦ absurd (done_no_next (seen c r sent) (seen c new out) (subst Settles a done) (next c e.0))
               | inr a ↦ e.1 d a done
             ],
           )
@@ -192,21 +192,23 @@ module _ {S M N K : Type 0} {sim : Simulation S M N} {Good : ℕ → S → Type 
       }
 
   -- some of the clones of a copy see what they saw
-  narrowed_view : (r some : Copy S M N K) (sent : List (M × K)) (c : ℕ) → Narrowed sim has ends r some →
+  narrowed_view : (r some : Copy S M N K) (sent : List (M × K)) (c : ℕ) → IsNarrowed sim has ends r some →
       Carries has some c → seen c some sent ≡ seen c r sent
   narrowed_view r some sent c n h = let a = n.state in let b = n.log in let d = n.parts c h in cc
 
   -- with other messages laid aside that it doesn't see, a clone sees the same
-  pub moved_view : (c : ℕ) (b : Copy S M N K) (x y : List (M × K)) → taken sim has ends c x ≡ taken sim has ends c y →
+  pub moved_view : (c : ℕ) (b : Copy S M N K) (x y : List (M × K))
+      → messages_taken sim has ends c x ≡ messages_taken sim has ends c y →
       seen c b x ≡ seen c b y
   moved_view c b x y e = ap (λ l. record {
     at = record { state = b.state; log = b.log; aside = l };
-    pending = taken sim has ends c b.pending;
+    pending = messages_taken sim has ends c b.pending;
   }) e
 
   -- the cut logs of some clones are cut logs of the copy
-  pub cut_of_some : (r some : Copy S M N K) (sent mid : List (M × K)) → Narrowed sim has ends r some →
-      ((c : ℕ) → Carries has some c → taken sim has ends c mid ≡ taken sim has ends c sent) → (l : List (Entry M N)) →
+  pub cut_of_some : (r some : Copy S M N K) (sent mid : List (M × K)) → IsNarrowed sim has ends r some →
+      ((c : ℕ) → Carries has some c → messages_taken sim has ends c mid ≡ messages_taken sim has ends c sent)
+      → (l : List (Entry M N)) →
       Cut some mid l → Cut r sent l
   cut_of_some r some sent mid n same l g = record {
     clone = g.clone;
@@ -219,8 +221,9 @@ module _ {S M N K : Type 0} {sim : Simulation S M N} {Good : ℕ → S → Type 
   }
 
   -- and the cut logs of those clones are theirs
-  cut_in_some : (r some : Copy S M N K) (sent mid : List (M × K)) → Narrowed sim has ends r some →
-      ((c : ℕ) → Carries has some c → taken sim has ends c mid ≡ taken sim has ends c sent) → (l : List (Entry M N))
+  cut_in_some : (r some : Copy S M N K) (sent mid : List (M × K)) → IsNarrowed sim has ends r some →
+      ((c : ℕ) → Carries has some c → messages_taken sim has ends c mid ≡ messages_taken sim has ends c sent)
+      → (l : List (Entry M N))
       (g : Cut r sent l) → Carries has some g.clone → Cut some mid l
   cut_in_some r some sent mid n same l g is_in = record {
     clone = g.clone;
@@ -235,17 +238,17 @@ module _ {S M N K : Type 0} {sim : Simulation S M N} {Good : ℕ → S → Type 
   -- of a message that none of its clones takes, a copy may be rid
   pub skipped : (r : Copy S M N K) (m : M) (k : K) (q : List (M × K)) → r.pending ≡ (m, k) ∷ q →
       ((c : ℕ) → Carries has r c → takes sim has ends m k c ≡ false)
-      → Narrowed sim has ends r (record r { pending = q })
+      → IsNarrowed sim has ends r (record r { pending = q })
   skipped r m k q p none = record {
     state = refl;
     log = refl;
     within = λ c h. h;
-    parts = λ c h. sym (ap (taken sim has ends c) p ∙ part_no (takes sim has ends) c (m, k) q (none c h));
+    parts = λ c h. sym (ap (messages_taken sim has ends c) p ∙ part_no (takes sim has ends) c (m, k) q (none c h));
   }
 
   -- a copy of the same clones, that see the same, comes to the same
   pub ends_same : (r some : Copy S M N K) (results : List (Copy S M N K)) (before after : List (M × K))
-      (over over_after : K) (n : ℕ) → Narrowed sim has ends r some → ((c : ℕ) → Carries has r c → Carries has some c) →
+      (over over_after : K) (n : ℕ) → IsNarrowed sim has ends r some → ((c : ℕ) → Carries has r c → Carries has some c) →
       Ends sim has ends s bound some results before after over over_after n →
       Ends sim has ends s bound r results before after over over_after n
   ends_same r some results before after over over_after n nar all h =
@@ -276,7 +279,7 @@ module _ {S M N K : Type 0} {sim : Simulation S M N} {Good : ℕ → S → Type 
   pub ends_split : (r r1 r2 : Copy S M N K) (m : M) (k : K) (q before mid after : List (M × K))
       (e1 e2 : List (Copy S M N K)) (over over1 over2 : K) (x1 x2 : ℕ) →
       length r.log ≤ sim.limit → r.pending ≡ (m, k) ∷ q → SortedMarked sim.order r.pending → sim.time m < bound →
-      Narrowed sim has ends r r1 → Narrowed sim has ends r r2 →
+      IsNarrowed sim has ends r r1 → IsNarrowed sim has ends r r2 →
       ((c : ℕ) → Carries has r1 c → takes sim has ends m k c ≡ true) →
       ((c : ℕ) → Carries has r2 c → takes sim has ends m k c ≡ false) →
       ((c : ℕ) → Carries has r c → Carries has r1 c ⊎ Carries has r2 c) →
@@ -289,39 +292,40 @@ module _ {S M N K : Type 0} {sim : Simulation S M N} {Good : ℕ → S → Type 
       let o = law.order in
       let apart : (c : ℕ) → Carries has r1 c → Carries has r2 c → ⊥ =
       λ c i l. false≢true (sym (out_k c l) ∙ in_k c i) in
-      let out1 : (c : ℕ) → Carries has r2 c → taken sim has ends c mid ≡ taken sim has ends c before =
+      let out1 : (c : ℕ) → Carries has r2 c → messages_taken sim has ends c mid ≡ messages_taken sim has ends c before =
       λ c l. f.others c (not_has has r1.set c (λ i. apart c i l)) in
-      let out2 : (c : ℕ) → Carries has r1 c → taken sim has ends c after ≡ taken sim has ends c mid =
+      let out2 : (c : ℕ) → Carries has r1 c → messages_taken sim has ends c after ≡ messages_taken sim has ends c mid =
       λ c i. g.others c (not_has has r2.set c (λ l. apart c i l)) in
       let see1 : (c : ℕ) → Carries has r1 c → seen c r1 before ≡ seen c r before =
       λ c i. narrowed_view r r1 before c n1 i in
       let see2 : (c : ℕ) → Carries has r2 c → seen c r2 mid ≡ seen c r before =
       λ c i. moved_view c r2 mid before (out1 c i) ∙ narrowed_view r r2 before c n2 i in
       let ran1 : (b : Copy S M N K) (c : ℕ) → In b e1 → Carries has b c → Goes c (seen c r before) (seen c b after)
-      × IsSettled (seen c b after) = λ b c i h.
+      × Settles (seen c b after) = λ b c i h.
       let w = f.within b c i h in let x = f.ran b c i h in
       let v : seen c b mid ≡ seen c b after = moved_view c b mid after (sym (out2 c w)) in (
         subst (λ u. Goes c u (seen c b after)) (see1 c w) (subst (λ u. Goes c (seen c r1 before) u) v x.0),
-        subst IsSettled v x.1,
+        subst Settles v x.1,
       ) in
       let ran2 : (b : Copy S M N K) (c : ℕ) → In b e2 → Carries has b c → Goes c (seen c r before) (seen c b after)
-      × IsSettled (seen c b after) = λ b c i h.
+      × Settles (seen c b after) = λ b c i h.
       let w = g.within b c i h in let x = g.ran b c i h in
       (subst (λ u. Goes c u (seen c b after)) (see2 c w) x.0, x.1) in
       let sm : SortedMarked sim.order ((m, k) ∷ q) = subst (SortedMarked sim.order) p sorted in
-      let has_m : (c : ℕ) → Carries has r1 c → taken sim has ends c r.pending ≡ m ∷ taken sim has ends c q =
-      λ c i. ap (taken sim has ends c) p ∙ part_yes (takes sim has ends) c (m, k) q (in_k c i) in
-      let has_no_m : (d : ℕ) → Carries has r2 d → (z : M) → In z (taken sim has ends d r.pending) → z ≡ m → ⊥ =
+      let has_m : (c : ℕ) → Carries has r1 c
+      → messages_taken sim has ends c r.pending ≡ m ∷ messages_taken sim has ends c q =
+      λ c i. ap (messages_taken sim has ends c) p ∙ part_yes (takes sim has ends) c (m, k) q (in_k c i) in
+      let has_no_m : (d : ℕ) → Carries has r2 d → (z : M) → In z (messages_taken sim has ends d r.pending) → z ≡ m → ⊥ =
       λ d i z u v.
       not_below_itself o.order m (subst (λ t. sim.order m t ≡ Less) v
-      (all_in (λ t. sim.order m t ≡ Less) (taken sim has ends d q) z
+      (all_in (λ t. sim.order m t ≡ Less) (messages_taken sim has ends d q) z
       (above_part (takes sim has ends) sim.order d m q sm.0)
-      (subst (In z) (ap (taken sim has ends d) p ∙ part_no (takes sim has ends) d (m, k) q (out_k d i)) u))) in
+      (subst (In z) (ap (messages_taken sim has ends d) p ∙ part_no (takes sim has ends) d (m, k) q (out_k d i)) u))) in
       let cross : (a b : Copy S M N K) (c d : ℕ) → In a e1 → In b e2 → Carries has a c → Carries has b d
       → a.log ≡ b.log → ⊥ = λ a b c d i l h t e.
       let x = ran1 a c i h in let y = ran2 b d l t in
       logs_part sim s bound (ends c) (ends d) (seen c r before) (seen d r before) (seen c a after) (seen d b after) m
-      (taken sim has ends c q) refl
+      (messages_taken sim has ends c q) refl
       (has_m c (f.within a c i h)) early (has_no_m d (g.within b d l t))
       (settled_or_next sim s bound o (seen d r before) (sorted_part (takes sim has ends) sim.order d r.pending sorted))
       x.0 x.1 y.0 y.1 e in
@@ -330,7 +334,7 @@ module _ {S M N K : Type 0} {sim : Simulation S M N} {Good : ℕ → S → Type 
         gained = cut_split sim has ends s bound o r before (Cut r1 before) (Cut r2 mid) x1 x2 m room early
             (λ l h. (
               cut_of_some r r1 before before n1 (λ c i. refl) l h,
-              taken sim has ends h.clone q,
+              messages_taken sim has ends h.clone q,
               has_m h.clone h.is_in,
             ))
             (λ l h. (cut_of_some r r2 before mid n2 out1 l h, has_no_m h.clone h.is_in))

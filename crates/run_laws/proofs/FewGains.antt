@@ -21,7 +21,7 @@ use Rattle.run_laws.specs.Runs.{log_at}
 use Rattle.run_laws.specs.Sharing.{prefixes, same_list, logs_at}
 use Rattle.run_laws.specs.CountLaws.{NoneIsBeyond, AreFew}
 use Rattle.run_laws.specs.Prefixes.{IsCount, IsGained}
-use Rattle.run_laws.specs.Copies.{Copy, Carries, handle_until, takes, taken, view, IsCutLog, GainTogether}
+use Rattle.run_laws.specs.Copies.{Copy, Carries, handle_until, takes, messages_taken, view, IsCutLog, GainTogether}
 use Rattle.run_laws.proofs.Running.{all_from_zero, run_is}
 use Rattle.run_laws.proofs.Parts.{sorted_part}
 use Rattle.run_laws.proofs.Prefixes.{no_longer}
@@ -48,7 +48,7 @@ module _ {S M N K : Type 0} {sim : Simulation S M N} {Good : ℕ → S → Type 
         (record {
           good = good;
           sorted = sorted_part (takes sim has ends) sim.order g.clone r.pending sorted;
-          from_t = all_from_zero sim.time (taken sim has ends g.clone r.pending);
+          from_t = all_from_zero sim.time (messages_taken sim has ends g.clone r.pending);
         })
         g.ran g.settled)
 

@@ -19,12 +19,12 @@ use Rattle.run_laws.specs.World.{World, log_of, world_step}
 use Rattle.run_laws.specs.Window.{Part, local}
 use Rattle.run_laws.specs.Runs.{end_of, run_of, log_at, state_at, all_due, due_at}
 use Rattle.run_laws.specs.Fronts.{next_front}
-use Rattle.run_laws.specs.Sharing.{prefixes, same_list, logs_at, copies, handled, handled_to_limit, IsBeyond}
+use Rattle.run_laws.specs.Sharing.{prefixes, same_list, logs_at, copies, handled_once, handled_to_limit, IsBeyond}
 use Rattle.run_laws.specs.Handlers.{HandlesLawfully}
 use Rattle.run_laws.specs.Laws.{before}
 use Rattle.run_laws.specs.Prefixes.{Apart, IsCount, IsGained}
 use Rattle.sim_base.specs.Marked.{JoinsMarks, SortedMarked}
-use Rattle.run_laws.specs.Copies.{Copy, Carries, Disjoint, takes, taken, view, Narrowed, Turns, Settled}
+use Rattle.run_laws.specs.Copies.{Copy, Carries, Disjoint, takes, messages_taken, view, IsNarrowed, Turns, IsSettled}
 use Rattle.run_laws.specs.Copies.{IsCutLog, Gains, GainedBy, GainTogether, alone_from, AreOver, ends_of, Stands}
 use Rattle.run_laws.proofs.Queue.{all_in, all_from}
 use Rattle.run_laws.proofs.Lists.{in_filter, in_own, append_old, filter_all}
@@ -129,7 +129,7 @@ module _ {S M N K : Type 0} {sim : Simulation S M N} {Good : ℕ → S → Type 
     pub good : Good s a.state
     pub sorted : SortedMarked sim.order a.pending
     pub log_before : before sim front a.log ≡ a.log
-    pub from_front : AllByRecursion (λ m. front ≤ sim.time m) (taken sim has ends c a.pending)
+    pub from_front : AllByRecursion (λ m. front ≤ sim.time m) (messages_taken sim has ends c a.pending)
 
   -- what a copy had before the front shows in what it gained
   pub gained_before : (a : Copy S M N K) (p : List (Entry M N)) → ((c : ℕ) → Carries has a c → AtFront a c) →
@@ -194,10 +194,10 @@ module _ {S M N K : Type 0} {sim : Simulation S M N} {Good : ℕ → S → Type 
 
   -- what a copy gained is the same whatever others have laid aside
   pub gained_alone : (r : Copy S M N K) (out : List (M × K)) (n : ℕ) →
-      ((c : ℕ) → Carries has r c → taken sim has ends c out ≡ []) →
+      ((c : ℕ) → Carries has r c → messages_taken sim has ends c out ≡ []) →
       IsCount (IsGained (IsCutLog sim has ends s bound r out) r.log) n → IsCount (Gains sim has ends s bound r) n
   gained_alone r out n none h =
-      let same : Narrowed sim has ends r r =
+      let same : IsNarrowed sim has ends r r =
       record { state = refl; log = refl; within = λ c i. i; parts = λ c i. refl } in
       gained_same (IsCutLog sim has ends s bound r out) (IsCutLog sim has ends s bound r []) r.log n
       (λ l g. cut_of_some law j ends s bound r r [] out same none l g)
@@ -249,9 +249,9 @@ module _ {S M N K : Type 0} {sim : Simulation S M N} {Good : ℕ → S → Type 
         let k : Clone = clone_at cs c in
         let e : ℕ = ends_of sim cs c in
         let w = windows_give_run law cs k front bound (clone_in cs c (st.living a c i h)) later within in
-        ap (λ u. u.at.log) (ap (λ l. local sim s l a.state (taken sim has (ends_of sim cs) c a.pending) bound e)
+        ap (λ u. u.at.log) (ap (λ l. local sim s l a.state (messages_taken sim has (ends_of sim cs) c a.pending) bound e)
         (st.log a c i h)
-        ∙ (ap (λ l. local sim s (log_at sim k s front) l (taken sim has (ends_of sim cs) c a.pending) bound e)
+        ∙ (ap (λ l. local sim s (log_at sim k s front) l (messages_taken sim has (ends_of sim cs) c a.pending) bound e)
         (st.state a c i h)
         ∙ ap (λ l. local sim s (log_at sim k s front) (state_at sim k s front) l bound e) (st.due a c i h)))
         ∙ sym (w.log s)
@@ -259,7 +259,7 @@ module _ {S M N K : Type 0} {sim : Simulation S M N} {Good : ℕ → S → Type 
     -- and so do the clone's turns
     pub last_log : (a : Copy S M N K) (c : ℕ) (d : Config (Part S M N) M) → In a old → Carries has a c →
         Turns sim has (ends_of sim cs) s bound c (view sim has (ends_of sim cs) c a []) d →
-        Settled sim has (ends_of sim cs) s bound d → d.at.log ≡ log_at sim (clone_at cs c) s bound
+        IsSettled sim has (ends_of sim cs) s bound d → d.at.log ≡ log_at sim (clone_at cs c) s bound
     last_log a c d i h ran done = (ends_alone law j (ends_of sim cs) s bound a c d (good_state a c i h)
         (st.sorted a i) ran done).log
         ∙ alone_log a c i h
@@ -297,13 +297,13 @@ module _ {S M N K : Type 0} {sim : Simulation S M N} {Good : ℕ → S → Type 
         ((x y : Entry M N) → Decides (same x y) (x ≡ y)) →
         ((c : ℕ) → c < length cs → length (log_at sim (clone_at cs c) s front) ≤ sim.limit) →
         GainTogether sim has (ends_of sim cs) s bound old total →
-        handled_to_limit sim same cs s bound ≡ handled sim same cs s front + total
+        handled_to_limit sim same cs s bound ≡ handled_once sim same cs s front + total
     handled_grows_to_limit same total decides short together =
-        count_unique Late (handled_to_limit sim same cs s bound) (handled sim same cs s front + total)
+        count_unique Late (handled_to_limit sim same cs s bound) (handled_once sim same cs s front + total)
         (prefixes_count same decides cut_logs)
-        (count_same (λ p. Early p ⊎ New p) Late (handled sim same cs s front + total)
+        (count_same (λ p. Early p ⊎ New p) Late (handled_once sim same cs s front + total)
         (λ p h. elim h [ inl g ↦ late_if_early p g | inr g ↦ late_if_new p g ]) late_is
-        (count_both Early New (handled sim same cs s front) total apart
+        (count_both Early New (handled_once sim same cs s front) total apart
         (prefixes_count same decides (logs_at sim cs s front))
         (counted_together old total (λ a i. i) st.disjoint together)))
       where
@@ -422,7 +422,7 @@ module _ {S M N K : Type 0} {sim : Simulation S M N} {Good : ℕ → S → Type 
         ((x y : Entry M N) → Decides (same x y) (x ≡ y)) →
         ((c : ℕ) → c < length cs → length (log_at sim (clone_at cs c) s bound) ≤ sim.limit) →
         GainTogether sim has (ends_of sim cs) s bound old total →
-        handled sim same cs s bound ≡ handled sim same cs s front + total
+        handled_once sim same cs s bound ≡ handled_once sim same cs s front + total
     handled_grows same total decides short together =
         ap (λ l. distinct_count (same_list same) (flat_map prefixes l))
         (sym (none_cut sim.limit (logs_at sim cs s bound) (λ l i.
@@ -437,7 +437,7 @@ module _ {S M N K : Type 0} {sim : Simulation S M N} {Good : ℕ → S → Type 
         ((x y : Entry M N) → Decides (same x y) (x ≡ y)) →
         ((c : ℕ) → c < length cs → length (log_at sim (clone_at cs c) s front) ≤ sim.limit) →
         GainTogether sim has (ends_of sim cs) s bound old total →
-        handled sim same cs s front + total ≤ length cs * sim.limit
+        handled_once sim same cs s front + total ≤ length cs * sim.limit
     handled_is_few same total decides short together =
         let e = handled_grows_to_limit same total decides short together in
         let d : distinct_count (same_list same) (flat_map prefixes cut_logs) ≤ length (flat_map prefixes cut_logs) =

@@ -13,7 +13,7 @@ use Rattle.run_laws.specs.World.{log_of}
 use Rattle.run_laws.specs.Runs.{end_of, log_at}
 use Rattle.run_laws.specs.Handlers.{HandlesLawfully}
 use Rattle.run_laws.specs.Laws.{with_plan, with_end}
-use Rattle.run_laws.specs.Sharing.{prefixes, same_list, logs_at, handled}
+use Rattle.run_laws.specs.Sharing.{prefixes, same_list, logs_at, handled_once}
 use Rattle.run_laws.specs.Prefixes.{IsGained}
 use Rattle.run_laws.proofs.Lists.{in_append, append_old}
 use Rattle.run_laws.proofs.Prefixes.{gained_same, count_unique}
@@ -43,7 +43,7 @@ module _ {S M N : Type 0} (sim : Simulation S M N) where
   log_at-0 c s = ap (λ w. log_of sim.to s w.at.trace) (run_at_0 sim c)
 
   -- so nothing was handled once at front 0
-  pub handled-0 : (same : Entry M N → Entry M N → Bool) (cs : List Clone) (s : ℕ) → handled sim same cs s 0 ≡ 0
+  pub handled-0 : (same : Entry M N → Entry M N → Bool) (cs : List Clone) (s : ℕ) → handled_once sim same cs s 0 ≡ 0
   handled-0 same cs s = ap (λ l. distinct_count (same_list same) l)
       (no_prefixes (λ c. log_at sim c s 0) cs (λ c. log_at-0 c s))
 
@@ -52,7 +52,7 @@ module _ {S M N : Type 0} {sim : Simulation S M N} {Good : ℕ → S → Type 0}
   pub handled-added : (same : Entry M N → Entry M N → Bool) (cs : List Clone) (front s who : ℕ) (p : Planned) →
       who < length cs →
       front ≤ sim.time (sim.set_message (length (clone_at cs who).plans) p) →
-      handled sim same (clones_with_plan cs who p) s front ≡ handled sim same cs s front
+      handled_once sim same (clones_with_plan cs who p) s front ≡ handled_once sim same cs s front
   handled-added same cs front s who p there late =
       ap (λ l. distinct_count (same_list same) (flat_map prefixes l))
       (map-set (λ c. log_at sim c s front) cs who (with_plan (clone_at cs who) p) there
@@ -61,7 +61,7 @@ module _ {S M N : Type 0} {sim : Simulation S M N} {Good : ℕ → S → Type 0}
   -- an end at the front or later
   pub handled-ended : (same : Entry M N → Entry M N → Bool) (cs : List Clone) (front s who at : ℕ) → who < length cs →
       front ≤ at → at ≤ end_of sim (clone_at cs who) →
-      handled sim same (clones_with_end cs who at) s front ≡ handled sim same cs s front
+      handled_once sim same (clones_with_end cs who at) s front ≡ handled_once sim same cs s front
   handled-ended same cs front s who at there late within =
       ap (λ l. distinct_count (same_list same) (flat_map prefixes l))
       (map-set (λ c. log_at sim c s front) cs who (with_end (clone_at cs who) at) there
@@ -81,8 +81,8 @@ module _ {S M N : Type 0} (sim : Simulation S M N) (same : Entry M N → Entry M
 
   -- a fork has the log of its old clone
   pub handled-forked : (cs : List Clone) (name : List ℕ) (old s front : ℕ) → old < length cs →
-      (clone_at cs old).end ≡ None → handled sim same (clones_with_fork cs name old) s front
-      ≡ handled sim same cs s front
+      (clone_at cs old).end ≡ None → handled_once sim same (clones_with_fork cs name old) s front
+      ≡ handled_once sim same cs s front
   handled-forked cs name old s front there open_end =
       let k : Clone = record { name = name; plans = (clone_at cs old).plans; end = None } in
       let f : Clone → List (Entry M N) = λ c. log_at sim c s front in

@@ -11,7 +11,7 @@ use Rattle.run_laws.specs.Handlers.{IsTimed}
 use Rattle.run_laws.specs.Prefixes.{IsCount, IsGained}
 use Rattle.sim_base.specs.Marked.{JoinsMarks, SortedMarked}
 use Rattle.run_laws.specs.Copies.{Copy, Carries, handle_until, handled_by, sends_aside, takes}
-use Rattle.run_laws.specs.Copies.{taken, view, Settled, IsCutLog, GoesOver}
+use Rattle.run_laws.specs.Copies.{messages_taken, view, IsSettled, IsCutLog, GoesOver}
 use Rattle.run_laws.proofs.Machine.{reach_first, reach_trans, done_stays, done_no_next}
 use Rattle.run_laws.proofs.Parts.{sorted_part}
 use Rattle.run_laws.proofs.Prefixes.{gained_none, gained_more, gained_both, gained_same}
@@ -50,7 +50,7 @@ cut_more limit short x log l room e h =
 module _ {S M N K : Type 0} (sim : Simulation S M N) (has : K → ℕ → Bool) (ends : ℕ → ℕ) (s bound : ℕ) where
   -- a copy whose clones are settled gains nothing
   pub cut_done : (r : Copy S M N K) (sent : List (M × K)) → length r.log ≤ sim.limit →
-      ((c : ℕ) → Carries has r c → Settled sim has ends s bound (view sim has ends c r sent)) →
+      ((c : ℕ) → Carries has r c → IsSettled sim has ends s bound (view sim has ends c r sent)) →
       IsCount (IsGained (IsCutLog sim has ends s bound r sent) r.log) 0
   cut_done r sent l f = gained_none (IsCutLog sim has ends s bound r sent) r.log (λ k h.
       let e = done_stays (f h.clone h.is_in) h.ran in
@@ -65,7 +65,7 @@ module _ {S M N K : Type 0} (sim : Simulation S M N) (has : K → ℕ → Bool) 
 
   -- a clone of such a copy that takes a message before the bound goes over the limit
   pub goes_over : (r : Copy S M N K) (sent : List (M × K)) (c : ℕ) (m : M) (q : List M) → length r.log ≡ sim.limit →
-      taken sim has ends c r.pending ≡ m ∷ q → sim.time m < bound → GoesOver sim has ends s bound r sent c
+      messages_taken sim has ends c r.pending ≡ m ∷ q → sim.time m < bound → GoesOver sim has ends s bound r sent c
   goes_over r sent c m q e p early d ran done =
       let h = log_begins sim s bound (ends c) (view sim has ends c r sent) d m q p early ran done in
       let x : Entry M N = new_entry sim s bound r.state m in
@@ -90,9 +90,9 @@ module _ {S M N K : Type 0} (sim : Simulation S M N) (has : K → ℕ → Bool) 
   pub cut_split : (o : IsTimed sim.order sim.time) (r : Copy S M N K) (sent : List (M × K))
       (One Two : List (Entry M N) → Type 0) (i j : ℕ) (m : M) → length r.log ≤ sim.limit → sim.time m < bound →
       ((l : List (Entry M N)) → One l → (g : IsCutLog sim has ends s bound r sent l) × (q : List M)
-      × (taken sim has ends g.clone r.pending ≡ m ∷ q)) →
+      × (messages_taken sim has ends g.clone r.pending ≡ m ∷ q)) →
       ((l : List (Entry M N)) → Two l → (g : IsCutLog sim has ends s bound r sent l)
-      × ((z : M) → In z (taken sim has ends g.clone r.pending) → z ≡ m → ⊥)) →
+      × ((z : M) → In z (messages_taken sim has ends g.clone r.pending) → z ≡ m → ⊥)) →
       ((l : List (Entry M N)) → IsCutLog sim has ends s bound r sent l → One l ⊎ Two l) →
       SortedMarked sim.order r.pending →
       IsCount (IsGained One r.log) i → IsCount (IsGained Two r.log) j →
@@ -133,7 +133,7 @@ module _ {S M N K : Type 0} (sim : Simulation S M N) {has : K → ℕ → Bool} 
       → IsCutLog sim has ends s bound new out t = λ t g.
       elim (reach_first g.ran (next g.clone g.is_in)) [
         | inl e ↦ absurd (done_no_next (view sim has ends g.clone r sent) (view sim has ends g.clone new out)
-            (subst (Settled sim has ends s bound) e g.settled) (next g.clone g.is_in))
+            (subst (IsSettled sim has ends s bound) e g.settled) (next g.clone g.is_in))
         | inr ran ↦ record {
           clone = g.clone;
           is_in = g.is_in;

@@ -5,7 +5,7 @@ use Rattle.sim_base.specs.declared.entry.Entry.{Entry}
 use Rattle.sim_base.specs.Marked.{JoinsMarks}
 use Rattle.run_laws.specs.Simulation.{Simulation}
 use Rattle.run_laws.specs.Fronts.{least, next_front, AreFronts}
-use Rattle.run_laws.specs.Sharing.{handled}
+use Rattle.run_laws.specs.Sharing.{handled_once}
 use Rattle.run_laws.specs.Handlers.{HandlesLawfully}
 use Rattle.run_laws.specs.CountLaws.{TellsEntries, NoneIsBeyond, WindowsGain}
 use Rattle.run_laws.proofs.Gaining.{shorter_before, handled_grows}
@@ -18,9 +18,9 @@ module _ {S M N K : Type 0} {sim : Simulation S M N} {Good : ℕ → S → Type 
     (cs : List Clone) (s : ℕ) (moves : 0 < sim.lookahead) (short : NoneIsBeyond sim cs s sim.horizon) where
   -- from a front on
   pub windows-add_up : (front n : ℕ) (fs : List ℕ) → AreFronts sim cs front fs → WindowsGain K sim has cs s front fs n →
-      handled sim same cs s sim.horizon ≡ handled sim same cs s front + n
-  windows-add_up front n [] e g = ap (handled sim same cs s) (sym e)
-      ∙ (let h : handled sim same cs s front ≡ handled sim same cs s front + n = omega (arith, g) in h)
+      handled_once sim same cs s sim.horizon ≡ handled_once sim same cs s front + n
+  windows-add_up front n [] e g = ap (handled_once sim same cs s) (sym e)
+      ∙ (let h : handled_once sim same cs s front ≡ handled_once sim same cs s front + n = omega (arith, g) in h)
   windows-add_up front n (f ∷ fs) h g =
       let is = h.1 in
       let rises : front < next_front sim cs front = next_front-rises law cs front moves h.0 in
@@ -36,5 +36,5 @@ module _ {S M N K : Type 0} {sim : Simulation S M N} {Good : ℕ → S → Type 
 
   -- from the start
   pub run-adds_up : (n : ℕ) (fs : List ℕ) → AreFronts sim cs 0 fs → WindowsGain K sim has cs s 0 fs n →
-      handled sim same cs s sim.horizon ≡ n
+      handled_once sim same cs s sim.horizon ≡ n
   run-adds_up n fs h g = let e = windows-add_up 0 n fs h g in let z = handled-0 sim same cs s in omega (arith, e, z)

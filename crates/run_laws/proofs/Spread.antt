@@ -7,7 +7,7 @@ use Rattle.std.proofs.lemmas.Bool.{cases_eq, eqb-true, ne_eqb}
 use Rattle.sim_base.specs.Pending.{spread_marks}
 use Rattle.sim_base.specs.Marked.{JoinsMarks, MeetsMarks}
 use Rattle.run_laws.specs.Simulation.{Simulation}
-use Rattle.run_laws.specs.Copies.{part, taken, takes_as, origin_of}
+use Rattle.run_laws.specs.Copies.{part, messages_taken, takes_as, origin_of}
 use Rattle.run_laws.specs.MarkLaws.{AreOf}
 use Rattle.run_laws.proofs.Bools.{and_cases, or_second}
 use Rattle.run_laws.proofs.Cuts.{and-second}
@@ -45,12 +45,13 @@ module _ {K : Type 0} {has : K → ℕ → Bool} {join : K → K → K} {meet : 
   module _ {S M N : Type 0} (sim : Simulation S M N) (ends : ℕ → ℕ) where
     -- each clone takes what the clone that it was took
     pub part-spread_marks : (c : ℕ) (q : List (M × K)) → AllByRecursion (λ x. has x.1 new ≡ false) q →
-        part (takes_as sim has ends old new) c (spread_marks join meet by more q) ≡ taken sim has ends
+        part (takes_as sim has ends old new) c (spread_marks join meet by more q) ≡ messages_taken sim has ends
         (origin_of old new c) q
     part-spread_marks c [] f = refl
     part-spread_marks c (x ∷ q) f =
         let d = origin_of old new c in
         ap (λ l. cond (has (if is_some (meet x.1 by) then join x.1 more else x.1) c && nat_lt (sim.time x.0) (ends d))
         (x.0 ∷ l) l) (part-spread_marks c q f.1)
-        ∙ ap (λ b. cond (b && nat_lt (sim.time x.0) (ends d)) (x.0 ∷ taken sim has ends d q) (taken sim has ends d q))
+        ∙ ap (λ b. cond (b && nat_lt (sim.time x.0) (ends d)) (x.0 ∷ messages_taken sim has ends d q)
+        (messages_taken sim has ends d q))
         (spread_mark (meet x.1 by) x.1 c refl f.0)

@@ -13,7 +13,7 @@ use Rattle.run_laws.specs.Runs.{end_of, log_at, state_at, all_due, due_at}
 use Rattle.run_laws.specs.Fronts.{next_front}
 use Rattle.run_laws.specs.Handlers.{IsStation, AreForStations, HandlesLawfully, SendsToStations}
 use Rattle.run_laws.specs.Laws.{before, window, WindowsGive}
-use Rattle.run_laws.specs.Copies.{Copy, Carries, takes, taken, alone_from, IsStepped}
+use Rattle.run_laws.specs.Copies.{Copy, Carries, takes, messages_taken, alone_from, IsStepped}
 use Rattle.run_laws.specs.Copies.{ends_of, Stands, AllStepped, HasReceived, IsDelivered}
 use Rattle.run_laws.proofs.Queue.{same_elements}
 use Rattle.run_laws.proofs.Lists.{in_filter, filter_keeps, sorted_filter, in_own}
@@ -68,9 +68,9 @@ module _ {S M N K : Type 0} {sim : Simulation S M N} {Good : ℕ → S → Type 
     (new done : List (Copy S M N K))
     (stood : (r : ℕ) → IsStation sim r → Stands sim has cs front r (olds r))
     (step : IsStepped sim has (ends_of sim cs) s bound (olds s) new (sent s))
-    (senders : (r c : ℕ) (z : M) → In z (taken sim has (ends_of sim cs) c (sent r)) → IsStation sim r)
+    (senders : (r c : ℕ) (z : M) → In z (messages_taken sim has (ends_of sim cs) c (sent r)) → IsStation sim r)
     (out : (r : ℕ) → IsStation sim r → (x : Copy S M N K) (c : ℕ) → In x (olds r) → Carries has x c
-    → taken sim has (ends_of sim cs) c (sent r) ≡ earlier_than sim.time (ends_of sim cs c)
+    → messages_taken sim has (ends_of sim cs) c (sent r) ≡ earlier_than sim.time (ends_of sim cs c)
     (alone_from sim has (ends_of sim cs) r bound x c).at.aside)
     (got : IsDelivered sim has cs s sent new done) where
   -- what the windows of a clone give
@@ -101,8 +101,9 @@ module _ {S M N K : Type 0} {sim : Simulation S M N} {Good : ℕ → S → Type 
   is_window r is x c i h =
       let k : Clone = clone_at cs c in
       let e : ℕ = ends_of sim cs c in
-      ap (λ l. local sim r l x.state (taken sim has (ends_of sim cs) c x.pending) bound e) ((stood r is).log x c i h)
-      ∙ (ap (λ l. local sim r (log_at sim k r front) l (taken sim has (ends_of sim cs) c x.pending) bound e)
+      ap (λ l. local sim r l x.state (messages_taken sim has (ends_of sim cs) c x.pending) bound e)
+      ((stood r is).log x c i h)
+      ∙ (ap (λ l. local sim r (log_at sim k r front) l (messages_taken sim has (ends_of sim cs) c x.pending) bound e)
       ((stood r is).state x c i h)
       ∙ ap (λ l. local sim r (log_at sim k r front) (state_at sim k r front) l bound e) ((stood r is).due x c i h))
 
@@ -128,7 +129,7 @@ module _ {S M N K : Type 0} {sim : Simulation S M N} {Good : ℕ → S → Type 
 
   -- what station r laid aside for clone c
   laid : (r c : ℕ) → IsStation sim r → c < length cs →
-      taken sim has (ends_of sim cs) c (sent r) ≡ earlier_than sim.time (ends_of sim cs c)
+      messages_taken sim has (ends_of sim cs) c (sent r) ≡ earlier_than sim.time (ends_of sim cs c)
       (window sim (clone_at cs c) r front bound).at.aside
   laid r c is l =
       let x = (stood r is).carried c l in
@@ -146,7 +147,7 @@ module _ {S M N K : Type 0} {sim : Simulation S M N} {Good : ℕ → S → Type 
 
   -- and what is due to them
   due_there : (b : Copy S M N K) (c : ℕ) → In b done → Carries has b c →
-      taken sim has (ends_of sim cs) c b.pending ≡ due_at sim (clone_at cs c) s bound
+      messages_taken sim has (ends_of sim cs) c b.pending ≡ due_at sim (clone_at cs c) s bound
   due_there b c i h =
       let k : Clone = clone_at cs c in
       let end : ℕ = end_of sim k in
@@ -154,11 +155,11 @@ module _ {S M N K : Type 0} {sim : Simulation S M N} {Good : ℕ → S → Type 
       let g = origin b c i h in
       let l : c < length cs = alive b c i h in
       let v = gives c l in
-      let p : taken sim has (ends_of sim cs) c g.mid.pending ≡ earlier_than sim.time end
+      let p : messages_taken sim has (ends_of sim cs) c g.mid.pending ≡ earlier_than sim.time end
       (window sim k s front bound).pending =
       step.pending g.old g.mid c g.in_old g.in_new g.has_old g.has_mid ∙ ap (λ u. earlier_than sim.time end u.pending)
       (is_window s here g.old c g.in_old g.has_old) in
-      same_elements law.order.order (taken sim has (ends_of sim cs) c b.pending) (due_at sim k s bound)
+      same_elements law.order.order (messages_taken sim has (ends_of sim cs) c b.pending) (due_at sim k s bound)
       (sorted_part (takes sim has (ends_of sim cs)) sim.order c b.pending (got.sorted b i))
       (v.sorted s)
       (λ z t. elim (g.received.from c z g.has_mid t) [
@@ -225,7 +226,7 @@ stands_after_window {S} {M} {N} {K} {sim} {Good} law to_stations has cs front bo
     (news s) done all.stood (all.stepped s here)
     (λ r c z i. elim (station_or_not sim r) [
       | inl is ↦ is
-      | inr not ↦ absurd (subst (λ l. In z (taken sim has (ends_of sim cs) c l)) (all.no_other r not) i)
+      | inr not ↦ absurd (subst (λ l. In z (messages_taken sim has (ends_of sim cs) c l)) (all.no_other r not) i)
     ])
     (λ r is x c i h. (all.stepped r is).sent x c i h)
     got

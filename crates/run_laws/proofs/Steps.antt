@@ -8,8 +8,8 @@ use Rattle.run_laws.specs.Simulation.{Simulation}
 use Rattle.run_laws.specs.Window.{Part, earlier_than}
 use Rattle.run_laws.specs.Handlers.{HandlesLawfully}
 use Rattle.sim_base.specs.Marked.{JoinsMarks, SortedMarked}
-use Rattle.run_laws.specs.Copies.{Copy, Carries, takes, taken, view, Turns}
-use Rattle.run_laws.specs.Copies.{Settled, Ends, alone_from, IsStepped, AreOver, SoFar}
+use Rattle.run_laws.specs.Copies.{Copy, Carries, takes, messages_taken, view, Turns}
+use Rattle.run_laws.specs.Copies.{IsSettled, Ends, alone_from, IsStepped, AreOver, SoFar}
 use Rattle.run_laws.proofs.Bools.{and_cases}
 use Rattle.run_laws.proofs.Lists.{in_append, append_old, append_new, filter_all}
 use Rattle.run_laws.proofs.Parts.{sorted_part, all_part}
@@ -19,8 +19,8 @@ use Rattle.run_laws.proofs.Ends.{disjoint_append, not_has, moved_view, comes_to_
 module _ {S M N K : Type 0} (sim : Simulation S M N) (has : K → ℕ → Bool) (ends : ℕ → ℕ) where
   -- what a clone takes comes before its end
   pub taken_early : (c : ℕ) (q : List (M × K)) →
-      earlier_than sim.time (ends c) (taken sim has ends c q) ≡ taken sim has ends c q
-  taken_early c q = filter_all (λ m. nat_lt (sim.time m) (ends c)) (taken sim has ends c q)
+      earlier_than sim.time (ends c) (messages_taken sim has ends c q) ≡ messages_taken sim has ends c q
+  taken_early c q = filter_all (λ m. nat_lt (sim.time m) (ends c)) (messages_taken sim has ends c q)
       (all_part (takes sim has ends) c (λ m. nat_lt (sim.time m) (ends c) ≡ true) q
       (λ x k e. (and_cases (has k c) (nat_lt (sim.time x) (ends c)) e).1))
 
@@ -50,8 +50,8 @@ module _ {S M N K : Type 0} {sim : Simulation S M N} {Good : ℕ → S → Type 
   Goes = Turns sim has ends s bound
 
   -- it has nothing left before the bound
-  abbrev IsSettled : Config (Part S M N) M → Type 0
-  IsSettled = Settled sim has ends s bound
+  abbrev Settles : Config (Part S M N) M → Type 0
+  Settles = IsSettled sim has ends s bound
 
   -- one copy more
   pub so_far_more : (old new results : List (Copy S M N K)) (r : Copy S M N K) (out next : List (M × K))
@@ -63,9 +63,10 @@ module _ {S M N K : Type 0} {sim : Simulation S M N} {Good : ℕ → S → Type 
   so_far_more old new results r out next over0 over over_after n apart h e =
       let in_old : (b : Copy S M N K) (c : ℕ) → In b new → Carries has b c → Carries has r c → ⊥ =
       λ b c i l k. let x = h.from b i in apart x.0 c x.1 (x.2 c l) k in
-      let same_out : (c : ℕ) → (Carries has r c → ⊥) → taken sim has ends c next ≡ taken sim has ends c out =
+      let same_out : (c : ℕ) → (Carries has r c → ⊥)
+      → messages_taken sim has ends c next ≡ messages_taken sim has ends c out =
       λ c f. e.others c (not_has has r.set c f) in
-      let was_out : (c : ℕ) → Carries has r c → taken sim has ends c out ≡ [] =
+      let was_out : (c : ℕ) → Carries has r c → messages_taken sim has ends c out ≡ [] =
       λ c k. h.idle c (λ a i l. apart a c i l k) in
       let begins : (c : ℕ) → Carries has r c → seen c r out ≡ seen c r [] =
       λ c k. moved_view law j ends s bound c r out [] (was_out c k) in
@@ -93,7 +94,7 @@ module _ {S M N K : Type 0} {sim : Simulation S M N} {Good : ℕ → S → Type 
           | inl u ↦ elim (in_append new results b l) [
             | inl v ↦ let x = h.ran a b c u v k t in let y =
                 moved_view law j ends s bound c b out next (sym (same_out c (apart a c u k))) in
-                (subst (λ z. Goes c (seen c a []) z) y x.0, subst IsSettled y x.1)
+                (subst (λ z. Goes c (seen c a []) z) y x.0, subst Settles y x.1)
             | inr v ↦ absurd (apart a c u k (e.within b c v t))
           ]
           | inr u ↦ elim u [
@@ -149,10 +150,10 @@ module _ {S M N K : Type 0} {sim : Simulation S M N} {Good : ℕ → S → Type 
 
   -- where a clone's turns end, its window by itself gives this, before its end
   pub ends_alone : (a : Copy S M N K) (c : ℕ) (d : Config (Part S M N) M) → Good s a.state →
-      SortedMarked sim.order a.pending → Goes c (seen c a []) d → IsSettled d →
+      SortedMarked sim.order a.pending → Goes c (seen c a []) d → Settles d →
       IsCutOf sim (ends c) (alone_from sim has ends s bound a c) d
   ends_alone a c d good sorted ran done =
-      cut_of_local law (ends c) s bound a.log a.state (taken sim has ends c a.pending) d good
+      cut_of_local law (ends c) s bound a.log a.state (messages_taken sim has ends c a.pending) d good
       (sorted_part (takes sim has ends) sim.order c a.pending sorted)
       (taken_early sim has ends c a.pending) ran done
 

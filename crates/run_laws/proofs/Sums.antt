@@ -8,7 +8,7 @@ use Rattle.sim_base.specs.Clones.{Clone, clone_at}
 use Rattle.run_laws.specs.Queue.{In}
 use Rattle.run_laws.specs.Simulation.{Simulation}
 use Rattle.run_laws.specs.Runs.{log_at}
-use Rattle.run_laws.specs.Sharing.{alone, logs_at}
+use Rattle.run_laws.specs.Sharing.{handled_alone, logs_at}
 use Rattle.run_laws.specs.Prefixes.{Apart, IsCount}
 use Rattle.run_laws.specs.Copies.{Copy, Carries, Disjoint, Stands}
 use Rattle.run_laws.proofs.Queue.{all_in}
@@ -211,7 +211,7 @@ module _ {S M N K : Type 0} (has : K → ℕ → Bool) (size : K → ℕ) where
         ∙ total_members (λ i. g (clone_at cs i)) weight copies sized f
 
     -- handled alone
-    pub alone-copies : alone sim cs s front ≡ sum_by (λ a. size a.set * length a.log) copies
+    pub alone-copies : handled_alone sim cs s front ≡ sum_by (λ a. size a.set * length a.log) copies
     alone-copies =
         total_is_sum length (logs_at sim cs s front)
         ∙ total-map length (λ c. log_at sim c s front) cs

@@ -8,7 +8,7 @@ use Rattle.std.proofs.lemmas.List.Elements.{filter-append}
 use Rattle.sim_base.specs.declared.entry.Entry.{Entry}
 use Rattle.run_laws.specs.Queue.{insert_all, In, Sorted}
 use Rattle.run_laws.specs.Machine.{Config, after, Next, Reach, stay, go, Done}
-use Rattle.run_laws.specs.Simulation.{Simulation, Handled}
+use Rattle.run_laws.specs.Simulation.{Simulation, Outcome}
 use Rattle.run_laws.specs.World.{to_it}
 use Rattle.run_laws.specs.Window.{Part, to_others, earlier_than, part_step, alone_at, local}
 use Rattle.run_laws.specs.Handlers.{IsTimed, HandlesLawfully}
@@ -65,8 +65,8 @@ module _ {S M N : Type 0} {sim : Simulation S M N} {Good : ℕ → S → Type 0}
       let before_end : sim.time m < end =
       ltb-true (sim.time m) end (in_filter early c.pending m
       (subst (In m) (h.pending) (subst (In m) (sym n.pending) (inl refl)))).1 in
-      let g : Handled S M N = sim.handle s d.at.state m in
-      let there : Handled S M N = sim.handle s c.at.state m in
+      let g : Outcome S M N = sim.handle s d.at.state m in
+      let there : Outcome S M N = sim.handle s c.at.state m in
       let ge : g ≡ there = ap (λ st. sim.handle s st m) h.state in
       let f : Config (Part S M N) M = after sim.order (part_step sim.to sim.handle s) c.at m r in (
         f,

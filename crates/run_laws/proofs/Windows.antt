@@ -8,7 +8,7 @@ use Rattle.std.proofs.lemmas.Bool.{cases_eq}
 use Rattle.sim_base.specs.declared.entry.Entry.{Entry}
 use Rattle.run_laws.specs.Queue.{insert_all, In, Sorted}
 use Rattle.run_laws.specs.Machine.{Config, after, run_to, Reach, stay, go, Done}
-use Rattle.run_laws.specs.Simulation.{Simulation, Handled}
+use Rattle.run_laws.specs.Simulation.{Simulation, Outcome}
 use Rattle.run_laws.specs.World.{World, to_it, log_of, put, world_step}
 use Rattle.run_laws.specs.Window.{Part, to_others, part_step, alone_at}
 use Rattle.run_laws.specs.Handlers.{AllGood, HandlesLawfully}
@@ -69,7 +69,7 @@ module _ {S M N : Type 0} {sim : Simulation S M N} {Good : ℕ → S → Type 0}
   split_step w0 x m q k good s early h =
       let r : ℕ = sim.to m in
       let o = law.order.order in
-      let there : Handled S M N = sim.handle r (x.states r) m in
+      let there : Outcome S M N = sim.handle r (x.states r) m in
       let e : Entry M N = entry_of sim r (x.states r) m in
       let sent : List M = there.sends in
       let mine : In m (k r).pending =
@@ -82,7 +82,7 @@ module _ {S M N : Type 0} {sim : Simulation S M N} {Good : ℕ → S → Type 0}
       let p : List M = head.0 in
       let is : (k r).pending ≡ m ∷ p = head.1 in
       let sp : Sorted sim.order (m ∷ p) = subst (Sorted sim.order) is (h.sorted r) in
-      let g : Handled S M N = sim.handle r (k r).at.state m in
+      let g : Outcome S M N = sim.handle r (k r).at.state m in
       let ge : g ≡ there = ap (λ st. sim.handle r st m) (h.state r) in
       let v : Config (Part S M N) M = after sim.order (part_step sim.to sim.handle r) (k r).at m p in
       let new : List M = insert_all sim.order sent q in

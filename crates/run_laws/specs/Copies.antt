@@ -13,7 +13,7 @@ use Rattle.sim_base.specs.Marked.{SortedMarked}
 use Rattle.sim_base.specs.declared.entry.Entry.{Entry}
 use Rattle.run_laws.specs.Queue.{insert, In}
 use Rattle.run_laws.specs.Machine.{Config, Reach, Done}
-use Rattle.run_laws.specs.Simulation.{Simulation, Handled}
+use Rattle.run_laws.specs.Simulation.{Simulation, Outcome}
 use Rattle.run_laws.specs.World.{to_it}
 use Rattle.run_laws.specs.Window.{Part, to_others, earlier_than, part_step, local}
 use Rattle.run_laws.specs.Runs.{end_of, log_at, state_at, due_at}
@@ -67,7 +67,7 @@ module _ {S M N K : Type 0} (sim : Simulation S M N) (s : ℕ) where
 
 module _ {S M N : Type 0} (sim : Simulation S M N) where
   -- what is sent at the end or later is dropped
-  abbrev pub handle_until : ℕ → ℕ → S → M → Handled S M N
+  abbrev pub handle_until : ℕ → ℕ → S → M → Outcome S M N
   handle_until end s st m = let h = sim.handle s st m in
       record { state = h.state; sends = earlier_than sim.time end h.sends; line = h.line }
 
@@ -86,22 +86,22 @@ module _ {S M N K : Type 0} (sim : Simulation S M N) (has : K → ℕ → Bool) 
   takes_as old new m k c = has k c && nat_lt (sim.time m) (ends (origin_of old new c))
 
   -- the messages that clone c takes
-  abbrev pub taken : ℕ → List (M × K) → List M
-  taken c xs = part takes c xs
+  abbrev pub messages_taken : ℕ → List (M × K) → List M
+  messages_taken c xs = part takes c xs
 
   -- a copy, and what its station has laid aside, as clone c sees them
   abbrev pub view : ℕ → Copy S M N K → List (M × K) → Config (Part S M N) M
   view c a sent = record {
-    at = record { state = a.state; log = a.log; aside = taken c sent };
-    pending = taken c a.pending;
+    at = record { state = a.state; log = a.log; aside = messages_taken c sent };
+    pending = messages_taken c a.pending;
   }
 
   -- some of the clones of r, and r for them
-  pub record Narrowed (r some : Copy S M N K) : Type 0 where
+  pub record IsNarrowed (r some : Copy S M N K) : Type 0 where
     pub state : some.state ≡ r.state
     pub log : some.log ≡ r.log
     pub within : (c : ℕ) → Carries has some c → Carries has r c
-    pub parts : (c : ℕ) → Carries has some c → taken c some.pending ≡ taken c r.pending
+    pub parts : (c : ℕ) → Carries has some c → messages_taken c some.pending ≡ messages_taken c r.pending
 
   module _ (s bound : ℕ) where
     -- the turns of clone c, before the bound
@@ -109,8 +109,8 @@ module _ {S M N K : Type 0} (sim : Simulation S M N) (has : K → ℕ → Bool) 
     Turns c = Reach sim.order sim.time (part_step sim.to (handle_until sim (ends c)) s) bound
 
     -- nothing is left before the bound
-    abbrev pub Settled : Config (Part S M N) M → Type 0
-    Settled = Done sim.time bound
+    abbrev pub IsSettled : Config (Part S M N) M → Type 0
+    IsSettled = Done sim.time bound
 
     -- l is what a log of one of the clones of r is at the bound, cut to the limit
     pub record IsCutLog (r : Copy S M N K) (sent : List (M × K)) (l : List (Entry M N)) : Type 0 where
@@ -118,7 +118,7 @@ module _ {S M N K : Type 0} (sim : Simulation S M N) (has : K → ℕ → Bool) 
       pub is_in : Carries has r clone
       pub last : Config (Part S M N) M
       pub ran : Turns clone (view clone r sent) last
-      pub settled : Settled last
+      pub settled : IsSettled last
       pub is : l ≡ take sim.limit last.at.log
 
     -- p is a prefix that the logs of a copy's clones gain, each cut to the limit
@@ -136,7 +136,7 @@ module _ {S M N K : Type 0} (sim : Simulation S M N) (has : K → ℕ → Bool) 
 
     -- the log of clone c gets longer than the limit
     abbrev pub GoesOver : Copy S M N K → List (M × K) → ℕ → Type 0
-    GoesOver r sent c = (last : Config (Part S M N) M) → Turns c (view c r sent) last → Settled last →
+    GoesOver r sent c = (last : Config (Part S M N) M) → Turns c (view c r sent) last → IsSettled last →
         sim.limit < length last.at.log
 
     -- the results of r at the bound, as copies: with each, its clones have taken their turns; clones whose logs
@@ -148,7 +148,7 @@ module _ {S M N K : Type 0} (sim : Simulation S M N) (has : K → ℕ → Bool) 
       pub gained : IsCount (IsGained (IsCutLog r before) r.log) n
       pub within : (b : Copy S M N K) (c : ℕ) → In b results → Carries has b c → Carries has r c
       pub ran : (b : Copy S M N K) (c : ℕ) → In b results → Carries has b c →
-          Turns c (view c r before) (view c b after) × Settled (view c b after)
+          Turns c (view c r before) (view c b after) × IsSettled (view c b after)
       pub short : (b : Copy S M N K) → In b results → length b.log ≤ sim.limit
       pub some : (c : ℕ) → Carries has r c →
           ((b : Copy S M N K) × In b results × Carries has b c) ⊎ (has over_after c ≡ true)
@@ -157,11 +157,11 @@ module _ {S M N K : Type 0} (sim : Simulation S M N) (has : K → ℕ → Bool) 
       pub parted : (a b : Copy S M N K) (c d : ℕ) → In a results → In b results → Carries has a c → Carries has b d →
           a.log ≡ b.log → a ≡ b
       pub disjoint : Disjoint has results
-      pub others : (c : ℕ) → has r.set c ≡ false → taken c after ≡ taken c before
+      pub others : (c : ℕ) → has r.set c ≡ false → messages_taken c after ≡ messages_taken c before
 
     -- the window of clone c by itself, from the copy a
     abbrev pub alone_from : Copy S M N K → ℕ → Config (Part S M N) M
-    alone_from a c = local sim s a.log a.state (taken c a.pending) bound (ends c)
+    alone_from a c = local sim s a.log a.state (messages_taken c a.pending) bound (ends c)
 
     -- what a step of a station's copies gives: for each clone what its window by itself gives, before its end
     pub record IsStepped (old new : List (Copy S M N K)) (out : List (M × K)) : Type 0 where
@@ -175,9 +175,9 @@ module _ {S M N K : Type 0} (sim : Simulation S M N) (has : K → ℕ → Bool) 
       pub state : (a b : Copy S M N K) (c : ℕ) → In a old → In b new → Carries has a c → Carries has b c →
           b.state ≡ (alone_from a c).at.state
       pub pending : (a b : Copy S M N K) (c : ℕ) → In a old → In b new → Carries has a c → Carries has b c →
-          taken c b.pending ≡ earlier_than sim.time (ends c) (alone_from a c).pending
+          messages_taken c b.pending ≡ earlier_than sim.time (ends c) (alone_from a c).pending
       pub sent : (a : Copy S M N K) (c : ℕ) → In a old → Carries has a c →
-          taken c out ≡ earlier_than sim.time (ends c) (alone_from a c).at.aside
+          messages_taken c out ≡ earlier_than sim.time (ends c) (alone_from a c).at.aside
       pub parted : (a b1 b2 : Copy S M N K) (c d : ℕ) → In a old → In b1 new → In b2 new → Carries has a c →
           Carries has a d → Carries has b1 c → Carries has b2 d → b1.log ≡ b2.log → b1 ≡ b2
       pub disjoint : Disjoint has new
@@ -197,14 +197,14 @@ module _ {S M N K : Type 0} (sim : Simulation S M N) (has : K → ℕ → Bool) 
       pub carried : (a : Copy S M N K) (c : ℕ) → In a old → Carries has a c →
           ((b : Copy S M N K) × In b new × Carries has b c) ⊎ (has over c ≡ true)
       pub ran : (a b : Copy S M N K) (c : ℕ) → In a old → In b new → Carries has a c → Carries has b c →
-          Turns c (view c a []) (view c b out) × Settled (view c b out)
+          Turns c (view c a []) (view c b out) × IsSettled (view c b out)
       pub short : (b : Copy S M N K) → In b new → length b.log ≤ sim.limit
       pub too_long : (c : ℕ) → has over c ≡ true →
           (has over0 c ≡ true) ⊎ ((a : Copy S M N K) × In a old × Carries has a c × GoesOver a [] c)
       pub parted : (a b1 b2 : Copy S M N K) (c d : ℕ) → In a old → In b1 new → In b2 new → Carries has a c →
           Carries has a d → Carries has b1 c → Carries has b2 d → b1.log ≡ b2.log → b1 ≡ b2
       pub disjoint : Disjoint has new
-      pub idle : (c : ℕ) → ((a : Copy S M N K) → In a old → Carries has a c → ⊥) → taken c out ≡ []
+      pub idle : (c : ℕ) → ((a : Copy S M N K) → In a old → Carries has a c → ⊥) → messages_taken c out ≡ []
 
   -- the copy b is a, where m is pending besides for the clones that take it
   pub record IsGiven (m : M) (k : K) (a b : Copy S M N K) : Type 0 where
@@ -212,17 +212,18 @@ module _ {S M N K : Type 0} (sim : Simulation S M N) (has : K → ℕ → Bool) 
     pub log : b.log ≡ a.log
     pub state : b.state ≡ a.state
     pub parts : (c : ℕ) → Carries has a c →
-        taken c b.pending ≡ (if takes m k c then insert sim.order m (taken c a.pending) else taken c a.pending)
+        messages_taken c b.pending
+        ≡ (if takes m k c then insert sim.order m (messages_taken c a.pending) else messages_taken c a.pending)
     pub sorted : SortedMarked sim.order b.pending
 
   -- what the messages msgs make of the copies
   pub record SoFarGiven (msgs : List (M × K)) (new done : List (Copy S M N K)) : Type 0 where
     pub from : (b : Copy S M N K) → In b done →
         (a : Copy S M N K) × In a new × (b.set ≡ a.set) × (b.log ≡ a.log) × (b.state ≡ a.state)
-        × ((c : ℕ) (z : M) → Carries has a c → In z (taken c b.pending)
-        → In z (taken c a.pending) ⊎ In z (taken c msgs))
-        × ((c : ℕ) (z : M) → Carries has a c → In z (taken c a.pending) ⊎ In z (taken c msgs)
-        → In z (taken c b.pending))
+        × ((c : ℕ) (z : M) → Carries has a c → In z (messages_taken c b.pending)
+        → In z (messages_taken c a.pending) ⊎ In z (messages_taken c msgs))
+        × ((c : ℕ) (z : M) → Carries has a c → In z (messages_taken c a.pending) ⊎ In z (messages_taken c msgs)
+        → In z (messages_taken c b.pending))
     pub each : (a : Copy S M N K) → In a new → (b : Copy S M N K) × In b done × (b.set ≡ a.set)
     pub disjoint : Disjoint has done
     pub sorted : (a : Copy S M N K) → In a done → SortedMarked sim.order a.pending
@@ -233,7 +234,7 @@ module _ {S M N K : Type 0} (sim : Simulation S M N) (has : K → ℕ → Bool) 
     pub log : b.log ≡ a.log
     pub state : b.state ≡ a.state
     pub set : (c : ℕ) → has b.set c ≡ has a.set (origin_of old new c)
-    pub parts : (c : ℕ) → part (takes_as old new) c b.pending ≡ taken (origin_of old new c) a.pending
+    pub parts : (c : ℕ) → part (takes_as old new) c b.pending ≡ messages_taken (origin_of old new c) a.pending
     pub sorted : SortedMarked sim.order b.pending
 
 module _ {S M N K : Type 0} (sim : Simulation S M N) (only : K) where
@@ -268,7 +269,7 @@ module _ {S M N K : Type 0} (sim : Simulation S M N) (has : K → ℕ → Bool) 
     pub state : (a : Copy S M N K) (c : ℕ) → In a copies → Carries has a c →
         a.state ≡ state_at sim (clone_at cs c) s front
     pub due : (a : Copy S M N K) (c : ℕ) → In a copies → Carries has a c →
-        taken sim has (ends_of sim cs) c a.pending ≡ due_at sim (clone_at cs c) s front
+        messages_taken sim has (ends_of sim cs) c a.pending ≡ due_at sim (clone_at cs c) s front
     pub shared : (a b : Copy S M N K) (c d : ℕ) → In a copies → In b copies → Carries has a c → Carries has b d →
         log_at sim (clone_at cs c) s front ≡ log_at sim (clone_at cs d) s front → a ≡ b
     pub sorted : (a : Copy S M N K) → In a copies → SortedMarked sim.order a.pending
@@ -284,13 +285,14 @@ module _ {S M N K : Type 0} (sim : Simulation S M N) (has : K → ℕ → Bool) 
     pub set : b.set ≡ a.set
     pub log : b.log ≡ a.log
     pub state : b.state ≡ a.state
-    pub from : (c : ℕ) (z : M) → Carries has a c → In z (taken sim has (ends_of sim cs) c b.pending) →
-        In z (taken sim has (ends_of sim cs) c a.pending)
-        ⊎ ((r : ℕ) × In z (taken sim has (ends_of sim cs) c (sent r)) × (sim.to z ≡ s))
-    pub kept : (c : ℕ) (z : M) → Carries has a c → In z (taken sim has (ends_of sim cs) c a.pending) →
-        In z (taken sim has (ends_of sim cs) c b.pending)
-    pub got : (c r : ℕ) (z : M) → Carries has a c → In z (taken sim has (ends_of sim cs) c (sent r)) → sim.to z ≡ s →
-        In z (taken sim has (ends_of sim cs) c b.pending)
+    pub from : (c : ℕ) (z : M) → Carries has a c → In z (messages_taken sim has (ends_of sim cs) c b.pending) →
+        In z (messages_taken sim has (ends_of sim cs) c a.pending)
+        ⊎ ((r : ℕ) × In z (messages_taken sim has (ends_of sim cs) c (sent r)) × (sim.to z ≡ s))
+    pub kept : (c : ℕ) (z : M) → Carries has a c → In z (messages_taken sim has (ends_of sim cs) c a.pending) →
+        In z (messages_taken sim has (ends_of sim cs) c b.pending)
+    pub got : (c r : ℕ) (z : M) → Carries has a c
+        → In z (messages_taken sim has (ends_of sim cs) c (sent r)) → sim.to z ≡ s →
+        In z (messages_taken sim has (ends_of sim cs) c b.pending)
 
   -- what the stations sent to station s has reached its copies
   pub record IsDelivered (s : ℕ) (sent : ℕ → List (M × K)) (new done : List (Copy S M N K)) : Type 0 where

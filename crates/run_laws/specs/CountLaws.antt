@@ -9,7 +9,7 @@ use Rattle.run_laws.specs.Queue.{In}
 use Rattle.run_laws.specs.Simulation.{Simulation}
 use Rattle.run_laws.specs.Runs.{end_of, log_at}
 use Rattle.run_laws.specs.Fronts.{IsWindow, AreFronts}
-use Rattle.run_laws.specs.Sharing.{copies, handled, handled_to_limit, alone, IsBeyond}
+use Rattle.run_laws.specs.Sharing.{copies, handled_once, handled_to_limit, handled_alone, IsBeyond}
 use Rattle.run_laws.specs.Prefixes.{IsCount, IsGained}
 use Rattle.run_laws.specs.Copies.{Copy, Carries, IsCutLog, GainTogether, AreOver, ends_of, Stands}
 
@@ -33,8 +33,8 @@ module _ {S M N : Type 0} (sim : Simulation S M N) where
   -- a report counts no more copies than clones, and no more messages than the limit allows for each clone
   pub record AreFew (same : Entry M N → Entry M N → Bool) (cs : List Clone) (s front : ℕ) : Type 0 where
     pub copies_few : copies sim same cs s front ≤ length cs
-    pub handled_few : handled sim same cs s front ≤ length cs * sim.limit
-    pub alone_few : alone sim cs s front ≤ length cs * sim.limit
+    pub handled_few : handled_once sim same cs s front ≤ length cs * sim.limit
+    pub alone_few : handled_alone sim cs s front ≤ length cs * sim.limit
 
   -- where no log is beyond the limit
   abbrev pub CountsAreFew : Type 0
@@ -44,26 +44,26 @@ module _ {S M N : Type 0} (sim : Simulation S M N) where
   -- at the start nothing was handled
   abbrev pub NothingIsHandledAtFirst : Type 0
   NothingIsHandledAtFirst = (same : Entry M N → Entry M N → Bool) (cs : List Clone) (s : ℕ)
-      → handled sim same cs s 0 ≡ 0
+      → handled_once sim same cs s 0 ≡ 0
 
   -- a decision at the front or later leaves what was handled
   abbrev pub HandledStaysAtDecision : Type 0
   HandledStaysAtDecision = (same : Entry M N → Entry M N → Bool) (cs : List Clone) (front s who : ℕ) (p : Planned) →
       who < length cs → front ≤ sim.time (sim.set_message (length (clone_at cs who).plans) p) →
-      handled sim same (clones_with_plan cs who p) s front ≡ handled sim same cs s front
+      handled_once sim same (clones_with_plan cs who p) s front ≡ handled_once sim same cs s front
 
   -- and so does an end at the front or later
   abbrev pub HandledStaysAtEnd : Type 0
   HandledStaysAtEnd = (same : Entry M N → Entry M N → Bool) (cs : List Clone) (front s who at : ℕ) →
       who < length cs → front ≤ at → at ≤ end_of sim (clone_at cs who) →
-      handled sim same (clones_with_end cs who at) s front ≡ handled sim same cs s front
+      handled_once sim same (clones_with_end cs who at) s front ≡ handled_once sim same cs s front
 
   -- and a fork
   abbrev pub HandledStaysAtFork : Type 0
   HandledStaysAtFork = (same : Entry M N → Entry M N → Bool) (cs : List Clone) (front s old : ℕ) (name : List ℕ) →
       TellsEntries same →
       old < length cs → (clone_at cs old).end ≡ None →
-      handled sim same (clones_with_fork cs name old) s front ≡ handled sim same cs s front
+      handled_once sim same (clones_with_fork cs name old) s front ≡ handled_once sim same cs s front
 
 -- K are sets of clones
 module _ {S M N : Type 0} (K : Type 0) (sim : Simulation S M N) where
@@ -78,21 +78,21 @@ module _ {S M N : Type 0} (K : Type 0) (sim : Simulation S M N) where
   HandledGrows = (w : Counting M N K) (cs : List Clone) (front bound s total : ℕ) (old : List (Copy S M N K)) →
       IsWindow sim cs front bound → NoneIsBeyond sim cs s bound → Stands sim w.has cs front s old →
       GainTogether sim w.has (ends_of sim cs) s bound old total →
-      handled sim w.same cs s bound ≡ handled sim w.same cs s front + total
+      handled_once sim w.same cs s bound ≡ handled_once sim w.same cs s front + total
 
   -- where logs get too long, so it is of no log more than the limit
   abbrev pub HandledGrowsToLimit : Type 0
   HandledGrowsToLimit = (w : Counting M N K) (cs : List Clone) (front bound s total : ℕ) (old : List (Copy S M N K)) →
       IsWindow sim cs front bound → NoneIsBeyond sim cs s front → Stands sim w.has cs front s old →
       GainTogether sim w.has (ends_of sim cs) s bound old total →
-      handled_to_limit sim w.same cs s bound ≡ handled sim w.same cs s front + total
+      handled_to_limit sim w.same cs s bound ≡ handled_once sim w.same cs s front + total
 
   -- and that is at most as many as the limit allows for each clone
   abbrev pub HandledIsFew : Type 0
   HandledIsFew = (w : Counting M N K) (cs : List Clone) (front bound s total : ℕ) (old : List (Copy S M N K)) →
       IsWindow sim cs front bound → NoneIsBeyond sim cs s front → Stands sim w.has cs front s old →
       GainTogether sim w.has (ends_of sim cs) s bound old total →
-      handled sim w.same cs s front + total ≤ length cs * sim.limit
+      handled_once sim w.same cs s front + total ≤ length cs * sim.limit
 
   -- those that a step puts over the limit are the clones whose logs at the bound are beyond it
   abbrev pub OverIsBeyond : Type 0
@@ -130,13 +130,14 @@ module _ {S M N : Type 0} (K : Type 0) (sim : Simulation S M N) where
   abbrev pub WindowsAddUp : Type 0
   WindowsAddUp = (w : Counting M N K) (cs : List Clone) (s front n : ℕ) (fs : List ℕ) →
       0 < sim.lookahead → AreFronts sim cs front fs → NoneIsBeyond sim cs s sim.horizon →
-      WindowsGain w.has cs s front fs n → handled sim w.same cs s sim.horizon ≡ handled sim w.same cs s front + n
+      WindowsGain w.has cs s front fs n
+      → handled_once sim w.same cs s sim.horizon ≡ handled_once sim w.same cs s front + n
 
   -- so the windows of a run gain what its report says
   abbrev pub RunAddsUp : Type 0
   RunAddsUp = (w : Counting M N K) (cs : List Clone) (s n : ℕ) (fs : List ℕ) →
       0 < sim.lookahead → AreFronts sim cs 0 fs → NoneIsBeyond sim cs s sim.horizon →
-      WindowsGain w.has cs s 0 fs n → handled sim w.same cs s sim.horizon ≡ n
+      WindowsGain w.has cs s 0 fs n → handled_once sim w.same cs s sim.horizon ≡ n
 
   -- size counts the clones of each copy
   abbrev pub CountsClones : (K → ℕ → Bool) → (K → ℕ) → List (Copy S M N K) → Type 0
@@ -146,7 +147,7 @@ module _ {S M N : Type 0} (K : Type 0) (sim : Simulation S M N) where
   abbrev pub AloneIsOfCopies : Type 0
   AloneIsOfCopies = (has : K → ℕ → Bool) (cs : List Clone) (front s : ℕ) (copies : List (Copy S M N K)) (size : K → ℕ) →
       CountsClones has size copies → Stands sim has cs front s copies
-      → alone sim cs s front ≡ sum_by (λ a. size a.set * length a.log) copies
+      → handled_alone sim cs s front ≡ sum_by (λ a. size a.set * length a.log) copies
 
   -- each clone is in one copy
   abbrev pub ClonesAreOfCopies : Type 0

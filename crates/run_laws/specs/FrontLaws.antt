@@ -11,7 +11,7 @@ use Rattle.run_laws.specs.Runs.{end_of, due_at}
 use Rattle.run_laws.specs.Fronts.{earlier, least_time, least_of, least, next_front, AreFronts}
 use Rattle.run_laws.specs.Handlers.{IsStation, AreForStations}
 use Rattle.run_laws.specs.Laws.{with_plan, with_end}
-use Rattle.run_laws.specs.Copies.{Copy, Carries, taken, ends_of, Stands}
+use Rattle.run_laws.specs.Copies.{Copy, Carries, messages_taken, ends_of, Stands}
 
 -- a time, where it comes before another
 abbrev pub time_before : ℕ → Option ℕ → Option ℕ
@@ -97,7 +97,7 @@ module _ {S M N : Type 0} (K : Type 0) (sim : Simulation S M N) where
     pub is_copy : In copy (copies station)
     pub clone : ℕ
     pub is_in : Carries has copy clone
-    pub is_taken : In m (taken sim has (ends_of sim cs) clone copy.pending)
+    pub is_taken : In m (messages_taken sim has (ends_of sim cs) clone copy.pending)
 
   -- where the copies of all stations stand for the clones, the least time that they take is the least that is due
   abbrev pub LeastIsOfCopies : Type 0

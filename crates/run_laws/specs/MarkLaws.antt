@@ -4,7 +4,7 @@ use Rattle.std.specs.List.{AllByRecursion}
 use Rattle.sim_base.specs.Pending.{cut_by, spread_marks}
 use Rattle.sim_base.specs.Marked.{JoinsMarks, MeetsMarks}
 use Rattle.run_laws.specs.Simulation.{Simulation}
-use Rattle.run_laws.specs.Copies.{part, taken, takes_as, origin_of}
+use Rattle.run_laws.specs.Copies.{part, messages_taken, takes_as, origin_of}
 
 -- the marks are those of one clone
 abbrev pub AreOf : {K : Type 0} → (K → ℕ → Bool) → K → ℕ → Type 0
@@ -15,7 +15,8 @@ module _ {S M N : Type 0} (K : Type 0) (sim : Simulation S M N) where
   abbrev pub HalfTakesTheSame : Type 0
   HalfTakesTheSame = (has : K → ℕ → Bool) (meet : K → K → Option K) (ends : ℕ → ℕ) (half : K) (c : ℕ)
       (q : List (M × K)) →
-      MeetsMarks has meet → has half c ≡ true → taken sim has ends c (cut_by meet half q) ≡ taken sim has ends c q
+      MeetsMarks has meet → has half c ≡ true
+      → messages_taken sim has ends c (cut_by meet half q) ≡ messages_taken sim has ends c q
 
   -- and a half keeps no marks of other clones
   abbrev pub HalfKeepsItsMarks : Type 0
@@ -28,5 +29,5 @@ module _ {S M N : Type 0} (K : Type 0) (sim : Simulation S M N) where
       (of_old of_new : K) (c : ℕ) (q : List (M × K)) →
       JoinsMarks has join → MeetsMarks has meet → ((a b k : K) → meet a b ≡ Some k → (c : ℕ) × (has k c ≡ true)) →
       AreOf has of_old old → AreOf has of_new new → AllByRecursion (λ x. has x.1 new ≡ false) q →
-      part (takes_as sim has ends old new) c (spread_marks join meet of_old of_new q) ≡ taken sim has ends
+      part (takes_as sim has ends old new) c (spread_marks join meet of_old of_new q) ≡ messages_taken sim has ends
       (origin_of old new c) q

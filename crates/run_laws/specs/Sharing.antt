@@ -25,8 +25,8 @@ module _ {S M N : Type 0} (sim : Simulation S M N) where
   logs_at cs s front = map (λ c. log_at sim c s front) cs
 
   -- handled alone: each clone by itself handles the messages of its log
-  abbrev pub alone : List Clone → ℕ → ℕ → ℕ
-  alone cs s front = sum_by length (logs_at cs s front)
+  abbrev pub handled_alone : List Clone → ℕ → ℕ → ℕ
+  handled_alone cs s front = sum_by length (logs_at cs s front)
 
   -- a clone's log at a station is beyond the limit
   abbrev pub IsBeyond : ℕ → ℕ → Clone → Type 0
@@ -39,8 +39,8 @@ module _ {S M N : Type 0} (sim : Simulation S M N) where
 
     -- handled once: what clones have in common from the start on counts once, so this is the number
     -- of different nonempty prefixes of their logs
-    abbrev pub handled : List Clone → ℕ → ℕ → ℕ
-    handled cs s front = distinct_count (same_list same) (flat_map prefixes (logs_at cs s front))
+    abbrev pub handled_once : List Clone → ℕ → ℕ → ℕ
+    handled_once cs s front = distinct_count (same_list same) (flat_map prefixes (logs_at cs s front))
 
     -- handled once, where of each log no more counts than the limit allows
     abbrev pub handled_to_limit : List Clone → ℕ → ℕ → ℕ

@@ -6,7 +6,7 @@ use Rattle.std.specs.declared.cmp.Ordering.{Ordering}
 use Rattle.sim_base.specs.declared.decision.Planned.{Planned}
 
 -- what the handling of a message gives
-pub record Handled (S M N : Type 0) : Type 0 where
+pub record Outcome (S M N : Type 0) : Type 0 where
   pub state : S
   pub sends : List M
   pub line : N
@@ -25,7 +25,7 @@ pub record Simulation (S M N : Type 0) : Type 0 where
   -- the stations have the numbers from 1 on
   pub stations : ℕ
   pub setup : ℕ → Opening S M
-  pub handle : ℕ → S → M → Handled S M N
+  pub handle : ℕ → S → M → Outcome S M N
   -- the message of the decision at place k of a clone's list
   pub set_message : ℕ → Planned → M
   -- no link is faster than the lookahead; nothing is handled at the horizon or later

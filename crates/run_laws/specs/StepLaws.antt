@@ -6,8 +6,8 @@ use Rattle.sim_base.specs.Clones.{Clone}
 use Rattle.run_laws.specs.Queue.{In}
 use Rattle.run_laws.specs.Simulation.{Simulation}
 use Rattle.sim_base.specs.Marked.{JoinsMarks, SortedMarked}
-use Rattle.run_laws.specs.Copies.{Copy, Carries, handled_by, sends_aside, takes, Narrowed, Settled}
-use Rattle.run_laws.specs.Copies.{view, Ends, IsStepped, AreOver, SoFar, Disjoint, taken}
+use Rattle.run_laws.specs.Copies.{Copy, Carries, handled_by, sends_aside, takes, IsNarrowed, IsSettled}
+use Rattle.run_laws.specs.Copies.{view, Ends, IsStepped, AreOver, SoFar, Disjoint, messages_taken}
 use Rattle.run_laws.specs.Copies.{GainTogether, IsGiven, SoFarGiven, ends_of, IsDelivered}
 
 -- what a step works with: which clones marks have and what marks are joined, when each clone ends, the station, and
@@ -42,13 +42,13 @@ module _ {S M N : Type 0} (K : Type 0) (sim : Simulation S M N) (Good : ℕ → 
   abbrev pub LateCopyIsSettled : Type 0
   LateCopyIsSettled = (w : Step K) (r : Copy S M N K) (sent : List (M × K)) (c : ℕ) →
       AllByRecursion (λ x. w.bound ≤ sim.time x.0) r.pending →
-      Settled sim w.has w.ends w.station w.bound (view sim w.has w.ends c r sent)
+      IsSettled sim w.has w.ends w.station w.bound (view sim w.has w.ends c r sent)
 
   -- a copy whose clones have nothing left before the bound stays, and gains nothing
   abbrev pub SettledCopyStays : Type 0
   SettledCopyStays = (w : Step K) (r : Copy S M N K) (sent : List (M × K)) (over : K) →
       (c : ℕ) × Carries w.has r c → length r.log ≤ sim.limit →
-      ((c : ℕ) → Carries w.has r c → Settled sim w.has w.ends w.station w.bound (view sim w.has w.ends c r sent)) →
+      ((c : ℕ) → Carries w.has r c → IsSettled sim w.has w.ends w.station w.bound (view sim w.has w.ends c r sent)) →
       Gives w r (r ∷ []) sent sent over over 0
 
   -- the clones of a copy whose log is full, and that all take a message before the bound, go over the limit
@@ -80,7 +80,7 @@ module _ {S M N : Type 0} (K : Type 0) (sim : Simulation S M N) (Good : ℕ → 
   CopySplits = (w : Step K) (r some rest : Copy S M N K) (x : M × K) (q before mid after : List (M × K))
       (results1 results2 : List (Copy S M N K)) (over over1 over2 : K) (n1 n2 : ℕ) →
       length r.log ≤ sim.limit → r.pending ≡ x ∷ q → SortedMarked sim.order r.pending → sim.time x.0 < w.bound →
-      Narrowed sim w.has w.ends r some → Narrowed sim w.has w.ends r rest → AllTake w some x → NoneTakes w rest x →
+      IsNarrowed sim w.has w.ends r some → IsNarrowed sim w.has w.ends r rest → AllTake w some x → NoneTakes w rest x →
       ((c : ℕ) → Carries w.has r c → Carries w.has some c ⊎ Carries w.has rest c) →
       Gives w some results1 before mid over over1 n1 → Gives w rest results2 mid after over1 over2 n2 →
       Gives w r (results1 ++ results2) before after over over2 (n1 + n2)
@@ -111,7 +111,7 @@ module _ {S M N : Type 0} (K : Type 0) (sim : Simulation S M N) (Good : ℕ → 
   abbrev pub CopiesGainTogether : Type 0
   CopiesGainTogether = (w : Step K) (old results : List (Copy S M N K)) (r : Copy S M N K) (out next : List (M × K))
       (over over_after : K) (n m : ℕ) →
-      ((c : ℕ) → Carries w.has r c → taken sim w.has w.ends c out ≡ []) →
+      ((c : ℕ) → Carries w.has r c → messages_taken sim w.has w.ends c out ≡ []) →
       GainTogether sim w.has w.ends w.station w.bound old n →
       Gives w r results out next over over_after m →
       GainTogether sim w.has w.ends w.station w.bound (old ++ r ∷ []) (n + m)
@@ -135,8 +135,8 @@ module _ {S M N : Type 0} (K : Type 0) (sim : Simulation S M N) where
   abbrev pub GivenIsDelivered : Type 0
   GivenIsDelivered = (has : K → ℕ → Bool) (cs : List Clone) (s : ℕ) (sent : ℕ → List (M × K)) (msgs : List (M × K))
       (new done : List (Copy S M N K)) →
-      ((c : ℕ) (z : M) → In z (taken sim has (ends_of sim cs) c msgs)
-      → (r : ℕ) × In z (taken sim has (ends_of sim cs) c (sent r)) × (sim.to z ≡ s)) →
-      ((c r : ℕ) (z : M) → In z (taken sim has (ends_of sim cs) c (sent r)) → sim.to z ≡ s
-      → In z (taken sim has (ends_of sim cs) c msgs)) →
+      ((c : ℕ) (z : M) → In z (messages_taken sim has (ends_of sim cs) c msgs)
+      → (r : ℕ) × In z (messages_taken sim has (ends_of sim cs) c (sent r)) × (sim.to z ≡ s)) →
+      ((c r : ℕ) (z : M) → In z (messages_taken sim has (ends_of sim cs) c (sent r)) → sim.to z ≡ s
+      → In z (messages_taken sim has (ends_of sim cs) c msgs)) →
       SoFarGiven sim has (ends_of sim cs) msgs new done → IsDelivered sim has cs s sent new done

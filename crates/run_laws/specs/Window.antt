@@ -3,7 +3,7 @@ use Rattle.std.specs.Prelude.{ℕ, List, [], ◌∷◌, ◌++◌, ◌==◌, not,
 use Rattle.std.specs.List.{filter}
 use Rattle.sim_base.specs.declared.entry.Entry.{Entry}
 use Rattle.run_laws.specs.Machine.{Config, run_to}
-use Rattle.run_laws.specs.Simulation.{Simulation, Handled}
+use Rattle.run_laws.specs.Simulation.{Simulation, Outcome}
 use Rattle.run_laws.specs.World.{to_it}
 
 -- a station: its state, its log, and what it has laid aside for other stations
@@ -22,7 +22,7 @@ module _ {M : Type 0} (time : M → ℕ) where
   abbrev pub earlier_than : ℕ → List M → List M
   earlier_than t ms = filter (λ m. nat_lt (time m) t) ms
 
-module _ {S M N : Type 0} (to : M → ℕ) (handle : ℕ → S → M → Handled S M N) where
+module _ {S M N : Type 0} (to : M → ℕ) (handle : ℕ → S → M → Outcome S M N) where
   -- station s handles a message: what it sends to itself becomes pending, and the rest is laid aside
   abbrev pub part_step : ℕ → Part S M N → M → Part S M N × List M
   part_step s p m =

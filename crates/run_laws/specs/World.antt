@@ -5,7 +5,7 @@ use Rattle.sim_base.specs.declared.decision.Planned.{Planned}
 use Rattle.sim_base.specs.declared.entry.Entry.{Entry}
 use Rattle.run_laws.specs.Queue.{insert_all}
 use Rattle.run_laws.specs.Machine.{Config}
-use Rattle.run_laws.specs.Simulation.{Simulation, Handled}
+use Rattle.run_laws.specs.Simulation.{Simulation, Outcome}
 
 -- one state for each station, and what was handled, in order
 pub record World (S M N : Type 0) : Type 0 where
@@ -25,7 +25,7 @@ module _ {M : Type 0} (to : M → ℕ) where
 abbrev pub put : {A : Type 0} → (ℕ → A) → ℕ → A → ℕ → A
 put f r v s = if s == r then v else f s
 
-module _ {S M N : Type 0} (to : M → ℕ) (handle : ℕ → S → M → Handled S M N) where
+module _ {S M N : Type 0} (to : M → ℕ) (handle : ℕ → S → M → Outcome S M N) where
   -- a message is handled by its receiver: its state changes, the trace grows, and its sends go out
   abbrev pub world_step : World S M N → M → World S M N × List M
   world_step w m =

@@ -6,7 +6,7 @@ ghost use Rattle.sim_base.specs.Clones.{base};
 ghost use Rattle.run_laws.specs.Runs.{trace_of, all_due, due_at};
 ghost use Rattle.run_laws.specs.Fronts.{least_of, least, AreFronts};
 ghost use Rattle.run_laws.specs.FrontLaws.{least_to};
-ghost use Rattle.run_laws.specs.Sharing.{copies, handled, handled_to_limit, alone, IsBeyond};
+ghost use Rattle.run_laws.specs.Sharing.{copies, handled_once, handled_to_limit, handled_alone, IsBeyond};
 ghost use Rattle.run_laws.specs.Handlers.{HandlesLawfully, SendsToStations};
 ghost use Rattle.run_laws.specs.Examples.{game, AnyState, base_trace, busy, busy_trace, brief, brief_trace};
 ghost use Rattle.run_laws.specs.Examples.{last_minute, last_minute_trace, all_three, with_twin, merged_trace};
@@ -62,14 +62,14 @@ pub fn windows()
 /// What the three clones have in common at each station.
 pub fn sharing()
     ensures copies_of_1 { copies game same_catch all_three 1 12 ≡ 3 }
-    ensures handled_of_1 { handled game same_catch all_three 1 12 ≡ 8 }
+    ensures handled_of_1 { handled_once game same_catch all_three 1 12 ≡ 8 }
     ensures handled_to_the_limit_of_1 { handled_to_limit game same_catch all_three 1 12 ≡ 4 }
-    ensures alone_of_1 { alone game all_three 1 12 ≡ 10 }
+    ensures alone_of_1 { handled_alone game all_three 1 12 ≡ 10 }
     ensures copies_of_2 { copies game same_catch all_three 2 12 ≡ 2 }
-    ensures handled_of_2 { handled game same_catch all_three 2 12 ≡ 2 }
-    ensures alone_of_2 { alone game all_three 2 12 ≡ 5 }
-    ensures handled_with_twin { handled game same_catch with_twin 1 12 ≡ 8 }
-    ensures alone_with_twin { alone game with_twin 1 12 ≡ 16 }
+    ensures handled_of_2 { handled_once game same_catch all_three 2 12 ≡ 2 }
+    ensures alone_of_2 { handled_alone game all_three 2 12 ≡ 5 }
+    ensures handled_with_twin { handled_once game same_catch with_twin 1 12 ≡ 8 }
+    ensures alone_with_twin { handled_alone game with_twin 1 12 ≡ 16 }
     ensures beyond { IsBeyond game 1 12 busy }
     ensures within { ¬ (IsBeyond game 1 12 base) }
 {}

@@ -2,6 +2,7 @@ pub mod ListLaws
 pub mod Chain
 pub mod OrderLaws
 pub mod OrderEqual
+pub mod KeyWords
 pub mod SameEntry
 pub mod Derived
 pub mod Digits

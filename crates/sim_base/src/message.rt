@@ -1,5 +1,6 @@
 //! Messages, the events of the simulation, and their order: by time stamp, then by sender and sequence number.
-ghost use Rattle.std.specs.Prelude.{◌≡◌};
+ghost use Rattle.std.specs.Prelude.{◌≡◌, ◌<◌, ◌^◌, ◌↔◌, IsTrue};
+ghost use Rattle.sim_base.specs.KeyWords.{FitsWord, key_word};
 ghost use Rattle.sim_base.specs.Order.{msg_cmp};
 ghost use Rattle.sim_base.specs.Params.{param_word, param_values, param_of_word};
 
@@ -13,6 +14,26 @@ pub struct Key {
     pub time: u64,
     pub sender: u32,
     pub number: u64,
+}
+
+impl Key {
+    /// Whether it fits one word of 64 bits, as the keys of a run do.
+    #[inline(always)]
+    pub fn fits_word(self) -> bool
+        ensures value { IsTrue result ↔ FitsWord self }
+    {
+        self.time < 1 << 30 && self.sender < 1 << 7 && self.number < 1 << 21
+    }
+
+    /// The key as one word, with a place in its last 6 bits: words are in the order of keys.
+    #[inline(always)]
+    pub fn word(self, place: u64) -> u64
+        requires fit { FitsWord self }
+        requires few { place < 2 ^ 6 }
+        ensures value { result ≡ key_word place self }
+    {
+        ((self.time * 128 + u64::from(self.sender)) * 2_097_152 + self.number) * 64 + place
+    }
 }
 
 /// A job: the station of its source, its count among that source's jobs, from 0, and when it was made.

@@ -10,9 +10,9 @@ abbrev pub HasRisen : ℕ → ℕ → Type 0
 HasRisen before now = next_count before ≤ now
 
 -- there was one call, where calls are counted
-abbrev pub Counted : Option ℕ → Option ℕ → Type 0
-Counted None now = now ≡ None
-Counted (Some before) now = now ≡ Some (next_count before)
+abbrev pub IsCounted : Option ℕ → Option ℕ → Type 0
+IsCounted None now = now ≡ None
+IsCounted (Some before) now = now ≡ Some (next_count before)
 
 -- a count after so many calls more
 abbrev pub counts_after : ℕ → ℕ → ℕ

@@ -1,6 +1,6 @@
 //! Inputs: files that are fetched by name.
 ghost use Rattle.std.specs.Prelude.{◌≡◌, ◌≤◌, ◌⊎◌, IfOk, IfErr};
-ghost use Rattle.sim_outer.specs.Causes.{Counted, HasRisen};
+ghost use Rattle.sim_outer.specs.Causes.{IsCounted, HasRisen};
 ghost use Rattle.sim_outer.specs.Views.{InputsView};
 ghost use Rattle.sim_outer.specs.Files.{IsFetched, Lacks};
 
@@ -44,5 +44,5 @@ pub trait Inputs {
             HasRisen (seen self.old).faults (seen self.new).faults ⊎ Lacks (seen self.old).files name.now) }
         ensures later { (seen self.old).faults ≤ (seen self.new).faults }
         ensures same { (seen self.new).files ≡ (seen self.old).files }
-        ensures counted { Counted (seen self.old).calls (seen self.new).calls };
+        ensures counted { IsCounted (seen self.old).calls (seen self.new).calls };
 }

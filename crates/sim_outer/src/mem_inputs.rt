@@ -3,7 +3,7 @@ ghost use Rattle.std.specs.Prelude.{◌≡◌, ◌≤◌, ◌⊎◌, ◌↔◌, 
 ghost use Rattle.std.specs.FinMap as finite;
 ghost use Rattle.std.specs.List.{list_any};
 ghost use Rattle.std.specs.Option.{option_map};
-ghost use Rattle.sim_outer.specs.Causes.{Counted, HasRisen};
+ghost use Rattle.sim_outer.specs.Causes.{IsCounted, HasRisen};
 ghost use Rattle.sim_outer.specs.Files.{IsFetched, Lacks, prefix_of};
 ghost use Rattle.sim_outer.specs.MemInputsView.{named_bytes, files_by_name, prefix_by_name, next_prefix, after_fetch};
 
@@ -67,7 +67,7 @@ impl Inputs for MemInputs {
             ⊎ Lacks (Some (files_by_name self.old.files)) name.now) }
         ensures later { self.old.faults ≤ self.new.faults }
         ensures same { Some (files_by_name self.new.files) ≡ Some (files_by_name self.old.files) }
-        ensures counted { Counted (Some self.old.calls) (Some self.new.calls) }
+        ensures counted { IsCounted (Some self.old.calls) (Some self.new.calls) }
 
         // exactly what is found, and exactly when the count rises
         ensures ok { IfOk result (λ v. next_prefix self.old name.now ≡ Some v.items) }

@@ -1,7 +1,7 @@
 //! Sinks in memory, for tests: they hold so many bytes, and fail at stated calls.
 ghost use Rattle.std.specs.Prelude.{◌≡◌, ◌≤◌, ◌+◌, ◌↔◌, ◌++◌, [], true, length, take, Some, OnOk, OnErr, IfOk, IsOk};
 ghost use Rattle.sim_outer.specs.Bytes.{IsAppended, IsPrefixAppended};
-ghost use Rattle.sim_outer.specs.Causes.{Counted, HasRisen};
+ghost use Rattle.sim_outer.specs.Causes.{IsCounted, HasRisen};
 ghost use Rattle.sim_outer.specs.MemSinkView.{stop_of as stop_of', share as share', with_share, fits_whole};
 ghost use Rattle.sim_outer.specs.MemSinkView.{left_of, next_stop};
 ghost use Rattle.sim_outer.specs.MemSinkView.{after_call, next_is_whole, after_put, next_part_is_whole, after_part};
@@ -123,7 +123,7 @@ impl Sink for MemSink {
         ensures part { OnErr result (IsPrefixAppended (Some self.old.taken) piece.now (Some self.new.taken)) }
         ensures cause { OnErr result (HasRisen self.old.faults self.new.faults) }
         ensures later { self.old.faults ≤ self.new.faults }
-        ensures counted { Counted (Some self.old.calls) (Some self.new.calls) }
+        ensures counted { IsCounted (Some self.old.calls) (Some self.new.calls) }
 
         // exactly when it succeeds, what is taken, and when the count rises
         ensures succeeds { IsOk result ↔ (next_is_whole self.old (length piece.now) ≡ true) }
@@ -140,7 +140,7 @@ impl Sink for MemSink {
         ensures cause { OnErr result (HasRisen self.old.faults self.new.faults) }
         ensures later { self.old.faults ≤ self.new.faults }
         ensures same { OnOk result (Some self.new.calls ≡ Some self.old.calls) }
-        ensures counted { OnErr result (Counted (Some self.old.calls) (Some self.new.calls)) }
+        ensures counted { OnErr result (IsCounted (Some self.old.calls) (Some self.new.calls)) }
 
         // exactly when it succeeds, what is taken, and when the count rises
         ensures succeeds { IsOk result ↔ (next_part_is_whole self.old (length part.now) ≡ true) }

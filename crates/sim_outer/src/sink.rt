@@ -1,7 +1,7 @@
 //! Sinks: what takes bytes, piece by piece.
 ghost use Rattle.std.specs.Prelude.{◌≡◌, ◌≤◌, OnOk, OnErr};
 ghost use Rattle.sim_outer.specs.Bytes.{IsAppended, IsPrefixAppended};
-ghost use Rattle.sim_outer.specs.Causes.{Counted, HasRisen};
+ghost use Rattle.sim_outer.specs.Causes.{IsCounted, HasRisen};
 ghost use Rattle.sim_outer.specs.Views.{SinkView};
 
 /// A piece was not taken whole.
@@ -20,7 +20,7 @@ pub trait Sink {
         ensures part { OnErr result (IsPrefixAppended (seen self.old).bytes piece.now (seen self.new).bytes) }
         ensures cause { OnErr result (HasRisen (seen self.old).faults (seen self.new).faults) }
         ensures later { (seen self.old).faults ≤ (seen self.new).faults }
-        ensures counted { Counted (seen self.old).calls (seen self.new).calls };
+        ensures counted { IsCounted (seen self.old).calls (seen self.new).calls };
 
     /// Takes a part of the next piece, whose rest a `put` gives, or fails and has taken a prefix of the part. All parts
     /// and the rest are one call, and a part that fails ends it. It takes no memory.
@@ -30,5 +30,5 @@ pub trait Sink {
         ensures cause { OnErr result (HasRisen (seen self.old).faults (seen self.new).faults) }
         ensures later { (seen self.old).faults ≤ (seen self.new).faults }
         ensures same { OnOk result ((seen self.new).calls ≡ (seen self.old).calls) }
-        ensures counted { OnErr result (Counted (seen self.old).calls (seen self.new).calls) };
+        ensures counted { OnErr result (IsCounted (seen self.old).calls (seen self.new).calls) };
 }

@@ -11,11 +11,11 @@ use Rattle.run_laws.specs.Handlers.{IsOrder}
 use Rattle.run_laws.specs.Queue.{In, insert, insert_all, Sorted}
 use Rattle.run_laws.proofs.Queue.{all_in, all_from, in_insert, insert_old, insert_new, sorted_insert, same_elements}
 use Rattle.run_laws.proofs.Queue.{in_insert_all, insert_all_old, insert_all_new, sorted_insert_all}
-use Rattle.solo_run.specs.EventLists.{messages_of, merged}
+use Rattle.solo_run.specs.EventLists.{messages_of, all_messages}
 
 -- the pending messages of a station
-abbrev pub Marked : Type 0
-Marked = List (Msg × Unit {0})
+abbrev pub MarkedMessages : Type 0
+MarkedMessages = List (Msg × Unit {0})
 
 -- the order of messages tells any two apart
 pub messages_ordered : IsOrder msg_cmp
@@ -23,50 +23,50 @@ messages_ordered = record { total = msg_total; same = msg_same }
 
 -- ---- merged
 
-pub sorted_merged : (ls : List Marked) → Sorted msg_cmp (merged ls)
+pub sorted_merged : (ls : List MarkedMessages) → Sorted msg_cmp (all_messages ls)
 sorted_merged [] = tt
-sorted_merged (l ∷ ls) = sorted_insert_all messages_ordered (messages_of l) (merged ls) (sorted_merged ls)
+sorted_merged (l ∷ ls) = sorted_insert_all messages_ordered (messages_of l) (all_messages ls) (sorted_merged ls)
 
 -- what the one list has, a list has
-pub merged-in : (ls : List Marked) (z : Msg) → In z (merged ls) →
+pub all_messages-in : (ls : List MarkedMessages) (z : Msg) → In z (all_messages ls) →
     (j : ℕ) × (j < length ls) × In z (messages_of (get_or ls j []))
-merged-in [] z i = absurd i
-merged-in (l ∷ ls) z i = elim (in_insert_all messages_ordered (messages_of l) (merged ls) z i) [
+all_messages-in [] z i = absurd i
+all_messages-in (l ∷ ls) z i = elim (in_insert_all messages_ordered (messages_of l) (all_messages ls) z i) [
   | inl k ↦ (zero, omega arith, k)
-  | inr k ↦ let h = merged-in ls z k in let below : h.0 < length ls = h.1 in (suc h.0, omega (arith, below), h.2)
+  | inr k ↦ let h = all_messages-in ls z k in let below : h.0 < length ls = h.1 in (suc h.0, omega (arith, below), h.2)
 ]
 
 -- what a list has, the one list has
-pub in_merged : (ls : List Marked) (j : ℕ) (z : Msg) → In z (messages_of (get_or ls j [])) → In z (merged ls)
+pub in_merged : (ls : List MarkedMessages) (j : ℕ) (z : Msg) → In z (messages_of (get_or ls j [])) → In z (all_messages ls)
 in_merged [] j z i = absurd i
-in_merged (l ∷ ls) zero z i = insert_all_new messages_ordered (messages_of l) (merged ls) z i
-in_merged (l ∷ ls) (suc j) z i = insert_all_old messages_ordered (messages_of l) (merged ls) z (in_merged ls j z i)
+in_merged (l ∷ ls) zero z i = insert_all_new messages_ordered (messages_of l) (all_messages ls) z i
+in_merged (l ∷ ls) (suc j) z i = insert_all_old messages_ordered (messages_of l) (all_messages ls) z (in_merged ls j z i)
 
 -- lists without messages have none
-pub merged-none : (ls : List Marked) → ((j : ℕ) → j < length ls → get_or ls j [] ≡ []) → merged ls ≡ []
-merged-none [] none = refl
-merged-none (l ∷ ls) none =
-    ap (λ k. insert_all msg_cmp (messages_of k) (merged ls)) (none zero (omega arith))
-    ∙ merged-none ls (λ j below. none (suc j) (omega (arith, below)))
+pub all_messages-none : (ls : List MarkedMessages) → ((j : ℕ) → j < length ls → get_or ls j [] ≡ []) → all_messages ls ≡ []
+all_messages-none [] none = refl
+all_messages-none (l ∷ ls) none =
+    ap (λ k. insert_all msg_cmp (messages_of k) (all_messages ls)) (none zero (omega arith))
+    ∙ all_messages-none ls (λ j below. none (suc j) (omega (arith, below)))
 
 -- ---- set: one of the lists changes
 
-module _ (ls : List Marked) (i : ℕ) (new : Marked) (there : i < length ls) where
+module _ (ls : List MarkedMessages) (i : ℕ) (new : MarkedMessages) (there : i < length ls) where
   -- what the changed list has
-  here_in : (z : Msg) → In z (messages_of new) → In z (merged (set ls i new))
+  here_in : (z : Msg) → In z (messages_of new) → In z (all_messages (set ls i new))
   here_in z k = in_merged (set ls i new) i z
       (subst (λ l. In z (messages_of l)) (sym (get_or-set_same ls i new [] there)) k)
 
   -- what another list has
-  there_in : (j : ℕ) (z : Msg) → j ≢ i → In z (messages_of (get_or ls j [])) → In z (merged (set ls i new))
+  there_in : (j : ℕ) (z : Msg) → j ≢ i → In z (messages_of (get_or ls j [])) → In z (all_messages (set ls i new))
   there_in j z other k = in_merged (set ls i new) j z
       (subst (λ l. In z (messages_of l)) (sym (get_or-set_other ls i j new [] other)) k)
 
   -- each message is of the changed list or of another one
-  set-in : (z : Msg) → In z (merged (set ls i new)) →
+  set-in : (z : Msg) → In z (all_messages (set ls i new)) →
       In z (messages_of new) ⊎ ((j : ℕ) × (j ≢ i) × (j < length ls) × In z (messages_of (get_or ls j [])))
   set-in z k =
-      let h = merged-in (set ls i new) z k in
+      let h = all_messages-in (set ls i new) z k in
       let below : h.0 < length (set ls i new) = h.1 in
       elim (cases_eq h.0 i) [
         | inl e ↦ inl (subst (λ l. In z (messages_of l)) (get_or-set_same ls i new [] there)
@@ -80,23 +80,23 @@ module _ (ls : List Marked) (i : ℕ) (new : Marked) (there : i < length ls) whe
       ]
 
   -- a message inserted into its list is inserted into the one list
-  pub merged-insert : (m : Msg) → messages_of new ≡ insert msg_cmp m (messages_of (get_or ls i []))
-      → merged (set ls i new) ≡ insert msg_cmp m (merged ls)
-  merged-insert m is =
+  pub all_messages-insert : (m : Msg) → messages_of new ≡ insert msg_cmp m (messages_of (get_or ls i []))
+      → all_messages (set ls i new) ≡ insert msg_cmp m (all_messages ls)
+  all_messages-insert m is =
       let o = messages_ordered in
       let old = messages_of (get_or ls i []) in
-      same_elements o (merged (set ls i new)) (insert msg_cmp m (merged ls)) (sorted_merged (set ls i new))
-      (sorted_insert o m (merged ls) (sorted_merged ls))
+      same_elements o (all_messages (set ls i new)) (insert msg_cmp m (all_messages ls)) (sorted_merged (set ls i new))
+      (sorted_insert o m (all_messages ls) (sorted_merged ls))
       (λ z k. elim (set-in z k) [
         | inl h ↦ elim (in_insert o m old z (subst (In z) is h)) [
-          | inl e ↦ subst (λ y. In y (insert msg_cmp m (merged ls))) (sym e) (insert_new o m (merged ls))
-          | inr j ↦ insert_old o m (merged ls) z (in_merged ls i z j)
+          | inl e ↦ subst (λ y. In y (insert msg_cmp m (all_messages ls))) (sym e) (insert_new o m (all_messages ls))
+          | inr j ↦ insert_old o m (all_messages ls) z (in_merged ls i z j)
         ]
-        | inr h ↦ insert_old o m (merged ls) z (in_merged ls h.0 z h.3)
+        | inr h ↦ insert_old o m (all_messages ls) z (in_merged ls h.0 z h.3)
       ])
-      (λ z k. elim (in_insert o m (merged ls) z k) [
+      (λ z k. elim (in_insert o m (all_messages ls) z k) [
         | inl e ↦ here_in z (subst (In z) (sym is) (subst (λ y. In y (insert msg_cmp m old)) (sym e) (insert_new o m old)))
-        | inr j ↦ let h = merged-in ls z j in elim (cases_eq h.0 i) [
+        | inr j ↦ let h = all_messages-in ls z j in elim (cases_eq h.0 i) [
           | inl e ↦ here_in z (subst (In z) (sym is)
               (insert_old o m old z (subst (λ n. In z (messages_of (get_or ls n []))) e h.2)))
           | inr n ↦ there_in h.0 z n h.2
@@ -104,19 +104,19 @@ module _ (ls : List Marked) (i : ℕ) (new : Marked) (there : i < length ls) whe
       ])
 
   -- a list's first message that comes before the firsts of all others is the first of all
-  pub merged-first : (m : Msg) → messages_of (get_or ls i []) ≡ m ∷ messages_of new →
+  pub all_messages-first : (m : Msg) → messages_of (get_or ls i []) ≡ m ∷ messages_of new →
       Sorted msg_cmp (m ∷ messages_of new) →
       ((j : ℕ) (z : Msg) → j ≢ i → j < length ls → In z (messages_of (get_or ls j [])) → msg_cmp m z ≡ Less)
-      → merged ls ≡ m ∷ merged (set ls i new)
-  merged-first m is sorted before =
-      same_elements messages_ordered (merged ls) (m ∷ merged (set ls i new)) (sorted_merged ls) (
-        all_from (λ z. msg_cmp m z ≡ Less) (merged (set ls i new)) (λ z k. elim (set-in z k) [
+      → all_messages ls ≡ m ∷ all_messages (set ls i new)
+  all_messages-first m is sorted before =
+      same_elements messages_ordered (all_messages ls) (m ∷ all_messages (set ls i new)) (sorted_merged ls) (
+        all_from (λ z. msg_cmp m z ≡ Less) (all_messages (set ls i new)) (λ z k. elim (set-in z k) [
           | inl h ↦ all_in (λ y. msg_cmp m y ≡ Less) (messages_of new) z sorted.0 h
           | inr h ↦ before h.0 z h.1 h.2 h.3
         ]),
         sorted_merged (set ls i new),
       )
-      (λ z k. let h = merged-in ls z k in elim (cases_eq h.0 i) [
+      (λ z k. let h = all_messages-in ls z k in elim (cases_eq h.0 i) [
         | inl e ↦ elim (subst (In z) is (subst (λ n. In z (messages_of (get_or ls n []))) e h.2)) [
           | inl same ↦ inl same
           | inr j ↦ inr (here_in z j)

@@ -15,7 +15,7 @@ use Rattle.sim_base.specs.declared.entry.Entry.{Entry}
 use Rattle.sim_base.specs.declared.entry.Line.{Line}
 use Rattle.run_laws.specs.Queue.{insert_all, Sorted}
 use Rattle.run_laws.specs.Machine.{Config, after}
-use Rattle.run_laws.specs.Simulation.{Handled}
+use Rattle.run_laws.specs.Simulation.{Outcome}
 use Rattle.run_laws.specs.World.{World, put, log_of}
 use Rattle.run_laws.proofs.Queue.{sorted_insert_all, all_insert_all}
 use Rattle.run_laws.proofs.Worlds.{put_same, put_other, log_here, log_there}
@@ -30,7 +30,7 @@ use Rattle.solo_run.specs.EventLists.{MayBePending}
 use Rattle.solo_run.specs.Limit.{receiver, first_beyond}
 use Rattle.solo_run.specs.SoloView.{SoloView, IsSolo, IsStateAfter, IsForStation}
 use Rattle.solo_run.specs.SoloView.{config_of, state_of, with_due}
-use Rattle.solo_run.specs.Turns.{HandlesAt, Turned, step_of}
+use Rattle.solo_run.specs.Turns.{HandlesAt, HasTurned, step_of}
 
 get_set_here : {X : Type 0} (xs : List X) (i : ℕ) (y : X) → i < length xs → slice_get (slice_set xs i y) i ≡ Some y
 get_set_here [] i y below = absurd (omega arith)
@@ -161,7 +161,7 @@ module _ (net : Net) (valid : IsNet net) (v : SoloView) (m : Msg) (new : List St
       let one : state_of net new ≡ put (state_of net v.states) m.to h.after =
       subst (λ k. state_of net new ≡ put (state_of net v.states) k h.after) number
       (ap (state_of net) h.new_states ∙ fun_ext (state_put net v.states (m.to - 1) h.after within)) in
-      let F : Handled StateView Msg Line → Config (World StateView Msg Line) Msg =
+      let F : Outcome StateView Msg Line → Config (World StateView Msg Line) Msg =
       λ d. record {
         at = record {
           states = put (state_of net v.states) m.to d.state;
@@ -261,5 +261,5 @@ module _ (net : Net) (valid : IsNet net) (v : SoloView) (m : Msg) (new : List St
 
   -- and it has come to where the turn leads
   pub turned : next ≡ insert_all msg_cmp sends v.pending
-      → Turned net v m (record { states = new; pending = next; trace = v.trace ++ e ∷ [] })
+      → HasTurned net v m (record { states = new; pending = next; trace = v.trace ++ e ∷ [] })
   turned is = config_is is

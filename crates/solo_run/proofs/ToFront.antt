@@ -25,7 +25,7 @@ use Rattle.stations.proofs.Lawful.{site_is}
 use Rattle.stations.proofs.GoodLaws.{lawful-stations}
 use Rattle.solo_run.specs.Limit.{receiver, first_beyond}
 use Rattle.solo_run.specs.SoloView.{SoloView, IsSolo, IsStateAfter, config_of, state_of, with_due}
-use Rattle.solo_run.specs.Turns.{GoesBeyond, IsFull, Stops, StopsAt, Turned, run_from, step_of}
+use Rattle.solo_run.specs.Turns.{GoesBeyond, IsFull, Stops, StopsAt, HasTurned, run_from, step_of}
 use Rattle.solo_run.specs.declared.turn.SoloFault.{SoloFault}
 use Rattle.solo_run.specs.declared.turn.SoloFault.TheVariants.{NoMemory, Limit}
 use Rattle.solo_run.proofs.OneTurn.{beyond_append, beyond_here, sum_most}
@@ -90,7 +90,7 @@ module _ (net : Net) (valid : IsNet net) where
 
   -- a turn of a message before the front
   pub next_turn : (front : ℕ) (w : SoloView) (m : Msg) (new : SoloView) → m.key.time < front
-      → Turned net w m new
+      → HasTurned net w m new
       → Next msg_cmp (λ m. m.key.time) (step_of net) front (config_of net (with_due m w)) (config_of net new)
   next_turn front w m new early t = record { m = m; q = w.pending; pending = refl; early = early; is = t }
 

@@ -49,8 +49,8 @@ StopsAt net i states old_steps new_steps NoMemory = Unit {0}
 StopsAt net i states old_steps new_steps (Limit station kept) = IsFull net i states old_steps new_steps station kept
 
 -- a message that was due is handled: the run comes to where the turn leads
-abbrev pub Turned : Net → SoloView → Msg → SoloView → Type 0
-Turned net v m new = config_of net new ≡ after msg_cmp (step_of net) (config_of net v).at m v.pending
+abbrev pub HasTurned : Net → SoloView → Msg → SoloView → Type 0
+HasTurned net v m new = config_of net new ≡ after msg_cmp (step_of net) (config_of net v).at m v.pending
 
 -- the run to a front goes beyond the limit: up to the first such entry all was handled, one step for each, and no
 -- station has handled more than the limit

@@ -6,14 +6,14 @@
 //!     gate [3 9 ..]   desk [8 12 ..]   out []          least word: 3 gate
 //!
 //! A key is one word of 64 bits, with the place of its list as the last six, so that a step is one `min` a level and
-//! no branch. A key fits with a time below 2^30, a sender below 128 and a number below 2^21, as those of a run do;
-//! where one does not, all lists are looked through.
-ghost use Rattle.std.specs.Prelude.{ℕ, length, get_or, ◌≡◌, ◌∷◌, [], ◌≤◌, ◌<◌, ◌^◌, IfOk, IfNone, IfSome, OnOk, OnErr};
+//! no branch. The keys of a run fit; where one does not, all lists are looked through.
+ghost use Rattle.std.specs.Prelude.{ℕ, ◌+◌, ◌^◌, ◌<◌, ◌≤◌, ◌≡◌, ◌∷◌, [], length, get_or};
+ghost use Rattle.std.specs.Prelude.{IfOk, IfNone, IfSome, OnOk, OnErr};
 ghost use Rattle.std.specs.List.{AllByRecursion};
 ghost use Rattle.sim_base.specs.Order.{msg_cmp};
 ghost use Rattle.run_laws.specs.Queue.{insert};
-ghost use Rattle.solo_run.specs.EventLists.{HasFirst, IsEventList, IsFound, IsListOf, MayBePending, first_found, merged};
-ghost use Rattle.solo_run.specs.EventLists.{word_of, word_of_key};
+ghost use Rattle.solo_run.specs.EventLists.{HasFirst, IsEventList, IsFound, IsListOf, MayBePending, all_messages};
+ghost use Rattle.solo_run.specs.EventLists.{IsWordOf, IsWordOfKey};
 
 use sim_base::message::compare;
 use sim_base::{Key, Msg, NoMemory, Pending};
@@ -32,11 +32,11 @@ pub struct EventList {
 
 impl Model for EventList {
     ghost use Rattle.std.specs.Prelude.{length};
-    ghost use Rattle.solo_run.specs.EventLists.{EventListView, IsEventList, merged};
+    ghost use Rattle.solo_run.specs.EventLists.{EventListView, IsEventList, all_messages};
 
     ghost Value = { EventListView };
 
-    ghost view = { λ e. record { messages = merged e.lists.items; stations = length e.lists.items } };
+    ghost view = { λ e. record { messages = all_messages e.lists.items; stations = length e.lists.items } };
 
     ghost invariant = { λ e. IsEventList e.lists.items e.words };
 }
@@ -67,7 +67,7 @@ impl EventList {
         let i = msg.to as usize - 1;
         self.lists[i].insert(msg, ())?;
         let word = word_of(&self.lists[i], i);
-        self.words.set(i, word);
+        self.words.update(i, word);
         Ok(())
     }
 
@@ -93,7 +93,7 @@ fn first_before(lists: &Vec<Pending<()>>, words: &Tree, bound: u64) -> Option<us
     requires lists { IsEventList lists.now.items words.now }
     requires soon { bound < 2 ^ 30 }
     ensures some { IfSome result (λ i. HasFirst lists.now.items bound i) }
-    ensures none { IfNone result (AllByRecursion (λ m. bound ≤ m.key.time) (merged lists.now.items)) }
+    ensures none { IfNone result (AllByRecursion (λ m. bound ≤ m.key.time) (all_messages lists.now.items)) }
 {
     let word = words.least();
     if word == 0 {
@@ -110,7 +110,7 @@ fn first_before(lists: &Vec<Pending<()>>, words: &Tree, bound: u64) -> Option<us
 fn look_through(lists: &Vec<Pending<()>>, bound: u64) -> Option<usize>
     requires lists { (i : ℕ) → i < length lists.now.items → IsListOf i (get_or lists.now.items i []) }
     ensures some { IfSome result (λ i. HasFirst lists.now.items bound i) }
-    ensures none { IfNone result (AllByRecursion (λ m. bound ≤ m.key.time) (merged lists.now.items)) }
+    ensures none { IfNone result (AllByRecursion (λ m. bound ≤ m.key.time) (all_messages lists.now.items)) }
 {
     match find_first(lists) {
         Some((i, msg)) if msg.key.time < bound => Some(i),
@@ -124,20 +124,22 @@ fn find_first(lists: &Vec<Pending<()>>) -> Option<(usize, Msg)>
 {
     let mut found = None;
     for i in 0..lists.len() {
-        found = first_found(found, i, lists[i].least());
+        found = first_found(lists, i, found);
     }
     found
 }
 
-// What was found, or the first message of a further list where that comes before it.
+// What was found among the lists before place i, or the first message of the list there where that comes before it.
 fn first_found(
-    found: Option<(usize, Msg)>,
+    lists: &Vec<Pending<()>>,
     i: usize,
-    first: Option<(Msg, ())>,
+    found: Option<(usize, Msg)>,
 ) -> Option<(usize, Msg)>
-    ensures value { result ≡ first_found found i first }
+    requires there { i < length lists.now.items }
+    requires found { IsFound lists.now.items i found }
+    ensures found { IsFound lists.now.items (i + 1) result }
 {
-    match (found, first) {
+    match (found, lists[i].least()) {
         (found, None) => found,
         (None, Some((msg, ()))) => Some((i, msg)),
         (Some((place, least)), Some((msg, ()))) => {
@@ -154,7 +156,7 @@ fn first_found(
 #[inline(always)]
 fn word_of(list: &Pending<()>, i: usize) -> u64
     requires few { i < 64 }
-    ensures value { result ≡ word_of i list.now }
+    ensures value { IsWordOf i list.now result }
 {
     match list.least() {
         Some((msg, ())) => word_of_key(msg.key, i),
@@ -166,14 +168,13 @@ fn word_of(list: &Pending<()>, i: usize) -> u64
 #[inline(always)]
 fn word_of_key(key: Key, i: usize) -> u64
     requires few { i < 64 }
-    ensures value { result ≡ word_of_key i key }
+    ensures value { IsWordOfKey i key result }
 {
-    if key.time >= 1_073_741_824 {
-        return u64::MAX;
-    }
-    if key.sender < 128 && key.number < 2_097_152 {
-        ((key.time * 128 + u64::from(key.sender)) * 2_097_152 + key.number) * 64 + i as u64
-    } else {
+    if key.fits_word() {
+        key.word(i as u64)
+    } else if key.time < 1 << 30 {
         0
+    } else {
+        u64::MAX
     }
 }

@@ -10,7 +10,7 @@ ghost use Rattle.stations.specs.Fits.{SuitsNet};
 ghost use Rattle.stations.specs.Handling.{StateView};
 ghost use Rattle.solo_run.specs.EventLists.{MayBePending};
 ghost use Rattle.solo_run.specs.SoloView.{IsSolo, with_due};
-ghost use Rattle.solo_run.specs.Turns.{HandlesAt, StopsAt, Turned};
+ghost use Rattle.solo_run.specs.Turns.{HandlesAt, StopsAt, HasTurned};
 
 use crate::event_list::EventList;
 use crate::solo::Solo;
@@ -92,7 +92,7 @@ impl Solo {
         requires early { msg.now.key.time < 2 ^ 31 }
 
         // The run comes to where the turn leads.
-        ensures turned { OnOk result (Turned model.now self.old msg.now self.new) }
+        ensures turned { OnOk result (HasTurned model.now self.old msg.now self.new) }
         ensures solo { OnOk result (IsSolo model.now self.new) }
 
         // One message was handled.

@@ -1,6 +1,7 @@
 -- How high the senders and numbers of a run's messages go: the law of numbers, at these stations.
-use Rattle.std.proofs.Common.{ℕ, ◌+◌, ◌*◌, ◌^◌, ◌<◌, ◌≤◌, inl, inr, List, min, arith}
+use Rattle.std.proofs.Common.{ℕ, ◌+◌, ◌*◌, ◌<◌, ◌≤◌, inl, inr, List, min, arith}
 use Rattle.std.specs.Prelude.{◌==◌}
+use Rattle.sim_base.specs.KeyWords.{most_numbers}
 use Rattle.sim_base.specs.declared.message.Msg.{Msg}
 use Rattle.sim_base.specs.declared.entry.Entry.{Entry}
 use Rattle.sim_base.specs.declared.entry.Line.{Line}
@@ -31,8 +32,8 @@ module _ (net : Net) (valid : IsNet net) where
         omega (arith, few, next);
   }
 
-  -- 16 numbers for each message of a log that keeps the limit, and 16 more, are below 2^21
-  bound-enough : 16 * (net.limit + 1) ≤ 2 ^ 21
+  -- 16 numbers for each message of a log that keeps the limit, and 16 more, fit words
+  bound-enough : 16 * (net.limit + 1) ≤ most_numbers
   bound-enough = let short = valid.short in omega (arith, short)
 
   -- at a front where no log is beyond the limit each message of a clone's run has a small sender and number
@@ -46,7 +47,7 @@ module _ (net : Net) (valid : IsNet net) where
         ];
     number = numbers_fit (lawful-stations net valid) (stations-to_stations net valid)
         (fresh-stations net valid) few-numbers
-        c front counted.there (2 ^ 21) m (λ s here beyond. counted.within s here.0 here.1 beyond) counted.short
+        c front counted.there most_numbers m (λ s here beyond. counted.within s here.0 here.1 beyond) counted.short
         bound-enough i;
   }
 

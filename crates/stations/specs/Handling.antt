@@ -4,7 +4,7 @@ use Rattle.sim_base.specs.declared.message.Msg.{Msg}
 use Rattle.sim_base.specs.declared.message.Payload.{Payload}
 use Rattle.sim_base.specs.declared.entry.Line.{Line}
 use Rattle.sim_base.specs.declared.entry.Line.TheVariants as line
-use Rattle.run_laws.specs.Simulation.{Handled}
+use Rattle.run_laws.specs.Simulation.{Outcome}
 use Rattle.net_model.specs.Net.{Net, Site, site_of}
 use Rattle.stations.specs.declared.sender.Sender.{Sender}
 use Rattle.stations.specs.declared.kind_state.KindState.{KindState}
@@ -39,7 +39,7 @@ line_of (Router s) = line.Passed s.passed
 line_of (Sink s) = line.Sink s.got s.stay
 
 -- what was handled, as a reaction tells it: the state with this count of messages, the sends, the counts
-abbrev pub handled_as : ℕ → Reaction KindState → Handled StateView Msg Line
+abbrev pub handled_as : ℕ → Reaction KindState → Outcome StateView Msg Line
 handled_as count r = record {
   state = record { sender = r.out.sender; handled = count; kind = r.state };
   sends = r.out.sends;
@@ -47,7 +47,7 @@ handled_as count r = record {
 }
 
 -- a station handles a message
-unfoldable pub handle : Net → StateView → Msg → Handled StateView Msg Line
+unfoldable pub handle : Net → StateView → Msg → Outcome StateView Msg Line
 handle net st m =
     handled_as (st.handled + 1) (kind_on net (site_of net st.sender.station) m.key.time m.payload st.kind
     (record { sender = st.sender; sends = [] }))

@@ -2,6 +2,7 @@
 use Rattle.std.specs.Prelude.{◌≡◌, ℕ, ◌+◌, ◌*◌, ◌^◌, ◌<◌, ◌≤◌, List, [], ◌∷◌, ◌++◌, length}
 use Rattle.std.specs.List.{AllByRecursion}
 use Rattle.sim_base.specs.Clones.{Clone}
+use Rattle.sim_base.specs.KeyWords.{most_numbers}
 use Rattle.sim_base.specs.declared.message.Key.{Key}
 use Rattle.sim_base.specs.declared.message.Msg.{Msg}
 use Rattle.sim_base.specs.declared.entry.Entry.{Entry}
@@ -60,15 +61,15 @@ module _ (net : Net) where
   JobsTakeTheLookahead = (s : ℕ) (st : StateView) (m z : Msg) → IsGood net s st → In z (handle net st m).sends →
       IsJob z.payload → m.key.time + net.lookahead ≤ z.key.time
 
-  -- a message's sender is the analyst, who is 0, or a station, and its number is below 2^21
+  -- a message's sender is the analyst, who is 0, or a station, and its number fits a word
   pub record HasSmallKey (k : Key) : Type 0 where
     pub sender : k.sender ≤ length net.sites
-    pub number : k.number < 2 ^ 21
+    pub number : k.number < most_numbers
 
-  -- at a front no station's log is beyond the limit, and the list has 2^21 decisions at most, for stations
+  -- at a front no station's log is beyond the limit, and the list has decisions for stations alone, whose numbers fit
   pub record IsCounted (c : Clone) (front : ℕ) : Type 0 where
     pub there : AreForStations (simulation net) c.plans
-    pub short : length c.plans ≤ 2 ^ 21
+    pub short : length c.plans ≤ most_numbers
     pub within : (s : ℕ) → 1 ≤ s → s ≤ length net.sites → ¬ (IsBeyond net s front c)
 
   -- then each message of the clone's run, handled or pending there, has such a key

@@ -82,9 +82,9 @@ abbrev pub copies : Net → List Clone → ℕ → ℕ → ℕ
 copies net cs s front = sharing.copies (simulation net) same_entry cs s front
 
 -- the number of messages that its copies handled before the front, each once
-abbrev pub handled : Net → List Clone → ℕ → ℕ → ℕ
-handled net cs s front = sharing.handled (simulation net) same_entry cs s front
+abbrev pub handled_once : Net → List Clone → ℕ → ℕ → ℕ
+handled_once net cs s front = sharing.handled_once (simulation net) same_entry cs s front
 
 -- and the number that would be handled there if each clone were run alone
-abbrev pub alone : Net → List Clone → ℕ → ℕ → ℕ
-alone net cs s front = sharing.alone (simulation net) cs s front
+abbrev pub handled_alone : Net → List Clone → ℕ → ℕ → ℕ
+handled_alone net cs s front = sharing.handled_alone (simulation net) cs s front

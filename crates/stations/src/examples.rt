@@ -5,7 +5,7 @@
 ghost use Rattle.std.specs.Prelude.{◌≡◌, [], ◌∷◌, true, false};
 ghost use Rattle.sim_base.specs.Clones.{base};
 ghost use Rattle.stations.specs.Runs.{trace_of, log_at, state_at, replay, window_of};
-ghost use Rattle.stations.specs.Runs.{copies, handled, alone, AreFronts, IsBeyond};
+ghost use Rattle.stations.specs.Runs.{copies, handled_once, handled_alone, AreFronts, IsBeyond};
 ghost use Rattle.stations.specs.Examples.OneDesk.{one_desk, one_desk_trace, fast, fast_trace, set_at_start, first_set};
 ghost use Rattle.stations.specs.Examples.OneDesk.{brief, brief_trace, two_branches, short_logs, fast_desk, quick_desk};
 ghost use Rattle.stations.specs.Examples.OneDesk.{quick_desk_trace, gate, desk, out};
@@ -134,12 +134,12 @@ pub fn fronts_of_two_branches()
 /// What the two branches have in common at the horizon: copies, messages handled once and alone.
 pub fn report_of_two_branches()
     ensures gate_copies { copies one_desk two_branches gate 20 ≡ 1 }
-    ensures gate_handled { handled one_desk two_branches gate 20 ≡ 2 }
-    ensures gate_alone { alone one_desk two_branches gate 20 ≡ 4 }
+    ensures gate_handled { handled_once one_desk two_branches gate 20 ≡ 2 }
+    ensures gate_alone { handled_alone one_desk two_branches gate 20 ≡ 4 }
     ensures desk_copies { copies one_desk two_branches desk 20 ≡ 2 }
-    ensures desk_handled { handled one_desk two_branches desk 20 ≡ 8 }
-    ensures desk_alone { alone one_desk two_branches desk 20 ≡ 9 }
+    ensures desk_handled { handled_once one_desk two_branches desk 20 ≡ 8 }
+    ensures desk_alone { handled_alone one_desk two_branches desk 20 ≡ 9 }
     ensures out_copies { copies one_desk two_branches out 20 ≡ 2 }
-    ensures out_handled { handled one_desk two_branches out 20 ≡ 3 }
-    ensures out_alone { alone one_desk two_branches out 20 ≡ 4 }
+    ensures out_handled { handled_once one_desk two_branches out 20 ≡ 3 }
+    ensures out_alone { handled_alone one_desk two_branches out 20 ≡ 4 }
 {}

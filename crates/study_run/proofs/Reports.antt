@@ -11,7 +11,7 @@ use Rattle.net_model.specs.Rules.{IsNet}
 use Rattle.run_laws.specs.CountLaws.{AreFew}
 use Rattle.run_laws.specs.SharedTexts.{station_sum}
 use Rattle.run_laws.proofs.FewGains.{counts_are_few}
-use Rattle.stations.specs.Runs.{alone, copies, handled, simulation}
+use Rattle.stations.specs.Runs.{handled_alone, copies, handled_once, simulation}
 use Rattle.trace_report.specs.ReportText.{report_text}
 use Rattle.study_run.specs.Laws.{TotalIsFew, TotalIsOfReport}
 use Rattle.study_run.specs.Limits.{AreWithin}
@@ -76,18 +76,18 @@ module _ (net : Net) (cs : List Clone) where
   -- ---- the total
 
   total_to : (n : ℕ) → sum_by (λ (f : Figures). f.handled) (figures_to net cs n) ≡ station_sum
-      (λ s. handled net cs s net.horizon) n
+      (λ s. handled_once net cs s net.horizon) n
   unfolding figures_to
   total_to zero = refl
   total_to (suc n) =
       let h = total_to n in
       let e : n + 1 ≡ suc n = omega arith in
-      let at = ap (λ s. handled net cs s net.horizon) e in
+      let at = ap (λ s. handled_once net cs s net.horizon) e in
       sum_by_push (λ (f : Figures). f.handled) (figures_to net cs n) (figures_of net cs (n + 1))
       ∙ ap₂ (λ a b. a + b) h at
 
   total_few : AreWithin net cs → (n : ℕ) → n ≤ length net.sites
-      → station_sum (λ s. handled net cs s net.horizon) n ≤ n * (length cs * net.limit)
+      → station_sum (λ s. handled_once net cs s net.horizon) n ≤ n * (length cs * net.limit)
   total_few within zero l = omega arith
   total_few within (suc n) l =
       let h = total_few within n (omega (arith, l)) in
@@ -113,14 +113,14 @@ same_figures f g a b c =
 -- the figures of one station more at the horizon
 pub figures_pushed : (net told : Net) (cs : List Clone) (front s : ℕ) (f : Figures) (done all : List Figures)
     → told ≡ net → front ≡ net.horizon
-    → f.copies ≡ copies told cs (s + 1) front → f.handled ≡ handled told cs (s + 1) front
-    → f.alone ≡ alone told cs (s + 1) front
+    → f.copies ≡ copies told cs (s + 1) front → f.handled ≡ handled_once told cs (s + 1) front
+    → f.alone ≡ handled_alone told cs (s + 1) front
     → done ≡ figures_to net cs s → all ≡ done ++ f ∷ [] → all ≡ figures_to net cs (s + 1)
 figures_pushed net told cs front s f done all n h a b c before push =
     let is : f ≡ figures_of net cs (s + 1) = same_figures f (figures_of net cs (s + 1))
     (a ∙ ap₂ (λ (k : Net) t. copies k cs (s + 1) t) n h)
-    (b ∙ ap₂ (λ (k : Net) t. handled k cs (s + 1) t) n h)
-    (c ∙ ap₂ (λ (k : Net) t. alone k cs (s + 1) t) n h) in
+    (b ∙ ap₂ (λ (k : Net) t. handled_once k cs (s + 1) t) n h)
+    (c ∙ ap₂ (λ (k : Net) t. handled_alone k cs (s + 1) t) n h) in
     push ∙ (ap₂ (λ xs x. xs ++ x ∷ []) before is ∙ sym (figures_more net cs s))
 
 -- the text of all figures is the report

@@ -6,7 +6,7 @@ use Rattle.net_model.specs.Net.{Net}
 use Rattle.net_model.specs.Rules.{IsNet}
 use Rattle.run_laws.specs.SharedTexts.{station_sum}
 use Rattle.run_laws.proofs.HandledStays.{handled-0}
-use Rattle.stations.specs.Runs.{handled, next_front, simulation}
+use Rattle.stations.specs.Runs.{handled_once, next_front, simulation}
 use Rattle.world_core.specs.Overs.{IsFault, NoneBeyond}
 use Rattle.world_core.specs.Worlds.{total_handled}
 use Rattle.world_core.specs.declared.world.WorldFault.TheVariants.{EventLimit}
@@ -16,13 +16,13 @@ use Rattle.study_run.specs.Overs.{HasCome}
 use Rattle.study_run.proofs.OverLaws.{comes_next, over_here, rises}
 
 -- at first nothing was handled
-pub none_handled : (net : Net) (cs : List Clone) (n : ℕ) → station_sum (λ s. handled net cs s 0) n ≡ 0
+pub none_handled : (net : Net) (cs : List Clone) (n : ℕ) → station_sum (λ s. handled_once net cs s 0) n ≡ 0
 none_handled net cs zero = refl
 none_handled net cs (suc n) =
     let before = none_handled net cs n in
     let here = handled-0 (simulation net) same_entry cs (n + 1) in
     let e : suc n ≡ n + 1 = omega arith in
-    let at = ap (λ s. handled net cs s 0) e in
+    let at = ap (λ s. handled_once net cs s 0) e in
     omega (arith, before, here, at)
 
 -- the window at whose end a log is beyond the limit

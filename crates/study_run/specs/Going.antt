@@ -1,5 +1,5 @@
 -- A run of all clones that goes on from a world.
-use Rattle.std.specs.Prelude.{◌≡◌, ℕ, ◌+◌}
+use Rattle.std.specs.Prelude.{◌≡◌, ℕ, ◌+◌, Result, IfOk, IfErr}
 use Rattle.net_model.specs.Net.{Net}
 use Rattle.world_core.specs.Worlds.{WorldView, total_handled}
 use Rattle.study_run.specs.Faults.{IsFaultOfAll}
@@ -21,3 +21,10 @@ pub record HasGoneOn (net : Net) (old new : WorldView) (old_steps new_steps : �
 abbrev pub HasStopped : Net → WorldView → ℕ → ℕ → StudyFault → Type 0
 HasStopped net old old_steps new_steps e = (start : ℕ) → old_steps ≡ start + total_handled net old.clones old.front
     → IsFaultOfAll net old.clones start new_steps e
+
+-- a run goes on from a world up to the horizon, or it stops
+pub record GoesToHorizon (net : Net) (old : WorldView) (old_steps new_steps : ℕ) (run : Result WorldView StudyFault) :
+    Type 0 where
+  pub gone_on : IfOk run (λ w. HasGoneOn net old w old_steps new_steps)
+  pub front : IfOk run (λ w. w.front ≡ net.horizon)
+  pub stopped : IfErr run (λ e. HasStopped net old old_steps new_steps e)

@@ -5,3 +5,4 @@ pub mod Faults
 pub mod Laws
 pub mod Accepted
 pub mod Going
+pub mod Reports

@@ -1,7 +1,6 @@
 //! The report of a run: what the clones had in common, as copies (physical processes) and messages (event executions).
-ghost use Rattle.std.specs.Prelude.{◌≡◌, ◌≤◌, length, IfOk};
-ghost use Rattle.sim_base.specs.declared.lists.TheConstants.{MOST_CLONES};
-ghost use Rattle.study_run.specs.Limits.{AreWithin};
+ghost use Rattle.std.specs.Prelude.{◌≡◌, IfOk};
+ghost use Rattle.study_run.specs.Reports.{MayReport};
 ghost use Rattle.trace_report.specs.Outputs.{report};
 
 use net_model::Model;
@@ -12,10 +11,7 @@ use world_core::World;
 
 /// The text of the report of a world that has come to the horizon.
 pub fn report_of(alloc: Global, model: &Model, world: &World) -> Result<Vec<u8>, NoMemory>
-    requires net { world.now.net ≡ model.now }
-    requires ended { world.now.front ≡ model.now.horizon }
-    requires few { length world.now.clones ≤ MOST_CLONES }
-    requires within { AreWithin model.now world.now.clones }
+    requires may_report { MayReport model.now world.now }
     ensures text { IfOk result (λ text. text.items ≡ report model.now world.now.clones) }
 {
     let mut figures = Vec::new(alloc);

@@ -3,7 +3,7 @@ ghost use Rattle.std.specs.Prelude.{◌≡◌, ◌+◌, ◌∷◌, [], Some, fal
 ghost use Rattle.sim_base.specs.Clones.{base};
 ghost use Rattle.world_core.specs.Taking.{AreAccepted, clones_after_calls};
 ghost use Rattle.world_core.specs.Worlds.{WorldView, total_handled};
-ghost use Rattle.study_run.specs.Going.{IsUnderWay, HasGoneOn, HasStopped};
+ghost use Rattle.study_run.specs.Going.{GoesToHorizon, HasGoneOn, HasStopped, IsUnderWay};
 ghost use Rattle.study_run.specs.Faults.{IsFaultOfAll};
 ghost use Rattle.study_run.specs.Limits.{AreWithin};
 
@@ -77,9 +77,7 @@ fn finish_beside<C: Crew, G: Gate, L: Ledger, R: Threads + Wait + Sync>(
     steps: &mut Steps<L>,
 ) -> Result<World, StudyFault>
     requires there { (w : WorldView) × (world.old ≡ Some w) × IsUnderWay model.now w }
-    ensures gone_on { IfSome world.old (λ w. IfOk result (λ v. HasGoneOn model.now w v steps.old steps.new
-        × (v.front ≡ model.now.horizon))) }
-    ensures stopped { IfSome world.old (λ w. IfErr result (λ e. HasStopped model.now w steps.old steps.new e)) }
+    ensures goes { IfSome world.old (λ w. GoesToHorizon model.now w steps.old steps.new result) }
 {
     let Some(world) = world.take() else {
         unreachable!()
@@ -115,19 +113,14 @@ fn go_on_beside<C: Crew, G: Gate, L: Ledger, R: Threads + Wait + Sync>(
     steps: &mut Steps<L>,
 ) -> Result<World, StudyFault>
     requires under_way { IsUnderWay model.now world }
-    ensures gone_on { IfOk result (λ w. HasGoneOn model.now world w steps.old steps.new) }
-    ensures front { IfOk result (λ w. w.front ≡ model.now.horizon) }
-    ensures stopped { IfErr result (λ e. HasStopped model.now world steps.old steps.new e) }
+    ensures goes { GoesToHorizon model.now world steps.old steps.new result }
 {
     let mut members = Some(members);
     let mut world = Some(world);
     let mut help = || serve_members(rt, alloc, gate, bell, &mut members);
     let mut lead = || -> Result<World, StudyFault>
         requires { (w : WorldView) × (world ≡ Some w) × IsUnderWay model.now w }
-        ensures { IfSome world.entry (λ w. IfOk result (λ v.
-            HasGoneOn model.entry.now w v steps.entry.now steps.exit.now × (v.front ≡ model.entry.now.horizon)))
-            × IfSome world.entry (λ w. IfErr result (λ e.
-            HasStopped model.entry.now w steps.entry.now steps.exit.now e)) }
+        ensures { IfSome world.entry (λ w. GoesToHorizon model.entry.now w steps.entry.now steps.exit.now result) }
     { finish_beside(rt, alloc, crew, gate, model, &mut world, bell, steps) };
     let (_, done) = join_mut(rt, &mut help, &mut lead);
     done
@@ -145,9 +138,7 @@ fn go_on_with_team<C: Crew, G: Gate, L: Ledger, R: Threads + Wait + Sync>(
     steps: &mut Steps<L>,
 ) -> Result<World, StudyFault>
     requires under_way { IsUnderWay model.now world }
-    ensures gone_on { IfOk result (λ w. HasGoneOn model.now world w steps.old steps.new) }
-    ensures front { IfOk result (λ w. w.front ≡ model.now.horizon) }
-    ensures stopped { IfErr result (λ e. HasStopped model.now world steps.old steps.new e) }
+    ensures goes { GoesToHorizon model.now world steps.old steps.new result }
 {
     if let Ok((team, members)) = Team::begin(alloc, workers) {
         if let Ok(bell) = team.bell() {
@@ -169,9 +160,7 @@ fn go_to_horizon<C: Crew, G: Gate, L: Ledger, R: Threads + Wait + Sync>(
     steps: &mut Steps<L>,
 ) -> Result<World, StudyFault>
     requires under_way { IsUnderWay model.now world }
-    ensures gone_on { IfOk result (λ w. HasGoneOn model.now world w steps.old steps.new) }
-    ensures front { IfOk result (λ w. w.front ≡ model.now.horizon) }
-    ensures stopped { IfErr result (λ e. HasStopped model.now world steps.old steps.new e) }
+    ensures goes { GoesToHorizon model.now world steps.old steps.new result }
 {
     let workers = match crew.kind() {
         Kind::Serial => return go_on(rt, alloc, crew, gate, model, world, false, steps),

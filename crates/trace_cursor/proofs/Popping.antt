@@ -1,18 +1,19 @@
 -- The least word tells which entry is the first of all, and a cursor stays one.
 use Rattle.std.proofs.Common.{◌≡◌, ◌⊎◌, ℕ, zero, suc, ◌+◌, ◌%◌, ◌<◌, ◌≤◌, List, [], ◌∷◌}
 use Rattle.std.proofs.Common.{◌++◌, inl, inr, refl, sym, ap, ◌∙◌, subst, arith, length, get_or, set}
-use Rattle.std.specs.Cmp.{ranks, IsTotalOrder}
-use Rattle.std.specs.Ordering.{MatchOrdering, nat_cmp, ordering_then, ordering_reverse}
-use Rattle.std.specs.declared.cmp.Ordering.{Ordering}
+use Rattle.std.specs.Cmp.{IsTotalOrder}
+use Rattle.std.specs.Ordering.{ordering_reverse}
 use Rattle.std.specs.declared.cmp.Ordering.TheVariants.{Less, Equal, Greater}
 use Rattle.std.proofs.lemmas.Bool.{cases_eq, cases_lt}
 use Rattle.std.proofs.lemmas.Cmp.{on_total}
 use Rattle.std.proofs.lemmas.List.{length-set, get_or-set_same, get_or-set_other, get_or_past}
+use Rattle.sim_base.specs.KeyWords.{FitsWord, key_word}
 use Rattle.sim_base.specs.declared.message.Msg.{Msg}
+use Rattle.sim_base.proofs.KeyWords.{words-ordered}
 use Rattle.run_laws.proofs.Rising.{key_total}
-use Rattle.log_chain.specs.Packing.{FitsWord, FitWords}
+use Rattle.log_chain.specs.Packing.{FitWords}
 use Rattle.trace_cursor.specs.Tournament.{IsLeast}
-use Rattle.trace_cursor.specs.Words.{by_key, no_word, key_word, word_of, merge_all, AllFitWords}
+use Rattle.trace_cursor.specs.Words.{by_key, no_word, word_of, merge_all, AllFitWords}
 use Rattle.trace_cursor.specs.Cursors.{IsCursor}
 use Rattle.trace_cursor.proofs.Merged.{E, first_of_all, none_of_all}
 
@@ -21,63 +22,20 @@ keys_total = on_total (λ (e : E). e.msg) (key_total (λ (m : Msg). m.key.time) 
 
 -- ---- key_word
 
--- numbers by number, then by what comes next
-by_number : (x y : ℕ) (r s : Ordering) → MatchOrdering r (x < y) (x ≡ y) (y < x) → (y < x → ⊥) →
-    (x ≡ y → (s ≡ Less) ⊎ (s ≡ Equal)) → (ordering_then r s ≡ Less) ⊎ (ordering_then r s ≡ Equal)
-by_number x y Less s m f g = inl refl
-by_number x y Equal s m f g = g m
-by_number x y Greater s m f g = absurd (f m)
-
-last_number : (x y : ℕ) (r : Ordering) → MatchOrdering r (x < y) (x ≡ y) (y < x) → (y < x → ⊥)
-    → (r ≡ Less) ⊎ (r ≡ Equal)
-last_number x y Less m f = inl refl
-last_number x y Equal m f = inr refl
-last_number x y Greater m f = absurd (f m)
-
 -- an entry of a lesser word does not come after
 less_word : (p q : ℕ) (e f : E) → FitsWord e.msg.key → FitsWord f.msg.key → p < 64 → q < 64
-    → key_word p e < key_word q f →
-    (by_key e f ≡ Less) ⊎ (by_key e f ≡ Equal)
-less_word p q e f a b l k h =
-    let se : e.msg.key.sender < 128 = a.sender in
-    let sf : f.msg.key.sender < 128 = b.sender in
-    let ne : e.msg.key.number < 2097152 = a.number in
-    let nf : f.msg.key.number < 2097152 = b.number in
-    by_number e.msg.key.time f.msg.key.time (nat_cmp e.msg.key.time f.msg.key.time) _
-    (ranks e.msg.key.time f.msg.key.time)
-    (λ g. omega (arith, g, h, se, sf, ne, nf, l, k)) (λ t.
-    by_number e.msg.key.sender f.msg.key.sender (nat_cmp e.msg.key.sender f.msg.key.sender) _
-    (ranks e.msg.key.sender f.msg.key.sender)
-    (λ g. omega (arith, g, t, h, ne, nf, l, k)) (λ s.
-    last_number e.msg.key.number f.msg.key.number (nat_cmp e.msg.key.number f.msg.key.number)
-    (ranks e.msg.key.number f.msg.key.number)
-    (λ g. omega (arith, g, t, s, h, l, k))))
-
--- what ties has one time, one sender and one number
-tie_is_one : (x y z u v w : ℕ) (r s t : Ordering) → MatchOrdering r (x < y) (x ≡ y) (y < x) →
-    MatchOrdering s (z < u) (z ≡ u) (u < z) → MatchOrdering t (v < w) (v ≡ w) (w < v) →
-    ordering_then r (ordering_then s t) ≡ Equal → (x ≡ y) × (z ≡ u) × (v ≡ w)
-tie_is_one x y z u v w Less s t a b c e = let h : ⊥ = cc in absurd h
-tie_is_one x y z u v w Greater s t a b c e = let h : ⊥ = cc in absurd h
-tie_is_one x y z u v w Equal Less t a b c e = let h : ⊥ = cc in absurd h
-tie_is_one x y z u v w Equal Greater t a b c e = let h : ⊥ = cc in absurd h
-tie_is_one x y z u v w Equal Equal Less a b c e = let h : ⊥ = cc in absurd h
-tie_is_one x y z u v w Equal Equal Greater a b c e = let h : ⊥ = cc in absurd h
-tie_is_one x y z u v w Equal Equal Equal a b c e = (a, b, c)
+    → key_word p e.msg.key < key_word q f.msg.key → (by_key e f ≡ Less) ⊎ (by_key e f ≡ Equal)
+less_word p q e f a b l k h = elim (words-ordered p q e.msg.key f.msg.key a b l k h) [
+  | inl d ↦ inl d
+  | inr d ↦ inr d.0
+]
 
 -- and one of a later place comes before
 greater_word : (p q : ℕ) (e f : E) → FitsWord e.msg.key → FitsWord f.msg.key → p < 64 → q < p
-    → key_word p e < key_word q f →
-    by_key f e ≡ Greater
-greater_word p q e f a b l k h = elim (less_word p q e f a b l (omega arith) h) [
+    → key_word p e.msg.key < key_word q f.msg.key → by_key f e ≡ Greater
+greater_word p q e f a b l k h = elim (words-ordered p q e.msg.key f.msg.key a b l (omega arith) h) [
   | inl d ↦ keys_total.antisymm f e ∙ ap ordering_reverse d
-  | inr d ↦
-      let t = tie_is_one e.msg.key.time f.msg.key.time e.msg.key.sender f.msg.key.sender e.msg.key.number
-      f.msg.key.number _ _ _
-      (ranks e.msg.key.time f.msg.key.time) (ranks e.msg.key.sender f.msg.key.sender)
-      (ranks e.msg.key.number f.msg.key.number) d in
-      let t0 = t.0 in let t1 = t.1 in let t2 = t.2 in
-      absurd (omega (arith, t0, t1, t2, h, k))
+  | inr d ↦ let below = d.1 in absurd (omega (arith, below, k))
 ]
 
 -- ---- AllFitWords
@@ -143,7 +101,7 @@ module _ (w : ℕ) (words : List ℕ) (ls : List (List E)) (reserved most : ℕ)
       merge_all ls ≡ e ∷ merge_all (set ls (w % 64) es)
   first_is e es there is =
       let i : ℕ = w % 64 in
-      let word : key_word i e ≡ w = sym (ap (word_of i) is) ∙ here there in
+      let word : key_word i e.msg.key ≡ w = sym (ap (word_of i) is) ∙ here there in
       let fe : FitsWord e.msg.key = fit_first ls i e es c.fit is in
       first_of_all [] i ls e es there is (λ f fs q. let a : ⊥ = cc in absurd a)
       (λ j before f fs q.

@@ -1,7 +1,8 @@
--- Keys as words: time, sender, number and then the place of the log, each in bits of its own.
-use Rattle.std.specs.Prelude.{ℕ, ◌+◌, ◌*◌, List, [], ◌∷◌}
+-- The words of lists: the key of what is first, with the place of the list.
+use Rattle.std.specs.Prelude.{ℕ, List, [], ◌∷◌}
 use Rattle.std.specs.List.{AllByRecursion}
 use Rattle.std.specs.declared.cmp.Ordering.{Ordering}
+use Rattle.sim_base.specs.KeyWords.{key_word}
 use Rattle.sim_base.specs.declared.entry.Entry.{Entry}
 use Rattle.sim_base.specs.declared.entry.Line.{Line}
 use Rattle.sim_base.specs.declared.message.Msg.{Msg}
@@ -16,14 +17,10 @@ by_key = entry_order (λ (m : Msg). m.key.time) (λ m. m.key.sender) (λ m. m.ke
 abbrev pub no_word : ℕ
 no_word = 18446744073709551615
 
--- the key as a word: 30 bits, 7, 21, and 6 for the place
-abbrev pub key_word : ℕ → Entry Msg Line → ℕ
-key_word place e = ((e.msg.key.time * 128 + e.msg.key.sender) * 2097152 + e.msg.key.number) * 64 + place
-
 -- the word of the first entry that is left
 abbrev pub word_of : ℕ → List (Entry Msg Line) → ℕ
 word_of place [] = no_word
-word_of place (e ∷ es) = key_word place e
+word_of place (e ∷ es) = key_word place e.msg.key
 
 -- lists merged onto one, one after the other
 abbrev pub merge_onto : List (Entry Msg Line) → List (List (Entry Msg Line)) → List (Entry Msg Line)

@@ -132,8 +132,7 @@ fn word(walk: &Walk<'_>, place: u64) -> u64
     ensures value { result ≡ word_of place walk.now }
 {
     match walk.key() {
-        Some(key) => ((key.time * 128 + u64::from(key.sender)) * 2_097_152 + key.number) * 64
-            + place,
+        Some(key) => key.word(place),
         None => u64::MAX,
     }
 }

@@ -60,6 +60,17 @@ impl Tree {
         }
     }
 
+    /// The same, at once where nothing changes.
+    #[inline(always)]
+    pub fn update(&mut self, i: usize, word: u64)
+        requires there { i < length self.old }
+        ensures value { self.new ≡ slice_set self.old i word }
+    {
+        if self.nodes[self.count + i] != word {
+            self.set(i, word);
+        }
+    }
+
     /// The least word.
     #[inline(always)]
     pub fn least(&self) -> u64

@@ -2,3 +2,4 @@ pub mod StationLines
 pub mod Tenths
 pub mod Slots
 pub mod Params
+pub mod Lines

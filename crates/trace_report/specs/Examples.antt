@@ -1,62 +1,13 @@
 -- Worked examples: a trace as people read it, and a report.
 use Rattle.std.specs.Prelude.{ℕ, List, [], ◌∷◌, ◌++◌, codes}
-use Rattle.sim_base.specs.declared.entry.Entry.{Entry}
-use Rattle.sim_base.specs.declared.entry.Line.{Line}
-use Rattle.sim_base.specs.declared.entry.Line.TheVariants.{Source, Server, Sink}
 use Rattle.sim_base.specs.declared.figures.Figures.{Figures}
-use Rattle.sim_base.specs.declared.message.Msg.{Msg}
-use Rattle.sim_base.specs.declared.message.Payload.{Payload}
-use Rattle.sim_base.specs.declared.message.Payload.TheVariants.{Tick, Job, Done}
-use Rattle.net_model.specs.declared.station.Kind.TheVariants.{Source as SourceKind, Sink as SinkKind}
+use Rattle.net_model.specs.declared.station.Kind.TheVariants.{Source, Sink}
 use Rattle.net_model.specs.Net.{Net}
+use Rattle.stations.specs.Examples.{link}
 
--- the number of the station that jobs come from
-abbrev pub gate : ℕ
-gate = 1
-
--- the number of the station that serves them
-abbrev pub desk : ℕ
-desk = 2
-
--- the number of the station where they leave
-abbrev pub out : ℕ
-out = 3
-
--- time, receiver, sender, number, payload, counts
-abbrev pub at : ℕ → ℕ → ℕ → ℕ → Payload → Line → Entry Msg Line
-at time receiver sender number payload line =
-    record {
-      msg = record {
-        key = record { time = time; sender = sender; number = number };
-        to = receiver;
-        payload = payload;
-      };
-      line = line;
-    }
-
--- source, count and time of birth of the job
-abbrev pub job : ℕ → ℕ → ℕ → Payload
-job source count born = Job (record { source = source; count = count; born = born })
-
--- the end of the service of a job, by its source, its count and its time of birth
-abbrev pub done : ℕ → ℕ → ℕ → Payload
-done source count born = Done (record { source = source; count = count; born = born })
-
--- two jobs at a desk that serves one at a time
-abbrev pub entries : List (Entry Msg Line)
-entries =
-    at 3 gate gate 0 Tick (Source 1)
-    ∷ at 5 desk gate 1 (job gate 0 3) (Server 1 0 0 0)
-    ∷ at 6 gate gate 2 Tick (Source 2)
-    ∷ at 8 desk gate 3 (job gate 1 6) (Server 1 1 0 0)
-    ∷ at 9 desk desk 0 (done gate 0 3) (Server 1 0 1 0)
-    ∷ at 11 out desk 1 (job gate 0 3) (Sink 1 8)
-    ∷ at 13 desk desk 2 (done gate 1 6) (Server 0 0 2 0)
-    ∷ at 15 out desk 3 (job gate 1 6) (Sink 2 17) ∷ []
-
--- the text of their trace, as that of the base clone
-abbrev pub entries_text : List ℕ
-entries_text =
+-- the text of the trace of two jobs at a desk that serves one at a time, as that of the base clone
+abbrev pub one_desk_text : List ℕ
+one_desk_text =
     codes "clone base\n"
     ++ codes "3 gate gate 0 tick sent=1\n"
     ++ codes "5 desk gate 1 job gate.0 busy=1 wait=0 done=0 lost=0\n"
@@ -109,11 +60,6 @@ two_classes = record {
   seed = 0;
   limit = 16384;
   sites =
-      record {
-        name = codes "low";
-        kind = SourceKind 3 3 2 2;
-        stream = 1;
-        links = record { to = 2; delay = 2; weight = 1 } ∷ [];
-      }
-      ∷ record { name = codes "out"; kind = SinkKind; stream = 2; links = [] } ∷ [];
+      record { name = codes "low"; kind = Source 3 3 2 2; stream = 1; links = link 2 2 ∷ [] }
+      ∷ record { name = codes "out"; kind = Sink; stream = 2; links = [] } ∷ [];
 }

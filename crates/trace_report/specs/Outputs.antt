@@ -4,7 +4,7 @@ use Rattle.std.specs.List.{flat_map}
 use Rattle.sim_base.specs.Clones.{Clone}
 use Rattle.sim_base.specs.declared.figures.Figures.{Figures}
 use Rattle.net_model.specs.Net.{Net}
-use Rattle.stations.specs.Runs.{trace_of, copies, handled, alone}
+use Rattle.stations.specs.Runs.{trace_of, copies, handled_once, handled_alone}
 use Rattle.trace_report.specs.TraceText.{trace_text}
 use Rattle.trace_report.specs.ReportText.{report_text}
 
@@ -21,8 +21,8 @@ clone_texts net clones = flat_map (clone_text net) clones
 abbrev pub figures_of : Net → List Clone → ℕ → Figures
 figures_of net clones s = record {
   copies = copies net clones s net.horizon;
-  handled = handled net clones s net.horizon;
-  alone = alone net clones s net.horizon;
+  handled = handled_once net clones s net.horizon;
+  alone = handled_alone net clones s net.horizon;
 }
 
 -- the same for the stations 1 to n

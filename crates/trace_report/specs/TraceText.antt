@@ -8,6 +8,7 @@ use Rattle.sim_base.specs.declared.entry.Line.{Line}
 use Rattle.sim_base.specs.declared.entry.Line.TheVariants.{Source, Server, Passed, Sink}
 use Rattle.sim_base.specs.declared.message.Change.{Change}
 use Rattle.sim_base.specs.declared.message.Job.{Job as JobOf}
+use Rattle.sim_base.specs.declared.message.Key.{Key}
 use Rattle.sim_base.specs.declared.message.Msg.{Msg}
 use Rattle.sim_base.specs.declared.message.Payload.{Payload}
 use Rattle.sim_base.specs.declared.message.Payload.TheVariants.{Tick, Job, Done, Set}
@@ -58,6 +59,12 @@ counts_text (Server busy wait done lost) =
     ++ codes " lost=" ++ decimal lost
 counts_text (Passed passed) = codes "passed=" ++ decimal passed
 counts_text (Sink got stay) = codes "got=" ++ decimal got ++ codes " stay=" ++ decimal stay
+
+-- what a line begins with, up to the payload: the time, the receiver, the sender and its running count
+abbrev pub key_text : Net → Key → ℕ → List ℕ
+key_text net key to =
+    decimal key.time ++ codes " " ++ station_name net to ++ codes " " ++ station_name net key.sender ++ codes " "
+    ++ decimal key.number ++ codes " "
 
 -- the time, the receiver, the sender, its running count, what the message tells, and the counts after it
 abbrev pub entry_line : Net → Entry Msg Line → List ℕ

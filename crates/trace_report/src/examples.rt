@@ -1,19 +1,20 @@
 //! Worked examples, computed by the checker from the definitions of the texts.
 //!
-//! The entries and the texts that are expected stand in `specs/Examples.antt`; the model of the
-//! first two is `net_model`'s small one. Each function's contract is a theorem; there is nothing to
-//! run.
-ghost use Rattle.std.specs.Prelude.{◌≡◌, ◌++◌, [], codes};
+//! The texts that are expected stand in `specs/Examples.antt`, the entries of the first in `stations`; the model of the
+//! first two is `net_model`'s small one. Each function's contract is a theorem; there is nothing to run.
+ghost use Rattle.std.specs.Prelude.{◌≡◌, [], codes};
 ghost use Rattle.net_model.specs.Examples.{small};
-ghost use Rattle.trace_report.specs.Examples.{at, job, entries, entries_text, figures_alone};
-ghost use Rattle.trace_report.specs.Examples.{alone_text, figures_of_two, text_of_two, two_classes};
+ghost use Rattle.stations.specs.Examples.{at, job};
+ghost use Rattle.stations.specs.Examples.OneDesk.{one_desk_trace};
+ghost use Rattle.trace_report.specs.Examples.{one_desk_text, figures_alone, alone_text, figures_of_two, text_of_two};
+ghost use Rattle.trace_report.specs.Examples.{two_classes};
 ghost use Rattle.trace_report.specs.TraceText.{trace_text, entry_line};
 ghost use Rattle.trace_report.specs.ReportText.{report_text};
 ghost use Rattle.sim_base.specs.declared.entry.Line.TheVariants.{Sink};
 
 /// The trace of two jobs at a desk that serves one at a time.
 pub fn one_job_at_a_time()
-    ensures trace { trace_text small (codes "base") entries ≡ entries_text }
+    ensures trace { trace_text small (codes "base") one_desk_trace ≡ one_desk_text }
     ensures report { report_text small figures_alone ≡ alone_text }
 {}
 

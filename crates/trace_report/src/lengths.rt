@@ -1,5 +1,5 @@
 //! How long trace lines are, before they are written.
-ghost use Rattle.std.specs.Prelude.{◌≡◌, ◌+◌, ◌≤◌, length};
+ghost use Rattle.std.specs.Prelude.{◌≡◌, ◌≤◌, length};
 ghost use Rattle.trace_report.specs.Slots.{AreNames};
 ghost use Rattle.trace_report.specs.TraceText.{station_name, class_text, job_text, values_text};
 ghost use Rattle.trace_report.specs.TraceText.{change_text, payload_text, counts_text, entry_line};

@@ -1,14 +1,14 @@
 //! How a trace line is worded, written forward: each function writes its part at a place and returns the place behind.
 //!
 //! `free` and `near` say how long a part can be: a name has at most 16 bytes, a number 20 digits.
-ghost use Rattle.std.specs.Prelude.{◌≡◌, ◌+◌, ◌≤◌, ◌++◌, length, take, codes, decimal};
+ghost use Rattle.std.specs.Prelude.{◌≡◌, ◌+◌, ◌≤◌, ◌++◌, length, take, codes};
 ghost use Rattle.sim_base.specs.declared.entry.Line.TheVariants.{Server};
 ghost use Rattle.trace_report.specs.Slots.{AreNames};
 ghost use Rattle.log_chain.specs.Packing.{packed_entry};
 ghost use Rattle.log_chain.specs.Stored.{entry_in};
 ghost use Rattle.sim_base.specs.Params.{param_word};
 ghost use Rattle.trace_report.specs.TraceText.{station_name, class_text, job_text, values_text};
-ghost use Rattle.trace_report.specs.TraceText.{change_text, payload_text, counts_text, entry_line};
+ghost use Rattle.trace_report.specs.TraceText.{change_text, payload_text, counts_text, key_text, entry_line};
 ghost use Rattle.trace_report.specs.declared.line.TheConstants.{MOST_LINE};
 
 use crate::names::Names;
@@ -166,18 +166,30 @@ fn put_counts(bytes: &mut [u8], at: usize, counts: &Line) -> usize
 #[inline(always)]
 fn put_key(bytes: &mut [u8], at: usize, model: &Model, names: &Names, key: &Key, to: u32) -> usize
     requires names { AreNames model.now names.now }
-    requires free { at + 75 ≤ length bytes.old }
-    ensures text { take result bytes.new ≡ take at bytes.old
-        ++ (decimal key.now.time ++ codes " " ++ station_name model.now to ++ codes " " ++ station_name model.now key.now.sender ++ codes " " ++ decimal key.now.number) }
+    requires free { at + 76 ≤ length bytes.old }
+    ensures text { take result bytes.new ≡ take at bytes.old ++ key_text model.now key.now to }
     ensures size { length bytes.new ≡ length bytes.old }
-    ensures near { result ≤ at + 75 }
+    ensures near { result ≤ at + 76 }
 {
     let at = put_number(bytes, at, key.time);
     let at = put(bytes, at, b" ");
     let at = put_station(bytes, at, model, names, to);
     let at = put(bytes, at, b" ");
     let at = put_station(bytes, at, model, names, key.sender);
-    put_count(bytes, at, b" ", key.number)
+    let at = put_count(bytes, at, b" ", key.number);
+    put(bytes, at, b" ")
+}
+
+// The counts, and the line's end.
+#[inline(always)]
+fn put_end(bytes: &mut [u8], at: usize, counts: &Line) -> usize
+    requires free { at + 104 ≤ length bytes.old }
+    ensures text { take result bytes.new ≡ take at bytes.old ++ (counts_text counts.now ++ codes "\n") }
+    ensures size { length bytes.new ≡ length bytes.old }
+    ensures near { result ≤ at + 104 }
+{
+    let at = put_counts(bytes, at, counts);
+    put(bytes, at, b"\n")
 }
 
 /// How many bytes a line has at most, with what its pieces may reach past its end.
@@ -195,11 +207,9 @@ pub fn write_line(bytes: &mut [u8], at: usize, model: &Model, names: &Names, ent
     ensures place { result ≡ at + length (entry_line model.now entry.now) }
 {
     let at = put_key(bytes, at, model, names, &entry.msg.key, entry.msg.to);
-    let at = put(bytes, at, b" ");
     let at = put_payload(bytes, at, model, names, &entry.msg.payload);
     let at = put(bytes, at, b" ");
-    let at = put_counts(bytes, at, &entry.line);
-    put(bytes, at, b"\n")
+    put_end(bytes, at, &entry.line)
 }
 
 // Writes the line of a packed entry at a place, in the way of `write_line`: its parts are read one by one.
@@ -213,11 +223,9 @@ fn write_packed(bytes: &mut [u8], at: usize, model: &Model, names: &Names, packe
     // a copy, which no byte that is written can change, so that each part is read once
     let packed = *packed;
     let at = put_key(bytes, at, model, names, &packed.key(), packed.to());
-    let at = put(bytes, at, b" ");
     let at = put_payload(bytes, at, model, names, &packed.payload());
     let at = put(bytes, at, b" ");
-    let at = put_counts(bytes, at, &packed.counts());
-    put(bytes, at, b"\n")
+    put_end(bytes, at, &packed.counts())
 }
 
 /// Writes the line of an entry as a log stores it at a place, and returns the place behind it, as `write_line` does.

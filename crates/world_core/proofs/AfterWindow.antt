@@ -18,21 +18,22 @@ use Rattle.clone_sets.specs.Sets.{has}
 use Rattle.clone_sets.proofs.SetLaws.{has-empty}
 use Rattle.net_model.specs.Net.{Net}
 use Rattle.net_model.specs.Rules.{IsNet}
-use Rattle.stations.specs.Runs.{simulation, handled, IsBeyond}
+use Rattle.stations.specs.Runs.{simulation, handled_once, IsBeyond}
 use Rattle.stations.proofs.GoodLaws.{lawful-stations, stations-to_stations}
 use Rattle.run_laws.specs.Queue.{In}
 use Rattle.run_laws.specs.Fronts.{next_front}
 use Rattle.run_laws.specs.Handlers.{IsStation, AreForStations, IsOrder}
 use Rattle.run_laws.specs.Runs.{log_at}
 use Rattle.run_laws.specs.SharedTexts.{station_sum}
-use Rattle.run_laws.specs.Copies.{IsStepped, SoFarGiven, takes, taken, ends_of, Stands, AllStepped, IsDelivered}
+use Rattle.run_laws.specs.Copies.{IsStepped, SoFarGiven, takes, messages_taken, ends_of, Stands, AllStepped}
+use Rattle.run_laws.specs.Copies.{IsDelivered}
 use Rattle.run_laws.proofs.Queue.{all_in, all_from}
 use Rattle.run_laws.proofs.Lists.{in_append, append_old, append_new}
 use Rattle.run_laws.proofs.Parts.{part_yes, part_no, part-append}
 use Rattle.run_laws.proofs.Delivery.{given_none, given_more, delivered}
 use Rattle.run_laws.proofs.Stands.{stands_after_window}
 use Rattle.run_laws.proofs.Gaining.{over_is_beyond, handled_grows, handled_is_few}
-use Rattle.phys_proc.specs.Own.{StationCopy, Marked, IsCopy, with_message}
+use Rattle.phys_proc.specs.Own.{StationCopy, MarkedMessages, IsCopy, with_message}
 use Rattle.phys_proc.specs.Procs.{ProcView}
 use Rattle.world_core.specs.declared.flow.Flow.{Flow}
 use Rattle.phys_proc.proofs.Onward.{sets_join}
@@ -43,7 +44,7 @@ use Rattle.world_core.specs.Windows.{all_sent, done_at, sent_at, after_window, a
 
 module _ (net : Net) (ends : ℕ → ℕ) where
   -- messages given one after the other
-  given_so_far : (ms msgs : Marked) (new done : List StationCopy) → SoFarGiven (simulation net) has ends msgs new done
+  given_so_far : (ms msgs : MarkedMessages) (new done : List StationCopy) → SoFarGiven (simulation net) has ends msgs new done
       → SoFarGiven (simulation net) has ends (msgs ++ ms) new (with_mail ms done)
   given_so_far [] msgs new done f = subst (λ l. SoFarGiven (simulation net) has ends l new done)
       (sym (append-nil msgs)) f
@@ -57,13 +58,13 @@ module _ (net : Net) (ends : ℕ → ℕ) where
       order = record { total = msg_total; same = msg_same }
 
   -- what a clone takes of the messages to a station
-  taken_to : (i c : ℕ) (ms : Marked) (z : Msg) → In z (taken (simulation net) has ends c (sent_to i ms))
-      → In z (taken (simulation net) has ends c ms) × (z.to ≡ i + 1)
+  taken_to : (i c : ℕ) (ms : MarkedMessages) (z : Msg) → In z (messages_taken (simulation net) has ends c (sent_to i ms))
+      → In z (messages_taken (simulation net) has ends c ms) × (z.to ≡ i + 1)
   taken_to i c [] z h = absurd h
   taken_to i c (x ∷ ms) z h = elim (cases_Bool (x.0.to == i + 1)) [
     | inl y ↦
-        let k : In z (taken (simulation net) has ends c (x ∷ sent_to i ms)) =
-        subst (λ b. In z (taken (simulation net) has ends c (cond b (x ∷ sent_to i ms) (sent_to i ms)))) y h in
+        let k : In z (messages_taken (simulation net) has ends c (x ∷ sent_to i ms)) =
+        subst (λ b. In z (messages_taken (simulation net) has ends c (cond b (x ∷ sent_to i ms) (sent_to i ms)))) y h in
         elim (cases_Bool (takes (simulation net) has ends x.0 x.1 c)) [
           | inl t ↦ elim (subst (In z) (part_yes (takes (simulation net) has ends) c x (sent_to i ms) t) k) [
             | inl e ↦ (
@@ -79,67 +80,70 @@ module _ (net : Net) (ends : ℕ → ℕ) where
         ]
     | inr f ↦
         let r = taken_to i c ms z (subst (λ b.
-        In z (taken (simulation net) has ends c (cond b (x ∷ sent_to i ms) (sent_to i ms)))) f h) in
+        In z (messages_taken (simulation net) has ends c (cond b (x ∷ sent_to i ms) (sent_to i ms)))) f h) in
         elim (cases_Bool (takes (simulation net) has ends x.0 x.1 c)) [
           | inl t ↦ (subst (In z) (sym (part_yes (takes (simulation net) has ends) c x ms t)) (inr r.0), r.1)
           | inr t ↦ (subst (In z) (sym (part_no (takes (simulation net) has ends) c x ms t)) r.0, r.1)
         ]
   ]
 
-  to_taken : (i c : ℕ) (ms : Marked) (z : Msg) → In z (taken (simulation net) has ends c ms) → z.to ≡ i + 1
-      → In z (taken (simulation net) has ends c (sent_to i ms))
+  to_taken : (i c : ℕ) (ms : MarkedMessages) (z : Msg) → In z (messages_taken (simulation net) has ends c ms) → z.to ≡ i + 1
+      → In z (messages_taken (simulation net) has ends c (sent_to i ms))
   to_taken i c [] z h e = absurd h
   to_taken i c (x ∷ ms) z h e = elim (cases_Bool (takes (simulation net) has ends x.0 x.1 c)) [
     | inl t ↦ elim (subst (In z) (part_yes (takes (simulation net) has ends) c x ms t) h) [
       | inl p ↦
           let y : (x.0.to == i + 1) ≡ true = eq-eqb x.0.to (i + 1) (sym (ap (λ (m : Msg). m.to) p) ∙ e) in
-          subst (λ b. In z (taken (simulation net) has ends c (cond b (x ∷ sent_to i ms) (sent_to i ms)))) (sym y)
+          subst (λ b. In z (messages_taken (simulation net) has ends c (cond b (x ∷ sent_to i ms) (sent_to i ms))))
+          (sym y)
           (subst (In z) (sym (part_yes (takes (simulation net) has ends) c x (sent_to i ms) t)) (inl p))
       | inr j ↦ later t (to_taken i c ms z j e)
     ]
     | inr t ↦ not_taken t (to_taken i c ms z (subst (In z) (part_no (takes (simulation net) has ends) c x ms t) h) e)
   ]
     where
-      both : (b : Bool) → In z (taken (simulation net) has ends c (x ∷ sent_to i ms))
-          → In z (taken (simulation net) has ends c (sent_to i ms))
-          → In z (taken (simulation net) has ends c (cond b (x ∷ sent_to i ms) (sent_to i ms)))
+      both : (b : Bool) → In z (messages_taken (simulation net) has ends c (x ∷ sent_to i ms))
+          → In z (messages_taken (simulation net) has ends c (sent_to i ms))
+          → In z (messages_taken (simulation net) has ends c (cond b (x ∷ sent_to i ms) (sent_to i ms)))
       both true p q = p
       both false p q = q
 
       later : takes (simulation net) has ends x.0 x.1 c ≡ true
-          → In z (taken (simulation net) has ends c (sent_to i ms))
-          → In z (taken (simulation net) has ends c (sent_to i (x ∷ ms)))
+          → In z (messages_taken (simulation net) has ends c (sent_to i ms))
+          → In z (messages_taken (simulation net) has ends c (sent_to i (x ∷ ms)))
       later t j = both (x.0.to == i + 1)
           (subst (In z) (sym (part_yes (takes (simulation net) has ends) c x (sent_to i ms) t)) (inr j)) j
 
       not_taken : takes (simulation net) has ends x.0 x.1 c ≡ false
-          → In z (taken (simulation net) has ends c (sent_to i ms))
-          → In z (taken (simulation net) has ends c (sent_to i (x ∷ ms)))
+          → In z (messages_taken (simulation net) has ends c (sent_to i ms))
+          → In z (messages_taken (simulation net) has ends c (sent_to i (x ∷ ms)))
       not_taken t j = both (x.0.to == i + 1)
           (subst (In z) (sym (part_no (takes (simulation net) has ends) c x (sent_to i ms) t)) j) j
 
 module _ (net : Net) (ends : ℕ → ℕ) (c : ℕ) (z : Msg) where
   -- what some station sent is among all that was sent
-  from_all : (flows : List Flow) → In z (taken (simulation net) has ends c (all_sent flows))
-      → (j : ℕ) × In z (taken (simulation net) has ends c (sent_at flows j))
+  from_all : (flows : List Flow) → In z (messages_taken (simulation net) has ends c (all_sent flows))
+      → (j : ℕ) × In z (messages_taken (simulation net) has ends c (sent_at flows j))
   from_all [] h = absurd h
-  from_all (f ∷ fs) h = elim (in_append (taken (simulation net) has ends c f.sent.items)
-      (taken (simulation net) has ends c (all_sent fs)) z
+  from_all (f ∷ fs) h = elim (in_append (messages_taken (simulation net) has ends c f.sent.items)
+      (messages_taken (simulation net) has ends c (all_sent fs)) z
       (subst (In z) (part-append (takes (simulation net) has ends) c f.sent.items (all_sent fs)) h)) [
         | inl a ↦ (0, a)
         | inr a ↦ let r = from_all fs a in (suc r.0, r.1)
       ]
 
-  in_all : (flows : List Flow) (j : ℕ) → In z (taken (simulation net) has ends c (sent_at flows j))
-      → In z (taken (simulation net) has ends c (all_sent flows))
+  in_all : (flows : List Flow) (j : ℕ) → In z (messages_taken (simulation net) has ends c (sent_at flows j))
+      → In z (messages_taken (simulation net) has ends c (all_sent flows))
   in_all [] j h = absurd h
   in_all (f ∷ fs) zero h = subst (In z)
       (sym (part-append (takes (simulation net) has ends) c f.sent.items (all_sent fs)))
-      (append_old (taken (simulation net) has ends c f.sent.items) (taken (simulation net) has ends c (all_sent fs)) z
+      (append_old (messages_taken (simulation net) has ends c f.sent.items)
+      (messages_taken (simulation net) has ends c (all_sent fs)) z
       h)
   in_all (f ∷ fs) (suc j) h = subst (In z)
       (sym (part-append (takes (simulation net) has ends) c f.sent.items (all_sent fs)))
-      (append_new (taken (simulation net) has ends c f.sent.items) (taken (simulation net) has ends c (all_sent fs)) z
+      (append_new (messages_taken (simulation net) has ends c f.sent.items)
+      (messages_taken (simulation net) has ends c (all_sent fs)) z
       (in_all fs j h))
 
 -- a number of each place, by the number of its station
@@ -223,7 +227,7 @@ module _ (net : Net) (valid : IsNet net) (cs : List Clone) (front bound : ℕ) (
 
   -- with what was handled before, a station has handled no more than the limit allows each clone
   few_at : (i : ℕ) → i < length net.sites → (flow : Flow) → slice_get flows i ≡ Some flow →
-      handled net cs (i + 1) front + flow.handled ≤ length cs * net.limit
+      handled_once net cs (i + 1) front + flow.handled ≤ length cs * net.limit
   few_at i l flow got =
       let p = proc_of i l in
       handled_is_few (lawful-stations net valid) sets_join cs (i + 1) front bound p.0.copies
@@ -231,14 +235,14 @@ module _ (net : Net) (valid : IsNet net) (cs : List Clone) (front bound : ℕ) (
       same_entry flow.handled same_entry-Decides (short_of i l) (is_flow i l flow got).gain
 
   few_to : (n : ℕ) → n ≤ length net.sites →
-      station_sum (λ s. handled net cs s front) n + station_sum
+      station_sum (λ s. handled_once net cs s front) n + station_sum
       (by_number 0 (handled_at flows)) n ≤ n * (length cs * net.limit)
   few_to zero l = omega arith
   few_to (suc n) l =
       let i : n < length net.sites = omega (arith, l) in
       let flow = flow_of n i in
       let a = few_to n (omega (arith, l)) in
-      let b = subst (λ s. handled net cs s front + flow.0.handled ≤ length cs * net.limit) (one_up n)
+      let b = subst (λ s. handled_once net cs s front + flow.0.handled ≤ length cs * net.limit) (one_up n)
       (few_at n i flow.0 flow.1) in
       let c : handled_at flows n ≡ flow.0.handled =
       ap (λ o. unwrap_or (option_map (λ (f : Flow). f.handled) o) 0) flow.1 in
@@ -313,8 +317,8 @@ module _ (net : Net) (valid : IsNet net) (cs : List Clone) (front bound : ℕ) (
         (given_none (simulation net) has ends (done_at flows i) st.disjoint (sorted_at i l)))
       where
         to_all : (c r : ℕ) (z : Msg) → In z
-            (taken (simulation net) has (ends_of (simulation net) cs) c (by_number [] (sent_at flows) r))
-            → z.to ≡ i + 1 → In z (taken (simulation net) has (ends_of (simulation net) cs) c
+            (messages_taken (simulation net) has (ends_of (simulation net) cs) c (by_number [] (sent_at flows) r))
+            → z.to ≡ i + 1 → In z (messages_taken (simulation net) has (ends_of (simulation net) cs) c
             (sent_to i (all_sent flows)))
         to_all c zero z h e = absurd h
         to_all c (suc j) z h e = to_taken net (ends_of (simulation net) cs) i c (all_sent flows) z
@@ -354,7 +358,7 @@ module _ (net : Net) (valid : IsNet net) (cs : List Clone) (front bound : ℕ) (
 
     -- what was handled once grows by what the station has handled
     pub grown_at : (i : ℕ) → i < length net.sites → (flow : Flow) → slice_get flows i ≡ Some flow
-        → handled net cs (i + 1) bound ≡ handled net cs (i + 1) front + flow.handled
+        → handled_once net cs (i + 1) bound ≡ handled_once net cs (i + 1) front + flow.handled
     grown_at i l flow got =
         let p = proc_of i l in
         handled_grows (lawful-stations net valid) sets_join cs (i + 1) front bound p.0.copies
@@ -362,14 +366,15 @@ module _ (net : Net) (valid : IsNet net) (cs : List Clone) (front bound : ℕ) (
         (is_flow i l flow got).gain
 
     grown_to : (n : ℕ) → n ≤ length net.sites
-        → station_sum (λ s. handled net cs s bound) n ≡ station_sum (λ s. handled net cs s front) n + station_sum
+        → station_sum (λ s. handled_once net cs s bound) n
+        ≡ station_sum (λ s. handled_once net cs s front) n + station_sum
         (by_number 0 (handled_at flows)) n
     grown_to zero l = refl
     grown_to (suc n) l =
         let i : n < length net.sites = omega (arith, l) in
         let flow = flow_of n i in
         let a = grown_to n (omega (arith, l)) in
-        let b = subst (λ s. handled net cs s bound ≡ handled net cs s front + flow.0.handled) (one_up n)
+        let b = subst (λ s. handled_once net cs s bound ≡ handled_once net cs s front + flow.0.handled) (one_up n)
         (grown_at n i flow.0 flow.1) in
         let c : handled_at flows n ≡ flow.0.handled =
         ap (λ o. unwrap_or (option_map (λ (f : Flow). f.handled) o) 0) flow.1 in

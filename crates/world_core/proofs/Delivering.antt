@@ -6,7 +6,7 @@ use Rattle.std.proofs.lemmas.Bool.{cases_eq, ne_eqb}
 use Rattle.sim_base.specs.declared.message.Msg.{Msg}
 use Rattle.clone_sets.specs.declared.set.CloneSet.{CloneSet}
 use Rattle.net_model.specs.Net.{Net}
-use Rattle.phys_proc.specs.Own.{StationCopy, Marked, with_message}
+use Rattle.phys_proc.specs.Own.{StationCopy, MarkedMessages, with_message}
 use Rattle.phys_proc.specs.Procs.{ProcView, IsProc}
 use Rattle.world_core.specs.Windows.{AllDelivered, AreNumbered, IsDeliveredTo, sent_to, with_mail}
 use Rattle.world_core.proofs.Places.{at_got, there_at, one_got}
@@ -31,7 +31,7 @@ pub of_some : {X : Type 0} (x y : X) → Some x ≡ Some y → x ≡ y
 of_some x y e = cc
 
 -- nothing is for a station: it stays
-unchanged : (ms : Marked) (p : ProcView) → ms ≡ [] → IsDeliveredTo ms p p
+unchanged : (ms : MarkedMessages) (p : ProcView) → ms ≡ [] → IsDeliveredTo ms p p
 unchanged ms p none = record {
   copies = sym (ap (λ l. with_mail l p.copies) none);
   station = refl;
@@ -85,14 +85,14 @@ to_one m k procs j old new l to is copies station living once proc = record {
 }
 
 -- the stations stand in the order of their numbers as before
-pub still_numbered : (ms : Marked) (olds news : List ProcView) → AreNumbered olds → AllDelivered ms olds news
+pub still_numbered : (ms : MarkedMessages) (olds news : List ProcView) → AreNumbered olds → AllDelivered ms olds news
     → AreNumbered news
 still_numbered ms olds news h d = λ i q got.
     let l = (at_got news i q q got).0 in
     let p = there_at olds i q (let k = d.count in omega (arith, l, k)) in
     (d.each i (get_or olds i q) q p got).station ∙ h i (get_or olds i q) p
 
-pub sent_append : (i : ℕ) (xs ys : Marked) → sent_to i (xs ++ ys) ≡ sent_to i xs ++ sent_to i ys
+pub sent_append : (i : ℕ) (xs ys : MarkedMessages) → sent_to i (xs ++ ys) ≡ sent_to i xs ++ sent_to i ys
 sent_append i [] ys = refl
 sent_append i (x ∷ xs) ys = by (sent_append i xs ys) (x.0.to == i + 1)
   where
@@ -102,13 +102,13 @@ sent_append i (x ∷ xs) ys = by (sent_append i xs ys) (x.0.to == i + 1)
     by h true = ap (λ l. x ∷ l) h
     by h false = h
 
-pub with_mail-append : (xs ys : Marked) (copies : List StationCopy)
+pub with_mail-append : (xs ys : MarkedMessages) (copies : List StationCopy)
     → with_mail (xs ++ ys) copies ≡ with_mail ys (with_mail xs copies)
 with_mail-append [] ys copies = refl
 with_mail-append (x ∷ xs) ys copies = with_mail-append xs ys (map (with_message x.0 x.1) copies)
 
 -- messages, and then more of them
-pub delivered_more : (xs ys : Marked) (first second third : List ProcView) → AllDelivered xs first second
+pub delivered_more : (xs ys : MarkedMessages) (first second third : List ProcView) → AllDelivered xs first second
     → AllDelivered ys second third → AllDelivered (xs ++ ys) first third
 delivered_more xs ys first second third a b = record {
   count = b.count ∙ a.count;

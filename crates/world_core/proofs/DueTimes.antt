@@ -17,7 +17,7 @@ use Rattle.clone_sets.specs.declared.set.CloneSet.{CloneSet}
 use Rattle.clone_sets.proofs.CountLaws.{size_is_count}
 use Rattle.net_model.specs.Net.{Net}
 use Rattle.net_model.specs.declared.limits.TheConstants.{MOST_LIMIT}
-use Rattle.stations.specs.Runs.{simulation, copies, handled, alone}
+use Rattle.stations.specs.Runs.{simulation, copies, handled_once, handled_alone}
 use Rattle.stations.proofs.GoodLaws.{lawful-stations, stations-to_stations}
 use Rattle.run_laws.specs.Queue.{In}
 use Rattle.run_laws.specs.Handlers.{IsStation}
@@ -30,7 +30,7 @@ use Rattle.run_laws.proofs.DueTimes.{least_of-stations, least-copies}
 use Rattle.run_laws.proofs.Gaining.{copies_are_logs}
 use Rattle.run_laws.proofs.Sums.{alone-copies, clones-copies}
 use Rattle.phys_proc.specs.Gone.{ends_in}
-use Rattle.phys_proc.specs.Own.{StationCopy, IsCopy, handled_alone, all_sizes, taken_at}
+use Rattle.phys_proc.specs.Own.{StationCopy, IsCopy, handled_alone_by, all_sizes, taken_at}
 use Rattle.phys_proc.specs.Procs.{ProcView, IsTakenBy, IsLeastTime, IsLeastOf}
 use Rattle.phys_proc.proofs.Onward.{sets_join}
 use Rattle.world_core.specs.Worlds.{StandsAt, WorldStands, copies_at}
@@ -232,13 +232,13 @@ module _ (net : Net) (cs : List Clone) (front i : ℕ) (p : ProcView) (here : St
   many_copies = copies_are_logs (lawful-stations net here.proc.valid) sets_join cs
       (i + 1) front p.copies here.copies same_entry same_entry-Decides
 
-  alone_sum : (xs : List StationCopy) → handled_alone xs ≡ sum_by (λ (a : StationCopy). size a.set * length a.log) xs
+  alone_sum : (xs : List StationCopy) → handled_alone_by xs ≡ sum_by (λ (a : StationCopy). size a.set * length a.log) xs
   alone_sum [] = refl
   alone_sum (x ∷ xs) = let h = alone_sum xs in let e =
       sum_by-cons (λ (a : StationCopy). size a.set * length a.log) x xs in omega (arith, h, e)
 
   -- and what the clones would handle alone there is what its copies count
-  pub many_alone : alone net cs (i + 1) front ≡ handled_alone p.copies
+  pub many_alone : handled_alone net cs (i + 1) front ≡ handled_alone_by p.copies
   many_alone = alone-copies has size (simulation net) cs front (i + 1) p.copies
       (λ a i. size_is_count a.set) here.copies ∙ sym (alone_sum p.copies)
 
@@ -255,8 +255,8 @@ module _ (net : Net) (cs : List Clone) (ended : List (ℕ × ℕ)) (front : ℕ)
   -- the copies have the figures of station s at the front, and no more than 256 clones
   pub record Figured (s : ℕ) (p : ProcView) : Type 0 where
     pub copies_are : length p.copies ≡ copies net cs s front
-    pub once : p.handled ≡ handled net cs s front
-    pub each_alone : handled_alone p.copies ≡ alone net cs s front
+    pub once : p.handled ≡ handled_once net cs s front
+    pub each_alone : handled_alone_by p.copies ≡ handled_alone net cs s front
     pub sizes : all_sizes p.copies ≤ MOST_CLONES
 
   -- and so it is with the copies of each station
@@ -280,14 +280,14 @@ module _ (net : Net) (cs : List Clone) (ended : List (ℕ × ℕ)) (front : ℕ)
 
 -- one copy more
 pub alone_next : (xs : List StationCopy) (x : StationCopy)
-    → handled_alone (xs ++ x ∷ []) ≡ handled_alone xs + size x.set * length x.log
+    → handled_alone_by (xs ++ x ∷ []) ≡ handled_alone_by xs + size x.set * length x.log
 alone_next [] x = omega arith
 alone_next (y ∷ ys) x = let h = alone_next ys x in omega (arith, h)
 
 -- the sum of some of the copies is small
 pub alone_within : (xs : List StationCopy) (i : ℕ) (x : StationCopy) → i < length xs → x ≡ get_or xs i x
     → AllByRecursion (λ (a : StationCopy). length a.log ≤ 65536) xs →
-    handled_alone (take i xs) + size x.set * length x.log ≤ all_sizes xs * 65536
+    handled_alone_by (take i xs) + size x.set * length x.log ≤ all_sizes xs * 65536
 alone_within [] i x l e h = absurd (omega (arith, l))
 alone_within (y ∷ ys) zero x l e h =
     let m = mul-le-mul_left (size y.set) h.0 in

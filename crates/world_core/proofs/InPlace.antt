@@ -8,7 +8,7 @@ use Rattle.std.proofs.lemmas.List.Sums.{sum_by-cons}
 use Rattle.clone_sets.specs.Sets.{empty, IsFirst}
 use Rattle.clone_sets.specs.declared.set.CloneSet.{CloneSet}
 use Rattle.net_model.specs.Net.{Net}
-use Rattle.phys_proc.specs.Own.{Marked, AreLate}
+use Rattle.phys_proc.specs.Own.{MarkedMessages, AreLate}
 use Rattle.phys_proc.specs.Procs.{ProcView, AreShared}
 use Rattle.world_core.specs.declared.flow.Flow.{Flow}
 use Rattle.phys_proc.proofs.AllCopies.{idle, all_stepped, all_over, all_gained}
@@ -82,7 +82,7 @@ none_new flows f none over = λ i g got. elim (push_got flows f g i got) [
 ]
 
 -- the result of the step of the station at place i
-pub stepped_at : (net : Net) (ends : ℕ → ℕ) (bound i : ℕ) (olds news : List ProcView) (before after : Marked)
+pub stepped_at : (net : Net) (ends : ℕ → ℕ) (bound i : ℕ) (olds news : List ProcView) (before after : MarkedMessages)
     (p : ProcView) (flow : Flow) → slice_get olds i ≡ Some p → IsFlow net ends bound i p flow
     → slice_get news i ≡ Some flow.done → ((j : ℕ) → j ≢ i → slice_get news j ≡ slice_get olds j)
     → length news ≡ length olds → after ≡ before ++ flow.sent.items
@@ -146,7 +146,7 @@ module _ (net : Net) (ends : ℕ → ℕ) (bound : ℕ) (olds : List ProcView) w
       none_got flow e = absurd (cc)
 
   -- where the first n have answered and now the next has, the first n + 1 have
-  pub stepped_next : (n : ℕ) (news after : List ProcView) (sent now : Marked) (over0 over1 : Option (ℕ × ℕ))
+  pub stepped_next : (n : ℕ) (news after : List ProcView) (sent now : MarkedMessages) (over0 over1 : Option (ℕ × ℕ))
       (over : CloneSet) (handled steps0 steps steps1 : ℕ) → n < length olds →
       SteppedTo net ends bound n olds news sent over0 steps0 steps
       → SteppedAt net ends bound n news after sent now over handled → steps1 ≡ steps + handled →
@@ -192,7 +192,7 @@ module _ (net : Net) (ends : ℕ → ℕ) (bound : ℕ) (olds : List ProcView) w
           below i less ne = grind (arith, less)
 
   -- a station with nothing due has answered where it stands
-  pub stepped_idle : (n : ℕ) (news : List ProcView) (sent : Marked) (over : Option (ℕ × ℕ)) (steps0 steps : ℕ)
+  pub stepped_idle : (n : ℕ) (news : List ProcView) (sent : MarkedMessages) (over : Option (ℕ × ℕ)) (steps0 steps : ℕ)
       (p : ProcView) (flow : Flow) → n < length olds → SteppedTo net ends bound n olds news sent over steps0 steps
       → slice_get news n ≡ Some p → IsNumbered net n p → AreLate bound p.copies → AreShared p.living p.copies
       → flow.done ≡ p → flow.sent.items ≡ [] → flow.over ≡ empty → flow.handled ≡ 0
@@ -210,7 +210,7 @@ module _ (net : Net) (ends : ℕ → ℕ) (bound : ℕ) (olds : List ProcView) w
       still (Some q) flows f e h = first_kept flows f q.0 q.1 h
 
   -- and where as many as there are have answered, all have
-  pub stepped_all : (n : ℕ) (news : List ProcView) (sent : Marked) (over : Option (ℕ × ℕ)) (steps0 steps : ℕ)
+  pub stepped_all : (n : ℕ) (news : List ProcView) (sent : MarkedMessages) (over : Option (ℕ × ℕ)) (steps0 steps : ℕ)
       → n ≡ length olds →
       SteppedTo net ends bound n olds news sent over steps0 steps
       → AllStepped net ends bound olds news sent over steps0 steps

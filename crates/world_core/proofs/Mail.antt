@@ -7,7 +7,7 @@ use Rattle.std.proofs.lemmas.List.{append-nil}
 use Rattle.std.proofs.lemmas.List.Elements.{filter_passes}
 use Rattle.sim_base.specs.declared.message.Msg.{Msg}
 use Rattle.clone_sets.specs.declared.set.CloneSet.{CloneSet}
-use Rattle.phys_proc.specs.Own.{Marked}
+use Rattle.phys_proc.specs.Own.{MarkedMessages}
 use Rattle.phys_proc.specs.Procs.{ProcView}
 use Rattle.world_core.specs.Windows.{AllDelivered, AreNumbered, IsDeliveredTo, sent_to, with_mail}
 use Rattle.world_core.specs.Posts.{PostView, AreFor, IsPostAt, ArePosts, no_mail}
@@ -17,19 +17,19 @@ use Rattle.world_core.proofs.Delivering.{set_same, set_other, of_some, sent_appe
 -- ---- what is for whom
 
 -- what is sorted out for a station is for it
-mail_is_for : (i : ℕ) (sent : Marked) → AreFor (i + 1) (sent_to i sent)
+mail_is_for : (i : ℕ) (sent : MarkedMessages) → AreFor (i + 1) (sent_to i sent)
 mail_is_for i sent = λ k d l. eqb-true (get_or (sent_to i sent) k d).0.to (i + 1)
     (filter_passes (λ x. x.0.to == i + 1) sent k d l)
 
 -- and so is the mail of a post there
-post_is_for : (i : ℕ) (sent : Marked) (p : ProcView) (post : PostView) → p.station ≡ i + 1
+post_is_for : (i : ℕ) (sent : MarkedMessages) (p : ProcView) (post : PostView) → p.station ≡ i + 1
     → IsPostAt sent i p post → AreFor post.proc.station post.mail
 post_is_for i sent p post number h = subst (λ s. AreFor s post.mail)
     (sym (ap (λ (o : ProcView). o.station) h.proc ∙ number))
     (subst (AreFor (i + 1)) (sym h.mail) (mail_is_for i sent))
 
 -- and that of each post of stations in the order of their numbers
-pub posts_are_for : (sent : Marked) (procs : List ProcView) (posts : List PostView) → AreNumbered procs
+pub posts_are_for : (sent : MarkedMessages) (procs : List ProcView) (posts : List PostView) → AreNumbered procs
     → ArePosts sent procs posts → (i : ℕ) (q : PostView) → slice_get posts i ≡ Some q
     → AreFor q.proc.station q.mail
 posts_are_for sent procs posts numbered h i q got =
@@ -55,7 +55,7 @@ posts_none procs posts is = record {
     length_map (p ∷ ps) = let h = length_map ps in omega (arith, h)
 
 -- the next message is not for the station
-post_stays : (m : Msg) (k : CloneSet) (sent : Marked) (i : ℕ) (p : ProcView) (q : PostView) → (m.to ≡ i + 1 → ⊥)
+post_stays : (m : Msg) (k : CloneSet) (sent : MarkedMessages) (i : ℕ) (p : ProcView) (q : PostView) → (m.to ≡ i + 1 → ⊥)
     → IsPostAt sent i p q → IsPostAt (sent ++ (m, k) ∷ []) i p q
 post_stays m k sent i p q n h = record {
   proc = h.proc;
@@ -64,7 +64,7 @@ post_stays m k sent i p q n h = record {
 }
 
 -- the next message is for no station
-pub sorted_none : (m : Msg) (k : CloneSet) (sent : Marked) (procs : List ProcView) (posts : List PostView)
+pub sorted_none : (m : Msg) (k : CloneSet) (sent : MarkedMessages) (procs : List ProcView) (posts : List PostView)
     → ((i : ℕ) → i < length posts → m.to ≡ i + 1 → ⊥) → ArePosts sent procs posts
     → ArePosts (sent ++ (m, k) ∷ []) procs posts
 sorted_none m k sent procs posts n h = record {
@@ -73,7 +73,7 @@ sorted_none m k sent procs posts n h = record {
 }
 
 -- the next message is for the station at place j
-pub sorted_one : (m : Msg) (k : CloneSet) (sent : Marked) (procs : List ProcView) (posts : List PostView) (j : ℕ)
+pub sorted_one : (m : Msg) (k : CloneSet) (sent : MarkedMessages) (procs : List ProcView) (posts : List PostView) (j : ℕ)
     (old new : PostView) → j < length posts → m.to ≡ j + 1 → old ≡ get_or posts j old → new.proc ≡ old.proc
     → new.mail ≡ old.mail ++ (m, k) ∷ [] → ArePosts sent procs posts
     → ArePosts (sent ++ (m, k) ∷ []) procs (slice_set posts j new)
@@ -99,7 +99,7 @@ sorted_one m k sent procs posts j old new l to is proc mail h = record {
 -- ---- giving
 
 -- messages, and then one more
-pub given_next : (ms : Marked) (x : Msg × CloneSet) (first second third : ProcView) → IsDeliveredTo ms first second
+pub given_next : (ms : MarkedMessages) (x : Msg × CloneSet) (first second third : ProcView) → IsDeliveredTo ms first second
     → IsDeliveredTo (x ∷ []) second third → IsDeliveredTo (ms ++ x ∷ []) first third
 given_next ms x first second third a b = record {
   copies = b.copies ∙ ap (with_mail (x ∷ [])) a.copies ∙ sym (with_mail-append ms (x ∷ []) first.copies);
@@ -110,7 +110,7 @@ given_next ms x first second third a b = record {
 }
 
 -- where each post was given its mail, each station has what is for it
-pub all_handed : (sent : Marked) (procs : List ProcView) (posts : List PostView) (news : List ProcView)
+pub all_handed : (sent : MarkedMessages) (procs : List ProcView) (posts : List PostView) (news : List ProcView)
     → ArePosts sent procs posts → length news ≡ length posts →
     ((i : ℕ) (q : PostView) (n : ProcView) → slice_get posts i ≡ Some q → slice_get news i ≡ Some n
     → IsDeliveredTo q.mail q.proc n) → AllDelivered sent procs news

@@ -3,7 +3,7 @@ use Rattle.std.proofs.Common.{◌≡◌, ℕ, zero, suc, ◌<◌, List, [], ◌�
 use Rattle.std.proofs.Common.{refl, slice_get, subst, sym}
 use Rattle.std.proofs.lemmas.List.{length-map}
 use Rattle.net_model.specs.Net.{Net}
-use Rattle.phys_proc.specs.Own.{Marked}
+use Rattle.phys_proc.specs.Own.{MarkedMessages}
 use Rattle.phys_proc.specs.Procs.{ProcView}
 use Rattle.world_core.specs.declared.flow.Flow.{Flow}
 use Rattle.crew_pool.specs.Tasks.{AnswersTo, EachAnswers, EachReady}
@@ -40,7 +40,7 @@ steps_ready net procs jobs is all = subst (EachReady (IsJob net)) (sym is) ready
     ready i d l = let at = mapped_at (λ p. Step p) procs i d l in subst (IsJob net i) (sym at.1) (all i at.0 at.2)
 
 -- their mail is for them
-pub mail_ready : (net : Net) (sent : Marked) (procs : List ProcView) (posts : List PostView) (jobs : List Job)
+pub mail_ready : (net : Net) (sent : MarkedMessages) (procs : List ProcView) (posts : List PostView) (jobs : List Job)
     → jobs ≡ map (λ q. Give q) posts → AreNumbered procs → ArePosts sent procs posts → EachReady (IsJob net) jobs
 mail_ready net sent procs posts jobs is numbered all = subst (EachReady (IsJob net)) (sym is) ready
   where
@@ -67,7 +67,7 @@ steps_answered net ends bound procs jobs flows dones is are h = all_flow net end
         (get_mapped (λ f. Stepped f) flows i flow) (told i (Stepped flow) (omega (arith, l, m)) (Step p)))
 
 -- answers to mail are copies that were given it
-pub mail_answered : (net : Net) (ends : ℕ → ℕ) (bound : ℕ) (sent : Marked) (procs : List ProcView)
+pub mail_answered : (net : Net) (ends : ℕ → ℕ) (bound : ℕ) (sent : MarkedMessages) (procs : List ProcView)
     (posts : List PostView) (jobs : List Job) (news : List ProcView) (dones : List Done)
     → jobs ≡ map (λ q. Give q) posts → map (λ p. Given p) news ≡ dones → ArePosts sent procs posts
     → length dones ≡ length jobs → EachAnswers (AnswersTo (IsDone net ends bound) jobs) dones

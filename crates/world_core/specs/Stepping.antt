@@ -2,7 +2,7 @@
 use Rattle.std.specs.Prelude.{◌≡◌, ◌≢◌, ℕ, ◌+◌, ◌<◌, ◌≤◌, ◌++◌, List, length, map, slice_get, Option, Some, None}
 use Rattle.clone_sets.specs.declared.set.CloneSet.{CloneSet}
 use Rattle.net_model.specs.Net.{Net}
-use Rattle.phys_proc.specs.Own.{Marked}
+use Rattle.phys_proc.specs.Own.{MarkedMessages}
 use Rattle.phys_proc.specs.Procs.{ProcView}
 use Rattle.world_core.specs.declared.flow.Flow.{Flow}
 use Rattle.world_core.specs.Windows.{AllFlow, IsFlow, NoneOver, all_handled, all_sent}
@@ -15,7 +15,7 @@ FirstOver flows (Some p) = IsFirstOver flows p.0 p.1
 
 -- the station at place i has answered, what it sent stands behind what the others sent before, and the others stand as
 -- they did
-pub record SteppedAt (net : Net) (ends : ℕ → ℕ) (bound i : ℕ) (olds news : List ProcView) (before after : Marked)
+pub record SteppedAt (net : Net) (ends : ℕ → ℕ) (bound i : ℕ) (olds news : List ProcView) (before after : MarkedMessages)
     (over : CloneSet) (handled : ℕ) : Type 0 where
   pub flow : Flow
   pub is_flow : (p : ProcView) → slice_get olds i ≡ Some p → IsFlow net ends bound i p flow
@@ -27,7 +27,7 @@ pub record SteppedAt (net : Net) (ends : ℕ → ℕ) (bound i : ℕ) (olds news
   pub handled_is : handled ≡ flow.handled
 
 -- the first n stations have answered: what they sent, the first over the limit, and the steps that they took
-pub record SteppedTo (net : Net) (ends : ℕ → ℕ) (bound n : ℕ) (olds news : List ProcView) (sent : Marked)
+pub record SteppedTo (net : Net) (ends : ℕ → ℕ) (bound n : ℕ) (olds news : List ProcView) (sent : MarkedMessages)
     (over : Option (ℕ × ℕ)) (steps0 steps : ℕ) : Type 0 where
   pub flows : List Flow
   pub count : length flows ≡ n
@@ -40,7 +40,7 @@ pub record SteppedTo (net : Net) (ends : ℕ → ℕ) (bound n : ℕ) (olds news
   pub steps_are : steps ≡ steps0 + all_handled flows
 
 -- all stations have
-pub record AllStepped (net : Net) (ends : ℕ → ℕ) (bound : ℕ) (olds news : List ProcView) (sent : Marked)
+pub record AllStepped (net : Net) (ends : ℕ → ℕ) (bound : ℕ) (olds news : List ProcView) (sent : MarkedMessages)
     (over : Option (ℕ × ℕ)) (steps0 steps : ℕ) : Type 0 where
   pub flows : List Flow
   pub count : length flows ≡ length olds

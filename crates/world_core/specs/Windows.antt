@@ -7,7 +7,7 @@ use Rattle.net_model.specs.Net.{Net}
 use Rattle.net_model.specs.Rules.{IsNet}
 use Rattle.stations.specs.Runs.{simulation}
 use Rattle.run_laws.specs.Copies.{IsStepped, AreOver, GainTogether}
-use Rattle.phys_proc.specs.Own.{StationCopy, Marked, with_message}
+use Rattle.phys_proc.specs.Own.{StationCopy, MarkedMessages, with_message}
 use Rattle.phys_proc.specs.Procs.{ProcView, IsProc}
 use Rattle.world_core.specs.declared.flow.Flow.{Flow}
 
@@ -53,15 +53,15 @@ abbrev pub all_handled : List Flow → ℕ
 all_handled flows = sum_by (λ f. f.handled) flows
 
 -- what all stations sent, station after station
-abbrev pub all_sent : List Flow → Marked
+abbrev pub all_sent : List Flow → MarkedMessages
 all_sent flows = flat_map (λ f. f.sent.items) flows
 
 -- those for the station at place i
-abbrev pub sent_to : ℕ → Marked → Marked
+abbrev pub sent_to : ℕ → MarkedMessages → MarkedMessages
 sent_to i ms = filter (λ x. x.0.to == i + 1) ms
 
 -- messages given to copies, one after the other
-abbrev pub with_mail : Marked → List StationCopy → List StationCopy
+abbrev pub with_mail : MarkedMessages → List StationCopy → List StationCopy
 with_mail [] xs = xs
 with_mail (x ∷ ms) xs = with_mail ms (map (with_message x.0 x.1) xs)
 
@@ -70,7 +70,7 @@ abbrev pub done_at : List Flow → ℕ → List StationCopy
 done_at flows i = unwrap_or (option_map (λ f. f.done.copies) (slice_get flows i)) []
 
 -- and what they sent
-abbrev pub sent_at : List Flow → ℕ → Marked
+abbrev pub sent_at : List Flow → ℕ → MarkedMessages
 sent_at flows i = unwrap_or (option_map (λ f. f.sent.items) (slice_get flows i)) []
 
 -- the copies at place i after the window
@@ -86,7 +86,7 @@ abbrev pub AreNumbered : List ProcView → Type 0
 AreNumbered procs = (i : ℕ) (p : ProcView) → slice_get procs i ≡ Some p → p.station ≡ i + 1
 
 -- messages were given to the copies of one station, and nothing else is new
-pub record IsDeliveredTo (msgs : Marked) (old new : ProcView) : Type 0 where
+pub record IsDeliveredTo (msgs : MarkedMessages) (old new : ProcView) : Type 0 where
   pub copies : new.copies ≡ with_mail msgs old.copies
   pub station : new.station ≡ old.station
   pub living : new.living ≡ old.living
@@ -94,7 +94,7 @@ pub record IsDeliveredTo (msgs : Marked) (old new : ProcView) : Type 0 where
   pub proc : (net : Net) → IsProc net old → IsProc net new
 
 -- every station got those of the messages that are for it
-pub record AllDelivered (msgs : Marked) (old new : List ProcView) : Type 0 where
+pub record AllDelivered (msgs : MarkedMessages) (old new : List ProcView) : Type 0 where
   pub count : length new ≡ length old
   pub each : (i : ℕ) (p q : ProcView) → slice_get old i ≡ Some p → slice_get new i ≡ Some q
       → IsDeliveredTo (sent_to i msgs) p q

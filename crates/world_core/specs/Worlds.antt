@@ -5,7 +5,7 @@ use Rattle.sim_base.specs.declared.lists.TheConstants.{MOST_CLONES}
 use Rattle.clone_sets.specs.Sets.{has}
 use Rattle.net_model.specs.Net.{Net}
 use Rattle.net_model.specs.Rules.{IsNet}
-use Rattle.stations.specs.Runs.{simulation, handled}
+use Rattle.stations.specs.Runs.{simulation, handled_once}
 use Rattle.run_laws.specs.Handlers.{AreForStations}
 use Rattle.run_laws.specs.SharedTexts.{station_sum}
 use Rattle.run_laws.specs.Copies.{Stands, ends_of}
@@ -30,7 +30,7 @@ pub record StandsAt (net : Net) (cs : List Clone) (front i : ℕ) (p : ProcView)
   pub proc : IsProc net p
   pub number : p.station ≡ i + 1
   pub living : (c : ℕ) → has p.living c ≡ nat_lt c (length cs)
-  pub once : p.handled ≡ handled net cs (i + 1) front
+  pub once : p.handled ≡ handled_once net cs (i + 1) front
   pub copies : Stands (simulation net) has cs front (i + 1) p.copies
 
 -- what a world keeps: the copies of every station stand for the clones at the front
@@ -46,7 +46,7 @@ pub record WorldStands (net : Net) (cs : List Clone) (ended : List (ℕ × ℕ))
 
 -- the messages that the stations have handled once, up to a front
 abbrev pub total_handled : Net → List Clone → ℕ → ℕ
-total_handled net cs front = station_sum (λ s. handled net cs s front) (length net.sites)
+total_handled net cs front = station_sum (λ s. handled_once net cs s front) (length net.sites)
 
 -- clones whose decisions are for stations, and which end at the horizon at the latest
 pub record AreInNet (net : Net) (cs : List Clone) : Type 0 where

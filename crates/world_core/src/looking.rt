@@ -6,9 +6,9 @@ ghost use Rattle.sim_base.specs.declared.lists.TheConstants.{MOST_CLONES};
 ghost use Rattle.clone_sets.specs.Sets.{size};
 ghost use Rattle.net_model.specs.Net.{Net};
 ghost use Rattle.net_model.specs.declared.limits.TheConstants.{MOST_LIMIT};
-ghost use Rattle.stations.specs.Runs.{simulation, next_front, copies, handled, alone};
+ghost use Rattle.stations.specs.Runs.{simulation, next_front, copies, handled_once, handled_alone};
 ghost use Rattle.run_laws.specs.Fronts.{least_of, least};
-ghost use Rattle.phys_proc.specs.Own.{IsCopy, handled_alone, all_sizes};
+ghost use Rattle.phys_proc.specs.Own.{IsCopy, handled_alone_by, all_sizes};
 
 use crate::world::World;
 use phys_proc::PhysCopy;
@@ -19,7 +19,7 @@ use stations::due::earlier;
 fn alone_in(copies: &[PhysCopy]) -> u64
     requires short { AllByRecursion (λ a. length a.log ≤ MOST_LIMIT) copies.now }
     requires few { all_sizes copies.now ≤ MOST_CLONES }
-    ensures value { result ≡ handled_alone copies.now }
+    ensures value { result ≡ handled_alone_by copies.now }
 {
     let mut sum = 0;
     for copy in copies {
@@ -74,8 +74,8 @@ impl World {
         requires low { 1 ≤ station }
         requires high { station ≤ length self.now.net.sites }
         ensures copies { result.copies ≡ copies self.now.net self.now.clones station self.now.front }
-        ensures handled { result.handled ≡ handled self.now.net self.now.clones station self.now.front }
-        ensures alone { result.alone ≡ alone self.now.net self.now.clones station self.now.front }
+        ensures handled { result.handled ≡ handled_once self.now.net self.now.clones station self.now.front }
+        ensures alone { result.alone ≡ handled_alone self.now.net self.now.clones station self.now.front }
     {
         let proc = &self.procs[station as usize - 1];
         Figures {

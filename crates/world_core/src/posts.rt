@@ -2,7 +2,7 @@
 //! them. The caller only sorts the messages by station, so that the lists of a station's copies are not moved between
 //! processors.
 ghost use Rattle.std.specs.Prelude.{◌≡◌, ◌≤◌, ◌++◌, ◌∷◌, [], List, length, map, IfOk, OnOk};
-ghost use Rattle.phys_proc.specs.Own.{Marked};
+ghost use Rattle.phys_proc.specs.Own.{MarkedMessages};
 ghost use Rattle.phys_proc.specs.Procs.{ProcView};
 ghost use Rattle.world_core.specs.Windows.{IsDeliveredTo};
 ghost use Rattle.world_core.specs.Posts.{AreFor, ArePosts, no_mail};
@@ -65,7 +65,7 @@ impl Post {
 
 // The message is put into the mail of the station that it is for, if there is one.
 fn put_in(posts: &mut Vec<Post>, msg: Msg, set: CloneSet) -> Result<(), NoMemory>
-    ensures sorted { OnOk result ((sent : Marked) (procs : List ProcView) → ArePosts sent procs posts.old.items →
+    ensures sorted { OnOk result ((sent : MarkedMessages) (procs : List ProcView) → ArePosts sent procs posts.old.items →
         ArePosts (sent ++ (msg, set) ∷ []) procs posts.new.items) }
 {
     if 1 <= msg.to && msg.to as usize <= posts.len() {

@@ -15,10 +15,6 @@ fn at(time: u64, to: u32, sender: u32, number: u64, payload: Payload, line: Line
     }
 }
 
-fn tick() -> Payload {
-    Payload::Tick
-}
-
 fn job(source: u32, count: u64, born: u64) -> Payload {
     Payload::Job(Job {
         source,
@@ -38,9 +34,9 @@ fn done(source: u32, count: u64, born: u64) -> Payload {
 /// One job at a time: the second waits until the first is done.
 pub fn one_desk_trace() -> [Entry; 8] {
     [
-        at(3, 1, 1, 0, tick(), source(1)),
+        at(3, 1, 1, 0, Payload::Tick, source(1)),
         at(5, 2, 1, 1, job(1, 0, 3), server(1, 0, 0, 0)),
-        at(6, 1, 1, 2, tick(), source(2)),
+        at(6, 1, 1, 2, Payload::Tick, source(2)),
         at(8, 2, 1, 3, job(1, 1, 6), server(1, 1, 0, 0)),
         at(9, 2, 2, 0, done(1, 0, 3), server(1, 0, 1, 0)),
         at(11, 3, 2, 1, job(1, 0, 3), sink(1, 8)),
@@ -52,9 +48,9 @@ pub fn one_desk_trace() -> [Entry; 8] {
 /// From 8 on the desk serves for 2; the service that has begun stays.
 pub fn fast_trace() -> [Entry; 9] {
     [
-        at(3, 1, 1, 0, tick(), source(1)),
+        at(3, 1, 1, 0, Payload::Tick, source(1)),
         at(5, 2, 1, 1, job(1, 0, 3), server(1, 0, 0, 0)),
-        at(6, 1, 1, 2, tick(), source(2)),
+        at(6, 1, 1, 2, Payload::Tick, source(2)),
         at(8, 2, 0, 0, change(Param::Service, 2, 2), server(1, 0, 0, 0)),
         at(8, 2, 1, 3, job(1, 1, 6), server(1, 1, 0, 0)),
         at(9, 2, 2, 0, done(1, 0, 3), server(1, 0, 1, 0)),
@@ -67,11 +63,11 @@ pub fn fast_trace() -> [Entry; 9] {
 /// The times between jobs are drawn: 4, 8 and 5.
 pub fn drawn_gate_trace() -> [Entry; 6] {
     [
-        at(4, 1, 1, 0, tick(), source(1)),
+        at(4, 1, 1, 0, Payload::Tick, source(1)),
         at(6, 2, 1, 1, job(1, 0, 4), sink(1, 2)),
-        at(12, 1, 1, 2, tick(), source(2)),
+        at(12, 1, 1, 2, Payload::Tick, source(2)),
         at(14, 2, 1, 3, job(1, 1, 12), sink(2, 4)),
-        at(17, 1, 1, 4, tick(), source(3)),
+        at(17, 1, 1, 4, Payload::Tick, source(3)),
         at(19, 2, 1, 5, job(1, 2, 17), sink(3, 6)),
     ]
 }
@@ -79,9 +75,9 @@ pub fn drawn_gate_trace() -> [Entry; 6] {
 /// Without room, who comes to a busy desk is lost.
 pub fn no_room_trace() -> [Entry; 8] {
     [
-        at(3, 1, 1, 0, tick(), source(1)),
-        at(3, 2, 2, 0, tick(), source(1)),
-        at(3, 3, 3, 0, tick(), source(1)),
+        at(3, 1, 1, 0, Payload::Tick, source(1)),
+        at(3, 2, 2, 0, Payload::Tick, source(1)),
+        at(3, 3, 3, 0, Payload::Tick, source(1)),
         at(5, 4, 1, 1, job(1, 0, 3), server(1, 0, 0, 0)),
         at(5, 4, 2, 1, job(2, 0, 3), server(1, 0, 0, 1)),
         at(5, 4, 3, 1, job(3, 0, 3), server(1, 0, 0, 2)),
@@ -93,9 +89,9 @@ pub fn no_room_trace() -> [Entry; 8] {
 /// With three servers from 6 on, those who wait are served at once.
 pub fn more_servers_trace() -> [Entry; 13] {
     [
-        at(3, 1, 1, 0, tick(), source(1)),
-        at(3, 2, 2, 0, tick(), source(1)),
-        at(3, 3, 3, 0, tick(), source(1)),
+        at(3, 1, 1, 0, Payload::Tick, source(1)),
+        at(3, 2, 2, 0, Payload::Tick, source(1)),
+        at(3, 3, 3, 0, Payload::Tick, source(1)),
         at(5, 4, 1, 1, job(1, 0, 3), server(1, 0, 0, 0)),
         at(5, 4, 2, 1, job(2, 0, 3), server(1, 1, 0, 0)),
         at(5, 4, 3, 1, job(3, 0, 3), server(1, 2, 0, 0)),
@@ -112,9 +108,9 @@ pub fn more_servers_trace() -> [Entry; 13] {
 /// The first job goes by the delay, the second straight on.
 pub fn fan_trace() -> [Entry; 7] {
     [
-        at(3, 1, 1, 0, tick(), source(1)),
+        at(3, 1, 1, 0, Payload::Tick, source(1)),
         at(5, 2, 1, 1, job(1, 0, 3), passed(1)),
-        at(6, 1, 1, 2, tick(), source(2)),
+        at(6, 1, 1, 2, Payload::Tick, source(2)),
         at(7, 3, 2, 0, job(1, 0, 3), passed(1)),
         at(8, 2, 1, 3, job(1, 1, 6), passed(2)),
         at(10, 4, 3, 0, job(1, 0, 3), sink(1, 7)),
@@ -125,10 +121,10 @@ pub fn fan_trace() -> [Entry; 7] {
 /// Who waits is served by class.
 pub fn by_class_trace() -> [Entry; 12] {
     [
-        at(3, 1, 1, 0, tick(), source(1)),
+        at(3, 1, 1, 0, Payload::Tick, source(1)),
         at(5, 3, 1, 1, job(1, 0, 3), server(1, 0, 0, 0)),
-        at(6, 1, 1, 2, tick(), source(2)),
-        at(7, 2, 2, 0, tick(), source(1)),
+        at(6, 1, 1, 2, Payload::Tick, source(2)),
+        at(7, 2, 2, 0, Payload::Tick, source(1)),
         at(8, 3, 1, 3, job(1, 1, 6), server(1, 1, 0, 0)),
         at(9, 3, 2, 1, job(2, 0, 7), server(1, 2, 0, 0)),
         at(9, 3, 3, 0, done(1, 0, 3), server(1, 1, 1, 0)),
@@ -143,10 +139,10 @@ pub fn by_class_trace() -> [Entry; 12] {
 /// Who waits is served as he came.
 pub fn by_arrival_trace() -> [Entry; 12] {
     [
-        at(3, 1, 1, 0, tick(), source(1)),
+        at(3, 1, 1, 0, Payload::Tick, source(1)),
         at(5, 3, 1, 1, job(1, 0, 3), server(1, 0, 0, 0)),
-        at(6, 1, 1, 2, tick(), source(2)),
-        at(7, 2, 2, 0, tick(), source(1)),
+        at(6, 1, 1, 2, Payload::Tick, source(2)),
+        at(7, 2, 2, 0, Payload::Tick, source(1)),
         at(8, 3, 1, 3, job(1, 1, 6), server(1, 1, 0, 0)),
         at(9, 3, 2, 1, job(2, 0, 7), server(1, 2, 0, 0)),
         at(9, 3, 3, 0, done(1, 0, 3), server(1, 1, 1, 0)),

@@ -4,7 +4,7 @@ use crate::counts::{change, passed, server, sink, source};
 use sim_base::{Job, Line, Param, Payload};
 
 /// A message and its answer: the counts, how many messages are sent, and when the last of them arrives.
-#[derive(Clone, Copy, Debug, PartialEq, Eq)]
+#[derive(Clone, Copy)]
 pub struct Row {
     pub time: u64,
     pub payload: Payload,

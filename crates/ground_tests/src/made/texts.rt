@@ -1,7 +1,6 @@
 //! The texts of three made studies, written by another program from the words of the format.
 
 /// A number, and the text of its model.
-#[derive(Clone, Copy, Debug)]
 pub struct Row {
     pub shows: &'static str,
     pub number: u32,

@@ -4,7 +4,6 @@ use super::texts::{SEVENTEEN, SMALL};
 
 /// A change: the first `old` becomes `new`. The refusal has this number, names this station or 0 for
 /// the top, and this key, or none where it is empty.
-#[derive(Clone, Copy, Debug)]
 pub struct Change {
     pub old: &'static str,
     pub new: &'static str,

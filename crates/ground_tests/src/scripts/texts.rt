@@ -72,7 +72,6 @@ pub const READ: &[&str] = &[
 
 /// A text, a clone or no name, and the canonical text of that clone's own script or of the whole one,
 /// with the lines and analysts of its items.
-#[derive(Clone, Copy, Debug)]
 pub struct Own {
     pub text: &'static str,
     pub who: &'static str,

@@ -1,5 +1,5 @@
 //! Inputs and sinks that fail.
-use super::{FAST, GOOD, Outside, RUN, both, ended, texts};
+use super::{FAST, GOOD, Outside, RUN, begins_both, ended, texts};
 use crew_pool::NoGate;
 use sample_models::ONE_DESK;
 use std::alloc::Global;
@@ -26,15 +26,37 @@ struct Fault<'a> {
 
 impl<'a> Fault<'a> {
     fn holds<R: Threads + Wait + Sync>(&self, rt: &R, alloc: Global) -> bool {
-        let whole = both(alloc, texts::BASE_AND_FAST, texts::BASE_AND_FAST_REPORT);
-        let ended = ended(rt, alloc, &NoGate, RUN, ONE_DESK, FAST, &self.outside);
-        match (ended, whole) {
-            (Ok(ended), Ok(whole)) => {
-                whole.len() >= self.size
-                    && ended.is(self.status, &whole.as_slice()[..self.size], self.errors)
+        match ended(rt, alloc, &NoGate, RUN, ONE_DESK, FAST, &self.outside) {
+            Ok(ended) => {
+                ended.status == self.status
+                    && ended.output().len() == self.size
+                    && begins_both(
+                        ended.output(),
+                        texts::BASE_AND_FAST,
+                        texts::BASE_AND_FAST_REPORT,
+                    )
+                    && ended.errors() == self.errors.as_bytes()
             }
-            _ => false,
+            Err(_) => false,
         }
+    }
+}
+
+/// Whether the program ends with this line where a fetch fails.
+fn is_unread<R: Threads + Wait + Sync>(
+    rt: &R,
+    alloc: Global,
+    words: &[&str],
+    fetch: u32,
+    line: &str,
+) -> bool {
+    let outside = Outside {
+        fetch: &[fetch],
+        ..GOOD
+    };
+    match ended(rt, alloc, &NoGate, words, ONE_DESK, FAST, &outside) {
+        Ok(ended) => ended.is(3, &[], line),
+        Err(_) => false,
     }
 }
 
@@ -44,25 +66,53 @@ fn fetches_fail(rt: HostRuntime) -> Result<(), Fail> {
     let solo: &[&str] = &["solo", "m", "s", "--clone", "base"];
     let live: &[&str] = &["live", "m", "s"];
     for words in [RUN, solo, live] {
-        for (fetch, errors) in [([1u32], NO_MODEL), ([2u32], NO_SCRIPT)] {
-            let outside = Outside {
-                fetch: &fetch,
-                ..GOOD
-            };
-            let ended = ended(&rt, rt.alloc(), &NoGate, words, ONE_DESK, FAST, &outside)?;
-            assert!(rt;
-                ended.is(3, &[], errors),
-                "{} words, {}",
-                words.len(),
-                errors
-            );
-        }
+        assert!(rt;
+            is_unread(&rt, rt.alloc(), words, 1, NO_MODEL),
+            "{} words",
+            words.len()
+        );
+        assert!(rt;
+            is_unread(&rt, rt.alloc(), words, 2, NO_SCRIPT),
+            "{} words",
+            words.len()
+        );
     }
     Ok(())
 }
 
-/// Put `put` of the run, which begins after `before` bytes and has `length`, fails after some of them; once more with
-/// an error sink that fails too.
+/// Whether the run is cut off behind so many bytes where put `put` takes `taken` and fails, and just so with an error
+/// sink that fails too.
+fn is_cut<R: Threads + Wait + Sync>(
+    rt: &R,
+    alloc: Global,
+    put: u32,
+    taken: usize,
+    size: usize,
+) -> bool {
+    let outside = Outside {
+        put: &[(put, taken)],
+        ..GOOD
+    };
+    let cut = Fault {
+        shows: "a put that fails",
+        outside,
+        status: 8,
+        size,
+        errors: CUT,
+    };
+    let untold = Fault {
+        shows: "a put that fails, and then the line of error",
+        outside: Outside {
+            error: &[(1, 6)],
+            ..outside
+        },
+        errors: "cloner",
+        ..cut
+    };
+    cut.holds(rt, alloc) && untold.holds(rt, alloc)
+}
+
+/// Put `put` of the run, which begins after `before` bytes and has `length`, fails after some of them.
 fn put_fails<R: Threads + Wait + Sync>(
     rt: &R,
     alloc: Global,
@@ -70,34 +120,12 @@ fn put_fails<R: Threads + Wait + Sync>(
     before: usize,
     length: usize,
 ) -> bool {
-    let mut holds = true;
     for taken in [0, 1, length.saturating_sub(1), length] {
-        let outside = Outside {
-            put: &[(put, taken)],
-            ..GOOD
-        };
-        let size = before.saturating_add(taken);
-        let cut = Fault {
-            shows: "a put that fails",
-            outside,
-            status: 8,
-            size,
-            errors: CUT,
-        };
-        let outside = Outside {
-            error: &[(1, 6)],
-            ..outside
-        };
-        let untold = Fault {
-            shows: "a put that fails, and then the line of error",
-            outside,
-            status: 8,
-            size,
-            errors: "cloner",
-        };
-        holds = holds && cut.holds(rt, alloc) && untold.holds(rt, alloc);
+        if !is_cut(rt, alloc, put, taken, before.saturating_add(taken)) {
+            return false;
+        }
     }
-    holds
+    true
 }
 
 #[test]

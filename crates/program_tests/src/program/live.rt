@@ -1,5 +1,5 @@
 //! Live studies: analysts who decide and look while the engine runs.
-use super::{GOOD, Outcome, both, ended, models, texts};
+use super::{GOOD, Outcome, ended, is_both, models, texts};
 use crew_pool::{Gate, NoGate};
 use sample_models::{CLINIC, ONE_DESK, QUIET_JOURNAL};
 use sim_base::NoMemory;
@@ -55,23 +55,24 @@ fn live<G: Gate, R: Threads + Wait + Sync>(
     ended(rt, alloc, gate, &words, ONE_DESK, script, &GOOD)
 }
 
+/// Whether a live study writes these three texts and nothing else.
+fn is_whole(live: &Outcome, journal: &str, traces: &str, report: &str) -> bool {
+    let Some(rest) = live.output().get(journal.len()..) else {
+        return false;
+    };
+    live.status == 0
+        && live.errors().is_empty()
+        && live.output().starts_with(journal.as_bytes())
+        && is_both(rest, traces, report)
+}
+
 /// Without decisions and looks the journal can't vary, and what follows is the plain run.
 #[test]
 fn nobody_decides(rt: HostRuntime) -> Result<(), Fail> {
-    let alloc = rt.alloc();
-    let whole = both(alloc, QUIET_JOURNAL, texts::BASE)?;
     for workers in ["1", "4", "16"] {
-        let live = live(&rt, alloc, &NoGate, workers, "")?;
-        let output = live.output.as_slice();
-        assert!(rt; live.status == 0 && live.errors.is_empty(), "{}", workers);
-        assert!(rt; output.starts_with(whole.as_slice()), "{}", workers);
+        let live = live(&rt, rt.alloc(), &NoGate, workers, "")?;
         assert!(rt;
-            output.ends_with(texts::BASE_REPORT.as_bytes()),
-            "{}",
-            workers
-        );
-        assert!(rt;
-            output.len() == whole.len() + texts::BASE_REPORT.len(),
+            is_whole(&live, QUIET_JOURNAL, texts::BASE, texts::BASE_REPORT),
             "{}",
             workers
         );
@@ -89,18 +90,33 @@ look fast desk
 look base out
 ";
 
+/// The fronts up to the one at which the limit is met.
+const FRONTS_TO_LIMIT: &str =
+    "journal 0 5\n# front 5\n# front 7\n# front 10\n# front 13\n# front 15\nlooks 6\n";
+
+/// Whether six looks are told, two of them at what is not there.
+fn has_six_looks(errors: &[u8]) -> bool {
+    count_of(errors, b"\nlook ") == 6
+        && has(errors, "look main base till unknown\n")
+        && has(errors, "look ben fast desk front=")
+        && has(errors, " absent\n")
+}
+
 /// Fronts up to the one at which the limit is met, six looks, and then the line.
 #[test]
 fn limit_met_beside_lookers(rt: HostRuntime) -> Result<(), Fail> {
-    let alloc = rt.alloc();
-    let ended = ended(&rt, alloc, &NoGate, LIVE, models::LIMIT_3, SIX_LOOKS, &GOOD)?;
-    let errors = ended.errors.as_slice();
-    let head = "journal 0 5\n# front 5\n# front 7\n# front 10\n# front 13\n# front 15\nlooks 6\n";
-    assert!(rt; ended.status == 7 && ended.output.is_empty());
-    assert!(rt; errors.starts_with(head.as_bytes()));
-    assert!(rt; count_of(errors, b"\nlook ") == 6);
-    assert!(rt; has(errors, "look main base till unknown\n"));
-    assert!(rt; has(errors, "look ben fast desk front=") && has(errors, " absent\n"));
+    let ended = ended(
+        &rt,
+        rt.alloc(),
+        &NoGate,
+        LIVE,
+        models::LIMIT_3,
+        SIX_LOOKS,
+        &GOOD,
+    )?;
+    let errors = ended.errors();
+    assert!(rt; ended.status == 7 && ended.output().is_empty());
+    assert!(rt; errors.starts_with(FRONTS_TO_LIMIT.as_bytes()) && has_six_looks(errors));
     assert!(rt; errors.ends_with(b"cloner: limit 3 met at station desk in clone base\n"));
     Ok(())
 }
@@ -125,48 +141,72 @@ fn journal_is_cut_off(rt: HostRuntime) -> Result<(), Fail> {
     Ok(())
 }
 
-/// Whether `live` of one desk leaves what it has to where put `put`, of a piece behind these bytes, fails after so
-/// many; once more with an error sink that fails too.
+/// Whether `live` of one desk is cut off where a put fails: these bytes are all that is written.
+fn is_cut<R: Threads + Wait + Sync>(
+    rt: &R,
+    alloc: Global,
+    outside: &super::Outside<'_>,
+    output: &[u8],
+    errors: &str,
+) -> bool {
+    match ended(rt, alloc, &NoGate, LIVE, ONE_DESK, "", outside) {
+        Ok(ended) => ended.is(8, output, errors),
+        Err(_) => false,
+    }
+}
+
+/// Whether `live` of one desk is cut off in the put of this text, which begins after `before` bytes of the whole; once
+/// more with an error sink that fails too.
 fn put_fails<R: Threads + Wait + Sync>(
     rt: &R,
     alloc: Global,
     put: u32,
-    before: &[u8],
-    piece: &[u8],
-    taken: usize,
-) -> Result<bool, NoMemory> {
-    let mut part = Vec::from_slice(alloc, before)?;
-    part.extend_from_slice(piece.get(..taken).unwrap_or(&[]))?;
-    let mut holds = true;
-    for (fails, line) in [
-        (&[] as &[(u32, usize)], "cloner: cannot write\n"),
-        (&[(1, 6)], "cloner"),
-    ] {
-        let outside = super::Outside {
-            put: &[(put, taken)],
-            error: fails,
+    whole: &[u8],
+    before: usize,
+    length: usize,
+) -> bool {
+    for taken in [0, 1, length.saturating_sub(1), length] {
+        let Some(part) = whole.get(..before.saturating_add(taken)) else {
+            return false;
+        };
+        let put = &[(put, taken)];
+        let outside = super::Outside { put, ..GOOD };
+        let silent = super::Outside {
+            put,
+            error: &[(1, 6)],
             ..GOOD
         };
-        let ended = ended(rt, alloc, &NoGate, LIVE, ONE_DESK, "", &outside)?;
-        holds = holds && ended.is(8, part.as_slice(), line);
+        if !is_cut(rt, alloc, &outside, part, "cloner: cannot write\n")
+            || !is_cut(rt, alloc, &silent, part, "cloner")
+        {
+            return false;
+        }
     }
-    Ok(holds)
+    true
+}
+
+/// All that `live` of one desk writes.
+fn whole_output(alloc: Global) -> Result<Vec<u8>, NoMemory> {
+    let mut whole = Vec::from_slice(alloc, QUIET_JOURNAL.as_bytes())?;
+    whole.extend_from_slice(texts::BASE.as_bytes())?;
+    whole.extend_from_slice(texts::BASE_REPORT.as_bytes())?;
+    Ok(whole)
 }
 
 /// Each put of a live study fails in turn: the journal, the trace and the report.
 #[test]
 fn live_output_is_cut_off(rt: HostRuntime) -> Result<(), Fail> {
-    let alloc = rt.alloc();
-    let mut before = Vec::new(alloc);
+    let whole = whole_output(rt.alloc())?;
+    let mut before: usize = 0;
     let mut put: u32 = 0;
     for text in [QUIET_JOURNAL, texts::BASE, texts::BASE_REPORT] {
-        let piece = text.as_bytes();
         put = put.saturating_add(1);
-        for taken in [0, 1, piece.len().saturating_sub(1), piece.len()] {
-            let holds = put_fails(&rt, alloc, put, before.as_slice(), piece, taken)?;
-            assert!(rt; holds, "{} after {}", put, taken);
-        }
-        before.extend_from_slice(piece)?;
+        assert!(rt;
+            put_fails(&rt, rt.alloc(), put, whole.as_slice(), before, text.len()),
+            "{}",
+            put
+        );
+        before = before.saturating_add(text.len());
     }
     Ok(())
 }
@@ -207,6 +247,14 @@ impl Gate for CallsBesideTasks {
     }
 }
 
+/// Whether a fork is accepted, and a set refused as late or closed behind the first front.
+fn is_late(output: &[u8]) -> bool {
+    let first = place_of(output, b"# front 5\n").unwrap_or(output.len());
+    let late = place_of(output, b"# refused 11 front ").unwrap_or(0);
+    let closed = place_of(output, b"# refused 2: set").unwrap_or(0);
+    has(output, "analyst main\nfork x from base\n") && (first < late || first < closed)
+}
+
 /// The fork is accepted, and the set, asked while the first window runs, is late or closed.
 #[test]
 fn calls_during_run(rt: HostRuntime) -> Result<(), Fail> {
@@ -217,14 +265,8 @@ fn calls_during_run(rt: HostRuntime) -> Result<(), Fail> {
         missed: AtomicU64::new(0),
     };
     let live = live(&rt, rt.alloc(), &gate, "1", script)?;
-    let output = live.output.as_slice();
     assert!(rt; live.status == 0 && gate.missed.load(Ordering::SeqCst) == 0);
-    assert!(rt; gate.calls.load(Ordering::SeqCst) == 1);
-    assert!(rt; has(output, "analyst main\nfork x from base\n"));
-    let first = place_of(output, b"# front 5\n").unwrap_or(output.len());
-    let late = place_of(output, b"# refused 11 front ").unwrap_or(0);
-    let closed = place_of(output, b"# refused 2: set").unwrap_or(0);
-    assert!(rt; first < late || first < closed);
+    assert!(rt; gate.calls.load(Ordering::SeqCst) == 1 && is_late(live.output()));
     Ok(())
 }
 
@@ -258,7 +300,7 @@ fn looks_during_run(rt: HostRuntime) -> Result<(), Fail> {
         missed: AtomicU64::new(0),
     };
     let live = live(&rt, rt.alloc(), &gate, "1", "look base gate\n")?;
-    let output = live.output.as_slice();
+    let output = live.output();
     assert!(rt; live.status == 0 && gate.missed.load(Ordering::SeqCst) == 0);
     assert!(rt; gate.looks.load(Ordering::SeqCst) == 1);
     assert!(rt; has(output, "look main base gate front=") && !has(output, "front=0 "));
@@ -288,23 +330,29 @@ impl Gate for WorkersMeet {
     fn before_call<R: Wait>(&self, _rt: &R, _analyst: u32, _k: u32) {}
 }
 
+/// Whether two workers meet in a busy window.
+fn meet<R: Threads + Wait + Sync>(rt: &R, alloc: Global, mode: &str) -> bool {
+    let gate = WorkersMeet {
+        tasks: AtomicU64::new(0),
+        workers: AtomicU64::new(0),
+        missed: AtomicU64::new(0),
+    };
+    let words = [mode, "m", "s", "--workers", "2"];
+    match ended(rt, alloc, &gate, &words, models::BUSY, "", &GOOD) {
+        Ok(ended) => {
+            ended.status == 0
+                && gate.workers.load(Ordering::SeqCst) == 0b11
+                && gate.missed.load(Ordering::SeqCst) == 0
+        }
+        Err(_) => false,
+    }
+}
+
 /// The first window of two stations is stepped by the caller, and is busy enough that the second is not.
 #[test]
 fn workers_meet(rt: HostRuntime) -> Result<(), Fail> {
     for mode in ["run", "live"] {
-        let gate = WorkersMeet {
-            tasks: AtomicU64::new(0),
-            workers: AtomicU64::new(0),
-            missed: AtomicU64::new(0),
-        };
-        let words = [mode, "m", "s", "--workers", "2"];
-        let ended = ended(&rt, rt.alloc(), &gate, &words, models::BUSY, "", &GOOD)?;
-        assert!(rt;
-            ended.status == 0 && gate.workers.load(Ordering::SeqCst) == 0b11,
-            "{}",
-            mode
-        );
-        assert!(rt; gate.missed.load(Ordering::SeqCst) == 0, "{}", mode);
+        assert!(rt; meet(&rt, rt.alloc(), mode), "{}", mode);
     }
     Ok(())
 }
@@ -332,48 +380,74 @@ fn parted(output: &[u8]) -> Option<(&[u8], &[u8])> {
     Some((events, behind))
 }
 
-/// Whether `run` with the journal of a live study writes what the study wrote.
-fn is_repeated<R: Threads + Wait + Sync>(
-    rt: &R,
-    alloc: Global,
-    workers: &str,
-) -> Result<bool, NoMemory> {
-    let live = live(rt, alloc, &NoGate, workers, FOUR)?;
-    let Some((events, behind)) = parted(live.output.as_slice()) else {
-        return Ok(false);
-    };
+/// Whether `run` with these lines of a journal writes this.
+fn repeats<R: Threads + Wait + Sync>(rt: &R, alloc: Global, events: &[u8], behind: &[u8]) -> bool {
     let Ok(script) = std::str::from_utf8(events) else {
-        return Ok(false);
+        return false;
     };
-    let words = ["run", "m", "s"];
-    let again = ended(rt, alloc, &NoGate, &words, ONE_DESK, script, &GOOD)?;
-    Ok(live.status == 0 && again.is(0, behind, ""))
+    match ended(rt, alloc, &NoGate, super::RUN, ONE_DESK, script, &GOOD) {
+        Ok(again) => again.is(0, behind, ""),
+        Err(_) => false,
+    }
+}
+
+/// Whether `run` with the journal of a live study writes what the study wrote.
+fn is_repeated<R: Threads + Wait + Sync>(rt: &R, alloc: Global, workers: &str) -> bool {
+    let Ok(live) = live(rt, alloc, &NoGate, workers, FOUR) else {
+        return false;
+    };
+    match parted(live.output()) {
+        Some((events, behind)) => live.status == 0 && repeats(rt, alloc, events, behind),
+        None => false,
+    }
 }
 
 #[test]
 fn journals_are_repeated(rt: HostRuntime) -> Result<(), Fail> {
     for _time in 0..25u32 {
         for workers in ["1", "4"] {
-            assert!(rt; is_repeated(&rt, rt.alloc(), workers)?, "{}", workers);
+            assert!(rt; is_repeated(&rt, rt.alloc(), workers), "{}", workers);
         }
     }
     Ok(())
 }
 
-/// Sixteen analysts of so many lines each; the first is the one before any name.
+/// Pushes the section of an analyst of so many lines; the first is the one before any name.
+fn push_section(
+    alloc: Global,
+    text: &mut String,
+    analyst: u32,
+    lines: u32,
+) -> Result<(), NoMemory> {
+    if analyst > 1 {
+        let head = format!(in alloc; "analyst a{analyst}\n")?;
+        text.push_str(head.as_str())?;
+    }
+    for _line in 0..lines {
+        text.push_str("set base at 19 desk room 5\n")?;
+    }
+    Ok(())
+}
+
+/// Sixteen analysts of so many lines each.
 fn sixteen(alloc: Global, lines: u32) -> Result<String, NoMemory> {
     let mut text = String::new(alloc);
     for analyst in 1..=16u32 {
-        if analyst > 1 {
-            text.push_str("analyst a")?;
-            text.push_str(itoa::Buffer::new().format(analyst))?;
-            text.push_str("\n")?;
-        }
-        for _line in 0..lines {
-            text.push_str("set base at 19 desk room 5\n")?;
-        }
+        push_section(alloc, &mut text, analyst, lines)?;
     }
     Ok(text)
+}
+
+/// Whether a live study of this script fills its journal.
+fn is_full<R: Threads + Wait + Sync>(rt: &R, alloc: Global, workers: &str, script: &str) -> bool {
+    match live(rt, alloc, &NoGate, workers, script) {
+        Ok(live) => {
+            live.status == 0
+                && live.output().starts_with(b"journal 4096 7\n")
+                && count_of(live.output(), b"\nanalyst a16\n") == 256
+        }
+        Err(_) => false,
+    }
 }
 
 /// As many decisions as a journal holds: none is missing.
@@ -381,11 +455,11 @@ fn sixteen(alloc: Global, lines: u32) -> Result<String, NoMemory> {
 fn full_journal(rt: HostRuntime) -> Result<(), Fail> {
     let script = sixteen(rt.alloc(), 256)?;
     for workers in ["1", "4", "16"] {
-        let live = live(&rt, rt.alloc(), &NoGate, workers, script.as_str())?;
-        let output = live.output.as_slice();
-        assert!(rt; live.status == 0, "{}", workers);
-        assert!(rt; output.starts_with(b"journal 4096 7\n"), "{}", workers);
-        assert!(rt; count_of(output, b"\nanalyst a16\n") == 256, "{}", workers);
+        assert!(rt;
+            is_full(&rt, rt.alloc(), workers, script.as_str()),
+            "{}",
+            workers
+        );
     }
     Ok(())
 }
@@ -394,18 +468,10 @@ fn full_journal(rt: HostRuntime) -> Result<(), Fail> {
 #[test]
 fn clinic_live(rt: HostRuntime) -> Result<(), Fail> {
     let words = ["live", "m", "s", "--workers", "2"];
-    let ended = ended(
-        &rt,
-        rt.alloc(),
-        &NoGate,
-        &words,
-        CLINIC,
-        texts::CLINIC_SCRIPT,
-        &GOOD,
-    )?;
-    let output = ended.output.as_slice();
-    assert!(rt; ended.status == 0 && ended.errors.is_empty());
-    assert!(rt; output.starts_with(b"journal 14 "));
-    assert!(rt; has(output, "\nlooks 1\nlook ada night doctor front="));
+    let script = texts::CLINIC_SCRIPT;
+    let ended = ended(&rt, rt.alloc(), &NoGate, &words, CLINIC, script, &GOOD)?;
+    assert!(rt; ended.status == 0 && ended.errors().is_empty());
+    assert!(rt; ended.output().starts_with(b"journal 14 "));
+    assert!(rt; has(ended.output(), "\nlooks 1\nlook ada night doctor front="));
     Ok(())
 }

@@ -1,5 +1,5 @@
 //! Many branches and many lines, and many workers.
-use super::{GOOD, PLAIN, REFUSED, RUN, Row, ended, models, texts};
+use super::{FAST, GOOD, PLAIN, REFUSED, RUN, Row, ended, models, texts};
 use crew_pool::{Gate, NoGate};
 use sample_models::{CLINIC, ONE_DESK};
 use sim_base::NoMemory;
@@ -10,21 +10,21 @@ use std::sync::atomic::{AtomicU64, Ordering};
 use std::test::Fail;
 use std::thread::Threads;
 
-/// So many lines, the first with the number 1.
-fn lines(
-    alloc: Global,
-    count: u32,
-    before: &str,
-    numbered: bool,
-    behind: &str,
-) -> Result<String, NoMemory> {
+/// A line so many times.
+fn lines(alloc: Global, count: u32, line: &str) -> Result<String, NoMemory> {
     let mut text = String::new(alloc);
-    for number in 1..=count {
-        text.push_str(before)?;
-        if numbered {
-            text.push_str(itoa::Buffer::new().format(number))?;
-        }
-        text.push_str(behind)?;
+    for _ in 0..count {
+        text.push_str(line)?;
+    }
+    Ok(text)
+}
+
+/// So many forks of the base.
+fn forks(alloc: Global, count: u32) -> Result<String, NoMemory> {
+    let mut text = String::new(alloc);
+    for k in 1..=count {
+        let line = format!(in alloc; "fork c{k} from base\n")?;
+        text.push_str(line.as_str())?;
     }
     Ok(text)
 }
@@ -32,16 +32,9 @@ fn lines(
 /// So many branches, each with a set of its own.
 fn set_apart(alloc: Global, count: u32) -> Result<String, NoMemory> {
     let mut text = String::new(alloc);
-    for number in 1..=count {
-        let mut digits = itoa::Buffer::new();
-        let k = digits.format(number);
-        text.push_str("fork c")?;
-        text.push_str(k)?;
-        text.push_str(" from base\nset c")?;
-        text.push_str(k)?;
-        text.push_str(" at 8 desk room ")?;
-        text.push_str(k)?;
-        text.push_str("\n")?;
+    for k in 1..=count {
+        let line = format!(in alloc; "fork c{k} from base\nset c{k} at 8 desk room {k}\n")?;
+        text.push_str(line.as_str())?;
     }
     Ok(text)
 }
@@ -58,8 +51,8 @@ fn reports<R: Threads + Wait + Sync>(
     match ended(rt, alloc, &NoGate, &words, ONE_DESK, script, &GOOD) {
         Ok(ended) => {
             ended.status == 0
-                && ended.errors.is_empty()
-                && ended.output.as_slice().ends_with(report.as_bytes())
+                && ended.errors().is_empty()
+                && ended.output().ends_with(report.as_bytes())
         }
         Err(_) => false,
     }
@@ -80,55 +73,62 @@ total handled=808 alone=1808
 ";
 
 #[test]
-fn hundreds_of_branches(rt: HostRuntime) -> Result<(), Fail> {
-    let alloc = rt.alloc();
-    let forks = lines(alloc, 255, "fork c", true, " from base\n")?;
-    let apart = set_apart(alloc, 200)?;
+fn hundreds_alike(rt: HostRuntime) -> Result<(), Fail> {
+    let script = forks(rt.alloc(), 255)?;
     for workers in ["1", "4"] {
-        assert!(rt; reports(&rt, alloc, workers, forks.as_str(), ALIKE));
-        assert!(rt; reports(&rt, alloc, workers, apart.as_str(), APART));
+        assert!(rt; reports(&rt, rt.alloc(), workers, script.as_str(), ALIKE));
     }
     Ok(())
 }
 
 #[test]
-fn more_than_there_may_be(rt: HostRuntime) -> Result<(), Fail> {
-    let alloc = rt.alloc();
-    let forks = lines(alloc, 256, "fork c", true, " from base\n")?;
-    let sets = lines(alloc, 257, "set base at 8 desk room 5\n", false, "")?;
-    let looks = lines(alloc, 4096, "look base desk\n", false, "")?;
-    let more_looks = lines(alloc, 4097, "look base desk\n", false, "")?;
-    let rows = [
-        Row {
-            shows: "a 256th fork",
-            script: forks.as_str(),
-            status: 6,
-            errors: "cloner: decision: refusal 5 at line 256\n",
-            ..REFUSED
-        },
-        Row {
-            shows: "a 257th set",
-            script: sets.as_str(),
-            status: 6,
-            errors: "cloner: decision: refusal 9 at line 257\n",
-            ..REFUSED
-        },
-        Row {
-            shows: "4,096 looks",
-            script: looks.as_str(),
-            ..PLAIN
-        },
-        Row {
-            shows: "a 4,097th look",
-            script: more_looks.as_str(),
-            status: 5,
-            errors: "cloner: script: refusal 5 at line 4097\n",
-            ..REFUSED
-        },
-    ];
-    for row in rows {
-        assert!(rt; row.holds(&rt, alloc), "{}", row.shows);
+fn hundreds_apart(rt: HostRuntime) -> Result<(), Fail> {
+    let script = set_apart(rt.alloc(), 200)?;
+    for workers in ["1", "4"] {
+        assert!(rt; reports(&rt, rt.alloc(), workers, script.as_str(), APART));
     }
+    Ok(())
+}
+
+/// Whether a row holds with this script.
+fn holds_with<R: Threads + Wait + Sync>(rt: &R, alloc: Global, row: &Row, script: &str) -> bool {
+    Row { script, ..*row }.holds(rt, alloc)
+}
+
+#[test]
+fn a_256th_fork(rt: HostRuntime) -> Result<(), Fail> {
+    let row = Row {
+        status: 6,
+        errors: "cloner: decision: refusal 5 at line 256\n",
+        ..REFUSED
+    };
+    assert!(rt; holds_with(&rt, rt.alloc(), &row, forks(rt.alloc(), 256)?.as_str()));
+    Ok(())
+}
+
+#[test]
+fn a_257th_set(rt: HostRuntime) -> Result<(), Fail> {
+    let row = Row {
+        status: 6,
+        errors: "cloner: decision: refusal 9 at line 257\n",
+        ..REFUSED
+    };
+    let sets = lines(rt.alloc(), 257, "set base at 8 desk room 5\n")?;
+    assert!(rt; holds_with(&rt, rt.alloc(), &row, sets.as_str()));
+    Ok(())
+}
+
+#[test]
+fn a_4097th_look(rt: HostRuntime) -> Result<(), Fail> {
+    let row = Row {
+        status: 5,
+        errors: "cloner: script: refusal 5 at line 4097\n",
+        ..REFUSED
+    };
+    let mut looks = lines(rt.alloc(), 4096, "look base desk\n")?;
+    assert!(rt; holds_with(&rt, rt.alloc(), &PLAIN, looks.as_str()));
+    looks.push_str("look base desk\n")?;
+    assert!(rt; holds_with(&rt, rt.alloc(), &row, looks.as_str()));
     Ok(())
 }
 
@@ -140,21 +140,21 @@ fn same_for_all<R: Threads + Wait + Sync>(
     model: &str,
     script: &str,
 ) -> bool {
-    let one = ended(rt, alloc, &NoGate, RUN, model, script, &GOOD);
+    let Ok(one) = ended(rt, alloc, &NoGate, RUN, model, script, &GOOD) else {
+        return false;
+    };
     let words = ["run", "m", "s", "--workers", more];
-    let many = ended(rt, alloc, &NoGate, &words, model, script, &GOOD);
-    match (one, many) {
-        (Ok(one), Ok(many)) => one.status == 0 && many.is(0, one.output.as_slice(), ""),
-        _ => false,
+    match ended(rt, alloc, &NoGate, &words, model, script, &GOOD) {
+        Ok(many) => one.status == 0 && many.is(0, one.output(), ""),
+        Err(_) => false,
     }
 }
 
 #[test]
 fn any_number_of_workers(rt: HostRuntime) -> Result<(), Fail> {
-    let fast = "fork fast from base\nset fast at 8 desk service 2 2";
     for more in ["2", "4", "16"] {
         assert!(rt;
-            same_for_all(&rt, rt.alloc(), more, ONE_DESK, fast),
+            same_for_all(&rt, rt.alloc(), more, ONE_DESK, FAST),
             "{}",
             more
         );
@@ -189,20 +189,23 @@ impl Gate for Counts {
     fn before_call<R: Wait>(&self, _rt: &R, _analyst: u32, _k: u32) {}
 }
 
+/// Whether a run of one desk by so many workers handed out so many tasks.
+fn has_tasks<R: Threads + Wait + Sync>(rt: &R, alloc: Global, workers: &str, tasks: u64) -> bool {
+    let gate = Counts {
+        calls: AtomicU64::new(0),
+    };
+    let words = ["run", "m", "s", "--workers", workers];
+    match ended(rt, alloc, &gate, &words, ONE_DESK, "", &GOOD) {
+        Ok(ended) => ended.status == 0 && gate.calls.load(Ordering::SeqCst) == tasks,
+        Err(_) => false,
+    }
+}
+
 /// Three stations in each of seven windows.
 #[test]
 fn windows_counted(rt: HostRuntime) -> Result<(), Fail> {
     for workers in ["1", "4"] {
-        let gate = Counts {
-            calls: AtomicU64::new(0),
-        };
-        let words = ["run", "m", "s", "--workers", workers];
-        let ended = ended(&rt, rt.alloc(), &gate, &words, ONE_DESK, "", &GOOD)?;
-        assert!(rt;
-            ended.status == 0 && gate.calls.load(Ordering::SeqCst) == 21,
-            "{}",
-            workers
-        );
+        assert!(rt; has_tasks(&rt, rt.alloc(), workers, 21), "{}", workers);
     }
     Ok(())
 }

@@ -2,8 +2,11 @@
 use super::{GOOD, PLAIN, REFUSED, Row, ended};
 use command_words::usage_line;
 use crew_pool::NoGate;
+use std::alloc::Global;
 use std::process::Abort;
+use std::sync::Wait;
 use std::test::Fail;
+use std::thread::Threads;
 
 const USAGE: &str =
     "usage: cloner run MODEL SCRIPT [--workers N], solo MODEL SCRIPT --clone NAME, live MODEL SCRIPT [--workers N], gen NUMBER [--workers N]\n";
@@ -18,8 +21,10 @@ const NO_FORM: &[&[&str]] = &[
     &["run", "m", "s", "--workers", "0"],
     &["run", "m", "s", "--workers", "17"],
     &["run", "m", "s", "--workers", "04"],
+    &["run", "m", "s", "--workers", "+1"],
     &["run", "m", "s", "--workers", "2", "--workers", "2"],
     &["run", "m", "s", "--clone", "base"],
+    &["live", "m", "s", "--clone", "x"],
     &["solo", "m", "s"],
     &["solo", "m", "s", "--clone", "Base"],
     &["solo", "m", "s", "--clone", "base", "--workers", "2"],
@@ -80,24 +85,36 @@ fn files_that_are_not_there(rt: HostRuntime) -> Result<(), Fail> {
     Ok(())
 }
 
-/// Of a made study the report alone is written, the same by any number of workers.
+/// Whether a made study by so many workers writes this, and its status is 0.
+fn gives<R: Threads + Wait + Sync>(
+    rt: &R,
+    alloc: Global,
+    number: &str,
+    workers: &str,
+    output: &[u8],
+) -> bool {
+    let words = ["gen", number, "--workers", workers];
+    match ended(rt, alloc, &NoGate, &words, "", "", &GOOD) {
+        Ok(ended) => ended.is(0, output, ""),
+        Err(_) => false,
+    }
+}
+
+/// Whether of a made study the report alone is written, the same by any number of workers.
+fn is_made<R: Threads + Wait + Sync>(rt: &R, alloc: Global, number: &str) -> bool {
+    let Ok(one) = ended(rt, alloc, &NoGate, &["gen", number], "", "", &GOOD) else {
+        return false;
+    };
+    one.status == 0
+        && one.output().starts_with(b"report\ndoor copies=1 ")
+        && gives(rt, alloc, number, "2", one.output())
+        && gives(rt, alloc, number, "16", one.output())
+}
+
 #[test]
 fn made_studies(rt: HostRuntime) -> Result<(), Fail> {
     for number in ["1", "7", "999999"] {
-        let words = ["gen", number];
-        let one = ended(&rt, rt.alloc(), &NoGate, &words, "", "", &GOOD)?;
-        let begins = one.output.as_slice().starts_with(b"report\ndoor copies=1 ");
-        assert!(rt; one.status == 0 && begins, "{}", number);
-        for more in ["2", "16"] {
-            let words = ["gen", number, "--workers", more];
-            let many = ended(&rt, rt.alloc(), &NoGate, &words, "", "", &GOOD)?;
-            assert!(rt;
-                many.is(0, one.output.as_slice(), ""),
-                "{} by {}",
-                number,
-                more
-            );
-        }
+        assert!(rt; is_made(&rt, rt.alloc(), number), "{}", number);
     }
     Ok(())
 }

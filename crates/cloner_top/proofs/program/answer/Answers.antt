@@ -1,6 +1,6 @@
 use Rattle.std.proofs.Common.{ap, refl, Err, option_map}
 use Rattle.command_words.specs.Requests.{RequestView, request_view}
-use Rattle.cloner_top.specs.Answers.{written}
+use Rattle.cloner_top.specs.Answers.{success}
 use Rattle.cloner_top.proofs.Endings.{overrun_is, unobeyed}
 use Rattle.cloner_top.proofs.Obeying.{no_fetches, words_answer}
 use Rattle.cloner_top.proofs.program.answer.Goals as goal
@@ -16,7 +16,7 @@ returns-in-Err-clause-fetches g c = no_fetches _ _ _ refl
 
 pub returns-in-Ok-obey-clause-answer : goal.returns-in-Ok-obey-clause-answer
 returns-in-Ok-obey-clause-answer g c =
-    written (request_view c.in-Ok.request).asked
+    success (request_view c.in-Ok.request).asked
     (ap (option_map (λ (r : RequestView). r.asked)) c.in-Ok.ensures.value) c.in-Ok-obey.ensures.ok
     c.in-Ok-obey.ensures.fetched refl
 

@@ -1,11 +1,7 @@
 use Rattle.command_words.specs.Requests.{request_view}
 use Rattle.cloner_top.proofs.Endings.{refused_end}
-use Rattle.cloner_top.proofs.Obeying.{decided_not_put, decided_put, plan_accepted, plan_net}
+use Rattle.cloner_top.proofs.Obeying.{decided_not_put, decided_put, plan_accepted}
 use Rattle.cloner_top.proofs.program.decide_and_write.Goals as goal
-
-pub write_study-requires-clause-net : goal.write_study-requires-clause-net
-write_study-requires-clause-net g c κs within =
-    plan_net (request_view c.args.request.now).asked _ _ _ _ c.in-Ok.ensures.book c.in-Ok.ensures.model
 
 pub write_study-requires-clause-accepted : goal.write_study-requires-clause-accepted
 write_study-requires-clause-accepted g c κs within =

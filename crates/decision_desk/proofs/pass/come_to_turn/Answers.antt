@@ -1,5 +1,5 @@
 use Rattle.std.proofs.Common.{ap, arith, ◌<◌, subst, sym}
-use Rattle.decision_desk.proofs.Comings.{drawn, has_turn}
+use Rattle.decision_desk.proofs.Comings.{waits_with_ticket, has_turn}
 use Rattle.decision_desk.proofs.pass.come_to_turn.Goals as goal
 
 pub draw_ticket-ticket-requires-clause-rest : goal.draw_ticket-ticket-requires-clause-rest
@@ -10,7 +10,7 @@ draw_ticket-ticket-requires-clause-rest g c =
 pub wait_turn-requires-clause-waits : goal.wait_turn-requires-clause-waits
 wait_turn-requires-clause-waits g c =
     let w = c.draw_ticket-ticket.ensures.waits in
-    let e = drawn _ _ _ w.0 c.requires.rest w.2 in
+    let e = waits_with_ticket _ _ _ w.0 c.requires.rest w.2 in
     (ap (λ m. m.0.waits) e, ap (λ m. m.0.turn) e, subst (λ n. 0 < n) (sym (ap (λ m. m.0.parts) e)) (omega arith))
 
 pub returns-clause-turn : goal.returns-clause-turn

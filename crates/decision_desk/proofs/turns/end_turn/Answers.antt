@@ -4,7 +4,7 @@ use Rattle.decision_desk.proofs.turns.end_turn.Goals as goal
 
 pub fetch_add-requires : goal.fetch_add-requires
 fetch_add-requires c = (
-  c.requires.table.0,
-  omega (arith, c.requires.table.1),
+  c.requires.table.table,
+  omega (arith, c.requires.table.words),
   rw c.requires.home (leaves _ _ c.args.seat.now.me.0 c.requires.turn.1 c.requires.turn.0),
 )

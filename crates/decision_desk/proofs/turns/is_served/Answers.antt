@@ -4,7 +4,7 @@ use Rattle.decision_desk.proofs.turns.is_served.Goals as goal
 
 pub load-requires : goal.load-requires
 load-requires c = (
-  c.requires.table.0,
-  omega (arith, c.requires.table.1),
+  c.requires.table.table,
+  omega (arith, c.requires.table.words),
   serves _ _ c.args.seat.now.me c.requires.waits.2 c.requires.waits.0 c.requires.waits.1,
 )

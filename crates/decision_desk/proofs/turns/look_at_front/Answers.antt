@@ -6,7 +6,7 @@ pub load-requires : goal.load-requires
 load-requires c =
     let m = c.args.seat.now.me in
     let a = c.requires.account in (
-      c.requires.table.0,
-      omega (arith, c.requires.table.1),
+      c.requires.table.table,
+      omega (arith, c.requires.table.words),
       looks_said _ _ m c.requires.rest.0 c.requires.rest.1 c.requires.rest.2 c.requires.rest.3 a.0 a.1,
     )

@@ -4,7 +4,7 @@ use Rattle.decision_desk.proofs.turns.raise_front.Goals as goal
 
 pub store-requires : goal.store-requires
 store-requires c = (
-  c.requires.table.0,
-  omega (arith, c.requires.table.1),
+  c.requires.table.table,
+  omega (arith, c.requires.table.words),
   raises c.args.front _ _ c.args.seat.now.me c.requires.turn.0 c.requires.turn.1 c.requires.above,
 )

@@ -3,5 +3,5 @@ use Rattle.engine_tests.proofs.shelves.look_told.Goals as goal
 
 pub look_once-requires : goal.look_once-requires
 look_once-requires g c = record {
-  there = has_later 2 c.args.seat.now c.learn.new.self c.learn.ensures.begins c.requires.there;
+  there = has_later 1 c.args.seat.now c.learn.new.self c.learn.ensures.begins c.requires.there;
 }

@@ -6,9 +6,9 @@ use Rattle.engine_tests.proofs.shelves.published.Goals as goal
 
 pub returns-clause-there : goal.returns-clause-there
 returns-clause-there g c =
-    subst (λ (l : List RackView). HasRack 2 l) (sym c.in_ok-publish.ensures.published)
-    (has_with 2 c.args.stocker.now.published c.in-Some.rack c.requires.there)
+    subst (λ (l : List RackView). HasRack 1 l) (sym c.in_ok-publish.ensures.published)
+    (has_with 1 c.args.stocker.now.published c.in-Some.rack c.requires.there)
 
 pub publish-requires-clause-there : goal.publish-requires-clause-there
 publish-requires-clause-there g c =
-    subst (λ s. HasRack s c.args.stocker.now.published) (sym c.in-Some.ensures.desk) c.requires.there
+    subst (λ s. HasRack s c.args.stocker.now.published) (sym c.in-Some.ensures.gate) c.requires.there

@@ -6,4 +6,4 @@ use Rattle.engine_tests.proofs.shelves.taken.Goals as goal
 
 pub returns-clause-there : goal.returns-clause-there
 returns-clause-there g c =
-    (All-pop (λ (l : List RackView). HasRack 2 l) _ _ c.pop.result c.pop.ensures.items c.requires.there).0
+    (All-pop (λ (l : List RackView). HasRack 1 l) _ _ c.pop.result c.pop.ensures.items c.requires.there).0

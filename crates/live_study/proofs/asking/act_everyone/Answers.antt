@@ -1,11 +1,11 @@
 use Rattle.std.proofs.Common.{[], rules, All, sym, subst}
 use Rattle.atomic_table.specs.Seated.{TableId}
 use Rattle.net_model.specs.Net.{Net}
-use Rattle.live_study.specs.Asking.{IsReady, Seated}
+use Rattle.live_study.specs.Asking.{IsReady, SeatedAnalyst}
 use Rattle.live_study.specs.Showing.{HasLooked, HasReserved}
 use Rattle.live_study.proofs.asking.act_everyone.Goals as goal
 
-abbrev MayAct : TableId → Net → Seated → Type 0
+abbrev MayAct : TableId → Net → SeatedAnalyst → Type 0
 MayAct desk net a = IsReady desk a.0 × HasLooked net [] a × HasReserved a.0
 
 pub for_each_mut-requires-clause-accepts : goal.for_each_mut-requires-clause-accepts

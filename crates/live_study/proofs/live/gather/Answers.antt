@@ -3,7 +3,7 @@ use Rattle.std.specs.Prelude.{vec_capacity}
 use Rattle.std.proofs.lemmas.Iterator.Adapters.{YieldsList-from_vec}
 use Rattle.std.proofs.lemmas.Iterator.Consumers.{YieldsList-turn}
 use Rattle.std.proofs.lemmas.List.{length-map}
-use Rattle.live_study.specs.Asking.{Seated}
+use Rattle.live_study.specs.Asking.{SeatedAnalyst}
 use Rattle.live_study.specs.Looks.{AreCaughtUp, HasRacks}
 use Rattle.live_study.proofs.Closing.{all_caught_more, with_image}
 use Rattle.live_study.proofs.live.gather.Goals as goal
@@ -19,7 +19,7 @@ comes_to_end-comes-requires g c =
     (search rules) (search rules)) c.loop-one.yielded _ c.loop-one.yielded_by _ c.next.new.self c.in-Some.one
     c.in-Some.is c.next.ensures.steps in
     record {
-      there = subst (λ (a : Seated). HasRacks c.args.model.now a.1) (sym step.1)
+      there = subst (λ (a : SeatedAnalyst). HasRacks c.args.model.now a.1) (sym step.1)
           (c.requires.there (length c.loop-one.yielded) c.in-Some.one step.0);
     }
 
@@ -28,7 +28,7 @@ push_reserved-requires g c =
     let step = YieldsList-turn (YieldsList-from_vec {s = c.into_iter-one-iterator.result} c.args.seated.items
     (search rules) (search rules)) c.loop-one.yielded _ c.loop-one.yielded_by _ c.next.new.self c.in-Some.one
     c.in-Some.is c.next.ensures.steps in
-    let f = λ (a : Seated). a.0.pass in
+    let f = λ (a : SeatedAnalyst). a.0.pass in
     let first = c.args.reserve.passes in
     omega (
       arith,
@@ -47,7 +47,7 @@ push_reserved-requires-in-loop-one g c =
     let step = YieldsList-turn (YieldsList-from_vec {s = c.into_iter-one-iterator.result} c.args.seated.items
     (search rules) (search rules)) c.loop-one.yielded _ c.loop-one.yielded_by _ c.next.new.self c.in-Some.one
     c.in-Some.is c.next.ensures.steps in
-    let f = λ (a : Seated). a.0.looks in
+    let f = λ (a : SeatedAnalyst). a.0.looks in
     let first = c.args.reserve.looks in
     omega (
       arith,
@@ -68,9 +68,9 @@ loop-one-preserved g c =
     let i = c.loop-one.invariant in
     let e = c.comes_to_end-comes.ensures in
     record {
-      passes = with_image (λ (a : Seated). a.0.pass) c.args.reserve.passes.items c.loop-one.passes.items
+      passes = with_image (λ (a : SeatedAnalyst). a.0.pass) c.args.reserve.passes.items c.loop-one.passes.items
           c.push_reserved.new.self.items c.loop-one.yielded one i.passes c.push_reserved.ensures.items;
-      looks = with_image (λ (a : Seated). a.0.looks) c.args.reserve.looks.items c.loop-one.looks.items
+      looks = with_image (λ (a : SeatedAnalyst). a.0.looks) c.args.reserve.looks.items c.loop-one.looks.items
           c.push_reserved-in-loop-one.new.self.items c.loop-one.yielded one i.looks
           c.push_reserved-in-loop-one.ensures.items;
       for_passes = stays (vec_capacity c.push_reserved.new.self) (vec_capacity c.loop-one.passes)

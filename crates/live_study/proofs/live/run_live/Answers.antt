@@ -5,7 +5,7 @@ use Rattle.decision_book.specs.Books.{BookView}
 use Rattle.decision_book.specs.Right.{IsRight}
 use Rattle.decision_desk.specs.Passes.{PassView}
 use Rattle.world_core.specs.Worlds.{WorldView}
-use Rattle.live_study.specs.Asking.{Seated}
+use Rattle.live_study.specs.Asking.{SeatedAnalyst}
 use Rattle.live_study.specs.Lives.{AreTrueLooks, IsAtHorizon}
 use Rattle.live_study.proofs.Counting.{all_done, asked_in, finished_if, of_desk}
 use Rattle.live_study.proofs.Ending.{if_kept, if_stopped}
@@ -16,8 +16,8 @@ pub close-book-requires-clause-passes : goal.close-book-requires-clause-passes
 close-book-requires-clause-passes g c k d less =
     let desk = c.args.desk.table.shared.table_id in
     let new = c.side_by_side-helm.result.1.items in
-    let are : c.gather-reserve.result.0.passes.items ≡ map (λ (a : Seated). a.0.pass) new =
-    c.gather-reserve.ensures.passes ∙ ap (λ l. l ++ map (λ (a : Seated). a.0.pass) new) c.requires.reserve.no_passes in
+    let are : c.gather-reserve.result.0.passes.items ≡ map (λ (a : SeatedAnalyst). a.0.pass) new =
+    c.gather-reserve.ensures.passes ∙ ap (λ l. l ++ map (λ (a : SeatedAnalyst). a.0.pass) new) c.requires.reserve.no_passes in
     let s = c.side_by_side-helm.ensures in
     let done = all_done desk new (λ i d less. s.done i d (omega (arith, less, s.len))) in
     subst (λ l. (k : ℕ) (d : PassView) → k < length l → (slice_index_or l k d).desk ≡ desk) (sym are)
@@ -27,11 +27,12 @@ pub returns-clause-asked : goal.returns-clause-asked
 returns-clause-asked g c =
     let desk = c.args.desk.table.shared.table_id in
     let new = c.side_by_side-helm.result.1.items in
-    let are : c.gather-reserve.result.0.passes.items ≡ map (λ (a : Seated). a.0.pass) new =
-    c.gather-reserve.ensures.passes ∙ ap (λ l. l ++ map (λ (a : Seated). a.0.pass) new) c.requires.reserve.no_passes in
+    let are : c.gather-reserve.result.0.passes.items ≡ map (λ (a : SeatedAnalyst). a.0.pass) new =
+    c.gather-reserve.ensures.passes ∙ ap (λ l. l ++ map (λ (a : SeatedAnalyst). a.0.pass) new) c.requires.reserve.no_passes in
     let s = c.side_by_side-helm.ensures in
     asked_in desk c.args.helm c.side_by_side-helm.result.0.0 c.args.seated.items new
-    c.gather-reserve.result.0.passes.items c.close-book.result s.steers c.requires.fresh are c.close-book.ensures.closed
+    c.gather-reserve.result.0.passes.items c.close-book.result s.driven.steers c.requires.fresh are
+    c.close-book.ensures.closed
     (subst (λ (b : BookView). IsRight b.net b.events) c.book.ensures.value c.front-legal.ensures.right)
     c.book.ensures.goes_on s.len s.done s.same c.requires.few
 
@@ -62,27 +63,28 @@ returns-clause-looked g c =
     c.gather-reserve.ensures.looks ∙ ap (λ l. l ++ looks_of new) c.requires.reserve.no_looks in
     subst (λ (n : Net). IfOk c.if_caught_up.result (λ w. AreTrueLooks n events looks)) (sym c.requires.net)
     (told_if net helm events c.side_by_side-helm.result.0.1.published new looks c.gather-reserve.result.1
-    c.side_by_side-helm.result.0.2 c.if_caught_up.result (s.steers.net ∙ c.requires.net)
-    c.close-book.ensures.closed.only_calls s.in_step s.shown c.gather-reserve.ensures.caught_up
+    c.side_by_side-helm.result.0.2 c.if_caught_up.result (s.driven.steers.net ∙ c.requires.net)
+    c.close-book.ensures.closed.only_calls s.driven.in_step s.driven.shown c.gather-reserve.ensures.caught_up
     (all_looked net new (λ i d less. s.looked i d (omega (arith, less, s.len)))) are c.if_caught_up.ensures.ok)
 
 pub returns-clause-finished : goal.returns-clause-finished
 returns-clause-finished g c =
-    let s = c.side_by_side-helm.ensures in
+    let driven = c.side_by_side-helm.ensures.driven in
     if_kept (λ (w : WorldView). IsAtHorizon c.args.helm.net c.close-book.result w) c.gather-reserve.result.1
     c.side_by_side-helm.result.0.2 c.if_caught_up.result c.if_caught_up.ensures.ok
     (finished_if c.args.helm c.side_by_side-helm.result.0.0 c.gather-reserve.result.0.passes.items c.close-book.result
-    c.side_by_side-helm.result.0.2 s.steers c.close-book.ensures.closed
-    (subst (λ (b : BookView). IsRight b.net b.events) c.book.ensures.value c.front-legal.ensures.right) s.in_step)
+    c.side_by_side-helm.result.0.2 driven.steers c.close-book.ensures.closed
+    (subst (λ (b : BookView). IsRight b.net b.events) c.book.ensures.value c.front-legal.ensures.right) driven.in_step)
 
 pub returns-clause-stopped : goal.returns-clause-stopped
 returns-clause-stopped g c =
     let net = c.args.helm.net in
     let helm = c.side_by_side-helm.result.0.0 in
     let book = c.close-book.result in
-    let s = c.side_by_side-helm.ensures in
+    let driven = c.side_by_side-helm.ensures.driven in
     let closed = c.close-book.ensures.closed in
     let right = subst (λ (b : BookView). IsRight b.net b.events) c.book.ensures.value c.front-legal.ensures.right in
     if_stopped net helm.net helm.helm book.events c.side_by_side-helm.result.0.2 c.if_caught_up.result
-    (subst (λ (n : Net). IsNet n) (sym c.requires.net) c.lookahead-valid.ensures.valid) s.steers.net closed.only_calls
-    (subst (λ (n : Net). IsRight n book.events) (closed.net ∙ s.steers.net) right) c.if_caught_up.ensures.err s.stops
+    (subst (λ (n : Net). IsNet n) (sym c.requires.net) c.lookahead-valid.ensures.valid) driven.steers.net
+    closed.only_calls (subst (λ (n : Net). IsRight n book.events) (closed.net ∙ driven.steers.net) right)
+    c.if_caught_up.ensures.err driven.stops

@@ -1,6 +1,7 @@
-use Rattle.std.proofs.Common.{arith, length, subst}
+use Rattle.std.proofs.Common.{ap, arith, length, subst}
 use Rattle.std.proofs.lemmas.Result.{IfErr-weaker, IfOk-weaker}
 use Rattle.net_model.specs.Net.{Net}
+use Rattle.decision_desk.specs.Passes.{HelmView}
 use Rattle.live_study.specs.Lives.{AreTrueLooks, IsAtHorizon, IsStopped, all_looks}
 use Rattle.live_study.specs.Looks.{AreLooks}
 use Rattle.live_study.proofs.Begun.{begins_in_step}
@@ -20,6 +21,17 @@ pub take_seats-requires-clause-many : goal.take_seats-requires-clause-many
 take_seats-requires-clause-many g c =
     many_passes c.args.model.now (length c.args.script.now.analysts) c.args.prepared c.requires.prepared
 
+pub run_live-requires-clause-may_drive : goal.run_live-requires-clause-may_drive
+run_live-requires-clause-may_drive g c κs within =
+    let p = c.args.prepared in
+    let of = c.requires.prepared in
+    record {
+      desk = ap (λ (h : HelmView). h.desk) of.helm;
+      in_step = begins_in_step p.desk.table.shared.table_id c.args.model.now (length c.args.script.now.analysts) p.helm
+          p.world of.helm of.world;
+      shown = shown_first c.args.model.now (length c.args.script.now.analysts) p _ of c.in_ok-stocker.ensures.published;
+    }
+
 pub run_live-requires-clause-net : goal.run_live-requires-clause-net
 run_live-requires-clause-net g c κs within =
     helm_net c.args.model.now (length c.args.script.now.analysts) c.args.prepared c.requires.prepared
@@ -28,17 +40,6 @@ pub run_live-requires-clause-parts : goal.run_live-requires-clause-parts
 run_live-requires-clause-parts g c κs within =
     all_parts c.args.model.now (length c.args.script.now.analysts) c.args.prepared c.in_ok-stocker.seated.items
     c.requires.prepared c.analysts-valid.ensures.valid.few_analysts c.in_ok-stocker.ensures.passes
-
-pub run_live-requires-clause-in_step : goal.run_live-requires-clause-in_step
-run_live-requires-clause-in_step g c κs within =
-    let p = c.args.prepared in
-    begins_in_step p.desk.table.shared.table_id c.args.model.now (length c.args.script.now.analysts) p.helm p.world
-    c.requires.prepared.helm c.requires.prepared.world
-
-pub run_live-requires-clause-shown : goal.run_live-requires-clause-shown
-run_live-requires-clause-shown g c κs within =
-    shown_first c.args.model.now (length c.args.script.now.analysts) c.args.prepared _ c.requires.prepared
-    c.in_ok-stocker.ensures.published
 
 pub run_live-requires-clause-ready : goal.run_live-requires-clause-ready
 run_live-requires-clause-ready g c κs within k d less =

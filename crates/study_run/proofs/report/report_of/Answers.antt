@@ -12,8 +12,8 @@ pub loop-s-preserved : goal.loop-s-preserved
 loop-s-preserved c =
     figures_pushed c.args.model.now c.args.world.now.net c.args.world.now.clones c.args.world.now.front c.loop-s.s
     c.figures.result c.loop-s.figures.items c.push.new.self.items
-    c.requires.net c.requires.ended c.figures.ensures.copies c.figures.ensures.handled c.figures.ensures.alone
-    c.loop-s.invariant c.in_ok-push.ensures.items
+    c.requires.may_report.net c.requires.may_report.ended c.figures.ensures.copies c.figures.ensures.handled
+    c.figures.ensures.alone c.loop-s.invariant c.in_ok-push.ensures.items
 
 pub report_text-requires-clause-all : goal.report_text-requires-clause-all
 report_text-requires-clause-all c =
@@ -25,25 +25,27 @@ report_text-requires-clause-all c =
 
 pub report_text-requires-clause-handled : goal.report_text-requires-clause-handled
 report_text-requires-clause-handled c =
+    let may = c.requires.may_report in
     let last : c.loop-s.s ≡ length c.args.model.now.sites =
     omega (arith, c.loop-s-test.false, c.loop-s.auto.s-end, c.len-s-end.ensures.value) in
     let all = c.as_slice.ensures.value
     ∙ (c.loop-s.invariant ∙ ap (figures_to c.args.model.now c.args.world.now.clones) last) in
     subst (λ l. sum_by (λ (f : Figures). f.handled) l < 2 ^ 64) (sym all)
     (figures_small c.args.model.now c.args.world.now.clones (λ (f : Figures). f.handled)
-    (λ s low high. (few_at c.args.model.now c.args.world.now.clones c.requires.within s low high).handled_few)
-    c.len-s-end.ensures.valid c.requires.few)
+    (λ s low high. (few_at c.args.model.now c.args.world.now.clones may.within s low high).handled_few)
+    c.len-s-end.ensures.valid may.few)
 
 pub report_text-requires-clause-alone : goal.report_text-requires-clause-alone
 report_text-requires-clause-alone c =
+    let may = c.requires.may_report in
     let last : c.loop-s.s ≡ length c.args.model.now.sites =
     omega (arith, c.loop-s-test.false, c.loop-s.auto.s-end, c.len-s-end.ensures.value) in
     let all = c.as_slice.ensures.value
     ∙ (c.loop-s.invariant ∙ ap (figures_to c.args.model.now c.args.world.now.clones) last) in
     subst (λ l. sum_by (λ (f : Figures). f.alone) l < 2 ^ 64) (sym all)
     (figures_small c.args.model.now c.args.world.now.clones (λ (f : Figures). f.alone)
-    (λ s low high. (few_at c.args.model.now c.args.world.now.clones c.requires.within s low high).alone_few)
-    c.len-s-end.ensures.valid c.requires.few)
+    (λ s low high. (few_at c.args.model.now c.args.world.now.clones may.within s low high).alone_few)
+    c.len-s-end.ensures.valid may.few)
 
 pub returns : goal.returns
 returns c =

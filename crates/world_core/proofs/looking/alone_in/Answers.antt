@@ -1,7 +1,7 @@
 use Rattle.std.proofs.Common.{◌≡◌, ◌+◌, ◌*◌, arith, ap, ap₂, sym, ◌∙◌, length, take}
 use Rattle.std.proofs.lemmas.List.{take_all}
 use Rattle.clone_sets.specs.Sets.{size}
-use Rattle.phys_proc.specs.Own.{handled_alone}
+use Rattle.phys_proc.specs.Own.{handled_alone_by}
 use Rattle.world_core.proofs.Places.{take_next}
 use Rattle.world_core.proofs.DueTimes.{alone_next, alone_within}
 use Rattle.world_core.proofs.looking.alone_in.Goals as goal
@@ -27,11 +27,11 @@ loop-copy-preserved c =
     ap₂ (λ m n. m * n) (c.len.ensures.value ∙ ap size c.set.ensures.value) (c.len-in-loop-copy.ensures.value
     ∙ ap length c.log.ensures.value) in
     ap₂ (λ m n. m + n) c.loop-copy.invariant b ∙ sym (alone_next (take i xs) x)
-    ∙ ap handled_alone (sym (take_next xs i x c.loop-copy-test.true c.copy-item.is))
+    ∙ ap handled_alone_by (sym (take_next xs i x c.loop-copy-test.true c.copy-item.is))
 
 pub returns : goal.returns
 returns c = record {
   value = c.loop-copy.invariant
-      ∙ ap handled_alone (take_all c.loop-copy.copy-index c.args.copies.now (let l = c.loop-copy-test.false in
+      ∙ ap handled_alone_by (take_all c.loop-copy.copy-index c.args.copies.now (let l = c.loop-copy-test.false in
       omega (arith, l)));
 }

@@ -2,7 +2,7 @@ use Rattle.std.proofs.Common.{ap, refl, ◌∙◌, sym, subst}
 use Rattle.std.specs.Option.{IsSome}
 use Rattle.decision_desk.specs.Passes.{HelmView}
 use mathlib.Core.Option.{some-injective}
-use Rattle.decision_desk.proofs.Restings.{ends, closed}
+use Rattle.decision_desk.proofs.Restings.{ends, is_closed}
 use Rattle.decision_desk.proofs.desk.Desk.take_book.Goals as goal
 
 pub unwrap-book-requires : goal.unwrap-book-requires
@@ -16,6 +16,6 @@ returns c =
     let e = ends _ _ _ _ (ap (λ (h : HelmView). h.parts) c.helm.view_is ∙ c.requires.whole)
     (ap (λ m. m.0.turn) c.helm.invariant.rest) c.close_with-closed.ensures.values.2 in
     record {
-      closed = closed c.args.helm _ _ _ c.take.result c.unwrap-book.result c.helm.view_is
+      closed = is_closed c.args.helm _ _ _ c.take.result c.unwrap-book.result c.helm.view_is
           (ap (λ m. m.0.steers) c.helm.invariant.rest) e c.take.ensures.value c.unwrap-book.ensures;
     }

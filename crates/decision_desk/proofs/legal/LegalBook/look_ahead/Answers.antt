@@ -7,9 +7,9 @@ use Rattle.decision_book.specs.declared.call.Call.{Call}
 use Rattle.decision_book.specs.Books.{BookView}
 use Rattle.decision_book.specs.Journal.{calls_of}
 use Rattle.decision_book.specs.Scripts.{accepted_of}
-use Rattle.decision_desk.specs.Leasts.{changed_by, earliest, helm_at, calls_at}
-use Rattle.decision_desk.specs.Passes.{IsSince, IsAhead}
-use Rattle.decision_desk.proofs.Leasts.{known_calls, looked_ahead}
+use Rattle.decision_desk.specs.Leasts.{leasts_with_calls, earliest, helm_at, calls_at}
+use Rattle.decision_desk.specs.Passes.{IsSince, IsTurnAhead}
+use Rattle.decision_desk.proofs.Leasts.{known_calls, is_turn_ahead}
 use Rattle.decision_desk.proofs.legal.LegalBook.look_ahead.Goals as goal
 
 pub accepted_from-requires : goal.accepted_from-requires
@@ -28,9 +28,9 @@ returns c =
     c.in_ok-extend_from_slice.ensures.items
     ∙ ap (λ (ts : List (Option ℕ)). ts ++ c.args.least.now) c.new-times.ensures.items in
     record {
-      ahead = subst (λ (v : BookView). IsAhead v (helm_at c.args.known v.events)
+      ahead = subst (λ (v : BookView). IsTurnAhead v (helm_at c.args.known v.events)
           (calls_at c.args.known v.events) fresh c.end_of_window-front.result) c.book-book.ensures.value
-          (looked_ahead b fresh c.args.known c.end_of_window-front.result c.args.least.now
+          (is_turn_ahead b fresh c.args.known c.end_of_window-front.result c.args.least.now
           c.change_all.new.times.items all
           (subst (λ (v : BookView). IsSince v c.args.known c.args.least.now)
           (sym c.book-book.ensures.value) c.requires.since)
@@ -40,8 +40,8 @@ returns c =
           c.calls.ensures.value)
           c.lists.ensures.value
           (c.in_ok-change_all.ensures.ok
-          ∙ (ap (λ (ts : List (Option ℕ)). changed_by all ts c.as_slice.result.now) times
-          ∙ ap (changed_by all c.args.least.now) c.as_slice.ensures.value))
+          ∙ (ap (λ (ts : List (Option ℕ)). leasts_with_calls all ts c.as_slice.result.now) times
+          ∙ ap (leasts_with_calls all c.args.least.now) c.as_slice.ensures.value))
           (c.end_of_window-front.ensures.value
           ∙ (ap (λ (n : Net). window_end (simulation n) c.earliest.result) c.model.ensures.value
           ∙ ap (λ t. window_end (simulation b.net) t)

@@ -26,7 +26,7 @@ invariant_of-self-2 c =
     (inserted_is lists _ c.self.invariant i there c.insert.new.self c.index_mut.result.now
     c.index_mut.ensures.value _ c.args.msg c.in_ok-insert.ensures.ok own)
     c.index.result.now c.index.ensures c.word_of-word.result c.word_of-word.ensures.value
-    c.set.new.self c.set.ensures.value
+    c.update.new.self c.update.ensures.value
 
 pub returns-clause-ok : goal.returns-clause-ok
 returns-clause-ok c =

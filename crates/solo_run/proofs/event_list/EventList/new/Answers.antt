@@ -1,6 +1,6 @@
 use Rattle.std.proofs.Common.{◌≡◌, ◌∙◌, ap, arith, length, replicate, []}
 use Rattle.std.proofs.lemmas.List.{length-replicate}
-use Rattle.solo_run.proofs.Events.{nothing_is, merged-nothing, view_is}
+use Rattle.solo_run.proofs.Events.{nothing_is, all_messages-nothing, view_is}
 use Rattle.solo_run.proofs.event_list.EventList.new.Goals as goal
 
 pub invariant_of-result : goal.invariant_of-result
@@ -15,6 +15,6 @@ returns c =
     let end : c.loop-station._station ≡ c.args.stations = omega arith in
     let empty = c.loop-station.invariant ∙ ap (λ n. replicate n []) end in
     record {
-      value = view_is _ [] _ c.args.stations (merged-nothing c.args.stations lists empty)
+      value = view_is _ [] _ c.args.stations (all_messages-nothing c.args.stations lists empty)
           (ap length empty ∙ length-replicate c.args.stations []);
     }

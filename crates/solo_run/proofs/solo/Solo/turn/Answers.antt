@@ -1,6 +1,6 @@
 use Rattle.std.proofs.Common.{subst, sym, []}
 use Rattle.solo_run.specs.SoloView.{SoloView, IsSolo, with_due}
-use Rattle.solo_run.specs.Turns.{Turned}
+use Rattle.solo_run.specs.Turns.{HasTurned}
 use Rattle.solo_run.proofs.OneTurn.{sends_may_be_pending, solo_is, turned}
 use Rattle.solo_run.proofs.solo.Solo.turn.Goals as goal
 
@@ -47,7 +47,7 @@ returns-clause-turned g c =
       pending = c.put_all.new.pending.messages;
       trace = c.push.new.self;
     } in
-    subst (λ (w : SoloView). Turned net w m new) c.self.view_is
+    subst (λ (w : SoloView). HasTurned net w m new) c.self.view_is
     (rw c.in-Ok-push.ensures.ok
     (turned net solo.valid v m c.handle_at.new.states.items c.put_all.new.pending.messages _ _ c.requires.early solo
     c.in_ok-line.ensures.ok (rw c.as_slice.ensures.value at c.in-Ok.ensures.ok)))

@@ -1,6 +1,6 @@
 use Rattle.std.proofs.Common.{◌≡◌, ◌<◌, ◌≤◌, sym, ap, subst, ◌∙◌, length, get_or, take}
 use Rattle.std.proofs.lemmas.List.{take_all}
-use Rattle.phys_proc.specs.Own.{Marked}
+use Rattle.phys_proc.specs.Own.{MarkedMessages}
 use Rattle.world_core.specs.Windows.{IsDeliveredTo}
 use Rattle.world_core.specs.Posts.{PostView}
 use Rattle.world_core.proofs.Places.{take_next}
@@ -15,8 +15,8 @@ deliver-requires c =
     let same : c.as_slice-pair-items.result.now ≡ ms =
     c.as_slice-pair-items.ensures.value ∙ ap (λ (v : PostView). v.mail) c.self.view_is in
     record {
-      target = ap (λ y. y.0.to) (c.pair-item.is ∙ ap (λ (l : Marked). get_or l i x) same)
-          ∙ c.requires.target i x (subst (λ (l : Marked). i < length l) same c.loop-pair-test.true)
+      target = ap (λ y. y.0.to) (c.pair-item.is ∙ ap (λ (l : MarkedMessages). get_or l i x) same)
+          ∙ c.requires.target i x (subst (λ (l : MarkedMessages). i < length l) same c.loop-pair-test.true)
           ∙ sym c.loop-pair.invariant.station;
     }
 
@@ -29,8 +29,8 @@ loop-pair-preserved c =
     c.as_slice-pair-items.ensures.value ∙ ap (λ (v : PostView). v.mail) c.self.view_is in
     let e = c.in_ok-deliver.ensures in
     subst (λ l. IsDeliveredTo l c.args.self.proc c.deliver.new.self)
-    (sym (take_next ms i x (subst (λ (l : Marked). i < length l) same c.loop-pair-test.true)
-    (c.pair-item.is ∙ ap (λ (l : Marked). get_or l i x) same)))
+    (sym (take_next ms i x (subst (λ (l : MarkedMessages). i < length l) same c.loop-pair-test.true)
+    (c.pair-item.is ∙ ap (λ (l : MarkedMessages). get_or l i x) same)))
     (given_next (take i ms) x c.args.self.proc c.loop-pair.proc c.deliver.new.self c.loop-pair.invariant
     (record { copies = e.given; station = e.station; living = e.living; once = e.handled; proc = e.proc }))
 
@@ -42,6 +42,6 @@ returns c =
     record {
       given = subst (IsDeliveredTo c.args.self.mail c.args.self.proc) (sym c.keep.ensures.same)
           (subst (λ l. IsDeliveredTo l c.args.self.proc c.loop-pair.proc)
-          (take_all i c.args.self.mail (subst (λ (l : Marked). length l ≤ i) same c.loop-pair-test.false))
+          (take_all i c.args.self.mail (subst (λ (l : MarkedMessages). length l ≤ i) same c.loop-pair-test.false))
           c.loop-pair.invariant);
     }

@@ -2,8 +2,8 @@ use Rattle.std.proofs.Common.{◌≡◌, ◌-◌, ◌≤◌, sym, ap, ◌∙◌,
 use Rattle.std.specs.List.{AllByRecursion}
 use Rattle.sim_base.specs.declared.lists.TheConstants.{MOST_CLONES}
 use Rattle.net_model.specs.declared.limits.TheConstants.{MOST_LIMIT}
-use Rattle.stations.specs.Runs.{copies, handled, alone}
-use Rattle.phys_proc.specs.Own.{StationCopy, all_sizes, handled_alone}
+use Rattle.stations.specs.Runs.{copies, handled_once, handled_alone}
+use Rattle.phys_proc.specs.Own.{StationCopy, all_sizes, handled_alone_by}
 use Rattle.world_core.specs.Worlds.{WorldView}
 use Rattle.world_core.proofs.Places.{got_at}
 use Rattle.world_core.proofs.DueTimes.{figured, all_short}
@@ -54,7 +54,7 @@ returns-clause-handled c =
     let got = got_at procs (c.args.station - 1) p (omega (arith, c.requires.low, high, many)) c.index-proc.ensures in
     let f = figured c.self.inside.model.value c.self.inside.lists.clones c.self.inside.ends c.self.inside.front procs
     c.self.invariant c.args.station p c.requires.low got in
-    c.handled.ensures.value ∙ subst (λ (w : WorldView). p.handled ≡ handled w.net w.clones c.args.station w.front)
+    c.handled.ensures.value ∙ subst (λ (w : WorldView). p.handled ≡ handled_once w.net w.clones c.args.station w.front)
     c.self.view_is f.once
 
 pub returns-clause-alone : goal.returns-clause-alone
@@ -66,6 +66,6 @@ returns-clause-alone c =
     let got = got_at procs (c.args.station - 1) p (omega (arith, c.requires.low, high, many)) c.index-proc.ensures in
     let f = figured c.self.inside.model.value c.self.inside.lists.clones c.self.inside.ends c.self.inside.front procs
     c.self.invariant c.args.station p c.requires.low got in
-    c.alone_in.ensures.value ∙ ap handled_alone c.copies-2.ensures.value
-    ∙ subst (λ (w : WorldView). handled_alone p.copies ≡ alone w.net w.clones c.args.station w.front)
+    c.alone_in.ensures.value ∙ ap handled_alone_by c.copies-2.ensures.value
+    ∙ subst (λ (w : WorldView). handled_alone_by p.copies ≡ handled_alone w.net w.clones c.args.station w.front)
     c.self.view_is f.each_alone

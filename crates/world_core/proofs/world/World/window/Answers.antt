@@ -1,7 +1,7 @@
 use Rattle.std.proofs.Common.{◌≡◌, ◌+◌, ◌<◌, ◌≤◌, arith, refl, sym, ap, ◌∙◌, subst, List}
 use Rattle.net_model.specs.Net.{Net}
 use Rattle.stations.specs.Runs.{next_front}
-use Rattle.phys_proc.specs.Own.{Marked}
+use Rattle.phys_proc.specs.Own.{MarkedMessages}
 use Rattle.phys_proc.specs.Procs.{ProcView}
 use Rattle.world_core.specs.Worlds.{WorldView, total_handled}
 use Rattle.world_core.specs.Windows.{AllDelivered, AreNumbered, all_sent}
@@ -87,7 +87,7 @@ invariant_of-result g c =
     c.in-Ok-give_all.procs.items
     (subst (λ (k : List ProcView). AllDelivered (all_sent flows) k c.in-Ok-give_all.procs.items)
     c.in-Ok.ensures.stepped.procs
-    (subst (λ (k : Marked). AllDelivered k c.in-Ok.stepped.procs.items c.in-Ok-give_all.procs.items)
+    (subst (λ (k : MarkedMessages). AllDelivered k c.in-Ok.stepped.procs.items c.in-Ok-give_all.procs.items)
     (c.as_slice-sent.ensures.value ∙ c.in-Ok.ensures.stepped.sent_is) c.in-Ok-give_all.ensures.given))
 
 pub returns-in-Ok-give_all-clause-steps : goal.returns-in-Ok-give_all-clause-steps

@@ -4,7 +4,7 @@ use Rattle.rolling_text.specs.Texts.{parting_at}
 use Rattle.rolling_text.proofs.AllTexts.{put_whole, put_part}
 use Rattle.rolling_text.proofs.Calls.{none_counted, counted_more, counted_to}
 use Rattle.rolling_text.proofs.Pieces.{appended_nothing}
-use Rattle.rolling_text.proofs.putting.put_all.Goals as goal
+use Rattle.rolling_text.proofs.putting.put_texts.Goals as goal
 
 pub loop-c-init : goal.loop-c-init
 loop-c-init g c = record {
@@ -13,8 +13,8 @@ loop-c-init g c = record {
   reserved = omega arith;
   left = λ more. record {
     others = [];
-    before = append-nil (drop 32 c.args.texts.now.page.text)
-        ∙ drop_of_length-le c.args.texts.now.page.text {i = 32} (omega (arith, c.requires.ready.margin));
+    before = append-nil (drop 32 c.args.texts.page.text)
+        ∙ drop_of_length-le c.args.texts.page.text {i = 32} (omega (arith, c.requires.ready.margin));
     drops = refl;
   };
   appended = appended_nothing (g.O.Sink.seen c.args.out.now).bytes;

@@ -4,7 +4,7 @@ use Rattle.sim_outer.specs.Bytes.{IsAppended}
 use Rattle.sim_outer.specs.Causes.{AreCounted}
 use Rattle.rolling_text.specs.Texts.{AreLeft, CanPut}
 use Rattle.trace_report.specs.Outputs.{clone_text}
-use Rattle.rolling_text.proofs.putting.put_all.Given as goal
+use Rattle.rolling_text.proofs.putting.put_texts.Given as goal
 
 -- nothing is said of the 32 bytes before the lines: they are what the last head left
 abbrev pub invariant-loop-c : goal.invariant-loop-c
