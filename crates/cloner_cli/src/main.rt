@@ -17,7 +17,7 @@
 #![tactic(auto)]
 
 ghost use Rattle.std.specs.Prelude.{◌≡◌, ◌⊎◌, ◌<◌, None, IfOk, OnErr};
-ghost use Rattle.cloner_top.specs.Answers.{asked_by};
+ghost use Rattle.cloner_top.specs.Answers.{assignment_of};
 
 use cloner_top::{Refusal, cloner};
 use crew_pool::NoGate;
@@ -60,8 +60,8 @@ fn run<L: Ledger, R: Files + Print + Eprint + Threads + Wait + Sync>(
     requires name { blank.name ≡ L.name }
     requires parts { blank.parts ≡ L.parts }
     requires some { 0 < L.parts }
-    ensures usage { (result ≡ 2 → asked_by words.now ≡ None)
-        × (asked_by words.now ≡ None → (result ≡ 1) ⊎ (result ≡ 2)) }
+    ensures usage { (result ≡ 2 → assignment_of words.now ≡ None)
+        × (assignment_of words.now ≡ None → (result ≡ 1) ⊎ (result ≡ 2)) }
 {
     let mut steps = Steps::<L>::new(blank);
     let mut inputs = FileInputs::new(rt);
@@ -80,7 +80,7 @@ fn run<L: Ledger, R: Files + Print + Eprint + Threads + Wait + Sync>(
 }
 
 // The status, by the words or by the memory that was refused them.
-fn answer<L: Ledger, R: Files + Print + Eprint + Threads + Wait + Sync>(
+fn run_or_complain<L: Ledger, R: Files + Print + Eprint + Threads + Wait + Sync>(
     rt: &R,
     alloc: Global,
     words: Result<Vec<Word>, NoMemory>,
@@ -90,7 +90,7 @@ fn answer<L: Ledger, R: Files + Print + Eprint + Threads + Wait + Sync>(
     requires parts { blank.parts ≡ L.parts }
     requires some { 0 < L.parts }
     ensures usage { IfOk words (λ w.
-        (result ≡ 2 → asked_by w.items ≡ None) × (asked_by w.items ≡ None → (result ≡ 1) ⊎ (result ≡ 2))) }
+        (result ≡ 2 → assignment_of w.items ≡ None) × (assignment_of w.items ≡ None → (result ≡ 1) ⊎ (result ≡ 2))) }
     ensures memory { OnErr words (result ≡ 1) }
 {
     match words {
@@ -106,5 +106,5 @@ fn answer<L: Ledger, R: Files + Print + Eprint + Threads + Wait + Sync>(
 
 fn main(rt: HostRuntime) -> ExitCode {
     let words = words(&rt);
-    ExitCode::from(answer::<Brand, HostRuntime>(&rt, rt.alloc(), words, Blank::new(1)))
+    ExitCode::from(run_or_complain::<Brand, HostRuntime>(&rt, rt.alloc(), words, Blank::new(1)))
 }

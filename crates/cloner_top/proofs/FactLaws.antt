@@ -29,7 +29,7 @@ use Rattle.cloner_top.specs.Outsides.{ArePut, ArePutOrCut}
 use Rattle.cloner_top.specs.Plans.{IsRead}
 use Rattle.cloner_top.specs.Refusals.{line_of, status_of}
 use Rattle.cloner_top.specs.Facts.{ArePreceded, Completes, IsCutFor, IsStoppedFor, IsStudy, IsToldFor, IsUnreadFor}
-use Rattle.cloner_top.specs.Facts.{IsWritten, Meets, Writes, WritesAll, WritesLive, WritesOne}
+use Rattle.cloner_top.specs.Facts.{IsWritten, IsStatusOf, Writes, WritesAll, WritesLive, WritesOne}
 use Rattle.cloner_top.specs.Stops.{stop_status}
 use Rattle.cloner_top.specs.Texts.{AreTexts, IsUnread}
 
@@ -327,7 +327,7 @@ module _ (words : Option Assignment) (before after : Outside) where
 module _ (before after : Outside) where
   comes_stopped : (a : Assignment) (told : List (List ℕ)) (stop : Stop)
       → StoppedFor (Comes before.inputs.files a) before.steps after.steps told stop
-      → (end : Ending) × (Comes before.inputs.files a end × Meets end
+      → (end : Ending) × (Comes before.inputs.files a end × IsStatusOf end
       (HasRisen before.output.faults after.output.faults)
       (stop_status stop))
   comes_stopped a told stop (ends.at_once none may same) = (early_stop stop, (may, refl))

@@ -25,7 +25,7 @@ use Rattle.cloner_top.specs.declared.halt.Halt.TheVariants as halt
 use Rattle.cloner_top.specs.declared.refusal.Refusal.{Refusal}
 use Rattle.cloner_top.specs.declared.refusal.Refusal.TheVariants.{OutOfMemory, Usage, NoModel}
 use Rattle.cloner_top.specs.declared.refusal.Refusal.TheVariants.{NoScript, Stopped, CannotWrite}
-use Rattle.cloner_top.specs.Endings.{MayLive, StoppedFor, at_limit, finished, limit_met, over, run_texts, whole_output}
+use Rattle.cloner_top.specs.Endings.{MayLive, StoppedFor, at_limit, finished, limit_stop, over, run_texts, whole_output}
 use Rattle.cloner_top.specs.LiveRuns.{HaltsFor, HasRun, IsLiveWorld, IsOverrun, IsPlaced, StopsLive}
 use Rattle.cloner_top.specs.Outsides.{ArePut, IsFailed, IsHalted, IsNotPut, IsStudyPut}
 use Rattle.cloner_top.proofs.Endings.{all_put, not_put}
@@ -113,7 +113,7 @@ module _ (net : Net) (s : ScriptView) (old_steps new_steps : ℕ) (live : LiveRu
     where
       told_limit : (station who : ℕ) (h : Halt) → IsStopped net live.book (LimitMet station who)
           → new_steps ≡ old_steps
-          → IsOverrun text (limit_met net station (clone_at (after net live.book.events).clones who).name) h
+          → IsOverrun text (limit_stop net station (clone_at (after net live.book.events).clones who).name) h
           → StopsLive net s old_steps new_steps h
       told_limit station who (halt.Refused refusal) stopped idle is = absurd is
       told_limit station who (halt.Overrun journal stop) stopped idle is =

@@ -19,7 +19,7 @@ use Rattle.command_words.specs.Requests.{Source}
 use Rattle.cloner_top.specs.declared.stop.Stop.TheVariants.{NoClone}
 use Rattle.cloner_top.specs.Deciding.{by_line, clones_of, decision_lines, first_refused}
 use Rattle.cloner_top.specs.Endings.{Ending, MayEnd, MayRunAlone, beyond, fits, simulation}
-use Rattle.cloner_top.specs.Endings.{early_stop, limit_met, live, no_clone, overrun, refused_decision, whole_output}
+use Rattle.cloner_top.specs.Endings.{early_stop, limit_stop, live, no_clone, overrun, refused_decision, whole_output}
 use Rattle.cloner_top.specs.OwnScripts.{OwnScriptWritesTheSame}
 
 -- how the run of one clone may end, by the clone itself
@@ -28,7 +28,7 @@ data MayRunIt (net : Net) (name : List ℕ) : Option Clone → Ending → Type 0
   it_fits : (c : Clone) → IsWithin net c
       → MayRunIt net name (Some c) (whole_output (clone_text net c ∷ []) (length (trace_of net c)))
   it_stops : (c : Clone) (station : ℕ) → MeetsLimitAlone net c station
-      → MayRunIt net name (Some c) (overrun [] (limit_met net station name) (most_handled net 1))
+      → MayRunIt net name (Some c) (overrun [] (limit_stop net station name) (most_handled net 1))
 
 to_it : (net : Net) (name : List ℕ) (clones : List Clone) (end : Ending) → MayRunAlone net clones name end
     → MayRunIt net name (clone_named name clones) end
@@ -39,7 +39,7 @@ to_it net name clones _ (fits k is within) =
     (whole_output (clone_text net (clone_at clones k) ∷ []) (length (trace_of net (clone_at clones k)))))
     (sym (clone_named-place name clones k is)) (it_fits (clone_at clones k) within)
 to_it net name clones _ (beyond k station is meets) =
-    subst (λ o. MayRunIt net name o (overrun [] (limit_met net station name) (most_handled net 1)))
+    subst (λ o. MayRunIt net name o (overrun [] (limit_stop net station name) (most_handled net 1)))
     (sym (clone_named-place name clones k is)) (it_stops (clone_at clones k) station meets)
 
 of_none : (net : Net) (name : List ℕ) (clones : List Clone) (end : Ending) → place_of name clones ≡ None

@@ -18,7 +18,7 @@ use Rattle.cloner_top.specs.declared.stop.Stop.{Stop}
 use Rattle.command_words.specs.declared.request.Mode.{Mode}
 use Rattle.command_words.specs.Requests.{Source}
 use Rattle.cloner_top.specs.Endings.{MayRun, MayRunAlone, MaySimulate, StoppedFor, at_limit, beyond}
-use Rattle.cloner_top.specs.Endings.{fits, limit_met, over, whole_output, within}
+use Rattle.cloner_top.specs.Endings.{fits, limit_stop, over, whole_output, within}
 use Rattle.cloner_top.specs.Outsides.{ArePut, IsFailed, IsStudyPut, IsNotPut}
 use Rattle.cloner_top.proofs.Endings.{all_put, not_put}
 
@@ -74,13 +74,13 @@ module _ (texts_of : Net → List Clone → List (List ℕ)) (net told : Net) (c
 pub run_stops : (net told : Net) (cs made : List Clone) (texts : List (List ℕ)) (station who old_steps new_steps : ℕ)
     (name : List ℕ) (stop : Stop) → made ≡ cs
     → StopsAll net made old_steps new_steps station who → told ≡ net → name ≡ (clone_at cs who).name
-    → stop ≡ limit_met told station name
+    → stop ≡ limit_stop told station name
     → StoppedFor (MayRun net cs texts) old_steps new_steps [] stop
 run_stops net told cs made texts station who old_steps new_steps name stop same stops same_net same_name is =
     let all : StopsAll net cs old_steps new_steps station who =
     subst (λ l. StopsAll net l old_steps new_steps station who) same stops in
-    let stop_is : limit_met net station (clone_at cs who).name ≡ stop =
-    sym (is ∙ (ap (λ (n : Net). limit_met n station name) same_net ∙ ap (limit_met net station) same_name)) in
+    let stop_is : limit_stop net station (clone_at cs who).name ≡ stop =
+    sym (is ∙ (ap (λ (n : Net). limit_stop n station name) same_net ∙ ap (limit_stop net station) same_name)) in
     subst (StoppedFor (MayRun net cs texts) old_steps new_steps []) stop_is
     (at_limit (most_handled net (length cs)) (over station who all.meets) all.few)
 
@@ -122,15 +122,15 @@ module _ (net told : Net) (cs those : List Clone) (name : List ℕ) (k old_steps
 
   -- where the limit is met in the run of the clone by itself, that run stops for it
   pub alone_stops : (station who : ℕ) (stop : Stop) → StopsAlone told those k old_steps new_steps station who
-      → stop ≡ limit_met told station name
+      → stop ≡ limit_stop told station name
       → StoppedFor (MayRunAlone net cs name) old_steps new_steps [] stop
   alone_stops station who stop stops is =
       let one : StopsAlone net those k old_steps new_steps station who =
       subst (λ (n : Net). StopsAlone n those k old_steps new_steps station who) same_net stops in
       let all : StopsAlone net cs k old_steps new_steps station who =
       subst (λ l. StopsAlone net l k old_steps new_steps station who) same_clones one in
-      let stop_is : limit_met net station name ≡ stop =
-      sym (is ∙ ap (λ (n : Net). limit_met n station name) same_net) in
+      let stop_is : limit_stop net station name ≡ stop =
+      sym (is ∙ ap (λ (n : Net). limit_stop n station name) same_net) in
       subst (StoppedFor (MayRunAlone net cs name) old_steps new_steps []) stop_is
       (at_limit (most_handled net 1) (beyond k station found all.meets) all.few)
 

@@ -19,8 +19,8 @@ use Rattle.cloner_top.specs.Stops.{stop_status}
 use Rattle.cloner_top.specs.Texts.{AreTexts, IsUnread, all_fetches}
 
 -- what the words ask for, whoever does it, if the command line has a known form
-abbrev pub asked_by : List (List ℕ) → Option Assignment
-asked_by words = option_map (λ r. r.asked) (form words)
+abbrev pub assignment_of : List (List ℕ) → Option Assignment
+assignment_of words = option_map (λ r. r.assignment) (form words)
 
 -- the inputs, the output, the error sink, and how many messages were handled
 pub record Outside : Type 0 where

@@ -35,14 +35,14 @@ pub data Ending : Type 0 where
   overrun : List (List ℕ) → Stop → ℕ → Ending
 
 -- the stop where the limit is met: the limit, the name of the station of this number, and the clone's name
-abbrev pub limit_met : Net → ℕ → List ℕ → Stop
-limit_met net station clone = LimitMet net.limit (site_of net station).name clone
+abbrev pub limit_stop : Net → ℕ → List ℕ → Stop
+limit_stop net station clone = LimitMet net.limit (site_of net station).name clone
 
 -- how a run of these clones may end, which is to write these texts
 pub data MayRun (net : Net) (clones : List Clone) (texts : List (List ℕ)) : Ending → Type 0 where
   within : AreWithin net clones → MayRun net clones texts (whole_output texts (total_handled net clones net.horizon))
   over : (station who : ℕ) → MeetsLimit net clones station who
-      → MayRun net clones texts (overrun [] (limit_met net station (clone_at clones who).name)
+      → MayRun net clones texts (overrun [] (limit_stop net station (clone_at clones who).name)
       (most_handled net (length clones)))
 
 -- how a run of the clone of this name by itself may end
@@ -52,7 +52,7 @@ pub data MayRunAlone (net : Net) (clones : List Clone) (name : List ℕ) : Endin
       → MayRunAlone net clones name (whole_output (clone_text net (clone_at clones k) ∷ [])
       (length (trace_of net (clone_at clones k))))
   beyond : (k station : ℕ) → place_of name clones ≡ Some k → MeetsLimitAlone net (clone_at clones k) station
-      → MayRunAlone net clones name (overrun [] (limit_met net station name) (most_handled net 1))
+      → MayRunAlone net clones name (overrun [] (limit_stop net station name) (most_handled net 1))
 
 -- what a run of all clones writes: each one's trace text, in order of making, and then the report
 unfoldable pub run_texts : Net → List Clone → List (List ℕ)
@@ -82,7 +82,7 @@ pub data MayLive (net : Net) (s : ScriptView) : Ending → Type 0 where
   over : (book : BookView) (looks : List Looked) (station who : ℕ) → IsJournalOf net s book → HasMadeLooks s looks
       → MeetsLimitLast net book.events station who
       → MayLive net s (overrun (journal_text s.analysts book.events looks ∷ [])
-      (limit_met net station (clone_at (after net book.events).clones who).name)
+      (limit_stop net station (clone_at (after net book.events).clones who).name)
       (most_handled net (length (after net book.events).clones)))
 
 -- all decisions are made before the simulation begins

@@ -114,7 +114,7 @@ pub record IsCutFor (words : Option Assignment) (before after : Outside) : Type 
   pub asks : words ≡ Some a
   pub cut : IsStudyCut (Comes before.inputs.files a) before.steps after.steps before.output after.output
 
--- this many texts are told before the line: none, or one, at the limit of a live study
+-- what is told before the line: nothing, or, at the limit of a live study, one text
 abbrev pub ArePreceded : Option Assignment → ℕ → List (List ℕ) → Type 0
 ArePreceded words status told = (told ≡ [])
     ⊎ ((status ≡ 7) × ((length told ≡ 1) × ((a : Assignment) × ((words ≡ Some a) × (a.mode ≡ Live)))))
@@ -127,11 +127,11 @@ pub record IsToldFor (words : Option Assignment) (before after : Outside) (statu
   pub preceded : ArePreceded words status told
   pub told_is : ArePutOrCut (told ++ line_of refusal ∷ []) before.errors after.errors
 
--- an ending comes, or the output's fault
-abbrev pub Meets : Ending → Type 0 → ℕ → Type 0
-Meets (whole_output texts work) output_failed status = (status ≡ 0) ⊎ ((status ≡ 8) × output_failed)
-Meets (early_stop stop) output_failed status = status ≡ stop_status stop
-Meets (overrun told stop most) output_failed status = status ≡ stop_status stop
+-- the status of an ending: of one that writes 0, or 8 with a fault of the output
+abbrev pub IsStatusOf : Ending → Type 0 → ℕ → Type 0
+IsStatusOf (whole_output texts work) output_failed status = (status ≡ 0) ⊎ ((status ≡ 8) × output_failed)
+IsStatusOf (early_stop stop) output_failed status = status ≡ stop_status stop
+IsStatusOf (overrun told stop most) output_failed status = status ≡ stop_status stop
 
 -- where the inputs have no fault a lawful ending comes, or out of memory; or the files are known, and one is not there
 abbrev pub Completes : Option Assignment → Outside → Outside → ℕ → Type 0
@@ -140,7 +140,7 @@ Completes (Some a) before after status = ¬ (InputsFailed before after)
     → (status ≡ 1)
     ⊎ (((status ≡ 3) × (IsUnread ⊥ a.source Model before.inputs.files ⊎ IsUnread ⊥ a.source Script before.inputs.files))
     ⊎ ((end : Ending) × (Comes before.inputs.files a end
-    × Meets end (HasRisen before.output.faults after.output.faults) status)))
+    × IsStatusOf end (HasRisen before.output.faults after.output.faults) status)))
 
 -- how many fetches the words ask for
 abbrev pub fetches_for : Option Assignment → ℕ

@@ -18,7 +18,7 @@ use Rattle.cloner_top.specs.declared.halt.Halt.{Halt}
 use Rattle.cloner_top.specs.declared.halt.Halt.TheVariants.{Refused, Overrun}
 use Rattle.cloner_top.specs.declared.refusal.Refusal.TheVariants.{OutOfMemory}
 use Rattle.cloner_top.specs.declared.stop.Stop.{Stop}
-use Rattle.cloner_top.specs.Endings.{MayLive, StoppedFor, limit_met, run_texts, whole_output}
+use Rattle.cloner_top.specs.Endings.{MayLive, StoppedFor, limit_stop, run_texts, whole_output}
 
 -- a live study of a script was run, and this is the text of its journal
 pub record HasRun (net : Net) (s : ScriptView) (old_steps new_steps : ℕ) (live : LiveRun) (text : List ℕ) : Type 0 where
@@ -46,7 +46,7 @@ IsOverrun text stop (Overrun journal is) = (journal.items ≡ text) × (is ≡ s
 abbrev pub HaltsFor : Net → List Event → List ℕ → StudyFault → Halt → Type 0
 HaltsFor net events text NoMemory halt = halt ≡ Refused OutOfMemory
 HaltsFor net events text (LimitMet station who) halt =
-    IsOverrun text (limit_met net station (clone_at (after net events).clones who).name) halt
+    IsOverrun text (limit_stop net station (clone_at (after net events).clones who).name) halt
 
 -- the world of a live study at the horizon, and the text of its journal
 pub record IsLiveWorld (net : Net) (s : ScriptView) (old_steps new_steps : ℕ) (world : WorldView) (text : List ℕ) :

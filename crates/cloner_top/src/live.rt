@@ -15,7 +15,7 @@ use crate::refusal::Refusal;
 use crate::running::stop_at;
 use command_words::Request;
 use crew_pool::{Gate, Workers};
-use live_study::{LiveRun, journal_of, live_study};
+use live_study::{LiveRun, live_journal_text, live_study};
 use net_model::Model;
 use sim_base::{NoMemory, Steps};
 use sim_outer::Sink;
@@ -72,7 +72,7 @@ fn journaled<G: Gate, L: Ledger, R: Threads + Wait + Sync>(
         },
     };
     let live = live_study(rt, alloc, &crew, gate, &study.model, &study.script, steps)?;
-    let journal = journal_of(alloc, &study.script, &live)?;
+    let journal = live_journal_text(alloc, &study.script, &live)?;
     Ok((live, journal))
 }
 

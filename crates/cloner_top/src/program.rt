@@ -2,7 +2,7 @@
 ghost use Rattle.std.specs.Prelude.{◌≡◌, ◌≢◌, ◌⊎◌, ◌≤◌, ◌∷◌, [], ℕ, IfErr, None, MatchBool, OnOk};
 ghost use Rattle.sim_outer.specs.Causes.{AreCounted, HasRisen};
 ghost use Rattle.command_words.specs.Requests.{request_view, source_view};
-ghost use Rattle.cloner_top.specs.Answers.{Comes, IsAnswer, IsDisobeyed, asked_by};
+ghost use Rattle.cloner_top.specs.Answers.{Comes, IsAnswer, IsDisobeyed, assignment_of};
 ghost use Rattle.cloner_top.specs.Endings.{DecidesFirst, MayEnd};
 ghost use Rattle.cloner_top.specs.Facts.{AreFewFetches, Completes, IsCutFor, IsStoppedFor};
 ghost use Rattle.cloner_top.specs.Facts.{IsToldFor, IsUnreadFor, IsWritten};
@@ -39,10 +39,10 @@ fn decide_and_write<O: Sink, G: Gate, L: Ledger, R: Threads + Wait + Sync>(
 ) -> Result<(), Refusal>
     requires first { DecidesFirst request.now.mode }
     ensures ok { OnOk result (IsStudyPut
-        (MayEnd (request_view request.now).asked study.now.model.value study.now.script) steps.old steps.new
+        (MayEnd (request_view request.now).assignment study.now.model.value study.now.script) steps.old steps.new
         (O.seen out.old) (O.seen out.new)) }
     ensures err { IfErr result (λ r. IsFailed
-        (MayEnd (request_view request.now).asked study.now.model.value study.now.script) steps.old steps.new
+        (MayEnd (request_view request.now).assignment study.now.model.value study.now.script) steps.old steps.new
         (O.seen out.old) (O.seen out.new) r) }
 {
     match plan_study(alloc, study) {
@@ -62,7 +62,7 @@ fn decides_first(mode: &Mode) -> bool
 }
 
 // Runs a study that was read, and writes it: its decisions are made first, or while it runs.
-fn write_read<O: Sink, G: Gate, L: Ledger, R: Threads + Wait + Sync>(
+fn run_and_write<O: Sink, G: Gate, L: Ledger, R: Threads + Wait + Sync>(
     rt: &R,
     alloc: Global,
     gate: &G,
@@ -72,10 +72,10 @@ fn write_read<O: Sink, G: Gate, L: Ledger, R: Threads + Wait + Sync>(
     steps: &mut Steps<L>,
 ) -> Result<(), Halt>
     ensures ok { OnOk result (IsStudyPut
-        (MayEnd (request_view request.now).asked study.now.model.value study.now.script) steps.old steps.new
+        (MayEnd (request_view request.now).assignment study.now.model.value study.now.script) steps.old steps.new
         (O.seen out.old) (O.seen out.new)) }
     ensures err { IfErr result (λ h. IsHalted
-        (MayEnd (request_view request.now).asked study.now.model.value study.now.script) steps.old steps.new
+        (MayEnd (request_view request.now).assignment study.now.model.value study.now.script) steps.old steps.new
         (O.seen out.old) (O.seen out.new) h) }
 {
     if !decides_first(&request.mode) {
@@ -97,10 +97,10 @@ fn obey<I: Inputs, O: Sink, G: Gate, L: Ledger, R: Threads + Wait + Sync>(
     gate: &G,
     steps: &mut Steps<L>,
 ) -> Result<(), Halt>
-    ensures ok { OnOk result (IsStudyPut (Comes (I.seen inputs.old).files (request_view request.now).asked) steps.old
-        steps.new (O.seen out.old) (O.seen out.new)) }
+    ensures ok { OnOk result (IsStudyPut (Comes (I.seen inputs.old).files (request_view request.now).assignment)
+        steps.old steps.new (O.seen out.old) (O.seen out.new)) }
     ensures err { IfErr result (λ h. IsDisobeyed (HasRisen (I.seen inputs.old).faults (I.seen inputs.new).faults)
-        (I.seen inputs.old).files (request_view request.now).asked steps.old steps.new
+        (I.seen inputs.old).files (request_view request.now).assignment steps.old steps.new
         (O.seen out.old) (O.seen out.new) h) }
     ensures later { (I.seen inputs.old).faults ≤ (I.seen inputs.new).faults }
     ensures same { (I.seen inputs.new).files ≡ (I.seen inputs.old).files }
@@ -110,7 +110,7 @@ fn obey<I: Inputs, O: Sink, G: Gate, L: Ledger, R: Threads + Wait + Sync>(
         × AreCounted n (I.seen inputs.old).calls (I.seen inputs.new).calls) }
 {
     match read_study(alloc, inputs, &request.source) {
-        Ok(study) => write_read(rt, alloc, gate, request, &study, out, steps),
+        Ok(study) => run_and_write(rt, alloc, gate, request, &study, out, steps),
         Err(refusal) => Err(Halt::Refused(refusal)),
     }
 }
@@ -150,7 +150,7 @@ fn words_refused(fault: WordsFault) -> Refusal
 }
 
 // The status, with the output or the line that tells why there is none.
-fn answer<I: Inputs, O: Sink, E: Sink, G: Gate, L: Ledger, R: Threads + Wait + Sync>(
+fn obey_or_complain<I: Inputs, O: Sink, E: Sink, G: Gate, L: Ledger, R: Threads + Wait + Sync>(
     rt: &R,
     alloc: Global,
     words: &[Word],
@@ -160,13 +160,13 @@ fn answer<I: Inputs, O: Sink, E: Sink, G: Gate, L: Ledger, R: Threads + Wait + S
     gate: &G,
     steps: &mut Steps<L>,
 ) -> u8
-    ensures answer { IsAnswer (asked_by words.now)
+    ensures answer { IsAnswer (assignment_of words.now)
         (record { inputs = I.seen inputs.old; output = O.seen out.old; errors = E.seen err.old; steps = steps.old })
         (record { inputs = I.seen inputs.new; output = O.seen out.new; errors = E.seen err.new; steps = steps.new })
         result }
     ensures later { (I.seen inputs.old).faults ≤ (I.seen inputs.new).faults }
     ensures same { (I.seen inputs.new).files ≡ (I.seen inputs.old).files }
-    ensures fetches { AreFewFetches (asked_by words.now)
+    ensures fetches { AreFewFetches (assignment_of words.now)
         (record { inputs = I.seen inputs.old; output = O.seen out.old; errors = E.seen err.old; steps = steps.old })
         (record { inputs = I.seen inputs.new; output = O.seen out.new; errors = E.seen err.new; steps = steps.new }) }
 {
@@ -211,45 +211,45 @@ pub fn cloner<R: Threads + Wait + Sync, I: Inputs, O: Sink, E: Sink, G: Gate, L:
     steps: &mut Steps<L>,
 ) -> u8
     // What each status says.
-    ensures finished { result ≡ 0 → IsWritten (asked_by words.now)
+    ensures finished { result ≡ 0 → IsWritten (assignment_of words.now)
         (record { inputs = I.seen inputs.old; output = O.seen out.old; errors = E.seen err.old; steps = steps.old })
         (record { inputs = I.seen inputs.new; output = O.seen out.new; errors = E.seen err.new; steps = steps.new }) }
-    ensures usage { (result ≡ 2 → asked_by words.now ≡ None)
-        × (asked_by words.now ≡ None → (result ≡ 1) ⊎ (result ≡ 2)) }
-    ensures unread { result ≡ 3 → IsUnreadFor (asked_by words.now)
+    ensures usage { (result ≡ 2 → assignment_of words.now ≡ None)
+        × (assignment_of words.now ≡ None → (result ≡ 1) ⊎ (result ≡ 2)) }
+    ensures unread { result ≡ 3 → IsUnreadFor (assignment_of words.now)
         (record { inputs = I.seen inputs.old; output = O.seen out.old; errors = E.seen err.old; steps = steps.old })
         (record { inputs = I.seen inputs.new; output = O.seen out.new; errors = E.seen err.new; steps = steps.new }) }
-    ensures refused { 4 ≤ result → result ≤ 7 → IsStoppedFor (asked_by words.now)
+    ensures refused { 4 ≤ result → result ≤ 7 → IsStoppedFor (assignment_of words.now)
         (record { inputs = I.seen inputs.old; output = O.seen out.old; errors = E.seen err.old; steps = steps.old })
         (record { inputs = I.seen inputs.new; output = O.seen out.new; errors = E.seen err.new; steps = steps.new })
         result }
-    ensures cut { result ≡ 8 → IsCutFor (asked_by words.now)
+    ensures cut { result ≡ 8 → IsCutFor (assignment_of words.now)
         (record { inputs = I.seen inputs.old; output = O.seen out.old; errors = E.seen err.old; steps = steps.old })
         (record { inputs = I.seen inputs.new; output = O.seen out.new; errors = E.seen err.new; steps = steps.new }) }
 
     // What stays as it was, what is told, and how much is done.
     ensures output_same { result ≢ 0 → result ≢ 8 →
         ((O.seen out.new).bytes ≡ (O.seen out.old).bytes) × ((O.seen out.new).calls ≡ (O.seen out.old).calls) }
-    ensures told { result ≢ 0 → IsToldFor (asked_by words.now)
+    ensures told { result ≢ 0 → IsToldFor (assignment_of words.now)
         (record { inputs = I.seen inputs.old; output = O.seen out.old; errors = E.seen err.old; steps = steps.old })
         (record { inputs = I.seen inputs.new; output = O.seen out.new; errors = E.seen err.new; steps = steps.new })
         result }
     ensures idle { 2 ≤ result → result ≤ 6 → steps.new ≡ steps.old }
-    ensures fetches { AreFewFetches (asked_by words.now)
+    ensures fetches { AreFewFetches (assignment_of words.now)
         (record { inputs = I.seen inputs.old; output = O.seen out.old; errors = E.seen err.old; steps = steps.old })
         (record { inputs = I.seen inputs.new; output = O.seen out.new; errors = E.seen err.new; steps = steps.new }) }
     ensures same { (I.seen inputs.new).files ≡ (I.seen inputs.old).files }
     ensures later { (I.seen inputs.old).faults ≤ (I.seen inputs.new).faults }
 
     // That a lawful ending comes, and all of this at once.
-    ensures complete { Completes (asked_by words.now)
+    ensures complete { Completes (assignment_of words.now)
         (record { inputs = I.seen inputs.old; output = O.seen out.old; errors = E.seen err.old; steps = steps.old })
         (record { inputs = I.seen inputs.new; output = O.seen out.new; errors = E.seen err.new; steps = steps.new })
         result }
-    ensures answer { IsAnswer (asked_by words.now)
+    ensures answer { IsAnswer (assignment_of words.now)
         (record { inputs = I.seen inputs.old; output = O.seen out.old; errors = E.seen err.old; steps = steps.old })
         (record { inputs = I.seen inputs.new; output = O.seen out.new; errors = E.seen err.new; steps = steps.new })
         result }
 {
-    answer(rt, alloc, words, inputs, out, err, gate, steps)
+    obey_or_complain(rt, alloc, words, inputs, out, err, gate, steps)
 }

@@ -21,7 +21,9 @@ use std::alloc::Global;
 /// Which of a study's two texts.
 #[derive(Clone, Copy, Debug, PartialEq, Eq)]
 pub enum Text {
+    /// The model.
     Model,
+    /// The script.
     Script,
 }
 
@@ -69,7 +71,7 @@ fn not_read(text: Text) -> Refusal
     }
 }
 
-/// One of the texts.
+/// One of the texts, out of its file or made of the number.
 pub(crate) fn fetch_text<I: Inputs>(
     alloc: Global,
     inputs: &mut I,

@@ -7,7 +7,7 @@ ghost use Rattle.study_run.specs.Accepted.{AllAccepted};
 ghost use Rattle.study_run.specs.Reports.{MayReport};
 ghost use Rattle.command_words.specs.Requests.{source_view};
 ghost use Rattle.cloner_top.specs.Endings.{DecidesFirst, MayRun, MayRunAlone, MaySimulate};
-ghost use Rattle.cloner_top.specs.Endings.{StoppedFor, limit_met, run_texts};
+ghost use Rattle.cloner_top.specs.Endings.{StoppedFor, limit_stop, run_texts};
 ghost use Rattle.cloner_top.specs.Outsides.{IsFailed, IsStudyPut};
 ghost use Rattle.cloner_top.specs.Refusals.{Stops};
 ghost use Rattle.trace_report.specs.Outputs.{report};
@@ -28,10 +28,11 @@ use std::thread::Threads;
 use study_run::{StudyCrew, StudyFault, run_alone, run_study};
 use world_core::World;
 
+/// The stop where a log would get longer than the limit: at this station, in the clone of this name.
 pub(crate) fn stop_at(model: &Model, station: u32, clone: Name) -> Stop
     requires first { 1 ≤ station }
     requires last { station ≤ length model.now.sites }
-    ensures { result ≡ limit_met model.now station clone }
+    ensures { result ≡ limit_stop model.now station clone }
 {
     Stop::LimitMet {
         limit: model.limit(),

@@ -33,7 +33,7 @@ pub enum Stop {
     },
 }
 
-fn model_refused(fault: &ModelFault) -> ErrorLine
+fn line_of_model(fault: &ModelFault) -> ErrorLine
     ensures { result ≡ model_line fault.now }
 {
     let mut line = ErrorLine::new();
@@ -57,7 +57,7 @@ fn push_key(line: &mut ErrorLine, fault: &ModelFault)
     }
 }
 
-fn script_refused(fault: &ScriptFault) -> ErrorLine
+fn line_of_script(fault: &ScriptFault) -> ErrorLine
     ensures { result ≡ script_line fault.now }
 {
     let mut line = ErrorLine::new();
@@ -69,7 +69,7 @@ fn script_refused(fault: &ScriptFault) -> ErrorLine
     line
 }
 
-fn decision_refused(reply: &Reply, number: u32) -> ErrorLine
+fn line_of_decision(reply: &Reply, number: u32) -> ErrorLine
     ensures { result ≡ decision_line reply.now number }
 {
     let mut line = ErrorLine::new();
@@ -81,7 +81,7 @@ fn decision_refused(reply: &Reply, number: u32) -> ErrorLine
     line
 }
 
-fn clone_missing(name: &Name) -> ErrorLine
+fn line_of_no_clone(name: &Name) -> ErrorLine
     ensures { result ≡ no_clone_line name.now }
 {
     let mut line = ErrorLine::new();
@@ -91,7 +91,7 @@ fn clone_missing(name: &Name) -> ErrorLine
     line
 }
 
-fn limit_met(limit: u64, station: &Name, clone: &Name) -> ErrorLine
+fn line_of_limit(limit: u64, station: &Name, clone: &Name) -> ErrorLine
     ensures { result ≡ limit_line limit station.now clone.now }
 {
     let mut line = ErrorLine::new();
@@ -132,15 +132,15 @@ impl Stop {
         ensures { result ≡ stop_line self.now }
     {
         match self {
-            Stop::BadModel(fault) => model_refused(fault),
-            Stop::BadScript(fault) => script_refused(fault),
-            Stop::Refused { reply, line } => decision_refused(reply, *line),
-            Stop::NoClone(name) => clone_missing(name),
+            Stop::BadModel(fault) => line_of_model(fault),
+            Stop::BadScript(fault) => line_of_script(fault),
+            Stop::Refused { reply, line } => line_of_decision(reply, *line),
+            Stop::NoClone(name) => line_of_no_clone(name),
             Stop::LimitMet {
                 limit,
                 station,
                 clone,
-            } => limit_met(*limit, station, clone),
+            } => line_of_limit(*limit, station, clone),
         }
     }
 }

@@ -15,7 +15,7 @@ use Rattle.clap.specs.Walk.{Row, Rule, Text, Waiting, default_rows, has_row, idl
 use Rattle.clap.specs.Walk.{finished, settled, with_default}
 use Rattle.clap.specs.declared.error.kind.ErrorKind.{ErrorKind}
 use Rattle.clap.specs.declared.error.kind.ErrorKind.TheVariants as kind
-use Rattle.command_words.specs.Application.{cloner}
+use Rattle.command_words.specs.Application.{cloner_app}
 use Rattle.command_words.specs.Clap.{ClapFindsTheValues, clap_values, unless_fault, up_to_three, values_in}
 use Rattle.command_words.specs.Rules.{DashedWord, OptionName, after_dashed, clone, dashed_word, ending, is_dashed}
 use Rattle.command_words.specs.Rules.{named, read, unknown, valued, values, with_positionals, with_value, workers}
@@ -419,7 +419,7 @@ walk_and_end walk below last defaults check b d k =
     ∙ ap (λ x. or_else walk x) (or_else-nil last)
 
 -- the command has no subcommand
-none_below : (stop : Option (Text × List Text)) → entered_fault (built cloner) stop ≡ []
+none_below : (stop : Option (Text × List Text)) → entered_fault (built cloner_app) stop ≡ []
 none_below None = refl
 none_below (Some p) = refl
 
@@ -468,7 +468,7 @@ cloner_has_no_default : AllByRecursion HasNoDefault shape.rules
 cloner_has_no_default = (refl, (refl, (refl, (refl, (refl, tt)))))
 
 -- the faults of a whole command line are those of the walk and of its end
-fault-start : (words : List Text) → fault_of cloner words
+fault-start : (words : List Text) → fault_of cloner_app words
     ≡ or_else (walk_fault shape [] (at [] None idle 1 false) words)
     (settle_fault shape.rules false (end_of (at [] None idle 1 false) words))
 fault-start words = walk_and_end (walk_fault shape [] (at [] None idle 1 false) words) _
@@ -480,7 +480,7 @@ fault-start words = walk_and_end (walk_fault shape [] (at [] None idle 1 false) 
 
 -- its rows are those of the walk, settled
 rows-start : (words : List Text)
-    → matches_of cloner words ≡ (settled shape.rules (end_of (at [] None idle 1 false) words)).rows
+    → matches_of cloner_app words ≡ (settled shape.rules (end_of (at [] None idle 1 false) words)).rows
 rows-start words = no_defaults shape.rules (settled shape.rules (end_of (at [] None idle 1 false) words)).rows
     cloner_has_no_default
 

@@ -16,14 +16,14 @@ use Rattle.clap.specs.declared.error.kind.ErrorKind.{ErrorKind}
 use Rattle.clap.specs.declared.error.kind.ErrorKind.TheVariants as kind
 use Rattle.clap.specs.declared.builder.value_parser.Reading.TheVariants.{AsWritten}
 use Rattle.clap.specs.declared.parser.matches.ValueSource.TheVariants.{CommandLine}
-use Rattle.command_words.specs.Application.{cloner}
+use Rattle.command_words.specs.Application.{cloner_app}
 use Rattle.command_words.specs.Clap.{unless_fault, values_in}
 use Rattle.command_words.specs.Rules.{OptionName, workers, clone}
 use Rattle.command_words.specs.Values.{Values}
 
 -- the command, built
 abbrev pub shape : Shape
-shape = (built cloner).top
+shape = (built cloner_app).top
 
 -- what the walk holds
 abbrev pub held : List Row → Option (Text × List Text) → Held

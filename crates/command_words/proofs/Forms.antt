@@ -26,16 +26,16 @@ form_by_few None = refl
 form_by_few (Some v) = form_of_few v.workers v.clone v.positionals
 
 -- what the values that were read ask for
-abbrev pub asked_by : Option Given → Option RequestView
-asked_by given = option_and_then (λ g. form_of (values_view g)) given
+abbrev pub form_given : Option Given → Option RequestView
+form_given given = option_and_then (λ g. form_of (values_view g)) given
 
 -- it is what their values ask for
-by_values : (given : Option Given) → asked_by given ≡ option_and_then form_of (option_map values_view given)
+by_values : (given : Option Given) → form_given given ≡ option_and_then form_of (option_map values_view given)
 by_values None = refl
 by_values (Some g) = refl
 
 -- so what clap finds asks for what the words ask for
 pub form_found : (words : List (List ℕ)) (given : Option Given)
-    → option_map values_view given ≡ option_and_then up_to_three (values words) → asked_by given ≡ form words
+    → option_map values_view given ≡ option_and_then up_to_three (values words) → form_given given ≡ form words
 form_found words given same =
     by_values given ∙ ap (λ (v : Option Values). option_and_then form_of v) same ∙ form_by_few (values words)

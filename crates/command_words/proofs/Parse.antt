@@ -13,17 +13,17 @@ use Rattle.clap.specs.declared.error.kind.ErrorKind.TheVariants.{OutOfMemory}
 use Rattle.clap.specs.declared.parser.matches.ArgMatches.{ArgMatches}
 use Rattle.clap.specs.declared.parser.matches.Found.{Found}
 use Rattle.clap.proofs.OnLiterals.{clap_on_literals}
-use Rattle.command_words.specs.Application.{cloner}
+use Rattle.command_words.specs.Application.{cloner_app}
 use Rattle.command_words.specs.Clap.{clap_values, unless_fault}
 use Rattle.command_words.specs.Values.{Values, positionals_of}
 
 -- clap says of the command what it finds in all words
-pub simple : is_simple cloner ≡ true
+pub simple : is_simple cloner_app ≡ true
 unfolding clap_on_literals
 simple = refl
 
 -- and when it refuses them
-pub simple_and_free : is_simple_and_free cloner ≡ true
+pub simple_and_free : is_simple_and_free cloner_app ≡ true
 unfolding clap_on_literals
 simple_and_free = refl
 
@@ -61,14 +61,14 @@ first_is : (f : Found) (id : List ℕ) → first_of id (rows_of f) ≡ first_val
 first_is f id = first_in f.entries.items id
 
 -- where clap refuses the words, it finds no values
-pub refused_words : (words : List (List ℕ)) (e : Error) → HasKind (fault_of cloner words) e
+pub refused_words : (words : List (List ℕ)) (e : Error) → HasKind (fault_of cloner_app words) e
     → (kind_of e ≡ OutOfMemory → ⊥) → None ≡ clap_values words
 unfolding clap_values
-refused_words words e h other = refused (fault_of cloner words) e _ h other
+refused_words words e h other = refused (fault_of cloner_app words) e _ h other
 
 -- where it takes them, it finds what it gives
-pub read_words : (words : List (List ℕ)) (m : ArgMatches) → fault_of cloner words ≡ []
-    → rows_of (found_of m) ≡ matches_of cloner words
+pub read_words : (words : List (List ℕ)) (m : ArgMatches) → fault_of cloner_app words ≡ []
+    → rows_of (found_of m) ≡ matches_of cloner_app words
     → Some (record {
       workers = first_value (found_of m) (codes "workers");
       clone = first_value (found_of m) (codes "clone");

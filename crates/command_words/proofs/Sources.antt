@@ -6,18 +6,19 @@ use Rattle.command_words.specs.declared.request.Mode.{Mode}
 use Rattle.command_words.specs.declared.request.Mode.TheVariants.{All, One, Live}
 use Rattle.command_words.specs.Numbers.{number_to}
 use Rattle.command_words.specs.Requests.{LiveIsNamed, RequestView, by_positionals, form_of, gen_form}
-use Rattle.command_words.specs.Requests.{is_text, made, named, of_one, of_two, solo_form, study_form, study_of}
-use Rattle.command_words.specs.Requests.{workers_of}
+use Rattle.command_words.specs.Requests.{form_of_one, form_of_two, is_text, made, named, solo_form, study_form}
+use Rattle.command_words.specs.Requests.{study_of, workers_of}
 use Rattle.command_words.specs.Rules.{values}
 use Rattle.command_words.specs.Values.{Values}
 
 -- in mode Live they are two files by their names
 abbrev IsNamedIfLive : RequestView → Type 0
-IsNamedIfLive r = r.asked.mode ≡ Live → (model : List ℕ) × (script : List ℕ) × (r.asked.source ≡ named model script)
+IsNamedIfLive r = r.assignment.mode ≡ Live
+    → (model : List ℕ) × (script : List ℕ) × (r.assignment.source ≡ named model script)
 
 -- what may be asked, likewise
 abbrev AreNamedIfLive : Option RequestView → Type 0
-AreNamedIfLive asked = IfSome asked IsNamedIfLive
+AreNamedIfLive request = IfSome request IsNamedIfLive
 
 -- ---- if
 -- a choice of two, where both are so
@@ -72,14 +73,14 @@ gen number workers None = gen_by (number_to 999999 number) (workers_of workers)
 
 -- the modes of two positionals more
 two : (mode model script : List ℕ) (workers clone : Option (List ℕ))
-    → AreNamedIfLive (of_two mode model script workers clone)
+    → AreNamedIfLive (form_of_two mode model script workers clone)
 two mode model script workers clone =
     cond-named (bytes_eq mode (codes "run")) _ _ (study All model script workers clone)
     (cond-named (bytes_eq mode (codes "solo")) _ _ (solo model script workers clone)
     (cond-named (bytes_eq mode (codes "live")) _ None (study Live model script workers clone) tt))
 
 -- the mode of one positional more
-one : (mode number : List ℕ) (workers clone : Option (List ℕ)) → AreNamedIfLive (of_one mode number workers clone)
+one : (mode number : List ℕ) (workers clone : Option (List ℕ)) → AreNamedIfLive (form_of_one mode number workers clone)
 one mode number workers clone = cond-named (bytes_eq mode (codes "gen")) _ None (gen number workers clone) tt
 
 -- any positionals

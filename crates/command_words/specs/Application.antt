@@ -18,7 +18,7 @@ abbrev pub bare_app : App
 bare_app = on_top (λ s. record s { no_binary_name = true; disable_help_flag = true }) (new_app (codes "cloner"))
 
 -- the command with its two options and its three positionals
-abbrev pub cloner : App
-cloner =
+abbrev pub cloner_app : App
+cloner_app =
     with_rule (with_rule (with_rule (with_rule (with_rule bare_app (option (codes "workers"))) (option (codes "clone")))
     (positional (codes "mode"))) (positional (codes "first"))) (positional (codes "second"))

@@ -4,7 +4,7 @@ use Rattle.std.specs.Prelude.{option_and_then}
 use Rattle.std.specs.List.{list_all}
 use Rattle.std.specs.Str.{is_utf8}
 use Rattle.clap.specs.Words.{Row, Kinds, fault_of, matches_of, first_of}
-use Rattle.command_words.specs.Application.{cloner}
+use Rattle.command_words.specs.Application.{cloner_app}
 use Rattle.command_words.specs.Rules.{values}
 use Rattle.command_words.specs.Values.{Values, positionals_of}
 
@@ -24,7 +24,7 @@ unless_fault (k ∷ ks) found = None
 
 -- the values that clap finds for its command, None where it refuses the words
 unfoldable pub clap_values : List (List ℕ) → Option Values
-clap_values words = unless_fault (fault_of cloner words) (Some (values_in (matches_of cloner words)))
+clap_values words = unless_fault (fault_of cloner_app words) (Some (values_in (matches_of cloner_app words)))
 
 -- clap's command has three positionals
 abbrev pub up_to_three : Values → Option Values

@@ -24,31 +24,31 @@ AreRight examples = map (λ e. form e.words) examples ≡ map (λ e. e.asks) exa
 -- all clones of the texts m and s, by so many workers
 abbrev pub run_by : ℕ → Option RequestView
 run_by workers = Some (record {
-  asked = record { mode = All; source = named (codes "m") (codes "s") };
+  assignment = record { mode = All; source = named (codes "m") (codes "s") };
   workers = workers;
 })
 
 -- the clone `fast` of the texts m and s
 abbrev pub solo_fast : Option RequestView
 solo_fast = Some (record {
-  asked = record { mode = One (codes "fast"); source = named (codes "m") (codes "s") };
+  assignment = record { mode = One (codes "fast"); source = named (codes "m") (codes "s") };
   workers = 1;
 })
 
 -- all clones of the texts m and s, while analysts decide, by so many workers
 abbrev pub live_by : ℕ → Option RequestView
 live_by workers = Some (record {
-  asked = record { mode = Live; source = named (codes "m") (codes "s") };
+  assignment = record { mode = Live; source = named (codes "m") (codes "s") };
   workers = workers;
 })
 
 -- what is made of a number, by so many workers
 abbrev pub gen_by : ℕ → ℕ → Option RequestView
-gen_by number workers = Some (record { asked = record { mode = All; source = made number }; workers = workers })
+gen_by number workers = Some (record { assignment = record { mode = All; source = made number }; workers = workers })
 
 -- all clones of two texts with odd names, by one worker
-abbrev pub run_texts : List ℕ → List ℕ → Option RequestView
-run_texts model script = Some (record { asked = record { mode = All; source = named model script }; workers = 1 })
+abbrev pub run_named : List ℕ → List ℕ → Option RequestView
+run_named model script = Some (record { assignment = record { mode = All; source = named model script }; workers = 1 })
 
 -- the modes; without --workers there is one worker
 abbrev pub modes : List Example
@@ -106,10 +106,10 @@ dashes =
     ∷ line (codes "--workers=2 run -- m s") (run_by 2)
     ∷ line (codes "run m s --") (run_by 1)
     ∷ line (codes "run -- m s --workers 4") None
-    ∷ line (codes "run m -") (run_texts (codes "m") (codes "-"))
+    ∷ line (codes "run m -") (run_named (codes "m") (codes "-"))
     ∷ line (codes "run -m s") None
-    ∷ line (codes "run -- -m --workers") (run_texts (codes "-m") (codes "--workers"))
-    ∷ line (codes "run -- m --") (run_texts (codes "m") (codes "--"))
+    ∷ line (codes "run -- -m --workers") (run_named (codes "-m") (codes "--workers"))
+    ∷ line (codes "run -- m --") (run_named (codes "m") (codes "--"))
     ∷ []
 
 -- the positionals are in number exactly, and none is empty

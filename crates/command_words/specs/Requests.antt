@@ -24,7 +24,7 @@ pub record Assignment : Type 0 where
 
 -- what is asked, and by how many workers it is done
 pub record RequestView : Type 0 where
-  pub asked : Assignment
+  pub assignment : Assignment
   pub workers : ℕ
 
 -- where a request's texts come from, as plain data
@@ -34,7 +34,7 @@ source_view (Made number) = made number
 
 -- a request as plain data
 abbrev pub request_view : Request → RequestView
-request_view r = record { asked = record { mode = r.mode; source = source_view r.source }; workers = r.workers }
+request_view r = record { assignment = record { mode = r.mode; source = source_view r.source }; workers = r.workers }
 
 -- a positional is not empty
 abbrev pub is_text : List ℕ → Bool
@@ -48,7 +48,7 @@ workers_of (Some word) = number_to 16 word
 
 -- a study of these texts
 abbrev pub study_of : Mode → Source → ℕ → RequestView
-study_of mode source workers = record { asked = record { mode = mode; source = source }; workers = workers }
+study_of mode source workers = record { assignment = record { mode = mode; source = source }; workers = workers }
 
 -- `run MODEL SCRIPT [--workers N]` and `live MODEL SCRIPT [--workers N]`
 abbrev pub study_form : Mode → List ℕ → List ℕ → Option (List ℕ) → Option (List ℕ) → Option RequestView
@@ -73,21 +73,21 @@ gen_form number workers None = option_and_then (λ n. option_map (study_of All (
     (number_to 999999 number)
 
 -- the modes of two positionals more; a later mode of two names is one `else if` more
-abbrev pub of_two : List ℕ → List ℕ → List ℕ → Option (List ℕ) → Option (List ℕ) → Option RequestView
-of_two mode model script workers clone =
+abbrev pub form_of_two : List ℕ → List ℕ → List ℕ → Option (List ℕ) → Option (List ℕ) → Option RequestView
+form_of_two mode model script workers clone =
     if bytes_eq mode (codes "run") then study_form All model script workers clone
     else if bytes_eq mode (codes "solo") then solo_form model script workers clone
     else if bytes_eq mode (codes "live") then study_form Live model script workers clone
     else None
 
 -- the modes of one positional more
-abbrev pub of_one : List ℕ → List ℕ → Option (List ℕ) → Option (List ℕ) → Option RequestView
-of_one mode number workers clone = if bytes_eq mode (codes "gen") then gen_form number workers clone else None
+abbrev pub form_of_one : List ℕ → List ℕ → Option (List ℕ) → Option (List ℕ) → Option RequestView
+form_of_one mode number workers clone = if bytes_eq mode (codes "gen") then gen_form number workers clone else None
 
 -- the first positional is the mode, and the mode says how many follow
 abbrev pub by_positionals : List (List ℕ) → Option (List ℕ) → Option (List ℕ) → Option RequestView
-by_positionals (mode ∷ model ∷ script ∷ []) workers clone = of_two mode model script workers clone
-by_positionals (mode ∷ number ∷ []) workers clone = of_one mode number workers clone
+by_positionals (mode ∷ model ∷ script ∷ []) workers clone = form_of_two mode model script workers clone
+by_positionals (mode ∷ number ∷ []) workers clone = form_of_one mode number workers clone
 by_positionals _ workers clone = None
 
 -- what the values ask for, None where they have no known form
@@ -100,5 +100,5 @@ form words = option_and_then form_of (values words)
 
 -- where analysts decide, the texts are two files by their names
 abbrev pub LiveIsNamed : Type 0
-LiveIsNamed = (words : List (List ℕ)) (r : RequestView) → form words ≡ Some r → r.asked.mode ≡ Live
-    → (model : List ℕ) × (script : List ℕ) × (r.asked.source ≡ named model script)
+LiveIsNamed = (words : List (List ℕ)) (r : RequestView) → form words ≡ Some r → r.assignment.mode ≡ Live
+    → (model : List ℕ) × (script : List ℕ) × (r.assignment.source ≡ named model script)

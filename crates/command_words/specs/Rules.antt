@@ -47,7 +47,8 @@ abbrev pub with_positionals : List (List ℕ) → Values → Values
 with_positionals words v = record v { positionals = v.positionals ++ words }
 
 -- after a word that begins with `-`, where `read_on` reads the words behind it
-abbrev pub after_dashed : DashedWord → List (List ℕ) → (Option OptionName → Values → Option Values) → Values → Option Values
+abbrev pub after_dashed : DashedWord → List (List ℕ) → (Option OptionName → Values → Option Values) → Values
+    → Option Values
 after_dashed ending rest read_on v = Some (with_positionals rest v)
 after_dashed (named name) rest read_on v = read_on (Some name) v
 after_dashed (valued name value) rest read_on v = option_and_then (read_on None) (with_value name value v)

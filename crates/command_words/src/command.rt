@@ -1,7 +1,7 @@
 //! The command that the words are read by.
 ghost use Rattle.std.specs.Prelude.{◌≡◌, IfOk, false};
 ghost use Rattle.clap.specs.Words.{app_of, rule_of, with_rule};
-ghost use Rattle.command_words.specs.Application.{cloner, bare_app, option, positional};
+ghost use Rattle.command_words.specs.Application.{cloner_app, bare_app, option, positional};
 
 use clap::{Arg, ArgAction, Command};
 use std::alloc::{AllocError, Global};
@@ -35,9 +35,9 @@ fn with_arg<'a>(command: Command<'a>, arg: Arg<'a>) -> Result<Command<'a>, Alloc
     command.arg(arg)
 }
 
-/// The command.
+/// The command: two options, and up to three positionals.
 pub(crate) fn command<'a>(alloc: Global) -> Result<Command<'a>, AllocError>
-    ensures value { IfOk result (λ c. app_of c ≡ cloner) }
+    ensures value { IfOk result (λ c. app_of c ≡ cloner_app) }
 {
     let command = with_arg(bare_command(alloc), option_arg(alloc, "workers"))?;
     let command = with_arg(command, option_arg(alloc, "clone"))?;

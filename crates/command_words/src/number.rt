@@ -1,10 +1,11 @@
 //! The numbers of a command line: decimal, from 1, without leading zero or sign.
 ghost use Rattle.std.specs.Prelude.{◌≡◌, ◌≤◌, IfSome};
-ghost use Rattle.command_words.specs.Numbers.{is_positive, number_to as told};
+ghost use Rattle.command_words.specs.Numbers.{is_positive, number_to as number_in};
 
 use sim_base::number::{are_digits, may_lead, value};
 
-const MOST_DIGITS: usize = 6;
+// The digits of the greatest number that any command line may have.
+const LONGEST_NUMBER: usize = 6;
 
 fn is_positive_number(word: &[u8]) -> bool
     ensures value { result ≡ is_positive word.now }
@@ -18,11 +19,11 @@ fn is_positive_number(word: &[u8]) -> bool
 /// The number from 1 to `most` that the word writes.
 #[tactic(auto, using(crate::proofs::Digits::positive_digits))]
 pub(crate) fn number_to(most: u32, word: &[u8]) -> Option<u32>
-    ensures value { result ≡ told most word.now }
+    ensures value { result ≡ number_in most word.now }
     ensures some { IfSome result (λ n. 1 ≤ n) }
     ensures few { IfSome result (λ n. n ≤ most) }
 {
-    if !is_positive_number(word) || word.len() > MOST_DIGITS {
+    if !is_positive_number(word) || word.len() > LONGEST_NUMBER {
         return None;
     }
     let number = value(word);

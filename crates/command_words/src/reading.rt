@@ -1,6 +1,6 @@
 //! The reading of a command line: from its words to a request.
 ghost use Rattle.std.specs.Prelude.{◌≡◌, ◌⊎◌, ◌≤◌, IfOk, IfSome, None, Err, option_map};
-ghost use Rattle.command_words.specs.Requests.{form, form_of, is_text as is_text_of, of_one, of_two};
+ghost use Rattle.command_words.specs.Requests.{form, form_of, form_of_one, form_of_two, is_text as is_text_of};
 ghost use Rattle.command_words.specs.Requests.{gen_form, solo_form, study_form, request_view, workers_of as workers_in};
 ghost use Rattle.command_words.specs.Views.{values_view};
 
@@ -101,7 +101,7 @@ fn request_of_two<'a>(
     workers: Option<&str>,
     clone: Option<&str>,
 ) -> Option<Request<'a>>
-    ensures value { option_map request_view result ≡ of_two mode.now model.entry.now script.entry.now
+    ensures value { option_map request_view result ≡ form_of_two mode.now model.entry.now script.entry.now
         (option_map (λ s. s.now) workers.entry) (option_map (λ s. s.now) clone.entry) }
 {
     if mode == "run" {
@@ -121,7 +121,7 @@ fn request_of_one<'a>(
     workers: Option<&str>,
     clone: Option<&str>,
 ) -> Option<Request<'a>>
-    ensures value { option_map request_view result ≡ of_one mode.now number.now
+    ensures value { option_map request_view result ≡ form_of_one mode.now number.now
         (option_map (λ s. s.now) workers.entry) (option_map (λ s. s.now) clone.entry) }
 {
     if mode == "gen" {

@@ -33,8 +33,11 @@ pub enum Source<'a> {
 /// What is to be done, and by how many workers.
 #[derive(Clone, Copy, Debug)]
 pub struct Request<'a> {
+    /// Which clones are run.
     pub mode: Mode,
+    /// Where their texts come from.
     pub source: Source<'a>,
+    /// How many workers run them, from 1 to [`MOST_WORKERS`].
     pub workers: u32,
     ghost some: { 1 ≤ workers },
     ghost few: { workers ≤ MOST_WORKERS },

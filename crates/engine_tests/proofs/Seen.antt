@@ -3,7 +3,7 @@ use Rattle.std.proofs.Common.{◌≡◌, ℕ, ◌<◌, ◌≤◌, List, [], ◌�
 use Rattle.std.specs.List.{AllByRecursion}
 use Rattle.net_model.specs.Net.{Net}
 use Rattle.phys_proc.specs.Racks.{RackView}
-use Rattle.shelf.specs.Racks.{MayComeAfter, MayFollow}
+use Rattle.shelf.specs.Racks.{MayFollow}
 use Rattle.engine_tests.specs.Seen.{AreSeenUpTo}
 
 -- what holds of a list and of one more holds of both together

@@ -1,4 +1,4 @@
-//! What no clause says: calls that find memory, which worker runs what, and when the gate is called.
+//! Crews: calls that find memory, which worker runs what, and when the gate is called.
 ghost use Rattle.std.specs.Prelude.{◌≡◌, ◌<◌, ◌≤◌, length, IfOk};
 ghost use Rattle.crew_pool.specs.declared.crew.TheConstants.{MOST_TASKS};
 
@@ -118,7 +118,7 @@ pub(crate) fn are_answers(outs: &[Vec<u64>], tasks: u32) -> bool {
 }
 
 /// Whether so many tasks behind a gate have the answers that they should.
-fn answers_stand<C: Crew, G: Gate, R: Threads + Wait + Sync>(
+fn has_answers<C: Crew, G: Gate, R: Threads + Wait + Sync>(
     rt: &R,
     alloc: Global,
     crew: &C,
@@ -149,9 +149,9 @@ fn is_refused<C: Crew, R: Threads + Wait + Sync>(rt: &R, alloc: Global, crew: &C
 
 /// Whether no task, one, and the most have their answers, and five of which the third is out of memory have none.
 fn all_sizes<C: Crew, R: Threads + Wait + Sync>(rt: &R, alloc: Global, crew: &C) -> bool {
-    answers_stand(rt, alloc, crew, &NoGate, false, 0)
-        && answers_stand(rt, alloc, crew, &NoGate, false, 1)
-        && answers_stand(rt, alloc, crew, &NoGate, false, 64)
+    has_answers(rt, alloc, crew, &NoGate, false, 0)
+        && has_answers(rt, alloc, crew, &NoGate, false, 1)
+        && has_answers(rt, alloc, crew, &NoGate, false, 64)
         && is_refused(rt, alloc, crew)
 }
 
@@ -181,8 +181,8 @@ fn in_order<C: Crew, R: Threads + Wait + Sync>(
     let gate = InOrder {
         calls: AtomicU64::new(0),
     };
-    let stand = answers_stand(rt, alloc, crew, &gate, small, 5);
-    stand && gate.calls.load(Ordering::SeqCst) == 5
+    let right = has_answers(rt, alloc, crew, &gate, small, 5);
+    right && gate.calls.load(Ordering::SeqCst) == 5
 }
 
 /// Holds the first task begun until a second worker has begun one, and then counts their meeting.
@@ -220,8 +220,8 @@ fn meet<C: Crew, R: Threads + Wait + Sync>(rt: &R, alloc: Global, crew: &C) -> b
         first: AtomicU64::new(0),
         meetings: AtomicU64::new(0),
     };
-    let stand = answers_stand(rt, alloc, crew, &gate, false, 5);
-    stand && gate.meetings.load(Ordering::SeqCst) == 1
+    let right = has_answers(rt, alloc, crew, &gate, false, 5);
+    right && gate.meetings.load(Ordering::SeqCst) == 1
 }
 
 /// Holds one task until the other four have begun, and notes where it gave up.
@@ -258,12 +258,12 @@ fn are_stolen<R: Threads + Wait + Sync>(rt: &R, alloc: Global, held: u32) -> boo
         begun: AtomicU64::new(0),
         gave_up: AtomicU64::new(0),
     };
-    let stand = answers_stand(rt, alloc, &Stealing { workers }, &gate, false, 5);
-    stand && gate.gave_up.load(Ordering::SeqCst) == 0 && gate.begun.load(Ordering::SeqCst) == 4
+    let right = has_answers(rt, alloc, &Stealing { workers }, &gate, false, 5);
+    right && gate.gave_up.load(Ordering::SeqCst) == 0 && gate.begun.load(Ordering::SeqCst) == 4
 }
 
 /// Whether so many workers answer all sizes, in both crews.
-fn both_crews_stand<R: Threads + Wait + Sync>(rt: &R, alloc: Global, count: u32) -> bool {
+fn both_crews_answer<R: Threads + Wait + Sync>(rt: &R, alloc: Global, count: u32) -> bool {
     match Workers::new(count) {
         Some(workers) => {
             workers.count == count
@@ -294,7 +294,7 @@ fn workers_meet(rt: HostRuntime) {
     assert!(rt; meet(&rt, rt.alloc(), &Stealing { workers }));
 }
 
-// Where the tasks were dealt to the workers beforehand, one of the two runs would give up.
+/// Where the tasks were dealt to the workers beforehand, one of the two runs would give up.
 #[test]
 fn tasks_stolen(rt: HostRuntime) {
     assert!(rt; are_stolen(&rt, rt.alloc(), 0) && are_stolen(&rt, rt.alloc(), 1));
@@ -304,6 +304,6 @@ fn tasks_stolen(rt: HostRuntime) {
 fn one_to_sixteen_workers(rt: HostRuntime) {
     assert!(rt; Workers::new(0).is_none() && Workers::new(17).is_none());
     for count in 1..17u32 {
-        assert!(rt; both_crews_stand(&rt, rt.alloc(), count));
+        assert!(rt; both_crews_answer(&rt, rt.alloc(), count));
     }
 }

@@ -54,7 +54,7 @@ fn have_seen(live: &LiveRun, stations: &[bool]) -> bool {
 }
 
 /// Whether the run came to its end, how many fronts there are, and what each look saw.
-fn looks_stand<R: Threads + Wait + Sync>(rt: &R, alloc: Global) -> Option<bool> {
+fn looks_are_right<R: Threads + Wait + Sync>(rt: &R, alloc: Global) -> Option<bool> {
     let live = run_counted::<Serial, Brand, R>(rt, alloc, &Serial, Blank::new(1))?;
     Some(
         live.run.is_ok()
@@ -65,5 +65,5 @@ fn looks_stand<R: Threads + Wait + Sync>(rt: &R, alloc: Global) -> Option<bool> 
 
 #[test]
 fn looks_are_told_in_order(rt: HostRuntime) {
-    assert!(rt; looks_stand(&rt, rt.alloc()) == Some(true));
+    assert!(rt; looks_are_right(&rt, rt.alloc()) == Some(true));
 }

@@ -339,7 +339,7 @@ fn beside<J: Naming + Send + Sync, W: Wait + Drop + Send, R: Threads + Wait + Sy
 
 /// Whether a look before any publish gives the opening rack, one after it the rack that was published, each seat can
 /// be told of it once, and the stocker goes on when its readers are gone.
-fn looks_stand<J: Naming, W: Wait + Drop, R: Threads + Wait + Sync>(
+fn looks_are_right<J: Naming, W: Wait + Drop, R: Threads + Wait + Sync>(
     rt: &R,
     alloc: Global,
     world: World,
@@ -377,7 +377,7 @@ fn one_by_one<J: Naming, W: Wait + Drop, R: Threads + Wait + Sync>(
 {
     let (world, stocker, seats) = begun::<J, W>(waits, alloc, opened)?;
     let (one, two) = two_of(seats)?;
-    looks_stand(rt, alloc, world, stocker, one, two, who)
+    looks_are_right(rt, alloc, world, stocker, one, two, who)
 }
 
 /// The clone that every model has.

@@ -1,4 +1,4 @@
-//! What no clause says of teams: calls that find memory, workers that take their part, and what is left to the caller.
+//! Teams of workers that stay: calls that find memory, workers that take their part, and what is left to the caller.
 ghost use Rattle.std.specs.Prelude.{◌≡◌, ◌<◌, ◌≤◌, length};
 ghost use Rattle.crew_pool.specs.declared.crew.TheConstants.{MOST_TASKS};
 
@@ -105,9 +105,9 @@ fn lead<G: Gate, R: Threads + Wait + Sync>(
     team: Team<Appends>,
     bell: &Bell,
 ) -> bool {
-    let stand = all_sizes(rt, alloc, gate, team);
+    let right = all_sizes(rt, alloc, gate, team);
     bell.end();
-    stand
+    right
 }
 
 /// The same beside these workers of the team.
@@ -119,12 +119,12 @@ fn lead_beside<G: Gate, R: Threads + Wait + Sync>(
     members: Vec<Member<Appends>>,
     bell: &Bell,
 ) -> bool {
-    let (_, stand) = thread::join(
+    let (_, right) = thread::join(
         rt,
         move || serve_all(rt, alloc, gate, bell, members),
         move || lead(rt, alloc, gate, team, bell),
     );
-    stand
+    right
 }
 
 /// A team of so many.
@@ -189,14 +189,14 @@ fn teams_of_one_to_sixteen(rt: HostRuntime) {
     }
 }
 
-// The caller's second task is held until a worker has begun one.
+/// The caller's second task is held until a worker has begun one.
 #[test]
 fn workers_take_their_part(rt: HostRuntime) {
     let gate = Helped {
         tasks: AtomicU64::new(0),
     };
-    let stand = all_sizes_beside(&rt, rt.alloc(), &gate, 2) == Some(true);
-    assert!(rt; stand && gate.tasks.load(Ordering::SeqCst) != 0);
+    let right = all_sizes_beside(&rt, rt.alloc(), &gate, 2) == Some(true);
+    assert!(rt; right && gate.tasks.load(Ordering::SeqCst) != 0);
 }
 
 #[test]

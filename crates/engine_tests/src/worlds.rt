@@ -665,8 +665,8 @@ fn windows_counted(rt: HostRuntime) {
     let gate = Counts {
         calls: AtomicU64::new(0),
     };
-    let stands = windows_are(&rt, rt.alloc(), &Serial, &gate) == Some(true);
-    assert!(rt; stands && gate.calls.load(Ordering::SeqCst) == 21);
+    let right = windows_are(&rt, rt.alloc(), &Serial, &gate) == Some(true);
+    assert!(rt; right && gate.calls.load(Ordering::SeqCst) == 21);
 }
 
 #[test]
@@ -688,8 +688,8 @@ fn busy_windows_run_on_two_threads(rt: HostRuntime) {
         Some(world) => three_windows(&rt, rt.alloc(), &gate, world),
         None => None,
     };
-    let stands = have_come(world);
-    assert!(rt; stands && gate.workers.load(Ordering::SeqCst) == 0b11);
+    let right = have_come(world);
+    assert!(rt; right && gate.workers.load(Ordering::SeqCst) == 0b11);
 }
 
 #[test]
@@ -700,8 +700,8 @@ fn busy_windows_run_by_a_team(rt: HostRuntime) {
             workers: AtomicU64::new(0),
         },
     };
-    let stands = have_come(three_windows_by_team(&rt, rt.alloc(), &gate));
-    assert!(rt; stands && gate.ran.workers.load(Ordering::SeqCst) == 0b11);
+    let right = have_come(three_windows_by_team(&rt, rt.alloc(), &gate));
+    assert!(rt; right && gate.ran.workers.load(Ordering::SeqCst) == 0b11);
 }
 
 #[test]

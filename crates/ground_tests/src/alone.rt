@@ -2,18 +2,15 @@
 ghost use Rattle.std.specs.Prelude.{◌≡◌, ◌<◌, IfSome};
 ghost use Rattle.solo_run.specs.SoloView.{IsSolo};
 
-mod models;
 mod traces;
 
 use log_chain::Log;
-use models::{CLASSES, DRAWN_GATE, FAN_BY_TURN};
 use net_model::{Model, read_model};
-use sample_models::{NO_ROOM, ONE_DESK};
+use sample_models::{CLASSES, DRAWN_GATE, FAN_BY_TURN, NO_ROOM, ONE_DESK};
 use sim_base::{Change, Entry, Param, Planned, Steps};
 use solo_run::Solo;
 use std::alloc::Global;
 use std::marker::Brand;
-use std::process::Abort;
 use std::sync::ledger::{Blank, Ledger};
 use std::test::Fail;
 use traces::{

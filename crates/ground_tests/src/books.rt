@@ -6,7 +6,6 @@ use net_model::read_model;
 use sample_models::ONE_DESK;
 use sim_base::{Decision, Name, NoMemory};
 use std::alloc::Global;
-use std::process::Abort;
 use std::sync::Arc;
 use std::test::Fail;
 

@@ -9,7 +9,7 @@ use trace_cursor::Cursor;
 
 struct Row {
     shows: &'static str,
-    // time, sender and number of each entry, log after log
+    /// Time, sender and number of each entry, log after log
     logs: &'static [&'static [(u64, u32, u64)]],
 }
 
@@ -56,7 +56,7 @@ const ROWS: &[Row] = &[
     },
 ];
 
-// An entry with this key, from the log at a place.
+/// An entry with this key, from the log at a place.
 fn entry(key: Key, place: u32) -> Entry {
     Entry {
         msg: Msg {
@@ -70,7 +70,7 @@ fn entry(key: Key, place: u32) -> Entry {
     }
 }
 
-// A log of these keys.
+/// A log of these keys.
 fn log_of(alloc: Global, keys: &[(u64, u32, u64)], place: u32) -> Result<Log, NoMemory> {
     let mut log = Log::new(alloc);
     for &(time, sender, number) in keys {
@@ -84,7 +84,7 @@ fn log_of(alloc: Global, keys: &[(u64, u32, u64)], place: u32) -> Result<Log, No
     Ok(log)
 }
 
-// Puts all of the logs into a cursor, where their keys fit words.
+/// Puts all of the logs into a cursor, where their keys fit words.
 fn fill<'a>(cursor: &mut Cursor<'a>, logs: &'a [Log]) -> bool
     requires places { length logs.now ≤ cursor.old.most }
     ensures most { cursor.new.most ≡ cursor.old.most }
@@ -99,7 +99,7 @@ fn fill<'a>(cursor: &mut Cursor<'a>, logs: &'a [Log]) -> bool
     true
 }
 
-// Whether a cursor gives these keys next, each from the log at this place.
+/// Whether a cursor gives these keys next, each from the log at this place.
 fn gives(cursor: &mut Cursor<'_>, want: &[(Key, u32)]) -> bool
     ensures most { cursor.new.most ≡ cursor.old.most }
 {
@@ -114,22 +114,28 @@ fn gives(cursor: &mut Cursor<'_>, want: &[(Key, u32)]) -> bool
     true
 }
 
-// The keys of all logs by a sort, each with the place of its log.
+/// Adds the keys of a log, each with the place of the log.
+fn add_keys(found: &mut Vec<(Key, u32)>, log: &Log) -> Result<(), NoMemory> {
+    let mut walk = log.walk_from(0);
+    for _ in 0..log.len() {
+        if let Some(entry) = walk.next() {
+            found.push((entry.msg.key, entry.msg.to))?;
+        }
+    }
+    Ok(())
+}
+
+/// The keys of all logs by a sort, each with the place of its log.
 fn sorted(alloc: Global, logs: &[Log]) -> Result<Vec<(Key, u32)>, NoMemory> {
     let mut found = Vec::new(alloc);
     for log in logs {
-        let mut walk = log.walk_from(0);
-        for _ in 0..log.len() {
-            if let Some(entry) = walk.next() {
-                found.push((entry.msg.key, entry.msg.to))?;
-            }
-        }
+        add_keys(&mut found, log)?;
     }
     found.sort()?;
     Ok(found)
 }
 
-// Whether a cursor that was left in the middle gives these keys from the front, and then ends.
+/// Whether a cursor that was left in the middle gives these keys from the beginning, and then ends.
 fn gives_again<'a>(cursor: &mut Cursor<'a>, logs: &'a [Log], want: &[(Key, u32)]) -> bool
     requires places { length logs.now ≤ cursor.old.most }
 {
@@ -141,7 +147,7 @@ fn gives_again<'a>(cursor: &mut Cursor<'a>, logs: &'a [Log], want: &[(Key, u32)]
         && cursor.next().is_none()
 }
 
-// Whether a cursor gives what a sort does.
+/// Whether a cursor gives what a sort does.
 fn merges(alloc: Global, logs: &[Log]) -> Result<bool, NoMemory> {
     if logs.len() > 64 {
         return Ok(false);
@@ -151,7 +157,7 @@ fn merges(alloc: Global, logs: &[Log]) -> Result<bool, NoMemory> {
     Ok(gives_again(&mut cursor, logs, want.as_slice()))
 }
 
-// A log for each of these lists of keys, of which there are at most 64.
+/// A log for each of these lists of keys, of which there are at most 64.
 fn logs_of(alloc: Global, rows: &[&[(u64, u32, u64)]]) -> Result<Vec<Log>, NoMemory> {
     let mut logs = Vec::new(alloc);
     for (place, keys) in rows.iter().enumerate() {
@@ -169,7 +175,7 @@ fn a_cursor_merges_as_a_sort_does(rt: HostRuntime) -> Result<(), Fail> {
     Ok(())
 }
 
-// The log of a station of a pace of its own; each seventh entry is another's message.
+/// The log of a station of a pace of its own; each seventh entry is another's message.
 fn paced_log(alloc: Global, place: u32, count: u64) -> Result<Log, NoMemory> {
     let mut log = Log::new(alloc);
     for number in 0..count {
@@ -188,7 +194,7 @@ fn paced_log(alloc: Global, place: u32, count: u64) -> Result<Log, NoMemory> {
     Ok(log)
 }
 
-// Logs of many paces, the last of them with nothing to do.
+/// Logs of many paces, the last of them with nothing to do.
 fn sixty_four_logs(alloc: Global) -> Result<Vec<Log>, NoMemory> {
     let mut logs = Vec::new(alloc);
     for place in 0..64_u32 {

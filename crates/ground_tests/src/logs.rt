@@ -5,8 +5,8 @@ use sim_base::{Change, Entry, Job, Key, Line, Msg, NoMemory, Param, Payload};
 use std::alloc::Global;
 use std::test::Fail;
 
-/// The entries of each kind in turn.
-fn entry(number: u64) -> Entry {
+/// The payloads and counts of each kind in turn.
+fn contents(number: u64) -> (Payload, Line) {
     let job = Job {
         source: 3,
         count: number,
@@ -17,7 +17,7 @@ fn entry(number: u64) -> Entry {
         a: number,
         b: 7,
     };
-    let (payload, line) = match number % 5 {
+    match number % 5 {
         0 => (Payload::Tick, Line::Source { sent: number }),
         1 => (
             Payload::Job(job),
@@ -37,7 +37,12 @@ fn entry(number: u64) -> Entry {
                 stay: number.wrapping_mul(number),
             },
         ),
-    };
+    }
+}
+
+/// The entries with them.
+fn entry(number: u64) -> Entry {
+    let (payload, line) = contents(number);
     Entry {
         msg: Msg {
             key: Key {

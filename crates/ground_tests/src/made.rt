@@ -22,7 +22,7 @@ fn texts_are_those_of_the_format(rt: HostRuntime) -> Result<(), Fail> {
     Ok(())
 }
 
-// The number of stations and the seed of the model of this number.
+/// The number of stations and the seed of the model of this number.
 fn figures(alloc: Global, number: u32) -> Option<(u32, u64)> {
     let made = generate(alloc, number).ok()?;
     let model = read_model(alloc, made.model.as_slice()).ok()?;

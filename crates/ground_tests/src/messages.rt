@@ -34,6 +34,10 @@ fn names_are_read(rt: HostRuntime) {
     for text in NAMES {
         assert!(rt; is_name(text), "{text}");
     }
+}
+
+#[test]
+fn other_texts_are_no_names(rt: HostRuntime) {
     for text in NO_NAMES {
         assert!(rt; Name::read(text.as_bytes()).is_none(), "{text}");
     }

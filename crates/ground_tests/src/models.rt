@@ -1,10 +1,9 @@
-//! What no clause says: that texts from outside are read and refused as people expect, that a call
-//! finds memory, and how long hostile texts take.
+//! Models: which texts are read, how the others are refused, and how long the fullest and hostile texts take.
 
 mod changes;
 mod texts;
 
-use changes::{Change, OTHER_TEXTS, ROAD_CHANGES, SMALL_CHANGES};
+use changes::{OTHER_TEXTS, ROAD_CHANGES, Refused, SMALL_CHANGES};
 use net_model::{KeyText, Kind, Link, Model, read_model};
 use sample_models::CLINIC;
 use std::alloc::{AllocError, Global};
@@ -12,7 +11,7 @@ use std::test::Fail;
 use std::time::{Duration, Instant};
 use texts::{FACTORY, INLINE, ROAD, SMALL};
 
-// Whether the text is refused with this number at this place, and names this key, or none.
+/// Whether the text is refused with this number at this place, and names this key, or none.
 fn is_refused(alloc: Global, text: &[u8], number: u32, place: u32, key: &str) -> bool {
     let Err(fault) = read_model(alloc, text) else {
         return false;
@@ -24,8 +23,8 @@ fn is_refused(alloc: Global, text: &[u8], number: u32, place: u32, key: &str) ->
     fault.number() == number && fault.place() == place && named
 }
 
-// Whether the changed text is refused as the change says.
-fn is_refused_so(alloc: Global, text: &str, change: &Change) -> bool {
+/// Whether the changed text is refused as the change says.
+fn is_refused_so(alloc: Global, text: &str, change: &Refused) -> bool {
     match text.replacen(alloc, change.old, change.new, 1) {
         Ok(changed) => is_refused(
             alloc,
@@ -38,8 +37,8 @@ fn is_refused_so(alloc: Global, text: &str, change: &Change) -> bool {
     }
 }
 
-// The place of the first change whose text is not refused as it says, or how many there are.
-fn first_wrong(alloc: Global, text: &str, changes: &[Change]) -> usize {
+/// The place of the first change whose text is not refused as it says, or how many there are.
+fn first_wrong(alloc: Global, text: &str, changes: &[Refused]) -> usize {
     for (i, change) in changes.iter().enumerate() {
         if !is_refused_so(alloc, text, change) {
             return i;
@@ -71,8 +70,8 @@ fn long_keys_are_cut(rt: HostRuntime) {
     assert!(rt; key.text() == "a?_c?d9???fghijklmnopqrstuvwxyz0");
 }
 
-// Whether a station has this name, kind, stream and links.
-fn stands(model: &Model, s: u32, name: &str, kind: Kind, stream: u64, links: &[Link]) -> bool {
+/// Whether the station of this number has this name, kind, stream and links.
+fn has_station(model: &Model, s: u32, name: &str, kind: Kind, stream: u64, links: &[Link]) -> bool {
     if s < 1 || s > model.len() {
         return false;
     }
@@ -87,7 +86,7 @@ fn link(to: u32, delay: u64, weight: u32) -> Link {
     Link { to, delay, weight }
 }
 
-// Whether the numbers at the top are these.
+/// Whether the numbers at the top are these.
 fn has_top(
     model: &Model,
     format: u32,
@@ -103,7 +102,7 @@ fn has_top(
         && model.limit() == limit
 }
 
-// The small model, with what its text leaves out.
+/// The small model, with what its text leaves out.
 fn is_small(alloc: Global, text: &str) -> bool {
     let Ok(model) = read_model(alloc, text.as_bytes()) else {
         return false;
@@ -123,9 +122,9 @@ fn is_small(alloc: Global, text: &str) -> bool {
     };
     has_top(&model, 1, 2, 20, 0, 16_384)
         && model.len() == 3
-        && stands(&model, 1, "gate", source, 1, &[link(2, 2, 1)])
-        && stands(&model, 2, "desk", server, 2, &[link(3, 2, 1)])
-        && stands(&model, 3, "out", Kind::Sink, 3, &[])
+        && has_station(&model, 1, "gate", source, 1, &[link(2, 2, 1)])
+        && has_station(&model, 2, "desk", server, 2, &[link(3, 2, 1)])
+        && has_station(&model, 3, "out", Kind::Sink, 3, &[])
 }
 
 fn is_clinic(alloc: Global, text: &str) -> bool {
@@ -135,7 +134,7 @@ fn is_clinic(alloc: Global, text: &str) -> bool {
     let triage = [link(4, 2, 3), link(5, 4, 1)];
     has_top(&model, 1, 1, 10_000, 2001, 16_384)
         && model.len() == 6
-        && stands(
+        && has_station(
             &model,
             3,
             "triage",
@@ -152,11 +151,11 @@ fn is_factory(alloc: Global, text: &str) -> bool {
     let paint = Kind::Delay { lo: 300, hi: 420 };
     let rework = [link(6, 20, 17), link(3, 30, 2), link(7, 5, 1)];
     model.len() == 7
-        && stands(&model, 4, "paint", paint, 4, &[link(5, 5, 1)])
-        && stands(&model, 5, "check", Kind::Router { turn: false }, 5, &rework)
+        && has_station(&model, 4, "paint", paint, 4, &[link(5, 5, 1)])
+        && has_station(&model, 5, "check", Kind::Router { turn: false }, 5, &rework)
 }
 
-// A model of format 2, with a class, an order and a stream.
+/// A model of format 2, with a class, an order and a stream.
 fn is_road(alloc: Global, text: &str) -> bool {
     let Ok(model) = read_model(alloc, text.as_bytes()) else {
         return false;
@@ -182,10 +181,10 @@ fn is_road(alloc: Global, text: &str) -> bool {
         class: 1,
     };
     has_top(&model, 2, 5, 72_000, 11, 32_768)
-        && stands(&model, 2, "ambulances", ambulances, 40, &[link(3, 5, 1)])
-        && stands(&model, 1, "west", cars, 1, &[link(3, 5, 1)])
-        && stands(&model, 4, "first_signal", signal, 4, &[link(5, 5, 1)])
-        && stands(&model, 7, "fork", Kind::Router { turn: true }, 7, &exits)
+        && has_station(&model, 2, "ambulances", ambulances, 40, &[link(3, 5, 1)])
+        && has_station(&model, 1, "west", cars, 1, &[link(3, 5, 1)])
+        && has_station(&model, 4, "first_signal", signal, 4, &[link(5, 5, 1)])
+        && has_station(&model, 7, "fork", Kind::Router { turn: true }, 7, &exits)
 }
 
 #[test]
@@ -197,7 +196,7 @@ fn model_files_are_read(rt: HostRuntime) {
     assert!(rt; is_road(rt.alloc(), ROAD));
 }
 
-// Pushes a router of this number, with sixteen links.
+/// Pushes a router of this number, with sixteen links.
 fn push_router(alloc: Global, text: &mut Vec<u8>, i: u32) -> Result<(), AllocError> {
     let head = format!(in alloc;
         "\n[[station]]\nname = \"x{i}\"\nkind = \"router\"\nby = \"turn\"\nlink = ["
@@ -208,7 +207,7 @@ fn push_router(alloc: Global, text: &mut Vec<u8>, i: u32) -> Result<(), AllocErr
     Ok(())
 }
 
-// Sixty-four routers of sixteen links each, with a comment before them.
+/// Sixty-four routers of sixteen links each, with a comment before them.
 fn full_text(alloc: Global, comment: u32) -> Result<Vec<u8>, AllocError> {
     let mut text = repeated(alloc, b"lookahead = 2\nhorizon = 20\n#", b".", comment)?;
     for i in 0..64u32 {
@@ -217,7 +216,7 @@ fn full_text(alloc: Global, comment: u32) -> Result<Vec<u8>, AllocError> {
     Ok(text)
 }
 
-// How many stations of sixteen links the text states, 0 where it is refused.
+/// How many stations of sixteen links the text states, 0 where it is refused.
 fn full_stations(alloc: Global, text: &[u8]) -> u32 {
     let Ok(model) = read_model(alloc, text) else {
         return 0;
@@ -242,7 +241,7 @@ fn the_fullest_model_is_read(rt: HostRuntime) -> Result<(), Fail> {
     Ok(())
 }
 
-// Pushes a piece so many times.
+/// Pushes a piece so many times.
 fn push_pieces(text: &mut Vec<u8>, piece: &[u8], times: u32) -> Result<(), AllocError> {
     for _ in 0..times {
         text.extend_from_slice(piece)?;
@@ -250,14 +249,14 @@ fn push_pieces(text: &mut Vec<u8>, piece: &[u8], times: u32) -> Result<(), Alloc
     Ok(())
 }
 
-// A text of so many pieces behind a front.
-fn repeated(alloc: Global, front: &[u8], piece: &[u8], times: u32) -> Result<Vec<u8>, AllocError> {
-    let mut text = Vec::from_slice(alloc, front)?;
+/// A text of so many pieces behind a prefix.
+fn repeated(alloc: Global, prefix: &[u8], piece: &[u8], times: u32) -> Result<Vec<u8>, AllocError> {
+    let mut text = Vec::from_slice(alloc, prefix)?;
     push_pieces(&mut text, piece, times)?;
     Ok(text)
 }
 
-// So many keys, each with its number.
+/// So many keys, each with its number.
 fn many_keys(alloc: Global, count: u32) -> Result<Vec<u8>, AllocError> {
     let mut text = Vec::new(alloc);
     for i in 0..count {
@@ -267,7 +266,7 @@ fn many_keys(alloc: Global, count: u32) -> Result<Vec<u8>, AllocError> {
     Ok(text)
 }
 
-// Whether the text is refused within a second with this number at the top, and names this key, or none.
+/// Whether the text is refused within a second with this number at the top, and names this key, or none.
 fn is_refused_soon(rt: &HostRuntime, text: &[u8], number: u32, key: &str) -> Result<bool, Fail> {
     let start = Instant::now(rt)?;
     let is = is_refused(rt.alloc(), text, number, 0, key);

@@ -1,5 +1,4 @@
-//! What no clause says: that texts from outside are read and refused as people expect, that a call
-//! finds memory, and that the largest texts take little time.
+//! Scripts: which texts are read, where the others are refused, the canonical texts, and texts of the greatest length.
 
 mod texts;
 
@@ -9,7 +8,7 @@ use std::alloc::{AllocError, Global};
 use std::test::Fail;
 use texts::{FAULTS, OWN_SCRIPTS, Own, READ, Refused};
 
-// The number and the line of the fault, or 0 and 0 where the text is read.
+/// The number and the line of the fault, or 0 and 0 where the text is read.
 fn fault_of(alloc: Global, text: &[u8]) -> (u32, u32) {
     match read_script(alloc, text) {
         Ok(_) => (0, 0),
@@ -36,7 +35,7 @@ fn lines_are_read_to_their_ends(rt: HostRuntime) {
     }
 }
 
-// So many lines of this text.
+/// So many lines of this text.
 fn lines(alloc: Global, line: &str, count: u32) -> Result<Vec<u8>, AllocError> {
     let mut text = Vec::new(alloc);
     for _ in 0..count {
@@ -54,7 +53,7 @@ fn long_texts_are_refused(rt: HostRuntime) -> Result<(), Fail> {
     Ok(())
 }
 
-// The script of a text, or of one clone of it where there is a name.
+/// The script of a text, or of one clone of it where there is a name.
 fn own_script(alloc: Global, own: &Own) -> Option<Script> {
     let script = read_script(alloc, own.text.as_bytes()).ok()?;
     match Name::read(own.who.as_bytes()) {
@@ -70,7 +69,7 @@ fn is_printed(alloc: Global, script: &Script, canonical: &str) -> bool {
     }
 }
 
-// Whether the items stand in these lines, each of this analyst.
+/// Whether the items stand in these lines, each of this analyst.
 fn has_places(script: &Script, places: &[(u32, u32)]) -> bool {
     let mut i = 0;
     for place in places {
@@ -101,7 +100,7 @@ fn own_scripts_are_printed(rt: HostRuntime) {
     }
 }
 
-// The canonical text of a text of so many items.
+/// The canonical text of a text of so many items.
 fn printed(alloc: Global, text: &[u8], items: u32) -> Option<Vec<u8>> {
     let script = read_script(alloc, text).ok()?;
     if script.len() != items {
@@ -110,7 +109,7 @@ fn printed(alloc: Global, text: &[u8], items: u32) -> Option<Vec<u8>> {
     print_script(alloc, &script).ok()
 }
 
-// Whether the canonical text of a text of so many items is that of itself.
+/// Whether the canonical text of a text of so many items is that of itself.
 fn is_read_again(alloc: Global, text: &[u8], items: u32) -> bool {
     let Some(once) = printed(alloc, text, items) else {
         return false;

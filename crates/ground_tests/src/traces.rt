@@ -6,7 +6,6 @@ use net_model::{Model, read_model};
 use sample_models::ONE_DESK;
 use sim_base::{Entry, Figures, Job, Key, Line, Msg, Name, Param, Payload};
 use std::alloc::Global;
-use std::test::Fail;
 use trace_report::{Names, line_len, report_text, trace_text, write_line};
 
 const CLASSES: &str = r#"format = 2

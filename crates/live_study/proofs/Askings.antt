@@ -9,14 +9,14 @@ use Rattle.decision_desk.specs.declared.pass.Receipt.{Receipt}
 use Rattle.decision_desk.specs.Accounts.{Account}
 use Rattle.decision_desk.specs.Turns.{with_call, full_account}
 use Rattle.decision_desk.specs.Passes.{PassView, IsAsked}
-use Rattle.live_study.specs.Asking.{decisions_in, AskedSo}
+use Rattle.live_study.specs.Asking.{decisions_in, AreAsked}
 
 in_append : (ps : List (ℕ × Call)) (p : ℕ × Call) → decisions_in (ps ++ p ∷ []) ≡ decisions_in ps ++ p.1.decision ∷ []
 in_append [] p = refl
 in_append (q ∷ ps) p = ap (λ l. q.1.decision ∷ l) (in_append ps p)
 
-with_one : (ds : List Decision) (a : Account) (j : List Event) (c : Call) → AskedSo ds a
-    → AskedSo (ds ++ c.decision ∷ []) (with_call a j c)
+with_one : (ds : List Decision) (a : Account) (j : List Event) (c : Call) → AreAsked ds a
+    → AreAsked (ds ++ c.decision ∷ []) (with_call a j c)
 with_one ds a j c s = record {
   all = λ e. in_append a.calls (length (calls_of j), c) ∙ ap (λ l. l ++ c.decision ∷ []) (s.all e);
   few = omega (arith, length-append a.calls ((length (calls_of j), c) ∷ []), length-append ds (c.decision ∷ []), s.few);
@@ -28,7 +28,7 @@ with_one ds a j c s = record {
   );
 }
 
-with_full : (ds : List Decision) (a : Account) (d : Decision) → AskedSo ds a → AskedSo (ds ++ d ∷ []) (full_account a)
+with_full : (ds : List Decision) (a : Account) (d : Decision) → AreAsked ds a → AreAsked (ds ++ d ∷ []) (full_account a)
 with_full ds a d s = record {
   all = λ e. absurd (true≢false e);
   few = omega (arith, length-append ds (d ∷ []), s.few);
@@ -37,19 +37,19 @@ with_full ds a d s = record {
 
 -- a pass that asks one decision more has asked that too, at the same desk and for the same caller
 pub asked_more : (ds : List Decision) (old new : PassView) (d : Decision) (receipt : Receipt) (j : List Event)
-    → AskedSo ds old.account → IsAsked old d receipt new j
-    → AskedSo (ds ++ d ∷ []) new.account × (new.desk ≡ old.desk) × (new.account.caller ≡ old.account.caller)
+    → AreAsked ds old.account → IsAsked old d receipt new j
+    → AreAsked (ds ++ d ∷ []) new.account × (new.desk ≡ old.desk) × (new.account.caller ≡ old.account.caller)
 asked_more ds old new d receipt j s a = ⊎_elim
     (λ (h : (receipt.reply ≢ Full) × (receipt.entry ≡ Some (length (calls_of j)))
     × (new ≡ record old {
       seen = j ++ asked (call_of old.account.caller j d receipt.reply) ∷ [];
       account = with_call old.account j (call_of old.account.caller j d receipt.reply);
     })).
-    subst (λ (n : PassView). AskedSo (ds ++ d ∷ []) n.account × (n.desk ≡ old.desk)
+    subst (λ (n : PassView). AreAsked (ds ++ d ∷ []) n.account × (n.desk ≡ old.desk)
     × (n.account.caller ≡ old.account.caller)) (sym h.2)
     (with_one ds old.account j (call_of old.account.caller j d receipt.reply) s, refl, refl))
     (λ (h : (receipt.reply ≡ Full) × (receipt.entry ≡ None) × (length (calls_of j) ≡ 4096)
     × (new ≡ record old { seen = j; account = full_account old.account })).
-    subst (λ (n : PassView). AskedSo (ds ++ d ∷ []) n.account × (n.desk ≡ old.desk)
+    subst (λ (n : PassView). AreAsked (ds ++ d ∷ []) n.account × (n.desk ≡ old.desk)
     × (n.account.caller ≡ old.account.caller)) (sym h.3) (with_full ds old.account d s, refl, refl))
     a.outcome

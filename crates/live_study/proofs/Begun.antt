@@ -17,7 +17,7 @@ use Rattle.decision_book.specs.Journal.{Event}
 use Rattle.decision_desk.specs.Accounts.{Account, accounts_of, calls_by}
 use Rattle.decision_desk.specs.Passes.{HelmView, PassView, new_helm, new_pass, new_passes}
 use Rattle.world_core.specs.Worlds.{WorldView}
-use Rattle.live_study.specs.Asking.{AllAsked, AskedSo, IsReady, SeatedAnalyst}
+use Rattle.live_study.specs.Asking.{AllAsked, AreAsked, IsReady, SeatedAnalyst}
 use Rattle.live_study.specs.Asking.{decisions_asked, decisions_in, total_todo}
 use Rattle.live_study.specs.Engines.{InStep}
 use Rattle.live_study.specs.Lives.{IsAllAsked}
@@ -129,8 +129,8 @@ many_analysts desk net n passes analysts are new = sym (length-map analysts (λ 
     ∙ ap length (are ∙ new) ∙ length-new_passes desk net n
 
 ready_new : (desk : TableId) (net : Net) (x : ℕ) (p : PassView) → p ≡ new_pass desk net x
-    → (p.desk ≡ desk) × AskedSo [] p.account
-ready_new desk net x p is = subst (λ (q : PassView). (q.desk ≡ desk) × AskedSo [] q.account) (sym is)
+    → (p.desk ≡ desk) × AreAsked [] p.account
+ready_new desk net x p is = subst (λ (q : PassView). (q.desk ≡ desk) × AreAsked [] q.account) (sym is)
     (refl, record { all = λ e. refl; few = omega arith; fewer = λ e. absurd cc })
 
 -- analysts with new passes of a desk have asked nothing there yet

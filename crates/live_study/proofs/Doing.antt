@@ -25,8 +25,8 @@ use Rattle.shelf.proofs.Legals.{front-later, has_later}
 use Rattle.shelf.proofs.Prefixes.{prefix_trans}
 use Rattle.journal_text.specs.declared.looked.Looked.{Looked}
 use Rattle.live_study.specs.declared.analyst.Analyst.{Analyst}
-use Rattle.live_study.specs.Asking.{AskedSo, HasAsked, IsSameAnalyst, decisions_asked}
-use Rattle.live_study.specs.Looks.{HasRacks, IsNoEarlier, IsRead, NeverFall, WasRead, asked_for}
+use Rattle.live_study.specs.Asking.{AreAsked, HasAsked, IsSameAnalyst, decisions_asked}
+use Rattle.live_study.specs.Looks.{HasRacks, IsNoEarlier, IsRead, NeverFall, WasRead, look_of}
 use Rattle.live_study.specs.Scripts.{look_onto, looks_in}
 use Rattle.live_study.specs.Showing.{HasLooked}
 use Rattle.live_study.proofs.Askings.{asked_more}
@@ -54,7 +54,7 @@ asked_next desk acts d old new receipt j h a =
     let r = asked_more (decisions_asked acts) old.pass new.pass d receipt j h.all a in
     record {
       desk_is = r.1 ∙ h.desk_is;
-      all = subst (λ ds. AskedSo ds new.pass.account) (sym (decisions_asked-push acts (Decide d))) r.0;
+      all = subst (λ ds. AreAsked ds new.pass.account) (sym (decisions_asked-push acts (Decide d))) r.0;
     }
 
 -- an analyst that looked, its pass as it was, has asked what it had to ask
@@ -65,8 +65,8 @@ asked_over desk acts who station old new h e =
     decisions_asked-push acts (Look who station) ∙ append-nil (decisions_asked acts) in
     record {
       desk_is = ap (λ (p : PassView). p.desk) e ∙ h.desk_is;
-      all = subst (λ (p : PassView). AskedSo (decisions_asked (acts ++ Look who station ∷ [])) p.account) (sym e)
-          (subst (λ ds. AskedSo ds old.pass.account) (sym none) h.all);
+      all = subst (λ (p : PassView). AreAsked (decisions_asked (acts ++ Look who station ∷ [])) p.account) (sym e)
+          (subst (λ ds. AreAsked ds old.pass.account) (sym none) h.all);
     }
 
 -- ---- looks
@@ -102,7 +102,7 @@ never_fall-with (k ∷ ls) l rise later =
     (all_push (IsNoEarlier k) ls l rise.0 later.0, never_fall-with ls l rise.1 later.1)
 
 asked_is : (l : Looked) (x : ℕ) (who station : List ℕ) → l.analyst ≡ x → l.who ≡ who → l.station ≡ station
-    → asked_for l ≡ (x, who, station)
+    → look_of l ≡ (x, who, station)
 asked_is l x who station e f g = λ i. (e i, f i, g i)
 
 -- and one that looked has looked at one thing more
@@ -112,7 +112,7 @@ pub looked_next : (net : Net) (acts : List Act) (who station : List ℕ) (old ne
     → l.station ≡ station → new.looks.items ≡ old.looks.items ++ l ∷ []
     → new.number ≡ old.number → HasLooked net (acts ++ Look who station ∷ []) (new, ys)
 looked_next net acts who station old new xs ys l h p there r later a w s items n = record {
-  asked = ap (map asked_for) items ∙ map-append asked_for old.looks.items (l ∷ [])
+  asked = ap (map look_of) items ∙ map-append look_of old.looks.items (l ∷ [])
       ∙ ap₂ (λ us v. us ++ v ∷ []) h.asked (asked_is l old.number who station a w s)
       ∙ ap (λ x. looks_in x acts ++ (x, who, station) ∷ []) (sym n)
       ∙ sym (looks_more new.number acts (Look who station));
@@ -158,7 +158,7 @@ pub free_for_one : (net : Net) (acts : List Act) (a : Analyst) (read : List Rack
     → length a.looks.items < a.looks.reserved
 free_for_one net acts a read most h less enough =
     let many : length a.looks.items ≡ length (looks_in a.number acts) =
-    sym (length-map a.looks.items asked_for) ∙ ap length h.asked in
+    sym (length-map a.looks.items look_of) ∙ ap length h.asked in
     omega (arith, many, few_looks a.number acts, less, enough)
 
 -- ---- what stays

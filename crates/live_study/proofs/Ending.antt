@@ -12,10 +12,10 @@ use Rattle.live_study.specs.Engines.{MeetsLimitLast, StopsAt}
 use Rattle.live_study.proofs.StayingLimits.{met_stays}
 
 -- what holds of a finished run holds of it still
-pub if_kept : (P : WorldView → Type 0) (caught_up : Bool) (run end : Result WorldView StudyFault)
+pub if_finished : (P : WorldView → Type 0) (caught_up : Bool) (run end : Result WorldView StudyFault)
     → IfOk end (λ w. (caught_up ≡ true) × (run ≡ Ok w)) → IfOk run P → IfOk end P
-if_kept P caught_up run (Err e) ok holds = tt
-if_kept P caught_up run (Ok w) ok holds = subst (λ r. IfOk r P) ok.1 holds
+if_finished P caught_up run (Err e) ok holds = tt
+if_finished P caught_up run (Ok w) ok holds = subst (λ r. IfOk r P) ok.1 holds
 
 -- why a run was stopped, with calls behind its journal
 stops_on : (net : Net) (h events : List Event) (e : StudyFault) → IsNet net → OnlyCalls h events → IsRight net events

@@ -16,7 +16,7 @@ use Rattle.decision_book.specs.Journal.{Event}
 use Rattle.journal_text.specs.declared.looked.Looked.{Looked}
 use Rattle.live_study.specs.Asking.{SeatedAnalyst}
 use Rattle.live_study.specs.Lives.{AreTrueLooks, all_looks, looks_made}
-use Rattle.live_study.specs.Looks.{AreLooks, HasMadeLooks, IsNoEarlier, NeverFall, asked_for}
+use Rattle.live_study.specs.Looks.{AreLooks, HasMadeLooks, IsNoEarlier, NeverFall, look_of}
 use Rattle.live_study.specs.Opening.{numbers_to}
 use Rattle.live_study.specs.Scripts.{acts_by, each_acts, each_looks, look_onto, looks_in}
 use Rattle.live_study.specs.Showing.{looks_to_make}
@@ -59,11 +59,11 @@ in_own x (act ∷ acts) =
 abbrev AreOf : ℕ → List Looked → Type 0
 AreOf x ls = AllByRecursion (λ l. l.analyst ≡ x) ls
 
-of_asked : (x : ℕ) (ls : List Looked) → AllByRecursion (λ (q : Asked). q.0 ≡ x) (map asked_for ls) → AreOf x ls
+of_asked : (x : ℕ) (ls : List Looked) → AllByRecursion (λ (q : Asked). q.0 ≡ x) (map look_of ls) → AreOf x ls
 of_asked x [] all = tt
 of_asked x (l ∷ ls) all = (all.0, of_asked x ls all.1)
 
-own_looks : (x : ℕ) (acts : List Act) (ls : List Looked) → map asked_for ls ≡ looks_in x acts → AreOf x ls
+own_looks : (x : ℕ) (acts : List Act) (ls : List Looked) → map look_of ls ≡ looks_in x acts → AreOf x ls
 own_looks x acts ls e = of_asked x ls (subst (AllByRecursion (λ (q : Asked). q.0 ≡ x)) (sym e) (in_own x acts))
 
 -- ---- the looks of each
@@ -118,10 +118,10 @@ all_rise (x ∷ xs) (r ∷ rs) differ own rise = rise_on x r.items (all_looks rs
 abbrev joined : List (List Asked) → List Asked
 joined each = flat_map (λ qs. qs) each
 
-made_in_order : (looks : List (ReservedView Looked)) → map asked_for (all_looks looks) ≡ joined (looks_made looks)
+made_in_order : (looks : List (ReservedView Looked)) → map look_of (all_looks looks) ≡ joined (looks_made looks)
 made_in_order [] = refl
-made_in_order (r ∷ rs) = map-append asked_for r.items (all_looks rs)
-    ∙ ap (λ qs. map asked_for r.items ++ qs) (made_in_order rs)
+made_in_order (r ∷ rs) = map-append look_of r.items (all_looks rs)
+    ∙ ap (λ qs. map look_of r.items ++ qs) (made_in_order rs)
 
 -- what analysts of these numbers with these acts have to look at
 abbrev looks_of_each : List ℕ → List (List Act) → List (List Asked)

@@ -17,10 +17,9 @@ use Rattle.journal_text.specs.declared.looked.Looked.{Looked}
 use Rattle.world_core.specs.Worlds.{WorldView}
 use Rattle.live_study.specs.declared.prepared.Prepared.{Prepared}
 use Rattle.live_study.specs.Asking.{IsReady, SeatedAnalyst, total_todo}
-use Rattle.live_study.specs.Closing.{HasReservedFor}
 use Rattle.live_study.specs.Lives.{AreTrueLooks, IsAllAsked, all_looks, looks_made}
-use Rattle.live_study.specs.Looks.{AreLooks, HasMadeLooks, HasRacks, IsRackOf, IsRead, NeverFall, asked_for}
-use Rattle.live_study.specs.Opening.{IsFresh, AreOpeningRacks, IsPrepared, IsRackNow, numbers_to}
+use Rattle.live_study.specs.Looks.{AreLooks, HasMadeLooks, HasRacks, IsRackOf, IsRead, NeverFall, look_of}
+use Rattle.live_study.specs.Opening.{AreOpeningRacks, HasReservedFor, IsFresh, IsPrepared, IsRackNow, numbers_to}
 use Rattle.live_study.specs.Scripts.{IsJournalOf, each_acts}
 use Rattle.live_study.specs.Showing.{AreShownOf, HasLooked, HasReserved, looks_to_make}
 use Rattle.live_study.proofs.Begun.{all_ready, few_todo, journal_of_script, length-new_passes, many_analysts}
@@ -110,7 +109,7 @@ none_made : (net : Net) (a : SeatedAnalyst) (opening : List RackView) → IsFres
     → HasLooked net [] a × HasReserved a.0
 none_made net a opening f there = (
   record {
-    asked = ap (map asked_for) f.quiet;
+    asked = ap (map look_of) f.quiet;
     read = subst (AllByRecursion (IsRead net a.1)) (sym f.quiet) tt;
     rise = subst NeverFall (sym f.quiet) tt;
     there = subst (HasRacks net) (sym f.seat) there;

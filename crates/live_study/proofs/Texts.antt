@@ -11,7 +11,7 @@ use Rattle.decision_script.specs.Stating.{ScriptView}
 use Rattle.decision_book.specs.declared.call.Call.{Call}
 use Rattle.decision_desk.specs.Accounts.{calls_from}
 use Rattle.journal_text.specs.declared.looked.Looked.{Looked}
-use Rattle.live_study.specs.Looks.{HasMadeLooks, asked_for}
+use Rattle.live_study.specs.Looks.{HasMadeLooks, look_of}
 use Rattle.live_study.specs.Scripts.{acts_by, each_looks, looks_in}
 
 -- ---- callers
@@ -79,5 +79,5 @@ pub lookers_within : (s : ScriptView) (looks : List Looked) → HasMadeLooks s l
 lookers_within s looks made =
     let many = length s.analysts in
     All-from_recursion (λ (l : Looked). (1 ≤ l.analyst) × (l.analyst ≤ many)) looks
-    (of_images asked_for (IsWithin many) looks
+    (of_images look_of (IsWithin many) looks
     (subst (AllByRecursion (IsWithin many)) (sym made) (each_within many s.items many (omega arith))))

@@ -21,7 +21,7 @@ abbrev pub decisions_asked : List Act → List Decision
 decisions_asked acts = flat_map (λ act. decisions_onto act []) acts
 
 -- these decisions were asked: all are in the journal, or some was answered Full, and so is not
-pub record AskedSo (ds : List Decision) (a : Account) : Type 0 where
+pub record AreAsked (ds : List Decision) (a : Account) : Type 0 where
   pub all : a.full ≡ false → decisions_in a.calls ≡ ds
   pub few : length a.calls ≤ length ds
   pub fewer : a.full ≡ true → length a.calls < length ds
@@ -29,7 +29,7 @@ pub record AskedSo (ds : List Decision) (a : Account) : Type 0 where
 -- an analyst that has asked what is to be decided in these acts, at this desk
 pub record HasAsked (desk : TableId) (acts : List Act) (a : Analyst) : Type 0 where
   pub desk_is : a.pass.desk ≡ desk
-  pub all : AskedSo (decisions_asked acts) a.pass.account
+  pub all : AreAsked (decisions_asked acts) a.pass.account
 
 -- one that has asked nothing yet
 abbrev pub IsReady : TableId → Analyst → Type 0

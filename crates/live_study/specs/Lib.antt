@@ -1,5 +1,4 @@
 pub mod Asking
-pub mod Closing
 pub mod Driving
 pub mod Engines
 pub mod Laws

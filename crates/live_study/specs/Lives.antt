@@ -12,7 +12,7 @@ use Rattle.world_core.specs.Worlds.{WorldView}
 use Rattle.study_run.specs.declared.fault.StudyFault.{StudyFault}
 use Rattle.live_study.specs.Asking.{AllAsked, SeatedAnalyst, accounts_in}
 use Rattle.live_study.specs.Engines.{StopsAt}
-use Rattle.live_study.specs.Looks.{IsTrueLook, NeverFall, asked_for}
+use Rattle.live_study.specs.Looks.{IsTrueLook, NeverFall, look_of}
 
 -- a journal in which all was asked: it is legal, each analyst's calls in it are its decisions, in order, and nobody
 -- else has calls
@@ -24,7 +24,7 @@ pub record IsAllAsked (net : Net) (seated : List SeatedAnalyst) (book : BookView
 
 -- what each analyst has looked at, in order
 abbrev pub looks_made : List (ReservedView Looked) → List (List (ℕ × List ℕ × List ℕ))
-looks_made looks = map (λ r. map asked_for r.items) looks
+looks_made looks = map (λ r. map look_of r.items) looks
 
 -- the looks of all analysts, one after the other
 abbrev pub all_looks : List (ReservedView Looked) → List Looked

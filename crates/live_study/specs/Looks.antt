@@ -14,8 +14,8 @@ use Rattle.journal_text.specs.declared.looked.Looked.{Looked}
 use Rattle.live_study.specs.Scripts.{each_looks}
 
 -- what was looked at
-abbrev pub asked_for : Looked → ℕ × List ℕ × List ℕ
-asked_for l = (l.analyst, l.who, l.station)
+abbrev pub look_of : Looked → ℕ × List ℕ × List ℕ
+look_of l = (l.analyst, l.who, l.station)
 
 -- ---- what a look is true of
 
@@ -62,7 +62,7 @@ NeverFall (l ∷ ls) = AllByRecursion (IsNoEarlier l) ls × NeverFall ls
 
 -- one look for each of the script, by analyst and then in the analyst's order
 abbrev pub HasMadeLooks : ScriptView → List Looked → Type 0
-HasMadeLooks s looks = map asked_for looks ≡ each_looks s.items (length s.analysts)
+HasMadeLooks s looks = map look_of looks ≡ each_looks s.items (length s.analysts)
 
 -- the looks of a script over a journal: one for each look of the script, by analyst and then in the analyst's order;
 -- each of them is true, and no analyst's front at a station falls

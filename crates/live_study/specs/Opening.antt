@@ -1,6 +1,7 @@
--- What a live run of a script begins with.
-use Rattle.std.specs.Prelude.{◌≡◌, ℕ, zero, suc, ◌+◌, List, [], ◌∷◌, ◌++◌, length}
-use Rattle.std.specs.List.{AllByRecursion}
+-- What a live run of a script begins with, and what is reserved for its end.
+use Rattle.std.specs.Prelude.{◌≡◌, ℕ, zero, suc, ◌+◌, ◌≤◌, List, [], ◌∷◌, ◌++◌, length, vec_capacity}
+use Rattle.std.specs.List.{All, AllByRecursion}
+use Rattle.atomic_table.specs.Seated.{TableId}
 use Rattle.sim_base.specs.Clones.{base}
 use Rattle.net_model.specs.Net.{Net}
 use Rattle.decision_desk.specs.Passes.{new_helm, new_passes}
@@ -8,8 +9,9 @@ use Rattle.phys_proc.specs.Racks.{RackView}
 use Rattle.shelf.specs.Racks.{OneEach}
 use Rattle.world_core.specs.Worlds.{WorldView}
 use Rattle.live_study.specs.declared.prepared.Prepared.{Prepared}
-use Rattle.live_study.specs.Asking.{SeatedAnalyst}
-use Rattle.live_study.specs.Closing.{HasReservedFor}
+use Rattle.live_study.specs.declared.reserve.Reserve.{Reserve}
+use Rattle.live_study.specs.Asking.{IsReady, SeatedAnalyst}
+use Rattle.live_study.specs.Showing.{HasLooked, HasReserved}
 
 -- 1 .. n
 abbrev pub numbers_to : ℕ → List ℕ
@@ -22,7 +24,11 @@ pub record IsFresh (opening : List RackView) (a : SeatedAnalyst) : Type 0 where
   pub reserved : a.0.looks.reserved ≡ length a.0.todo.items
   pub seat : a.1 ≡ opening
 
--- a rack of the world as it stands
+-- analysts that have done nothing yet, with memory reserved for their looks, each at a seat with a rack of each station
+abbrev pub AreReadyAll : TableId → Net → List SeatedAnalyst → Type 0
+AreReadyAll desk net seated = All (λ a. IsReady desk a.0 × HasLooked net [] a × HasReserved a.0) seated
+
+-- a rack of the world as it is now
 pub record IsRackNow (w : WorldView) (r : RackView) : Type 0 where
   pub net : r.net ≡ w.net
   pub clones : r.clones ≡ w.clones
@@ -33,6 +39,13 @@ pub record AreOpeningRacks (w : WorldView) (many : ℕ) (racks : List RackView) 
   pub many_is : length racks ≡ many
   pub each : OneEach racks
   pub now : AllByRecursion (IsRackNow w) racks
+
+-- what is reserved for the end: nothing in it yet, and free places for what so many analysts leave
+pub record HasReservedFor (many : ℕ) (reserve : Reserve) : Type 0 where
+  pub no_passes : reserve.passes.items ≡ []
+  pub no_looks : reserve.looks.items ≡ []
+  pub for_passes : many ≤ vec_capacity reserve.passes
+  pub for_looks : many ≤ vec_capacity reserve.looks
 
 -- all that so many analysts begin with over a network
 pub record IsPrepared (net : Net) (many : ℕ) (p : Prepared) : Type 0 where

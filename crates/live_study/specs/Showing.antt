@@ -10,13 +10,13 @@ use Rattle.phys_proc.specs.Racks.{RackView}
 use Rattle.world_core.specs.Worlds.{WorldView}
 use Rattle.live_study.specs.declared.analyst.Analyst.{Analyst}
 use Rattle.live_study.specs.Asking.{SeatedAnalyst}
-use Rattle.live_study.specs.Looks.{AreAllAt, AreCaughtUp, HasRacks, IsAt, IsRackOf, IsRead, NeverFall, asked_for}
+use Rattle.live_study.specs.Looks.{AreAllAt, AreCaughtUp, HasRacks, IsAt, IsRackOf, IsRead, NeverFall, look_of}
 use Rattle.live_study.specs.Scripts.{looks_in}
 
 -- an analyst that has made the looks of these acts, each of them at a beginning of what its seat has read, and none at
 -- an earlier front than one of the same station before it
 pub record HasLooked (net : Net) (acts : List Act) (a : SeatedAnalyst) : Type 0 where
-  pub asked : map asked_for a.0.looks.items ≡ looks_in a.0.number acts
+  pub asked : map look_of a.0.looks.items ≡ looks_in a.0.number acts
   pub read : AllByRecursion (IsRead net a.1) a.0.looks.items
   pub rise : NeverFall a.0.looks.items
   pub there : HasRacks net a.1

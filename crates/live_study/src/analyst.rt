@@ -7,13 +7,16 @@ use decision_script::Act;
 use journal_text::Looked;
 use sim_base::Reserved;
 
-/// An analyst: its number, its pass to the desk, what it will do, in order, and what it saw at its looks.
+/// An analyst, with what it will do and what it has seen.
 #[derive(Drop)]
 pub struct Analyst {
     /// From 1, as the desk numbers its callers.
     pub number: u32,
+    /// What it asks the desk with.
     pub pass: Pass,
+    /// What it will do, in order.
     pub todo: Vec<Act>,
+    /// What it saw at its looks, in order.
     pub looks: Reserved<Looked>,
     pub ghost few: { length todo.items ≤ MOST_ITEMS },
 }

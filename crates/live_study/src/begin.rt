@@ -56,6 +56,7 @@ pub(crate) fn analysts_of<J: Naming>(
     let mut seated = Vec::with_capacity(alloc, passes.len())?;
     let mut number = 0;
     for pass in passes {
+        // never: `take_seats` gives as many seats as passes
         let Some(seat) = seats.pop() else {
             return Err(NoMemory);
         };
@@ -99,16 +100,22 @@ fn mark(watched: &mut Vec<bool>, model: &Model, act: &Act) {
     }
 }
 
+// So many marks, none of them set.
+fn no_marks(alloc: Global, many: u32) -> Result<Vec<bool>, NoMemory> {
+    let mut marks = Vec::with_capacity(alloc, many as usize)?;
+    for _s in 0..many {
+        marks.push(false)?;
+    }
+    Ok(marks)
+}
+
 /// Which stations are looked at. It only says what is worth showing before the horizon.
 pub(crate) fn watched_in(
     alloc: Global,
     model: &Model,
     script: &Script,
 ) -> Result<Vec<bool>, NoMemory> {
-    let mut watched = Vec::with_capacity(alloc, model.len() as usize)?;
-    for _s in 0..model.len() {
-        watched.push(false)?;
-    }
+    let mut watched = no_marks(alloc, model.len())?;
     for i in 0..script.len() {
         mark(&mut watched, model, &script.item(i).act);
     }

@@ -19,7 +19,7 @@
 //!
 //! ```text
 //! let live = live_study(&rt, alloc, &crew, &gate, &model, &script, &mut steps)?;
-//! let text = journal_of(alloc, &script, &live)?;
+//! let text = live_journal_text(alloc, &script, &live)?;
 //! ```
 //!
 //! What it costs: a thread for each analyst and the engine's crew; a decision waits for its turn at the desk; a rack of
@@ -52,4 +52,4 @@ mod work;
 pub use analyst::Analyst;
 pub use run::LiveRun;
 pub use study::live_study;
-pub use text::journal_of;
+pub use text::live_journal_text;

@@ -5,10 +5,10 @@ ghost use mathlib.Core.List.{IsPrefix};
 ghost use Rattle.decision_book.specs.declared.call.TheConstants.{MOST_CALLS};
 ghost use Rattle.shelf.specs.Racks.{AreLegal};
 ghost use Rattle.live_study.specs.Asking.{IsDone, IsSameAnalyst, total_todo};
-ghost use Rattle.live_study.specs.Closing.{AreReadyAll, HasReservedFor};
 ghost use Rattle.live_study.specs.Driving.{HasDriven, MayDrive};
 ghost use Rattle.live_study.specs.Lives.{AreTrueLooks, IsAllAsked, IsAtHorizon, IsStopped, looks_made};
 ghost use Rattle.live_study.specs.Looks.{AreCaughtUp, HasRacks, IsAt};
+ghost use Rattle.live_study.specs.Opening.{AreReadyAll, HasReservedFor};
 ghost use Rattle.live_study.specs.Showing.{AllCaughtUp, HasLooked, looks_to_make};
 
 use crate::analyst::Analyst;

@@ -5,10 +5,9 @@ ghost use Rattle.sim_base.specs.Clones.{base};
 ghost use Rattle.decision_desk.specs.Passes.{new_helm, new_passes};
 ghost use Rattle.shelf.specs.Racks.{MayOpen};
 ghost use Rattle.world_core.specs.Worlds.{total_handled};
-ghost use Rattle.live_study.specs.Closing.{HasReservedFor};
 ghost use Rattle.live_study.specs.Lives.{IsAtHorizon, IsStopped, all_looks};
 ghost use Rattle.live_study.specs.Looks.{AreLooks, HasMadeLooks};
-ghost use Rattle.live_study.specs.Opening.{AreOpeningRacks, IsFresh, IsPrepared, numbers_to};
+ghost use Rattle.live_study.specs.Opening.{AreOpeningRacks, HasReservedFor, IsFresh, IsPrepared, numbers_to};
 ghost use Rattle.live_study.specs.Scripts.{IsJournalOf, each_acts};
 
 use crate::analyst::Analyst;

@@ -24,7 +24,11 @@ fn looks_of(alloc: Global, looks: &[Reserved<Looked>]) -> Result<Vec<Looked>, No
 }
 
 /// The text of the journal that a live study of a script leaves, with the looks of its analysts behind it.
-pub fn journal_of(alloc: Global, script: &Script, live: &LiveRun) -> Result<Vec<u8>, NoMemory>
+pub fn live_journal_text(
+    alloc: Global,
+    script: &Script,
+    live: &LiveRun,
+) -> Result<Vec<u8>, NoMemory>
     requires journal { (net : Net) × IsJournalOf net script.now live.now.book }
     requires made { HasMadeLooks script.now (all_looks live.now.looks.items) }
     ensures value { IfOk result (λ text. text.items ≡

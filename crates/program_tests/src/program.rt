@@ -73,7 +73,7 @@ struct Row<'a> {
     errors: &'a str,
 }
 
-/// `run` of them.
+/// `run` of the model in `m` and the script in `s`.
 const RUN: &[&str] = &["run", "m", "s"];
 
 /// The script of the worked example: from 8 on the desk of `fast` serves for 2.
@@ -160,8 +160,9 @@ fn sink_of(alloc: Global, takes: usize, failing: &[(u32, usize)]) -> Result<MemS
     MemSink::new(alloc, takes, Vec::from_slice(alloc, failing)?)
 }
 
-/// The status with which the program ends on these words, over these inputs and sinks.
-fn counted<G: Gate, L: Ledger, R: Threads + Wait + Sync>(
+/// The status with which the program ends on these words, over these inputs and sinks, on the counter that the blank
+/// makes.
+fn cloner_counted<G: Gate, L: Ledger, R: Threads + Wait + Sync>(
     rt: &R,
     alloc: Global,
     gate: &G,
@@ -193,7 +194,7 @@ fn ended<G: Gate, R: Threads + Wait + Sync>(
     let mut inputs = inputs_of(alloc, model, script, outside.fetch)?;
     let mut out = sink_of(alloc, outside.takes, outside.put)?;
     let mut err = sink_of(alloc, 1000, outside.error)?;
-    let status = counted::<G, Brand, R>(
+    let status = cloner_counted::<G, Brand, R>(
         rt,
         alloc,
         gate,

@@ -65,7 +65,7 @@ module _ (net : Net) (valid : IsNet net) (cs : List Clone) (in_net : AreInNet ne
     pub margin_stays : 32 ≤ length cut
     margin_stays = let l = long_cut in let w = can_drop in omega (arith, l, w)
 
--- a page with the first lines of a clone still has room for the others
+-- a page with the first lines of a clone still has free bytes for the others
 pub rest_fits : (page rest body : List ℕ) (reserved : ℕ) → 32 ≤ length page → drop 32 page ++ rest ≡ body
     → 32 + length body ≤ reserved → length page + length rest ≤ reserved
 rest_fits page rest body reserved margin joined fits =

@@ -53,7 +53,7 @@ module _ (keeps : Bool) where
   -- nothing was put yet
   pub put_none : (all : List ℕ) (p : PageView) (v : SinkView) → IsPutTo keeps all all p p v v
   put_none all p v =
-      record { done = []; parts = refl; taken = taken_none v; kept = none keeps; reserved = omega arith }
+      record { done = []; parts = refl; taken = taken_none v; page_is = none keeps; reserved = omega arith }
     where
       none : (k : Bool) → p.text ≡ p.text ++ (if k then [] else [])
       none true = sym (append-nil p.text)
@@ -66,7 +66,7 @@ module _ (keeps : Bool) where
     done = h.done ++ k.done;
     parts = append_assoc h.done k.done less ∙ ap (λ l. h.done ++ l) k.parts ∙ h.parts;
     taken = taken_then h.done k.done old mid new h.taken k.taken;
-    kept = both keeps h.kept k.kept;
+    page_is = both keeps h.page_is k.page_is;
     reserved = omega (arith, x, y);
   }
     where
@@ -82,7 +82,7 @@ module _ (keeps : Bool) where
     done = h.done;
     parts = ap (λ d. d ++ others) (sym (append-nil h.done) ∙ h.parts) ∙ e;
     taken = h.taken;
-    kept = h.kept;
+    page_is = h.page_is;
     reserved = h.reserved;
   }
 
@@ -101,7 +101,7 @@ module _ (keeps : Bool) where
       let a = fits is in
       let b = ap length h.parts in
       let c = length-append h.done left in
-      let d = ap length (h.kept ∙ ap (λ k. p.text ++ (if k then h.done else [])) is) in
+      let d = ap length (h.page_is ∙ ap (λ k. p.text ++ (if k then h.done else [])) is) in
       let e = length-append p.text h.done in
       let f = h.reserved in
       omega (arith, a, b, c, d, e, f)

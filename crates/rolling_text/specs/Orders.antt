@@ -22,11 +22,11 @@ abbrev pub IsMade : Span → List ℕ → Type 0
 IsMade span lines = lines ++ rest span.net span.list span.until ≡ rest span.net span.list span.from
 
 -- a span up to another time
-abbrev pub until_of : Span → ℕ → Span
-until_of span time =
+abbrev pub span_until : Span → ℕ → Span
+span_until span time =
     record { net = span.net; list = span.list; from = span.from; until = time }
 
 -- and from another time on
-abbrev pub since : Span → ℕ → Span
-since span time =
+abbrev pub span_since : Span → ℕ → Span
+span_since span time =
     record { net = span.net; list = span.list; from = time; until = span.until }

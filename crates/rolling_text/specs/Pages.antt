@@ -1,4 +1,4 @@
--- A buffer that was taken once.
+-- What contracts see of a page, a buffer whose memory is taken once.
 use Rattle.std.specs.Prelude.{ℕ, List}
 
 -- the bytes that were written, and how many are reserved

@@ -29,5 +29,5 @@ pub record IsPutTo (keeps : Bool) (all left : List ℕ) (page page_now : PageVie
   pub done : List ℕ
   pub parts : done ++ left ≡ all
   pub taken : IsTaken done old new
-  pub kept : page_now.text ≡ page.text ++ (if keeps then done else [])
+  pub page_is : page_now.text ≡ page.text ++ (if keeps then done else [])
   pub reserved : page.reserved ≤ page_now.reserved

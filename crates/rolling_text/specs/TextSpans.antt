@@ -14,7 +14,7 @@ use Rattle.rolling_text.specs.declared.texts.Texts.{Texts}
 abbrev pub span_of : WorldTracesView → TextSpan → Span
 span_of traces span = span_between traces span.c span.from span.until
 
--- it may be put: its clone is there, and a page that keeps it has room for it and for all lines behind it
+-- it may be put: its clone is there, and a page that keeps it has free bytes for it and for all lines behind it
 pub record MayPut (traces : WorldTracesView) (span : TextSpan) (texts : Texts) : Type 0 where
   pub there : span.c < length traces.clones
   pub order : span.from ≤ span.until

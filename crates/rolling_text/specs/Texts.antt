@@ -56,7 +56,7 @@ pub record HaveShortLines (net : Net) (es : List (Entry Msg Line)) : Type 0 wher
 abbrev pub AllFit : Net → List Clone → ℕ → Type 0
 AllFit net cs reserved = (c : ℕ) → c < length cs → 32 + length (body net (clone_at cs c)) ≤ reserved
 
--- a cursor has place for all logs, and a line has room
+-- a cursor has free places for all logs, and the piece has the bytes of a line
 pub record CanPut (net : Net) (texts : Texts) : Type 0 where
   pub walk : IsWalk net texts.walk
   pub line : MOST_LINE ≤ length texts.piece.items

@@ -34,6 +34,6 @@ pub record MayTrace (world : WorldView) (names : List Slot) : Type 0 where
   pub over : IsOver world
   pub names_are : AreNames world.net names
 
--- a cursor has place for the logs of all stations
+-- a cursor has free places for the logs of all stations
 abbrev pub IsWalk : Net → CursorView → Type 0
 IsWalk net walk = walk.most ≡ length net.sites

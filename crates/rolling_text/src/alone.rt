@@ -13,8 +13,8 @@ use sim_base::Name;
 use sim_outer::{PutFailed, Sink};
 use trace_report::{MOST_LINE, Names, write_stored};
 
-// Makes lines of the next entries of a walk, `left` of them, as long as there is place, and counts them down. Returns
-// how many bytes they have.
+// Makes lines of the next entries of a walk, `left` of them, while the piece has free bytes for one more, and counts
+// them down. Returns how many bytes they have.
 fn make_piece(
     walk: &mut Walk<'_>,
     left: &mut u64,

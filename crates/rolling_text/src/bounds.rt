@@ -59,7 +59,7 @@ fn bound_of(world: &World, c: u32) -> usize
     bound
 }
 
-// From which time on the lines of a clone differ from those of the one before it: all of them, where there is none.
+/// From which time on the lines of a clone differ from those of the one before it: all of them, where there is none.
 pub(crate) fn parts_at(traces: &WorldTraces<'_>, c: u32) -> u64
     requires there { c < length traces.now.clones }
     ensures value { result ≡ parting_at traces.now.net traces.now.clones c }

@@ -5,7 +5,7 @@
 //!                made                                                   given  until
 //! ```
 ghost use Rattle.std.specs.Prelude.{◌≡◌, ◌<◌, ◌≤◌, [], ◌∷◌, ◌++◌, None, Some, length, IfSome, OnOk, OnErr};
-ghost use Rattle.rolling_text.specs.Orders.{until_of, since, span_between};
+ghost use Rattle.rolling_text.specs.Orders.{span_between, span_since, span_until};
 ghost use Rattle.rolling_text.specs.GivenSpans.{IsNextSpan};
 
 use crate::cuts::Cuts;
@@ -153,8 +153,8 @@ impl<'a> GivenSpans<'a> {
     ///
     /// None where no span is given, or where there is no memory.
     pub(crate) fn next<R: Wait>(&mut self, rt: &R, alloc: Global) -> Option<NextSpan>
-        ensures made { IfSome result (λ next. IsNextSpan (until_of self.old self.new.from) next) }
-        ensures others { self.new ≡ since self.old self.new.from }
+        ensures made { IfSome result (λ next. IsNextSpan (span_until self.old self.new.from) next) }
+        ensures others { self.new ≡ span_since self.old self.new.from }
         ensures later { self.old.from ≤ self.new.from }
     {
         let Some(GivenSpan { mailbox, until }) = self.spans.pop_front() else {

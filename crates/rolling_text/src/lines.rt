@@ -40,8 +40,8 @@ pub(crate) fn gather<'a>(cursor: &mut Cursor<'a>, world: &'a World, c: u32, time
     count
 }
 
-// Makes lines of the next entries of a cursor, `left` of them, as long as there is place, and counts them down. Returns
-// how many bytes they have.
+// Makes lines of the next entries of a cursor, `left` of them, while the piece has free bytes for one more, and counts
+// them down. Returns how many bytes they have.
 fn make_piece(
     cursor: &mut Cursor<'_>,
     left: &mut u64,

@@ -79,7 +79,7 @@ fn put_rest<'a, O: Sink, R: Threads + Wait + Sync>(
         ≤ texts.old.page.reserved }
     ensures ok { OnOk result (IsTaken (rest traces.now.net (clone_at traces.now.clones c) time)
         (O.seen out.old) (O.seen out.new)) }
-    ensures kept { OnOk result (texts.new.page.text ++ rest traces.now.net (clone_at traces.now.clones c) late
+    ensures page { OnOk result (texts.new.page.text ++ rest traces.now.net (clone_at traces.now.clones c) late
         ≡ texts.old.page.text ++ rest traces.now.net (clone_at traces.now.clones c) time) }
     ensures longer { OnOk result (length texts.old.page.text ≤ length texts.new.page.text) }
     ensures reserved { OnOk result (texts.old.page.reserved ≤ texts.new.page.reserved) }

@@ -16,7 +16,7 @@ pub(crate) const MARGIN: usize = 32;
 /// taken.
 pub(crate) const PIECE: usize = 16_384;
 
-/// All that the texts of clones need: a buffer for what texts have in common, a cursor, and room for some lines.
+/// All that the texts of clones need: a buffer for what texts have in common, a cursor, and a buffer for some lines.
 #[derive(Drop)]
 pub struct Texts<'a> {
     pub(crate) page: Page,

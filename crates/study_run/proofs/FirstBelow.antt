@@ -1,10 +1,11 @@
 -- The first of several values that is there.
 use Rattle.std.proofs.Common.{◌≡◌, inl, inr, ℕ, zero, suc, ◌<◌, refl, ap, ap₂, ◌∙◌, arith, Option, Some, None}
 use Rattle.std.proofs.lemmas.Bool.{cases_lt}
-use Rattle.study_run.specs.Overs.{first_below, sooner}
+use Rattle.std.specs.Option.{option_or}
+use Rattle.study_run.specs.Overs.{first_below}
 
 -- neither is there
-pub both_none : {X : Type 0} (a b : Option X) → sooner a b ≡ None → (a ≡ None) × (b ≡ None)
+pub both_none : {X : Type 0} (a b : Option X) → option_or a b ≡ None → (a ≡ None) × (b ≡ None)
 both_none None b h = (refl, h)
 both_none (Some x) b h = absurd (cc)
 
@@ -20,17 +21,17 @@ module _ {X : Type 0} (f : ℕ → Option X) where
   pub below_none : (n : ℕ) → ((k : ℕ) → k < n → f k ≡ None) → first_below f n ≡ None
   unfolding first_below
   below_none zero h = refl
-  below_none (suc n) h = ap₂ sooner (below_none n (λ k l. h k (omega (arith, l)))) (h n (omega arith))
+  below_none (suc n) h = ap₂ option_or (below_none n (λ k l. h k (omega (arith, l)))) (h n (omega arith))
 
   -- one is there, and none before it
   pub below_some : (n k : ℕ) (x : X) → k < n → f k ≡ Some x → ((j : ℕ) → j < k → f j ≡ None) → first_below f n ≡ Some x
   unfolding first_below
   below_some zero k x l e h = absurd (omega (arith, l))
   below_some (suc n) k x l e h = elim (cases_lt k n) [
-    | inl less ↦ ap (λ o. sooner o (f n)) (below_some n k x less e h)
+    | inl less ↦ ap (λ o. option_or o (f n)) (below_some n k x less e h)
     | inr most ↦
         let is : n ≡ k = omega (arith, l, most) in
-        ap₂ sooner (below_none n (λ j s. h j (omega (arith, s, is)))) (ap f is ∙ e)
+        ap₂ option_or (below_none n (λ j s. h j (omega (arith, s, is)))) (ap f is ∙ e)
   ]
 
   -- where nothing is found, none is there
@@ -50,7 +51,7 @@ module _ {X : Type 0} (f : ℕ → Option X) where
   found_below zero x h = absurd (cc)
   found_below (suc n) x h = by (first_below f n) refl h (λ e. found_below n x e)
     where
-      by : (o : Option X) → first_below f n ≡ o → sooner o (f n) ≡ Some x
+      by : (o : Option X) → first_below f n ≡ o → option_or o (f n) ≡ Some x
           → (first_below f n ≡ Some x → IsFirstAt f n x) → IsFirstAt f (suc n) x
       by (Some y) e h before =
           let r = before (e ∙ h) in

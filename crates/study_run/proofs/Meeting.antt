@@ -2,6 +2,7 @@
 use Rattle.std.proofs.Common.{◌≡◌, ◌⊎◌, inl, inr, ℕ, zero, suc, ◌<◌, ◌≤◌, refl, sym}
 use Rattle.std.proofs.Common.{ap, ◌∙◌, subst, arith, List, [], ◌∷◌, length, Option, Some, None}
 use Rattle.std.proofs.lemmas.Bool.{cases_lt}
+use Rattle.std.specs.Option.{option_or}
 use Rattle.sim_base.specs.Clones.{Clone, clone_at}
 use Rattle.net_model.specs.Net.{Net}
 use Rattle.net_model.specs.Rules.{IsNet}
@@ -14,7 +15,7 @@ use Rattle.stations.proofs.GoodLaws.{lawful-stations}
 use Rattle.world_core.specs.Overs.{IsFirstBeyond, NoneBeyond}
 use Rattle.study_run.specs.Limits.{AreWithin, MeetsLimit}
 use Rattle.study_run.specs.Laws.{MeetingIsFound, MeetingIsOne, NotWithinAndMet, WithinIsNotFound, WithinOrMet}
-use Rattle.study_run.specs.Overs.{first_over, first_over_of, over_at, sooner}
+use Rattle.study_run.specs.Overs.{first_over, first_over_of, over_at}
 use Rattle.study_run.proofs.OverLaws.{ended, is_first, no_windows, none_beyond, rises, window_more, within_horizon}
 
 -- ---- AreWithin
@@ -65,7 +66,7 @@ module _ (net : Net) (valid : IsNet net) (cs : List Clone) where
   -- the next window is the first, or it goes on behind it
   meets_next : (n front s c : ℕ) (below : front < net.horizon) (o : Option (ℕ × ℕ))
       → over_at net cs (next_front net cs front) ≡ o
-      → sooner o (first_over net cs n (next_front net cs front)) ≡ Some (s, c)
+      → option_or o (first_over net cs n (next_front net cs front)) ≡ Some (s, c)
       → (first_over net cs n (next_front net cs front) ≡ Some (s, c) → MeetsFrom net cs (next_front net cs front) s c)
       → MeetsFrom net cs front s c
   meets_next n front s c below (Some p) e h on =

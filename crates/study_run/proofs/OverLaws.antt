@@ -3,6 +3,7 @@ use Rattle.std.proofs.Common.{◌≡◌, inl, inr, ℕ, zero, suc, ◌+◌, ◌-
 use Rattle.std.proofs.Common.{ap, ◌∙◌, subst, arith, List, length, Some, None, Bool, lt-ltb, le-ltb}
 use Rattle.std.specs.Prelude.{if◌then◌else◌}
 use Rattle.std.proofs.lemmas.Bool.{cases_lt}
+use Rattle.std.specs.Option.{option_or}
 use Rattle.sim_base.specs.Clones.{Clone, clone_at}
 use Rattle.net_model.specs.Net.{Net}
 use Rattle.net_model.specs.Rules.{IsNet}
@@ -11,7 +12,7 @@ use Rattle.run_laws.proofs.NextFronts.{next_front-rises, window_end-within}
 use Rattle.stations.specs.Runs.{IsBeyond, log_at, next_front, simulation}
 use Rattle.stations.proofs.GoodLaws.{lawful-stations}
 use Rattle.world_core.specs.Overs.{IsFirstBeyond, NoneBeyond}
-use Rattle.study_run.specs.Overs.{HasCome, first_over, first_over_of, over_at, over_in, over_of, sooner}
+use Rattle.study_run.specs.Overs.{HasCome, first_over, first_over_of, over_at, over_in, over_of}
 use Rattle.study_run.proofs.FirstBelow.{below_none, below_some, both_none, found_below, none_below}
 
 -- ---- over_of, over_in, over_at
@@ -107,11 +108,11 @@ module _ (net : Net) (cs : List Clone) (front : ℕ) where
 module _ (net : Net) (cs : List Clone) where
   -- a window more
   pub window_more : (n front : ℕ) → front < net.horizon
-      → first_over net cs (suc n) front ≡ sooner (over_at net cs (next_front net cs front))
+      → first_over net cs (suc n) front ≡ option_or (over_at net cs (next_front net cs front))
       (first_over net cs n (next_front net cs front))
   unfolding first_over
   window_more n front l =
-      ap (λ (b : Bool). if b then sooner (over_at net cs (next_front net cs front))
+      ap (λ (b : Bool). if b then option_or (over_at net cs (next_front net cs front))
       (first_over net cs n (next_front net cs front)) else None) (lt-ltb front net.horizon l)
 
   -- none more
@@ -119,7 +120,7 @@ module _ (net : Net) (cs : List Clone) where
   unfolding first_over
   ended zero front h = refl
   ended (suc n) front h =
-      ap (λ (b : Bool). if b then sooner (over_at net cs (next_front net cs front))
+      ap (λ (b : Bool). if b then option_or (over_at net cs (next_front net cs front))
       (first_over net cs n (next_front net cs front)) else None) (le-ltb front net.horizon h)
 
   -- without windows nothing is found
@@ -169,7 +170,7 @@ module _ (net : Net) (cs : List Clone) (front : ℕ) (below : front < net.horizo
             left = n;
             enough = omega (arith, enough, later);
             same = sym (window_more net cs n front below
-                ∙ ap (λ o. sooner o (first_over net cs n (next_front net cs front)))
+                ∙ ap (λ o. option_or o (first_over net cs n (next_front net cs front)))
                 (none_over net cs (next_front net cs front) none)) ∙ same;
           }
 
@@ -182,7 +183,7 @@ module _ (net : Net) (cs : List Clone) (front : ℕ) (below : front < net.horizo
           → first_over_of net cs ≡ Some (s, c)
       by zero enough same = absurd (omega (arith, enough, below))
       by (suc n) enough same = sym same ∙ (window_more net cs n front below
-          ∙ ap (λ o. sooner o (first_over net cs n (next_front net cs front)))
+          ∙ ap (λ o. option_or o (first_over net cs n (next_front net cs front)))
           (first_is net cs (next_front net cs front) s c first))
 
 -- at the horizon

@@ -1,18 +1,14 @@
 -- The first log of a run that is beyond the limit, found window by window.
 use Rattle.std.specs.Prelude.{◌≡◌, ℕ, zero, suc, ◌+◌, ◌≤◌, List, Option, Some, None, if◌then◌else◌, length, nat_lt}
+use Rattle.std.specs.Option.{option_or}
 use Rattle.sim_base.specs.Clones.{Clone, clone_at}
 use Rattle.net_model.specs.Net.{Net}
 use Rattle.stations.specs.Runs.{log_at, next_front}
 
--- what is there, or else what comes later
-abbrev pub sooner : {X : Type 0} → Option X → Option X → Option X
-sooner (Some x) later = Some x
-sooner None later = later
-
 -- the first of f 0, f 1 .. f (n - 1) that is there
 unfoldable pub first_below : {X : Type 0} → (ℕ → Option X) → ℕ → Option X
 first_below f zero = None
-first_below f (suc n) = sooner (first_below f n) (f n)
+first_below f (suc n) = option_or (first_below f n) (f n)
 
 -- a station and a clone whose log there is beyond the limit at a front
 abbrev pub over_of : Net → List Clone → ℕ → ℕ → ℕ → Option (ℕ × ℕ)
@@ -31,7 +27,7 @@ unfoldable pub first_over : Net → List Clone → ℕ → ℕ → Option (ℕ �
 first_over net cs zero front = None
 first_over net cs (suc n) front =
     if nat_lt front net.horizon
-    then sooner (over_at net cs (next_front net cs front)) (first_over net cs n (next_front net cs front))
+    then option_or (over_at net cs (next_front net cs front)) (first_over net cs n (next_front net cs front))
     else None
 
 -- the first in a whole run, of which the fronts are no more than the horizon's times

@@ -42,7 +42,7 @@ pub fn run_alone<L: Ledger>(
     ensures within { OnOk result (IsWithin model.now (clone_at lists.now.clones c)) }
     ensures few { OnOk result (IsFew model.now 1 steps.old steps.new) }
 
-    // Or the limit is met.
+    // Or out of memory, or the limit is met.
     ensures fault { IfErr result (λ e. IsFaultAlone model.now lists.now.clones c steps.old steps.new e) }
 {
     let front = last_front(model, lists.end_of(c));

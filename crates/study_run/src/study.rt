@@ -228,7 +228,7 @@ pub fn run_study<C: Crew, G: Gate, L: Ledger, R: Threads + Wait + Sync>(
     ensures steps { IfOk result (λ w.
         steps.new ≡ steps.old + total_handled model.now.value w.clones model.now.value.horizon) }
 
-    // Or the limit is met.
+    // Or out of memory, or the limit is met.
     ensures fault { IfErr result (λ e.
         IsFaultOfAll model.now.value (clones_after_calls model.now.value (base ∷ []) calls.now) steps.old steps.new e) }
 {

@@ -1,4 +1,4 @@
-//! The model of the tests.
+//! A model with a station of each kind.
 
 /// One station of each kind.
 pub const FIVE_KINDS: &str = r#"lookahead = 2

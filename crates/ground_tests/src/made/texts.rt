@@ -7,6 +7,7 @@ pub struct Row {
     pub model: &'static str,
 }
 
+/// The least number, one in between, and the greatest.
 pub const ROWS: &[Row] = &[
     Row {
         shows: "the least number has two wards",

@@ -2,9 +2,9 @@
 
 use super::texts::{SEVENTEEN, SMALL};
 
-/// A change: the first `old` becomes `new`. The refusal has this number, names this station or 0 for
-/// the top, and this key, or none where it is empty.
-pub struct Change {
+/// A text in which the first `old` becomes `new`, and its refusal: the number, the station or 0 for the top, and the key,
+/// or none where it is empty.
+pub struct Refused {
     pub old: &'static str,
     pub new: &'static str,
     pub number: u32,
@@ -13,491 +13,491 @@ pub struct Change {
 }
 
 /// Changes to the small model.
-pub const SMALL_CHANGES: &[Change] = &[
-    Change {
+pub const SMALL_CHANGES: &[Refused] = &[
+    Refused {
         old: "lookahead = 2\n",
         new: "",
         number: 3,
         place: 0,
         key: "lookahead",
     },
-    Change {
+    Refused {
         old: "horizon = 20\n",
         new: "",
         number: 3,
         place: 0,
         key: "horizon",
     },
-    Change {
+    Refused {
         old: "lookahead",
         new: "speed = 3\nlookahead",
         number: 5,
         place: 0,
         key: "speed",
     },
-    Change {
+    Refused {
         old: "lookahead",
         new: "zeal = 1\n\"\" = 2\nSpeed = 3\nlookahead",
         number: 5,
         place: 0,
         key: "",
     },
-    Change {
+    Refused {
         old: "lookahead",
         new: "\"Zeal time\" = 1\nlookahead",
         number: 5,
         place: 0,
         key: "?eal?time",
     },
-    Change {
+    Refused {
         old: "lookahead = 2",
         new: r#"lookahead = "2""#,
         number: 4,
         place: 0,
         key: "lookahead",
     },
-    Change {
+    Refused {
         old: "lookahead = 2",
         new: "lookahead = 1979-05-27",
         number: 4,
         place: 0,
         key: "lookahead",
     },
-    Change {
+    Refused {
         old: "lookahead = 2",
         new: "lookahead = 2.0",
         number: 4,
         place: 0,
         key: "lookahead",
     },
-    Change {
+    Refused {
         old: "lookahead = 2",
         new: "lookahead = 0",
         number: 8,
         place: 0,
         key: "lookahead",
     },
-    Change {
+    Refused {
         old: "lookahead = 2",
         new: "lookahead = 1000001",
         number: 8,
         place: 0,
         key: "lookahead",
     },
-    Change {
+    Refused {
         old: "horizon = 20",
         new: "horizon = 0",
         number: 8,
         place: 0,
         key: "horizon",
     },
-    Change {
+    Refused {
         old: "horizon = 20",
         new: "horizon = 1000000001",
         number: 8,
         place: 0,
         key: "horizon",
     },
-    Change {
+    Refused {
         old: "horizon = 20",
         new: "horizon = 20\nseed = -1",
         number: 8,
         place: 0,
         key: "seed",
     },
-    Change {
+    Refused {
         old: "horizon = 20",
         new: "horizon = 20\nlimit = 65537",
         number: 8,
         place: 0,
         key: "limit",
     },
-    Change {
+    Refused {
         old: "horizon = 20",
         new: "horizon = 20\nformat = 3",
         number: 8,
         place: 0,
         key: "format",
     },
-    Change {
+    Refused {
         old: "horizon = 20",
         new: "horizon = 20\nhorizon = 20",
         number: 2,
         place: 0,
         key: "",
     },
-    Change {
+    Refused {
         old: "horizon = 20",
         new: "horizon = 20\nseed = 9223372036854775808",
         number: 2,
         place: 0,
         key: "",
     },
-    Change {
+    Refused {
         old: "horizon = 20",
         new: "horizon = 20\nlookahead.far = 2",
         number: 2,
         place: 0,
         key: "",
     },
-    Change {
+    Refused {
         old: r#"name = "desk""#,
         new: "name = 3",
         number: 4,
         place: 2,
         key: "name",
     },
-    Change {
+    Refused {
         old: "name = \"desk\"\n",
         new: "",
         number: 3,
         place: 2,
         key: "name",
     },
-    Change {
+    Refused {
         old: r#"name = "desk""#,
         new: r#"name = "Desk""#,
         number: 6,
         place: 2,
         key: "",
     },
-    Change {
+    Refused {
         old: r#"name = "desk""#,
         new: r#"name = "analyst""#,
         number: 6,
         place: 2,
         key: "",
     },
-    Change {
+    Refused {
         old: r#"name = "desk""#,
         new: r#"name = "a_name_of_17_byte""#,
         number: 6,
         place: 2,
         key: "",
     },
-    Change {
+    Refused {
         old: r#"name = "desk""#,
         new: r#"name = "gate""#,
         number: 7,
         place: 2,
         key: "",
     },
-    Change {
+    Refused {
         old: "kind = \"server\"\n",
         new: "",
         number: 3,
         place: 2,
         key: "kind",
     },
-    Change {
+    Refused {
         old: r#"kind = "server""#,
         new: r#"kind = ["server"]"#,
         number: 4,
         place: 2,
         key: "kind",
     },
-    Change {
+    Refused {
         old: r#"kind = "server""#,
         new: r#"kind = "clerk""#,
         number: 8,
         place: 2,
         key: "kind",
     },
-    Change {
+    Refused {
         old: "room = 5",
         new: "room = 5\nzeal = 1\nhold = [1, 2]",
         number: 5,
         place: 2,
         key: "hold",
     },
-    Change {
+    Refused {
         old: "room = 5",
         new: "room = 5\norder = \"class\"",
         number: 5,
         place: 2,
         key: "order",
     },
-    Change {
+    Refused {
         old: "jobs = 2",
         new: "jobs = 2\nclass = 2",
         number: 5,
         place: 1,
         key: "class",
     },
-    Change {
+    Refused {
         old: r#"kind = "sink""#,
         new: "kind = \"sink\"\nlink = [{ to = \"out\", delay = 2 }]",
         number: 5,
         place: 3,
         key: "link",
     },
-    Change {
+    Refused {
         old: "room = 5",
         new: "room = 5\nstream = -1",
         number: 8,
         place: 2,
         key: "stream",
     },
-    Change {
+    Refused {
         old: "room = 5",
         new: "room = 5\nstream = \"2\"",
         number: 4,
         place: 2,
         key: "stream",
     },
-    Change {
+    Refused {
         old: "every = [3, 3]\n",
         new: "",
         number: 3,
         place: 1,
         key: "every",
     },
-    Change {
+    Refused {
         old: "every = [3, 3]",
         new: "every = 3",
         number: 4,
         place: 1,
         key: "every",
     },
-    Change {
+    Refused {
         old: "every = [3, 3]",
         new: "every = [3]",
         number: 4,
         place: 1,
         key: "every",
     },
-    Change {
+    Refused {
         old: "every = [3, 3]",
         new: "every = [3, 3.5]",
         number: 4,
         place: 1,
         key: "every",
     },
-    Change {
+    Refused {
         old: "every = [3, 3]",
         new: "every = [0, 3]",
         number: 8,
         place: 1,
         key: "every",
     },
-    Change {
+    Refused {
         old: "every = [3, 3]",
         new: "every = [3, 1000001]",
         number: 8,
         place: 1,
         key: "every",
     },
-    Change {
+    Refused {
         old: "every = [3, 3]",
         new: "every = [-3, 3]",
         number: 8,
         place: 1,
         key: "every",
     },
-    Change {
+    Refused {
         old: "jobs = 2\n",
         new: "",
         number: 3,
         place: 1,
         key: "jobs",
     },
-    Change {
+    Refused {
         old: "jobs = 2",
         new: "jobs = 1000001",
         number: 8,
         place: 1,
         key: "jobs",
     },
-    Change {
+    Refused {
         old: "servers = 1\n",
         new: "",
         number: 3,
         place: 2,
         key: "servers",
     },
-    Change {
+    Refused {
         old: "servers = 1",
         new: "servers = 0",
         number: 8,
         place: 2,
         key: "servers",
     },
-    Change {
+    Refused {
         old: "servers = 1",
         new: "servers = 17",
         number: 8,
         place: 2,
         key: "servers",
     },
-    Change {
+    Refused {
         old: "room = 5\n",
         new: "",
         number: 3,
         place: 2,
         key: "room",
     },
-    Change {
+    Refused {
         old: "room = 5",
         new: "room = 4097",
         number: 8,
         place: 2,
         key: "room",
     },
-    Change {
+    Refused {
         old: "service = [4, 4]\n",
         new: "",
         number: 3,
         place: 2,
         key: "service",
     },
-    Change {
+    Refused {
         old: "service = [4, 4]",
         new: "service = [4, 4, 4]",
         number: 4,
         place: 2,
         key: "service",
     },
-    Change {
+    Refused {
         old: "service = [4, 4]",
         new: "service = [5, 4]",
         number: 8,
         place: 2,
         key: "service",
     },
-    Change {
+    Refused {
         old: r#"link = [{ to = "out", delay = 2 }]"#,
         new: "link = 3",
         number: 4,
         place: 2,
         key: "link",
     },
-    Change {
+    Refused {
         old: r#"link = [{ to = "out", delay = 2 }]"#,
         new: r#"link = [{ to = "out", delay = 2 }, 3]"#,
         number: 4,
         place: 2,
         key: "link",
     },
-    Change {
+    Refused {
         old: r#"link = [{ to = "out", delay = 2 }]"#,
         new: SEVENTEEN,
         number: 12,
         place: 2,
         key: "",
     },
-    Change {
+    Refused {
         old: r#"link = [{ to = "out", delay = 2 }]"#,
         new: r#"link = [{ to = "out", delay = 2, speed = 1 }]"#,
         number: 5,
         place: 2,
         key: "speed",
     },
-    Change {
+    Refused {
         old: r#"link = [{ to = "out", delay = 2 }]"#,
         new: "link = [{ delay = 2 }]",
         number: 3,
         place: 2,
         key: "to",
     },
-    Change {
+    Refused {
         old: r#"link = [{ to = "out", delay = 2 }]"#,
         new: "link = [{ to = 3, delay = 2 }]",
         number: 4,
         place: 2,
         key: "to",
     },
-    Change {
+    Refused {
         old: r#"link = [{ to = "out", delay = 2 }]"#,
         new: r#"link = [{ to = "", delay = 2 }]"#,
         number: 6,
         place: 2,
         key: "",
     },
-    Change {
+    Refused {
         old: r#"link = [{ to = "out", delay = 2 }]"#,
         new: r#"link = [{ to = "out" }]"#,
         number: 3,
         place: 2,
         key: "delay",
     },
-    Change {
+    Refused {
         old: r#"link = [{ to = "out", delay = 2 }]"#,
         new: r#"link = [{ to = "out", delay = "2" }]"#,
         number: 4,
         place: 2,
         key: "delay",
     },
-    Change {
+    Refused {
         old: r#"link = [{ to = "out", delay = 2 }]"#,
         new: r#"link = [{ to = "out", delay = 0 }]"#,
         number: 8,
         place: 2,
         key: "delay",
     },
-    Change {
+    Refused {
         old: r#"link = [{ to = "out", delay = 2 }]"#,
         new: r#"link = [{ to = "out", delay = 1000001 }]"#,
         number: 8,
         place: 2,
         key: "delay",
     },
-    Change {
+    Refused {
         old: r#"link = [{ to = "out", delay = 2 }]"#,
         new: r#"link = [{ to = "out", delay = 2, weight = true }]"#,
         number: 4,
         place: 2,
         key: "weight",
     },
-    Change {
+    Refused {
         old: r#"link = [{ to = "out", delay = 2 }]"#,
         new: r#"link = [{ to = "out", delay = 2, weight = 0 }]"#,
         number: 8,
         place: 2,
         key: "weight",
     },
-    Change {
+    Refused {
         old: r#"link = [{ to = "out", delay = 2 }]"#,
         new: r#"link = [{ to = "out", delay = 2, weight = 1001 }]"#,
         number: 8,
         place: 2,
         key: "weight",
     },
-    Change {
+    Refused {
         old: r#"link = [{ to = "out", delay = 2 }]"#,
         new: r#"link = [{ to = "exit", delay = 2 }]"#,
         number: 9,
         place: 2,
         key: "",
     },
-    Change {
+    Refused {
         old: r#"link = [{ to = "out", delay = 2 }]"#,
         new: r#"link = [{ to = "analyst", delay = 2 }]"#,
         number: 9,
         place: 2,
         key: "",
     },
-    Change {
+    Refused {
         old: r#"link = [{ to = "out", delay = 2 }]"#,
         new: r#"link = [{ to = "gate", delay = 2 }]"#,
         number: 14,
         place: 2,
         key: "",
     },
-    Change {
+    Refused {
         old: r#"link = [{ to = "out", delay = 2 }]"#,
         new: r#"link = [{ to = "out", delay = 1 }]"#,
         number: 10,
         place: 2,
         key: "",
     },
-    Change {
+    Refused {
         old: r#"link = [{ to = "out", delay = 2 }]"#,
         new: "link = []",
         number: 11,
         place: 2,
         key: "",
     },
-    Change {
+    Refused {
         old: "link = [{ to = \"desk\", delay = 2 }]\n",
         new: "",
         number: 11,
@@ -507,57 +507,57 @@ pub const SMALL_CHANGES: &[Change] = &[
 ];
 
 /// Texts in the place of the small model.
-pub const OTHER_TEXTS: &[Change] = &[
-    Change {
+pub const OTHER_TEXTS: &[Refused] = &[
+    Refused {
         old: SMALL,
         new: "",
         number: 3,
         place: 0,
         key: "lookahead",
     },
-    Change {
+    Refused {
         old: SMALL,
         new: "lookahead = 2\nhorizon = 20\n",
         number: 3,
         place: 0,
         key: "station",
     },
-    Change {
+    Refused {
         old: SMALL,
         new: "lookahead = 2\nhorizon = 20\nstation = []\n",
         number: 8,
         place: 0,
         key: "station",
     },
-    Change {
+    Refused {
         old: SMALL,
         new: "lookahead = 2\nhorizon = 20\nstation = 3\n",
         number: 4,
         place: 0,
         key: "station",
     },
-    Change {
+    Refused {
         old: SMALL,
         new: "lookahead = 2\nhorizon = 20\nstation = [3]\n",
         number: 4,
         place: 0,
         key: "station",
     },
-    Change {
+    Refused {
         old: SMALL,
         new: "lookahead = 2\nhorizon = 20\n[station]\nname = \"gate\"\n",
         number: 4,
         place: 0,
         key: "station",
     },
-    Change {
+    Refused {
         old: SMALL,
         new: "lookahead = 2\nhorizon = 20\n[[station]]\n",
         number: 3,
         place: 1,
         key: "name",
     },
-    Change {
+    Refused {
         old: SMALL,
         new: "lookahead = 2\nhorizon = 20\n[[station]]\nevery = [3",
         number: 2,
@@ -567,78 +567,78 @@ pub const OTHER_TEXTS: &[Change] = &[
 ];
 
 /// Changes to the model of the road, which is of format 2.
-pub const ROAD_CHANGES: &[Change] = &[
-    Change {
+pub const ROAD_CHANGES: &[Refused] = &[
+    Refused {
         old: "format = 2\n",
         new: "",
         number: 5,
         place: 1,
         key: "class",
     },
-    Change {
+    Refused {
         old: "class = 2",
         new: "class = 5",
         number: 8,
         place: 1,
         key: "class",
     },
-    Change {
+    Refused {
         old: "class = 2",
         new: "class = 0",
         number: 8,
         place: 1,
         key: "class",
     },
-    Change {
+    Refused {
         old: r#"order = "class""#,
         new: r#"order = "best""#,
         number: 8,
         place: 4,
         key: "order",
     },
-    Change {
+    Refused {
         old: r#"order = "class""#,
         new: "order = 1",
         number: 4,
         place: 4,
         key: "order",
     },
-    Change {
+    Refused {
         old: "hold = [150, 220]\n",
         new: "",
         number: 3,
         place: 3,
         key: "hold",
     },
-    Change {
+    Refused {
         old: "hold = [150, 220]",
         new: "hold = [150, 149]",
         number: 8,
         place: 3,
         key: "hold",
     },
-    Change {
+    Refused {
         old: "by = \"turn\"\n",
         new: "",
         number: 3,
         place: 7,
         key: "by",
     },
-    Change {
+    Refused {
         old: r#"by = "turn""#,
         new: "by = 3",
         number: 4,
         place: 7,
         key: "by",
     },
-    Change {
+    Refused {
         old: r#"by = "turn""#,
         new: r#"by = "chance""#,
         number: 8,
         place: 7,
         key: "by",
     },
-    Change {
+    Refused {
         old: r#"by = "turn""#,
         new: "by = \"turn\"\norder = \"class\"",
         number: 5,

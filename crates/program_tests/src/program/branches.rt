@@ -1,6 +1,5 @@
 //! Branches, and what they share.
-use super::{FAST, PLAIN, Row, models, texts};
-use std::process::Abort;
+use super::{FAST, PLAIN, Row, texts};
 use std::test::Fail;
 
 const TWINS: &str = "set base at 8 desk service 2 2\nfork twin from base\n";

@@ -3,7 +3,6 @@ use super::{FAST, GOOD, Outside, RUN, begins_both, ended, texts};
 use crew_pool::NoGate;
 use sample_models::ONE_DESK;
 use std::alloc::Global;
-use std::process::Abort;
 use std::sync::Wait;
 use std::test::Fail;
 use std::thread::Threads;

@@ -1,7 +1,6 @@
 //! Stations of every kind.
 use super::{PLAIN, Row, models, texts};
-use sample_models::NO_ROOM;
-use std::process::Abort;
+use sample_models::{CLASSES, DRAWN_GATE, FAN_BY_TURN, NO_ROOM};
 use std::test::Fail;
 
 const ROWS: &[Row] = &[
@@ -28,7 +27,7 @@ const ROWS: &[Row] = &[
     },
     Row {
         shows: "drawn interarrival times",
-        model: models::DRAWN_GATE,
+        model: DRAWN_GATE,
         traces: texts::DRAWN_GATE,
         report: texts::DRAWN_GATE_REPORT,
         ..PLAIN
@@ -50,7 +49,7 @@ const ROWS: &[Row] = &[
     },
     Row {
         shows: "a router by turn, and a delay",
-        model: models::BY_TURN,
+        model: FAN_BY_TURN,
         traces: texts::FAN,
         report: texts::FAN_REPORT,
         ..PLAIN
@@ -64,7 +63,7 @@ const ROWS: &[Row] = &[
     },
     Row {
         shows: "a server by class",
-        model: models::CLASSES,
+        model: CLASSES,
         traces: texts::CLASSES,
         report: texts::CLASSES_REPORT,
         ..PLAIN

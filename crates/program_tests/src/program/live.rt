@@ -1,17 +1,16 @@
 //! Live studies: analysts who decide and look while the engine runs.
-use super::{GOOD, Outcome, ended, is_both, models, texts};
+use super::{GOOD, Outcome, Outside, RUN, ended, is_both, models, texts};
 use crew_pool::{Gate, NoGate};
 use sample_models::{CLINIC, ONE_DESK, QUIET_JOURNAL};
 use sim_base::NoMemory;
 use std::alloc::Global;
-use std::process::Abort;
 use std::sync::Wait;
 use std::sync::atomic::{AtomicU64, Ordering};
 use std::test::Fail;
 use std::thread;
 use std::thread::Threads;
 
-/// `live` of them.
+/// `live` of the model in `m` and the script in `s`.
 const LIVE: &[&str] = &["live", "m", "s"];
 
 /// How long a gate waits for the other side.
@@ -124,7 +123,7 @@ fn limit_met_beside_lookers(rt: HostRuntime) -> Result<(), Fail> {
 /// Where the error sink fails on the journal, the line does not follow; the status is the same.
 #[test]
 fn journal_is_cut_off(rt: HostRuntime) -> Result<(), Fail> {
-    let outside = super::Outside {
+    let outside = Outside {
         error: &[(1, 12)],
         ..GOOD
     };
@@ -145,7 +144,7 @@ fn journal_is_cut_off(rt: HostRuntime) -> Result<(), Fail> {
 fn is_cut<R: Threads + Wait + Sync>(
     rt: &R,
     alloc: Global,
-    outside: &super::Outside<'_>,
+    outside: &Outside<'_>,
     output: &[u8],
     errors: &str,
 ) -> bool {
@@ -170,8 +169,8 @@ fn put_fails<R: Threads + Wait + Sync>(
             return false;
         };
         let put = &[(put, taken)];
-        let outside = super::Outside { put, ..GOOD };
-        let silent = super::Outside {
+        let outside = Outside { put, ..GOOD };
+        let silent = Outside {
             put,
             error: &[(1, 6)],
             ..GOOD
@@ -211,7 +210,7 @@ fn live_output_is_cut_off(rt: HostRuntime) -> Result<(), Fail> {
     Ok(())
 }
 
-/// Waits for a count that is not 0, and says whether it came.
+/// Waits until a count is this much, and says whether it came to that.
 fn comes(count: &AtomicU64, least: u64) -> bool {
     for _turn in 0..TURNS {
         if count.load(Ordering::SeqCst) >= least {
@@ -385,7 +384,7 @@ fn repeats<R: Threads + Wait + Sync>(rt: &R, alloc: Global, events: &[u8], behin
     let Ok(script) = std::str::from_utf8(events) else {
         return false;
     };
-    match ended(rt, alloc, &NoGate, super::RUN, ONE_DESK, script, &GOOD) {
+    match ended(rt, alloc, &NoGate, RUN, ONE_DESK, script, &GOOD) {
         Ok(again) => again.is(0, behind, ""),
         Err(_) => false,
     }

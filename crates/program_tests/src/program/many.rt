@@ -4,7 +4,6 @@ use crew_pool::{Gate, NoGate};
 use sample_models::{CLINIC, ONE_DESK};
 use sim_base::NoMemory;
 use std::alloc::Global;
-use std::process::Abort;
 use std::sync::Wait;
 use std::sync::atomic::{AtomicU64, Ordering};
 use std::test::Fail;

@@ -108,22 +108,6 @@ name = "out"
 kind = "sink"
 "#;
 
-/// A source with drawn times.
-pub const DRAWN_GATE: &str = r#"lookahead = 2
-horizon = 20
-seed = 42
-[[station]]
-name = "gate"
-kind = "source"
-stream = 54
-every = [1, 10]
-jobs = 3
-link = [{ to = "out", delay = 2 }]
-[[station]]
-name = "out"
-kind = "sink"
-"#;
-
 /// `NO_ROOM`, but with room for five.
 pub const SOME_ROOM: &str = r#"lookahead = 2
 horizon = 20
@@ -157,32 +141,7 @@ name = "out"
 kind = "sink"
 "#;
 
-/// A router by turn, and a delay.
-pub const BY_TURN: &str = r#"lookahead = 2
-horizon = 20
-seed = 42
-[[station]]
-name = "gate"
-kind = "source"
-every = [3, 3]
-jobs = 2
-link = [{ to = "fan", delay = 2 }]
-[[station]]
-name = "fan"
-kind = "router"
-by = "turn"
-link = [{ to = "slow", delay = 2 }, { to = "out", delay = 3 }]
-[[station]]
-name = "slow"
-kind = "delay"
-hold = [1, 1]
-link = [{ to = "out", delay = 2 }]
-[[station]]
-name = "out"
-kind = "sink"
-"#;
-
-/// The same by weights.
+/// `FAN_BY_TURN`, but by weights.
 pub const BY_WEIGHTS: &str = r#"lookahead = 2
 horizon = 20
 seed = 42
@@ -202,37 +161,6 @@ link = [{ to = "slow", delay = 2, weight = 4 }, { to = "out", delay = 3, weight 
 name = "slow"
 kind = "delay"
 hold = [1, 1]
-link = [{ to = "out", delay = 2 }]
-[[station]]
-name = "out"
-kind = "sink"
-"#;
-
-/// Two classes of jobs, and a server by class.
-pub const CLASSES: &str = r#"format = 2
-lookahead = 2
-horizon = 20
-[[station]]
-name = "low"
-kind = "source"
-class = 2
-every = [3, 3]
-jobs = 2
-link = [{ to = "desk", delay = 2 }]
-[[station]]
-name = "high"
-kind = "source"
-class = 1
-every = [7, 7]
-jobs = 1
-link = [{ to = "desk", delay = 2 }]
-[[station]]
-name = "desk"
-kind = "server"
-order = "class"
-servers = 1
-room = 5
-service = [4, 4]
 link = [{ to = "out", delay = 2 }]
 [[station]]
 name = "out"

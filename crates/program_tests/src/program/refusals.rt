@@ -1,6 +1,5 @@
 //! What is refused, and the limit.
-use super::{PLAIN, REFUSED, Row, models, texts};
-use std::process::Abort;
+use super::{PLAIN, REFUSED, Row, models};
 use std::test::Fail;
 
 const SOLO_GHOST: &[&str] = &["solo", "m", "s", "--clone", "ghost"];

@@ -1,4 +1,4 @@
-//! The outputs of the tests.
+//! What runs write, byte for byte, and the script of the clinic.
 
 /// One job at a time.
 pub const BASE: &str = r#"clone base
@@ -177,7 +177,7 @@ pub const CLOSE_MESSAGES: &str = r#"clone base
 14 out desk 5 job gate.2 got=3 stay=33
 "#;
 
-/// DrawsView times.
+/// Times between jobs that are drawn.
 pub const DRAWN_GATE: &str = r#"clone base
 4 gate gate 0 tick sent=1
 6 out gate 1 job gate.0 got=1 stay=2

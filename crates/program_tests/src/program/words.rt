@@ -3,7 +3,6 @@ use super::{GOOD, PLAIN, REFUSED, Row, ended};
 use command_words::usage_line;
 use crew_pool::NoGate;
 use std::alloc::Global;
-use std::process::Abort;
 use std::sync::Wait;
 use std::test::Fail;
 use std::thread::Threads;

@@ -2,7 +2,7 @@ use Rattle.std.proofs.Common.{◌≡◌, ◌∙◌, ap, ap₂, refl, subst, sym}
 use Rattle.sim_base.specs.Clones.{place_of}
 use Rattle.net_model.specs.Net.{Net}
 use Rattle.trace_report.specs.TraceText.{trace_text}
-use Rattle.cloner_top.specs.Endings.{at_once, limit_met, no_clone}
+use Rattle.cloner_top.specs.Endings.{at_once, limit_stop, no_clone}
 use Rattle.cloner_top.proofs.Runs.{alone_not_put, alone_put, alone_stops}
 use Rattle.cloner_top.proofs.running.write_alone.Goals as goal
 
@@ -35,7 +35,7 @@ returns-in-Err-LimitMet-clause-err g c = (
       (ap (place_of c.args.name.now) (sym c.lists-lists.ensures.value) ∙ sym c.in-Some.ensures.value)
       c.in-Err-LimitMet.station c.in-Err-LimitMet.field-0-1 c.stop_at.result
       (rw c.in-Err-LimitMet.field-0-is at c.in-Err-LimitMet.ensures.fault)
-      (subst (λ (n : Net). c.stop_at.result ≡ limit_met n c.in-Err-LimitMet.station c.args.name.now)
+      (subst (λ (n : Net). c.stop_at.result ≡ limit_stop n c.in-Err-LimitMet.station c.args.name.now)
       (c.deref-in-Err-LimitMet.ensures ∙ sym c.deref.ensures) (rw c.in-Err-LimitMet.field-0-is at c.stop_at.ensures)),
   refl,
 )

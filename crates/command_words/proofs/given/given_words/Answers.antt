@@ -1,7 +1,7 @@
 use Rattle.std.proofs.Common.{◌≡◌, ap, ◌∙◌, map, [], None, Some, subst, option_and_then}
 use Rattle.clap.specs.Words.{App, app_of, is_simple, is_simple_and_free, fault_of}
 use Rattle.clap.specs.Words.{matches_of, HasKind, rows_of, found_of}
-use Rattle.command_words.specs.Application.{cloner}
+use Rattle.command_words.specs.Application.{cloner_app}
 use Rattle.command_words.specs.Clap.{clap_values, up_to_three}
 use Rattle.command_words.specs.Rules.{values}
 use Rattle.command_words.specs.Views.{values_view}
@@ -12,9 +12,9 @@ use Rattle.command_words.proofs.given.given_words.Goals as goal
 
 pub returns-in-Err : goal.returns-in-Err
 returns-in-Err c =
-    let is : app_of c.in_ok-command.field-0 ≡ cloner = c.in_ok-command.ensures.value in
+    let is : app_of c.in_ok-command.field-0 ≡ cloner_app = c.in_ok-command.ensures.value in
     let words = map (λ w. w) c.args.words.now in
-    let fails : HasKind (fault_of cloner words) c.in-Err.error =
+    let fails : HasKind (fault_of cloner_app words) c.in-Err.error =
     subst (λ (a : App). HasKind (fault_of a words) c.in-Err.error) is
     (c.in-Err.ensures.kinds (ap is_simple_and_free is ∙ simple_and_free)) in
     let same : None ≡ option_and_then up_to_three (values c.args.words.now) =
@@ -25,12 +25,12 @@ returns-in-Err c =
 
 pub returns : goal.returns
 returns c =
-    let is : app_of c.in_ok-command.field-0 ≡ cloner = c.in_ok-command.ensures.value in
+    let is : app_of c.in_ok-command.field-0 ≡ cloner_app = c.in_ok-command.ensures.value in
     let words = map (λ w. w) c.args.words.now in
-    let none : fault_of cloner words ≡ [] =
+    let none : fault_of cloner_app words ≡ [] =
     subst (λ (a : App). fault_of a words ≡ []) is
     (c.in-Ok.ensures.kinds (ap is_simple_and_free is ∙ simple_and_free)) in
-    let rows : rows_of (found_of c.in-Ok.matches) ≡ matches_of cloner words =
+    let rows : rows_of (found_of c.in-Ok.matches) ≡ matches_of cloner_app words =
     (c.in-Ok.ensures.matches (ap is_simple is ∙ simple)).0 ∙ ap (λ a. matches_of a words) is in
     let same : Some (values_view (record {
       mode = c.get_str.result;

@@ -1,12 +1,12 @@
-use Rattle.std.proofs.Common.{◌≡◌, ap, sym, ◌∙◌}
+use Rattle.std.proofs.Common.{ap, sym, ◌∙◌}
 use Rattle.decision_book.specs.Books.{BookView}
-use Rattle.engine_tests.proofs.Deciding.{goes_on, takes}
+use Rattle.engine_tests.proofs.Deciding.{abreast_after, world_accepts}
 use Rattle.engine_tests.proofs.worlds.taken.Goals as goal
 
 pub take-requires : goal.take-requires
 take-requires c = record {
   accepted = (
-    takes c.args.book.now c.args.world c.args.decision.now c.requires.abreast
+    world_accepts c.args.book.now c.args.world c.args.decision.now c.requires.abreast
         (sym c.decide.ensures.reply ∙ c.in-Accepted.is),
     tt,
   );
@@ -14,7 +14,7 @@ take-requires c = record {
 
 pub returns : goal.returns
 returns c = record {
-  abreast = goes_on c.args.book.now c.decide.new.self c.args.world c.in-Ok.world c.args.decision.now c.requires.abreast
-      (sym c.decide.ensures.reply ∙ c.in-Accepted.is) (ap (λ (b : BookView). b.net) c.decide.ensures.journal)
+  abreast = abreast_after c.args.book.now c.decide.new.self c.args.world c.in-Ok.world c.args.decision.now
+      c.requires.abreast (sym c.decide.ensures.reply ∙ c.in-Accepted.is) (ap (λ (b : BookView). b.net) c.decide.ensures.journal)
       c.decide.ensures.next c.in-Ok.ensures.net c.in-Ok.ensures.front c.in-Ok.ensures.clones;
 }

@@ -8,7 +8,7 @@ use Rattle.world_core.specs.Worlds.{WorldView}
 use Rattle.live_study.specs.Asking.{SeatedAnalyst}
 use Rattle.live_study.specs.Lives.{AreTrueLooks, IsAtHorizon}
 use Rattle.live_study.proofs.Counting.{all_done, asked_in, finished_if, of_desk}
-use Rattle.live_study.proofs.Ending.{if_kept, if_stopped}
+use Rattle.live_study.proofs.Ending.{if_finished, if_stopped}
 use Rattle.live_study.proofs.Told.{all_looked, looks_of, made_all, told_if}
 use Rattle.live_study.proofs.live.run_live.Goals as goal
 
@@ -70,7 +70,7 @@ returns-clause-looked g c =
 pub returns-clause-finished : goal.returns-clause-finished
 returns-clause-finished g c =
     let driven = c.side_by_side-helm.ensures.driven in
-    if_kept (λ (w : WorldView). IsAtHorizon c.args.helm.net c.close-book.result w) c.gather-reserve.result.1
+    if_finished (λ (w : WorldView). IsAtHorizon c.args.helm.net c.close-book.result w) c.gather-reserve.result.1
     c.side_by_side-helm.result.0.2 c.if_caught_up.result c.if_caught_up.ensures.ok
     (finished_if c.args.helm c.side_by_side-helm.result.0.0 c.gather-reserve.result.0.passes.items c.close-book.result
     c.side_by_side-helm.result.0.2 driven.steers c.close-book.ensures.closed

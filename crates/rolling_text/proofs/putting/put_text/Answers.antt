@@ -47,7 +47,7 @@ returns-in-Ok-put-clause-left g c next =
       others = rest v.net clone c.max-late.result;
       before = still_joined begun.new.page.text c.put_rest.new.texts.page.text
           (rest v.net clone c.parts_at-time.result) (rest v.net clone c.max-late.result) (body v.net clone)
-          begun.ensures.margin put.longer put.kept begun.ensures.lines ∙ sym (next_before v.net v.clones c.args.c);
+          begun.ensures.margin put.longer put.page begun.ensures.lines ∙ sym (next_before v.net v.clones c.args.c);
       drops = dropped_next v.net v.clones c.args.c (c.len_between.result + length (rest v.net clone c.max-late.result))
           c.args.next len next;
     }

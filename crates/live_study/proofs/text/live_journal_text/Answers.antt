@@ -6,7 +6,7 @@ use Rattle.journal_text.specs.declared.looked.Looked.{Looked}
 use Rattle.journal_text.specs.JournalText.{journal_text}
 use Rattle.live_study.specs.Lives.{all_looks}
 use Rattle.live_study.proofs.Texts.{callers_within, lookers_within}
-use Rattle.live_study.proofs.text.journal_of.Goals as goal
+use Rattle.live_study.proofs.text.live_journal_text.Goals as goal
 
 pub journal_text-requires-clause-callers : goal.journal_text-requires-clause-callers
 journal_text-requires-clause-callers c =

@@ -3,11 +3,11 @@ use Rattle.command_words.specs.Requests.{RequestView, request_view}
 use Rattle.cloner_top.specs.Answers.{success}
 use Rattle.cloner_top.proofs.Endings.{overrun_is, unobeyed}
 use Rattle.cloner_top.proofs.Obeying.{no_fetches, words_answer}
-use Rattle.cloner_top.proofs.program.answer.Goals as goal
+use Rattle.cloner_top.proofs.program.obey_or_complain.Goals as goal
 
 pub returns-in-Err-clause-answer : goal.returns-in-Err-clause-answer
 returns-in-Err-clause-answer g c =
-    words_answer _ _ _ _ _ _ (λ is. ap (option_map (λ (r : RequestView). r.asked))
+    words_answer _ _ _ _ _ _ (λ is. ap (option_map (λ (r : RequestView). r.assignment))
     (c.in-Err.ensures.refused (ap Err is))) c.words_refused.ensures refl
     c.complain.ensures.told refl refl c.complain.ensures.status
 
@@ -16,21 +16,21 @@ returns-in-Err-clause-fetches g c = no_fetches _ _ _ refl
 
 pub returns-in-Ok-obey-clause-answer : goal.returns-in-Ok-obey-clause-answer
 returns-in-Ok-obey-clause-answer g c =
-    success (request_view c.in-Ok.request).asked
-    (ap (option_map (λ (r : RequestView). r.asked)) c.in-Ok.ensures.value) c.in-Ok-obey.ensures.ok
+    success (request_view c.in-Ok.request).assignment
+    (ap (option_map (λ (r : RequestView). r.assignment)) c.in-Ok.ensures.value) c.in-Ok-obey.ensures.ok
     c.in-Ok-obey.ensures.fetched refl
 
 pub returns-in-Err-Refused-clause-answer : goal.returns-in-Err-Refused-clause-answer
 returns-in-Err-Refused-clause-answer g c =
-    unobeyed _ _ _ (request_view c.in-Ok.request).asked _ _
-    (ap (option_map (λ (r : RequestView). r.asked)) c.in-Ok.ensures.value)
+    unobeyed _ _ _ (request_view c.in-Ok.request).assignment _ _
+    (ap (option_map (λ (r : RequestView). r.assignment)) c.in-Ok.ensures.value)
     (rw c.in-Err-Refused.field-0-is at c.in-Err-Refused.ensures.err)
     c.complain-in-Err-Refused.ensures.told c.complain-in-Err-Refused.ensures.status
 
 pub returns-in-Err-Overrun-clause-answer : goal.returns-in-Err-Overrun-clause-answer
 returns-in-Err-Overrun-clause-answer g c =
     let halts = rw c.in-Err-Overrun.field-0-is at c.in-Err-Overrun.ensures.err in
-    overrun_is _ _ _ (request_view c.in-Ok.request).asked _ _ _
-    (ap (option_map (λ (r : RequestView). r.asked)) c.in-Ok.ensures.value) halts.0 halts.1
+    overrun_is _ _ _ (request_view c.in-Ok.request).assignment _ _ _
+    (ap (option_map (λ (r : RequestView). r.assignment)) c.in-Ok.ensures.value) halts.0 halts.1
     (rw c.as_slice.ensures.value at c.complain_of_limit.ensures.told)
     c.complain_of_limit.ensures.status
