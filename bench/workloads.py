@@ -90,7 +90,7 @@ def longer(events):
 
 
 def wide4():
-    """Three questions on single desks of `wide`: most stations stay shared."""
+    """Three questions on single stations of `wide`: most stations stay shared."""
     return wards_model(1000), """fork a from base
 set a at 93750 desk2_3 service 10 30
 fork b from base

@@ -54,7 +54,8 @@ def to_nowhere(lines, first, last):
     return [i for i in range(first, last) if not names.issuperset(re.findall(r'\bto\s*=\s*"(\w*)"', lines[i]))]
 
 
-def of_model(path, number, station, key):
+def show_model_lines(path, number, station, key):
+    """Prints the lines of the model that a refusal is about, or where Python's reader finds that it is no TOML."""
     if number == 2:
         try:
             tomllib.load(open(path, "rb"))
@@ -73,40 +74,44 @@ def of_model(path, number, station, key):
         print(f"  {path}:{first + 1}: {lines[first].strip()}   (station {station} begins here)")
 
 
-def of_script(path, number):
+def show_script_line(path, number):
+    """Prints the line of the script that a refusal names."""
     lines = open(path, encoding="latin-1").read().split("\n")
     if 1 <= number <= len(lines):
         print(f"  {path}:{number}: {lines[number - 1].strip()}")
 
 
-def of_limit(path, station):
+def show_limited_station(path, station):
+    """Says what the limit is, and prints the line that names the station."""
     print("  A station would handle more messages in one clone than `limit` allows: 16384 where the model has none, at most 65536.")
     for i, line in enumerate(open(path, encoding="utf-8", errors="replace").read().split("\n")):
         if re.match(rf'\s*name\s*=\s*"{station}"', line):
             print(f"  {path}:{i + 1}: {line.strip()}")
 
 
-def of_missing_clone(path):
+def show_clones(path):
+    """Prints the names of the clones that the script makes."""
     lines = open(path, encoding="latin-1").read().split("\n")
     made = [words[1] for words in map(str.split, lines) if len(words) == 4 and words[0] == "fork"]
     print("  The clones are " + ", ".join(["base"] + made) + ".")
 
 
 def explain(model, script, said):
+    """Prints an error line, what it means, and the lines that it is about."""
     print(said)
     if found := re.fullmatch(r"cloner: model: refusal (\d+) at station (\d+)(?: key (.*))?", said):
         number = int(found[1])
         print(f"  {rules('model')[number]}")
-        of_model(model, number, int(found[2]), found[3])
+        show_model_lines(model, number, int(found[2]), found[3])
         subject = "model"
     elif found := re.fullmatch(r"cloner: (script|decision): refusal (\d+) at line (\d+)", said):
         subject, number = found[1], int(found[2])
         print(f"  {rules(subject)[number]}")
-        of_script(script, int(found[3]))
+        show_script_line(script, int(found[3]))
     elif found := re.fullmatch(r"cloner: limit \d+ met at station (\w+) in clone \w+", said):
-        return of_limit(model, found[1])
+        return show_limited_station(model, found[1])
     elif said.startswith("cloner: no clone "):
-        return of_missing_clone(script)
+        return show_clones(script)
     else:
         return
     if hint := HINTS.get((subject, number)):

@@ -26,6 +26,7 @@ def branches_of(path):
 
 
 def time_of(line):
+    """The time at which a line's message was handled."""
     return int(line.split(" ", 1)[0])
 
 
@@ -43,6 +44,7 @@ def waiting(lines, station):
 
 
 def shared_lines(xs, ys):
+    """How many lines two traces have in common from their beginnings on."""
     low, high = 0, min(len(xs), len(ys))
     while low < high:  # equal up to here, as branches that have parted differ in all counts behind it
         middle = (low + high + 1) // 2
@@ -66,6 +68,7 @@ def partings(branches):
 
 
 def text(x, y, words, anchor="start", colour="#333"):
+    """Words at a point of the picture."""
     return f'<text x="{x:.1f}" y="{y:.1f}" text-anchor="{anchor}" fill="{colour}">{words}</text>'
 
 
@@ -88,6 +91,7 @@ def steps(changes, end, across, up):
 
 
 def picture(branches, station, names):
+    """The lines of the picture's SVG: who waits at the station in the named branches, and from when on each differs."""
     end = max(time_of(lines[-1]) for lines in branches.values() if lines)
     lines = {name: waiting(branches[name], station) for name in names}
     most = max(1, max(value for changes in lines.values() for _, value in changes))

@@ -29,27 +29,30 @@ def commands(page):
 
 
 def printed(command, path):
+    """What a command prints, and whether it ends with status 0."""
     done = subprocess.run(
         ["bash", "-c", command], cwd=TOP, capture_output=True, text=True, check=False, env=dict(os.environ, PATH=path)
     )
-    return done.stdout + done.stderr
+    return done.stdout + done.stderr, done.returncode == 0
 
 
 def check(pages, path):
-    """How many commands print what is shown, and how many something else."""
+    """How many commands print what is shown, and how many something else, or fail where nothing is shown."""
     same, other = 0, 0
     for page in pages:
         for command, shown in commands(page):
-            got = printed(command, path)
-            if shown is None or shown.strip() == got.strip():
+            got, well = printed(command, path)
+            as_shown = well if shown is None else shown.strip() == got.strip()
+            if as_shown:
                 same += 1
             else:
                 other += 1
-                print(f"{page}: {command.strip()}\n--- shown\n{shown}--- printed\n{got}")
+                print(f"{page}: {command.strip()}\n--- shown\n{shown or ''}--- printed\n{got}")
     return same, other
 
 
 def main():
+    """Checks the pages that are asked for; gives 1 where something is otherwise."""
     parser = argparse.ArgumentParser(description=__doc__, formatter_class=argparse.RawDescriptionHelpFormatter)
     parser.add_argument("--bin", default=PROGRAM)
     parser.add_argument("pages", nargs="*", default=PAGES)

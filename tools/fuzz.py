@@ -22,7 +22,7 @@ import time
 from pathlib import Path
 
 from fuzz_cases import made_case
-from fuzz_live import Wrong, check_live
+from fuzz_live import Difference, check_live
 from fuzz_model import expected_model
 from fuzz_script import expected
 
@@ -35,10 +35,6 @@ ERRORS = {4: rb"cloner: model: refusal \d+ at station \d+( key [a-z0-9_?]{0,32})
           7: rb"cloner: limit \d+ met at station [a-z0-9_]+ in clone ([a-z0-9_]+)\n"}
 
 Ended = collections.namedtuple("Ended", "status out err")
-
-
-class Difference(Exception):
-    """What a case showed that must not be; the text says it."""
 
 
 def arguments():
@@ -246,7 +242,7 @@ def check_lives(runner, case, ended):
             continue
         try:
             check_live(live, case.script, runner.run_script, split, log_entries)
-        except Wrong as why:
+        except Difference as why:
             raise Difference(f"`live` {' '.join(more)}: {why}") from None
 
 

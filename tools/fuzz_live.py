@@ -8,8 +8,8 @@ LINE_7 = re.compile(rb"cloner: limit \d+ met at station [a-z0-9_]+ in clone [a-z
 LOOK = re.compile(r"look (\w+) (\w+) (\w+) (?:(unknown)|front=(\d+) clones=(\d+) (?:(absent)|handled=(\d+) shared=(\d+)))")
 
 
-class Wrong(Exception):
-    """What a live run showed that must not be; the text says it."""
+class Difference(Exception):
+    """What a case showed that must not be; the text says it."""
 
 
 def asked_of(script):
@@ -34,12 +34,12 @@ class Journal:
         head, _, rest = text.partition("\n")
         events, found, looks = rest.partition("looks ")
         if not re.fullmatch(r"journal \d+ \d+", head) or not found:
-            raise Wrong(f"no journal: {text[:80]!r}")
+            raise Difference(f"no journal: {text[:80]!r}")
         self.calls, self.fronts = map(int, head.split()[1:])
         self.script = events
         self.count, *self.looks = looks.splitlines()
         if int(self.count) != len(self.looks):
-            raise Wrong(f"{self.count} looks in {len(self.looks)} lines")
+            raise Difference(f"{self.count} looks in {len(self.looks)} lines")
         self.read_events(events.splitlines())
 
     def read_events(self, lines):
@@ -49,7 +49,7 @@ class Journal:
             if line.startswith("# front "):
                 front = int(line[8:])
                 if front <= last:
-                    raise Wrong(f"the front {front} after {last}")
+                    raise Difference(f"the front {front} after {last}")
                 self.clones_at[front], last = clones, front
             elif line.startswith("analyst "):
                 me = line[8:]
@@ -58,17 +58,18 @@ class Journal:
                 clones += line.startswith("fork ")
                 self.asked.setdefault(me, []).append(re.sub(r"^# refused \d+( front \d+)?: ", "", line))
         if calls != self.calls or len(self.clones_at) - 1 != self.fronts:
-            raise Wrong(f"{calls} calls and {len(self.clones_at) - 1} fronts behind journal {self.calls} {self.fronts}")
+            fronts = len(self.clones_at) - 1
+            raise Difference(f"{calls} calls and {fronts} fronts behind journal {self.calls} {self.fronts}")
 
 
 def check_asked(journal, asked):
     """Each analyst's decisions stand in the journal in order, and there is one look line for each look."""
     for name in asked.keys() | journal.asked.keys():
         if journal.asked.get(name, []) != asked.get(name, ([], []))[0]:
-            raise Wrong(f"the decisions of {name} are {journal.asked.get(name, [])}")
+            raise Difference(f"the decisions of {name} are {journal.asked.get(name, [])}")
     wanted = [f"look {name} {look[5:]}" for name, (_, looks) in asked.items() for look in looks]
     if [" ".join(line.split()[:4]) for line in journal.looks] != wanted:
-        raise Wrong(f"the looks are {journal.looks}")
+        raise Difference(f"the looks are {journal.looks}")
 
 
 def check_looks(journal, traces, stations, log_entries):
@@ -77,18 +78,18 @@ def check_looks(journal, traces, stations, log_entries):
     for line in journal.looks:
         found = LOOK.fullmatch(line)
         if not found:
-            raise Wrong(f"the look {line!r}")
+            raise Difference(f"the look {line!r}")
         analyst, who, station, unknown, front, clones, absent, handled, shared = found.groups()
         if bool(unknown) != (station not in stations):
-            raise Wrong(f"the look {line!r} over {stations}")
+            raise Difference(f"the look {line!r} over {stations}")
         if unknown:
             continue
         front, clones = int(front), int(clones)
         if journal.clones_at.get(front) != clones or front < seen.get((analyst, station), 0):
-            raise Wrong(f"the look {line!r}: front or clones")
+            raise Difference(f"the look {line!r}: front or clones")
         seen[analyst, station] = front
         if bool(absent) != (who not in names[:clones]):
-            raise Wrong(f"the look {line!r}: the first {clones} of {names}")
+            raise Difference(f"the look {line!r}: the first {clones} of {names}")
         if absent:
             continue
         for name in names[:clones]:
@@ -96,7 +97,7 @@ def check_looks(journal, traces, stations, log_entries):
         before = [[entry for entry in logs[name][station] if int(entry[0].split(" ")[0]) < front] for name in names[:clones]]
         own = before[names.index(who)]
         if len(own) != int(handled) or sum(log == own for log in before) != int(shared):
-            raise Wrong(f"the look {line!r}: {len(own)} handled, {sum(log == own for log in before)} share")
+            raise Difference(f"the look {line!r}: {len(own)} handled, {sum(log == own for log in before)} share")
 
 
 def check_live(live, script, run_script, split, log_entries):
@@ -104,20 +105,20 @@ def check_live(live, script, run_script, split, log_entries):
     if live.status == 7:
         line = live.err.rpartition(b"\n")[0].rpartition(b"\n")[2] + b"\n"
         if live.out or not LINE_7.fullmatch(line):
-            raise Wrong(f"status 7 with {live.err[-200:]!r}")
+            raise Difference(f"status 7 with {live.err[-200:]!r}")
         journal = Journal(live.err[:-len(line)].decode())
         check_asked(journal, asked_of(script))
         again = run_script(journal.script.encode())
         if again.status != 7:
-            raise Wrong(f"`run` of its journal: status {again.status} {again.err[:200]!r}")
+            raise Difference(f"`run` of its journal: status {again.status} {again.err[:200]!r}")
         return
     if live.status or live.err:
-        raise Wrong(f"status {live.status} {live.err[:200]!r}")
+        raise Difference(f"status {live.status} {live.err[:200]!r}")
     text, found, rest = live.out.partition(b"clone base\n")
     journal = Journal(text.decode())
     check_asked(journal, asked_of(script))
     again = run_script(journal.script.encode())
     if again.status or again.out != found + rest:
-        raise Wrong(f"`run` of its journal differs: status {again.status} {again.err[:200]!r}")
+        raise Difference(f"`run` of its journal differs: status {again.status} {again.err[:200]!r}")
     traces, report = split(again.out)
     check_looks(journal, traces, [line.split(" ")[0] for line in report[:-1]], log_entries)

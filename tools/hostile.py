@@ -49,13 +49,13 @@ def crowd(clones, sets, station):
     text = []
     for c in range(1, clones):
         text.append(b"fork c%d from base\n" % c)
-    kept = 4096 - (clones - 1)
+    left = 4096 - (clones - 1)
     for k in range(sets):
         for c in range(1, clones):
-            if kept == 0:
+            if left == 0:
                 return b"".join(text)
             text.append(b"set c%d at %d %s every %d %d\n" % (c, 2000 + c * 7 + k, station, 1, 2 + (c + k) % 5))
-            kept -= 1
+            left -= 1
     return b"".join(text)
 
 
@@ -90,7 +90,7 @@ def rows():
     yield ("one key of a megabyte", b"a" * (MOST - 2) + b"=1", b"", 4,
            b"cloner: model: refusal 5 at station 0 key " + b"a" * 32 + b"\n", None)
     yield "a dotted key of half a million parts", b"a" + b".a" * ((MOST - 4) // 2) + b"=1", b"", 4, None, None
-    yield "100,000 tables", b"[[station]]\n" * 87_000 + HEAD, b"", 4, None, None
+    yield "87,000 tables", b"[[station]]\n" * 87_000 + HEAD, b"", 4, None, None
     yield "64 stations with 16 links, 256 clones with full lists", web(64, 16), crowd(256, 256, b"gate"), 0, b"", None
 
 
@@ -107,6 +107,7 @@ def run(words):
 
 
 def main():
+    """Runs the rows that are asked for, and says how each ended; status 1 where one failed."""
     parser = argparse.ArgumentParser(description="Runs `cloner` on hostile models and scripts.")
     parser.add_argument("--bin", type=Path, metavar="FILE", default=BUILT, help="the program; by default as built")
     parser.add_argument("--seconds", type=float, default=1, metavar="N", help="the most that a row may take; by default 1")

@@ -43,9 +43,9 @@ def library(folder):
 def refused(command, preload, number, after):
     """One run with an allocation refused: whether it was reached, and how the run ended."""
     reading, writing = os.pipe()
-    words = dict(os.environ, LD_PRELOAD=str(preload), REFUSE_NUMBER=str(number), REFUSE_AFTER=str(int(after)),
-                 REFUSE_MARK=str(writing))
-    run = subprocess.run(command, env=words, pass_fds=[writing], capture_output=True, check=False, timeout=600)
+    environment = dict(os.environ, LD_PRELOAD=str(preload), REFUSE_NUMBER=str(number), REFUSE_AFTER=str(int(after)),
+                       REFUSE_MARK=str(writing))
+    run = subprocess.run(command, env=environment, pass_fds=[writing], capture_output=True, check=False, timeout=600)
     os.close(writing)
     with os.fdopen(reading, "rb") as marks:
         return bool(marks.read(1)), run
