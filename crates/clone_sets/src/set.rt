@@ -1,4 +1,4 @@
-//! A set of clones.
+//! `CloneSet`: a set of the clones 0 to 255, one bit each, and what is done with sets.
 ghost use Rattle.std.specs.Prelude.{◌≡◌, ℕ, ◌+◌, ◌*◌, ◌<◌, ◌==◌, true, false, ◌||◌, ◌&&◌};
 ghost use Rattle.std.specs.Prelude.{not, IfNone, IfSome, IsTrue, ◌↔◌, length, nat_eq, All, Contains};
 ghost use Rattle.std.specs.List.Sorted.{IsStrictlyIncreasing};

@@ -1,4 +1,5 @@
-//! What every crew does.
+//! What every crew does: it runs the tasks of one call, at most 64, each once, and gives each answer at its item's
+//! place. One contract, that of `all`, holds for all kinds of crews.
 ghost use Rattle.std.specs.Prelude.{◌≡◌, ◌+◌, ◌≤◌, length, sum_by, IfOk};
 ghost use Rattle.crew_pool.specs.Tasks.{EachReady, AnswersTo, EachAnswers};
 ghost use Rattle.crew_pool.specs.declared.crew.TheConstants.{MOST_TASKS};

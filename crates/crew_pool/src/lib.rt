@@ -8,8 +8,8 @@
 //! ```text
 //! Serial                 worker 0 runs 0, 1, 2, 3, 4 in the caller's thread
 //! Forked, 2 workers      worker 0 runs 0, 1, 2                worker 1 runs 3, 4
-//! Stealing, 2 workers    worker 0 pops  <-  | 0 1 2 3 4 |  ->  worker 1 steals
-//!                                 each one at a time, whoever is free; what is left in the end, worker 0 runs
+//! Stealing, 2 workers    workers 0 and 1 take  <-  | 0 1 2 3 4 |
+//!                        each one task at a time from the front, whoever is free; what is left, worker 0 runs
 //! ```
 //!
 //! ```text
@@ -20,13 +20,14 @@
 //!
 //! What it costs: `Serial` takes one list for the answers and no more. A call of `Forked` or `Stealing` starts and
 //! joins a thread for each worker but one, tens of microseconds each, and `Stealing` besides that makes a deque of 64
-//! places and does a pop or a steal for each task. So a work whose tasks are short says so by [`Work::is_small`], and they then run
-//! in the caller. Where a task is out of memory, so is the call, once every worker has ended; the items are gone.
+//! places and does a pop or a steal for each task. So a work whose tasks are short says so by [`Work::is_small`], and
+//! they then run in the caller. Where a task is out of memory, so is the call, once every worker has ended; the items
+//! are gone.
 //!
 //! The promise that it carries: **the same answers for every number of workers and every order of stealing**. One
 //! contract, that of [`Crew::all`], holds for all crews, and neither the workers nor the order of tasks occur in it.
-//! A [`Gate`] is called before each task; tests hold workers with it. No contract says how fast a crew is, or that two
-//! workers ever run at the same time.
+//! A [`Gate`] is called before each task, and before each call of an analyst in a live study; tests hold threads with
+//! it. No contract says how fast a crew is, or that two workers ever run at the same time.
 #![tactic(auto)]
 
 pub mod crew;

@@ -15,8 +15,11 @@ use std::marker::{Brand, PhantomData};
 /// What a worker's seat knows: its parts of the deque, of which the owner begins with all 1,024, how many tasks were
 /// dealt, and the numbers of those that it has taken. Only clauses speak of it; no value is made.
 pub struct SeatView {
+    /// Its parts of the deque.
     pub parts: u64,
+    /// How many tasks were dealt.
     pub dealt: u64,
+    /// The numbers of the tasks that it has taken, with those of the seats that it took back.
     pub taken: LinkedList<u32>,
 }
 
@@ -103,10 +106,10 @@ impl<X, B: Batch<X>> Outcome<(u32, X), SeatView> for StealTask<B> {
     ghost then = { TakesTasks B.items };
 }
 
-/// The end of the deque that deals and pops.
+/// The owner's handle of the deque. It deals at the back and pops at the front, since it is made with `fifo_as`.
 pub type Owner<X, B> = Worker<(u32, X), Global, SeatView, EachOnce<B>>;
 
-/// The end of the deque that steals.
+/// The handle of the deque that all thieves share. They steal at the front.
 pub type Thief<X, B> = Stealer<(u32, X), Global, SeatView, EachOnce<B>>;
 
 /// The seat of a thief.

@@ -57,6 +57,7 @@ impl Book {
     {
         let lists = Lists::with_room(alloc, MOST_CLONES, MOST_DECISIONS)?;
         let calls = Reserved::with_capacity(alloc, MOST_CALLS)?;
+        // for its clause: the model is a network that keeps the rules
         let _horizon = model.horizon();
         Ok(Book {
             model,

@@ -1,4 +1,5 @@
-//! Calls and replies.
+//! A call is a decision that an analyst asked for, with its reply. A reply is `Accepted` or the first refusal whose
+//! condition holds; a refusal has a number, from 1 to 12.
 ghost use Rattle.std.specs.Prelude.{◌≡◌};
 ghost use Rattle.decision_book.specs.Numbers.{reply_number};
 
@@ -68,6 +69,8 @@ pub struct Call {
     pub caller: u32,
     /// How many fronts stood before the call.
     pub fronts: u32,
+    /// What was asked.
     pub decision: Decision,
+    /// What the reply was; never `Full` for a call in a journal.
     pub reply: Reply,
 }

@@ -19,16 +19,22 @@ use std::sync::Wait;
 /// What a turn of the helm gives: the front that it raised, and the calls that were accepted since its last turn.
 #[derive(Drop)]
 pub struct Turn {
+    /// The front that it raised.
     pub front: u64,
+    /// The calls that were accepted since the last turn, in order.
     pub fresh: Vec<Call>,
 }
 
 /// The engine's seat: it raises the front, and makes the passes.
 #[derive(Drop)]
 pub struct Helm {
+    /// Its seat at the desk.
     pub(crate) seat: Chair,
+    /// How many passes it made.
     pub(crate) made: u32,
+    /// How many calls were in the journal at its last turn.
     pub(crate) known: usize,
+    /// The front that it raised last, or 0.
     pub(crate) front: u64,
 }
 

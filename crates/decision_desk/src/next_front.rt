@@ -127,6 +127,7 @@ impl LegalBook {
             (helm_at known self.now.events) (calls_at known self.now.events) turn.fresh.items turn.front) }
     {
         let book = self.book();
+        // for its clause: each reply so far is that of the table, and the fronts rise
         let _front = book.front();
         let fresh = accepted_from(alloc, book.calls(), known)?;
         let mut times = Vec::new(alloc);

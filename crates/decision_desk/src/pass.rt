@@ -15,15 +15,20 @@ use std::sync::Wait;
 /// What a caller got for a call: its place in the journal, None exactly where the reply is Full.
 #[derive(Clone, Copy, Debug, PartialEq, Eq)]
 pub struct Receipt {
+    /// The call's place in the journal, from 0; none where the journal is full.
     pub entry: Option<u32>,
+    /// The reply to the decision.
     pub reply: Reply,
 }
 
 /// What an analyst asks the desk with.
 #[derive(Drop)]
 pub struct Pass {
+    /// Its seat at the desk.
     pub(crate) seat: Chair,
+    /// The caller's number, from 1.
     pub(crate) caller: u32,
+    /// The receipts of its calls that are in the journal, in order.
     pub(crate) receipts: Reserved<Receipt>,
 }
 

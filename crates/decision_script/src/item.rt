@@ -15,8 +15,11 @@ pub enum Act {
 /// An act, with the number of its line, from 1, and that of its analyst, from 1.
 #[derive(Clone, Copy, Debug, PartialEq, Eq)]
 pub struct Item {
+    /// Its line in the text, from 1.
     pub line: u32,
+    /// Who acts, from 1, which is `main`.
     pub analyst: u32,
+    /// What the analyst does.
     pub act: Act,
 }
 

@@ -1,4 +1,6 @@
-//! A script.
+//! A script: the analysts of a text, and what they ask for in order, each item with its line and its analyst.
+//!
+//! Lines and analysts are numbered from 1, items from 0. Analyst 1 is `main`.
 ghost use Rattle.std.specs.Prelude.{◌≡◌, ◌<◌, ◌≤◌, [], length, slice_get, Some, IsTrue, ◌↔◌};
 ghost use Rattle.decision_script.specs.Stating.{analyst_name};
 

@@ -12,7 +12,7 @@ use sim_base::{Entry, NoMemory};
 use std::alloc::Global;
 use std::marker::Model;
 
-// No memory holds more entries: one takes 32 bytes at least, and there are 2^64 bytes at most.
+// The most entries of a log: 2^58 entries of 32 bytes are 2^63 bytes, and no list has more.
 const MOST: u64 = 1 << 58;
 
 /// What a station has handled, in order: a list of entries. Logs may share what they have in common, and each grows by

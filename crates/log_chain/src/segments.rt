@@ -61,7 +61,7 @@ pub fn joined(
     Ok(Arc::new(alloc, run)?)
 }
 
-/// Puts a segment behind the first `stay` ones, in place of the others.
+/// Puts a segment behind the first `before` ones, in place of the others.
 pub fn put_behind(
     segments: &mut Vec<Segment>,
     stay: usize,

@@ -4,8 +4,8 @@ ghost use Rattle.std.specs.Prelude.{◌≡◌};
 use crate::packed::{Packed, is_wide, unpack};
 use sim_base::Entry;
 
-/// An entry of a log as the log stores it: packed in 32 bytes, or whole where a number of it is too large. What writes a
-/// packed entry somewhere else reads it part by part, and never has the whole entry in memory.
+/// An entry of a log as the log stores it: packed in 32 bytes, or whole where a number of it is too large. What writes
+/// a packed entry somewhere else reads it part by part, and never has the whole entry in memory.
 #[derive(Clone, Copy)]
 pub enum StoredEntry<'a> {
     Packed(&'a Packed),

@@ -1,4 +1,4 @@
-//! Made studies.
+//! A made study: the texts of its model and of its script. The number gives the model; the script is the same for all.
 ghost use Rattle.std.specs.Prelude.{◌≡◌, IfOk};
 ghost use Rattle.decision_script.specs.Printing.{canonical_text};
 ghost use Rattle.made_study.specs.Texts.{model_text as model_text_of};
@@ -12,7 +12,9 @@ use std::alloc::Global;
 /// The two texts of a study, as two files would have them.
 #[derive(Debug, Drop)]
 pub struct Made {
+    /// The text of the model.
     pub model: Vec<u8>,
+    /// The text of the script.
     pub script: Vec<u8>,
 }
 

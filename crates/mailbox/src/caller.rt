@@ -1,4 +1,5 @@
-//! The end that gives tasks.
+//! The end that gives tasks, one at a time. A task that is out is taken back or its answer is collected before the next
+//! one is given.
 ghost use Rattle.std.specs.Prelude.{◌≡◌, Some, None, MatchOption};
 
 use crate::errand::Errand;
@@ -10,7 +11,9 @@ use std::sync::{Arc, Wait};
 /// The end that gives tasks. Contracts see it as the task that is out, if one is.
 #[derive(Drop)]
 pub struct Caller<T, A, E: Errand<T, A>> {
+    /// The mailbox, which the worker shares.
     pub(crate) table: Arc<MailTable<T, A, E>>,
+    /// The caller's seat at it.
     pub(crate) seat: Chair<T, A>,
 }
 

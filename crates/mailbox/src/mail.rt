@@ -18,7 +18,9 @@ pub const ANSWERED: u64 = 3;
 /// What lies in the slot.
 #[derive(Drop)]
 pub enum Letter<T, A> {
+    /// The caller's task.
     Task(T),
+    /// The worker's answer.
     Answer(A),
 }
 

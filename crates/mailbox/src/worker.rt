@@ -1,4 +1,4 @@
-//! The end that takes tasks.
+//! The end that takes tasks, one at a time. A task that was taken is answered before the next one is taken.
 ghost use Rattle.std.specs.Prelude.{◌≡◌, Some, None};
 
 use crate::errand::Errand;
@@ -10,7 +10,9 @@ use std::sync::Arc;
 /// The end that takes tasks. Contracts see it as the task that it has taken and not yet answered.
 #[derive(Drop)]
 pub struct Worker<T, A, E: Errand<T, A>> {
+    /// The mailbox, which the caller shares.
     pub(crate) table: Arc<MailTable<T, A, E>>,
+    /// The worker's seat at it.
     pub(crate) seat: Chair<T, A>,
 }
 

@@ -7,7 +7,7 @@ ghost use Rattle.net_model.specs.Fields.{key_of};
 pub enum Field {
     /// The format of the file.
     Format,
-    /// The least delay of a link.
+    /// No link's delay is less than this.
     Lookahead,
     /// The end of the simulation.
     Horizon,

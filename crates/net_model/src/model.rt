@@ -83,7 +83,7 @@ impl Model {
         self.format
     }
 
-    /// The least delay of a link, at least 1.
+    /// No link's delay is less than this; it is at least 1.
     pub fn lookahead(&self) -> u64
         ensures value { result ≡ self.now.lookahead }
         ensures valid { IsNet self.now }

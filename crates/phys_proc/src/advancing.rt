@@ -19,8 +19,11 @@ use std::sync::ledger::Ledger;
 /// would get too long.
 #[derive(Drop)]
 pub(crate) struct Stage {
+    /// The copies that have come to the bound.
     pub done: Copies,
+    /// The messages to other stations so far, each with the clones that send it.
     pub sent: Vec<(Msg, CloneSet)>,
+    /// The clones whose logs would get longer than the limit.
     pub over: CloneSet,
     /// How many messages were handled.
     pub handled: u64,

@@ -1,4 +1,6 @@
-//! When clones end.
+//! When clones end: a list of clone numbers and times. From its end on a clone takes no message.
+//!
+//! Where a clone is listed more than once, the least time counts; one that is not listed ends at the horizon.
 ghost use Rattle.std.specs.Prelude.{◌≡◌, ℕ, ◌<◌, ◌==◌, ◌∷◌, ◌++◌, [], min, if◌then◌else◌, OnOk, OnErr};
 ghost use Rattle.sim_base.specs.declared.lists.TheConstants.{MOST_CLONES};
 ghost use Rattle.clone_sets.specs.Sets.{has};

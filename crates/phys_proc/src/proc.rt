@@ -87,6 +87,7 @@ fn opening(alloc: Global, model: &Model, station: u32) -> Result<Copies, NoMemor
     ensures first { IfOk result (λ p. p ≡ first_copy (simulation model.now) (one 0) station ∷ []) }
     ensures fits { IfOk result (λ p. AllByRecursion (IsCopy model.now station) p) }
 {
+    // for its clause: the model is a network that keeps the rules
     let _horizon = model.horizon();
     let (state, first) = setup(alloc, model, station)?;
     let set = CloneSet::one(0);
@@ -146,6 +147,7 @@ impl Proc {
         ensures living { IfOk result (λ p. p.living ≡ one 0) }
         ensures handled { IfOk result (λ p. p.handled ≡ 0) }
     {
+        // for its clause: the model is a network that keeps the rules
         let _horizon = model.horizon();
         let copies = opening(alloc, model, station)?;
         let places = Vec::from_array(alloc, [0; 256])?;
@@ -187,9 +189,11 @@ impl Proc {
         ensures living { IfOk result (λ g. g.over ≡ empty → self.new.living ≡ self.old.living) }
         ensures handled { IfOk result (λ g. g.over ≡ empty → self.new.handled ≡ self.old.handled + g.handled) }
     {
+        // for its clause: the model is a network that keeps the rules
         let _horizon = model.horizon();
         let living = self.living;
         let before = self.handled;
+        // for its clauses: no more clones live than there may be
         let _clones = living.len();
         let mut out = buffer(alloc, self.out.take())?;
         let mut stage = Stage::of(alloc, mem::replace(sent, Vec::new(alloc)));
@@ -268,6 +272,7 @@ impl Proc {
         ensures living { self.new.living ≡ with self.old.living new }
         ensures handled { self.new.handled ≡ self.old.handled }
     {
+        // for its clause: the number of each living clone is below 256
         let _clones = self.living.len();
         self.copies.fork(old, new);
         self.living = self.living.with(new);

@@ -70,7 +70,9 @@ pub struct Glance {
 /// How many messages a clone's station has handled, and how many clones have this log.
 #[derive(Clone, Copy, Debug, PartialEq, Eq)]
 pub struct Found {
+    /// How many messages the clone has handled at the station.
     pub handled: u64,
+    /// How many clones have its log there, the clone itself among them.
     pub shared: u32,
 }
 

@@ -1,6 +1,7 @@
 //! The laws of machines and of runs: each function's contract is a law, and there is nothing to run.
 //!
-//! `specs/Laws.antt` has the laws in words, `specs/Handlers.antt` what they ask of a simulation.
+//! `specs/*Laws.antt` and `specs/Numbers.antt` have the laws in words, `specs/Handlers.antt` what they ask of a
+//! simulation.
 ghost use Rattle.std.specs.Prelude.{ℕ, List};
 ghost use Rattle.std.specs.declared.cmp.Ordering.{Ordering as Order};
 ghost use Rattle.run_laws.specs.Simulation.{Simulation};

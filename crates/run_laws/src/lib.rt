@@ -13,14 +13,15 @@
 //!
 //! - Queue, Machine, Simulation, World, Handlers, Window, Runs, Fronts: a clone's run, alone on one thread;
 //! - Sharing, Prefixes, Copies, Merges: what clones have in common, and copies that stand for them;
-//! - Laws, StepLaws, MarkLaws, CopyLaws, CountLaws, FrontLaws, TraceLaws: what is proved, as words that contracts cite;
+//! - Laws, StepLaws, MarkLaws, CopyLaws, CountLaws, FrontLaws, TraceLaws, SharedTexts, Numbers: what is proved, as
+//!   words that contracts cite;
 //! - Examples: two stations throw a ball to and fro, computed.
 //!
 //! There is nothing to run and nothing that costs time: the contract of each function in `laws` is a law, and
 //! `examples` pins the definitions by worked values. A crate above cites a definition in its contracts and a lemma in
 //! its proofs, as
 //!
-//!     ensures windows { IsStepped (simulation model.now) has ends station bound copies result.copies }
+//!     ensures windows { IsStepped (simulation model.now) has ends station bound copies result.copies out }
 //!     use Rattle.run_laws.proofs.Steps.{stepped}
 //!
 //! The promises that rest on it: copies give every clone its own trace, the report counts each message once that

@@ -161,6 +161,7 @@ impl<J: Naming> Published<J> {
         ensures that { IsPrefix other.now result }
         ensures legal { AreLegal result }
     {
+        // for its clauses: both are beginnings of what is seen then, so the shorter begins the longer
         let mut both = self.seen.again();
         both.learn(&other.seen);
         if self.count < other.count {

@@ -12,19 +12,20 @@
 //! ```
 //!
 //! ```text
-//! let (mut stocker, seats) = begin::<J, _>(&rt, alloc, Opened::new(), racks, readers)?;
+//! let (mut stocker, seats) = begin::<J, _>(rt, alloc, Opened::new(), racks, readers)?;  // the stocker keeps `rt`
 //! stocker.publish(alloc, rack)?;                      // the engine, after each window
-//! let told = stocker.told();                          // once for each reader since the last publish
-//! seat.learn(told);                                   // no later look of this seat is older
+//! if let Some(told) = stocker.told() {                // once for each reader since the last publish
+//!     seat.learn(told);                               // no later look of this seat is older
+//! }
 //! let glance = seat.look(station, &name);             // waits for nobody, takes no memory, always answers
 //! ```
 //!
-//! What it costs: a look is an entry into `left_right`, a comparison and a counted handle; a publish copies a handle for
-//! each station and waits for readers that are in the middle of a look.
+//! What it costs: a look is an entry into `left_right`, a comparison and a counted handle; a publish copies a handle
+//! for each station and waits for readers that are in the middle of a look.
 //!
 //! The promise that it carries: **a look tells of a published rack**, of which the front is at least what the seat has
-//! seen or learnt of that station. What a rack tells of a clone is true of the clone's own run: that is the invariant of
-//! the rack itself.
+//! seen or learnt of that station. What a rack tells of a clone is true of the clone's own run: that is the invariant
+//! of the rack itself.
 #![tactic(auto)]
 
 mod history;

@@ -15,6 +15,7 @@ use std::sync::Arc;
 /// What was published up to some time, for a seat to learn. The stocker alone makes it.
 #[derive(Drop)]
 pub struct Told<J: Naming> {
+    /// The version that was the newest then.
     pub(crate) version: Arc<Version<J>>,
 }
 
@@ -30,7 +31,9 @@ impl<J: Naming> Model for Told<J> {
 /// A reader. Contracts see the racks that it knows: all that were published up to what it last saw or learnt.
 #[derive(Drop)]
 pub struct Seat<J: Naming> {
+    /// Its way to what the stocker shows.
     pub(crate) handle: ReadHandle<Shown<J>>,
+    /// The newest version that it saw or learnt.
     pub(crate) newest: Arc<Version<J>>,
 }
 
@@ -47,6 +50,7 @@ impl<J: Naming> Model for Seat<J> {
 fn is_behind<J: Naming>(a: &Published<J>, b: &Published<J>) -> bool
     ensures value { MatchBool result (IsPrefix a.now b.now) (IsPrefix b.now a.now) }
 {
+    // for its clauses: both are beginnings of one history, so the shorter begins the longer
     let _both = a.longer(b);
     a.len() < b.len()
 }
@@ -95,6 +99,7 @@ impl<J: Naming> Seat<J> {
         ensures front { (r : RackView) → latest station self.old ≡ Some r → r.front ≤ result.front }
     {
         refresh(&mut self.handle, &mut self.newest);
+        // for its clause: the racks are legal, so a later one of a station shows a later front
         let _legal = self.newest.published().len();
         glanced(&self.newest, station, who)
     }

@@ -67,6 +67,7 @@ impl<J: Naming> Version<J> {
 /// What `left_right` shows.
 #[derive(Drop)]
 pub struct Shown<J: Naming> {
+    /// The version that a look at this state finds.
     pub version: Arc<Version<J>>,
 }
 

@@ -99,6 +99,7 @@ fn first_before(lists: &Vec<Pending<()>>, words: &Tree, bound: u64) -> Option<us
     if word == 0 {
         return look_through(lists, bound);
     }
+    // 17_179_869_184 is 2^34: below the time, a word has 34 bits for the sender, the number and the place
     if word / 17_179_869_184 < bound {
         Some((word % 64) as usize)
     } else {

@@ -28,8 +28,8 @@ pub(crate) struct HandedOut<W: Work> {
     pub own: Vec<W::In>,
 }
 
-/// Gives each worker its run of neighbouring items and wakes it, as long as more items are left than one run has. What is
-/// left then is the caller's own. The idle lines stand behind the busy ones, so the workers keep their numbers.
+/// Gives each worker its run of neighbouring items and wakes it, as long as more items are left than one run has. What
+/// is left then is the caller's own. The idle lines stand behind the busy ones, so the workers keep their numbers.
 pub(crate) fn hand_out<W: Work + Send + Drop>(
     alloc: Global,
     lines: Vec<Line<W>>,

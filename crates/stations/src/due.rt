@@ -1,4 +1,4 @@
-//! Due times: the time stamps of next events.
+//! The lesser of two due times, the time stamps of next events.
 ghost use Rattle.std.specs.Prelude.{◌≡◌};
 ghost use Rattle.run_laws.specs.Fronts.{earlier as earlier'};
 

@@ -8,7 +8,7 @@
 //! | kind | handles | keeps |
 //! |---|---|---|
 //! | source | its own tick: a job goes out, and the next tick is due after a random time | jobs sent |
-//! | server | a job: into service, into the queue, or lost; a service completion: the job goes on | busy, queue, done, lost |
+//! | server | a job: served, queued, or lost; a service completion: the job goes on | busy, queue, done, lost |
 //! | delay | a job: it goes on after a random time | jobs passed |
 //! | router | a job: it goes on at once, over the next link by turn or a random one | jobs passed, weights |
 //! | sink | a job: it leaves | jobs, and the sum of their times in the network |

@@ -106,7 +106,7 @@ impl<'a> Cursor<'a> {
     }
 }
 
-// The least power of two that is not less.
+// The least power of two that is not less than `most`.
 fn places(most: usize) -> usize
     requires few { most ≤ 64 }
     ensures all { most ≤ result }

@@ -60,7 +60,7 @@ impl Tree {
         }
     }
 
-    /// The same, at once where nothing changes.
+    /// Puts a word in the place of another, as `set` does, and does nothing where it is there already.
     #[inline(always)]
     pub fn update(&mut self, i: usize, word: u64)
         requires there { i < length self.old }

@@ -81,6 +81,7 @@ impl TimedProc {
         ensures late { IsTrue result → AreLate bound self.now.copies }
         ensures shared { AreShared self.now.living self.now.copies }
     {
+        // for its clause: the copies share out the living clones
         let _copies = self.proc.copies();
         bound <= self.least
     }

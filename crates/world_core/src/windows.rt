@@ -132,8 +132,12 @@ impl Work for Window {
 /// clone over the limit beside the first such clone there.
 #[derive(Drop)]
 pub(crate) struct Stepped {
+    /// The copies of each station at the bound, in the order of the stations; with a clone over the limit they mean
+    /// nothing.
     pub procs: Vec<TimedProc>,
+    /// What the stations sent to others.
     pub outbox: Outbox,
+    /// The place of the first station with a clone over the limit, from 0, and the first such clone there.
     pub over: Option<(u32, u32)>,
     /// How many messages were handled: a hint.
     pub handled: u64,

@@ -42,12 +42,12 @@ pub struct World {
     pub(crate) team: Mutex<Option<Team<Window>>>,
 }
 
-/// Windows that handle fewer messages than this run in the caller's thread where there is no team: starting threads
-/// costs more.
+/// A window after one that handled fewer messages than this runs in the caller's thread where there is no team:
+/// starting threads costs more.
 pub const SMALL_WINDOW: u64 = 8_000;
 
-/// Windows that handle fewer messages than this run in the caller's thread also where there is a team: waking its
-/// workers costs more.
+/// A window after one that handled fewer messages than this runs in the caller's thread also where there is a team:
+/// waking its workers costs more.
 pub const TEAM_WINDOW: u64 = 2_000;
 
 impl std::marker::Model for World {
