@@ -23,8 +23,8 @@
 //!
 //! Contracts see a set as the number whose bit c says whether clone c is in it, and say of each operation which clones
 //! are in its answer. `laws` has what is true of all sets: that they may mark messages (`sim_base::Marks`), and that a
-//! size is the number of clones. "Shared copies give what single runs give" stands on both: no clone is lost where a
-//! copy splits, and the report of what was handled alone counts each clone once.
+//! size is the number of clones. The promise of README.md that branches share exactly stands on both: no clone is lost
+//! where a copy splits, and the report of what was handled alone counts each clone once.
 #![tactic(auto)]
 
 pub mod laws;

@@ -19,7 +19,7 @@ use Rattle.decision_book.specs.Scripts.{Question, after_all, first_refusal, jour
 use Rattle.decision_book.specs.declared.call.Reply.TheVariants.{Accepted}
 use Rattle.decision_book.proofs.Scripts.{accepted_goes_on, refused_is_first, script_stands}
 use Rattle.cloner_top.specs.declared.stop.Stop.{Stop}
-use Rattle.cloner_top.specs.declared.stop.Stop.TheVariants.{Refused}
+use Rattle.cloner_top.specs.declared.stop.Stop.TheVariants.{BadDecision}
 use Rattle.study_run.proofs.Accepting.{none_asked}
 use Rattle.study_run.specs.Accepted.{AllAccepted}
 use Rattle.cloner_top.specs.Deciding.{AcceptsAct, IsDecided, IsRefusal, RefusesAct, by_line, decision_lines}
@@ -136,8 +136,8 @@ refused_at net is more item stop stated whole none h = of_act item.act refl h
     of_act (Decide d) e h =
         let other : reply (after_all (outset net) (decisions is)) d ≢ Accepted =
         subst (λ s. reply s d ≢ Accepted) (after-journal_of_script net is) h.0 in
-        let stop_is : Refused (reply (after_all (outset net) (decisions is)) d) item.line ≡ stop =
-        ap (λ s. Refused (reply s d) item.line) (sym (after-journal_of_script net is)) ∙ sym h.1 in
+        let stop_is : BadDecision (reply (after_all (outset net) (decisions is)) d) item.line ≡ stop =
+        ap (λ s. BadDecision (reply s d) item.line) (sym (after-journal_of_script net is)) ∙ sym h.1 in
         let ds : decisions stated.items ≡ decisions is ++ d ∷ decisions more =
         ap decisions whole ∙ (decisions-append is (item ∷ more)
         ∙ ap (λ a. decisions is ++ decisions_onto a (decisions more)) e) in

@@ -19,10 +19,10 @@ use Rattle.cloner_top.specs.declared.refusal.Refusal.{Refusal}
 use Rattle.cloner_top.specs.declared.refusal.Refusal.TheVariants.{OutOfMemory, Usage, NoModel}
 use Rattle.cloner_top.specs.declared.refusal.Refusal.TheVariants.{NoScript, Stopped, CannotWrite}
 use Rattle.cloner_top.specs.declared.stop.Stop.{Stop}
-use Rattle.cloner_top.specs.declared.stop.Stop.TheVariants.{BadModel, BadScript, Refused, NoClone, LimitMet}
-use Rattle.cloner_top.specs.Answers.{Comes, IsAnswer, IsDisobeyed, IsRefused, IsUnobeyed, Outside}
+use Rattle.cloner_top.specs.declared.stop.Stop.TheVariants.{BadModel, BadScript, BadDecision, NoClone, LimitMet}
+use Rattle.cloner_top.specs.Answers.{IsAnswer, IsDisobeyed, IsLawfulEnding, IsRefused, IsUnobeyed, Outside}
 use Rattle.cloner_top.specs.Answers as answer
-use Rattle.cloner_top.specs.Deciding.{IsDecided, IsRefusal}
+use Rattle.cloner_top.specs.Deciding.{IsDecided, IsRefusal, clones_of_book}
 use Rattle.cloner_top.specs.Endings.{DecidesFirst, Ending, MayEnd, MaySimulate}
 use Rattle.cloner_top.specs.Endings.{StoppedFor, Wrote, early_stop, overrun, whole_output}
 use Rattle.cloner_top.specs.Endings as ends
@@ -44,7 +44,7 @@ bad_model_stops source files m (BadModel fault) text h = record {
   may = λ a. ends.bad_model fault h;
 }
 bad_model_stops source files m (BadScript fault) text h = absurd h
-bad_model_stops source files m (Refused reply line) text h = absurd h
+bad_model_stops source files m (BadDecision reply line) text h = absurd h
 bad_model_stops source files m (NoClone name) text h = absurd h
 bad_model_stops source files m (LimitMet limit station clone) text h = absurd h
 
@@ -69,7 +69,7 @@ bad_script_stops : (source : Source) (files : Option Files) (m s : List ℕ) (ne
 bad_script_stops source files m s net (BadScript fault) texts is h =
     record { m = m; s = s; texts = texts; may = λ a. ends.bad_script net fault is h }
 bad_script_stops source files m s net (BadModel fault) texts is h = absurd h
-bad_script_stops source files m s net (Refused reply line) texts is h = absurd h
+bad_script_stops source files m s net (BadDecision reply line) texts is h = absurd h
 bad_script_stops source files m s net (NoClone name) texts is h = absurd h
 bad_script_stops source files m s net (LimitMet limit station clone) texts is h = absurd h
 
@@ -93,7 +93,7 @@ refused_end a net stated steps out NoScript first h = absurd h
 refused_end a net stated steps out (Stopped stop) first h = (of_stop stop h, refl)
   where
     of_stop : (stop : Stop) → IsRefusal net stated stop → StoppedFor (MayEnd a net stated) steps steps [] stop
-    of_stop (Refused reply line) h = ends.at_once refl (ends.refused_decision reply line first h) refl
+    of_stop (BadDecision reply line) h = ends.at_once refl (ends.refused_decision reply line first h) refl
     of_stop (BadModel fault) h = absurd h
     of_stop (BadScript fault) h = absurd h
     of_stop (NoClone name) h = absurd h
@@ -148,14 +148,14 @@ module _ (P Q : Ending → Type 0) (on : (end : Ending) → P end → Q end) (ol
 
 -- what the simulation of decided clones comes to ends the study
 pub decided_end : (a : Assignment) (net : Net) (stated : ScriptView) (book : BookView) → IsDecided net stated book
-    → (end : Ending) → MaySimulate a.mode a.source net (after book.net book.events).clones end → MayEnd a net stated end
+    → (end : Ending) → MaySimulate a.mode a.source net (clones_of_book book) end → MayEnd a net stated end
 decided_end a net stated book is end may =
     ends.simulation end is.none (subst (λ cs. MaySimulate a.mode a.source net cs end)
     (ap (λ n. (after n book.events).clones) is.net_is ∙ is.clones) may)
 
 -- how the study of its texts ends is what is asked
 pub comes : (files : Option Files) (a : Assignment) (net : Net) (stated : ScriptView) → IsRead a.source files net stated
-    → (end : Ending) → MayEnd a net stated end → Comes files a end
+    → (end : Ending) → MayEnd a net stated end → IsLawfulEnding files a end
 comes files a net stated read end may = record {
   m = read.m;
   s = read.s;
@@ -166,7 +166,8 @@ comes files a net stated read end may = record {
 -- why the study was not written is why what is asked was not written
 pub failed_is : (rose : Type 0) (files : Option Files) (a : Assignment) (old_steps new_steps : ℕ) (old new : SinkView)
     (r : Refusal)
-    → IsFailed (Comes files a) old_steps new_steps old new r → IsUnobeyed rose files a old_steps new_steps old new r
+    → IsFailed (IsLawfulEnding files a) old_steps new_steps old new r
+    → IsUnobeyed rose files a old_steps new_steps old new r
 failed_is rose files a old_steps new_steps old new OutOfMemory h = h
 failed_is rose files a old_steps new_steps old new Usage h = h
 failed_is rose files a old_steps new_steps old new NoModel h = absurd h
@@ -176,7 +177,7 @@ failed_is rose files a old_steps new_steps old new CannotWrite h = h
 
 -- the same, with what is told before the line
 pub halted_is : (rose : Type 0) (files : Option Files) (a : Assignment) (old_steps new_steps : ℕ) (old new : SinkView)
-    (h : Halt) → IsHalted (Comes files a) old_steps new_steps old new h
+    (h : Halt) → IsHalted (IsLawfulEnding files a) old_steps new_steps old new h
     → IsDisobeyed rose files a old_steps new_steps old new h
 halted_is rose files a old_steps new_steps old new (halt.Refused r) h =
     failed_is rose files a old_steps new_steps old new r h
@@ -257,7 +258,7 @@ module _ (words : Option Assignment) (before after : Outside) where
 
   -- the limit of a live study, of which the journal is told
   pub overrun_is : (a : Assignment) (journal : List ℕ) (stop : Stop) (status : ℕ) → words ≡ Some a
-      → StoppedFor (Comes before.inputs.files a) before.steps after.steps (journal ∷ []) stop
+      → StoppedFor (IsLawfulEnding before.inputs.files a) before.steps after.steps (journal ∷ []) stop
       → after.output ≡ before.output → ArePutOrCut (journal ∷ stop_line stop ∷ []) before.errors after.errors
       → status ≡ stop_status stop → IsAnswer words before after status
   overrun_is a journal stop status asks h output told is = subst (IsAnswer words before after) (sym is)

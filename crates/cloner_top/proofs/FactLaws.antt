@@ -18,11 +18,11 @@ use Rattle.cloner_top.specs.declared.refusal.Refusal.{Refusal}
 use Rattle.cloner_top.specs.declared.refusal.Refusal.TheVariants.{OutOfMemory, Usage, NoModel}
 use Rattle.cloner_top.specs.declared.refusal.Refusal.TheVariants.{NoScript, Stopped, CannotWrite}
 use Rattle.cloner_top.specs.declared.stop.Stop.{Stop}
-use Rattle.cloner_top.specs.declared.stop.Stop.TheVariants.{BadModel, BadScript, Refused, NoClone, LimitMet}
-use Rattle.cloner_top.specs.Answers.{Comes, InputsFailed, IsAnswer, Outside, cut, memory}
+use Rattle.cloner_top.specs.declared.stop.Stop.TheVariants.{BadModel, BadScript, BadDecision, NoClone, LimitMet}
+use Rattle.cloner_top.specs.Answers.{InputsFailed, IsAnswer, IsLawfulEnding, Outside, cut, memory}
 use Rattle.cloner_top.specs.Answers.{no_model, no_script, study_stop, success, usage}
 use Rattle.cloner_top.specs.Deciding.{clones_of}
-use Rattle.cloner_top.specs.Endings.{Ending, MayCome, MayEnd, MayLive, MayRun, MayRunAlone, MaySimulate}
+use Rattle.cloner_top.specs.Endings.{Ending, MayEnd, MayEndByTexts, MayLive, MayRun, MayRunAlone, MaySimulate}
 use Rattle.cloner_top.specs.Endings.{StoppedFor, early_stop, overrun, run_texts, study_texts, whole_output}
 use Rattle.cloner_top.specs.Endings as ends
 use Rattle.cloner_top.specs.Outsides.{ArePut, ArePutOrCut}
@@ -46,7 +46,7 @@ module _ (words : Option Assignment) (before after : Outside) where
       not_two : (s : Stop) → stop_status s ≡ 2 → ⊥
       not_two (BadModel fault) h = omega (arith, h)
       not_two (BadScript fault) h = omega (arith, h)
-      not_two (Refused reply line) h = omega (arith, h)
+      not_two (BadDecision reply line) h = omega (arith, h)
       not_two (NoClone name) h = omega (arith, h)
       not_two (LimitMet limit station clone) h = omega (arith, h)
   usage_cause _ (cut a is off told) two = absurd (omega (arith, two))
@@ -68,14 +68,14 @@ module _ (words : Option Assignment) (before after : Outside) where
 low : (s : Stop) → 4 ≤ stop_status s
 low (BadModel fault) = omega arith
 low (BadScript fault) = omega arith
-low (Refused reply line) = omega arith
+low (BadDecision reply line) = omega arith
 low (NoClone name) = omega arith
 low (LimitMet limit station clone) = omega arith
 
 high : (s : Stop) → stop_status s ≤ 7
 high (BadModel fault) = omega arith
 high (BadScript fault) = omega arith
-high (Refused reply line) = omega arith
+high (BadDecision reply line) = omega arith
 high (NoClone name) = omega arith
 high (LimitMet limit station clone) = omega arith
 
@@ -150,11 +150,11 @@ end_7 a net s told stop most (ends.simulation end none may) =
 end_7 a net s told stop most (ends.live end is may) = live_7 net s told stop most may
 
 come_7 : (a : Assignment) (m s : List ℕ) (told : List (List ℕ)) (stop : Stop) (most : ℕ)
-    → MayCome a m s (overrun told stop most) → stop_status stop ≡ 7
+    → MayEndByTexts a m s (overrun told stop most) → stop_status stop ≡ 7
 come_7 a m s told stop most (ends.study net stated end is_model is_script may) = end_7 a net stated told stop most may
 
 idle_stop : (files : Option Files) (a : Assignment) (old new : ℕ) (told : List (List ℕ)) (stop : Stop)
-    → StoppedFor (Comes files a) old new told stop → stop_status stop ≤ 6 → new ≡ old
+    → StoppedFor (IsLawfulEnding files a) old new told stop → stop_status stop ≤ 6 → new ≡ old
 idle_stop files a old new told stop (ends.at_once none may same) h = same
 idle_stop files a old new told stop (ends.at_limit most may few) h =
     absurd (let s = come_7 a may.m may.s told stop most may.may in omega (arith, s, h))
@@ -187,13 +187,13 @@ end_told a net s told stop most (ends.simulation end none may) =
 end_told a net s told stop most (ends.live end is may) = inr (live_told net s told stop most may, is)
 
 come_told : (a : Assignment) (m s : List ℕ) (told : List (List ℕ)) (stop : Stop) (most : ℕ)
-    → MayCome a m s (overrun told stop most) → (told ≡ []) ⊎ ((length told ≡ 1) × (a.mode ≡ Live))
+    → MayEndByTexts a m s (overrun told stop most) → (told ≡ []) ⊎ ((length told ≡ 1) × (a.mode ≡ Live))
 come_told a m s told stop most (ends.study net stated end is_model is_script may) =
     end_told a net stated told stop most may
 
 preceded : (words : Option Assignment) (files : Option Files) (a : Assignment) (old new : ℕ) (told : List (List ℕ))
     (stop : Stop)
-    → words ≡ Some a → StoppedFor (Comes files a) old new told stop → ArePreceded words (stop_status stop) told
+    → words ≡ Some a → StoppedFor (IsLawfulEnding files a) old new told stop → ArePreceded words (stop_status stop) told
 preceded words files a old new told stop is (ends.at_once none may same) = inl none
 preceded words files a old new told stop is (ends.at_limit most may few) =
     by_kind (come_told a may.m may.s told stop most may.may)
@@ -298,7 +298,7 @@ writes_end before after a m s net stated put work texts is_model is_script (ends
     (record { m = m; s = s; texts = texts; is_model = is_model; is_script = is_script }) may are steps)
 
 writes_come : (before after : Outside) (a : Assignment) (m s : List ℕ) (put : List (List ℕ)) (work : ℕ)
-    → AreTexts a.source before.inputs.files m s → MayCome a m s (whole_output put work)
+    → AreTexts a.source before.inputs.files m s → MayEndByTexts a m s (whole_output put work)
     → ArePut put before.output after.output → after.steps ≡ before.steps + work → Writes a.mode a.source before after a
 writes_come before after a m s put work texts (ends.study net stated end is_model is_script may) are steps =
     writes_end before after a m s net stated put work texts is_model is_script may are steps
@@ -326,8 +326,8 @@ module _ (words : Option Assignment) (before after : Outside) where
 
 module _ (before after : Outside) where
   comes_stopped : (a : Assignment) (told : List (List ℕ)) (stop : Stop)
-      → StoppedFor (Comes before.inputs.files a) before.steps after.steps told stop
-      → (end : Ending) × (Comes before.inputs.files a end × IsStatusOf end
+      → StoppedFor (IsLawfulEnding before.inputs.files a) before.steps after.steps told stop
+      → (end : Ending) × (IsLawfulEnding before.inputs.files a end × IsStatusOf end
       (HasRisen before.output.faults after.output.faults)
       (stop_status stop))
   comes_stopped a told stop (ends.at_once none may same) = (early_stop stop, (may, refl))

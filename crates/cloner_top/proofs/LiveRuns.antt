@@ -25,8 +25,9 @@ use Rattle.cloner_top.specs.declared.halt.Halt.TheVariants as halt
 use Rattle.cloner_top.specs.declared.refusal.Refusal.{Refusal}
 use Rattle.cloner_top.specs.declared.refusal.Refusal.TheVariants.{OutOfMemory, Usage, NoModel}
 use Rattle.cloner_top.specs.declared.refusal.Refusal.TheVariants.{NoScript, Stopped, CannotWrite}
+use Rattle.cloner_top.specs.Deciding.{clones_of_book}
 use Rattle.cloner_top.specs.Endings.{MayLive, StoppedFor, at_limit, finished, limit_stop, over, run_texts, whole_output}
-use Rattle.cloner_top.specs.LiveRuns.{HaltsFor, HasRun, IsLiveWorld, IsOverrun, IsPlaced, StopsLive}
+use Rattle.cloner_top.specs.LiveRuns.{HaltsFor, IsJournaledRun, IsLiveWorld, IsOverrun, IsPlaced, StopsLive}
 use Rattle.cloner_top.specs.Outsides.{ArePut, IsFailed, IsHalted, IsNotPut, IsStudyPut}
 use Rattle.cloner_top.proofs.Endings.{all_put, not_put}
 use Rattle.cloner_top.proofs.Runs.{short_planned}
@@ -39,7 +40,7 @@ of_err : {T E : Type 0} (P : E → Type 0) (r : Result T E) (e : E) → r ≡ Er
 of_err {T} {E} P r e is h = subst (λ (q : Result T E). IfErr q P) is h
 
 module _ (net : Net) (s : ScriptView) (old_steps new_steps : ℕ) (live : LiveRun) (text : List ℕ)
-    (ran : HasRun net s old_steps new_steps live text) where
+    (ran : IsJournaledRun net s old_steps new_steps live text) where
   -- the station and the clone of a limit are there
   pub placed : (told : Net) → told ≡ net → IfErr live.run (λ e. IsPlaced told live.book.events e)
   placed told same = subst (λ (n : Net). IfErr live.run (λ e. IsPlaced n live.book.events e)) (sym same)
@@ -70,7 +71,7 @@ module _ (net : Net) (s : ScriptView) (old_steps new_steps : ℕ) (live : LiveRu
 
     -- a live run leaves a live study's world, where its clones are few and planned, and no log is beyond the limit
     pub live_world : (t : List ℕ) → t ≡ text → length w.clones ≤ MOST_CLONES → NoneBeyond w.net w.clones w.front
-        → ArePlanned live.book.net (after live.book.net live.book.events).clones
+        → ArePlanned live.book.net (clones_of_book live.book)
         → IsLiveWorld net s old_steps new_steps w t
     live_world t same few none planned =
         let within = none_within net w.clones
@@ -97,7 +98,7 @@ module _ (net : Net) (s : ScriptView) (old_steps new_steps : ℕ) (live : LiveRu
   pub live_ok : {X : Type 0} (world : X → WorldView) (told : X → List ℕ) (r : Result X Halt)
       → IfOk r (λ x. (live.run ≡ Ok (world x)) × (told x ≡ text)) → IfOk r (λ x. length (world x).clones ≤ MOST_CLONES)
       → IfOk r (λ x. NoneBeyond (world x).net (world x).clones (world x).front)
-      → IfOk r (λ x. ArePlanned live.book.net (after live.book.net live.book.events).clones)
+      → IfOk r (λ x. ArePlanned live.book.net (clones_of_book live.book))
       → IfOk r (λ x. IsLiveWorld net s old_steps new_steps (world x) (told x))
   live_ok world told (Ok x) is few none planned = live_world (world x) is.0 (told x) is.1 few none planned
   live_ok world told (Err h) is few none planned = tt

@@ -7,7 +7,6 @@ use Rattle.sim_outer.specs.Views.{SinkView}
 use Rattle.net_model.specs.Net.{Net}
 use Rattle.decision_script.specs.Stating.{ScriptView}
 use Rattle.decision_book.specs.Books.{BookView}
-use Rattle.decision_book.specs.Journal.{after}
 use Rattle.command_words.specs.declared.request.Mode.TheVariants.{Live}
 use Rattle.command_words.specs.declared.request.WordsFault.{WordsFault}
 use Rattle.command_words.specs.declared.request.WordsFault.TheVariants as fault
@@ -15,8 +14,8 @@ use Rattle.command_words.specs.Requests.{Assignment}
 use Rattle.study_run.specs.Accepted.{AllAccepted}
 use Rattle.cloner_top.specs.declared.halt.Halt.{Halt}
 use Rattle.cloner_top.specs.declared.refusal.Refusal.{Refusal}
-use Rattle.cloner_top.specs.Answers.{Comes, IsAnswer, IsDisobeyed, Outside}
-use Rattle.cloner_top.specs.Deciding.{IsDecided}
+use Rattle.cloner_top.specs.Answers.{IsAnswer, IsDisobeyed, IsLawfulEnding, Outside}
+use Rattle.cloner_top.specs.Deciding.{IsDecided, clones_of_book}
 use Rattle.cloner_top.specs.Endings.{Ending, MayEnd, MayLive, MaySimulate, live}
 use Rattle.cloner_top.specs.Facts.{AreFewFetches}
 use Rattle.cloner_top.specs.Outsides.{ArePutOrCut, IsFailed, IsStudyPut, IsHalted}
@@ -31,27 +30,27 @@ module _ (a : Assignment) (net told : Net) (stated : ScriptView) (book : BookVie
   pub plan_accepted : AllAccepted book.net book.events
   plan_accepted = subst (λ n. AllAccepted n book.events) (sym is.net_is) is.accepted
 
-  to_end : (end : Ending) → MaySimulate a.mode a.source told (after book.net book.events).clones end
+  to_end : (end : Ending) → MaySimulate a.mode a.source told (clones_of_book book) end
       → MayEnd a net stated end
   to_end end may = decided_end a net stated book is end
-      (subst (λ n. MaySimulate a.mode a.source n (after book.net book.events).clones end) same may)
+      (subst (λ n. MaySimulate a.mode a.source n (clones_of_book book) end) same may)
 
   -- what is written of a planned study ends it
   pub decided_put : (old_steps new_steps : ℕ) (old new : SinkView) {T : Type 0} (r : Result T Refusal)
-      → OnOk r (IsStudyPut (MaySimulate a.mode a.source told (after book.net book.events).clones) old_steps new_steps
+      → OnOk r (IsStudyPut (MaySimulate a.mode a.source told (clones_of_book book)) old_steps new_steps
       old new)
       → OnOk r (IsStudyPut (MayEnd a net stated) old_steps new_steps old new)
   decided_put old_steps new_steps old new r h =
-      on_ok r (finished_on (MaySimulate a.mode a.source told (after book.net book.events).clones) (MayEnd a net stated)
+      on_ok r (finished_on (MaySimulate a.mode a.source told (clones_of_book book)) (MayEnd a net stated)
       to_end old_steps new_steps old new) h
 
   -- and so does why nothing is
   pub decided_not_put : (old_steps new_steps : ℕ) (old new : SinkView) {T : Type 0} (r : Result T Refusal)
-      → IfErr r (λ e. IsFailed (MaySimulate a.mode a.source told (after book.net book.events).clones) old_steps
+      → IfErr r (λ e. IsFailed (MaySimulate a.mode a.source told (clones_of_book book)) old_steps
       new_steps old new e)
       → IfErr r (λ e. IsFailed (MayEnd a net stated) old_steps new_steps old new e)
   decided_not_put old_steps new_steps old new r h =
-      on_err r (failed_on (MaySimulate a.mode a.source told (after book.net book.events).clones) (MayEnd a net stated)
+      on_err r (failed_on (MaySimulate a.mode a.source told (clones_of_book book)) (MayEnd a net stated)
       to_end old_steps new_steps old new) h
 
 -- what is written while analysts decide ends a live study
@@ -75,10 +74,10 @@ module _ (files : Option Files) (a : Assignment) (net : Net) (stated : ScriptVie
   -- how the study of its texts ends is what is asked
   pub obeyed : (old_steps new_steps : ℕ) (old new : SinkView) {T : Type 0} (r : Result T Halt)
       → OnOk r (IsStudyPut (MayEnd a net stated) old_steps new_steps old new)
-      → OnOk r (IsStudyPut (Comes files a) old_steps new_steps old new)
+      → OnOk r (IsStudyPut (IsLawfulEnding files a) old_steps new_steps old new)
   obeyed old_steps new_steps old new r h =
-      on_ok r (finished_on (MayEnd a net stated) (Comes files a) (comes files a net stated read) old_steps new_steps
-      old new) h
+      on_ok r (finished_on (MayEnd a net stated) (IsLawfulEnding files a) (comes files a net stated read) old_steps
+      new_steps old new) h
 
   -- and why nothing is written
   pub not_obeyed : (rose : Type 0) (old_steps new_steps : ℕ) (old new : SinkView) {T : Type 0} (r : Result T Halt)
@@ -86,8 +85,8 @@ module _ (files : Option Files) (a : Assignment) (net : Net) (stated : ScriptVie
       → IfErr r (λ e. IsDisobeyed rose files a old_steps new_steps old new e)
   not_obeyed rose old_steps new_steps old new r h =
       on_err r (λ e halts. halted_is rose files a old_steps new_steps old new e
-      (halted_on (MayEnd a net stated) (Comes files a) (comes files a net stated read) old_steps new_steps old new e
-      halts)) h
+      (halted_on (MayEnd a net stated) (IsLawfulEnding files a) (comes files a net stated read) old_steps new_steps
+      old new e halts)) h
 
 -- what holds holds where a result is there
 pub if_ok : {T E : Type 0} {A : Type 0} (r : Result T E) → A → OnOk r A

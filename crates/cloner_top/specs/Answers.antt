@@ -11,7 +11,7 @@ use Rattle.cloner_top.specs.declared.refusal.Refusal.{Refusal}
 use Rattle.cloner_top.specs.declared.refusal.Refusal.TheVariants.{OutOfMemory, Usage, NoModel}
 use Rattle.cloner_top.specs.declared.refusal.Refusal.TheVariants.{NoScript, Stopped, CannotWrite}
 use Rattle.cloner_top.specs.declared.stop.Stop.{Stop}
-use Rattle.cloner_top.specs.Endings.{Ending, MayCome, StoppedFor}
+use Rattle.cloner_top.specs.Endings.{Ending, MayEndByTexts, StoppedFor}
 use Rattle.cloner_top.specs.Outsides.{ArePutOrCut, IsStudyCut, IsFailed, IsStudyPut}
 use Rattle.cloner_top.specs.Plans.{HasModel}
 use Rattle.cloner_top.specs.Refusals.{line_of}
@@ -30,11 +30,11 @@ pub record Outside : Type 0 where
   pub steps : ℕ
 
 -- a lawful ending of what is asked, by two texts that are those of the study as far as the files are known
-pub record Comes (files : Option Files) (a : Assignment) (end : Ending) : Type 0 where
+pub record IsLawfulEnding (files : Option Files) (a : Assignment) (end : Ending) : Type 0 where
   pub m : List ℕ
   pub s : List ℕ
   pub texts : AreTexts a.source files m s
-  pub may : MayCome a m s end
+  pub may : MayEndByTexts a m s end
 
 -- nothing is written, and a line tells why, behind these texts
 pub record IsRefused (before after : Outside) (told : List (List ℕ)) (refusal : Refusal) : Type 0 where
@@ -49,7 +49,7 @@ InputsFailed before after = HasRisen before.inputs.faults after.inputs.faults
 pub data IsAnswer (words : Option Assignment) (before after : Outside) : ℕ → Type 0 where
   -- all is written: each text was put, and each file was fetched, once
   success : (a : Assignment) → words ≡ Some a
-      → IsStudyPut (Comes before.inputs.files a) before.steps after.steps before.output after.output
+      → IsStudyPut (IsLawfulEnding before.inputs.files a) before.steps after.steps before.output after.output
       → AreCounted (all_fetches a.source) before.inputs.calls after.inputs.calls → after.errors ≡ before.errors
       → IsAnswer words before after 0
   -- out of memory
@@ -66,11 +66,11 @@ pub data IsAnswer (words : Option Assignment) (before after : Outside) : ℕ →
       → IsRefused before after [] NoScript → after.steps ≡ before.steps → IsAnswer words before after 3
   -- the study stops; at the limit of a live one, its journal is told before the line
   study_stop : (a : Assignment) → words ≡ Some a → (told : List (List ℕ)) (stop : Stop)
-      → StoppedFor (Comes before.inputs.files a) before.steps after.steps told stop
+      → StoppedFor (IsLawfulEnding before.inputs.files a) before.steps after.steps told stop
       → IsRefused before after told (Stopped stop) → IsAnswer words before after (stop_status stop)
   -- the output was cut off
   cut : (a : Assignment) → words ≡ Some a
-      → IsStudyCut (Comes before.inputs.files a) before.steps after.steps before.output after.output
+      → IsStudyCut (IsLawfulEnding before.inputs.files a) before.steps after.steps before.output after.output
       → ArePutOrCut (line_of CannotWrite ∷ []) before.errors after.errors → IsAnswer words before after 8
 
 -- why what is asked was not written
@@ -80,11 +80,11 @@ IsUnobeyed rose files a old_steps new_steps old new NoModel = IsUnread rose a.so
 IsUnobeyed rose files a old_steps new_steps old new NoScript =
     HasModel a.source files × IsUnread rose a.source Script files × (new ≡ old) × (new_steps ≡ old_steps)
 IsUnobeyed rose files a old_steps new_steps old new refusal =
-    IsFailed (Comes files a) old_steps new_steps old new refusal
+    IsFailed (IsLawfulEnding files a) old_steps new_steps old new refusal
 
 -- the same, with what is told before the line
 abbrev pub IsDisobeyed : Type 0 → Option Files → Assignment → ℕ → ℕ → SinkView → SinkView → Halt → Type 0
 IsDisobeyed rose files a old_steps new_steps old new (Refused refusal) =
     IsUnobeyed rose files a old_steps new_steps old new refusal
 IsDisobeyed rose files a old_steps new_steps old new (Overrun journal stop) =
-    StoppedFor (Comes files a) old_steps new_steps (journal.items ∷ []) stop × (new ≡ old)
+    StoppedFor (IsLawfulEnding files a) old_steps new_steps (journal.items ∷ []) stop × (new ≡ old)

@@ -16,7 +16,7 @@ use Rattle.decision_book.specs.declared.call.Reply.{Reply}
 use Rattle.decision_book.specs.declared.call.Reply.TheVariants.{Accepted}
 use Rattle.study_run.specs.Accepted.{AllAccepted}
 use Rattle.cloner_top.specs.declared.stop.Stop.{Stop}
-use Rattle.cloner_top.specs.declared.stop.Stop.TheVariants.{Refused}
+use Rattle.cloner_top.specs.declared.stop.Stop.TheVariants.{BadDecision}
 
 -- who asks what, before other questions
 abbrev pub questions_onto : ℕ → Act → List Question → List Question
@@ -46,6 +46,10 @@ script_journal net s = journal_of_script net (questions s.items)
 abbrev pub clones_of : Net → ScriptView → List Clone
 clones_of net s = lists_of net (decisions s.items)
 
+-- the clones that the decisions in a book leave
+abbrev pub clones_of_book : BookView → List Clone
+clones_of_book book = (after book.net book.events).clones
+
 -- a refusal by its line, where these are the lines of the decisions
 abbrev pub by_line : List ℕ → ℕ × Reply → Reply × ℕ
 by_line lines refusal = (refusal.1, unwrap_or (slice_get lines refusal.0) 0)
@@ -66,12 +70,12 @@ AcceptsAct s (Look who station) = Unit {0}
 
 -- an item is a decision that is refused so
 abbrev pub RefusesAct : Situation → ℕ → Act → Stop → Type 0
-RefusesAct s line (Decide d) stop = (reply s d ≢ Accepted) × (stop ≡ Refused (reply s d) line)
+RefusesAct s line (Decide d) stop = (reply s d ≢ Accepted) × (stop ≡ BadDecision (reply s d) line)
 RefusesAct s line (Look who station) stop = ⊥
 
 -- the stop that the first refused decision is
 abbrev pub IsRefusal : Net → ScriptView → Stop → Type 0
-IsRefusal net s (Refused reply line) = first_refused net s ≡ Some (reply, line)
+IsRefusal net s (BadDecision reply line) = first_refused net s ≡ Some (reply, line)
 IsRefusal net s stop = ⊥
 
 -- a book in which the decisions of a script were all accepted

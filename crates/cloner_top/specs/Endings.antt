@@ -24,7 +24,7 @@ use Rattle.command_words.specs.declared.request.Mode.{Mode}
 use Rattle.command_words.specs.declared.request.Mode.TheVariants.{All, One, Live}
 use Rattle.command_words.specs.Requests.{Assignment, Source, made, named}
 use Rattle.cloner_top.specs.declared.stop.Stop.{Stop}
-use Rattle.cloner_top.specs.declared.stop.Stop.TheVariants.{BadModel, BadScript, Refused, NoClone, LimitMet}
+use Rattle.cloner_top.specs.declared.stop.Stop.TheVariants.{BadModel, BadScript, BadDecision, NoClone, LimitMet}
 use Rattle.cloner_top.specs.Deciding.{clones_of, first_refused}
 
 -- an ending: these texts are written, for which so many messages were handled; nothing is, for this cause, and none was
@@ -94,19 +94,19 @@ DecidesFirst Live = ⊥
 -- how a script's study of a model may end
 pub data MayEnd (a : Assignment) (net : Net) (s : ScriptView) : Ending → Type 0 where
   refused_decision : (reply : Reply) (line : ℕ) → DecidesFirst a.mode → first_refused net s ≡ Some (reply, line)
-      → MayEnd a net s (early_stop (Refused reply line))
+      → MayEnd a net s (early_stop (BadDecision reply line))
   simulation : (end : Ending) → first_refused net s ≡ None → MaySimulate a.mode a.source net (clones_of net s) end
       → MayEnd a net s end
   live : (end : Ending) → a.mode ≡ Live → MayLive net s end → MayEnd a net s end
 
 -- how the study of two texts may end
-pub data MayCome (a : Assignment) (m s : List ℕ) : Ending → Type 0 where
-  bad_model : (fault : ModelFault) → model m ≡ Err fault → MayCome a m s (early_stop (BadModel fault))
+pub data MayEndByTexts (a : Assignment) (m s : List ℕ) : Ending → Type 0 where
+  bad_model : (fault : ModelFault) → model m ≡ Err fault → MayEndByTexts a m s (early_stop (BadModel fault))
   bad_script : (net : Net) (fault : ScriptFault) → model m ≡ Ok net → script s ≡ Err fault
-      → MayCome a m s (early_stop (BadScript fault))
+      → MayEndByTexts a m s (early_stop (BadScript fault))
   study : (net : Net) (stated : ScriptView) (end : Ending) → model m ≡ Ok net → script s ≡ Ok stated
       → MayEnd a net stated end
-      → MayCome a m s end
+      → MayEndByTexts a m s end
 
 -- what was written for an ending for which this holds; the steps are the messages handled
 pub record Wrote (P : Ending → Type 0) (old_steps new_steps : ℕ) (texts : List (List ℕ)) : Type 0 where

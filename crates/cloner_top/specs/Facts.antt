@@ -21,7 +21,7 @@ use Rattle.command_words.specs.Requests.{Assignment, Source, made, named}
 use Rattle.cloner_top.specs.declared.reading.Text.TheVariants.{Model, Script}
 use Rattle.cloner_top.specs.declared.refusal.Refusal.{Refusal}
 use Rattle.cloner_top.specs.declared.stop.Stop.{Stop}
-use Rattle.cloner_top.specs.Answers.{Comes, InputsFailed, Outside}
+use Rattle.cloner_top.specs.Answers.{InputsFailed, IsLawfulEnding, Outside}
 use Rattle.cloner_top.specs.Deciding.{clones_of, first_refused}
 use Rattle.cloner_top.specs.Endings.{Ending, StoppedFor, early_stop, overrun, run_texts, whole_output}
 use Rattle.cloner_top.specs.Outsides.{ArePut, ArePutOrCut, IsStudyCut}
@@ -105,14 +105,14 @@ pub record IsStoppedFor (words : Option Assignment) (before after : Outside) (st
   pub told : List (List ℕ)
   pub stop : Stop
   pub is : status ≡ stop_status stop
-  pub stops : StoppedFor (Comes before.inputs.files a) before.steps after.steps told stop
+  pub stops : StoppedFor (IsLawfulEnding before.inputs.files a) before.steps after.steps told stop
   pub told_is : ArePutOrCut (told ++ stop_line stop ∷ []) before.errors after.errors
 
 -- status 8: a prefix of the output was written, and the output had a fault
 pub record IsCutFor (words : Option Assignment) (before after : Outside) : Type 0 where
   pub a : Assignment
   pub asks : words ≡ Some a
-  pub cut : IsStudyCut (Comes before.inputs.files a) before.steps after.steps before.output after.output
+  pub cut : IsStudyCut (IsLawfulEnding before.inputs.files a) before.steps after.steps before.output after.output
 
 -- what is told before the line: nothing, or, at the limit of a live study, one text
 abbrev pub ArePreceded : Option Assignment → ℕ → List (List ℕ) → Type 0
@@ -139,7 +139,7 @@ Completes None before after status = (status ≡ 1) ⊎ (status ≡ 2)
 Completes (Some a) before after status = ¬ (InputsFailed before after)
     → (status ≡ 1)
     ⊎ (((status ≡ 3) × (IsUnread ⊥ a.source Model before.inputs.files ⊎ IsUnread ⊥ a.source Script before.inputs.files))
-    ⊎ ((end : Ending) × (Comes before.inputs.files a end
+    ⊎ ((end : Ending) × (IsLawfulEnding before.inputs.files a end
     × IsStatusOf end (HasRisen before.output.faults after.output.faults) status)))
 
 -- how many fetches the words ask for

@@ -21,7 +21,8 @@ use Rattle.cloner_top.specs.declared.stop.Stop.{Stop}
 use Rattle.cloner_top.specs.Endings.{MayLive, StoppedFor, limit_stop, run_texts, whole_output}
 
 -- a live study of a script was run, and this is the text of its journal
-pub record HasRun (net : Net) (s : ScriptView) (old_steps new_steps : ℕ) (live : LiveRun) (text : List ℕ) : Type 0 where
+pub record IsJournaledRun (net : Net) (s : ScriptView) (old_steps new_steps : ℕ) (live : LiveRun) (text : List ℕ) :
+    Type 0 where
   pub journal : IsJournalOf net s live.book
   pub made : HasMadeLooks s (all_looks live.looks.items)
   pub looks : IfOk live.run (λ w. AreLooks net s live.book.events (all_looks live.looks.items))

@@ -10,7 +10,7 @@ use Rattle.cloner_top.specs.declared.reading.Text.TheVariants.{Model, Script}
 use Rattle.cloner_top.specs.declared.refusal.Refusal.{Refusal}
 use Rattle.cloner_top.specs.declared.refusal.Refusal.TheVariants.{OutOfMemory, NoModel, NoScript, Stopped}
 use Rattle.cloner_top.specs.declared.stop.Stop.{Stop}
-use Rattle.cloner_top.specs.Endings.{MayCome, early_stop}
+use Rattle.cloner_top.specs.Endings.{MayEndByTexts, early_stop}
 use Rattle.cloner_top.specs.Texts.{AreTexts, IsText, IsUnread, text_of}
 
 -- the network and the script of a study's texts
@@ -33,7 +33,7 @@ pub record StopsEarly (source : Source) (files : Option Files) (stop : Stop) : T
   pub m : List ℕ
   pub s : List ℕ
   pub texts : AreTexts source files m s
-  pub may : (a : Assignment) → MayCome a m s (early_stop stop)
+  pub may : (a : Assignment) → MayEndByTexts a m s (early_stop stop)
 
 -- why a study is not read
 abbrev pub IsUnreadStudy : Type 0 → Source → Option Files → Refusal → Type 0

@@ -7,13 +7,13 @@ use Rattle.decision_script.specs.Faults as script
 use Rattle.decision_book.specs.declared.call.Reply.{Reply}
 use Rattle.decision_book.specs.Numbers.{reply_number}
 use Rattle.cloner_top.specs.declared.stop.Stop.{Stop}
-use Rattle.cloner_top.specs.declared.stop.Stop.TheVariants.{BadModel, BadScript, Refused, NoClone, LimitMet}
+use Rattle.cloner_top.specs.declared.stop.Stop.TheVariants.{BadModel, BadScript, BadDecision, NoClone, LimitMet}
 
 -- the status for each stop
 abbrev pub stop_status : Stop → ℕ
 stop_status (BadModel fault) = 4
 stop_status (BadScript fault) = 5
-stop_status (Refused reply line) = 6
+stop_status (BadDecision reply line) = 6
 stop_status (NoClone name) = 6
 stop_status (LimitMet limit station clone) = 7
 
@@ -55,6 +55,6 @@ limit_line limit station clone =
 abbrev pub stop_line : Stop → List ℕ
 stop_line (BadModel fault) = model_line fault
 stop_line (BadScript fault) = script_line fault
-stop_line (Refused reply line) = decision_line reply line
+stop_line (BadDecision reply line) = decision_line reply line
 stop_line (NoClone name) = no_clone_line name
 stop_line (LimitMet limit station clone) = limit_line limit station clone

@@ -27,7 +27,7 @@ fn decide_item(book: &mut Book, item: &Item) -> Result<(), Stop>
     };
     match book.decide(item.analyst, decision) {
         Reply::Accepted => Ok(()),
-        reply => Err(Stop::Refused {
+        reply => Err(Stop::BadDecision {
             reply,
             line: item.line,
         }),

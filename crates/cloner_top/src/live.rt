@@ -1,11 +1,11 @@
 //! Runs a study while its analysts decide and look, and puts its texts.
 ghost use Rattle.std.specs.Prelude.{◌≡◌, ◌≤◌, Ok, Err, length, IfErr, IfOk, OnOk};
 ghost use Rattle.sim_base.specs.declared.lists.TheConstants.{MOST_CLONES};
-ghost use Rattle.decision_book.specs.Journal.{after};
 ghost use Rattle.decision_book.specs.Plans.{ArePlanned};
 ghost use Rattle.world_core.specs.Overs.{NoneBeyond};
+ghost use Rattle.cloner_top.specs.Deciding.{clones_of_book};
 ghost use Rattle.cloner_top.specs.Endings.{MayLive};
-ghost use Rattle.cloner_top.specs.LiveRuns.{HaltsFor, HasRun, IsLiveWorld, IsPlaced, StopsLive};
+ghost use Rattle.cloner_top.specs.LiveRuns.{HaltsFor, IsJournaledRun, IsLiveWorld, IsPlaced, StopsLive};
 ghost use Rattle.cloner_top.specs.Outsides.{IsStudyPut, IsHalted};
 
 use crate::halt::Halt;
@@ -33,7 +33,7 @@ fn world_or_halt(model: &Model, live: LiveRun, journal: Vec<u8>) -> Result<(Worl
     ensures ok { IfOk result (λ r. (live.run ≡ Ok r.0) × (r.1.items ≡ journal.items)) }
     ensures few { IfOk result (λ r. length r.0.clones ≤ MOST_CLONES) }
     ensures within { IfOk result (λ r. NoneBeyond r.0.net r.0.clones r.0.front) }
-    ensures planned { IfOk result (λ r. ArePlanned live.book.net (after live.book.net live.book.events).clones) }
+    ensures planned { IfOk result (λ r. ArePlanned live.book.net (clones_of_book live.book)) }
     ensures err { IfErr result (λ h. (e : _) × ((live.run ≡ Err e)
         × HaltsFor model.now live.book.events journal.items e h)) }
 {
@@ -55,8 +55,8 @@ fn world_or_halt(model: &Model, live: LiveRun, journal: Vec<u8>) -> Result<(Worl
     }
 }
 
-// The study, and the text of its journal.
-fn journaled<G: Gate, L: Ledger, R: Threads + Wait + Sync>(
+// Runs the study, and writes the text of its journal into memory.
+fn run_and_journal<G: Gate, L: Ledger, R: Threads + Wait + Sync>(
     rt: &R,
     alloc: Global,
     gate: &G,
@@ -64,7 +64,8 @@ fn journaled<G: Gate, L: Ledger, R: Threads + Wait + Sync>(
     study: &Study,
     steps: &mut Steps<L>,
 ) -> Result<(LiveRun, Vec<u8>), NoMemory>
-    ensures ran { IfOk result (λ r. HasRun study.now.model.value study.now.script steps.old steps.new r.0 r.1.items) }
+    ensures ran { IfOk result (λ r. IsJournaledRun study.now.model.value study.now.script steps.old steps.new r.0
+        r.1.items) }
 {
     let crew = StudyCrew {
         workers: Workers {
@@ -89,7 +90,7 @@ fn run_live<G: Gate, L: Ledger, R: Threads + Wait + Sync>(
         r.1.items) }
     ensures err { IfErr result (λ h. StopsLive study.now.model.value study.now.script steps.old steps.new h) }
 {
-    match journaled(rt, alloc, gate, request, study, steps) {
+    match run_and_journal(rt, alloc, gate, request, study, steps) {
         Ok((live, journal)) => world_or_halt(&study.model, live, journal),
         Err(NoMemory) => Err(Halt::Refused(Refusal::OutOfMemory)),
     }

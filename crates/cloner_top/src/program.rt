@@ -2,7 +2,7 @@
 ghost use Rattle.std.specs.Prelude.{◌≡◌, ◌≢◌, ◌⊎◌, ◌≤◌, ◌∷◌, [], ℕ, IfErr, None, MatchBool, OnOk};
 ghost use Rattle.sim_outer.specs.Causes.{AreCounted, HasRisen};
 ghost use Rattle.command_words.specs.Requests.{request_view, source_view};
-ghost use Rattle.cloner_top.specs.Answers.{Comes, IsAnswer, IsDisobeyed, assignment_of};
+ghost use Rattle.cloner_top.specs.Answers.{IsAnswer, IsDisobeyed, IsLawfulEnding, assignment_of};
 ghost use Rattle.cloner_top.specs.Endings.{DecidesFirst, MayEnd};
 ghost use Rattle.cloner_top.specs.Facts.{AreFewFetches, Completes, IsCutFor, IsStoppedFor};
 ghost use Rattle.cloner_top.specs.Facts.{IsToldFor, IsUnreadFor, IsWritten};
@@ -97,8 +97,9 @@ fn obey<I: Inputs, O: Sink, G: Gate, L: Ledger, R: Threads + Wait + Sync>(
     gate: &G,
     steps: &mut Steps<L>,
 ) -> Result<(), Halt>
-    ensures ok { OnOk result (IsStudyPut (Comes (I.seen inputs.old).files (request_view request.now).assignment)
-        steps.old steps.new (O.seen out.old) (O.seen out.new)) }
+    ensures ok { OnOk result (IsStudyPut
+        (IsLawfulEnding (I.seen inputs.old).files (request_view request.now).assignment) steps.old steps.new
+        (O.seen out.old) (O.seen out.new)) }
     ensures err { IfErr result (λ h. IsDisobeyed (HasRisen (I.seen inputs.old).faults (I.seen inputs.new).faults)
         (I.seen inputs.old).files (request_view request.now).assignment steps.old steps.new
         (O.seen out.old) (O.seen out.new) h) }

@@ -1,11 +1,11 @@
 //! Runs a planned study, and puts its texts.
 ghost use Rattle.std.specs.Prelude.{◌≡◌, ◌+◌, ◌≤◌, ℕ, List, [], ◌∷◌, length, IfErr, IfOk, OnOk};
-ghost use Rattle.decision_book.specs.Journal.{after};
 ghost use Rattle.rolling_text.specs.WorldTraces.{AreShort};
 ghost use Rattle.world_core.specs.Worlds.{total_handled};
 ghost use Rattle.study_run.specs.Accepted.{AllAccepted};
 ghost use Rattle.study_run.specs.Reports.{MayReport};
 ghost use Rattle.command_words.specs.Requests.{source_view};
+ghost use Rattle.cloner_top.specs.Deciding.{clones_of_book};
 ghost use Rattle.cloner_top.specs.Endings.{DecidesFirst, MayRun, MayRunAlone, MaySimulate};
 ghost use Rattle.cloner_top.specs.Endings.{StoppedFor, limit_stop, run_texts};
 ghost use Rattle.cloner_top.specs.Outsides.{IsFailed, IsStudyPut};
@@ -52,12 +52,12 @@ fn run_world<G: Gate, L: Ledger, R: Threads + Wait + Sync>(
 ) -> Result<World, Refusal>
     requires accepted { AllAccepted plan.now.book.net plan.now.book.events }
     ensures may_report { IfOk result (λ w. MayReport plan.now.model.value w) }
-    ensures clones { IfOk result (λ w. w.clones ≡ (after plan.now.book.net plan.now.book.events).clones) }
+    ensures clones { IfOk result (λ w. w.clones ≡ clones_of_book plan.now.book) }
     ensures short { IfOk result (λ w. AreShort w.clones) }
     ensures steps { IfOk result (λ w.
         steps.new ≡ steps.old + total_handled plan.now.model.value w.clones plan.now.model.value.horizon) }
     ensures err { IfErr result (λ r. (texts : List (List ℕ))
-        → Stops (StoppedFor (MayRun plan.now.model.value (after plan.now.book.net plan.now.book.events).clones texts)
+        → Stops (StoppedFor (MayRun plan.now.model.value (clones_of_book plan.now.book) texts)
         steps.old steps.new []) r) }
 {
     let lists = plan.book.lists();
@@ -97,12 +97,12 @@ fn write_run<O: Sink, G: Gate, L: Ledger, R: Threads + Wait + Sync>(
 ) -> Result<(), Refusal>
     requires accepted { AllAccepted plan.now.book.net plan.now.book.events }
     ensures ok { OnOk result (IsStudyPut
-        (MayRun plan.now.model.value (after plan.now.book.net plan.now.book.events).clones
-        (run_texts plan.now.model.value (after plan.now.book.net plan.now.book.events).clones)) steps.old steps.new
+        (MayRun plan.now.model.value (clones_of_book plan.now.book)
+        (run_texts plan.now.model.value (clones_of_book plan.now.book))) steps.old steps.new
         (O.seen out.old) (O.seen out.new)) }
     ensures err { IfErr result (λ r. IsFailed
-        (MayRun plan.now.model.value (after plan.now.book.net plan.now.book.events).clones
-        (run_texts plan.now.model.value (after plan.now.book.net plan.now.book.events).clones)) steps.old steps.new
+        (MayRun plan.now.model.value (clones_of_book plan.now.book)
+        (run_texts plan.now.model.value (clones_of_book plan.now.book))) steps.old steps.new
         (O.seen out.old) (O.seen out.new) r) }
 {
     match run_world(rt, alloc, gate, request, plan, steps) {
@@ -123,12 +123,12 @@ fn write_report<O: Sink, G: Gate, L: Ledger, R: Threads + Wait + Sync>(
 ) -> Result<(), Refusal>
     requires accepted { AllAccepted plan.now.book.net plan.now.book.events }
     ensures ok { OnOk result (IsStudyPut
-        (MayRun plan.now.model.value (after plan.now.book.net plan.now.book.events).clones
-        (report plan.now.model.value (after plan.now.book.net plan.now.book.events).clones ∷ [])) steps.old steps.new
+        (MayRun plan.now.model.value (clones_of_book plan.now.book)
+        (report plan.now.model.value (clones_of_book plan.now.book) ∷ [])) steps.old steps.new
         (O.seen out.old) (O.seen out.new)) }
     ensures err { IfErr result (λ r. IsFailed
-        (MayRun plan.now.model.value (after plan.now.book.net plan.now.book.events).clones
-        (report plan.now.model.value (after plan.now.book.net plan.now.book.events).clones ∷ [])) steps.old steps.new
+        (MayRun plan.now.model.value (clones_of_book plan.now.book)
+        (report plan.now.model.value (clones_of_book plan.now.book) ∷ [])) steps.old steps.new
         (O.seen out.old) (O.seen out.new) r) }
 {
     match run_world(rt, alloc, gate, request, plan, steps) {
@@ -146,11 +146,11 @@ fn write_alone<O: Sink, L: Ledger>(
     steps: &mut Steps<L>,
 ) -> Result<(), Refusal>
     ensures ok { OnOk result (IsStudyPut
-        (MayRunAlone plan.now.model.value (after plan.now.book.net plan.now.book.events).clones name.now)
-        steps.old steps.new (O.seen out.old) (O.seen out.new)) }
+        (MayRunAlone plan.now.model.value (clones_of_book plan.now.book) name.now) steps.old steps.new
+        (O.seen out.old) (O.seen out.new)) }
     ensures err { IfErr result (λ r. IsFailed
-        (MayRunAlone plan.now.model.value (after plan.now.book.net plan.now.book.events).clones name.now)
-        steps.old steps.new (O.seen out.old) (O.seen out.new) r) }
+        (MayRunAlone plan.now.model.value (clones_of_book plan.now.book) name.now) steps.old steps.new
+        (O.seen out.old) (O.seen out.new) r) }
 {
     let lists = plan.book.lists();
     let Some(place) = lists.find(name) else {
@@ -179,11 +179,10 @@ pub(crate) fn write_study<O: Sink, G: Gate, L: Ledger, R: Threads + Wait + Sync>
     requires accepted { AllAccepted plan.now.book.net plan.now.book.events }
     ensures ok { OnOk result (IsStudyPut
         (MaySimulate request.now.mode (source_view request.now.source) plan.now.model.value
-        (after plan.now.book.net plan.now.book.events).clones) steps.old steps.new (O.seen out.old) (O.seen out.new)) }
+        (clones_of_book plan.now.book)) steps.old steps.new (O.seen out.old) (O.seen out.new)) }
     ensures err { IfErr result (λ r. IsFailed
         (MaySimulate request.now.mode (source_view request.now.source) plan.now.model.value
-        (after plan.now.book.net plan.now.book.events).clones) steps.old steps.new
-        (O.seen out.old) (O.seen out.new) r) }
+        (clones_of_book plan.now.book)) steps.old steps.new (O.seen out.old) (O.seen out.new) r) }
 {
     match (request.mode, request.source) {
         (Mode::All, Source::Named { .. }) => write_run(rt, alloc, gate, request, plan, out, steps),

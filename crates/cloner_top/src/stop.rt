@@ -19,7 +19,7 @@ pub enum Stop {
     /// The script's text is no script.
     BadScript(ScriptFault),
     /// The first decision that is refused, with its line.
-    Refused {
+    BadDecision {
         reply: Reply,
         line: u32,
     },
@@ -122,7 +122,7 @@ impl Stop {
         match self {
             Stop::BadModel(_) => 4,
             Stop::BadScript(_) => 5,
-            Stop::Refused { .. } | Stop::NoClone(_) => 6,
+            Stop::BadDecision { .. } | Stop::NoClone(_) => 6,
             Stop::LimitMet { .. } => 7,
         }
     }
@@ -134,7 +134,7 @@ impl Stop {
         match self {
             Stop::BadModel(fault) => line_of_model(fault),
             Stop::BadScript(fault) => line_of_script(fault),
-            Stop::Refused { reply, line } => line_of_decision(reply, *line),
+            Stop::BadDecision { reply, line } => line_of_decision(reply, *line),
             Stop::NoClone(name) => line_of_no_clone(name),
             Stop::LimitMet {
                 limit,

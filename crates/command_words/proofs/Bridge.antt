@@ -17,8 +17,9 @@ use Rattle.clap.specs.declared.error.kind.ErrorKind.{ErrorKind}
 use Rattle.clap.specs.declared.error.kind.ErrorKind.TheVariants as kind
 use Rattle.command_words.specs.Application.{cloner_app}
 use Rattle.command_words.specs.Clap.{ClapFindsTheValues, clap_values, unless_fault, up_to_three, values_in}
-use Rattle.command_words.specs.Rules.{DashedWord, OptionName, after_dashed, clone, dashed_word, ending, is_dashed}
-use Rattle.command_words.specs.Rules.{named, read, unknown, valued, values, with_positionals, with_value, workers}
+use Rattle.command_words.specs.Rules.{DashedWord, OptionName, after_dashed, bare_option, clone, dashed_word, ending}
+use Rattle.command_words.specs.Rules.{is_dashed, option_with_value, read, unknown, values, with_positionals}
+use Rattle.command_words.specs.Rules.{with_value, workers}
 use Rattle.command_words.specs.Values.{Values}
 use Rattle.command_words.proofs.ClapRows.{Stage, Stands, at_start, fault-missing, fault-twice}
 use Rattle.command_words.proofs.ClapRows.{no_fault-option}
@@ -40,7 +41,8 @@ abbrev pub many : Option Text → Option Text → Text → Text → Text → Tex
 many w c x y z u more = record { workers = w; clone = c; positionals = x ∷ y ∷ z ∷ u ∷ more }
 
 -- clap has no place for them
-pub more_than_three : (w c : Option Text) (x y z u : Text) (more : List Text) → up_to_three (many w c x y z u more) ≡ None
+pub more_than_three : (w c : Option Text) (x y z u : Text) (more : List Text)
+    → up_to_three (many w c x y z u more) ≡ None
 more_than_three w c x y z u more =
     let long_list : nat_le (length (x ∷ y ∷ z ∷ u ∷ more)) 3 ≡ false =
     lt-leb (length (x ∷ y ∷ z ∷ u ∷ more)) 3 (omega arith) in
@@ -65,8 +67,8 @@ many_dashed : (d : DashedWord) (rest : List Text) (w c : Option Text) (x y z u :
     → StaysMany rest x y z u
     → option_and_then up_to_three (after_dashed d rest (read rest) (many w c x y z u more)) ≡ None
 many_dashed ending rest w c x y z u more again = more_than_three w c x y z u (more ++ rest)
-many_dashed (named name) rest w c x y z u more again = again (Some name) w c more
-many_dashed (valued name v) rest w c x y z u more again = many_value name v rest w c x y z u more again
+many_dashed (bare_option name) rest w c x y z u more again = again (Some name) w c more
+many_dashed (option_with_value name v) rest w c x y z u more again = many_value name v rest w c x y z u more again
 many_dashed unknown rest w c x y z u more again = refl
 
 -- nor any word where nothing is due
@@ -187,11 +189,11 @@ doomed_dashed ending word rest rows p waiting s k ks e fault =
     ∙ found-taken (at rows p waiting (place s) false) (at rows p waiting (place s) true) (codes "--") rest
     (fault_at_end rows p waiting (place s)) (walk_at_end rows p waiting (place s))
     ∙ doomed_behind rest rows p waiting s k ks fault
-doomed_dashed (named name) word rest rows p waiting s k ks e fault =
+doomed_dashed (bare_option name) word rest rows p waiting s k ks e fault =
     ap (λ x. found (at rows p waiting (place s) false) (x ∷ rest)) e
     ∙ found-refused (at rows p waiting (place s) false) (long name) rest k ks
     (fault_of_name name rows p waiting (place s) ∙ ap (λ x. or_else x []) fault)
-doomed_dashed (valued name v) word rest rows p waiting s k ks e fault =
+doomed_dashed (option_with_value name v) word rest rows p waiting s k ks e fault =
     ap (λ x. found (at rows p waiting (place s) false) (x ∷ rest)) e
     ∙ found-refused (at rows p waiting (place s) false) (long name ++ (61 ∷ v)) rest k ks
     (fault_of_value name v rows p waiting (place s)
@@ -292,13 +294,13 @@ free_dashed ending word rest free due e rows p w c s clear st =
     ∙ found-taken (at rows p idle (place s) false) (at rows p idle (place s) true) (codes "--") rest
     (fault_at_end rows p idle (place s)) (walk_at_end rows p idle (place s))
     ∙ behind rest rows p idle w c s clear st
-free_dashed (named name) word rest free due e rows p w c s clear st =
+free_dashed (bare_option name) word rest free due e rows p w c s clear st =
     ap (λ x. found (at rows p idle (place s) false) (x ∷ rest)) e
     ∙ found-taken (at rows p idle (place s) false)
     (at (rows_with rows p) (Some (id_of name, [])) (option (id_of name)) (place s) false) (long name) rest
     (fault_of_name name rows p idle (place s) ∙ ap (λ x. or_else x []) clear) (walk_of_name name rows p (place s))
     ∙ due name (rows_with rows p) w c s st
-free_dashed (valued name v) word rest free due e rows p w c s clear st =
+free_dashed (option_with_value name v) word rest free due e rows p w c s clear st =
     ap (λ x. found (at rows p idle (place s) false) (x ∷ rest)) e
     ∙ value_step name v rest free rows p w c s clear st
 free_dashed unknown word rest free due refuses rows p w c s clear st =

@@ -15,8 +15,8 @@ use Rattle.std.proofs.lemmas.Slice.Eq.{bytes_eq-Decides, starts_is}
 use Rattle.std.proofs.lemmas.Str.{IsUtf8-past_char, chars-encodes, encode_ascii}
 use Rattle.clap.specs.Lexer.{long_of_rest, short_of_rest, strip_byte}
 use Rattle.clap.specs.Walk.{Text}
-use Rattle.command_words.specs.Rules.{DashedWord, OptionName, clone, dashed_word, ending, is_dashed, named, unknown}
-use Rattle.command_words.specs.Rules.{valued, workers}
+use Rattle.command_words.specs.Rules.{DashedWord, OptionName, bare_option, clone, dashed_word, ending, is_dashed}
+use Rattle.command_words.specs.Rules.{option_with_value, unknown, workers}
 use Rattle.command_words.proofs.ClapSteps.{IsPlain, IsRefused, id_of, long, long_name, refused_long, refused_short}
 
 -- ---- words that do not begin with `-`, and `-` itself
@@ -140,8 +140,8 @@ refused (b ∷ c ∷ text) u h o = dashes b c text (eqb-true b 45 h) u o
 -- what clap makes of it
 abbrev pub Says : DashedWord → Text → Type 0
 Says ending word = word ≡ codes "--"
-Says (named name) word = word ≡ long name
-Says (valued name v) word = word ≡ long name ++ (61 ∷ v)
+Says (bare_option name) word = word ≡ long name
+Says (option_with_value name v) word = word ≡ long name ++ (61 ∷ v)
 Says unknown word = IsRefused word
 
 -- what the rules say of it is what clap makes of it
@@ -151,37 +151,37 @@ says word u h = at_end (bytes_eq word (codes "--")) refl
     at_clone_value : (t : Bool) → bytes_eq word (codes "--") ≡ false → bytes_eq word (codes "--workers") ≡ false
         → bytes_eq word (codes "--clone") ≡ false → starts_with nat_eq word (codes "--workers=") ≡ false
         → starts_with nat_eq word (codes "--clone=") ≡ t
-        → Says (cond t (valued clone (drop 8 word)) unknown) word
+        → Says (cond t (option_with_value clone (drop 8 word)) unknown) word
     at_clone_value true a b c d e = starts_back clone word e
     at_clone_value false a b c d e = refused word u h
         (record { no_end = a; no_workers = b; no_clone = c; no_workers_value = d; no_clone_value = e })
 
     at_value : (t : Bool) → bytes_eq word (codes "--") ≡ false → bytes_eq word (codes "--workers") ≡ false
         → bytes_eq word (codes "--clone") ≡ false → starts_with nat_eq word (codes "--workers=") ≡ t
-        → Says (cond t (valued workers (drop 10 word)) (cond (starts_with nat_eq word (codes "--clone="))
-        (valued clone (drop 8 word)) unknown)) word
+        → Says (cond t (option_with_value workers (drop 10 word)) (cond (starts_with nat_eq word (codes "--clone="))
+        (option_with_value clone (drop 8 word)) unknown)) word
     at_value true a b c d = starts_back workers word d
     at_value false a b c d = at_clone_value (starts_with nat_eq word (codes "--clone=")) a b c d refl
 
     at_clone : (t : Bool) → bytes_eq word (codes "--") ≡ false → bytes_eq word (codes "--workers") ≡ false
         → bytes_eq word (codes "--clone") ≡ t
-        → Says (cond t (named clone)
-        (cond (starts_with nat_eq word (codes "--workers=")) (valued workers (drop 10 word))
-        (cond (starts_with nat_eq word (codes "--clone=")) (valued clone (drop 8 word)) unknown))) word
+        → Says (cond t (bare_option clone)
+        (cond (starts_with nat_eq word (codes "--workers=")) (option_with_value workers (drop 10 word))
+        (cond (starts_with nat_eq word (codes "--clone=")) (option_with_value clone (drop 8 word)) unknown))) word
     at_clone true a b c = (bytes_eq-Decides word (codes "--clone")).0 c
     at_clone false a b c = at_value (starts_with nat_eq word (codes "--workers=")) a b c refl
 
     at_workers : (t : Bool) → bytes_eq word (codes "--") ≡ false → bytes_eq word (codes "--workers") ≡ t
-        → Says (cond t (named workers) (cond (bytes_eq word (codes "--clone")) (named clone)
-        (cond (starts_with nat_eq word (codes "--workers=")) (valued workers (drop 10 word))
-        (cond (starts_with nat_eq word (codes "--clone=")) (valued clone (drop 8 word)) unknown)))) word
+        → Says (cond t (bare_option workers) (cond (bytes_eq word (codes "--clone")) (bare_option clone)
+        (cond (starts_with nat_eq word (codes "--workers=")) (option_with_value workers (drop 10 word))
+        (cond (starts_with nat_eq word (codes "--clone=")) (option_with_value clone (drop 8 word)) unknown)))) word
     at_workers true a b = (bytes_eq-Decides word (codes "--workers")).0 b
     at_workers false a b = at_clone (bytes_eq word (codes "--clone")) a b refl
 
     at_end : (t : Bool) → bytes_eq word (codes "--") ≡ t
-        → Says (cond t ending (cond (bytes_eq word (codes "--workers")) (named workers)
-        (cond (bytes_eq word (codes "--clone")) (named clone)
-        (cond (starts_with nat_eq word (codes "--workers=")) (valued workers (drop 10 word))
-        (cond (starts_with nat_eq word (codes "--clone=")) (valued clone (drop 8 word)) unknown))))) word
+        → Says (cond t ending (cond (bytes_eq word (codes "--workers")) (bare_option workers)
+        (cond (bytes_eq word (codes "--clone")) (bare_option clone)
+        (cond (starts_with nat_eq word (codes "--workers=")) (option_with_value workers (drop 10 word))
+        (cond (starts_with nat_eq word (codes "--clone=")) (option_with_value clone (drop 8 word)) unknown))))) word
     at_end true a = (bytes_eq-Decides word (codes "--")).0 a
     at_end false a = at_workers (bytes_eq word (codes "--workers")) a refl

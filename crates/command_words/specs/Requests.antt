@@ -8,6 +8,7 @@ use Rattle.command_words.specs.declared.request.Mode.TheVariants.{All, One, Live
 use Rattle.command_words.specs.declared.request.Request.{Request}
 use Rattle.command_words.specs.declared.request.Source.{Source as Texts}
 use Rattle.command_words.specs.declared.request.Source.TheVariants.{Named, Made}
+use Rattle.command_words.specs.declared.request.TheConstants.{MOST_NUMBER, MOST_WORKERS}
 use Rattle.command_words.specs.Numbers.{number_to}
 use Rattle.command_words.specs.Rules.{values}
 use Rattle.command_words.specs.Values.{Values}
@@ -41,10 +42,10 @@ abbrev pub is_text : List ℕ → Bool
 is_text [] = false
 is_text (b ∷ bs) = true
 
--- 1 to 16, and 1 where none is given
+-- 1 to `MOST_WORKERS`, and 1 where none is given
 abbrev pub workers_of : Option (List ℕ) → Option ℕ
 workers_of None = Some 1
-workers_of (Some word) = number_to 16 word
+workers_of (Some word) = number_to MOST_WORKERS word
 
 -- a study of these texts
 abbrev pub study_of : Mode → Source → ℕ → RequestView
@@ -70,7 +71,7 @@ solo_form model script _ _ = None
 abbrev pub gen_form : List ℕ → Option (List ℕ) → Option (List ℕ) → Option RequestView
 gen_form number workers (Some clone) = None
 gen_form number workers None = option_and_then (λ n. option_map (study_of All (made n)) (workers_of workers))
-    (number_to 999999 number)
+    (number_to MOST_NUMBER number)
 
 -- the modes of two positionals more; a later mode of two names is one `else if` more
 abbrev pub form_of_two : List ℕ → List ℕ → List ℕ → Option (List ℕ) → Option (List ℕ) → Option RequestView

@@ -21,9 +21,9 @@ pub data DashedWord : Type 0 where
   -- `--`: the options end here
   ending : DashedWord
   -- `--workers` or `--clone`: the next word is the value
-  named : OptionName → DashedWord
+  bare_option : OptionName → DashedWord
   -- `--workers=V` or `--clone=V`: V is the value
-  valued : OptionName → List ℕ → DashedWord
+  option_with_value : OptionName → List ℕ → DashedWord
   -- anything else; names aren't abbreviated
   unknown : DashedWord
 
@@ -31,10 +31,10 @@ pub data DashedWord : Type 0 where
 abbrev pub dashed_word : List ℕ → DashedWord
 dashed_word word =
     if bytes_eq word (codes "--") then ending
-    else if bytes_eq word (codes "--workers") then named workers
-    else if bytes_eq word (codes "--clone") then named clone
-    else if starts_with nat_eq word (codes "--workers=") then valued workers (drop 10 word)
-    else if starts_with nat_eq word (codes "--clone=") then valued clone (drop 8 word)
+    else if bytes_eq word (codes "--workers") then bare_option workers
+    else if bytes_eq word (codes "--clone") then bare_option clone
+    else if starts_with nat_eq word (codes "--workers=") then option_with_value workers (drop 10 word)
+    else if starts_with nat_eq word (codes "--clone=") then option_with_value clone (drop 8 word)
     else unknown
 
 -- one value more, None where the option has one already: each stands at most once
@@ -50,8 +50,8 @@ with_positionals words v = record v { positionals = v.positionals ++ words }
 abbrev pub after_dashed : DashedWord → List (List ℕ) → (Option OptionName → Values → Option Values) → Values
     → Option Values
 after_dashed ending rest read_on v = Some (with_positionals rest v)
-after_dashed (named name) rest read_on v = read_on (Some name) v
-after_dashed (valued name value) rest read_on v = option_and_then (read_on None) (with_value name value v)
+after_dashed (bare_option name) rest read_on v = read_on (Some name) v
+after_dashed (option_with_value name value) rest read_on v = option_and_then (read_on None) (with_value name value v)
 after_dashed unknown rest read_on v = None
 
 -- The words from here on, where those before them gave v. Where nothing is due, a word without a dash is a positional.

@@ -5,7 +5,7 @@ ghost use Rattle.command_words.specs.Numbers.{is_positive, number_to as number_i
 use sim_base::number::{are_digits, may_lead, value};
 
 // The digits of the greatest number that any command line may have.
-const LONGEST_NUMBER: usize = 6;
+pub(crate) const LONGEST_NUMBER: usize = 6;
 
 fn is_positive_number(word: &[u8]) -> bool
     ensures value { result ≡ is_positive word.now }

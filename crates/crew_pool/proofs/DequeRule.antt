@@ -29,6 +29,7 @@ use Rattle.crossbeam_deque.proofs.Lists.{at_set, at_snoc, set_else}
 use Rattle.crew_pool.specs.declared.task_deque.SeatView.{SeatView}
 use Rattle.crew_pool.specs.Deque.{seat_view, total, occurrences, one_if_same, one_if_below}
 use Rattle.crew_pool.specs.Deque.{KnowsDealt, EachKnowsDealt, NumbersOnce, TakesNumbers, IsComplete}
+use Rattle.crew_pool.specs.declared.task_deque.TheConstants.{ALL_PARTS}
 
 -- ---- occurrences
 
@@ -72,7 +73,7 @@ total-bounds f (u ∷ us) (suc port) v e = omega (arith, total-bounds f us port 
 
 -- where one seat has every part, the others have none
 total-alone : (views : List SeatView) (port : ℕ) (v : SeatView)
-    → total (λ u. u.parts) views ≡ 1024 → get_elem? views port ≡ some v → v.parts ≡ 1024
+    → total (λ u. u.parts) views ≡ ALL_PARTS → get_elem? views port ≡ some v → v.parts ≡ ALL_PARTS
     → (j : ℕ) (u : SeatView) → j ≢ port → get_elem? views j ≡ some u → u.parts ≡ 0
 total-alone views port v sum at every j u other e =
     let w : SeatView = seat_view 0 0 [] in
@@ -139,7 +140,7 @@ NumbersOnce-takes port v part (x ∷ []) queue views _ _ h at =
 NumbersOnce-takes port v part [] queue views less most h at = absurd (omega (arith, less))
 NumbersOnce-takes port v part (x ∷ y ∷ ys) queue views less most h at = absurd (omega (arith, most))
 
-NumbersOnce-deals-dealt : (port : ℕ) (v : SeatView) → v.parts ≡ 1024
+NumbersOnce-deals-dealt : (port : ℕ) (v : SeatView) → v.parts ≡ ALL_PARTS
     → Pushes NumbersOnce port v (v.dealt ∷ []) (λ w. w ≡ seat_view v.parts (v.dealt + 1) v.taken)
 NumbersOnce-deals-dealt port v every queue views h at =
     let w : SeatView = seat_view v.parts (v.dealt + 1) v.taken in
@@ -167,7 +168,7 @@ NumbersOnce-deals-dealt port v every queue views h at =
     next x n k e = grind (arith, e)
 
 -- the rule stays when a seat with every part, which has taken nothing, deals the next number
-pub NumbersOnce-deals : (port : ℕ) (v : SeatView) (i : ℕ) → v ≡ seat_view 1024 i []
+pub NumbersOnce-deals : (port : ℕ) (v : SeatView) (i : ℕ) → v ≡ seat_view ALL_PARTS i []
     → Pushes NumbersOnce port v (i ∷ []) (λ w. w ≡ seat_view v.parts (v.dealt + 1) v.taken)
 NumbersOnce-deals port v i e =
     let n : v.dealt ≡ i = ap (λ (u : SeatView). u.dealt) e in

@@ -24,6 +24,7 @@ use Rattle.crossbeam_deque.specs.Tasks.{Pushes, Takes, Forks, Merges, Finds}
 use Rattle.crew_pool.specs.declared.task_deque.SeatView.{SeatView}
 use Rattle.crew_pool.specs.Deque.{seat_view, NumbersOnce, IsComplete, numbers, IsItemAt, TasksOnce, TakesTasks}
 use Rattle.crew_pool.specs.Tasks.{EachReady, AnswersTo}
+use Rattle.crew_pool.specs.declared.task_deque.TheConstants.{ALL_PARTS}
 use Rattle.crew_pool.proofs.DequeRule.{
   NumbersOnce-takes,
   NumbersOnce-deals,
@@ -46,7 +47,7 @@ TasksOnce-takes items port v part (x ∷ y ∷ ys) rest views less most h at = a
 
 -- and when a seat with every part, which has taken nothing, deals the next number with its item
 pub TasksOnce-deals : {X : Type 0} (items : List X) (port : ℕ) (v : SeatView) (i : ℕ) (x : X)
-    → v ≡ seat_view 1024 i [] → IsItemAt items i x
+    → v ≡ seat_view ALL_PARTS i [] → IsItemAt items i x
     → Pushes (TasksOnce items) port v ((i, x) ∷ []) (λ w. w ≡ seat_view v.parts (v.dealt + 1) v.taken)
 TasksOnce-deals items port v i x e is tasks views h at =
     let r = NumbersOnce-deals port v i e (numbers tasks) views h.0 at in (

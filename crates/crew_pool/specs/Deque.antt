@@ -20,9 +20,10 @@ use Rattle.std.specs.Prelude.{
 use mathlib.Core.Option.{some}
 use lib.ListN.{get_elem?}
 use Rattle.atomic_blocks.specs.Lent.{RowsId}
-use Rattle.crossbeam_deque.specs.Handles.{Pass, view, IsPassOf, worker_deque, worker_flavor}
+use Rattle.crossbeam_deque.specs.Handles.{Pass, view, IsPassOf, worker_deque, worker_flavor, worker_view}
 use Rattle.crossbeam_deque.specs.declared.handles.Worker.{Worker}
 use Rattle.crew_pool.specs.declared.task_deque.SeatView.{SeatView}
+use Rattle.crew_pool.specs.declared.task_deque.TheConstants.{ALL_PARTS}
 
 -- it is the same deque, first in first out or not as before
 abbrev pub SameDeque : {T A V P : Type 0} → Worker T A V P → Worker T A V P → Type 0
@@ -61,7 +62,7 @@ EachKnowsDealt n views = (port : ℕ) (v : SeatView) → get_elem? views port �
 -- each number below that of the tasks dealt is in the deque or was taken by one seat, once, and no other number is
 abbrev pub NumbersOnce : List ℕ → List SeatView → Type 0
 NumbersOnce queue views =
-    (n : ℕ) × (total (λ v. v.parts) views ≡ 1024)
+    (n : ℕ) × (total (λ v. v.parts) views ≡ ALL_PARTS)
     × ((x : ℕ) → total (λ v. occurrences x v.taken) views + occurrences x queue ≡ one_if_below x n)
     × EachKnowsDealt n views
 
@@ -76,7 +77,7 @@ TakesNumbers v xs w = AllBelow v.dealt xs × (w ≡ seat_view v.parts v.dealt (v
 
 -- whoever has every part has taken each number that was dealt, once
 abbrev pub IsComplete : SeatView → Type 0
-IsComplete v = v.parts ≡ 1024 → (x : ℕ) → occurrences x v.taken ≡ one_if_below x v.dealt
+IsComplete v = v.parts ≡ ALL_PARTS → (x : ℕ) → occurrences x v.taken ≡ one_if_below x v.dealt
 
 -- the numbers of numbered things
 abbrev pub numbers : {X : Type 0} → List (ℕ × X) → List ℕ
@@ -87,6 +88,18 @@ numbers (p ∷ ps) = p.0 ∷ numbers ps
 abbrev pub EachPair : {X : Type 0} → (ℕ → X → Type 0) → List (ℕ × X) → Type 0
 EachPair asks [] = Unit {0}
 EachPair asks (p ∷ ps) = asks p.0 p.1 × EachPair asks ps
+
+-- an owner who pops first in, first out, has a part at least, and knows that so many tasks were dealt
+pub record IsOwner {T A P : Type 0} (n : ℕ) (owner : Worker T A SeatView P) : Type 0 where
+  pub fifo : worker_flavor owner ≡ 0
+  pub part : 0 < (worker_view owner).parts
+  pub dealt : (worker_view owner).dealt ≡ n
+
+-- the numbers that the owner has taken are those of the pairs, each of which is as its number asks
+pub record HasTaken {T Y A P : Type 0} (asks : ℕ → Y → Type 0) (owner : Worker T A SeatView P) (pairs : List (ℕ × Y))
+    : Type 0 where
+  pub taken : (worker_view owner).taken ≡ numbers pairs
+  pub each : EachPair asks pairs
 
 -- the view after these tasks were taken
 abbrev pub view_after : {X : Type 0} → SeatView → List (ℕ × X) → SeatView

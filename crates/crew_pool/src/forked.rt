@@ -1,5 +1,5 @@
 //! The crew whose workers each run neighbouring tasks (fork-join).
-ghost use Rattle.std.specs.Prelude.{◌≡◌, ℕ, ◌+◌, ◌<◌, ◌≤◌, Some, map, length, sum_by, IfOk, IfSome};
+ghost use Rattle.std.specs.Prelude.{◌≡◌, ◌+◌, ◌<◌, ◌≤◌, Some, map, length, sum_by, IfOk, IfSome};
 ghost use Rattle.crew_pool.specs.Tasks.{EachReady, AnswersTo, EachAnswers};
 ghost use Rattle.crew_pool.specs.Slots.{slot_with, answer_in, EachSlotReady, SlotAnswers, EachSlotAnswers};
 ghost use Rattle.crew_pool.specs.declared.crew.TheConstants.{MOST_TASKS};

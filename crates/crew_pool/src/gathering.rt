@@ -1,8 +1,8 @@
 //! After the join: the owner takes the thieves' seats back, and the answers are put in the order of their tasks.
-ghost use Rattle.std.specs.Prelude.{◌≡◌, ℕ, ◌+◌, ◌<◌, ◌≤◌, IfOk, OnOk, All, length, MatchOption};
+ghost use Rattle.std.specs.Prelude.{◌≡◌, ℕ, ◌+◌, ◌<◌, IfOk, OnOk, All, length, MatchOption};
 ghost use Rattle.crossbeam_deque.specs.Handles.{view, IsPassOf, worker_deque, worker_view};
 ghost use Rattle.crew_pool.specs.Deque.{SameDeque, seat_view, numbers, EachPair};
-ghost use Rattle.crew_pool.specs.Deque.{occurrences, one_if_below, Without, IsEnd};
+ghost use Rattle.crew_pool.specs.Deque.{occurrences, one_if_below, Without, HasTaken, IsEnd};
 ghost use Rattle.crew_pool.specs.Tasks.{AnswersTo, EachAnswers};
 
 use crate::lists::{add, add_all};
@@ -24,8 +24,8 @@ fn absorb_one<W: Work, B: Batch<W::In>>(
 ) -> Result<(), NoMemory>
     requires pass { IsPassOf (worker_deque owner.old) seat }
     requires view { view seat ≡ seat_view 1 (worker_view owner.old).dealt (numbers outs.items) }
-    requires own { ((worker_view owner.old).taken ≡ numbers all.old.items) × (0 < (worker_view owner.old).parts) }
-    requires old { EachPair (AnswersTo (W.answers _work.now) B.items) all.old.items }
+    requires part { 0 < (worker_view owner.old).parts }
+    requires taken { HasTaken (AnswersTo (W.answers _work.now) B.items) owner.old all.old.items }
     requires new { EachPair (AnswersTo (W.answers _work.now) B.items) outs.items }
     ensures same { SameDeque owner.old owner.new }
     ensures view { OnOk result (worker_view owner.new
@@ -45,9 +45,10 @@ pub(crate) fn absorb_all<W: Work, B: Batch<W::In>>(
     ends: Vec<(Seat<W::In>, NumberedAnswers<W::Out>)>,
 ) -> Result<(), NoMemory>
     requires each { All
-        (IsEnd (AnswersTo (W.answers work.now) B.items) (worker_view owner.old).dealt (worker_deque owner.old)) ends.items }
-    requires own { ((worker_view owner.old).taken ≡ numbers all.old.items) × (0 < (worker_view owner.old).parts) }
-    requires old { EachPair (AnswersTo (W.answers work.now) B.items) all.old.items }
+        (IsEnd (AnswersTo (W.answers work.now) B.items) (worker_view owner.old).dealt (worker_deque owner.old))
+        ends.items }
+    requires part { 0 < (worker_view owner.old).parts }
+    requires taken { HasTaken (AnswersTo (W.answers work.now) B.items) owner.old all.old.items }
     ensures same { SameDeque owner.old owner.new }
     ensures view { OnOk result (worker_view owner.new
         ≡ seat_view ((worker_view owner.old).parts + length ends.items) (worker_view owner.old).dealt

@@ -4,7 +4,7 @@ ghost use Rattle.std.specs.Prelude.{◌≡◌, ◌++◌, ◌∷◌, [], OnOk};
 use sim_base::NoMemory;
 
 /// Puts one more behind the others.
-pub(crate) fn add<X: Drop>(list: &mut Vec<X>, one: X) -> Result<(), NoMemory>
+pub fn add<X: Drop>(list: &mut Vec<X>, one: X) -> Result<(), NoMemory>
     ensures value { OnOk result (list.new.items ≡ list.old.items ++ one ∷ []) }
 {
     list.push(one)?;
@@ -12,7 +12,7 @@ pub(crate) fn add<X: Drop>(list: &mut Vec<X>, one: X) -> Result<(), NoMemory>
 }
 
 /// Puts all of another list behind the others.
-pub(crate) fn add_all<X: Drop>(list: &mut Vec<X>, mut more: Vec<X>) -> Result<(), NoMemory>
+pub fn add_all<X: Drop>(list: &mut Vec<X>, mut more: Vec<X>) -> Result<(), NoMemory>
     ensures value { OnOk result (list.new.items ≡ list.old.items ++ more.items) }
 {
     list.append(&mut more)?;

@@ -1,10 +1,12 @@
 //! The crew whose workers take tasks one by one from a deque (work stealing).
-ghost use Rattle.std.specs.Prelude.{◌≡◌, ℕ, ◌+◌, ◌-◌, ◌<◌, ◌≤◌, [], ◌∷◌, ◌++◌, sum_by, IfOk, OnOk, All, length};
-ghost use Rattle.crossbeam_deque.specs.Handles.{IsPassOf, worker_deque, stealer_deque, worker_view, worker_flavor};
+ghost use Rattle.std.specs.Prelude.{◌≡◌, ◌+◌, ◌-◌, ◌<◌, ◌≤◌, [], ◌∷◌, ◌++◌, sum_by, IfOk, OnOk, All, length};
+ghost use Rattle.crossbeam_deque.specs.Handles.{worker_deque, stealer_deque, worker_view, worker_flavor};
 ghost use Rattle.crew_pool.specs.Deque.{SameDeque, seat_view, view_after, numbers, EachPair};
-ghost use Rattle.crew_pool.specs.Deque.{IsItemAt, IsComplete, IsStart, IsEnd};
+ghost use Rattle.crew_pool.specs.Deque.{IsItemAt, IsOwner, HasTaken, IsComplete, IsStart, IsEnd};
 ghost use Rattle.crew_pool.specs.Tasks.{EachReady, AnswersTo, EachAnswers};
 ghost use Rattle.crew_pool.specs.declared.crew.TheConstants.{MOST_TASKS};
+ghost use Rattle.crew_pool.specs.declared.task_deque.TheConstants.{ALL_PARTS};
+ghost use Rattle.crew_pool.specs.declared.workers.TheConstants.{MOST_WORKERS};
 
 use crate::crew::{Crew, Kind, MOST_TASKS};
 use crate::gate::Gate;
@@ -58,7 +60,7 @@ fn run_task<W: Work, B: Batch<W::In>>(
     add(outs, (i, out))
 }
 
-/// The owner's part: it pops tasks until the deque is empty.
+/// The owner pops tasks and runs them, until the deque is empty.
 fn run_owner<W: Work, B: Batch<W::In>, G: Gate, R: Wait>(
     rt: &R,
     alloc: Global,
@@ -67,9 +69,7 @@ fn run_owner<W: Work, B: Batch<W::In>, G: Gate, R: Wait>(
     mut owner: Owner<W::In, B>,
 ) -> (Owner<W::In, B>, NumberedAnswers<W::Out>)
     requires ready { EachReady (W.ready work.now) B.items }
-    requires parts { 0 < (worker_view owner).parts }
-    requires dealt { (worker_view owner).dealt ≡ length B.items }
-    requires fifo { worker_flavor owner ≡ 0 }
+    requires owner { IsOwner (length B.items) owner }
     ensures same { (worker_deque result.0 ≡ worker_deque owner) × (worker_flavor result.0 ≡ 0) }
     ensures done { IfOk result.1 (λ outs.
         (worker_view result.0 ≡ view_after (worker_view owner) outs.items)
@@ -89,7 +89,7 @@ fn run_owner<W: Work, B: Batch<W::In>, G: Gate, R: Wait>(
     (owner, Ok(outs))
 }
 
-/// A thief's part: it steals tasks until the deque is empty or it has tried often enough.
+/// A thief steals tasks and runs them, until the deque is empty or it has tried often enough.
 fn run_thief<W: Work, B: Batch<W::In>, G: Gate, R: Wait>(
     rt: &R,
     alloc: Global,
@@ -174,9 +174,7 @@ fn run_workers<W: Work, B: Batch<W::In>, G: Gate, R: Threads + Wait + Sync>(
     Result<Vec<(Seat<W::In>, NumberedAnswers<W::Out>)>, NoMemory>,
 )
     requires ready { EachReady (W.ready work.now) B.items }
-    requires parts { 0 < (worker_view owner).parts }
-    requires dealt { (worker_view owner).dealt ≡ length B.items }
-    requires fifo { worker_flavor owner ≡ 0 }
+    requires owner { IsOwner (length B.items) owner }
     requires starts { All (λ s. IsStart (length B.items) (stealer_deque thief.now) s.seat) starts.items }
     ensures same { (worker_deque result.0 ≡ worker_deque owner) × (worker_flavor result.0 ≡ 0) }
     ensures own { IfOk result.1 (λ outs.
@@ -189,10 +187,7 @@ fn run_workers<W: Work, B: Batch<W::In>, G: Gate, R: Threads + Wait + Sync>(
     let ((owner, own), ends) = thread::join(
         rt,
         move || -> (Owner<W::In, B>, NumberedAnswers<W::Out>)
-            requires { EachReady (W.ready work.now) B.items
-                × (0 < (worker_view owner).parts)
-                × ((worker_view owner).dealt ≡ length B.items)
-                × (worker_flavor owner ≡ 0) }
+            requires { EachReady (W.ready work.now) B.items × IsOwner (length B.items) owner }
             ensures { (worker_deque result.0 ≡ worker_deque owner)
                 × (worker_flavor result.0 ≡ 0)
                 × IfOk result.1 (λ outs.
@@ -204,7 +199,8 @@ fn run_workers<W: Work, B: Batch<W::In>, G: Gate, R: Threads + Wait + Sync>(
                 × All (λ s. IsStart (length B.items) (stealer_deque thief.now) s.seat) starts.items }
             ensures { IfOk result (λ ends.
                 (length ends.items ≡ length starts.items)
-                × All (IsEnd (AnswersTo (W.answers work.entry.now) B.items) (length B.items) (stealer_deque thief.entry.now)) ends.items) }
+                × All (IsEnd (AnswersTo (W.answers work.entry.now) B.items) (length B.items)
+                (stealer_deque thief.entry.now)) ends.items) }
         { run_thieves::<W, B, G, R>(rt, alloc, work, gate, thief, starts) },
     );
     (owner, own, ends)
@@ -216,11 +212,11 @@ fn seat_thieves<X: Send + Drop, B: Batch<X>>(
     owner: &mut Owner<X, B>,
     workers: Workers,
 ) -> Result<Vec<ThiefStart<X>>, NoMemory>
-    requires fresh { worker_view owner.old ≡ seat_view 1024 (worker_view owner.old).dealt [] }
+    requires fresh { worker_view owner.old ≡ seat_view ALL_PARTS (worker_view owner.old).dealt [] }
     ensures same { SameDeque owner.old owner.new }
     ensures starts { IfOk result (λ starts.
-        (length starts.items ≤ 15)
-        × (worker_view owner.new ≡ seat_view (1024 - length starts.items) (worker_view owner.old).dealt [])
+        (length starts.items < MOST_WORKERS)
+        × (worker_view owner.new ≡ seat_view (ALL_PARTS - length starts.items) (worker_view owner.old).dealt [])
         × All (λ s. IsStart (worker_view owner.old).dealt (worker_deque owner.old) s.seat) starts.items) }
 {
     let mut starts = Vec::new(alloc);
@@ -246,11 +242,9 @@ fn gather<W: Work, B: Batch<W::In>, G: Gate, R: Wait>(
     requires ready { EachReady (W.ready work.now) B.items }
     requires each { All (IsEnd (AnswersTo (W.answers work.now) B.items) (worker_view owner).dealt
         (worker_deque owner)) ends.items }
-    requires own { ((worker_view owner).taken ≡ numbers all.items) × (0 < (worker_view owner).parts) }
-    requires old { EachPair (AnswersTo (W.answers work.now) B.items) all.items }
-    requires every_part { (worker_view owner).parts + length ends.items ≡ 1024 }
-    requires dealt { (worker_view owner).dealt ≡ length B.items }
-    requires fifo { worker_flavor owner ≡ 0 }
+    requires owner { IsOwner (length B.items) owner }
+    requires taken { HasTaken (AnswersTo (W.answers work.now) B.items) owner all.items }
+    requires every_part { (worker_view owner).parts + length ends.items ≡ ALL_PARTS }
     ensures count { IfOk result (λ outs. length outs.items ≡ length B.items) }
     ensures answers { IfOk result (λ outs. EachAnswers (AnswersTo (W.answers work.now) B.items) outs.items) }
 {
@@ -261,7 +255,7 @@ fn gather<W: Work, B: Batch<W::In>, G: Gate, R: Wait>(
     sort_answers::<W, B>(alloc, work, all, tasks)
 }
 
-/// As `run_stealing`, with the items told by a type parameter.
+/// As `run_stealing`, with a type parameter that stands for the items.
 fn run_batch<W: Work, B: Batch<W::In>, G: Gate, L: Ledger, R: Threads + Wait + Sync>(
     rt: &R,
     alloc: Global,

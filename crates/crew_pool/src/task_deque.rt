@@ -4,6 +4,7 @@ ghost use Rattle.std.specs.Prelude.{◌≡◌, ◌≤◌, [], List, OnOk, length
 ghost use Rattle.crossbeam_deque.specs.Handles.{worker_view};
 ghost use Rattle.crew_pool.specs.Deque.{SameDeque, seat_view};
 ghost use Rattle.crew_pool.specs.declared.crew.TheConstants.{MOST_TASKS};
+ghost use Rattle.crew_pool.specs.declared.task_deque.TheConstants.{ALL_PARTS};
 
 use crossbeam_deque::protocol::{Join, Outcome, Protocol, Split};
 use crossbeam_deque::{Pass, Stealer, Worker};
@@ -12,8 +13,11 @@ use std::alloc::Global;
 use std::collections::LinkedList;
 use std::marker::{Brand, PhantomData};
 
-/// What a worker's seat knows: its parts of the deque, of which the owner begins with all 1,024, how many tasks were
-/// dealt, and the numbers of those that it has taken. Only clauses speak of it; no value is made.
+/// The parts of a deque, with all of which the owner begins.
+pub const ALL_PARTS: u64 = 1_024;
+
+/// What a worker's seat knows: its parts of the deque, how many tasks were dealt, and the numbers of those that it has
+/// taken. Only clauses speak of it; no value is made.
 pub struct SeatView {
     /// Its parts of the deque.
     pub parts: u64,
@@ -23,7 +27,7 @@ pub struct SeatView {
     pub taken: LinkedList<u32>,
 }
 
-/// The items of a call, in order. A rule is a property of a type, so a call's items are told by a type parameter. No
+/// The items of a call, in order. A rule is a property of a type, so a type parameter stands for a call's items. No
 /// program reads them.
 pub trait Batch<X>: Sync {
     ghost items: { List X };
@@ -43,10 +47,11 @@ pub struct EachOnce<B> {
 impl<X, B: Batch<X>> Protocol<(u32, X), SeatView> for EachOnce<B> {
     ghost use Rattle.std.specs.Prelude.{[]};
     ghost use Rattle.crew_pool.specs.Deque.{seat_view, TasksOnce};
+    ghost use Rattle.crew_pool.specs.declared.task_deque.TheConstants.{ALL_PARTS};
 
     ghost holds = { TasksOnce B.items };
 
-    ghost first = { seat_view 1024 0 [] };
+    ghost first = { seat_view ALL_PARTS 0 [] };
 
     ghost guest = { seat_view 0 0 [] };
 }
@@ -122,9 +127,9 @@ pub(crate) fn deal<X: Send + Drop, B: Batch<X>>(
 ) -> Result<(), NoMemory>
     requires batch { B.items ≡ items.items }
     requires few { length items.items ≤ MOST_TASKS }
-    requires fresh { worker_view owner.old ≡ seat_view 1024 0 [] }
+    requires fresh { worker_view owner.old ≡ seat_view ALL_PARTS 0 [] }
     ensures same { SameDeque owner.old owner.new }
-    ensures dealt { OnOk result (worker_view owner.new ≡ seat_view 1024 (length items.items) []) }
+    ensures dealt { OnOk result (worker_view owner.new ≡ seat_view ALL_PARTS (length items.items) []) }
 {
     let mut i: u32 = 0;
     for item in items {

@@ -9,7 +9,7 @@ use Rattle.std.specs.Str.{bytes_eq}
 use Rattle.std.proofs.lemmas.Bool.Decides.{nat_tests}
 use Rattle.sim_base.specs.declared.decision.Decision.{Decision}
 use Rattle.sim_base.specs.declared.decision.Decision.TheVariants.{Fork, Set, End}
-use Rattle.sim_base.specs.Clones.{Clone, clone_at, place_of, clones_with_fork, base}
+use Rattle.sim_base.specs.Clones.{Clone, clone_at, place_of, clones_with_fork, base, fork_of}
 use Rattle.sim_base.specs.declared.lists.TheConstants.{MOST_CLONES}
 use Rattle.net_model.specs.Net.{Net}
 use Rattle.decision_book.specs.declared.call.TheConstants.{MOST_CALLS}
@@ -146,7 +146,7 @@ again net n m full own d less s h =
 
 -- what a decision makes of the clone that it is of
 abbrev made : Net → Decision → Clone → Clone
-made net (Fork new old) k = record { name = new; plans = k.plans; end = None }
+made net (Fork new old) k = fork_of k new
 made net (Set who at station change) k = record k { plans = k.plans ++ plan_of_set net at station change ∷ [] }
 made net (End who at) k = record k { end = Some at }
 
@@ -178,7 +178,7 @@ set_none false k o h = refl
 fork_effect : (net : Net) (clones : List Clone) (new old : List ℕ) (i : ℕ) → place_of new clones ≡ None
     → Effect net (Fork new old) clones (clones_with_fork clones new i) i
 fork_effect net clones new old i fresh =
-    let k : Clone = record { name = new; plans = (clone_at clones i).plans; end = None } in
+    let k : Clone = fork_of (clone_at clones i) new in
     record {
       self = clone_named-push new clones k ∙ ap (λ o. option_or o (cond (bytes_eq new new) (Some k) None))
           (clone_named-none new clones fresh) ∙ ap (λ b. cond b (Some k) None) (name_itself new);

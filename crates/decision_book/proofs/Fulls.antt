@@ -8,7 +8,7 @@ use Rattle.sim_base.specs.Clones.{clone_at, place_of}
 use Rattle.sim_base.specs.Decisions.{subject}
 use Rattle.sim_base.specs.Reserved.{ReservedView}
 use Rattle.sim_base.specs.Clones.{ListsView}
-use Rattle.net_model.specs.Net.{Net, number_of, site_of}
+use Rattle.net_model.specs.Net.{Net, station_named, site_of}
 use Rattle.stations.specs.declared.change.ChangeFault.{ChangeFault}
 use Rattle.stations.specs.declared.change.ChangeFault.TheVariants as refused
 use Rattle.stations.specs.Changes.{accepts}
@@ -62,7 +62,7 @@ rows_not_full s clone (Fork new old) =
 rows_not_full s clone (Set who at station change) = (
   row_not_full _ UnknownStation (λ e. absurd cc),
   (
-    change_not_full s.net (number_of station s.net) change,
+    change_not_full s.net (station_named station s.net) change,
     (row_not_full _ ListFull (λ e. absurd cc), time_not_full s.net s.front at),
   ),
 )
@@ -122,10 +122,10 @@ replied net lists calls fronts last d r v h is e = subst (λ (w : BookView). r �
     (e ∙ ap (λ (s : Situation). reply s d) (sym h.situation))
 
 -- a book with the call of a decision that isn't answered Full
-pub kept_of : (old new : BookView) (caller : ℕ) (d : Decision) (r : Reply) → r ≡ reply (after old.net old.events) d
-    → new ≡ record old { events = journal_with old.net old.events caller d }
+pub with_last_entry : (old new : BookView) (caller : ℕ) (d : Decision) (r : Reply)
+    → r ≡ reply (after old.net old.events) d → new ≡ record old { events = journal_with old.net old.events caller d }
     → r ≢ Full → new ≡ record old { events = old.events ++ asked (call_of caller old.events d r) ∷ [] }
-kept_of old new caller d r is then not =
+with_last_entry old new caller d r is then not =
     then ∙ (ap (λ (x : Reply). record old { events = with_reply old.events caller d x }) (sym is)
     ∙ ap (λ (es : List Event). record old { events = es }) (last_entry old.events caller d r not))
 
@@ -140,7 +140,7 @@ pub call_unless_full : (old new : BookView) (caller : ℕ) (d : Decision) (r : R
 call_unless_full old new caller d r n stamp is then room =
     subst (λ (k : ℕ). IsCallUnlessFull old caller d r
     (Some (record { caller = caller; fronts = k; decision = d; reply = r })) new) (sym stamp)
-    (not_full r room, record { call_is = refl; new_is = kept_of old new caller d r is then (not_full r room) })
+    (not_full r room, record { call_is = refl; new_is = with_last_entry old new caller d r is then (not_full r room) })
 
 -- so many fronts stand in the journal of a book
 pub stamped : (net : Net) (calls : List Call) (fronts : List ℕ) (v : BookView)

@@ -14,7 +14,7 @@ use Rattle.decision_book.specs.Journal.{Event, Situation, raised, asked, after}
 use Rattle.decision_book.specs.Journal.{after_event, outset, clones_after, if_accepted, calls_of}
 use Rattle.decision_book.specs.Replies.{row, first_row, rows, reply}
 use Rattle.decision_book.specs.Right.{MayFollow, EachAfter}
-use Rattle.decision_book.specs.Scripts.{next, after_all, refusal_or, first_refusal_from, if_taken, accepted_of}
+use Rattle.decision_book.specs.Scripts.{next, after_all, refusal_or, first_refusal_from, accepted_onto, accepted_of}
 use Rattle.decision_book.specs.Laws.{JournalIsScript, ClosedChangesNothing}
 use Rattle.decision_book.proofs.AloneLaw.{opened, reopened}
 use Rattle.decision_book.proofs.Scripts.{next_accepted}
@@ -67,7 +67,8 @@ accepted_at_start s m d some_time few h =
 
 -- a reply that takes no call into the script, and leaves the clones as they are
 abbrev pub Passes : Reply → Type 0
-Passes r = ((c : Call) (cs : List Call) → if_taken r c cs ≡ cs) × ((new old : List Clone) → if_accepted r new old ≡ old)
+Passes r = ((c : Call) (cs : List Call) → accepted_onto r c cs ≡ cs)
+    × ((new old : List Clone) → if_accepted r new old ≡ old)
 
 -- each reply is Accepted, or is such a one
 pub kind_of : (r : Reply) → (r ≡ Accepted) ⊎ Passes r
@@ -128,9 +129,9 @@ from_here net before (asked c ∷ es) s m place is right some_time few =
     (then ∙ moved) right.1 some_time (omega (arith, few)) in
     let one = leads_on s m place c.decision (decisions_of (accepted_of (calls_of es)))
     (fold after_event (moved_by s c.decision) es).clones some_time few (sym answer ∙ h) more in
-    subst (λ cl. Leads s m place (decisions_of (if_taken c.reply c (accepted_of (calls_of es)))) cl)
+    subst (λ cl. Leads s m place (decisions_of (accepted_onto c.reply c (accepted_of (calls_of es)))) cl)
     (ap (λ (x : Situation). (fold after_event x es).clones) (sym moved))
-    (subst (λ r. Leads s m place (decisions_of (if_taken r c (accepted_of (calls_of es))))
+    (subst (λ r. Leads s m place (decisions_of (accepted_onto r c (accepted_of (calls_of es))))
     (fold after_event (moved_by s c.decision) es).clones) (sym h) one))
     (λ (h : Passes c.reply).
     let moved : after_event s (asked c) ≡ record s { calls = s.calls + 1 } =
@@ -138,7 +139,7 @@ from_here net before (asked c ∷ es) s m place is right some_time few =
     (h.1 (clones_after s.net s.clones c.decision) s.clones) in
     let more = from_here net (before ++ asked c ∷ []) es (record s { calls = s.calls + 1 }) m place
     (then ∙ moved) right.1 some_time (omega (arith, few)) in
-    subst (λ cl. Leads s m place (decisions_of (if_taken c.reply c (accepted_of (calls_of es)))) cl)
+    subst (λ cl. Leads s m place (decisions_of (accepted_onto c.reply c (accepted_of (calls_of es)))) cl)
     (ap (λ (x : Situation). (fold after_event x es).clones) (sym moved))
     (subst (λ l. Leads s m place (decisions_of l) (fold after_event (record s { calls = s.calls + 1 }) es).clones)
     (sym (h.0 c (accepted_of (calls_of es)))) more))

@@ -4,12 +4,13 @@ use Rattle.std.proofs.Common.{slice_set, length-set, true, Option, option_map, R
 use Rattle.std.specs.List.{AllByRecursion}
 use Rattle.std.proofs.lemmas.List.{length_push}
 use Rattle.sim_base.specs.declared.decision.Planned.{Planned}
-use Rattle.sim_base.specs.Clones.{Clone, clone_at, clones_with_fork, clones_with_plan, clones_with_end}
+use Rattle.sim_base.specs.Clones.{Clone, clone_at, clones_with_fork, clones_with_plan, clones_with_end, fork_of}
+use Rattle.sim_base.specs.Clones.{with_plan}
 use Rattle.sim_base.specs.declared.lists.TheConstants.{MOST_CLONES, MOST_DECISIONS}
 use Rattle.sim_base.proofs.ListLaws.{all_push, all_set}
 use Rattle.std.specs.Str.{bytes_eq}
 use Rattle.sim_base.specs.declared.message.Change.{Change}
-use Rattle.net_model.specs.Net.{Net, number_of, site_of}
+use Rattle.net_model.specs.Net.{Net, station_named, site_of}
 use Rattle.stations.specs.declared.change.ChangeFault.{ChangeFault}
 use Rattle.stations.specs.Changes.{accepts}
 use Rattle.decision_book.specs.Laws.{PlansAreForStations}
@@ -26,7 +27,7 @@ pub planned_forked : (net : Net) (clones : List Clone) (new : List ℕ) (old : �
     → length clones < MOST_CLONES → ArePlanned net (clones_with_fork clones new old)
 planned_forked net clones new old h few =
     let from = planned_at net clones old h.each in
-    let fork : Clone = record { name = new; plans = (clone_at clones old).plans; end = None } in
+    let fork : Clone = fork_of (clone_at clones old) new in
     record {
       few = omega (arith, few, length_push clones fork);
       each = all_push (IsPlanned net) clones fork h.each (record { plans = from.plans; short = from.short; end = tt });
@@ -50,7 +51,7 @@ pub planned_added : (net : Net) (clones : List Clone) (c : ℕ) (plan : Planned)
     → ArePlanned net (clones_with_plan clones c plan)
 planned_added net clones c plan h s p =
     let from = planned_at net clones c h.each in
-    replaced net clones c (record (clone_at clones c) { plans = (clone_at clones c).plans ++ plan ∷ [] }) h
+    replaced net clones c (with_plan (clone_at clones c) plan) h
     (record {
       plans = all_push (IsPlan net) (clone_at clones c).plans plan from.plans p;
       short = omega (arith, s, length_push (clone_at clones c).plans plan);
@@ -69,8 +70,8 @@ taken_from (Err e) u h = absurd cc
 
 -- a set before the horizon may be planned, where its station is there and takes the change
 pub plan_taken : (net : Net) (at s : ℕ) (station : List ℕ) (change : Change) (u : Unit {0})
-    → number_of station net ≡ Some s → s ≤ length net.sites → accepts (site_of net s) change ≡ Ok u → at < net.horizon
-    → IsPlan net (record { at = at; station = s; change = change })
+    → station_named station net ≡ Some s → s ≤ length net.sites → accepts (site_of net s) change ≡ Ok u
+    → at < net.horizon → IsPlan net (record { at = at; station = s; change = change })
 plan_taken net at s station change u number last taken early = record {
   early = early;
   first = from_one (position (λ site. bytes_eq site.name station) net.sites) s number;

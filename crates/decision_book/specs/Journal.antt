@@ -5,7 +5,7 @@ use Rattle.sim_base.specs.declared.decision.Decision.TheVariants.{Fork, Set, End
 use Rattle.sim_base.specs.declared.decision.Planned.{Planned}
 use Rattle.sim_base.specs.declared.message.Change.{Change}
 use Rattle.sim_base.specs.Clones.{Clone, base, clones_with_fork, clones_with_plan, clones_with_end, place_of}
-use Rattle.net_model.specs.Net.{Net, number_of}
+use Rattle.net_model.specs.Net.{Net, station_named}
 use Rattle.decision_book.specs.declared.call.Call.{Call}
 use Rattle.decision_book.specs.declared.call.Reply.{Reply}
 use Rattle.decision_book.specs.declared.call.Reply.TheVariants.{Accepted, Full}
@@ -44,7 +44,8 @@ clone_place name clones = unwrap_or (place_of name clones) 0
 
 -- what a set adds to a decision list
 abbrev pub plan_of_set : Net → ℕ → List ℕ → Change → Planned
-plan_of_set net at station change = record { at = at; station = unwrap_or (number_of station net) 0; change = change }
+plan_of_set net at station change =
+    record { at = at; station = unwrap_or (station_named station net) 0; change = change }
 
 -- what an accepted decision makes of the clones
 abbrev pub clones_after : Net → List Clone → Decision → List Clone

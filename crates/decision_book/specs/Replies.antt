@@ -6,7 +6,7 @@ use Rattle.sim_base.specs.declared.decision.Decision.TheVariants.{Fork, Set, End
 use Rattle.sim_base.specs.declared.message.Change.{Change}
 use Rattle.sim_base.specs.declared.lists.TheConstants.{MOST_CLONES, MOST_DECISIONS}
 use Rattle.sim_base.specs.Clones.{Clone, clone_at, place_of}
-use Rattle.net_model.specs.Net.{Net, number_of, site_of}
+use Rattle.net_model.specs.Net.{Net, station_named, site_of}
 use Rattle.stations.specs.declared.change.ChangeFault.{ChangeFault}
 use Rattle.stations.specs.declared.change.ChangeFault.TheVariants as refused
 use Rattle.stations.specs.Changes.{accepts}
@@ -54,8 +54,8 @@ change_row net (Some s) change = fault_row (accepts (site_of net s) change)
 
 -- the rows of a set for the clone at this place
 abbrev pub set_rows : Net → List Clone → ℕ → ℕ → ℕ → List ℕ → Change → List (Option Reply)
-set_rows net clones front clone at station change = row (is_none (number_of station net)) UnknownStation
-    ∷ change_row net (number_of station net) change
+set_rows net clones front clone at station change = row (is_none (station_named station net)) UnknownStation
+    ∷ change_row net (station_named station net) change
     ∷ row (nat_le MOST_DECISIONS (length (clone_at clones clone).plans)) ListFull
     ∷ time_rows net front at
 

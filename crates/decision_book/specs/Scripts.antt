@@ -54,14 +54,14 @@ abbrev pub first_refusal : Net → List Decision → Option (ℕ × Reply)
 first_refusal net ds = first_refusal_from (outset net) 0 ds
 
 -- a call before others, where this reply is Accepted
-abbrev pub if_taken : Reply → Call → List Call → List Call
-if_taken Accepted call later = call ∷ later
-if_taken refusal call later = later
+abbrev pub accepted_onto : Reply → Call → List Call → List Call
+accepted_onto Accepted call later = call ∷ later
+accepted_onto refusal call later = later
 
 -- the accepted ones of these calls, in order
 abbrev pub accepted_of : List Call → List Call
 accepted_of [] = []
-accepted_of (c ∷ cs) = if_taken c.reply c (accepted_of cs)
+accepted_of (c ∷ cs) = accepted_onto c.reply c (accepted_of cs)
 
 -- the accepted decisions of a journal, in order
 abbrev pub script_of : List Event → List Decision

@@ -82,7 +82,7 @@ impl Book {
         // it is Full exactly where the journal holds as many calls as it may
         ensures full { (result ≡ Full) ↔ (MOST_CALLS ≤ length (calls_of self.old.events)) }
         // and else the call is the last entry
-        ensures kept { result ≢ Full →
+        ensures entry { result ≢ Full →
             self.new.events ≡ self.old.events ++ asked (call_of caller self.old.events d result) ∷ [] }
     {
         let calls = self.calls.len();

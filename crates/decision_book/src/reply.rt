@@ -1,7 +1,7 @@
 //! The reply to a decision, and what the decision does to the lists.
-ghost use Rattle.std.specs.Prelude.{◌≡◌, ◌<◌, ◌≤◌, length, IsTrue};
-ghost use Rattle.sim_base.specs.Clones.{clone_at, place_of, clones_with_fork, clones_with_plan, clones_with_end};
-ghost use Rattle.decision_book.specs.Journal.{clones_after_reply, if_accepted, plan_of_set, Situation};
+ghost use Rattle.std.specs.Prelude.{◌≡◌, ◌<◌, length};
+ghost use Rattle.sim_base.specs.Clones.{clone_at, clones_with_fork, clones_with_plan, clones_with_end};
+ghost use Rattle.decision_book.specs.Journal.{clones_after_reply, if_accepted, plan_of_set};
 ghost use Rattle.decision_book.specs.Plans.{ArePlanned};
 ghost use Rattle.decision_book.specs.Replies.{first_row, fork_rows, set_rows, time_rows, reply as reply_of};
 

@@ -13,8 +13,10 @@ use Rattle.decision_desk.specs.declared.pass.Receipt.{Receipt}
 use Rattle.sim_base.specs.Reserved.{ReservedView}
 use Rattle.atomic_table.specs.Seated.{TableId}
 use Rattle.decision_desk.specs.Accounts.{Account, AreAccounts, Begins, OnlyCalls, front_of, calls_from, calls_by}
-use Rattle.decision_desk.specs.Turns.{Slot, book_of, view_with_turn, pass_view, helm_view, with_call, full_account}
-use Rattle.decision_desk.specs.Passes.{first_account, turn_view, HelmHasTurn, HasTurn, IsTurn, IsPass, receipt_of}
+use Rattle.decision_desk.specs.Turns.{Slot, IsWaiting, book_of, view_with_turn, pass_view, helm_view}
+use Rattle.decision_desk.specs.Turns.{with_call, full_account}
+use Rattle.decision_desk.specs.Passes.{first_account, turn_view, IsHelmAtRest, HelmHasTurn, HasTurn, IsTurn}
+use Rattle.decision_desk.specs.Passes.{IsPass, receipt_of}
 
 -- what a seat has: its view, and the slots that are out with it
 abbrev Hand : Type 0
@@ -93,7 +95,7 @@ places_left caller receipts desk m new d receipt j p t some_entry = ⊎_elim
 
 -- a helm at rest that has drawn a ticket waits with it, without the turn
 helm_waits_with_ticket : (m m1 : Hand) (t : ℕ)
-    → m ≡ (helm_view m.0.net m.0.parts m.0.seen m.0.helm m.0.made m.0.accounts, [])
+    → IsHelmAtRest m
     → m1 ≡ (view_with_turn m.0 true t false m.0.seen, m.1)
     → m1 ≡ (
       view_with_turn (helm_view m.0.net m.0.parts m.0.seen m.0.helm m.0.made m.0.accounts) true t false m.0.seen,
@@ -102,9 +104,9 @@ helm_waits_with_ticket : (m m1 : Hand) (t : ℕ)
 helm_waits_with_ticket m m1 t rest drew = drew ∙ ap (λ (x : Hand). (view_with_turn x.0 true t false x.0.seen, x.1)) rest
 
 -- a helm at rest that has drawn a ticket waits without the turn, and has a part as before
-pub helm_waits : (m m1 : Hand) (t : ℕ) → m ≡ (helm_view m.0.net m.0.parts m.0.seen m.0.helm m.0.made m.0.accounts, [])
+pub helm_waits : (m m1 : Hand) (t : ℕ) → IsHelmAtRest m
     → m1 ≡ (view_with_turn m.0 true t false m.0.seen, m.1) → 0 < m.0.parts
-    → (m1.0.waits ≡ true) × (m1.0.turn ≡ false) × (0 < m1.0.parts)
+    → IsWaiting m1.0
 helm_waits m m1 t rest drew part =
     let e = helm_waits_with_ticket m m1 t rest drew in (
       ap (λ (x : Hand). x.0.waits) e,
@@ -114,7 +116,7 @@ helm_waits m m1 t rest drew part =
 
 -- and once it is served, it has come to its turn
 pub helm_has_turn : (m m1 m2 : Hand) (t : ℕ) (j : List Event)
-    → m ≡ (helm_view m.0.net m.0.parts m.0.seen m.0.helm m.0.made m.0.accounts, [])
+    → IsHelmAtRest m
     → m1 ≡ (view_with_turn m.0 true t false m.0.seen, m.1)
     → (m1.0.steers ≡ true → OnlyCalls m1.0.helm j)
     → m2 ≡ (view_with_turn m1.0 true m1.0.ticket true j, (0, book_of m1.0.net j) ∷ m1.1) → HelmHasTurn m.0 m2 j

@@ -8,18 +8,17 @@ use Rattle.std.proofs.lemmas.Option.{slice_get-map, slice_get-get_or, unwrap_or-
 use Rattle.std.specs.Str.{bytes_eq}
 use Rattle.sim_base.specs.declared.decision.Decision.{Decision}
 use Rattle.sim_base.specs.declared.decision.Decision.TheVariants.{Fork, Set, End}
-use Rattle.sim_base.specs.Clones.{Clone, clone_at, place_of, nobody}
+use Rattle.sim_base.specs.Clones.{Clone, clone_at, place_of, nobody, fork_of, with_plan, with_end}
 use Rattle.sim_base.specs.Decisions.{subject}
 use Rattle.sim_base.specs.declared.message.Change.{Change}
 use Rattle.sim_base.specs.declared.lists.TheConstants.{MOST_DECISIONS}
 use Rattle.stations.specs.declared.change.ChangeFault.{ChangeFault}
 use Rattle.stations.specs.declared.change.ChangeFault.TheVariants as refused
 use Rattle.stations.specs.Changes.{accepts}
-use Rattle.net_model.specs.Net.{Net, number_of, site_of}
+use Rattle.net_model.specs.Net.{Net, station_named, site_of}
 use Rattle.net_model.specs.Rules.{IsNet}
 use Rattle.run_laws.specs.Fronts.{earlier, least_of, least, window_end, next_front}
 use Rattle.run_laws.specs.Runs.{end_of}
-use Rattle.run_laws.specs.Laws.{with_plan, with_end}
 use Rattle.run_laws.proofs.DueTimes.{least_of-fork, least_of-with_plan, least_of-with_end}
 use Rattle.run_laws.proofs.NextFronts.{next_front-rises, window_end-within}
 use Rattle.stations.specs.Runs.{simulation}
@@ -31,7 +30,7 @@ use Rattle.decision_book.specs.Journal.{Event, Situation, asked, raised, after, 
 use Rattle.decision_book.specs.Journal.{outset, clones_after, if_accepted, clone_place, plan_of_set, calls_of}
 use Rattle.decision_book.specs.Replies.{row, first_row, rows, reply, time_rows, fault_row, change_row}
 use Rattle.decision_book.specs.Right.{IsRight, MayFollow, EachAfter}
-use Rattle.decision_book.specs.Scripts.{if_taken, accepted_of}
+use Rattle.decision_book.specs.Scripts.{accepted_onto, accepted_of}
 use Rattle.decision_book.proofs.AloneLaw.{opened, IsOpen}
 use Rattle.decision_book.proofs.ClonesByName.{place_of-cons}
 use Rattle.decision_book.proofs.JournalScripts.{Passes, kind_of, fold_append, each_later, net_stays}
@@ -123,9 +122,9 @@ timely_set : (s : Situation) (clone : ℕ) (who : List ℕ) (at : ℕ) (station 
 timely_set s clone who at station change h =
     let full = row (nat_le MOST_DECISIONS (length (clone_at s.clones clone).plans)) ListFull in
     let times = time_rows s.net s.front at in
-    let one = skip_row (is_none (number_of station s.net)) UnknownStation
-    (change_row s.net (number_of station s.net) change ∷ full ∷ times) (λ e. cc) h in
-    let two = skip_change s.net (number_of station s.net) change (full ∷ times) one in
+    let one = skip_row (is_none (station_named station s.net)) UnknownStation
+    (change_row s.net (station_named station s.net) change ∷ full ∷ times) (λ e. cc) h in
+    let two = skip_change s.net (station_named station s.net) change (full ∷ times) one in
     timely s at (skip_row (nat_le MOST_DECISIONS (length (clone_at s.clones clone).plans)) ListFull times (λ e. cc) two)
 
 some_is : (a b : ℕ) → Some a ≡ Some b → a ≡ b
@@ -157,7 +156,7 @@ changes_fork : (s : Situation) (p : ℕ) (new old : List ℕ) → clone_place ol
     → (clone_at s.clones p).end ≡ None → Changes s p (Fork new old)
 changes_fork s p new old place going =
     let L : Clone → Option ℕ = λ c. least_of (simulation s.net) c s.front in
-    let k : ℕ → Clone = λ i. record { name = new; plans = (clone_at s.clones i).plans; end = None } in
+    let k : ℕ → Clone = λ i. fork_of (clone_at s.clones i) new in
     sym (map_push L s.clones (k (clone_place old s.clones))
     ∙ ap (λ t. map L s.clones ++ t ∷ [])
     (ap (λ i. L (k i)) place ∙ least_of-fork (simulation s.net) (clone_at s.clones p) new s.front going))
@@ -224,7 +223,7 @@ leasts_with_calls-accepted net before (c ∷ cs) s all valid is right end =
     ∙ (ap (λ t. leasts_with_at o.clone t ts d)
     (least_at s.net s.front s.clones o.clone (inside (subject d) s.clones o.clone o.place))
     ∙ changes s d valid o) in
-    ap (λ r. leasts_with_calls all ts (if_taken r c (accepted_of cs))) h
+    ap (λ r. leasts_with_calls all ts (accepted_onto r c (accepted_of cs))) h
     ∙ (ap (λ us. leasts_with_calls all us (accepted_of cs))
     (one ∙ sym (ap (λ r. leasts_of s.net (if_accepted r (clones_after s.net s.clones d) s.clones) s.front) h))
     ∙ more))

@@ -12,6 +12,7 @@ use Rattle.atomic_table.proofs.Lists.{at_set, at_snoc, at_longer, set_else}
 use Rattle.net_model.specs.Net.{Net}
 use Rattle.decision_book.specs.declared.call.TheConstants.{MOST_CALLS}
 use Rattle.decision_book.specs.Journal.{Event, calls_of}
+use Rattle.decision_desk.specs.declared.desk.TheConstants.{ALL_PARTS}
 use Rattle.decision_desk.specs.declared.view.View.{View}
 use Rattle.atomic_table.specs.Seated.{TableId}
 use Rattle.decision_book.specs.Books.{BookView}
@@ -371,7 +372,7 @@ joins id v other u idle still some_part idle' still' plain s k at apart at' =
     }
 
 -- a new desk keeps the rule: the journal is empty, the book at home, and the helm alone has all parts
-pub begins : (net : Net) → IsDesk (opening (0 ∷ 0 ∷ 0 ∷ 0 ∷ []) (book_of net [] ∷ []) (helm_view net 17 [] [] 0 []))
+pub begins : (net : Net) → IsDesk (opening (0 ∷ 0 ∷ 0 ∷ 0 ∷ []) (book_of net [] ∷ []) (helm_view net ALL_PARTS [] [] 0 []))
 begins net = record {
   net = net;
   journal = [];
@@ -392,7 +393,7 @@ begins net = record {
 }
   where
     first : View
-    first = helm_view net 17 [] [] 0 []
+    first = helm_view net ALL_PARTS [] [] 0 []
 
     fine : Fits net 0 [] first
     fine = record {
@@ -433,8 +434,8 @@ pub record HasEnded (v : View) (slots : List Slot) : Type 0 where
   pub accounts : AreAccounts journal v.accounts
   pub others : (x : ℕ) → accounts_of x v.accounts ≡ 0 → calls_by x journal ≡ []
 
--- this is so of a seat without the turn that has all 17 parts, when the desk ends
-pub ends : (id : ℕ) (v : View) (ws : List ℕ) (xs : List Slot) → v.parts ≡ 17 → v.turn ≡ false
+-- this is so of a seat without the turn that has all parts, when the desk ends
+pub ends : (id : ℕ) (v : View) (ws : List ℕ) (xs : List Slot) → v.parts ≡ ALL_PARTS → v.turn ≡ false
     → Final (Seen IsDesk id v) ws xs → HasEnded v xs
 ends id v ws xs whole still final =
     let s = final.0 in

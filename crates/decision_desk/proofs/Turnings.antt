@@ -11,6 +11,7 @@ use Rattle.net_model.specs.Net.{Net}
 use Rattle.decision_book.specs.declared.call.Call.{Call}
 use Rattle.decision_book.specs.declared.call.TheConstants.{MOST_CALLS}
 use Rattle.decision_book.specs.Journal.{Event, raised, asked, calls_of}
+use Rattle.decision_desk.specs.declared.desk.TheConstants.{ALL_PARTS}
 use Rattle.decision_desk.specs.declared.view.View.{View}
 use Rattle.decision_desk.specs.Accounts.{Account, AreAccounts, IsAccount, accounts_of}
 use Rattle.decision_desk.specs.Accounts.{calls_by, front_of, RisesFrom, OnlyCalls}
@@ -119,8 +120,8 @@ alike_refl v w p a s m = record { parts = p; callers = λ x. ap (accounts_of x) 
 -- what stays where one seat changes to one that is alike
 module _ (s : State Slot View) (k : IsDesk s) (id : ℕ) (v w : View) (at : get_elem? s.views id ≡ some v)
     (same : Alike v w) where
-  -- there are 17 parts in all
-  pub parts_stay : total (λ u. u.parts) (set s.views id w) ≡ 17
+  -- the parts stay as many
+  pub parts_stay : total (λ u. u.parts) (set s.views id w) ≡ ALL_PARTS
   parts_stay = omega (arith, total_set (λ u. u.parts) s.views id v w at, k.parts, same.parts)
 
   -- each caller has as many accounts as before
@@ -266,12 +267,12 @@ draws slots id m idle still some_part s k one at small =
     )
 
 -- a remainder that two numbers in line share
-same_place : (from x to n : ℕ) → from ≤ x → x < to → to ≤ from + 17 → n ≡ from % 2 ^ 64 → n ≡ x % 2 ^ 64 → x ≡ from
+same_place : (from x to n : ℕ) → from ≤ x → x < to → to ≤ from + ALL_PARTS → n ≡ from % 2 ^ 64 → n ≡ x % 2 ^ 64 → x ≡ from
 same_place from x to n low high near a b =
     sym (one_turn from x (2 ^ 64) low (omega (arith, low, high, near)) (sym a ∙ b))
 
 -- there are no more in line than there are parts
-near : (s : State Slot View) (k : IsDesk s) → k.next ≤ k.serve + 17
+near : (s : State Slot View) (k : IsDesk s) → k.next ≤ k.serve + ALL_PARTS
 near s k = omega (arith, k.line, k.parts, total_le ticket_count (λ u. u.parts) s.views (λ i u e. (k.fits i u e).part))
 
 serves_at : (id : ℕ) (m : Me Slot View) → 0 < m.0.parts → m.0.waits ≡ true → m.0.turn ≡ false

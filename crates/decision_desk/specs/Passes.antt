@@ -15,6 +15,7 @@ use Rattle.decision_book.specs.Books.{BookView}
 use Rattle.decision_book.specs.Replies.{reply}
 use Rattle.decision_book.specs.Scripts.{accepted_of}
 use Rattle.decision_book.specs.Right.{IsRight}
+use Rattle.decision_desk.specs.declared.desk.TheConstants.{ALL_PARTS}
 use Rattle.decision_desk.specs.Accounts.{Account, AreAccounts, accounts_of, calls_by, Begins, OnlyCalls, front_of}
 use Rattle.decision_desk.specs.Leasts.{leasts_of}
 use Rattle.decision_desk.specs.Turns.{Slot, book_of, view_with_turn, pass_view}
@@ -40,6 +41,18 @@ first_account (a ∷ as') = a
 abbrev pub view_of_pass : TableId → View → PassView
 view_of_pass desk v = record { desk = desk; net = v.net; seen = v.seen; account = first_account v.accounts }
 
+-- a pass at rest: its part of the desk, what it saw and its account
+abbrev pub IsPassAtRest : Me Slot View → Type 0
+IsPassAtRest me = me ≡ (pass_view me.0.net me.0.seen (first_account me.0.accounts), [])
+
+-- the view of a pass in its turn
+abbrev pub turn_view : Net → List Event → Account → ℕ → View
+turn_view net j a ticket = view_with_turn (pass_view net j a) true ticket true j
+
+-- a pass in its turn, while the book is out of the slot
+abbrev pub IsPassInTurn : Me Slot View → Type 0
+IsPassInTurn me = me ≡ (turn_view me.0.net me.0.seen (first_account me.0.accounts) me.0.ticket, (0, None) ∷ [])
+
 -- the receipt of a call that is in the journal
 abbrev pub receipt_of : ℕ × Call → Receipt
 receipt_of p = record { entry = Some p.0; reply = p.1.reply }
@@ -49,7 +62,7 @@ receipt_of p = record { entry = Some p.0; reply = p.1.reply }
 pub record IsPass (caller : ℕ) (receipts : ReservedView Receipt) (desk : TableId) (me : Me Slot View) : Type 0 where
   pub words : desk.words ≡ 4
   pub slots : desk.slots ≡ 1
-  pub rest : me ≡ (pass_view me.0.net me.0.seen (first_account me.0.accounts), [])
+  pub rest : IsPassAtRest me
   pub caller_is : (first_account me.0.accounts).caller ≡ caller
   pub receipts_are : receipts.items ≡ map receipt_of (first_account me.0.accounts).calls
   pub reserved : receipts.reserved ≡ MOST_CALLS
@@ -68,10 +81,6 @@ abbrev pub HasAnswered : BookView → ℕ → Decision → Reply → Option Call
 HasAnswered old caller d answer told new = (answer ≡ reply (after old.net old.events) d)
     × MatchOption told ((answer ≡ Full) × (MOST_CALLS ≤ length (calls_of old.events)) × (new ≡ old))
     (λ call. IsLastEntry old caller d answer call new)
-
--- the view of a pass in its turn
-abbrev pub turn_view : Net → List Event → Account → ℕ → View
-turn_view net j a ticket = view_with_turn (pass_view net j a) true ticket true j
 
 -- a seat that came to its turn, behind the events j
 pub record HasTurn (net : Net) (seen : List Event) (a : Account) (me : Me Slot View) (j : List Event) : Type 0 where
@@ -139,11 +148,27 @@ view_of_helm desk v = record {
   accounts = v.accounts;
 }
 
+-- the helm at rest: its parts of the desk, what it saw, and the accounts that came back
+abbrev pub IsHelmAtRest : Me Slot View → Type 0
+IsHelmAtRest me = me ≡ (helm_view me.0.net me.0.parts me.0.seen me.0.helm me.0.made me.0.accounts, [])
+
+-- the view of the helm in its turn
+abbrev pub helm_turn : Net → ℕ → List Event → List Event → ℕ → List Account → ℕ → View
+helm_turn net parts j helm made accounts ticket =
+    view_with_turn (helm_view net parts j helm made accounts) true ticket true j
+
+-- the helm in its turn, while the book is out of the slot
+abbrev pub IsHelmInTurn : Me Slot View → Type 0
+IsHelmInTurn me = me ≡ (
+  helm_turn me.0.net me.0.parts me.0.seen me.0.helm me.0.made me.0.accounts me.0.ticket,
+  (0, None) ∷ [],
+)
+
 -- a helm at rest: some parts of the desk, the number of passes made, and what it knew at its last turn
 pub record IsHelm (made known front : ℕ) (desk : TableId) (me : Me Slot View) : Type 0 where
   pub words : desk.words ≡ 4
   pub slots : desk.slots ≡ 1
-  pub rest : me ≡ (helm_view me.0.net me.0.parts me.0.seen me.0.helm me.0.made me.0.accounts, [])
+  pub rest : IsHelmAtRest me
   pub some_part : 0 < me.0.parts
   pub made_is : me.0.made ≡ made
   -- how many calls there were when it last raised the front
@@ -162,7 +187,7 @@ new_passes desk net (suc n) = new_passes desk net n ++ new_pass desk net (n + 1)
 
 -- the helm, once so many passes were made
 abbrev pub new_helm : TableId → Net → ℕ → HelmView
-new_helm desk net n = record { desk = desk; net = net; parts = 17 - n; seen = []; helm = []; made = n; accounts = [] }
+new_helm desk net n = record { desk = desk; net = net; parts = ALL_PARTS - n; seen = []; helm = []; made = n; accounts = [] }
 
 -- the front was seen, behind the events j
 abbrev pub pass_after_look : PassView → List Event → PassView
@@ -181,11 +206,6 @@ pub record IsClosed (helm : HelmView) (book : BookView) : Type 0 where
   pub accounts : AreAccounts book.events helm.accounts
   -- nobody else has calls
   pub others : (x : ℕ) → accounts_of x helm.accounts ≡ 0 → calls_by x book.events ≡ []
-
--- the view of the helm in its turn
-abbrev pub helm_turn : Net → ℕ → List Event → List Event → ℕ → List Account → ℕ → View
-helm_turn net parts j helm made accounts ticket =
-    view_with_turn (helm_view net parts j helm made accounts) true ticket true j
 
 -- a helm that came to its turn: only calls were made since it last raised the front
 pub record HelmHasTurn (old : View) (me : Me Slot View) (j : List Event) : Type 0 where

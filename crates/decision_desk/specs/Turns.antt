@@ -11,6 +11,7 @@ use Rattle.decision_book.specs.declared.call.Call.{Call}
 use Rattle.decision_book.specs.declared.call.TheConstants.{MOST_CALLS}
 use Rattle.decision_book.specs.Journal.{Event, raised, asked, calls_of}
 use Rattle.decision_book.specs.Books.{BookView}
+use Rattle.decision_desk.specs.declared.desk.TheConstants.{ALL_PARTS}
 use Rattle.decision_desk.specs.Accounts.{Account, AreAccounts, accounts_of, calls_by}
 use Rattle.decision_desk.specs.Accounts.{front_of, RisesFrom, Begins, OnlyCalls}
 use Rattle.decision_desk.specs.declared.view.View.{View}
@@ -28,6 +29,14 @@ Slot = Option' BookView
 -- the book with this network and journal, as it lies there
 abbrev pub book_of : Net → List Event → Slot
 book_of net events = Some (record { net = net; events = events })
+
+-- the book as a seat saw it last
+abbrev pub seen_book : View → BookView
+seen_book v = record { net = v.net; events = v.seen }
+
+-- a seat waits with its ticket, and has not the turn
+abbrev pub IsWaiting : View → Type 0
+IsWaiting v = (v.waits ≡ true) × (v.turn ≡ false) × (0 < v.parts)
 
 -- the sum of this number over all seats
 abbrev pub total : (View → ℕ) → List View → ℕ
@@ -92,7 +101,7 @@ pub record IsDesk (s : State Slot View) : Type 0 where
   pub words : s.words ≡ front_of journal ∷ next % 2 ^ 64 ∷ serve % 2 ^ 64 ∷ length (calls_of journal) ∷ []
   pub few : length (calls_of journal) ≤ MOST_CALLS
   pub rising : RisesFrom 0 journal
-  pub parts : total (λ v. v.parts) s.views ≡ 17
+  pub parts : total (λ v. v.parts) s.views ≡ ALL_PARTS
   pub line : serve + total ticket_count s.views ≡ next
   pub each_once : (x : ℕ) → total (has_ticket x) s.views ≡ in_line x serve next
   pub fits : EachFits net serve journal s.views

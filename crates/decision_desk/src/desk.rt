@@ -2,6 +2,7 @@
 ghost use Rattle.std.specs.Prelude.{◌≡◌, ℕ, ◌+◌, ◌-◌, ◌<◌, ◌≤◌, ◌++◌, ◌∷◌, []};
 ghost use Rattle.std.specs.Prelude.{List, All, Some, length, map, IfOk, OnOk, OnErr};
 ghost use Rattle.decision_book.specs.Journal.{Event};
+ghost use Rattle.decision_desk.specs.declared.desk.TheConstants.{ALL_PARTS, MOST_PASSES};
 ghost use Rattle.decision_desk.specs.Accounts.{Begins, front_of};
 ghost use Rattle.decision_desk.specs.Turns.{new_account};
 ghost use Rattle.decision_desk.specs.Passes.{IsAsked, IsClosed, late_front, pass_after_look, new_passes, new_helm};
@@ -9,7 +10,7 @@ ghost use Rattle.decision_desk.specs.Passes.{IsAsked, IsClosed, late_front, pass
 use crate::helm::Helm;
 use crate::legal::LegalBook;
 use crate::pass::{Pass, Receipt, take_turn};
-use crate::turns::{Law, Share, look_at_front};
+use crate::turns::{DeskRule, Share, look_at_front};
 use crate::view::View;
 use atomic_table::{Refused, Table};
 use decision_book::MOST_CALLS;
@@ -18,10 +19,17 @@ use sim_base::{Decision, NoMemory, Reserved};
 use std::alloc::Global;
 use std::sync::{Arc, Wait};
 
+/// The most passes of a desk, one for each analyst.
+pub const MOST_PASSES: u32 = 16;
+
+/// The parts of a desk, with all of which the helm begins: one for each pass, and its own.
+pub const ALL_PARTS: u32 = 17;
+
 /// The book between threads.
 #[derive(Drop)]
 pub struct Desk {
-    pub(crate) table: Table<Option<LegalBook>, View, Model, Law, Global>,
+    /// The words of the turns, and the slot of the book.
+    pub(crate) table: Table<Option<LegalBook>, View, Model, DeskRule, Global>,
     pub ghost sized: { (table.shared.table_id.words ≡ 4) × (table.shared.table_id.slots ≡ 1) },
 }
 
@@ -33,7 +41,7 @@ impl Desk {
         analysts: u32,
     ) -> Result<(Desk, Vec<Pass>, Helm), NoMemory>
         requires some { 1 ≤ analysts }
-        requires few { analysts ≤ 16 }
+        requires few { analysts ≤ MOST_PASSES }
         ensures passes { IfOk result (λ r.
             r.1.items ≡ new_passes r.0.table.shared.table_id model.value analysts) }
         ensures helm { IfOk result (λ r.
@@ -42,7 +50,7 @@ impl Desk {
         let (desk, mut helm) = Desk::open(alloc, model)?;
         let mut passes = Vec::with_capacity(alloc, analysts as usize)?;
         for _i in 0..analysts {
-            let pass = desk.another(alloc, &mut helm)?;
+            let pass = desk.make_pass(alloc, &mut helm)?;
             passes.push(pass)?;
         }
         Ok((desk, passes, helm))
@@ -71,10 +79,10 @@ impl Desk {
     }
 
     // A pass for the next caller, with memory reserved for all its receipts.
-    fn another(&self, alloc: Global, helm: &mut Helm) -> Result<Pass, NoMemory>
+    fn make_pass(&self, alloc: Global, helm: &mut Helm) -> Result<Pass, NoMemory>
         requires desk { helm.old.desk ≡ self.now.table.shared.table_id }
         requires parts { 1 < helm.old.parts }
-        requires few { helm.old.made < 16 }
+        requires few { helm.old.made < MOST_PASSES }
         ensures pass { IfOk result (λ p. p ≡ record {
           desk = helm.old.desk;
           net = helm.old.net;
@@ -172,9 +180,9 @@ impl Desk {
     pub fn close(self, passes: Vec<Pass>, helm: Helm) -> LegalBook
         requires desk { helm.desk ≡ self.table.shared.table_id }
         requires passes { All (λ p. p.desk ≡ self.table.shared.table_id) passes.items }
-        requires whole { helm.parts + length passes.items ≡ 17 }
+        requires whole { helm.parts + length passes.items ≡ ALL_PARTS }
         ensures closed { IsClosed (record helm {
-          parts = 17;
+          parts = ALL_PARTS;
           accounts = helm.accounts ++ map (λ p. p.account) passes.items;
         }) result }
     {
@@ -186,7 +194,7 @@ impl Desk {
     // The book, once the helm has every part.
     fn take_book(self, helm: Helm) -> LegalBook
         requires desk { helm.desk ≡ self.table.shared.table_id }
-        requires whole { helm.parts ≡ 17 }
+        requires whole { helm.parts ≡ ALL_PARTS }
         ensures closed { IsClosed helm result }
     {
         let Desk { table } = self;

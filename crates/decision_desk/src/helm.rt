@@ -1,10 +1,10 @@
 //! The helm, the engine's seat: its turns raise the front, the boundary of the next window.
-ghost use Rattle.std.specs.Prelude.{◌≡◌, ◌<◌, ◌++◌, ◌∷◌, [], List, None, MatchResult};
+ghost use Rattle.std.specs.Prelude.{◌≡◌, ◌<◌, ◌++◌, ◌∷◌, [], List, MatchResult};
 ghost use Rattle.decision_book.specs.Journal.{Event, raised, after};
 ghost use Rattle.decision_book.specs.declared.call.Call.{Call};
 ghost use Rattle.decision_desk.specs.Accounts.{front_of};
-ghost use Rattle.decision_desk.specs.Turns.{IsSeatOf, helm_view};
-ghost use Rattle.decision_desk.specs.Passes.{HelmHasTurn, helm_turn, IsNextTurn, IsMissed};
+ghost use Rattle.decision_desk.specs.Turns.{IsSeatOf, seen_book, helm_view};
+ghost use Rattle.decision_desk.specs.Passes.{IsHelmAtRest, IsHelmInTurn, HelmHasTurn, IsNextTurn, IsMissed};
 ghost use Rattle.decision_desk.specs.Leasts.{leasts_of};
 
 use crate::desk::Desk;
@@ -51,11 +51,7 @@ impl std::marker::Model for Helm {
 /// Waits for the turn of the helm.
 fn come_to_helm_turn<R: Wait>(rt: &R, board: &Board, seat: &mut Chair)
     requires table { IsSeatOf board.now.table_id seat.old.table_id }
-    requires rest { seat.old.me ≡ (
-      helm_view seat.old.me.0.net seat.old.me.0.parts seat.old.me.0.seen
-          seat.old.me.0.helm seat.old.me.0.made seat.old.me.0.accounts,
-      [],
-    ) }
+    requires rest { IsHelmAtRest seat.old.me }
     requires part { 0 < seat.old.me.0.parts }
     ensures table { seat.new.table_id ≡ seat.old.table_id }
     ensures turn { (j : List Event) × HelmHasTurn seat.old.me.0 seat.new.me j }
@@ -67,11 +63,7 @@ fn come_to_helm_turn<R: Wait>(rt: &R, board: &Board, seat: &mut Chair)
 /// Tells of a front, and ends the turn.
 fn raise_and_leave(board: &Board, seat: &mut Chair, book: LegalBook, front: u64)
     requires table { IsSeatOf board.now.table_id seat.old.table_id }
-    requires turn { seat.old.me ≡ (
-      helm_turn seat.old.me.0.net seat.old.me.0.parts seat.old.me.0.seen
-          seat.old.me.0.helm seat.old.me.0.made seat.old.me.0.accounts seat.old.me.0.ticket,
-      (0, None) ∷ [],
-    ) }
+    requires turn { IsHelmInTurn seat.old.me }
     requires part { 0 < seat.old.me.0.parts }
     requires above { front_of seat.old.me.0.seen < front }
     requires book { book ≡ record { net = seat.old.me.0.net; events = seat.old.me.0.seen ++ raised front ∷ [] } }
@@ -91,13 +83,9 @@ fn raise_and_leave(board: &Board, seat: &mut Chair, book: LegalBook, front: u64)
 /// Ends the turn with the book as it was.
 fn leave_as_it_was(board: &Board, seat: &mut Chair, book: LegalBook)
     requires table { IsSeatOf board.now.table_id seat.old.table_id }
-    requires turn { seat.old.me ≡ (
-      helm_turn seat.old.me.0.net seat.old.me.0.parts seat.old.me.0.seen
-          seat.old.me.0.helm seat.old.me.0.made seat.old.me.0.accounts seat.old.me.0.ticket,
-      (0, None) ∷ [],
-    ) }
+    requires turn { IsHelmInTurn seat.old.me }
     requires part { 0 < seat.old.me.0.parts }
-    requires book { book ≡ record { net = seat.old.me.0.net; events = seat.old.me.0.seen } }
+    requires book { book ≡ seen_book seat.old.me.0 }
     ensures table { seat.new.table_id ≡ seat.old.table_id }
     ensures rest { seat.new.me ≡ (
       helm_view seat.old.me.0.net seat.old.me.0.parts seat.old.me.0.seen

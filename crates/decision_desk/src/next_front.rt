@@ -6,7 +6,7 @@ ghost use Rattle.run_laws.specs.Fronts.{window_end};
 ghost use Rattle.run_laws.specs.FrontLaws.{time_before as time_before'};
 ghost use Rattle.stations.specs.Runs.{simulation};
 ghost use Rattle.decision_book.specs.Journal.{Event, asked, calls_of};
-ghost use Rattle.decision_book.specs.Scripts.{if_taken, accepted_of};
+ghost use Rattle.decision_book.specs.Scripts.{accepted_onto, accepted_of};
 ghost use Rattle.decision_book.specs.declared.call.Call.{Call};
 ghost use Rattle.decision_desk.specs.Passes.{IsGoneOn, IsTurnAhead, IsSince};
 ghost use Rattle.decision_desk.specs.Leasts.{earliest as earliest', leasts_with, leasts_with_calls, helm_at, calls_at};
@@ -31,7 +31,7 @@ fn time_before(at: u64, time: Option<u64>) -> Option<u64>
 
 fn is_accepted(reply: Reply) -> bool
     ensures value { (later : List Call) (call : Call) →
-        if_taken reply call later ≡ (if result then call ∷ later else later) }
+        accepted_onto reply call later ≡ (if result then call ∷ later else later) }
 {
     match reply {
         Reply::Accepted => true,
@@ -40,7 +40,7 @@ fn is_accepted(reply: Reply) -> bool
 }
 
 // The accepted ones of these calls, in order.
-fn accepted(alloc: Global, calls: &[Call]) -> Result<Vec<Call>, NoMemory>
+fn accepted_calls(alloc: Global, calls: &[Call]) -> Result<Vec<Call>, NoMemory>
     ensures value { IfOk result (λ fresh. fresh.items ≡ accepted_of calls.now) }
 {
     let mut fresh = Vec::new(alloc);
@@ -53,11 +53,11 @@ fn accepted(alloc: Global, calls: &[Call]) -> Result<Vec<Call>, NoMemory>
 }
 
 // Those of the calls from this one on.
-fn accepted_from(alloc: Global, calls: &[Call], known: usize) -> Result<Vec<Call>, NoMemory>
+fn accepted_calls_from(alloc: Global, calls: &[Call], known: usize) -> Result<Vec<Call>, NoMemory>
     requires known { known ≤ length calls.now }
     ensures value { IfOk result (λ fresh. fresh.items ≡ accepted_of (drop known calls.now)) }
 {
-    accepted(alloc, &calls[known..])
+    accepted_calls(alloc, &calls[known..])
 }
 
 // The least times after an accepted decision on the clone at this place.
@@ -129,7 +129,7 @@ impl LegalBook {
         let book = self.book();
         // for its clause: each reply so far is that of the table, and the fronts rise
         let _front = book.front();
-        let fresh = accepted_from(alloc, book.calls(), known)?;
+        let fresh = accepted_calls_from(alloc, book.calls(), known)?;
         let mut times = Vec::new(alloc);
         times.extend_from_slice(least)?;
         change_all(&mut times, book.lists(), fresh.as_slice())?;

@@ -2,8 +2,8 @@
 ghost use Rattle.std.specs.Prelude.{◌≡◌, ◌++◌, ◌∷◌, [], List, ◌<◌, length, None};
 ghost use Rattle.decision_book.specs.declared.call.TheConstants.{MOST_CALLS};
 ghost use Rattle.decision_book.specs.Journal.{Event, asked, calls_of};
-ghost use Rattle.decision_desk.specs.Turns.{IsSeatOf, book_of, pass_view, with_call, full_account};
-ghost use Rattle.decision_desk.specs.Passes.{HasTurn, IsTurn, first_account, turn_view};
+ghost use Rattle.decision_desk.specs.Turns.{IsSeatOf, book_of, seen_book, pass_view, with_call, full_account};
+ghost use Rattle.decision_desk.specs.Passes.{IsPassAtRest, IsPassInTurn, HasTurn, IsTurn, first_account};
 
 use crate::legal::LegalBook;
 use crate::turns::{Board, Chair, draw_ticket, end_full_turn, end_turn, raise_count, wait_turn};
@@ -47,7 +47,7 @@ pub(crate) fn take_book(board: &Board, seat: &mut Chair) -> LegalBook
     requires table { IsSeatOf board.now.table_id seat.old.table_id }
     requires held { seat.old.me.1 ≡ (0, book_of seat.old.me.0.net seat.old.me.0.seen) ∷ [] }
     ensures table { seat.new.table_id ≡ seat.old.table_id }
-    ensures book { result ≡ record { net = seat.old.me.0.net; events = seat.old.me.0.seen } }
+    ensures book { result ≡ seen_book seat.old.me.0 }
     ensures seat { seat.new.me ≡ (seat.old.me.0, (0, None) ∷ []) }
 {
     board.exchange(seat, 0, None).unwrap()
@@ -57,7 +57,7 @@ pub(crate) fn take_book(board: &Board, seat: &mut Chair) -> LegalBook
 pub(crate) fn give_book(board: &Board, seat: &mut Chair, book: LegalBook)
     requires table { IsSeatOf board.now.table_id seat.old.table_id }
     requires held { seat.old.me.1 ≡ (0, None) ∷ [] }
-    requires book { book ≡ record { net = seat.old.me.0.net; events = seat.old.me.0.seen } }
+    requires book { book ≡ seen_book seat.old.me.0 }
     ensures table { seat.new.table_id ≡ seat.old.table_id }
     ensures seat { seat.new.me ≡ (seat.old.me.0, (0, book_of seat.old.me.0.net seat.old.me.0.seen) ∷ []) }
 {
@@ -67,11 +67,7 @@ pub(crate) fn give_book(board: &Board, seat: &mut Chair, book: LegalBook)
 /// Waits for the turn of a pass.
 pub(crate) fn come_to_turn<R: Wait>(rt: &R, board: &Board, seat: &mut Chair)
     requires table { IsSeatOf board.now.table_id seat.old.table_id }
-    requires rest { seat.old.me ≡ (
-      pass_view seat.old.me.0.net seat.old.me.0.seen
-          (first_account seat.old.me.0.accounts),
-      [],
-    ) }
+    requires rest { IsPassAtRest seat.old.me }
     ensures table { seat.new.table_id ≡ seat.old.table_id }
     ensures turn { (j : List Event) × HasTurn seat.old.me.0.net seat.old.me.0.seen
         (first_account seat.old.me.0.accounts) seat.new.me j }
@@ -83,11 +79,7 @@ pub(crate) fn come_to_turn<R: Wait>(rt: &R, board: &Board, seat: &mut Chair)
 /// Counts a call, puts the book back and ends the turn; gives the call's place in the journal.
 pub(crate) fn tell_and_leave(board: &Board, seat: &mut Chair, book: LegalBook, call: &Call) -> u64
     requires table { IsSeatOf board.now.table_id seat.old.table_id }
-    requires turn { seat.old.me ≡ (
-      turn_view seat.old.me.0.net seat.old.me.0.seen
-          (first_account seat.old.me.0.accounts) seat.old.me.0.ticket,
-      (0, None) ∷ [],
-    ) }
+    requires turn { IsPassInTurn seat.old.me }
     requires free { length (calls_of seat.old.me.0.seen) < MOST_CALLS }
     requires caller { call.now.caller ≡ (first_account seat.old.me.0.accounts).caller }
     requires book { book ≡ record { net = seat.old.me.0.net; events = seat.old.me.0.seen ++ asked call.now ∷ [] } }
@@ -108,13 +100,9 @@ pub(crate) fn tell_and_leave(board: &Board, seat: &mut Chair, book: LegalBook, c
 /// Ends the turn of a caller that was answered Full.
 pub(crate) fn leave_full(board: &Board, seat: &mut Chair, book: LegalBook)
     requires table { IsSeatOf board.now.table_id seat.old.table_id }
-    requires turn { seat.old.me ≡ (
-      turn_view seat.old.me.0.net seat.old.me.0.seen
-          (first_account seat.old.me.0.accounts) seat.old.me.0.ticket,
-      (0, None) ∷ [],
-    ) }
+    requires turn { IsPassInTurn seat.old.me }
     requires full { length (calls_of seat.old.me.0.seen) ≡ MOST_CALLS }
-    requires book { book ≡ record { net = seat.old.me.0.net; events = seat.old.me.0.seen } }
+    requires book { book ≡ seen_book seat.old.me.0 }
     ensures table { seat.new.table_id ≡ seat.old.table_id }
     ensures rest { seat.new.me ≡ (
       pass_view seat.old.me.0.net seat.old.me.0.seen
@@ -135,11 +123,7 @@ pub(crate) fn take_turn<R: Wait>(
     d: &Decision,
 ) -> Receipt
     requires table { IsSeatOf board.now.table_id seat.old.table_id }
-    requires rest { seat.old.me ≡ (
-      pass_view seat.old.me.0.net seat.old.me.0.seen
-          (first_account seat.old.me.0.accounts),
-      [],
-    ) }
+    requires rest { IsPassAtRest seat.old.me }
     requires caller { (first_account seat.old.me.0.accounts).caller ≡ caller }
     ensures table { seat.new.table_id ≡ seat.old.table_id }
     ensures turn { (j : List Event) × IsTurn seat.old.me.0.net seat.old.me.0.seen

@@ -3,7 +3,7 @@ ghost use Rattle.std.specs.Prelude.{◌≡◌, ℕ, ◌%◌, ◌^◌, ◌<◌, �
 ghost use Rattle.decision_book.specs.Journal.{Event, calls_of};
 ghost use Rattle.decision_book.specs.declared.call.TheConstants.{MOST_CALLS};
 ghost use Rattle.decision_desk.specs.Accounts.{Account, Begins, front_of};
-ghost use Rattle.decision_desk.specs.Turns.{IsSeatOf, HasComeToTurn, HasTurnIf, book_of, view_with_turn};
+ghost use Rattle.decision_desk.specs.Turns.{IsSeatOf, IsWaiting, HasComeToTurn, HasTurnIf, book_of, view_with_turn};
 ghost use Rattle.decision_desk.specs.Turns.{view_after_call, view_after_front, view_after_look, full_account};
 
 use crate::legal::LegalBook;
@@ -16,15 +16,16 @@ use std::sync::Wait;
 use std::thread;
 
 /// The rule that each step of a seat keeps, `IsDesk` in `specs/Turns.antt`.
-pub struct Law;
+pub struct DeskRule;
 
-impl TableRule<Option<LegalBook>, View, Model> for Law {
+impl TableRule<Option<LegalBook>, View, Model> for DeskRule {
     ghost use Rattle.std.specs.Prelude.{[]};
+    ghost use Rattle.decision_desk.specs.declared.desk.TheConstants.{ALL_PARTS};
     ghost use Rattle.decision_desk.specs.Turns.{helm_view, IsDesk};
 
     ghost holds = { λ _ s. IsDesk s };
 
-    ghost first = { λ net. helm_view net 17 [] [] 0 [] };
+    ghost first = { λ net. helm_view net ALL_PARTS [] [] 0 [] };
 }
 
 /// The step that draws a ticket.
@@ -131,7 +132,7 @@ impl Join<View> for Share {
 pub type Chair = Seat<Option<LegalBook>, View>;
 
 /// What all seats share: the words front, ticket, serving and count, and the slot of the book.
-pub type Board = Shared<Option<LegalBook>, View, Model, Law>;
+pub type Board = Shared<Option<LegalBook>, View, Model, DeskRule>;
 
 /// Draws a ticket, and gives its number modulo 2^64.
 pub fn draw_ticket(board: &Board, seat: &mut Chair) -> u64
@@ -147,7 +148,7 @@ pub fn draw_ticket(board: &Board, seat: &mut Chair) -> u64
 /// Looks whether it is the seat's turn.
 pub fn is_served(board: &Board, seat: &mut Chair, ticket: u64) -> bool
     requires table { IsSeatOf board.now.table_id seat.old.table_id }
-    requires waits { (seat.old.me.0.waits ≡ true) × (seat.old.me.0.turn ≡ false) × (0 < seat.old.me.0.parts) }
+    requires waits { IsWaiting seat.old.me.0 }
     requires ticket { ticket ≡ seat.old.me.0.ticket % 2 ^ 64 }
     ensures table { seat.new.table_id ≡ seat.old.table_id }
     ensures turn { HasTurnIf result seat.old.me seat.new.me }
@@ -158,7 +159,7 @@ pub fn is_served(board: &Board, seat: &mut Chair, ticket: u64) -> bool
 /// Waits for the seat's turn.
 pub fn wait_turn<R: Wait>(rt: &R, board: &Board, seat: &mut Chair, ticket: u64)
     requires table { IsSeatOf board.now.table_id seat.old.table_id }
-    requires waits { (seat.old.me.0.waits ≡ true) × (seat.old.me.0.turn ≡ false) × (0 < seat.old.me.0.parts) }
+    requires waits { IsWaiting seat.old.me.0 }
     requires ticket { ticket ≡ seat.old.me.0.ticket % 2 ^ 64 }
     ensures table { seat.new.table_id ≡ seat.old.table_id }
     ensures turn { HasComeToTurn seat.old.me seat.new.me }

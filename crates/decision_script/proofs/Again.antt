@@ -13,7 +13,7 @@ use Rattle.sim_base.specs.Chain.{◌>>=◌}
 use Rattle.decision_script.specs.Sentences.{saying}
 use Rattle.decision_script.specs.Stating.{IsNamed, IsAct, IsItem, analyst_name}
 use Rattle.decision_script.specs.Reading.{ReaderView, after_line, after_lines, after_saying}
-use Rattle.decision_script.specs.Reading.{at_line, place_of, in_section, new_reader}
+use Rattle.decision_script.specs.Reading.{at_line, analyst_place, in_section, new_reader}
 use Rattle.decision_script.specs.Printing.{words_of_act, words_of_section, item_lines, canonical_text}
 use Rattle.decision_script.specs.Laws.{without_line}
 use Rattle.decision_script.proofs.Words.{IsWord, line_saying-join, lines-text}
@@ -23,7 +23,7 @@ use Rattle.decision_script.proofs.Saying.{saying-act, saying-section, act_words,
 -- no earlier name is named again, where these stand before them
 abbrev pub AreNew : List (List ℕ) → List (List ℕ) → Type 0
 AreNew before [] = Unit {0}
-AreNew before (name ∷ more) = IsNamed name × (place_of name before ≡ None) × AreNew (before ++ name ∷ []) more
+AreNew before (name ∷ more) = IsNamed name × (analyst_place name before ≡ None) × AreNew (before ++ name ∷ []) more
 
 -- ---- after_line
 -- a line that is written of words
@@ -43,12 +43,13 @@ after_act line r act h few =
 
 -- the line of a section
 pub after_section : (line : ℕ) (r : ReaderView) (name : List ℕ) → IsNamed name
-    → after_line line r (join_with_byte 32 (words_of_section name)) ≡ in_section line r name (place_of name r.analysts)
+    → after_line line r (join_with_byte 32 (words_of_section name))
+    ≡ in_section line r name (analyst_place name r.analysts)
 after_section line r name h = after_words line r (words_of_section name) (section_words name h)
     ∙ ap (λ x. at_line line x >>= after_saying line r) (saying-section name h)
 
 -- a new name
-after_new : (line : ℕ) (r : ReaderView) (name : List ℕ) → IsNamed name → place_of name r.analysts ≡ None
+after_new : (line : ℕ) (r : ReaderView) (name : List ℕ) → IsNamed name → analyst_place name r.analysts ≡ None
     → length r.analysts < 16
     → after_line line r (join_with_byte 32 (words_of_section name))
     ≡ Ok (record { analysts = r.analysts ++ name ∷ []; current = length r.analysts + 1; items = r.items })
@@ -57,7 +58,8 @@ after_new line r name h new few =
     after_section line r name h ∙ ap (in_section line r name) new ∙ rw lt refl
 
 -- a known one
-after_known : (line : ℕ) (r : ReaderView) (name : List ℕ) (i : ℕ) → IsNamed name → place_of name r.analysts ≡ Some i
+after_known : (line : ℕ) (r : ReaderView) (name : List ℕ) (i : ℕ) → IsNamed name
+    → analyst_place name r.analysts ≡ Some i
     → after_line line r (join_with_byte 32 (words_of_section name)) ≡ Ok (record r { current = i + 1 })
 after_known line r name i h known = after_section line r name h ∙ ap (in_section line r name) known
 
@@ -94,7 +96,7 @@ pub record Read (before : ReaderView) (given : Result ReaderView ScriptFault) (m
 
 -- each is the first of its name
 pub record AreKnown (analysts : List (List ℕ)) : Type 0 where
-  pub known : (a : ℕ) → 1 ≤ a → a ≤ length analysts → place_of (analyst_name analysts a) analysts ≡ Some (a - 1)
+  pub known : (a : ℕ) → 1 ≤ a → a ≤ length analysts → analyst_place (analyst_name analysts a) analysts ≡ Some (a - 1)
   pub named : (a : ℕ) → 1 ≤ a → a ≤ length analysts → IsNamed (analyst_name analysts a)
 
 act_read : (line : ℕ) (r : ReaderView) (item : Item) (more : List Item) (rest : List (List ℕ)) → IsAct item.act

@@ -11,7 +11,7 @@ use Rattle.std.proofs.lemmas.Option.{unwrap_or-slice_get}
 use Rattle.std.proofs.lemmas.Slice.Eq.{bytes_eq-Decides}
 use Rattle.std.proofs.Math.Seq.{get_or-append_seam}
 use Rattle.decision_script.specs.Stating.{IsNamed, analyst_name}
-use Rattle.decision_script.specs.Reading.{place_of}
+use Rattle.decision_script.specs.Reading.{analyst_place}
 use Rattle.decision_script.proofs.Again.{AreNew, AreKnown}
 
 abbrev AreDistinct : List (List ℕ) → Type 0
@@ -19,7 +19,7 @@ AreDistinct names = AllPairs (λ a b. bytes_eq a b ≡ false) names
 
 -- a name behind others has no place among them
 unplaced : (before : List (List ℕ)) (name : List ℕ) (more : List (List ℕ)) → AreDistinct (before ++ name ∷ more)
-    → place_of name before ≡ None
+    → analyst_place name before ≡ None
 unplaced before name more h =
     let p : List ℕ → Bool = λ x. bytes_eq x name in
     let long = length-append before (name ∷ more) in
@@ -46,7 +46,7 @@ are_known names h named = record {
   named = λ a low high. rw (unwrap_or-slice_get names (a - 1) []) (named (a - 1) [] (omega arith));
 }
   where
-    known : (a : ℕ) → 1 ≤ a → a ≤ length names → place_of (analyst_name names a) names ≡ Some (a - 1)
+    known : (a : ℕ) → 1 ≤ a → a ≤ length names → analyst_place (analyst_name names a) names ≡ Some (a - 1)
     known a low high =
         let name = analyst_name names a in
         let p : List ℕ → Bool = λ x. bytes_eq x name in

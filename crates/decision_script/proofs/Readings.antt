@@ -33,7 +33,7 @@ use Rattle.decision_script.specs.Sentences.{change_of, section, look, fork, end,
 use Rattle.decision_script.specs.Sentences.{after_analyst, after_look, after_fork, after_end, after_set, sentence}
 use Rattle.decision_script.specs.Sentences.{begins_comment, saying, line_saying}
 use Rattle.decision_script.specs.Stating.{IsNamed, IsChange, IsAct, IsItem, IsScript}
-use Rattle.decision_script.specs.Reading.{ReaderView, at_line, place_of, in_section, after_saying}
+use Rattle.decision_script.specs.Reading.{ReaderView, at_line, analyst_place, in_section, after_saying}
 use Rattle.decision_script.specs.Reading.{after_line, after_lines, new_reader, script_of}
 
 -- names that a line says are names, and its numbers fit 32 bits
@@ -208,7 +208,7 @@ first_stays (z ∷ zs) y x h = h
 more_analysts : (n : ℕ) (i : Item) → IsItem n i → IsItem (n + 1) i
 more_analysts n i h = record { low = h.low; high = omega (arith, h.high); act = h.act }
 
-new_analyst : (r : ReaderView) (name : List ℕ) → IsReading r → IsNamed name → place_of name r.analysts ≡ None
+new_analyst : (r : ReaderView) (name : List ℕ) → IsReading r → IsNamed name → analyst_place name r.analysts ≡ None
     → length r.analysts < 16
     → IsReading (record { analysts = r.analysts ++ name ∷ []; current = length r.analysts + 1; items = r.items })
 new_analyst r name h n none few =
@@ -237,7 +237,7 @@ known_analyst r i h there = record {
 }
 
 section_keeps : (line : ℕ) (r : ReaderView) (name : List ℕ) (o : Option ℕ) → IsReading r → IsNamed name
-    → place_of name r.analysts ≡ o → IfOk (in_section line r name o) IsReading
+    → analyst_place name r.analysts ≡ o → IfOk (in_section line r name o) IsReading
 section_keeps line r name (Some i) h n is =
     known_analyst r i h (position-Some (λ x. bytes_eq x name) r.analysts i [] is).0
 section_keeps line r name None h n is =
@@ -265,7 +265,7 @@ new_item line r act h is few =
 
 saying_keeps : (line : ℕ) (r : ReaderView) (s : Said) → IsReading r → IsSaid s → IfOk (after_saying line r s) IsReading
 saying_keeps line r Nothing h is = h
-saying_keeps line r (Section name) h is = section_keeps line r name (place_of name r.analysts) h is refl
+saying_keeps line r (Section name) h is = section_keeps line r name (analyst_place name r.analysts) h is refl
 saying_keeps line r (Says act) h is =
     cond-IfOk IsReading (nat_lt (length r.items) 4096) (Ok _) (Err (TooManyLines line))
     (λ few. new_item line r act h is (grind (arith, nat_tests))) tt

@@ -1,9 +1,10 @@
 -- The words of an act say that act.
-use Rattle.std.proofs.Common.{◌≡◌, ℕ, ◌<◌, ◌^◌, ◌&&◌, true, nat_le, List, [], ◌∷◌, length, refl, arith, Ok}
+use Rattle.std.proofs.Common.{◌≡◌, ℕ, ◌<◌, ◌^◌, ◌&&◌, true, nat_lt, List, [], ◌∷◌, length, refl, arith, Ok}
 use Rattle.std.specs.List.{list_all, AllByRecursion}
 use Rattle.std.proofs.lemmas.Bool.{and_parts}
 use Rattle.std.proofs.lemmas.Bool.Decides.{nat_tests}
 use Rattle.sim_base.specs.Names.{is_lower, is_name_byte}
+use Rattle.sim_base.specs.declared.name.TheConstants.{LONGEST_NAME}
 use Rattle.sim_base.specs.declared.decision.Decision.TheVariants.{Fork, Set, End}
 use Rattle.sim_base.specs.declared.message.Param.{Param}
 use Rattle.sim_base.specs.declared.message.Param.TheVariants.{Every, Service, Hold, Servers, Room, Weight}
@@ -71,7 +72,7 @@ letters_of_name (b ∷ bs) h =
 pub name_is_word : (name : List ℕ) → IsNamed name → IsWord name
 name_is_word [] h = absurd (cc)
 name_is_word (b ∷ bs) h =
-    let (named, short) = and_parts (is_lower b && list_all is_name_byte bs) (nat_le (length bs) 15) h in
+    let (named, short) = and_parts (is_lower b && list_all is_name_byte bs) (nat_lt (length bs) LONGEST_NAME) h in
     let (lower, rest) = and_parts (is_lower b) (list_all is_name_byte bs) named in
     let letter : is_letter b ≡ true = grind (arith, nat_tests) in
     record {

@@ -4,7 +4,7 @@ use Rattle.std.specs.Prelude.{List, [], ◌∷◌, length, map, filter, Option, 
 use Rattle.std.specs.List.{slice_split, list_all}
 use Rattle.std.specs.Str.Lines.{strip_carriage_return}
 use Rattle.std.specs.Str.Parse.{digits_value}
-use Rattle.sim_base.specs.Names.{is_digit}
+use Rattle.sim_base.specs.Names.{is_digit, is_leading}
 
 -- a line feed
 abbrev pub is_newline : ℕ → Bool
@@ -35,7 +35,7 @@ is_ascii line = list_all (λ b. nat_lt b 128) line
 abbrev pub has_number_form : List ℕ → Bool
 has_number_form [] = false
 has_number_form (d ∷ []) = is_digit d
-has_number_form (d ∷ e ∷ ds) = (nat_le 49 d && nat_le d 57) && list_all is_digit (e ∷ ds)
+has_number_form (d ∷ e ∷ ds) = is_leading d && list_all is_digit (e ∷ ds)
 
 -- the number of one to ten digits without a leading zero, at most 4,294,967,295
 abbrev pub number : List ℕ → Option ℕ

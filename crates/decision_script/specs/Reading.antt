@@ -36,8 +36,8 @@ at_line line (Ok said) = Ok said
 at_line line (Err broken) = Err (fault_at line broken)
 
 -- where among the analysts the one of this name is, counted from 0
-abbrev pub place_of : List ℕ → List (List ℕ) → Option ℕ
-place_of name analysts = position (λ other. bytes_eq other name) analysts
+abbrev pub analyst_place : List ℕ → List (List ℕ) → Option ℕ
+analyst_place name analysts = position (λ other. bytes_eq other name) analysts
 
 -- a section of a known analyst goes on with that one; a new name makes the next analyst, where there are not too many
 abbrev pub in_section : ℕ → ReaderView → List ℕ → Option ℕ → Result ReaderView ScriptFault
@@ -55,7 +55,7 @@ with_act line r act = if nat_lt (length r.items) MOST_ITEMS
 -- after the line of this number, by what it says
 abbrev pub after_saying : ℕ → ReaderView → Said → Result ReaderView ScriptFault
 after_saying line r Nothing = Ok r
-after_saying line r (Section name) = in_section line r name (place_of name r.analysts)
+after_saying line r (Section name) = in_section line r name (analyst_place name r.analysts)
 after_saying line r (Says act) = with_act line r act
 
 -- after the line of this number

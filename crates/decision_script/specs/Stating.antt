@@ -1,5 +1,5 @@
 -- What a script is, and which rules every script meets.
-use Rattle.std.specs.Prelude.{ℕ, ◌-◌, ◌^◌, ◌<◌, ◌≤◌, ◌≡◌, false, true}
+use Rattle.std.specs.Prelude.{ℕ, ◌-◌, ◌^◌, ◌<◌, ◌≤◌, ◌≡◌, ◌==◌, false, true, MatchBool}
 use Rattle.std.specs.Prelude.{codes, List, [], length, slice_get, unwrap_or, Some}
 use Rattle.std.specs.List.{All, AllPairs}
 use Rattle.std.specs.Str.{bytes_eq}
@@ -7,7 +7,7 @@ use Rattle.sim_base.specs.Names.{is_name}
 use Rattle.sim_base.specs.declared.decision.Decision.{Decision}
 use Rattle.sim_base.specs.declared.decision.Decision.TheVariants.{Fork, Set, End}
 use Rattle.sim_base.specs.declared.message.Param.{Param}
-use Rattle.sim_base.specs.declared.message.Param.TheVariants.{Servers, Room}
+use Rattle.sim_base.specs.Params.{param_values}
 use Rattle.decision_script.specs.declared.item.Act.{Act}
 use Rattle.decision_script.specs.declared.item.Act.TheVariants.{Decide, Look}
 use Rattle.decision_script.specs.declared.item.Item.{Item}
@@ -28,9 +28,7 @@ IsNamed name = is_name name ≡ true
 
 -- values of a parameter that fit 32 bits; the second value of a parameter with one is 0
 abbrev pub IsChange : Param → ℕ → ℕ → Type 0
-IsChange Servers a b = (a < 2 ^ 32) × (b ≡ 0)
-IsChange Room a b = (a < 2 ^ 32) × (b ≡ 0)
-IsChange _ a b = (a < 2 ^ 32) × (b < 2 ^ 32)
+IsChange param a b = (a < 2 ^ 32) × MatchBool (param_values param == 1) (b ≡ 0) (b < 2 ^ 32)
 
 -- names are names, and numbers fit 32 bits
 abbrev pub IsDecision : Decision → Type 0

@@ -1,7 +1,7 @@
 //! What one line says.
 ghost use Rattle.std.specs.Prelude.{◌≡◌, ◌≢◌, Ok, Err, map, IfOk, MatchResult};
 ghost use Rattle.sim_base.specs.Names.{is_name};
-ghost use Rattle.decision_script.specs.Lines.{words, is_blank, has_bytes, is_ascii};
+ghost use Rattle.decision_script.specs.Lines.{words, is_blank, is_ascii};
 ghost use Rattle.decision_script.specs.Sentences.{change_of, param_of, section, look, fork, end, set, one_value};
 ghost use Rattle.decision_script.specs.Sentences.{two_values, after_analyst, after_look, after_fork, after_end};
 ghost use Rattle.decision_script.specs.Sentences.{after_set, sentence, begins_comment, saying, line_saying, where_form};

@@ -1,5 +1,5 @@
 //! The decisions that reach one clone.
-ghost use Rattle.std.specs.Prelude.{◌≡◌, IfOk, OnOk, true};
+ghost use Rattle.std.specs.Prelude.{◌≡◌, IfOk, true};
 ghost use Rattle.decision_script.specs.Alone.{alone_of, item_history, object};
 
 use crate::item::{Act, Item, push_item};
@@ -35,7 +35,7 @@ impl Model for History {
 }
 
 impl History {
-    ghost use Rattle.std.specs.Prelude.{◌≡◌, OnOk, [], IfOk};
+    ghost use Rattle.std.specs.Prelude.{◌≡◌, OnOk, []};
     ghost use Rattle.decision_script.specs.Alone.{history_if, act_history, object};
     ghost use Rattle.std.specs.Str.{bytes_eq};
     ghost use Rattle.sim_base.specs.Decisions.{subject};

@@ -3,6 +3,7 @@ ghost use Rattle.std.specs.Prelude.{◌≡◌, ◌++◌, ◌∷◌, [], ◌≤�
 ghost use Rattle.std.specs.List.{All, flat_map, join_with_byte};
 ghost use Rattle.decision_script.specs.Printing.{canonical_text, item_lines, line_text, section_before};
 ghost use Rattle.decision_script.specs.Printing.{words_of_act, words_of_change, words_of_section};
+ghost use Rattle.decision_script.specs.declared.script.TheConstants.{MOST_ANALYSTS};
 
 use crate::item::{Act, Item};
 use crate::script::Script;
@@ -123,7 +124,7 @@ fn push_act(out: &mut Vec<u8>, act: &Act) -> Result<(), NoMemory>
     }
 }
 
-fn others(analysts: &[Name]) -> &[Name]
+fn other_analysts(analysts: &[Name]) -> &[Name]
     ensures value { result.now ≡ drop 1 analysts.now }
 {
     match analysts {
@@ -160,7 +161,7 @@ fn push_section_before(
 }
 
 fn push_items(out: &mut Vec<u8>, analysts: &[Name], items: &[Item]) -> Result<(), NoMemory>
-    requires few { length analysts.now ≤ 16 }
+    requires few { length analysts.now ≤ MOST_ANALYSTS }
     requires there { All (λ i. (1 ≤ i.analyst) × (i.analyst ≤ length analysts.now)) items.now }
     ensures value { OnOk result (out.new.items ≡ out.old.items
         ++ flat_map line_text (item_lines analysts.now (length analysts.now) items.now)) }
@@ -181,7 +182,7 @@ pub fn print_script(alloc: Global, script: &Script) -> Result<Vec<u8>, NoMemory>
 {
     let mut out = Vec::new(alloc);
     let analysts = script.analysts.as_slice();
-    push_sections(&mut out, others(analysts))?;
+    push_sections(&mut out, other_analysts(analysts))?;
     push_items(&mut out, analysts, script.items.as_slice())?;
     Ok(out)
 }

@@ -36,7 +36,7 @@ impl Model for Reader {
 impl Reader {
     ghost use Rattle.std.specs.Prelude.{◌≡◌, ◌≢◌, Ok, Err, OnOk, IfOk, IfErr};
     ghost use Rattle.decision_script.specs.Stating.{IsScript};
-    ghost use Rattle.decision_script.specs.Reading.{place_of, in_section, with_act, after_saying};
+    ghost use Rattle.decision_script.specs.Reading.{analyst_place, in_section, with_act, after_saying};
     ghost use Rattle.decision_script.specs.Reading.{after_line, new_reader, script_of};
 
     fn new(alloc: Global) -> Result<Reader, ScriptFault>
@@ -53,9 +53,9 @@ impl Reader {
     }
 
     fn begin_section(&mut self, line: u32, name: Name) -> Result<(), ScriptFault>
-        ensures ok { OnOk result (in_section line self.old name (place_of name self.old.analysts) ≡ Ok self.new) }
+        ensures ok { OnOk result (in_section line self.old name (analyst_place name self.old.analysts) ≡ Ok self.new) }
         ensures refused { IfErr result (λ e. e ≢ ScriptFault.NoMemory
-            → in_section line self.old name (place_of name self.old.analysts) ≡ Err e) }
+            → in_section line self.old name (analyst_place name self.old.analysts) ≡ Err e) }
     {
         match name.position_in(self.analysts.as_slice()) {
             Some(i) => {

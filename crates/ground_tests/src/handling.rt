@@ -1,12 +1,13 @@
 //! Each kind of station answers each kind of message, and copies of a station stay apart.
 ghost use Rattle.std.specs.Prelude.{◌≡◌, ◌<◌, IfSome};
-ghost use Rattle.stations.specs.Fits.{SuitsNet};
+ghost use Rattle.ground_tests.specs.States.{IsStateOf};
 
 mod models;
 mod rows;
 
 use arrayvec::ArrayVec;
 use models::FIVE_KINDS;
+use net_model::limits::MOST_LIMIT;
 use net_model::{Model, read_model};
 use rows::{
     Row, at_the_copy, at_the_original, at_the_original_afterwards, before_the_copy, delay_rows,
@@ -22,8 +23,7 @@ use std::test::Fail;
 
 /// The station of this number, before it has handled anything.
 fn opened(alloc: Global, model: &Model, station: u32) -> Option<State>
-    ensures suits { IfSome result (λ state. SuitsNet model.now state) }
-    ensures own { IfSome result (λ state. state.sender.station ≡ station) }
+    ensures { IfSome result (λ state. IsStateOf model.now station state) }
 {
     if station < 1 || station > model.len() {
         return None;
@@ -42,12 +42,10 @@ fn answers_row<L: Ledger>(
     row: &Row,
     steps: &mut Steps<L>,
 ) -> bool
-    requires suits { SuitsNet model.now state.old }
-    requires own { state.old.sender.station ≡ station }
-    ensures suits { SuitsNet model.now state.new }
-    ensures own { state.new.sender.station ≡ station }
+    requires own { IsStateOf model.now station state.old }
+    ensures own { IsStateOf model.now station state.new }
 {
-    if state.handled() >= 65536 || row.time >= 1 << 31 {
+    if state.handled() >= MOST_LIMIT || row.time >= 1 << 31 {
         return false;
     }
     let key = Key {
@@ -79,10 +77,8 @@ fn answers<L: Ledger>(
     rows: &[Row],
     steps: &mut Steps<L>,
 ) -> bool
-    requires suits { SuitsNet model.now state.old }
-    requires own { state.old.sender.station ≡ station }
-    ensures suits { SuitsNet model.now state.new }
-    ensures own { state.new.sender.station ≡ station }
+    requires own { IsStateOf model.now station state.old }
+    ensures own { IsStateOf model.now station state.new }
 {
     for row in rows {
         if !answers_row(state, model, station, row, steps) {
@@ -129,8 +125,7 @@ fn copy_goes_its_way<L: Ledger>(
     state: &mut State,
     steps: &mut Steps<L>,
 ) -> bool
-    requires suits { SuitsNet model.now state.old }
-    requires own { state.old.sender.station ≡ 2 }
+    requires own { IsStateOf model.now 2 state.old }
 {
     if !answers(state, model, 2, &before_the_copy(), steps) {
         return false;

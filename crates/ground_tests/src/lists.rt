@@ -1,6 +1,6 @@
 //! Decision lists that go separate ways after a fork.
 
-use sim_base::{Change, Lists, Name, Param, Planned};
+use sim_base::{Change, Lists, MOST_CLONES, Name, Param, Planned};
 use std::alloc::Global;
 use std::process::Abort;
 use std::test::Fail;
@@ -40,7 +40,7 @@ fn end(lists: &mut Lists, c: u32, at: u64) -> bool {
 fn fork(lists: &mut Lists, alloc: Global, new: Name) -> bool {
     match lists.find(&new) {
         Some(_) => false,
-        None => lists.len() < 256 && lists.fork(alloc, new, 0).is_ok(),
+        None => lists.len() < MOST_CLONES && lists.fork(alloc, new, 0).is_ok(),
     }
 }
 

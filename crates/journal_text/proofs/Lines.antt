@@ -19,7 +19,7 @@ use Rattle.decision_book.specs.declared.call.Reply.TheVariants.{Accepted, Full, 
 use Rattle.decision_book.specs.declared.call.Reply.TheVariants.{TooManyClones, UnknownStation, WrongParameter}
 use Rattle.decision_book.specs.declared.call.Reply.TheVariants.{OutOfRange, ListFull, PastHorizon, Late}
 use Rattle.decision_book.specs.Journal.{Event, raised, asked}
-use Rattle.decision_book.specs.Scripts.{if_taken}
+use Rattle.decision_book.specs.Scripts.{accepted_onto}
 use Rattle.journal_text.specs.JournalText.{call_line, decision_text, events_text, refusal_text}
 use Rattle.journal_text.specs.Laws.{without_comments}
 
@@ -74,7 +74,7 @@ is_said line = not (begins_comment line)
 -- a refusal is written as a comment, and takes no call into the script
 pub record IsRefused (r : Reply) : Type 0 where
   pub line : (d : Decision) → call_line r d ≡ codes "# refused " ++ refusal_text r ++ codes ": " ++ decision_text d
-  pub taken : (c : Call) (cs : List Call) → if_taken r c cs ≡ cs
+  pub taken : (c : Call) (cs : List Call) → accepted_onto r c cs ≡ cs
 
 -- each reply is Accepted, or is such a one
 pub kind_of : (r : Reply) → (r ≡ Accepted) ⊎ IsRefused r

@@ -18,7 +18,7 @@ use Rattle.decision_script.proofs.Words.{IsWord}
 use Rattle.decision_book.specs.declared.call.Call.{Call}
 use Rattle.decision_book.specs.declared.call.Reply.TheVariants.{Accepted}
 use Rattle.decision_book.specs.Journal.{Event, raised, asked, calls_of}
-use Rattle.decision_book.specs.Scripts.{accepted_of, if_taken}
+use Rattle.decision_book.specs.Scripts.{accepted_of, accepted_onto}
 use Rattle.journal_text.specs.Laws.{who_does, who_decided}
 use Rattle.journal_text.proofs.Lines.{IsRefused, kind_of, if_decided, said_lines, not_decided}
 use Rattle.journal_text.proofs.Sections.{IsInForce, missing, name_kept, section_read}
@@ -111,7 +111,7 @@ events_read analysts line r (asked c ∷ es) most fits h few =
     over_section analysts line r (analyst_name analysts c.caller)
     (join_with_byte 32 (words_of_section (analyst_name analysts c.caller)))
     (joined (if_decided c.reply c.decision (said_lines analysts es)))
-    (if_taken c.reply c (accepted_of (calls_of es))) s
+    (accepted_onto c.reply c (accepted_of (calls_of es))) s
     (⊎_elim
     (λ (e : c.reply ≡ Accepted).
     let next : ReaderView = with_item (line + 1) s.next (Decide c.decision) in
@@ -120,13 +120,13 @@ events_read analysts line r (asked c ∷ es) most fits h few =
     let more = events_read analysts (line + 1 + 1) next es most s.fits h.1 (omega (arith, longer, len, few)) in
     subst (λ x. ReadOn analysts s.next
     (after_lines (line + 1) s.next (joined (if_decided x c.decision (said_lines analysts es))))
-    (if_taken x c (accepted_of (calls_of es)))) (sym e)
+    (accepted_onto x c (accepted_of (calls_of es)))) (sym e)
     (over_decision analysts (line + 1) s.next c (joined (said_lines analysts es))
     (accepted_of (calls_of es)) h.0.decision (omega (arith, len, few)) s.low s.high s.name_is more))
     (λ (e : IsRefused c.reply).
     let more = events_read analysts (line + 1) s.next es most s.fits h.1 (omega (arith, len, few)) in
     subst (λ ls. ReadOn analysts s.next (after_lines (line + 1) s.next (joined ls))
-    (if_taken c.reply c (accepted_of (calls_of es))))
+    (accepted_onto c.reply c (accepted_of (calls_of es))))
     (sym (not_decided c.reply e c.decision (said_lines analysts es)))
     (subst (λ cs. ReadOn analysts s.next (after_lines (line + 1) s.next (joined (said_lines analysts es))) cs)
     (sym (e.taken c (accepted_of (calls_of es)))) more))

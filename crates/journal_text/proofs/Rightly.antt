@@ -9,7 +9,7 @@ use Rattle.sim_base.specs.declared.message.Change.{Change}
 use Rattle.sim_base.specs.declared.lists.TheConstants.{MOST_CLONES, MOST_DECISIONS}
 use Rattle.sim_base.specs.Clones.{clone_at, place_of}
 use Rattle.sim_base.specs.Decisions.{subject}
-use Rattle.net_model.specs.Net.{Net, number_of, site_of}
+use Rattle.net_model.specs.Net.{Net, station_named, site_of}
 use Rattle.stations.specs.declared.change.ChangeFault.{ChangeFault}
 use Rattle.stations.specs.declared.change.ChangeFault.TheVariants as refused
 use Rattle.stations.specs.Changes.{accepts}
@@ -100,9 +100,9 @@ rows_late s clone (Fork new old) = (
   (row_late s.front (nat_le MOST_CLONES (length s.clones)) TooManyClones tt, tt),
 )
 rows_late s clone (Set who at station change) = (
-  row_late s.front (is_none (number_of station s.net)) UnknownStation tt,
+  row_late s.front (is_none (station_named station s.net)) UnknownStation tt,
   (
-    change_late s.net s.front (number_of station s.net) change,
+    change_late s.net s.front (station_named station s.net) change,
     (
       row_late s.front (nat_le MOST_DECISIONS (length (clone_at s.clones clone).plans)) ListFull tt,
       time_late s.net s.front at,

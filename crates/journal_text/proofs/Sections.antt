@@ -14,7 +14,7 @@ use Rattle.std.proofs.lemmas.Slice.Eq.{bytes_eq-Decides}
 use Rattle.sim_base.proofs.ListLaws.{none_passes}
 use Rattle.decision_script.specs.declared.fault.ScriptFault.{ScriptFault}
 use Rattle.decision_script.specs.Stating.{IsNamed, analyst_name}
-use Rattle.decision_script.specs.Reading.{ReaderView, after_line, in_section, place_of}
+use Rattle.decision_script.specs.Reading.{ReaderView, after_line, in_section, analyst_place}
 use Rattle.decision_script.specs.Printing.{words_of_section}
 use Rattle.decision_script.proofs.Again.{after_section}
 
@@ -76,7 +76,7 @@ one_less_missing names name (a ∷ more) (suc i) lt is new =
     omega (arith, one_less names name a, one_less_missing names name more i (omega arith) is new)
 
 -- a name without a place is not among them
-pub not_among : (name : List ℕ) (names : List (List ℕ)) → place_of name names ≡ None → is_among name names ≡ false
+pub not_among : (name : List ℕ) (names : List (List ℕ)) → analyst_place name names ≡ None → is_among name names ≡ false
 not_among name names none = list_any_none (λ other. bytes_eq other name) names
     (none_passes (λ other. bytes_eq other name) names none)
 
@@ -110,7 +110,8 @@ pub record IsInForce (analysts : List (List ℕ)) (r : ReaderView) (name : List 
 
 of_place : (analysts : List (List ℕ)) (line : ℕ) (r : ReaderView) (name : List ℕ) (i : ℕ) → IsNamed name
     → i < length analysts → get_or analysts i [] ≡ name → length analysts ≤ 16
-    → length r.analysts + missing r.analysts analysts ≤ length analysts → (o : Option ℕ) → place_of name r.analysts ≡ o
+    → length r.analysts + missing r.analysts analysts ≤ length analysts
+    → (o : Option ℕ) → analyst_place name r.analysts ≡ o
     → IsInForce analysts r name (after_line line r (join_with_byte 32 (words_of_section name)))
 of_place analysts line r name i named lt is few fits (Some k) at =
     let (within, same, first) = position-Some (λ other. bytes_eq other name) r.analysts k [] at in
@@ -154,4 +155,4 @@ pub section_read : (analysts : List (List ℕ)) (line : ℕ) (r : ReaderView) (a
     (after_line line r (join_with_byte 32 (words_of_section (analyst_name analysts a))))
 section_read analysts line r a low high named few fits =
     of_place analysts line r (analyst_name analysts a) (a - 1) named (omega arith)
-    (sym (unwrap_or-slice_get analysts (a - 1) [])) few fits (place_of (analyst_name analysts a) r.analysts) refl
+    (sym (unwrap_or-slice_get analysts (a - 1) [])) few fits (analyst_place (analyst_name analysts a) r.analysts) refl

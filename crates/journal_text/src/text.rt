@@ -1,10 +1,11 @@
 //! The text of a journal.
-ghost use Rattle.std.specs.Prelude.{◌≡◌, ◌++◌, ◌≤◌, [], length, map, OnOk, IfOk};
+ghost use Rattle.std.specs.Prelude.{◌≡◌, ◌++◌, [], length, map, OnOk, IfOk};
 ghost use Rattle.std.specs.List.{All, flat_map};
 ghost use Rattle.decision_book.specs.Journal.{raised, asked};
 ghost use Rattle.decision_book.specs.Books.{journal_from, journal_of};
-ghost use Rattle.journal_text.specs.JournalText.{call_line, event_text, events_text, found_text, glance_text};
-ghost use Rattle.journal_text.specs.JournalText.{head_of, look_line, looks_text, refusal_text, journal_text as text_of};
+ghost use Rattle.journal_text.specs.JournalText.{IsAnalyst, call_line, event_text, events_text, found_text};
+ghost use Rattle.journal_text.specs.JournalText.{glance_text, head_of, look_line, looks_text, refusal_text};
+ghost use Rattle.journal_text.specs.JournalText.{journal_text as text_of};
 
 use crate::looked::Looked;
 use crate::pieces::{push, push_count, push_decision, push_name, push_number};
@@ -55,8 +56,7 @@ fn push_call_line(out: &mut Vec<u8>, reply: &Reply, decision: &Decision) -> Resu
 }
 
 fn push_call(out: &mut Vec<u8>, script: &Script, call: &Call) -> Result<(), NoMemory>
-    requires low { 1 ≤ call.now.caller }
-    requires high { call.now.caller ≤ length script.now.analysts }
+    requires caller { IsAnalyst (length script.now.analysts) call.now.caller }
     ensures value { OnOk result (out.new.items ≡ out.old.items ++ event_text script.now.analysts (asked call.now)) }
 {
     push(out, b"analyst ")?;
@@ -73,7 +73,7 @@ fn push_events(
     calls: &[Call],
     fronts: &[u64],
 ) -> Result<(), NoMemory>
-    requires callers { All (λ c. (1 ≤ c.caller) × (c.caller ≤ length script.now.analysts)) calls.now }
+    requires callers { All (λ c. IsAnalyst (length script.now.analysts) c.caller) calls.now }
     ensures value { OnOk result (out.new.items ≡
         out.old.items ++ events_text script.now.analysts (journal_of calls.now fronts.now)) }
 {
@@ -116,8 +116,7 @@ fn push_glance(out: &mut Vec<u8>, glance: &Option<Glance>) -> Result<(), NoMemor
 }
 
 fn push_look(out: &mut Vec<u8>, script: &Script, look: &Looked) -> Result<(), NoMemory>
-    requires low { 1 ≤ look.now.analyst }
-    requires high { look.now.analyst ≤ length script.now.analysts }
+    requires looker { IsAnalyst (length script.now.analysts) look.now.analyst }
     ensures value { OnOk result (out.new.items ≡ out.old.items ++ look_line script.now.analysts look.now) }
 {
     push(out, b"look ")?;
@@ -131,7 +130,7 @@ fn push_look(out: &mut Vec<u8>, script: &Script, look: &Looked) -> Result<(), No
 }
 
 fn push_look_lines(out: &mut Vec<u8>, script: &Script, looks: &[Looked]) -> Result<(), NoMemory>
-    requires there { All (λ l. (1 ≤ l.analyst) × (l.analyst ≤ length script.now.analysts)) looks.now }
+    requires there { All (λ l. IsAnalyst (length script.now.analysts) l.analyst) looks.now }
     ensures value { OnOk result (out.new.items ≡ out.old.items ++ flat_map (look_line script.now.analysts) looks.now) }
 {
     'looks: for look in looks {
@@ -141,7 +140,7 @@ fn push_look_lines(out: &mut Vec<u8>, script: &Script, looks: &[Looked]) -> Resu
 }
 
 fn push_looks(out: &mut Vec<u8>, script: &Script, looks: &[Looked]) -> Result<(), NoMemory>
-    requires there { All (λ l. (1 ≤ l.analyst) × (l.analyst ≤ length script.now.analysts)) looks.now }
+    requires there { All (λ l. IsAnalyst (length script.now.analysts) l.analyst) looks.now }
     ensures value { OnOk result (out.new.items ≡ out.old.items ++ looks_text script.now.analysts looks.now) }
 {
     push_count(out, b"looks ", looks.len() as u64)?;
@@ -166,8 +165,8 @@ pub fn journal_text(
     fronts: &[u64],
     looks: &[Looked],
 ) -> Result<Vec<u8>, NoMemory>
-    requires callers { All (λ c. (1 ≤ c.caller) × (c.caller ≤ length script.now.analysts)) calls.now }
-    requires lookers { All (λ l. (1 ≤ l.analyst) × (l.analyst ≤ length script.now.analysts)) looks.now }
+    requires callers { All (λ c. IsAnalyst (length script.now.analysts) c.caller) calls.now }
+    requires lookers { All (λ l. IsAnalyst (length script.now.analysts) l.analyst) looks.now }
     ensures { IfOk result (λ text.
         text.items ≡ text_of script.now.analysts (journal_of calls.now fronts.now) looks.now) }
 {

@@ -71,7 +71,8 @@ total_of-push : (xs : List (List Act)) (ds : List Act) → total_of (xs ++ ds �
 total_of-push [] ds = omega arith
 total_of-push (x ∷ xs) ds = omega (arith, total_of-push xs ds)
 
-total_is : (analysts : List SeatedAnalyst) → total_todo analysts ≡ total_of (map (λ (a : SeatedAnalyst). a.0.todo.items) analysts)
+total_is : (analysts : List SeatedAnalyst)
+    → total_todo analysts ≡ total_of (map (λ (a : SeatedAnalyst). a.0.todo.items) analysts)
 total_is [] = refl
 total_is (a ∷ more) = omega (arith, total_is more)
 
@@ -184,8 +185,8 @@ no_account desk net (suc n) x h =
     ∙ omega (arith, last, no_account desk net n x before)
 
 -- where analysts with new passes have asked all acts of the script, the journal is one of the script
-pub journal_of_script : (desk : TableId) (net : Net) (s : ScriptView) (passes : List PassView) (analysts : List SeatedAnalyst)
-    (book : BookView) → map (λ (a : SeatedAnalyst). a.0.pass) analysts ≡ passes
+pub journal_of_script : (desk : TableId) (net : Net) (s : ScriptView) (passes : List PassView)
+    (analysts : List SeatedAnalyst) (book : BookView) → map (λ (a : SeatedAnalyst). a.0.pass) analysts ≡ passes
     → passes ≡ new_passes desk net (length s.analysts)
     → map (λ (a : SeatedAnalyst). a.0.todo.items) analysts ≡ each_acts s.items (length s.analysts)
     → IsAllAsked net analysts book → IsJournalOf net s book

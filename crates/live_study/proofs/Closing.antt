@@ -26,7 +26,8 @@ caught_more front told read seat n legal begins known last before s low high = �
 -- one seat more is caught up
 pub all_caught_more : (net : Net) (published : List RackView) (done : List SeatedAnalyst) (a : SeatedAnalyst)
     → AllCaughtUp net published done → AreCaughtUp net published a.1 → AllCaughtUp net published (done ++ a ∷ [])
-all_caught_more net published done a all one = all_push (λ (b : SeatedAnalyst). AreCaughtUp net published b.1) done a all one
+all_caught_more net published done a all one =
+    all_push (λ (b : SeatedAnalyst). AreCaughtUp net published b.1) done a all one
 
 -- ---- what is gathered
 -- one image more behind those that were there

@@ -15,6 +15,7 @@ use Rattle.decision_desk.specs.Passes.{HelmView, IsClosed, PassView}
 use Rattle.decision_desk.proofs.Leasts.{front_is}
 use Rattle.world_core.specs.Worlds.{WorldView}
 use Rattle.study_run.specs.declared.fault.StudyFault.{StudyFault}
+use Rattle.decision_desk.specs.declared.desk.TheConstants.{ALL_PARTS}
 use Rattle.live_study.specs.Asking.{SeatedAnalyst, decisions_asked, decisions_in, IsDone, IsSameAnalyst}
 use Rattle.live_study.specs.Asking.{accounts_in, total_todo, AllDone, AllAsked}
 use Rattle.live_study.specs.Engines.{InStep, Steers}
@@ -76,7 +77,8 @@ sums_same : (events : List Event) (others' : List SeatedAnalyst) → AreAccounts
 sums_same events [] all = refl
 sums_same events (a ∷ others') all = omega (arith, ap length all.0.calls, sums_same events others' all.1)
 
-few_calls : (desk : TableId) (others' : List SeatedAnalyst) → AllDone desk others' → total_calls others' ≤ total_todo others'
+few_calls : (desk : TableId) (others' : List SeatedAnalyst) → AllDone desk others'
+    → total_calls others' ≤ total_todo others'
 few_calls desk [] all = omega arith
 few_calls desk (a ∷ others') all =
     omega (arith, all.0.all.few, length-decisions_asked a.0.todo.items, few_calls desk others' all.1)
@@ -124,7 +126,8 @@ all_asked desk events others' all right others few =
 
 -- the index form of a fact on each analyst
 pub all_done : (desk : TableId) (others' : List SeatedAnalyst)
-    → ((i : ℕ) (d : SeatedAnalyst) → i < length others' → IsDone desk (slice_index_or others' i d).0) → AllDone desk others'
+    → ((i : ℕ) (d : SeatedAnalyst) → i < length others' → IsDone desk (slice_index_or others' i d).0)
+    → AllDone desk others'
 all_done desk [] each = tt
 all_done desk (a ∷ others') each =
     (each 0 a (omega arith), all_done desk others' (λ i d less. each (suc i) d (omega (arith, less))))
@@ -155,7 +158,8 @@ callers_before x (a ∷ old) (b ∷ new) len same =
     ∙ ap (λ n. (if nat_eq a.0.pass.account.caller x then 1 else 0) + n)
     (callers_before x old new (omega (arith, len)) (λ i d less. same (suc i) d (omega (arith, less))))
 
-todo_before : (old new : List SeatedAnalyst) → length new ≡ length old → SameAt old new → total_todo new ≡ total_todo old
+todo_before : (old new : List SeatedAnalyst) → length new ≡ length old → SameAt old new
+    → total_todo new ≡ total_todo old
 todo_before [] [] len same = refl
 todo_before [] (b ∷ new) len same = absurd (omega (arith, len))
 todo_before (a ∷ old) [] len same = absurd (omega (arith, len))
@@ -178,18 +182,18 @@ of_desk desk (a ∷ more) all zero d less = all.0.desk_is
 of_desk desk (a ∷ more) all (suc k) d less = of_desk desk more all.1 k d (omega (arith, less))
 
 -- the accounts of the analysts' passes are the accounts of the analysts
-pub accounts_are : (analysts : List SeatedAnalyst) → map (λ p. p.account) (map (λ (a : SeatedAnalyst). a.0.pass) analysts)
-    ≡ accounts_in analysts
+pub accounts_are : (analysts : List SeatedAnalyst)
+    → map (λ p. p.account) (map (λ (a : SeatedAnalyst). a.0.pass) analysts) ≡ accounts_in analysts
 accounts_are [] = refl
 accounts_are (a ∷ more) = ap (λ l. a.0.pass.account ∷ l) (accounts_are more)
 
 -- the helm, once all passes were handed back
 abbrev pub closing : HelmView → List PassView → HelmView
-closing helm passes = record helm { parts = 17; accounts = helm.accounts ++ map (λ p. p.account) passes }
+closing helm passes = record helm { parts = ALL_PARTS; accounts = helm.accounts ++ map (λ p. p.account) passes }
 
 -- all that analysts had to ask is in the journal
-all_asked_in : (desk : TableId) (helm0 helm1 : HelmView) (new : List SeatedAnalyst) (passes : List PassView) (book : BookView)
-    → Steers helm0 helm1 → helm0.accounts ≡ []
+all_asked_in : (desk : TableId) (helm0 helm1 : HelmView) (new : List SeatedAnalyst) (passes : List PassView)
+    (book : BookView) → Steers helm0 helm1 → helm0.accounts ≡ []
     → passes ≡ map (λ (a : SeatedAnalyst). a.0.pass) new → IsClosed (closing helm1 passes) book → AllDone desk new
     → total_todo new ≤ 4096 → IsRight book.net book.events → GoesOn book.net book.events
     → IsAllAsked helm0.net new book

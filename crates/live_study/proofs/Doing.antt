@@ -11,7 +11,7 @@ use Rattle.sim_base.proofs.ListLaws.{all_push}
 use Rattle.sim_base.proofs.Placing.{all_weaker}
 use Rattle.sim_base.specs.declared.decision.Decision.{Decision}
 use Rattle.std.specs.Str.{bytes_eq}
-use Rattle.net_model.specs.Net.{Net, Site, number_of}
+use Rattle.net_model.specs.Net.{Net, Site, station_named}
 use Rattle.decision_script.specs.declared.item.Act.{Act}
 use Rattle.decision_script.specs.declared.item.Act.TheVariants.{Decide, Look}
 use Rattle.decision_script.specs.Alone.{decisions_onto}
@@ -91,7 +91,7 @@ known_later n most who xs ys (Some g) p h = (
 pub read_later : (net : Net) (xs ys : List RackView) (l : Looked) → IsPrefix xs ys → IsRead net xs l → IsRead net ys l
 read_later net xs ys l p r = record {
   unknown = r.unknown;
-  known = known_later (number_of l.station net) (length net.sites) l.who xs ys l.glance p r.known;
+  known = known_later (station_named l.station net) (length net.sites) l.who xs ys l.glance p r.known;
 }
 
 -- a look that is no earlier than those before it
@@ -172,7 +172,7 @@ same_on a b c s t = record {
 
 -- ---- one look
 -- stations are numbered from 1
-pub number_low : (name : List ℕ) (net : Net) (s : ℕ) → number_of name net ≡ Some s → 1 ≤ s
+pub number_low : (name : List ℕ) (net : Net) (s : ℕ) → station_named name net ≡ Some s → 1 ≤ s
 number_low name net s e = of_place (position (λ (site : Site). bytes_eq site.name name) net.sites) e
   where
     of_place : (o : Option ℕ) → option_map (λ i. i + 1) o ≡ Some s → 1 ≤ s
@@ -206,13 +206,13 @@ known_earlier n most who ys (Some g) f s r legal known e at last =
 
 -- a glance of the last rack is at no earlier front than what was read of the station before
 pub seen_later : (net : Net) (xs ys : List RackView) (k l : Looked) (g : Glance) (s : ℕ) (r : RackView)
-    → IsPrefix xs ys → AreLegal ys → IsRead net xs k → l.glance ≡ Some g → number_of l.station net ≡ Some s
+    → IsPrefix xs ys → AreLegal ys → IsRead net xs k → l.glance ≡ Some g → station_named l.station net ≡ Some s
     → latest s ys ≡ Some r → IsGlance r l.who g → IsNoEarlier k l
 seen_later net xs ys k l g s r p legal read e n last is = λ a own f h ef eh.
     let same : h ≡ g = some_same h g (sym eh ∙ e) in
-    let at : number_of k.station net ≡ Some s = ap (λ name. number_of name net) (sym own) ∙ n in
+    let at : station_named k.station net ≡ Some s = ap (λ name. station_named name net) (sym own) ∙ n in
     let early : f.front ≤ r.front =
-    known_earlier (number_of k.station net) (length net.sites) k.who ys k.glance f s r legal
+    known_earlier (station_named k.station net) (length net.sites) k.who ys k.glance f s r legal
     (read_later net xs ys k p read).known ef at last in
     omega (arith, early, is.front, ap (λ (x : Glance). x.front) same)
   where

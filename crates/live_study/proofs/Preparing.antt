@@ -15,13 +15,15 @@ use Rattle.shelf.specs.Racks.{HasRack, MayOpen, latest}
 use Rattle.shelf.proofs.Legals.{latest-all, opens}
 use Rattle.journal_text.specs.declared.looked.Looked.{Looked}
 use Rattle.world_core.specs.Worlds.{WorldView}
+use Rattle.decision_script.specs.declared.script.TheConstants.{MOST_ANALYSTS}
+use Rattle.decision_desk.specs.declared.desk.TheConstants.{ALL_PARTS}
 use Rattle.live_study.specs.declared.prepared.Prepared.{Prepared}
-use Rattle.live_study.specs.Asking.{IsReady, SeatedAnalyst, total_todo}
+use Rattle.live_study.specs.Asking.{SeatedAnalyst, total_todo}
 use Rattle.live_study.specs.Lives.{AreTrueLooks, IsAllAsked, all_looks, looks_made}
 use Rattle.live_study.specs.Looks.{AreLooks, HasMadeLooks, HasRacks, IsRackOf, IsRead, NeverFall, look_of}
 use Rattle.live_study.specs.Opening.{AreOpeningRacks, HasReservedFor, IsFresh, IsPrepared, IsRackNow, numbers_to}
 use Rattle.live_study.specs.Scripts.{IsJournalOf, each_acts}
-use Rattle.live_study.specs.Showing.{AreShownOf, HasLooked, HasReserved, looks_to_make}
+use Rattle.live_study.specs.Showing.{AreShownOf, HasLooked, HasReserved, MayAct, looks_to_make}
 use Rattle.live_study.proofs.Begun.{all_ready, few_todo, journal_of_script, length-new_passes, many_analysts}
 use Rattle.live_study.proofs.Looking.{looks_of_script, made_of_script}
 
@@ -97,8 +99,8 @@ shown_first net many p published h e = subst (AreShownOf p.helm p.world) (sym e)
 })
 
 -- ---- the analysts
-pub all_parts : (net : Net) (many : ℕ) (p : Prepared) (seated : List SeatedAnalyst) → IsPrepared net many p → many ≤ 16
-    → map (λ (a : SeatedAnalyst). a.0.pass) seated ≡ p.passes.items → p.helm.parts + length seated ≡ 17
+pub all_parts : (net : Net) (many : ℕ) (p : Prepared) (seated : List SeatedAnalyst) → IsPrepared net many p → many ≤ MOST_ANALYSTS
+    → map (λ (a : SeatedAnalyst). a.0.pass) seated ≡ p.passes.items → p.helm.parts + length seated ≡ ALL_PARTS
 all_parts net many p seated h few are =
     let len = many_analysts p.desk.table.shared.table_id net many p.passes.items seated are h.passes in
     let parts = ap (λ (x : HelmView). x.parts) h.helm in
@@ -120,9 +122,7 @@ none_made net a opening f there = (
 -- so each analyst has asked nothing and made no looks yet, and has memory reserved for all its looks
 pub each_ready : (net : Net) (many : ℕ) (p : Prepared) (seated : List SeatedAnalyst) → IsPrepared net many p
     → map (λ (a : SeatedAnalyst). a.0.pass) seated ≡ p.passes.items → AllByRecursion (IsFresh p.racks.items) seated
-    → (k : ℕ) (d : SeatedAnalyst) → k < length seated
-    → IsReady p.desk.table.shared.table_id (get_or seated k d).0 × HasLooked net [] (get_or seated k d)
-    × HasReserved (get_or seated k d).0
+    → (k : ℕ) (d : SeatedAnalyst) → k < length seated → MayAct p.desk.table.shared.table_id net (get_or seated k d)
 each_ready net many p seated h are fresh k d less =
     let none = none_made net (get_or seated k d) p.racks.items
     (all_at (IsFresh p.racks.items) seated k d fresh less) (has_racks net many p h) in (
@@ -132,7 +132,8 @@ each_ready net many p seated h are fresh k d less =
     )
 
 -- what they have to do, by the number of passes and by that of analysts
-own_todo : (net : Net) (s : ScriptView) (p : Prepared) (seated : List SeatedAnalyst) → IsPrepared net (length s.analysts) p
+own_todo : (net : Net) (s : ScriptView) (p : Prepared) (seated : List SeatedAnalyst)
+    → IsPrepared net (length s.analysts) p
     → map (λ (a : SeatedAnalyst). a.0.todo.items) seated ≡ each_acts s.items (length p.passes.items)
     → map (λ (a : SeatedAnalyst). a.0.todo.items) seated ≡ each_acts s.items (length s.analysts)
 own_todo net s p seated h todo = todo ∙ ap (each_acts s.items) (many_passes net (length s.analysts) p h)
@@ -163,8 +164,8 @@ journal_is net s p seated book h are todo asked =
     (subst (λ (n : Net). IsAllAsked n seated book) (helm_net net (length s.analysts) p h) asked)
 
 -- ---- the looks
-pub made_are : (net : Net) (s : ScriptView) (p : Prepared) (seated : List SeatedAnalyst) (looks : List (ReservedView Looked))
-    → IsPrepared net (length s.analysts) p
+pub made_are : (net : Net) (s : ScriptView) (p : Prepared) (seated : List SeatedAnalyst)
+    (looks : List (ReservedView Looked)) → IsPrepared net (length s.analysts) p
     → map (λ (a : SeatedAnalyst). a.0.number) seated ≡ numbers_to (length p.passes.items)
     → map (λ (a : SeatedAnalyst). a.0.todo.items) seated ≡ each_acts s.items (length p.passes.items)
     → looks_made looks ≡ looks_to_make seated → HasMadeLooks s (all_looks looks)

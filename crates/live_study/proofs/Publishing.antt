@@ -62,8 +62,8 @@ round_begins old new w v published h net r same rises = record {
       h.racks;
   early = all_weaker (λ (q : RackView). q.front ≤ w.front) (λ (q : RackView). q.front ≤ v.front) published
       (λ q k. omega (arith, k, rises)) h.early;
-  below = all_weaker (λ (q : RackView). q.front ≤ w.front) (λ (q : RackView). 0 < q.station → q.front < v.front) published
-      (λ q k s. omega (arith, k, rises)) h.early;
+  below = all_weaker (λ (q : RackView). q.front ≤ w.front)
+      (λ (q : RackView). 0 < q.station → q.front < v.front) published (λ q k s. omega (arith, k, rises)) h.early;
   there = subst (λ (n : Net). HasRacks n published) (sym same) h.there;
   last = λ e s low high. absurd (omega (arith, low, high));
 }

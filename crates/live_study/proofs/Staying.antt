@@ -5,7 +5,8 @@ use Rattle.std.proofs.lemmas.Bool.{cases_eq}
 use Rattle.std.proofs.lemmas.List.{length_push}
 use Rattle.std.proofs.lemmas.List.Quantifiers.{position-Some}
 use Rattle.std.specs.Str.{bytes_eq}
-use Rattle.sim_base.specs.Clones.{Clone, base, clone_at, clones_with_fork, nobody, place_of}
+use Rattle.sim_base.specs.Clones.{Clone, base, clone_at, clones_with_fork, nobody, place_of, fork_of, with_plan}
+use Rattle.sim_base.specs.Clones.{with_end}
 use Rattle.sim_base.specs.declared.decision.Decision.{Decision}
 use Rattle.sim_base.specs.declared.decision.Decision.TheVariants.{Fork, Set, End}
 use Rattle.sim_base.specs.declared.decision.Planned.{Planned}
@@ -13,9 +14,8 @@ use Rattle.net_model.specs.Net.{Net}
 use Rattle.net_model.specs.Rules.{IsNet}
 use Rattle.run_laws.specs.World.{log_of}
 use Rattle.run_laws.specs.Runs.{end_of}
-use Rattle.run_laws.specs.Laws.{with_plan, with_end}
 use Rattle.run_laws.proofs.Forks.{log_at-fork}
-use Rattle.run_laws.proofs.Late.{late_decision_adds_due, late_end_drops_due}
+use Rattle.run_laws.proofs.Late.{decision_adds_due, end_drops_due}
 use Rattle.run_laws.proofs.Places.{set_cases, clone_push_same, clone_push_other}
 use Rattle.stations.specs.Runs.{simulation, log_at}
 use Rattle.stations.proofs.GoodLaws.{lawful-stations}
@@ -61,7 +61,7 @@ module _ (net : Net) (front : ℕ) where
   keep_logs-fork : (clones : List Clone) (name : List ℕ) (old : ℕ) → old < length clones
       → (clone_at clones old).end ≡ None → KeepLogs net front clones (clones_with_fork clones name old)
   keep_logs-fork clones name old there open_end =
-      let k : Clone = record { name = name; plans = (clone_at clones old).plans; end = None } in
+      let k : Clone = fork_of (clone_at clones old) name in
       let longer = length_push clones k in
       record {
         many = omega (arith, longer);
@@ -124,7 +124,7 @@ module _ (net : Net) (valid : IsNet net) (front : ℕ) where
       (keep_logs-set net front clones o.clone (with_plan (clone_at clones o.clone) plan)
       (inside who clones o.clone o.place) refl
       (λ s. ap (λ w. log_of (simulation net).to s w.trace)
-      (late_decision_adds_due (lawful-stations net valid) (clone_at clones o.clone) plan front timely).world))
+      (decision_adds_due (lawful-stations net valid) (clone_at clones o.clone) plan front timely).world))
   keep_logs-decided clones now (End who at) late accepted =
       let o = is_open net clones now (End who at) accepted in
       let m = may_end net clones now o.clone at who o.rest in
@@ -136,7 +136,7 @@ module _ (net : Net) (valid : IsNet net) (front : ℕ) where
       (keep_logs-set net front clones o.clone (with_end (clone_at clones o.clone) at)
       (inside who clones o.clone o.place) refl
       (λ s. ap (λ w. log_of (simulation net).to s w.trace)
-      (late_end_drops_due (lawful-stations net valid) (clone_at clones o.clone) at front timely
+      (end_drops_due (lawful-stations net valid) (clone_at clones o.clone) at front timely
       (omega (arith, horizon, m.1))).world))
 
   -- so does a call, whatever its reply

@@ -6,7 +6,7 @@ use Rattle.net_model.specs.Net.{Net}
 use Rattle.decision_book.specs.Journal.{Event, Situation, after, after_event, asked, clones_after, if_accepted, outset}
 use Rattle.decision_book.specs.Replies.{reply}
 use Rattle.decision_book.specs.Right.{EachAfter, IsRight, MayFollow}
-use Rattle.decision_book.specs.Scripts.{accepted_of, if_taken}
+use Rattle.decision_book.specs.Scripts.{accepted_of, accepted_onto}
 use Rattle.decision_book.specs.declared.call.Call.{Call}
 use Rattle.decision_book.specs.declared.call.Reply.TheVariants.{Accepted}
 use Rattle.decision_book.proofs.JournalScripts.{Passes, each_later, fold_append, kind_of}
@@ -30,7 +30,8 @@ taken_accepted s c cs h is more =
       clones = if_accepted r (clones_after s.net s.clones c.decision) s.clones;
       calls = s.calls + 1;
     }) h in
-    let taken : if_taken c.reply c (accepted_of cs) ≡ c ∷ accepted_of cs = ap (λ r. if_taken r c (accepted_of cs)) h in
+    let taken : accepted_onto c.reply c (accepted_of cs) ≡ c ∷ accepted_of cs =
+    ap (λ r. accepted_onto r c (accepted_of cs)) h in
     record {
       accepted = subst (λ l. AreAccepted s.net s.clones s.front l) (sym taken)
           (accepted_at s c.decision is, more.accepted);
@@ -43,7 +44,7 @@ taken_refused : (s : Situation) (c : Call) (cs : List Call) → Passes c.reply
 taken_refused s c cs h more =
     let then : after_event s (asked c) ≡ record s { calls = s.calls + 1 } =
     ap (λ l. record s { clones = l; calls = s.calls + 1 }) (h.1 (clones_after s.net s.clones c.decision) s.clones) in
-    let taken : if_taken c.reply c (accepted_of cs) ≡ accepted_of cs = h.0 c (accepted_of cs) in
+    let taken : accepted_onto c.reply c (accepted_of cs) ≡ accepted_of cs = h.0 c (accepted_of cs) in
     record {
       accepted = subst (λ l. AreAccepted s.net s.clones s.front l) (sym taken) more.accepted;
       clones = ap (λ (x : Situation). (fold after_event x (map asked cs)).clones) then ∙ more.clones

@@ -45,7 +45,8 @@ asked_in_order net (a ∷ more) all = ap₂ (λ u us. u ∷ us) all.0.asked (ask
 
 -- what they had to look at before the run
 asked_before : (old new : List SeatedAnalyst) → length new ≡ length old
-    → ((i : ℕ) (d : SeatedAnalyst) → i < length old → IsSameAnalyst (slice_index_or old i d).0 (slice_index_or new i d).0)
+    → ((i : ℕ) (d : SeatedAnalyst) → i < length old
+    → IsSameAnalyst (slice_index_or old i d).0 (slice_index_or new i d).0)
     → looks_to_make new ≡ looks_to_make old
 asked_before [] [] len same = refl
 asked_before [] (b ∷ new) len same = absurd (omega (arith, len))
@@ -70,7 +71,8 @@ true_looks net h w events published (a ∷ more) of world last begins shown up a
 -- all looks that they had to make were made
 pub made_all : (net : Net) (old new : List SeatedAnalyst) (looks : List (ReservedView Looked)) → AllLooked net new
     → length new ≡ length old
-    → ((i : ℕ) (d : SeatedAnalyst) → i < length old → IsSameAnalyst (slice_index_or old i d).0 (slice_index_or new i d).0)
+    → ((i : ℕ) (d : SeatedAnalyst) → i < length old
+    → IsSameAnalyst (slice_index_or old i d).0 (slice_index_or new i d).0)
     → looks ≡ looks_of new → looks_made looks ≡ looks_to_make old
 made_all net old new looks all len same are =
     ap looks_made are ∙ asked_in_order net new all ∙ asked_before old new len same

@@ -8,7 +8,7 @@ use Rattle.std.proofs.lemmas.Bool.Decides.{nat_tests}
 use mathlib.Core.List.{IsPrefix}
 use Rattle.sim_base.specs.Clones.{Clone, place_of}
 use Rattle.sim_base.proofs.Placing.{all_left, all_right, all_weaker}
-use Rattle.net_model.specs.Net.{Net, number_of}
+use Rattle.net_model.specs.Net.{Net, station_named}
 use Rattle.decision_book.specs.Journal.{Event}
 use Rattle.decision_desk.specs.Accounts.{Begins}
 use Rattle.decision_desk.specs.Passes.{HelmView}
@@ -138,8 +138,9 @@ true_look net h w events published read l of world last begins shown up r = reco
         (λ q k. subst (λ (n : Net). IsRackOf n events q) of (rack_later h.net h.helm events q begins k)) shown.racks
 
     known_true : (o : Option Glance)
-        → IfSome o (λ g. (s : ℕ) × (number_of l.station net ≡ Some s) × (s ≤ length net.sites) × WasRead read s l.who g)
-        → IfSome o (λ g. (s : ℕ) × (number_of l.station net ≡ Some s) × IsTrueGlance net events s l.who g)
+        → IfSome o (λ g. (s : ℕ) × (station_named l.station net ≡ Some s) × (s ≤ length net.sites)
+        × WasRead read s l.who g)
+        → IfSome o (λ g. (s : ℕ) × (station_named l.station net ≡ Some s) × IsTrueGlance net events s l.who g)
     known_true None k = tt
     known_true (Some g) k =
         let s : ℕ = k.0 in

@@ -1,12 +1,13 @@
 -- The engine's way to the horizon: what it begins with, and what it comes to.
-use Rattle.std.specs.Prelude.{◌≡◌, List, Result, IfOk, IfErr}
+use Rattle.std.specs.Prelude.{◌≡◌, ◌<◌, ℕ, List, Result, IfOk, IfErr}
 use Rattle.atomic_table.specs.Seated.{TableId}
 use Rattle.decision_desk.specs.Passes.{HelmView}
 use Rattle.phys_proc.specs.Racks.{RackView}
 use Rattle.world_core.specs.Worlds.{WorldView}
 use Rattle.study_run.specs.declared.fault.StudyFault.{StudyFault}
 use Rattle.live_study.specs.Engines.{InStep, Steers, StopsAt}
-use Rattle.live_study.specs.Showing.{AreShownOf}
+use Rattle.live_study.specs.Looks.{AreAtFront}
+use Rattle.live_study.specs.Showing.{AreShownOf, AreShownTo}
 
 -- what the engine begins with
 pub record MayDrive (table : TableId) (h : HelmView) (w : WorldView) (published : List RackView) : Type 0 where
@@ -16,6 +17,19 @@ pub record MayDrive (table : TableId) (h : HelmView) (w : WorldView) (published 
   pub in_step : InStep h w
   -- what is published is of this journal and this world
   pub shown : AreShownOf h w published
+
+-- the helm may take a turn: it is one of the desk with this table, and the world stands where its journal has led,
+-- before the horizon
+pub record MayTurn (table : TableId) (h : HelmView) (w : WorldView) : Type 0 where
+  pub desk : h.desk ≡ table
+  pub in_step : InStep h w
+  pub below : w.front < w.net.horizon
+
+-- the racks of the world may be shown: it is at a front of the helm's journal, and so many stations had their turn
+pub record MayShow (h : HelmView) (w : WorldView) (done : ℕ) (published : List RackView) : Type 0 where
+  pub net : w.net ≡ h.net
+  pub at : AreAtFront h.net h.helm w.front w.clones
+  pub shown : AreShownTo h w done published
 
 -- what it comes to: its helm and what was published in the end, and how the run ended
 pub record HasDriven (old new : HelmView) (published : List RackView) (run : Result WorldView StudyFault) : Type 0 where

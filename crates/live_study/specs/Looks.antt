@@ -3,7 +3,7 @@ use Rattle.std.specs.Prelude.{◌≡◌, ◌⊎◌, ℕ, ◌≤◌, List, [], �
 use Rattle.std.specs.List.{AllByRecursion}
 use mathlib.Core.List.{IsPrefix}
 use Rattle.sim_base.specs.Clones.{Clone, base, place_of}
-use Rattle.net_model.specs.Net.{Net, number_of}
+use Rattle.net_model.specs.Net.{Net, station_named}
 use Rattle.decision_script.specs.Stating.{ScriptView}
 use Rattle.decision_book.specs.Journal.{Event, raised, after}
 use Rattle.decision_desk.specs.Accounts.{Begins}
@@ -38,8 +38,9 @@ pub record IsTrueGlance (net : Net) (events : List Event) (s : ℕ) (who : List 
 
 -- what was seen at a look: nothing exactly where the network has no such station, and else a true glance
 pub record IsTrueLook (net : Net) (events : List Event) (l : Looked) : Type 0 where
-  pub unknown : IfNone l.glance (number_of l.station net ≡ None)
-  pub known : IfSome l.glance (λ g. (s : ℕ) × (number_of l.station net ≡ Some s) × IsTrueGlance net events s l.who g)
+  pub unknown : IfNone l.glance (station_named l.station net ≡ None)
+  pub known : IfSome l.glance (λ g. (s : ℕ) × (station_named l.station net ≡ Some s)
+      × IsTrueGlance net events s l.who g)
 
 -- of the clones that a journal leaves, a glance tells this: the first of them were there at its front; the clone of the
 -- name is one of these exactly where one was found, and its log before the front has so many messages and is that of so
@@ -83,8 +84,8 @@ pub record WasRead (read : List RackView) (s : ℕ) (who : List ℕ) (g : Glance
 
 -- a look that has read a beginning of these racks, or found no station to read of
 pub record IsRead (net : Net) (read : List RackView) (l : Looked) : Type 0 where
-  pub unknown : IfNone l.glance (number_of l.station net ≡ None)
-  pub known : IfSome l.glance (λ g. (s : ℕ) × (number_of l.station net ≡ Some s) × (s ≤ length net.sites)
+  pub unknown : IfNone l.glance (station_named l.station net ≡ None)
+  pub known : IfSome l.glance (λ g. (s : ℕ) × (station_named l.station net ≡ Some s) × (s ≤ length net.sites)
       × WasRead read s l.who g)
 
 -- each station has a rack

@@ -10,8 +10,8 @@ use Rattle.shelf.specs.Racks.{OneEach}
 use Rattle.world_core.specs.Worlds.{WorldView}
 use Rattle.live_study.specs.declared.prepared.Prepared.{Prepared}
 use Rattle.live_study.specs.declared.reserve.Reserve.{Reserve}
-use Rattle.live_study.specs.Asking.{IsReady, SeatedAnalyst}
-use Rattle.live_study.specs.Showing.{HasLooked, HasReserved}
+use Rattle.live_study.specs.Asking.{SeatedAnalyst}
+use Rattle.live_study.specs.Showing.{MayAct}
 
 -- 1 .. n
 abbrev pub numbers_to : ℕ → List ℕ
@@ -26,7 +26,7 @@ pub record IsFresh (opening : List RackView) (a : SeatedAnalyst) : Type 0 where
 
 -- analysts that have done nothing yet, with memory reserved for their looks, each at a seat with a rack of each station
 abbrev pub AreReadyAll : TableId → Net → List SeatedAnalyst → Type 0
-AreReadyAll desk net seated = All (λ a. IsReady desk a.0 × HasLooked net [] a × HasReserved a.0) seated
+AreReadyAll desk net seated = All (MayAct desk net) seated
 
 -- a rack of the world as it is now
 pub record IsRackNow (w : WorldView) (r : RackView) : Type 0 where

@@ -1,6 +1,7 @@
 -- What analysts have done at their seats, and what the engine has published.
-use Rattle.std.specs.Prelude.{◌≡◌, ℕ, ◌<◌, ◌≤◌, List, [], ◌∷◌, ◌++◌, length, map}
+use Rattle.std.specs.Prelude.{◌≡◌, ℕ, ◌<◌, ◌≤◌, List, [], ◌∷◌, ◌++◌, length, map, slice_index_or}
 use Rattle.std.specs.List.{AllByRecursion}
+use Rattle.atomic_table.specs.Seated.{TableId}
 use Rattle.net_model.specs.Net.{Net}
 use Rattle.decision_script.specs.declared.item.Act.{Act}
 use Rattle.decision_book.specs.declared.call.Call.{Call}
@@ -9,7 +10,7 @@ use Rattle.decision_desk.specs.Passes.{HelmView}
 use Rattle.phys_proc.specs.Racks.{RackView}
 use Rattle.world_core.specs.Worlds.{WorldView}
 use Rattle.live_study.specs.declared.analyst.Analyst.{Analyst}
-use Rattle.live_study.specs.Asking.{SeatedAnalyst}
+use Rattle.live_study.specs.Asking.{IsDone, IsReady, IsSameAnalyst, SeatedAnalyst}
 use Rattle.live_study.specs.Looks.{AreAllAt, AreCaughtUp, HasRacks, IsAt, IsRackOf, IsRead, NeverFall, look_of}
 use Rattle.live_study.specs.Scripts.{looks_in}
 
@@ -24,6 +25,22 @@ pub record HasLooked (net : Net) (acts : List Act) (a : SeatedAnalyst) : Type 0 
 -- with memory reserved for the looks of all its acts
 abbrev pub HasReserved : Analyst → Type 0
 HasReserved a = length a.todo.items ≤ a.looks.reserved
+
+-- an analyst at its seat that has asked nothing and looked at nothing yet, with memory reserved for its looks
+abbrev pub MayAct : TableId → Net → SeatedAnalyst → Type 0
+MayAct desk net a = IsReady desk a.0 × HasLooked net [] a × HasReserved a.0
+
+-- and that has done since all that it has to do
+pub record HasActed (desk : TableId) (net : Net) (old new : SeatedAnalyst) : Type 0 where
+  pub done : IsDone desk new.0
+  pub looked : HasLooked net new.0.todo.items new
+  pub same : IsSameAnalyst old.0 new.0
+
+-- and so all of them, in order
+pub record HaveActed (desk : TableId) (net : Net) (old new : List SeatedAnalyst) : Type 0 where
+  pub len : length new ≡ length old
+  pub each : (i : ℕ) (d : SeatedAnalyst) → i < length old
+      → HasActed desk net (slice_index_or old i d) (slice_index_or new i d)
 
 -- what is published: each is a rack of the helm's journal, at a front up to the world's; each station has one, which at
 -- the horizon is at the horizon

@@ -1,16 +1,17 @@
 //! What the thread of an analyst does: it asks the desk for its decisions and observes the stations at its looks.
-ghost use Rattle.std.specs.Prelude.{◌≡◌, ◌++◌, ◌∷◌, ◌<◌, [], All, List, ℕ, length, slice_index_or};
+ghost use Rattle.std.specs.Prelude.{◌≡◌, ◌++◌, ◌∷◌, ◌<◌, [], List, length};
 ghost use mathlib.Core.List.{IsPrefix};
 ghost use Rattle.decision_script.specs.declared.item.Act.{Act as OfAct};
 ghost use Rattle.decision_script.specs.declared.item.Act.TheVariants.{Decide, Look};
-ghost use Rattle.live_study.specs.Asking.{HasAsked, IsReady, IsDone, IsSameAnalyst};
+ghost use Rattle.live_study.specs.Asking.{HasAsked, IsReady, IsSameAnalyst};
 ghost use Rattle.live_study.specs.Looks.{HasRacks, IsNoEarlier, IsRead};
-ghost use Rattle.live_study.specs.Showing.{HasLooked, HasReserved};
+ghost use Rattle.live_study.specs.Opening.{AreReadyAll};
+ghost use Rattle.live_study.specs.Showing.{HasActed, HasLooked, HasReserved, HaveActed, MayAct};
 
 use crate::analyst::Analyst;
 use crew_pool::Gate;
 use decision_desk::Desk;
-use decision_script::Act;
+use decision_script::{Act, MOST_ANALYSTS};
 use journal_text::Looked;
 use net_model::Model;
 use shelf::{Naming, Seat};
@@ -117,9 +118,7 @@ pub(crate) fn act_all<J: Naming, G: Gate, R: Wait>(
     requires ready { IsReady desk.now.table.shared.table_id analyst.old }
     requires none { HasLooked model.now [] (analyst.old, seat.old) }
     requires reserved { HasReserved analyst.old }
-    ensures done { IsDone desk.now.table.shared.table_id analyst.new }
-    ensures looked { HasLooked model.now analyst.new.todo.items (analyst.new, seat.new) }
-    ensures same { IsSameAnalyst analyst.old analyst.new }
+    ensures acted { HasActed desk.now.table.shared.table_id model.now (analyst.old, seat.old) (analyst.new, seat.new) }
 {
     for k in 0..analyst.todo.len() {
         gate.before_call(rt, analyst.number, k as u32);
@@ -136,26 +135,16 @@ pub(crate) fn act_everyone<J: Naming + Send + Sync, G: Gate, R: Threads + Wait +
     model: &Model,
     mut seated: Vec<(Analyst, Seat<J>)>,
 ) -> Vec<(Analyst, Seat<J>)>
-    requires { All (λ a. IsReady desk.now.table.shared.table_id a.0 × HasLooked model.now [] a × HasReserved a.0)
-        seated.items }
-    ensures len { length result.items ≡ length seated.items }
-    ensures done { (i : ℕ) (d : _) → i < length seated.items →
-        IsDone desk.now.table.shared.table_id (slice_index_or result.items i d).0 }
-    ensures looked { (i : ℕ) (d : _) → i < length seated.items →
-        HasLooked model.now (slice_index_or result.items i d).0.todo.items (slice_index_or result.items i d) }
-    ensures same { (i : ℕ) (d : _) → i < length seated.items →
-        IsSameAnalyst (slice_index_or seated.items i d).0 (slice_index_or result.items i d).0 }
+    requires { AreReadyAll desk.now.table.shared.table_id model.now seated.items }
+    ensures acted { HaveActed desk.now.table.shared.table_id model.now seated.items result.items }
 {
     thread::for_each_mut(
         rt,
         seated.as_mut_slice(),
-        16,
+        MOST_ANALYSTS,
         &|_i: usize, one: &mut (Analyst, Seat<J>)|
-            requires { IsReady desk.now.table.shared.table_id one.old.0 × HasLooked model.now [] one.old
-                × HasReserved one.old.0 }
-            ensures { IsDone desk.entry.now.table.shared.table_id one.exit.now.0
-                × HasLooked model.entry.now one.exit.now.0.todo.items one.exit.now
-                × IsSameAnalyst one.entry.now.0 one.exit.now.0 }
+            requires { MayAct desk.now.table.shared.table_id model.now one.old }
+            ensures { HasActed desk.entry.now.table.shared.table_id model.entry.now one.entry.now one.exit.now }
         {
             let (analyst, seat) = one;
             act_all(rt, desk, gate, model, analyst, seat)

@@ -2,15 +2,16 @@
 ghost use Rattle.live_study.specs.Driving.{HasDriven, MayDrive};
 
 use crate::engine::drive_alone;
-use crew_pool::{Crew, Gate, Kind};
+use crew_pool::{Crew, Gate};
 use decision_desk::{Desk, Helm};
 use shelf::{Naming, Stocker};
-use standing_crew::{Bell, Member, Team, serve_all};
+use standing_crew::{Bell, Member, serve_all};
 use std::alloc::Global;
 use std::sync::Wait;
 use std::thread;
 use std::thread::Threads;
 use study_run::StudyFault;
+use study_run::crew::begin_team;
 use world_core::{Window, World};
 
 // The engine runs to the horizon, and then tells the workers that no more windows come.
@@ -88,20 +89,11 @@ pub(crate) fn drive_with_team<
     requires may_drive { MayDrive desk.now.table.shared.table_id helm world stocker.published }
     ensures driven { HasDriven helm result.0 result.1.published result.2 }
 {
-    let workers = match crew.kind() {
-        Kind::Serial => {
-            return drive_alone(rt, alloc, crew, gate, desk, helm, world, stocker, watched);
-        }
-        Kind::Forked(workers) => workers,
-        Kind::Stealing(workers) => workers,
-    };
-    if let Ok((team, members)) = Team::begin(alloc, workers) {
-        if let Ok(bell) = team.bell() {
-            let world = world.with_team(team);
-            return drive_beside(
-                rt, alloc, crew, gate, desk, helm, world, stocker, watched, members, &bell,
-            );
-        }
+    if let Some((team, members, bell)) = begin_team(alloc, crew.kind()) {
+        let world = world.with_team(team);
+        return drive_beside(
+            rt, alloc, crew, gate, desk, helm, world, stocker, watched, members, &bell,
+        );
     }
     drive_alone(rt, alloc, crew, gate, desk, helm, world, stocker, watched)
 }

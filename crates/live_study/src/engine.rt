@@ -1,9 +1,8 @@
 //! The engine's part: conservative time windows up to the fronts that the desk gives, until the horizon.
 ghost use Rattle.std.specs.Prelude.{◌≡◌, ◌-◌, ◌<◌, ◌≤◌, length, IfOk, IfErr, OnOk};
 ghost use Rattle.decision_desk.specs.Leasts.{leasts_of};
-ghost use Rattle.live_study.specs.Driving.{HasDriven, MayDrive};
+ghost use Rattle.live_study.specs.Driving.{HasDriven, MayDrive, MayShow, MayTurn};
 ghost use Rattle.live_study.specs.Engines.{InStep, IsAhead, Steers, StopsAt};
-ghost use Rattle.live_study.specs.Looks.{AreAtFront};
 ghost use Rattle.live_study.specs.Showing.{AreShownOf, AreShownTo, Raises};
 
 use crew_pool::{Crew, Gate};
@@ -38,9 +37,7 @@ fn take_turn<R: Wait>(
     helm: &mut Helm,
     world: World,
 ) -> Result<(World, u64), NoMemory>
-    requires desk { helm.old.desk ≡ desk.now.table.shared.table_id }
-    requires in_step { InStep helm.old world }
-    requires below { world.front < world.net.horizon }
+    requires may_turn { MayTurn desk.now.table.shared.table_id helm.old world }
     ensures steers { Steers helm.old helm.new }
     ensures ahead { IfOk result (λ r. IsAhead helm.new r.0 r.1) }
     ensures raises { IfOk result (λ r. Raises helm.old helm.new r.1) }
@@ -72,9 +69,7 @@ fn show_one<J: Naming, W: Wait + Drop>(
 ) -> Result<(), NoMemory>
     requires low { 1 ≤ station }
     requires high { station ≤ length world.old.net.sites }
-    requires net { world.old.net ≡ helm.now.net }
-    requires at { AreAtFront helm.now.net helm.now.helm world.old.front world.old.clones }
-    requires shown { AreShownTo helm.now world.old (station - 1) stocker.old.published }
+    requires may_show { MayShow helm.now world.old (station - 1) stocker.old.published }
     ensures same { world.new ≡ world.old }
     ensures shown { OnOk result (AreShownTo helm.now world.old station stocker.new.published) }
 {
@@ -90,9 +85,7 @@ fn show<J: Naming, W: Wait + Drop>(
     stocker: &mut Stocker<J, W>,
     watched: &[bool],
 ) -> Result<(), NoMemory>
-    requires net { world.old.net ≡ helm.now.net }
-    requires at { AreAtFront helm.now.net helm.now.helm world.old.front world.old.clones }
-    requires shown { AreShownTo helm.now world.old 0 stocker.old.published }
+    requires may_show { MayShow helm.now world.old 0 stocker.old.published }
     ensures same { world.new ≡ world.old }
     ensures shown { OnOk result (AreShownOf helm.now world.old stocker.new.published) }
 {
@@ -117,9 +110,7 @@ fn take_window<C: Crew, G: Gate, L: Ledger, R: Threads + Wait + Sync>(
     world: World,
     steps: &mut Steps<L>,
 ) -> Result<World, StudyFault>
-    requires desk { helm.old.desk ≡ desk.now.table.shared.table_id }
-    requires in_step { InStep helm.old world }
-    requires below { world.front < world.net.horizon }
+    requires may_turn { MayTurn desk.now.table.shared.table_id helm.old world }
     ensures steers { Steers helm.old helm.new }
     ensures in_step { IfOk result (λ w. InStep helm.new w) }
     ensures raises { IfOk result (λ w. Raises helm.old helm.new w.front) }
@@ -151,9 +142,7 @@ fn go_on<C: Crew, G: Gate, J: Naming, L: Ledger, W: Wait + Drop, R: Threads + Wa
     watched: &[bool],
     steps: &mut Steps<L>,
 ) -> Result<World, StudyFault>
-    requires desk { helm.old.desk ≡ desk.now.table.shared.table_id }
-    requires in_step { InStep helm.old world }
-    requires below { world.front < world.net.horizon }
+    requires may_turn { MayTurn desk.now.table.shared.table_id helm.old world }
     requires shown { AreShownOf helm.old world stocker.old.published }
     ensures steers { Steers helm.old helm.new }
     ensures in_step { IfOk result (λ w. InStep helm.new w) }

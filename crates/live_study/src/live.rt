@@ -1,15 +1,16 @@
 //! The users of an interactive simulation, the analysts, beside its engine.
-ghost use Rattle.std.specs.Prelude.{◌≡◌, ◌⊎◌, ℕ, ◌+◌, ◌<◌, ◌≤◌, [], ◌++◌, length, map, All};
-ghost use Rattle.std.specs.Prelude.{Ok, Err, IfOk, IfErr, true, slice_index_or, vec_len, vec_capacity};
+ghost use Rattle.std.specs.Prelude.{◌≡◌, ◌⊎◌, ◌+◌, ◌≤◌, [], ◌++◌, length, map, All};
+ghost use Rattle.std.specs.Prelude.{Ok, Err, IfOk, IfErr, true, vec_len, vec_capacity};
 ghost use mathlib.Core.List.{IsPrefix};
 ghost use Rattle.decision_book.specs.declared.call.TheConstants.{MOST_CALLS};
 ghost use Rattle.shelf.specs.Racks.{AreLegal};
-ghost use Rattle.live_study.specs.Asking.{IsDone, IsSameAnalyst, total_todo};
+ghost use Rattle.decision_desk.specs.declared.desk.TheConstants.{ALL_PARTS};
+ghost use Rattle.live_study.specs.Asking.{total_todo};
 ghost use Rattle.live_study.specs.Driving.{HasDriven, MayDrive};
 ghost use Rattle.live_study.specs.Lives.{AreTrueLooks, IsAllAsked, IsAtHorizon, IsStopped, looks_made};
 ghost use Rattle.live_study.specs.Looks.{AreCaughtUp, HasRacks, IsAt};
 ghost use Rattle.live_study.specs.Opening.{AreReadyAll, HasReservedFor};
-ghost use Rattle.live_study.specs.Showing.{AllCaughtUp, HasLooked, looks_to_make};
+ghost use Rattle.live_study.specs.Showing.{AllCaughtUp, HaveActed, looks_to_make};
 
 use crate::analyst::Analyst;
 use crate::asking::act_everyone;
@@ -53,13 +54,7 @@ fn side_by_side<
     requires may_drive { MayDrive desk.now.table.shared.table_id helm world stocker.published }
     requires ready { AreReadyAll desk.now.table.shared.table_id model.now seated.items }
     ensures driven { HasDriven helm result.0.0 result.0.1.published result.0.2 }
-    ensures len { length result.1.items ≡ length seated.items }
-    ensures done { (i : ℕ) (d : _) → i < length seated.items →
-        IsDone desk.now.table.shared.table_id (slice_index_or result.1.items i d).0 }
-    ensures looked { (i : ℕ) (d : _) → i < length seated.items →
-        HasLooked model.now (slice_index_or result.1.items i d).0.todo.items (slice_index_or result.1.items i d) }
-    ensures same { (i : ℕ) (d : _) → i < length seated.items →
-        IsSameAnalyst (slice_index_or seated.items i d).0 (slice_index_or result.1.items i d).0 }
+    ensures acted { HaveActed desk.now.table.shared.table_id model.now seated.items result.1.items }
 {
     thread::join(
         rt,
@@ -69,14 +64,7 @@ fn side_by_side<
         { drive_with_team(rt, alloc, crew, gate, desk, helm, world, stocker, watched) },
         move || -> Vec<(Analyst, Seat<J>)>
             requires { AreReadyAll desk.now.table.shared.table_id model.now seated.items }
-            ensures { (length result.items ≡ length seated.items)
-                × ((i : ℕ) (d : _) → i < length seated.items →
-                IsDone desk.entry.now.table.shared.table_id (slice_index_or result.items i d).0)
-                × ((i : ℕ) (d : _) → i < length seated.items →
-                HasLooked model.entry.now (slice_index_or result.items i d).0.todo.items
-                (slice_index_or result.items i d))
-                × ((i : ℕ) (d : _) → i < length seated.items →
-                IsSameAnalyst (slice_index_or seated.items i d).0 (slice_index_or result.items i d).0) }
+            ensures { HaveActed desk.entry.now.table.shared.table_id model.entry.now seated.items result.items }
         { act_everyone(rt, desk, gate, model, seated) },
     )
 }
@@ -201,7 +189,7 @@ pub(crate) fn run_live<
 ) -> LiveRun
     requires may_drive { MayDrive desk.table.shared.table_id helm world stocker.published }
     requires net { helm.net ≡ model.now }
-    requires parts { helm.parts + length seated.items ≡ 17 }
+    requires parts { helm.parts + length seated.items ≡ ALL_PARTS }
     requires fresh { helm.accounts ≡ [] }
     requires ready { AreReadyAll desk.table.shared.table_id model.now seated.items }
     requires few { total_todo seated.items ≤ MOST_CALLS }

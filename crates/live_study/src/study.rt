@@ -2,6 +2,7 @@
 ghost use Rattle.std.specs.Prelude.{◌≡◌, ◌+◌, ◌∷◌, ◌≤◌, [], length, map, IfOk, IfErr, OnErr};
 ghost use Rattle.std.specs.List.{AllByRecursion};
 ghost use Rattle.sim_base.specs.Clones.{base};
+ghost use Rattle.net_model.specs.declared.limits.TheConstants.{MOST_STATIONS};
 ghost use Rattle.decision_desk.specs.Passes.{new_helm, new_passes};
 ghost use Rattle.shelf.specs.Racks.{MayOpen};
 ghost use Rattle.world_core.specs.Worlds.{total_handled};
@@ -96,7 +97,7 @@ fn take_seats<J: Naming, W: Wait + Drop>(
 ) -> Result<(Stocker<J, W>, Vec<(Analyst, Seat<J>)>), NoMemory>
     requires name { opened.seen.book ≡ J.book }
     requires opening { MayOpen racks.items }
-    requires few { length racks.items ≤ 64 }
+    requires few { length racks.items ≤ MOST_STATIONS }
     requires many { length passes.items ≡ length script.now.analysts }
     ensures published { IfOk result (λ r. r.0.published ≡ racks.items) }
     ensures passes { IfOk result (λ r. map (λ a. a.0.pass) r.1.items ≡ passes.items) }

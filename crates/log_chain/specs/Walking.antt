@@ -2,5 +2,5 @@
 use Rattle.std.specs.Prelude.{◌≡◌, List, [], length}
 
 -- the part where the walk is has an entry, or no part is left
-abbrev pub IsSettled : {P S B : Type 0} → List P → List S → List B → Type 0
-IsSettled packed segments blocks = length packed ≡ 0 → (segments ≡ []) × (blocks ≡ [])
+abbrev pub HasEntryOrEnds : {P S B : Type 0} → List P → List S → List B → Type 0
+HasEntryOrEnds packed segments blocks = length packed ≡ 0 → (segments ≡ []) × (blocks ≡ [])

@@ -3,7 +3,7 @@ ghost use Rattle.std.specs.Prelude.{◌≡◌, ◌++◌, ◌∷◌, [], OnOk, On
 ghost use Rattle.log_chain.specs.Blocks.{all_of, AreBlocks};
 ghost use Rattle.log_chain.specs.Packing.{FitWords};
 
-use crate::run::Run;
+use crate::entry_list::EntryList;
 use sim_base::{Entry, NoMemory};
 use std::alloc::Global;
 
@@ -11,7 +11,7 @@ use std::alloc::Global;
 pub const BLOCK: usize = 64;
 
 /// Adds an entry behind those of the blocks: to the last one, or to a new one where that is full.
-pub fn push(blocks: &mut Vec<Run>, entry: &Entry) -> Result<(), NoMemory>
+pub fn push(blocks: &mut Vec<EntryList>, entry: &Entry) -> Result<(), NoMemory>
     requires blocks { AreBlocks blocks.old.items }
     ensures blocks { AreBlocks blocks.new.items }
     ensures ok { OnOk result (all_of blocks.new.items ≡ all_of blocks.old.items ++ entry.now ∷ []) }
@@ -21,14 +21,14 @@ pub fn push(blocks: &mut Vec<Run>, entry: &Entry) -> Result<(), NoMemory>
     if count > 0 && blocks[count - 1].len() < BLOCK {
         return blocks[count - 1].push(entry);
     }
-    let mut block = Run::with_capacity(*blocks.allocator(), BLOCK)?;
+    let mut block = EntryList::with_capacity(*blocks.allocator(), BLOCK)?;
     block.push(entry)?;
     blocks.push(block)?;
     Ok(())
 }
 
 /// Second blocks with the same entries.
-pub fn copies(alloc: Global, blocks: &[Run]) -> Result<Vec<Run>, NoMemory>
+pub fn copy_blocks(alloc: Global, blocks: &[EntryList]) -> Result<Vec<EntryList>, NoMemory>
     ensures value { IfOk result (λ v. v.items ≡ blocks.now) }
 {
     let mut copies = Vec::with_capacity(alloc, blocks.len())?;
@@ -39,7 +39,7 @@ pub fn copies(alloc: Global, blocks: &[Run]) -> Result<Vec<Run>, NoMemory>
 }
 
 /// Whether all their entries are packed.
-pub fn are_packed(blocks: &[Run]) -> bool
+pub fn are_packed(blocks: &[EntryList]) -> bool
     ensures words { IsTrue result → FitWords (all_of blocks.now) }
 {
     for block in blocks {

@@ -5,7 +5,7 @@
 //! in blocks, so `share` keeps one copy of that past:
 //!
 //! ```text
-//! [ entries 0 .. 999 ]--[ 1000 .. 1499 ]--[64]-[64]-[17]    one half
+//! [ entries 0 .. 999 ]--[ 1000 .. 1399 ]--[64]-[64]-[17]    one half
 //!                                      `--[64]-[3]          the other
 //! ```
 //!
@@ -31,9 +31,9 @@
 #![tactic(auto)]
 
 mod blocks;
+mod entry_list;
 pub mod log;
 pub mod packed;
-mod run;
 mod segments;
 pub mod stored;
 pub mod walk;

@@ -5,7 +5,7 @@ ghost use Rattle.log_chain.specs.Packing.{FitWords};
 ghost use Rattle.log_chain.specs.Times.{RiseByTime, from_time, times_of};
 
 use crate::blocks;
-use crate::run::Run;
+use crate::entry_list::EntryList;
 use crate::segments::{Segment, are_packed, joined, place_behind, put_behind, shared};
 use crate::walk::{Walk, from_block, from_segment};
 use sim_base::{Entry, NoMemory};
@@ -22,7 +22,7 @@ pub struct Log {
     segments: Vec<Segment>,
     // how many entries the segments have
     shared: u64,
-    blocks: Vec<Run>,
+    blocks: Vec<EntryList>,
     // how many entries the blocks have
     more: usize,
 }
@@ -76,14 +76,14 @@ impl Log {
         if self.more == 0 {
             return Ok(());
         }
-        let (stay, size) = place_behind(self.segments.as_slice(), self.more);
+        let (before, size) = place_behind(self.segments.as_slice(), self.more);
         let segment = joined(
             alloc,
             size,
-            &self.segments.as_slice()[stay..],
+            &self.segments.as_slice()[before..],
             self.blocks.as_slice(),
         )?;
-        put_behind(&mut self.segments, stay, segment)?;
+        put_behind(&mut self.segments, before, segment)?;
         self.shared += self.more as u64;
         self.blocks = Vec::new(alloc);
         self.more = 0;
@@ -106,7 +106,7 @@ impl Log {
         Ok(Log {
             segments: shared(alloc, self.segments.as_slice())?,
             shared: self.shared,
-            blocks: blocks::copies(alloc, self.blocks.as_slice())?,
+            blocks: blocks::copy_blocks(alloc, self.blocks.as_slice())?,
             more: self.more,
         })
     }

@@ -2,7 +2,7 @@
 ghost use Rattle.std.specs.Prelude.{◌≡◌, true, false, IfSome};
 ghost use Rattle.sim_base.specs.declared.message.Job.{Job as JobOf};
 ghost use Rattle.log_chain.specs.Packing.{set_of, payload_of, key_of, msg_of, line_of};
-ghost use Rattle.log_chain.specs.Packing.{packed_entry, is_wide, entry_of, IsNarrow};
+ghost use Rattle.log_chain.specs.Packing.{packed_entry, is_wide, IsNarrow};
 
 use sim_base::{Change, Entry, Job, Key, Line, Msg, Param, Payload};
 
@@ -118,31 +118,6 @@ pub fn pack(entry: &Entry) -> Option<Packed>
     let msg = pack_msg(&entry.msg)?;
     let line = pack_line(&entry.line)?;
     Some(Packed { msg, line })
-}
-
-/// The entry of a packed one; `wide` is the side list.
-#[inline(always)]
-pub fn unpack(packed: &Packed, wide: &[Entry]) -> Entry
-    ensures value { result ≡ entry_of wide.now packed.now }
-{
-    if is_wide(&packed.msg) && (packed.msg.count as usize) < wide.len() {
-        wide[packed.msg.count as usize]
-    } else {
-        packed.entry()
-    }
-}
-
-/// The key of an entry, read without the rest of it.
-#[inline(always)]
-pub fn key_at(packed: &Packed, wide: &[Entry]) -> Key
-    ensures value { result ≡ (entry_of wide.now packed.now).msg.key }
-{
-    let msg = &packed.msg;
-    if is_wide(msg) && (msg.count as usize) < wide.len() {
-        wide[msg.count as usize].msg.key
-    } else {
-        unpack_key(msg)
-    }
 }
 
 /// The packed form of the entry at a place of the side list.

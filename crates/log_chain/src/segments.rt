@@ -1,17 +1,17 @@
-//! Segments: runs of entries that several logs may share.
+//! Segments: entries that several logs may share.
 ghost use Rattle.std.specs.Prelude.{◌≡◌, ◌++◌, ◌∷◌, [], ◌+◌, ◌*◌, ◌^◌, ◌<◌};
 ghost use Rattle.std.specs.Prelude.{◌≤◌, length, take, drop, OnOk, OnErr, IfOk, IsTrue};
 ghost use Rattle.log_chain.specs.Segments.{entries_of_segment, entries_in, lengths, IsFit};
 ghost use Rattle.log_chain.specs.Blocks.{all_of};
 ghost use Rattle.log_chain.specs.Packing.{FitWords};
 
-use crate::run::Run;
+use crate::entry_list::EntryList;
 use sim_base::NoMemory;
 use std::alloc::Global;
 use std::sync::Arc;
 
-/// A run of entries that logs share.
-pub type Segment = Arc<Run>;
+/// Entries that logs share.
+pub type Segment = Arc<EntryList>;
 
 /// The same segments, shared with another log.
 pub fn shared(alloc: Global, segments: &[Segment]) -> Result<Vec<Segment>, NoMemory>
@@ -33,13 +33,13 @@ pub fn place_behind(segments: &[Segment], size: usize) -> (usize, usize)
     ensures size { result.1 ≡ length (entries_in (drop result.0 segments.now)) + size }
     ensures fit { IsFit (lengths segments.now) result.0 result.1 }
 {
-    let mut stay = segments.len();
+    let mut before = segments.len();
     let mut size = size;
-    while stay > 0 && segments[stay - 1].len() <= 2 * size {
-        stay -= 1;
-        size += segments[stay].len();
+    while before > 0 && segments[before - 1].len() <= 2 * size {
+        before -= 1;
+        size += segments[before].len();
     }
-    (stay, size)
+    (before, size)
 }
 
 /// A new segment: the entries of the segments and then those of the blocks, `size` entries together.
@@ -47,32 +47,32 @@ pub fn joined(
     alloc: Global,
     size: usize,
     segments: &[Segment],
-    blocks: &[Run],
+    blocks: &[EntryList],
 ) -> Result<Segment, NoMemory>
     ensures value { IfOk result (λ s. entries_of_segment s ≡ entries_in segments.now ++ all_of blocks.now) }
 {
-    let mut run = Run::with_capacity(alloc, size)?;
+    let mut list = EntryList::with_capacity(alloc, size)?;
     for segment in segments {
-        run.append(segment)?;
+        list.append(segment)?;
     }
     for block in blocks {
-        run.append(block)?;
+        list.append(block)?;
     }
-    Ok(Arc::new(alloc, run)?)
+    Ok(Arc::new(alloc, list)?)
 }
 
 /// Puts a segment behind the first `before` ones, in place of the others.
 pub fn put_behind(
     segments: &mut Vec<Segment>,
-    stay: usize,
+    before: usize,
     segment: Segment,
 ) -> Result<(), NoMemory>
-    requires within { stay ≤ length segments.old.items }
-    ensures ok { OnOk result (segments.new.items ≡ take stay segments.old.items ++ segment ∷ []) }
+    requires within { before ≤ length segments.old.items }
+    ensures ok { OnOk result (segments.new.items ≡ take before segments.old.items ++ segment ∷ []) }
     ensures err { OnErr result (segments.new.items ≡ segments.old.items) }
 {
-    segments.insert(stay, segment)?;
-    segments.truncate(stay + 1);
+    segments.insert(before, segment)?;
+    segments.truncate(before + 1);
     Ok(())
 }
 

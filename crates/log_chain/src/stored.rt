@@ -1,8 +1,8 @@
 //! One entry as a log stores it.
 ghost use Rattle.std.specs.Prelude.{◌≡◌};
 
-use crate::packed::{Packed, is_wide, unpack};
-use sim_base::Entry;
+use crate::packed::{Packed, is_wide};
+use sim_base::{Entry, Key};
 
 /// An entry of a log as the log stores it: packed in 32 bytes, or whole where a number of it is too large. What writes
 /// a packed entry somewhere else reads it part by part, and never has the whole entry in memory.
@@ -25,6 +25,17 @@ impl<'a> StoredEntry<'a> {
             StoredEntry::Whole(&wide[packed.msg.count as usize])
         } else {
             StoredEntry::Packed(packed)
+        }
+    }
+
+    /// The key of its message, read without the rest.
+    #[inline(always)]
+    pub(crate) fn key(self) -> Key
+        ensures value { result ≡ (entry_in self.entry).msg.key }
+    {
+        match self {
+            StoredEntry::Packed(packed) => packed.key(),
+            StoredEntry::Whole(entry) => entry.msg.key,
         }
     }
 

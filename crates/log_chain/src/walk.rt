@@ -5,8 +5,8 @@ ghost use Rattle.log_chain.specs.Segments.{entries_in};
 ghost use Rattle.log_chain.specs.Stored.{entry_in};
 
 use crate::blocks::BLOCK;
-use crate::packed::{Packed, key_at};
-use crate::run::Run;
+use crate::entry_list::EntryList;
+use crate::packed::Packed;
 use crate::segments::Segment;
 use crate::stored::StoredEntry;
 use sim_base::{Entry, Key};
@@ -20,7 +20,7 @@ pub struct Walk<'a> {
     wide: &'a [Entry],
     // the parts after it
     segments: &'a [Segment],
-    blocks: &'a [Run],
+    blocks: &'a [EntryList],
     // bytes of entries some places on: reading them early brings their memory near
     ahead: u8,
 }
@@ -33,13 +33,13 @@ impl<'a> Model for Walk<'a> {
     ghost use Rattle.log_chain.specs.Packing.{entries_of};
     ghost use Rattle.log_chain.specs.Blocks.{all_of};
     ghost use Rattle.log_chain.specs.Segments.{entries_in};
-    ghost use Rattle.log_chain.specs.Walking.{IsSettled};
+    ghost use Rattle.log_chain.specs.Walking.{HasEntryOrEnds};
 
     ghost Value = { List (Entry Msg Line) };
 
     ghost view = { λ w. entries_of w.wide.now w.packed.now ++ (entries_in w.segments.now ++ all_of w.blocks.now) };
 
-    ghost invariant = { λ w. IsSettled w.packed.now w.segments.now w.blocks.now };
+    ghost invariant = { λ w. HasEntryOrEnds w.packed.now w.segments.now w.blocks.now };
 }
 
 impl<'a> Walk<'a> {
@@ -83,7 +83,7 @@ impl<'a> Walk<'a> {
         ensures value { result ≡ option_map (λ e. e.msg.key) (slice_get self.now 0) }
     {
         let packed = self.packed.first()?;
-        Some(key_at(packed, self.wide))
+        Some(StoredEntry::new(packed, self.wide).key())
     }
 }
 
@@ -97,7 +97,7 @@ fn bytes_ahead(rest: &[Packed]) -> u8 {
 }
 
 /// A walk along all of the segments and blocks.
-pub fn along<'a>(segments: &'a [Segment], blocks: &'a [Run]) -> Walk<'a>
+pub fn along<'a>(segments: &'a [Segment], blocks: &'a [EntryList]) -> Walk<'a>
     ensures value { result ≡ entries_in segments.now ++ all_of blocks.now }
 {
     for (i, segment) in segments.iter().enumerate() {
@@ -115,7 +115,7 @@ pub fn along<'a>(segments: &'a [Segment], blocks: &'a [Run]) -> Walk<'a>
     along_blocks(blocks)
 }
 
-fn along_blocks<'a>(blocks: &'a [Run]) -> Walk<'a>
+fn along_blocks<'a>(blocks: &'a [EntryList]) -> Walk<'a>
     ensures value { result ≡ all_of blocks.now }
 {
     for (i, block) in blocks.iter().enumerate() {
@@ -134,7 +134,7 @@ fn along_blocks<'a>(blocks: &'a [Run]) -> Walk<'a>
 }
 
 /// A walk from a place among the segments' entries on.
-pub fn from_segment<'a>(segments: &'a [Segment], blocks: &'a [Run], at: usize) -> Walk<'a>
+pub fn from_segment<'a>(segments: &'a [Segment], blocks: &'a [EntryList], at: usize) -> Walk<'a>
     requires there { at < length (entries_in segments.now) }
     ensures value { result ≡ drop at (entries_in segments.now ++ all_of blocks.now) }
 {
@@ -156,7 +156,7 @@ pub fn from_segment<'a>(segments: &'a [Segment], blocks: &'a [Run], at: usize) -
 }
 
 /// A walk from a place among the blocks' entries on.
-pub fn from_block<'a>(blocks: &'a [Run], at: usize) -> Walk<'a>
+pub fn from_block<'a>(blocks: &'a [EntryList], at: usize) -> Walk<'a>
     requires sizes { AreBlocks blocks.now }
     ensures value { result ≡ drop at (all_of blocks.now) }
 {

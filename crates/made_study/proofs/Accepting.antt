@@ -11,7 +11,7 @@ use Rattle.decision_book.specs.Replies.{reply}
 use Rattle.decision_book.specs.declared.call.Reply.TheVariants.{Accepted}
 use Rattle.decision_script.specs.Alone.{decisions}
 use Rattle.std.proofs.lemmas.Bool.Decides.{nat_tests}
-use Rattle.net_model.specs.Net.{Net, number_of, site_of}
+use Rattle.net_model.specs.Net.{Net, station_named, site_of}
 use Rattle.stations.specs.Changes.{accepts}
 use Rattle.sim_base.specs.declared.message.Change.{Change}
 use Rattle.sim_base.specs.declared.decision.Decision.TheVariants.{Set}
@@ -39,7 +39,7 @@ record IsNextPlan (n others count : ℕ) : Type 0 where
       ≡ after_plans n others (count + 1)
 
 -- the first ward is the third station
-first_ward : (n others : ℕ) → number_of (ward_name 1) (net_with n (suc others)) ≡ Some 3
+first_ward : (n others : ℕ) → station_named (ward_name 1) (net_with n (suc others)) ≡ Some 3
 unfolding digits
 first_ward n others =
     let sites = made_sites n (suc others) in
@@ -52,7 +52,7 @@ set_accepted : (net : Net) (clones : List Clone) (calls c at : ℕ) (who station
     → (0 == net.horizon) ≡ false
     → place_of who clones ≡ Some c
     → (clone_at clones c).end ≡ None
-    → number_of station net ≡ Some 3
+    → station_named station net ≡ Some 3
     → accepts (site_of net 3) change ≡ Ok tt
     → nat_le MOST_DECISIONS (length (clone_at clones c).plans) ≡ false
     → nat_le net.horizon at ≡ false
@@ -69,7 +69,7 @@ not_late at = grind (arith, nat_tests)
 set_leads : (net : Net) (clones : List Clone) (calls c at : ℕ) (who station : List ℕ) (change : Change)
     → reply (record { net = net; clones = clones; front = 0; calls = calls }) (Set who at station change) ≡ Accepted
     → place_of who clones ≡ Some c
-    → number_of station net ≡ Some 3
+    → station_named station net ≡ Some 3
     → next (record { net = net; clones = clones; front = 0; calls = calls }) (Set who at station change)
     ≡ record {
       net = net;

@@ -1,5 +1,5 @@
 //! The text of the made script.
-ghost use Rattle.std.specs.Prelude.{◌≡◌, ◌≤◌, ◌++◌, ◌∷◌, [], OnOk, IfOk, string_bytes};
+ghost use Rattle.std.specs.Prelude.{◌≡◌, ◌≤◌, ◌++◌, OnOk, IfOk, string_bytes};
 ghost use Rattle.decision_script.specs.Printing.{canonical_text, line_text, words_of_decision};
 ghost use Rattle.made_study.specs.Scripts.{fork_of_plan, made_script, parent, set_of_plan};
 

@@ -12,7 +12,7 @@ use Rattle.mailbox.specs.declared.mail.MailView.{MailView}
 use Rattle.mailbox.specs.declared.mail.MailView.TheVariants.{Alone, Opening, Holding, Sent, Idle, Working}
 use Rattle.mailbox.specs.Mail.{Slot, Hand, Mail, unshared, unopened, empty, waits, taken, answered}
 use Rattle.mailbox.specs.Mail.{caller_of, worker_of, state_of, IsRight, IsMailbox}
-use Rattle.mailbox.specs.Mail.{HasOpened, HasGiven, HasUndone, HasCollected, HasTaken, HasAnswered}
+use Rattle.mailbox.specs.Mail.{HasOpened, HasGiven, HasUndone, HasCollected, HasTaken, HasGivenAnswer}
 
 -- whether a seat with this view is the caller's
 abbrev calls : {T : Type 0} → MailView T → Bool
@@ -212,7 +212,7 @@ module _ {T A : Type 0} where
 
   leaves_in : (answers : T → A → Type 0) (x : T) (a : A) → answers x a → (mail : Mail T A) → IsRight answers mail
       → worker_of mail ≡ Working x ∷ []
-      → Shows answers (Working x, (0, Some (Answer a)) ∷ []) (λ _. ANSWERED) (λ m _ w. HasAnswered m w)
+      → Shows answers (Working x, (0, Some (Answer a)) ∷ []) (λ _. ANSWERED) (λ m _ w. HasGivenAnswer m w)
       (state_of mail) 1
   leaves_in answers x a is unshared r e = absurd cc
   leaves_in answers x a is unopened r e = absurd cc
@@ -226,10 +226,10 @@ module _ {T A : Type 0} where
   -- the worker may give an answer to its task
   pub leaves : (answers : T → A → Type 0) (x : T) (a : A) → answers x a → (slots id : ℕ) (m : Hand T A)
       → m ≡ (Working x, (0, Some (Answer a)) ∷ [])
-      → Allows (IsMailbox answers) slots id m 0 (λ _. ANSWERED) (λ _ w. HasAnswered m w)
+      → Allows (IsMailbox answers) slots id m 0 (λ _. ANSWERED) (λ _ w. HasGivenAnswer m w)
   leaves answers x a right slots id m is =
       by_worker answers slots id m (Working x, (0, Some (Answer a)) ∷ []) (λ _. ANSWERED)
-      (λ m _ w. HasAnswered m w) is refl (leaves_in answers x a right)
+      (λ m _ w. HasGivenAnswer m w) is refl (leaves_in answers x a right)
 
   -- ---- and the caller collects the answer
 

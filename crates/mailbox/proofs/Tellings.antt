@@ -19,22 +19,22 @@ module _ {T A : Type 0} where
   has_slot m v x is = (x, subst (λ (h : Hand T A). h.1 ≡ (0, x) ∷ rest h.1) (sym is) refl)
 
   -- where the step found that the task waited still, the caller has its letter back
-  pub undone : (m m' : Hand T A) (n : ℕ) (x : T) → m ≡ (Sent x, []) → HasUndone m n m' → n ≡ WAITS
+  pub HasUndone-hit : (m m' : Hand T A) (n : ℕ) (x : T) → m ≡ (Sent x, []) → HasUndone m n m' → n ≡ WAITS
       → m' ≡ (Holding, (0, Some (Task x)) ∷ [])
-  undone m m' n x is told hit =
+  HasUndone-hit m m' n x is told hit =
       let here : HasUndone m WAITS m' = subst (λ k. HasUndone m k m') hit told in
       here ∙ ap (λ (h : Hand T A). (Holding, (0, letter_of h.0) ∷ h.1)) is
 
   -- where it found a task, the worker has it
-  pub taken : (m m' : Hand T A) (n : ℕ) → m ≡ (Idle, []) → HasTaken m n m' → n ≡ WAITS
+  pub HasTaken-hit : (m m' : Hand T A) (n : ℕ) → m ≡ (Idle, []) → HasTaken m n m' → n ≡ WAITS
       → (x : T) × (m' ≡ (Working x, (0, Some (Task x)) ∷ []))
-  taken m m' n is told hit =
+  HasTaken-hit m m' n is told hit =
       let here : HasTaken (Idle, []) WAITS m' = subst (λ h. HasTaken h WAITS m') is
       (subst (λ k. HasTaken m k m') hit told) in here
 
   -- where it found an answer, the caller has it, and it is one to the task
-  pub collected : (answers : T → A → Type 0) (m m' : Hand T A) (n : ℕ) (x : T) → m ≡ (Sent x, [])
+  pub HasCollected-hit : (answers : T → A → Type 0) (m m' : Hand T A) (n : ℕ) (x : T) → m ≡ (Sent x, [])
       → HasCollected answers m n m' → n ≡ ANSWERED → (a : A) × answers x a × (m' ≡ (Holding, (0, Some (Answer a)) ∷ []))
-  collected answers m m' n x is told hit =
+  HasCollected-hit answers m m' n x is told hit =
       let here : HasCollected answers (Sent x, []) ANSWERED m' = subst (λ h. HasCollected answers h ANSWERED m') is
       (subst (λ k. HasCollected answers m k m') hit told) in here

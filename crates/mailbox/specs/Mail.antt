@@ -163,5 +163,5 @@ module _ {T A : Type 0} where
   HasTaken m n m' = MatchBool (nat_eq n WAITS) ((t : T) × (m' ≡ (Working t, (0, Some (Task t)) ∷ m.1))) (m' ≡ m)
 
   -- the worker gave what it had in the slot
-  abbrev pub HasAnswered : Hand T A → Hand T A → Type 0
-  HasAnswered m m' = m' ≡ (Idle, rest m.1)
+  abbrev pub HasGivenAnswer : Hand T A → Hand T A → Type 0
+  HasGivenAnswer m m' = m' ≡ (Idle, rest m.1)

@@ -1,6 +1,4 @@
 //! What lies in a mailbox, what its seats know, and the rule of its table.
-ghost use Rattle.std.specs.Prelude.{◌≡◌};
-
 use crate::errand::Errand;
 use atomic_table::{Play, Seat, Shared, Split, Table, TableRule};
 use std::alloc::Global;
@@ -40,12 +38,12 @@ pub enum MailView<T> {
     Working(T),
 }
 
-/// The rule of the table.
-pub struct Law<E> {
+/// The rule that each step of a seat keeps, `IsMailbox` in `specs/Mail.antt`.
+pub struct MailRule<E> {
     marker: PhantomData<E>,
 }
 
-impl<T, A, E: Errand<T, A>> TableRule<Option<Letter<T, A>>, MailView<T>, ()> for Law<E> {
+impl<T, A, E: Errand<T, A>> TableRule<Option<Letter<T, A>>, MailView<T>, ()> for MailRule<E> {
     ghost use Rattle.mailbox.specs.Mail.{IsMailbox};
     ghost use Rattle.mailbox.specs.declared.mail.MailView.TheVariants.{Alone};
 
@@ -105,9 +103,9 @@ impl<T, A> Play<Option<Letter<T, A>>, MailView<T>> for Take {
 pub struct Leave;
 
 impl<T, A> Play<Option<Letter<T, A>>, MailView<T>> for Leave {
-    ghost use Rattle.mailbox.specs.Mail.{HasAnswered};
+    ghost use Rattle.mailbox.specs.Mail.{HasGivenAnswer};
 
-    ghost then = { λ _ m _ w. HasAnswered m w };
+    ghost then = { λ _ m _ w. HasGivenAnswer m w };
 }
 
 /// The worker's seat is cut off the caller's.
@@ -125,7 +123,7 @@ impl<T> Split<MailView<T>> for Hire {
 pub type Chair<T, A> = Seat<Option<Letter<T, A>>, MailView<T>>;
 
 /// The table, as the seats share it.
-pub type Board<T, A, E> = Shared<Option<Letter<T, A>>, MailView<T>, (), Law<E>>;
+pub type Board<T, A, E> = Shared<Option<Letter<T, A>>, MailView<T>, (), MailRule<E>>;
 
 /// The table with its memory.
-pub type MailTable<T, A, E> = Table<Option<Letter<T, A>>, MailView<T>, (), Law<E>, Global>;
+pub type MailTable<T, A, E> = Table<Option<Letter<T, A>>, MailView<T>, (), MailRule<E>, Global>;

@@ -1,5 +1,6 @@
-//! The steps of the two seats.
-ghost use Rattle.std.specs.Prelude.{◌≡◌, [], ◌∷◌, Some, None, MatchOption};
+//! The steps of the two seats: each is one atomic step on the word, and most move a letter while the seat has the slot.
+//! A letter is laid down before the word tells of it, and taken out after the word was won.
+ghost use Rattle.std.specs.Prelude.{◌≡◌, [], Some, None, MatchOption};
 ghost use Rattle.mailbox.specs.Mail.{IsSeatOf, IsHolding, IsSent, IsIdle, IsWorking};
 ghost use Rattle.mailbox.specs.declared.mail.MailView.TheVariants.{Opening};
 

@@ -132,6 +132,6 @@ none_ordered = tt
 -- the group of all pairs is for the same clones, and in order
 pub group_is_grouped : (sent : List (Msg × ℕ)) → IsGrouped sent (group_of sent)
 group_is_grouped sent = record {
-  kept = λ m c. is_for-group_onto m c sent [] ∙ or_none (is_for m c sent);
+  same = λ m c. is_for-group_onto m c sent [] ∙ or_none (is_for m c sent);
   ordered = ordered_onto sent [] none_ordered;
 }

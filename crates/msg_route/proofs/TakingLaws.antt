@@ -13,7 +13,7 @@ use Rattle.sim_base.proofs.OrderLaws.{msg_total}
 use Rattle.run_laws.proofs.Bools.{or_cases, or_first, or_second, and_cases, and_both}
 use Rattle.clone_sets.specs.Sets.{has}
 use Rattle.msg_route.specs.Grouping.{is_for, group_of}
-use Rattle.msg_route.specs.Laws.{takes_before, taken_before}
+use Rattle.msg_route.specs.Laws.{takes_at, taken_at}
 use Rattle.msg_route.proofs.GroupLaws.{group_is_grouped}
 
 -- ---- equal messages
@@ -52,11 +52,11 @@ module _ (ends : ℕ → ℕ) (m : Msg) (c : ℕ) where
   -- ---- what a clone takes
 
   -- what a clone takes is for it, and before its end
-  taken_is_for : (sent : List (Msg × ℕ)) → In m (taken_before ends c sent)
+  taken_is_for : (sent : List (Msg × ℕ)) → In m (taken_at ends c sent)
       → (is_for m c sent ≡ true) × (m.key.time < ends c)
   taken_is_for [] h = absurd h
   taken_is_for (x ∷ xs) h =
-      elim (in_front (takes_before ends x.0 x.1 c) m x.0 (taken_before ends c xs) h) [
+      elim (in_front (takes_at ends x.0 x.1 c) m x.0 (taken_at ends c xs) h) [
         | inl e ↦
             let both = and_cases (has x.1 c) (nat_lt x.0.key.time (ends c)) e.0 in (
               or_first _ (is_for m c xs) (and_both (is_eq (msg_cmp m x.0)) (has x.1 c) (same_msg m x.0 e.1) both.0),
@@ -67,29 +67,29 @@ module _ (ends : ℕ → ℕ) (m : Msg) (c : ℕ) where
 
   -- and it takes all of that
   is_for_taken : (sent : List (Msg × ℕ)) → is_for m c sent ≡ true → m.key.time < ends c
-      → In m (taken_before ends c sent)
+      → In m (taken_at ends c sent)
   is_for_taken [] e l = absurd (false≢true e)
   is_for_taken (x ∷ xs) e l =
       elim (or_cases (is_eq (msg_cmp m x.0) && has x.1 c) (is_for m c xs) e) [
         | inl here ↦
             let both = and_cases (is_eq (msg_cmp m x.0)) (has x.1 c) here in
             let same = msg_same m x.0 (is_equal (msg_cmp m x.0) both.0) in
-            front_in (takes_before ends x.0 x.1 c) m x.0 (taken_before ends c xs)
+            front_in (takes_at ends x.0 x.1 c) m x.0 (taken_at ends c xs)
             (and_both (has x.1 c) (nat_lt x.0.key.time (ends c)) both.1
             (ap (λ (y : Msg). nat_lt y.key.time (ends c)) (sym same) ∙ lt-ltb m.key.time (ends c) l)) same
-        | inr later ↦ rest_in (takes_before ends x.0 x.1 c) m x.0 (taken_before ends c xs) (is_for_taken xs later l)
+        | inr later ↦ rest_in (takes_at ends x.0 x.1 c) m x.0 (taken_at ends c xs) (is_for_taken xs later l)
       ]
 
   -- a clone takes the messages that are for it and come before its end
-  pub taken_are_for : (sent : List (Msg × ℕ)) → In m (taken_before ends c sent)
+  pub taken_are_for : (sent : List (Msg × ℕ)) → In m (taken_at ends c sent)
       ↔ ((is_for m c sent ≡ true) × (m.key.time < ends c))
   taken_are_for sent = (taken_is_for sent, λ h. is_for_taken sent h.0 h.1)
 
   -- a clone takes the same of messages that are joined
-  pub group_is_taken : (sent : List (Msg × ℕ)) → In m (taken_before ends c (group_of sent))
-      ↔ In m (taken_before ends c sent)
+  pub group_is_taken : (sent : List (Msg × ℕ)) → In m (taken_at ends c (group_of sent))
+      ↔ In m (taken_at ends c sent)
   group_is_taken sent =
-      let same = (group_is_grouped sent).kept m c in (
+      let same = (group_is_grouped sent).same m c in (
         λ h. let there = taken_is_for (group_of sent) h in is_for_taken sent (sym same ∙ there.0) there.1,
         λ h. let there = taken_is_for sent h in is_for_taken (group_of sent) (same ∙ there.0) there.1,
       )

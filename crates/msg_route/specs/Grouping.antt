@@ -25,5 +25,5 @@ is_for m c sent = list_any (λ x. is_eq (msg_cmp m x.0) && has x.1 c) sent
 
 -- the same messages for the same clones, in the order of messages, each message once
 pub record IsGrouped (sent grouped : List (Msg × CloneSet)) : Type 0 where
-  pub kept : (m : Msg) (c : ℕ) → is_for m c grouped ≡ is_for m c sent
+  pub same : (m : Msg) (c : ℕ) → is_for m c grouped ≡ is_for m c sent
   pub ordered : IsStrictlySortedBy msg_cmp (keys_of grouped)

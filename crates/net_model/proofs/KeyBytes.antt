@@ -75,7 +75,7 @@ module _ (key : List ℕ) (len : ℕ) (copied front : List ℕ)
   -- and all the bytes are a key text, with zeros behind it
   pub key_text_padded : IsKeyText (front ++ drop len (copied ++ drop len (replicate 32 0))) len
   key_text_padded = record {
-    room = short;
+    free = short;
     size = length-append front _ ∙ rw (front_len, behind, length-replicate) (omega (arith, short));
     zeros = seam_rest front _ len front_len ∙ behind;
     shown = ap (list_all is_shown) (seam front _ len front_len ∙ front_is) ∙ all_shown copied;

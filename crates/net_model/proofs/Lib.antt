@@ -2,7 +2,7 @@ pub mod Placing
 pub mod KeyBytes
 pub mod Trees
 pub mod UnknownKeys
-pub mod Turns
+pub mod ElementByElement
 pub mod Stated
 pub mod Bounds
 pub mod Stations

@@ -6,7 +6,7 @@ use Rattle.std.proofs.lemmas.List.{length-map}
 use Rattle.std.proofs.lemmas.Option.{slice_get-map}
 use Rattle.sim_base.proofs.ListLaws.{prefix_len-map}
 use Rattle.net_model.specs.declared.station.Station.{Station}
-use Rattle.net_model.specs.Net.{Net, site_at, number_of}
+use Rattle.net_model.specs.Net.{Net, site_at, station_named}
 use Rattle.net_model.specs.Sites.{as_site}
 
 module _ (net : Net) (stations : List Station) (seen : net.sites ≡ map as_site stations) where
@@ -27,7 +27,7 @@ seen_place name stations = rw (length-map, prefix_len-map (λ site. not (bytes_e
 
 -- its number
 pub seen_number : (net : Net) (stations : List Station) (name : List ℕ) → net.sites ≡ map as_site stations
-    → number_of name net ≡ option_map (λ i. i + 1) (position (λ station. bytes_eq station.name name) stations)
+    → station_named name net ≡ option_map (λ i. i + 1) (position (λ station. bytes_eq station.name name) stations)
 seen_number net stations name seen =
     ap (λ sites. option_map (λ i. i + 1) (position (λ site. bytes_eq site.name name) sites)) seen
     ∙ ap (option_map (λ i. i + 1)) (seen_place name stations)

@@ -19,7 +19,7 @@ is_shown b = is_name_byte b || (b == 63)
 
 -- the shown bytes, and zeros behind them
 pub record IsKeyText (bytes : List ℕ) (len : ℕ) : Type 0 where
-  pub room : len ≤ 32
+  pub free : len ≤ 32
   pub size : length bytes ≡ 32
   pub zeros : drop len bytes ≡ replicate (32 - len) 0
   pub shown : list_all is_shown (take len bytes) ≡ true
@@ -28,5 +28,5 @@ pub record IsKeyText (bytes : List ℕ) (len : ℕ) : Type 0 where
 pub key_text_back : (bytes : List ℕ) (len : ℕ) → IsKeyText bytes len
     → (take len bytes ++ replicate (32 - length (take len bytes)) 0 ≡ bytes) × (length (take len bytes) ≡ len)
 key_text_back bytes len h =
-    let long : length (take len bytes) ≡ len = length-take-le len bytes (omega (arith, h.room, h.size)) in
+    let long : length (take len bytes) ≡ len = length-take-le len bytes (omega (arith, h.free, h.size)) in
     (rw (long, ← h.zeros) (take-append-drop len bytes), long)

@@ -65,5 +65,5 @@ routes_by_turn (Router turn) = turn
 routes_by_turn _ = false
 
 -- the number of the first station of a name
-abbrev pub number_of : List ℕ → Net → Option ℕ
-number_of name net = option_map (λ i. i + 1) (position (λ site. bytes_eq site.name name) net.sites)
+abbrev pub station_named : List ℕ → Net → Option ℕ
+station_named name net = option_map (λ i. i + 1) (position (λ site. bytes_eq site.name name) net.sites)

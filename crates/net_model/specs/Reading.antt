@@ -1,5 +1,5 @@
 -- How the value of one key is read: what it states, or the first rule that it breaks.
-use Rattle.std.specs.Prelude.{◌&&◌, ℕ, ℤ, pos, negsuc, nat_le, is_some, if◌then◌else◌, List}
+use Rattle.std.specs.Prelude.{ℕ, ℤ, pos, negsuc, is_some, if◌then◌else◌, List}
 use Rattle.std.specs.Prelude.{[], ◌∷◌, Option, Some, None, Result, Ok, Err}
 use Rattle.std.specs.List.{list_all}
 use Rattle.toml.specs.Data.{Data, integer, string, array, Items, no_items, item, get, as_table, as_integer}
@@ -10,7 +10,7 @@ use Rattle.net_model.specs.declared.field.Field.{Field}
 use Rattle.net_model.specs.declared.reading.Span.{Span}
 use Rattle.sim_base.specs.Chain.{◌>>=◌}
 use Rattle.net_model.specs.Fields.{key_of}
-use Rattle.net_model.specs.declared.limits.TheConstants.{MOST_TIME}
+use Rattle.net_model.specs.Rules.{is_range, is_within}
 
 -- a key that has to be there
 abbrev pub required_value : ℕ → Field → Option Data → Result Data ModelFault
@@ -23,7 +23,7 @@ value_at place field t = required_value place field (get (key_of field) t)
 
 -- an integer of a range that begins at 0 or above
 abbrev pub in_range : ℕ → Field → ℕ → ℕ → ℤ → Result ℕ ModelFault
-in_range place field low high (pos n) = if nat_le low n && nat_le n high then Ok n else Err (OutOfRange place field)
+in_range place field low high (pos n) = if is_within low high n then Ok n else Err (OutOfRange place field)
 in_range place field low high (negsuc n) = Err (OutOfRange place field)
 
 -- a value that is such an integer
@@ -64,8 +64,8 @@ name_at place field t = text_at place field t >>= as_name place
 
 -- a range of times, from lo to hi, both at most MOST_TIME
 abbrev pub span : ℕ → Field → ℕ → ℕ → ℕ → Result Span ModelFault
-span place field low lo hi = if (nat_le low lo && nat_le lo hi) && nat_le hi MOST_TIME then Ok
-    (record { lo = lo; hi = hi }) else Err (OutOfRange place field)
+span place field low lo hi =
+    if is_range low lo hi then Ok (record { lo = lo; hi = hi }) else Err (OutOfRange place field)
 
 -- the same where hi is an integer, refused below 0
 abbrev pub span_to : ℕ → Field → ℕ → ℕ → ℤ → Result Span ModelFault

@@ -1,5 +1,5 @@
 -- The rules that every model meets.
-use Rattle.std.specs.Prelude.{◌≡◌, ◌≢◌, ℕ, ◌≤◌, List, length, map, codes, true, false, ◌⊎◌}
+use Rattle.std.specs.Prelude.{◌≡◌, ◌≢◌, ℕ, ◌≤◌, ◌&&◌, nat_le, Bool, List, length, map, codes, true, false, ◌⊎◌}
 use Rattle.std.specs.List.{AllByRecursion, IsDistinct}
 use Rattle.std.specs.Str.{bytes_eq}
 use Rattle.sim_base.specs.Names.{is_name}
@@ -11,7 +11,15 @@ use Rattle.net_model.specs.declared.limits.TheConstants.{MOST_TIME, MOST_HORIZON
 use Rattle.net_model.specs.declared.limits.TheConstants.{MOST_STATIONS, MOST_LINKS, MOST_JOBS, MOST_CLASS}
 use Rattle.net_model.specs.declared.limits.TheConstants.{MOST_SERVERS, MOST_ROOM, MOST_WEIGHT}
 
--- a range of times
+-- whether n is from low to high
+abbrev pub is_within : ℕ → ℕ → ℕ → Bool
+is_within low high n = nat_le low n && nat_le n high
+
+-- whether the times from lo to hi are a range: no less than low, in order, and no more than a time may be
+abbrev pub is_range : ℕ → ℕ → ℕ → Bool
+is_range low lo hi = (nat_le low lo && nat_le lo hi) && nat_le hi MOST_TIME
+
+-- they are such a range
 pub record IsRange (low lo hi : ℕ) : Type 0 where
   pub above : low ≤ lo
   pub ordered : lo ≤ hi

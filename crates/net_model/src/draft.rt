@@ -10,7 +10,7 @@ use crate::fault::ModelFault;
 use crate::field::Field;
 use crate::keys::{only_fields, station_fields};
 use crate::kinds::{kind_key, read_kind};
-use crate::limits::MOST_SEED;
+use crate::limits::{MOST_LINKS, MOST_SEED};
 use crate::links::{NamedLink, read_links};
 use crate::reading::{Spot, integer_key, name_key};
 use crate::station::Kind;
@@ -25,7 +25,7 @@ pub struct Draft {
     pub name: Name,
     pub kind: Kind,
     pub stream: u64,
-    pub links: ArrayVec<NamedLink, 16>,
+    pub links: ArrayVec<NamedLink, MOST_LINKS>,
 }
 
 fn is_taken(name: &Name, earlier: &[Draft]) -> bool
@@ -36,7 +36,7 @@ fn is_taken(name: &Name, earlier: &[Draft]) -> bool
         .any(|draft| draft.name.as_bytes() == name.as_bytes())
 }
 
-#[tactic(auto, using(crate::proofs::Turns::has_name_drafts))]
+#[tactic(auto, using(crate::proofs::ElementByElement::has_name_drafts))]
 fn station_name(place: u32, earlier: &[Draft], table: &Value) -> Result<Name, ModelFault>
     ensures { result ≡ station_name_at place (map as_draft earlier.now) (view table.now) }
 {

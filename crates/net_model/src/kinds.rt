@@ -3,12 +3,13 @@ ghost use Rattle.std.specs.Prelude.{◌≡◌, ◌≤◌, IfOk};
 ghost use Rattle.toml.specs.View.{view};
 ghost use Rattle.net_model.specs.Kinds.{by_word, class_at, delay_of, kind_of, kind_word, kind_word_at};
 ghost use Rattle.net_model.specs.Kinds.{order_at, order_word, router_of, server_of, source_of};
+ghost use Rattle.net_model.specs.declared.limits.TheConstants.{MOST_CLASS};
 
 use crate::fault::ModelFault;
 use crate::field::Field;
 use crate::keys::KindWord;
 use crate::limits::{MOST_CLASS, MOST_JOBS, MOST_ROOM, MOST_SERVERS};
-use crate::reading::{Spot, integer_key, read_text, span_key, text_key};
+use crate::reading::{Spot, integer_key, out_of_range, read_text, span_key, text_key};
 use crate::station::Kind;
 use toml::Value;
 
@@ -44,10 +45,7 @@ pub fn kind_key(place: u32, table: &Value) -> Result<KindWord, ModelFault>
     match text_key(spot, table) {
         Ok(text) => match kind_named(text) {
             Some(word) => Ok(word),
-            None => Err(ModelFault::OutOfRange {
-                place,
-                field: Field::Kind,
-            }),
+            None => Err(out_of_range(spot)),
         },
         Err(fault) => Err(fault),
     }
@@ -55,7 +53,7 @@ pub fn kind_key(place: u32, table: &Value) -> Result<KindWord, ModelFault>
 
 fn read_class(format: u32, place: u32, table: &Value) -> Result<u64, ModelFault>
     ensures value { result ≡ class_at format place (view table.now) }
-    ensures small { IfOk result (λ n. n ≤ 4) }
+    ensures small { IfOk result (λ n. n ≤ MOST_CLASS) }
 {
     if format == 1 {
         return Ok(1);
@@ -85,14 +83,17 @@ fn read_order(format: u32, place: u32, table: &Value) -> Result<bool, ModelFault
     if format == 1 {
         return Ok(false);
     }
-    let field = Field::Order;
-    let Some(value) = table.get(field.key()) else {
+    let spot = Spot {
+        place,
+        field: Field::Order,
+    };
+    let Some(value) = table.get(spot.field.key()) else {
         return Ok(false);
     };
-    match read_text(Spot { place, field }, value) {
+    match read_text(spot, value) {
         Ok(text) => match order_named(text) {
             Some(by_class) => Ok(by_class),
-            None => Err(ModelFault::OutOfRange { place, field }),
+            None => Err(out_of_range(spot)),
         },
         Err(fault) => Err(fault),
     }
@@ -201,11 +202,14 @@ fn read_delay(place: u32, table: &Value) -> Result<Kind, ModelFault>
 fn read_router(place: u32, table: &Value) -> Result<Kind, ModelFault>
     ensures { result ≡ router_of place (view table.now) }
 {
-    let field = Field::By;
-    match text_key(Spot { place, field }, table) {
+    let spot = Spot {
+        place,
+        field: Field::By,
+    };
+    match text_key(spot, table) {
         Ok(text) => match way_named(text) {
             Some(turn) => Ok(Kind::Router { turn }),
-            None => Err(ModelFault::OutOfRange { place, field }),
+            None => Err(out_of_range(spot)),
         },
         Err(fault) => Err(fault),
     }

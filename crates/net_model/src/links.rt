@@ -71,7 +71,7 @@ fn read_link(place: u32, table: &Value) -> Result<NamedLink, ModelFault>
     Ok(NamedLink { to, delay, weight })
 }
 
-fn read_each(place: u32, tables: &[Value]) -> Result<ArrayVec<NamedLink, 16>, ModelFault>
+fn read_each(place: u32, tables: &[Value]) -> Result<ArrayVec<NamedLink, MOST_LINKS>, ModelFault>
     requires { length tables.now ≤ MOST_LINKS }
     ensures { result_map_both (λ v. v.items) (λ e. e) result ≡ each_link place (map view tables.now) }
 {
@@ -110,7 +110,7 @@ pub fn read_links(
     place: u32,
     word: KindWord,
     table: &Value,
-) -> Result<ArrayVec<NamedLink, 16>, ModelFault>
+) -> Result<ArrayVec<NamedLink, MOST_LINKS>, ModelFault>
     ensures { result_map_both (λ v. v.items) (λ e. e) result ≡ links_of place word (view table.now) }
 {
     match word {

@@ -1,7 +1,7 @@
 //! A model: a queueing network that keeps every rule, with its horizon (stop time) and its lookahead.
 ghost use Rattle.std.specs.Prelude.{◌≡◌, ◌+◌, ◌<◌, ◌≤◌, length, Some, IfSome, position};
 ghost use Rattle.std.specs.Str.{bytes_eq};
-ghost use Rattle.net_model.specs.Net.{class_from, number_of, site_at};
+ghost use Rattle.net_model.specs.Net.{class_from, station_named, site_at};
 ghost use Rattle.net_model.specs.Sites.{as_site};
 
 use crate::station::{Kind, Station};
@@ -67,7 +67,7 @@ impl Model {
 
     /// The number of the station of a name, None exactly where there is none.
     pub fn find(&self, name: &Name) -> Option<u32>
-        ensures value { result ≡ number_of name.now self.now }
+        ensures value { result ≡ station_named name.now self.now }
         ensures there { IfSome result (λ s. s ≤ length self.now.sites) }
     {
         match place(&self.stations, name) {

@@ -45,7 +45,8 @@ fn wrong_type(spot: Spot) -> ModelFault
     }
 }
 
-fn out_of_range(spot: Spot) -> ModelFault
+/// The fault of a value that is none of those that the key may have.
+pub(crate) fn out_of_range(spot: Spot) -> ModelFault
     ensures { result ≡ ModelFault.OutOfRange spot.place spot.field }
 {
     ModelFault::OutOfRange {

@@ -9,6 +9,7 @@ ghost use Rattle.net_model.specs.declared.limits.TheConstants.{MOST_LINKS};
 
 use crate::draft::Draft;
 use crate::fault::ModelFault;
+use crate::limits::MOST_LINKS;
 use crate::links::NamedLink;
 use crate::station::{Kind, Link, Station};
 use arrayvec::ArrayVec;
@@ -67,7 +68,7 @@ fn resolve_links(
     drafts: &[Draft],
     place: u32,
     links: &[NamedLink],
-) -> Result<ArrayVec<Link, 16>, ModelFault>
+) -> Result<ArrayVec<Link, MOST_LINKS>, ModelFault>
     requires some { length drafts.now < 2 ^ 31 }
     requires few { length links.now ≤ MOST_LINKS }
     ensures { result_map_both (λ v. v.items) (λ e. e) result ≡ links_of_named lookahead

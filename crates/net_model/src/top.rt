@@ -7,7 +7,7 @@ ghost use Rattle.net_model.specs.Top.{in_number, stations_at, top_of};
 use crate::fault::ModelFault;
 use crate::field::Field;
 use crate::limits::{MOST_HORIZON, MOST_LIMIT, MOST_SEED, MOST_STATIONS, MOST_TIME, USUAL_LIMIT};
-use crate::reading::{Spot, integer_key, read_tables, value_key};
+use crate::reading::{Spot, integer_key, out_of_range, read_tables, value_key};
 use toml::Value;
 
 /// The numbers of the whole model, with the meaning that they have in a `Model`.
@@ -49,10 +49,7 @@ fn counted_tables(tables: &[Value]) -> Result<&[Value], ModelFault>
     ensures value { result_map_both (λ vs. map view vs.now) (λ e. e) result ≡ in_number (map view tables.now) }
 {
     if tables.is_empty() {
-        return Err(ModelFault::OutOfRange {
-            place: 0,
-            field: Field::Station,
-        });
+        return Err(out_of_range(spot(Field::Station)));
     }
     if tables.len() > MOST_STATIONS {
         return Err(ModelFault::TooMany { place: 0 });

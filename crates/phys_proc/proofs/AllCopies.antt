@@ -61,7 +61,8 @@ module _ (net : Net) (valid : IsNet net) (s : ℕ) (ends : ℕ → ℕ) (bound :
   }
 
   -- one copy more
-  pub stepping_more : (ys zs : List StationCopy) (x : StationCopy) (done new : List StationCopy) (sent next : MarkedMessages)
+  pub stepping_more : (ys zs : List StationCopy) (x : StationCopy) (done new : List StationCopy)
+      (sent next : MarkedMessages)
       (over over1 : CloneSet) (steps0 steps steps1 : ℕ) → Disjoint has (ys ++ x ∷ zs) →
       IsStepResult net s ends bound ys done sent over steps0 steps
       → IsAdvance net s ends bound x done new sent next over over1 steps steps1
@@ -144,7 +145,8 @@ module _ (net : Net) (valid : IsNet net) (s : ℕ) (ends : ℕ → ℕ) (bound :
       → Disjoint has xs → IsStepResult net s ends bound xs xs [] empty steps steps
   idle xs steps f late dis = all_stay [] xs steps f late dis (stepping_start steps)
 
-  module _ (xs : List StationCopy) (done : List StationCopy) (sent : MarkedMessages) (over : CloneSet) (steps0 steps : ℕ)
+  module _ (xs : List StationCopy) (done : List StationCopy) (sent : MarkedMessages) (over : CloneSet)
+      (steps0 steps : ℕ)
       (fits : AllByRecursion (IsCopy net s) xs)
       (far : IsStepResult net s ends bound xs done sent over steps0 steps) where
     fine : (a : StationCopy) → In a xs → IsGood net s a.state × SortedMarked msg_cmp a.pending

@@ -99,7 +99,8 @@ module _ (net : Net) (s : ℕ) (ends : ℕ → ℕ) (bound : ℕ) (copy : Statio
 
     -- the ends of both halves are together an end of the copy
     pub of_parts : (a a1 b b1 : StationCopy) (done done1 done2 done3 done4 : List StationCopy)
-        (sent1 sent2 sent3 sent4 : MarkedMessages) (over over1 over2 over3 over4 : CloneSet) (steps1 steps2 steps3 steps4 : ℕ)
+        (sent1 sent2 sent3 sent4 : MarkedMessages) (over over1 over2 over3 over4 : CloneSet)
+        (steps1 steps2 steps3 steps4 : ℕ)
         → a ≡ half copy takers → b ≡ half copy (minus copy.set takers)
         → Onward net s ends bound a a1 sent sent1 steps steps1 → done1 ≡ done → over1 ≡ over
         → IsAdvance net s ends bound a1 done1 done2 sent1 sent2 over1 over2 steps1 steps2

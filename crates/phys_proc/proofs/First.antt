@@ -62,7 +62,8 @@ module _ (net : Net) (valid : IsNet net) (s : ℕ) (low : 1 ≤ s) (high : s ≤
   )
 
   -- and it is a copy of the station
-  pub first_fits : (set : CloneSet) (pending : MarkedMessages) → set ≡ one 0 → pending ≡ pending_of first set → FitsState st
+  pub first_fits : (set : CloneSet) (pending : MarkedMessages) → set ≡ one 0 → pending ≡ pending_of first set
+      → FitsState st
       → SuitsNet net st → st.sender.station ≡ s → st.handled ≡ 0
       → IsCopy net s (record { set = set; state = st; log = []; pending = pending })
   first_fits set pending e p fits suits own none =

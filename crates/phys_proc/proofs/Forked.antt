@@ -138,7 +138,8 @@ module _ (old new : ℕ) where
   spread_stays [] f = refl
   spread_stays (x ∷ xs) f = λ i. (x.0, grown_stays x.1 f.0 i) ∷ spread_stays xs f.1 i
 
-  no_mark : (set : CloneSet) (c : ℕ) (xs : MarkedMessages) → has set c ≡ false → AllByRecursion (λ x. AreMarks set x.1) xs
+  no_mark : (set : CloneSet) (c : ℕ) (xs : MarkedMessages) → has set c ≡ false
+      → AllByRecursion (λ x. AreMarks set x.1) xs
       → AllByRecursion (λ x. has x.1 c ≡ false) xs
   no_mark set c xs n f = all_weaker (λ x. AreMarks set x.1) (λ x. has x.1 c ≡ false) xs
       (λ x m. elim (cases_Bool (has x.1 c)) [ inl y ↦ absurd (false≢true (sym n ∙ m.within c y)) | inr o ↦ o ]) f
@@ -165,7 +166,8 @@ module _ (old new : ℕ) where
       }
 
   module _ (net : Net) (s : ℕ) where
-    marks_grow : (set : CloneSet) (xs : MarkedMessages) → has set new ≡ false → AllByRecursion (λ x. AreMarks set x.1) xs
+    marks_grow : (set : CloneSet) (xs : MarkedMessages) → has set new ≡ false
+        → AllByRecursion (λ x. AreMarks set x.1) xs
         → AllByRecursion (λ x. AreMarks (grown old new set) x.1) (spread old new xs)
     marks_grow set [] n f = tt
     marks_grow set (x ∷ xs) n f = (

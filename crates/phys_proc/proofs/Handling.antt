@@ -37,7 +37,8 @@ abbrev pub tail_of : MarkedMessages → MarkedMessages
 tail_of [] = []
 tail_of (x ∷ xs) = xs
 
-module _ (net : Net) (s : ℕ) (a : StationCopy) (m0 : Msg) (k0 : CloneSet) (q0 : MarkedMessages) (st : StateView) (line : Line)
+module _ (net : Net) (s : ℕ) (a : StationCopy) (m0 : Msg) (k0 : CloneSet) (q0 : MarkedMessages) (st : StateView)
+    (line : Line)
     (out : List Msg) (log : List (Entry Msg Line)) (pending before after : MarkedMessages)
     (there : a.pending ≡ (m0, k0) ∷ q0) (fits : IsCopy net s a) (below : length a.log < net.limit)
     (gives : handle net a.state m0 ≡ record { state = st; sends = out; line = line }) (fits_new : FitsState st)

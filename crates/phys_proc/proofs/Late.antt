@@ -32,7 +32,8 @@ from_time a t e sorted = of_pending a.pending e sorted
 pub from_none : (a : StationCopy) (t : ℕ) → None ≡ first_time a.pending → IsLate t a
 from_none a t e = of_pending a.pending e
   where
-    of_pending : (q : MarkedMessages) → None ≡ first_time q → AllByRecursion (λ (y : Msg × CloneSet). t ≤ y.0.key.time) q
+    of_pending : (q : MarkedMessages) → None ≡ first_time q
+        → AllByRecursion (λ (y : Msg × CloneSet). t ≤ y.0.key.time) q
     of_pending [] e = tt
     of_pending (x ∷ xs) e = absurd (cc)
 

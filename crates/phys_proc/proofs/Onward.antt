@@ -18,8 +18,8 @@ use Rattle.stations.proofs.KindLaws.{good_kind}
 use Rattle.stations.proofs.Lawful.{site_is}
 use Rattle.stations.proofs.GoodLaws.{lawful-stations}
 use Rattle.sim_base.specs.Marked.{JoinsMarks}
-use Rattle.run_laws.specs.Copies.{Ends, sends_aside}
-use Rattle.run_laws.proofs.Ends.{ends_done, ends_over, ends_handle, ends_same, ends_split}
+use Rattle.run_laws.specs.Copies.{ComesTo, sends_aside}
+use Rattle.run_laws.proofs.ComesTo.{comes_to-done, comes_to-over, comes_to-handle, comes_to-same, comes_to-split}
 use Rattle.phys_proc.proofs.Counting.{few_more, few_apart, shared_more, shared_apart, alone-append}
 use Rattle.std.proofs.Math.Nat.{add-mul}
 use Rattle.phys_proc.specs.Own.{StationCopy, MarkedMessages, handled_alone_by, may_handle, takes_at, IsCopy}
@@ -70,7 +70,7 @@ module _ (net : Net) (s : ℕ) (ends : ℕ → ℕ) (bound : ℕ) where
   -- the end of a copy of the station at the bound: the copies that it becomes, what it sends, who goes over and what
   -- it gains
   abbrev pub Comes : StationCopy → List StationCopy → MarkedMessages → MarkedMessages → CloneSet → CloneSet → ℕ → Type 0
-  Comes = Ends (simulation net) has ends s bound
+  Comes = ComesTo (simulation net) has ends s bound
 
   -- how far a copy of the station has come on its way to the bound
   abbrev pub On : StationCopy → StationCopy → MarkedMessages → MarkedMessages → ℕ → ℕ → Type 0
@@ -103,7 +103,7 @@ module _ (net : Net) (s : ℕ) (ends : ℕ → ℕ) (bound : ℕ) where
     log = ap length h.log ∙ o.log;
     counted = o.counted;
     next = λ results after over over_after n e. o.next results after over over_after n
-        (ends_same (lawful-stations net o.fits.valid) sets_join ends s bound copy new results sent after over
+        (comes_to-same (lawful-stations net o.fits.valid) sets_join ends s bound copy new results sent after over
         over_after n (narrowed_same ends net s copy new h) (λ c i. subst (λ k. has k c ≡ true) (sym h.set) i) e);
   }
 
@@ -131,13 +131,14 @@ module _ (net : Net) (s : ℕ) (ends : ℕ → ℕ) (bound : ℕ) where
     pub came_over : takers ≡ new.set → net.limit ≤ length new.log → (over : CloneSet)
         → Comes first [] start sent over (union over new.set) (0 + o.taken)
     came_over e full over = onward_new.next [] sent over (union over new.set) 0
-        (ends_over (lawful-stations net o.fits.valid) sets_join ends s bound new m d.marks d.rest sent over
+        (comes_to-over (lawful-stations net o.fits.valid) sets_join ends s bound new m d.marks d.rest sent over
         (let h = onward_new.fits.short in omega arith) d.pending (all_take e) d.early)
 
     -- all take it
-    pub came_on : (next : StationCopy) (after : MarkedMessages) (steps1 : ℕ) → takers ≡ new.set → length new.log < net.limit
+    pub came_on : (next : StationCopy) (after : MarkedMessages) (steps1 : ℕ) → takers ≡ new.set
+        → length new.log < net.limit
         → IsHandled net s new next sent after → steps1 ≡ steps + 1 → On first next start after steps0 steps1
-    came_on next after steps1 e room handled tick =
+    came_on next after steps1 e less handled tick =
         let x = handled m d.marks d.rest d.pending in
         let n0 = onward_new in
         let c0 = o.counted in
@@ -151,8 +152,8 @@ module _ (net : Net) (s : ℕ) (ends : ℕ → ℕ) (bound : ℕ) where
           next = λ results last over over_after n h.
               subst (Comes first results start last over over_after) (one_more n o.taken)
               (n0.next results last over over_after (n + 1)
-              (ends_handle (lawful-stations net o.fits.valid) sets_join ends s bound new m d.marks d.rest sent results
-              last over over_after n n0.fits.inhabited (good_state net s new n0.fits) room d.pending
+              (comes_to-handle (lawful-stations net o.fits.valid) sets_join ends s bound new m d.marks d.rest sent
+              results last over over_after n n0.fits.inhabited (good_state net s new n0.fits) less d.pending
               n0.fits.sorted (all_take e) d.early
               (subst (λ u. Comes u results (sent ++ sends_aside (simulation net) s new m) last over over_after n) x.0
               (subst (λ u. Comes next results u last over over_after n) x.1 h))));
@@ -167,7 +168,7 @@ module _ (net : Net) (s : ℕ) (ends : ℕ → ℕ) (bound : ℕ) where
         → Comes (half new (minus new.set takers)) e2 mid after over1 over2 x2 →
         Comes first (e1 ++ e2) start after over over2 ((x1 + x2) + o.taken)
     came_apart mid after e1 e2 over over1 over2 x1 x2 f g = onward_new.next (e1 ++ e2) after over over2 (x1 + x2)
-        (ends_split (lawful-stations net o.fits.valid) sets_join ends s bound new (half new takers)
+        (comes_to-split (lawful-stations net o.fits.valid) sets_join ends s bound new (half new takers)
         (half new (minus new.set takers)) m d.marks d.rest sent mid after e1 e2 over over1 over2 x1 x2
         onward_new.fits.short d.pending onward_new.fits.sorted d.early
         (narrowed_half ends net s new takers (λ c i. (takes_of c i).0))
@@ -318,7 +319,7 @@ module _ (net : Net) (s : ℕ) (ends : ℕ → ℕ) (bound : ℕ) where
   came_to_rest first copy new start sent steps0 steps o d over =
       let n = onward_same first copy new start sent steps0 steps o d.same in (
         n.next (new ∷ []) sent over over 0
-            (ends_done (lawful-stations net o.fits.valid) sets_join ends s bound new sent over n.fits.inhabited
+            (comes_to-done (lawful-stations net o.fits.valid) sets_join ends s bound new sent over n.fits.inhabited
             n.fits.short (λ c i. d.settled c (subst (λ k. has k c ≡ true) d.same.set i))),
         n.fits,
       )

@@ -1,6 +1,7 @@
 -- A copy without messages that none of its clones takes, and a copy for some of the clones.
 use Rattle.std.proofs.Common.{◌≡◌, ℕ, ◌<◌, ◌≤◌, ◌&&◌, Bool, true, false, cond, List, [], ◌∷◌, ◌++◌, Option}
-use Rattle.std.proofs.Common.{Some, None, refl, sym, ap, ◌∙◌, subst, arith, nat_lt, not, ◌≢◌, append_assoc, length, slice_get}
+use Rattle.std.proofs.Common.{Some, None, refl, sym, ap, ◌∙◌, subst, arith, nat_lt, not, ◌≢◌, append_assoc, length}
+use Rattle.std.proofs.Common.{slice_get}
 use Rattle.std.specs.Prelude.{option_map}
 use Rattle.std.specs.List.{AllByRecursion, cons_option}
 use Rattle.std.specs.declared.cmp.Ordering.TheVariants.{Less}
@@ -64,7 +65,8 @@ module _ (by : CloneSet) where
   all_kept P (Some k) m rest p f = (p, f)
 
   -- what holds of all messages holds of those of the cut
-  pub all_cut : (P : Msg → Type 0) (xs : MarkedMessages) → AllByRecursion (λ x. P x.0) xs → AllByRecursion (λ x. P x.0) (cut xs)
+  pub all_cut : (P : Msg → Type 0) (xs : MarkedMessages) → AllByRecursion (λ x. P x.0) xs
+      → AllByRecursion (λ x. P x.0) (cut xs)
   all_cut P [] f = tt
   all_cut P (x ∷ xs) f = all_kept P (common x.1 by) x.0 (cut xs) f.0 (all_cut P xs f.1)
 
@@ -89,7 +91,8 @@ module _ (by : CloneSet) where
   marks_cut [] = tt
   marks_cut (x ∷ xs) = marks_kept (common x.1 by) x (cut xs) refl (marks_cut xs)
 
-  sorted_kept : (o : Option CloneSet) (m : Msg) (rest : MarkedMessages) → AllByRecursion (λ x. msg_cmp m x.0 ≡ Less) rest
+  sorted_kept : (o : Option CloneSet) (m : Msg) (rest : MarkedMessages)
+      → AllByRecursion (λ x. msg_cmp m x.0 ≡ Less) rest
       → SortedMarked msg_cmp rest → SortedMarked msg_cmp (kept_of o m rest)
   sorted_kept None m rest f s = s
   sorted_kept (Some k) m rest f s = (f, s)
@@ -110,7 +113,8 @@ all_rest P [] ys f = f
 all_rest P (x ∷ xs) ys f = all_rest P xs ys f.1
 
 -- the first of a list
-pub first_of : (q : MarkedMessages) (x : Msg × CloneSet) → Some x ≡ slice_get q 0 → (rest : MarkedMessages) × (q ≡ x ∷ rest)
+pub first_of : (q : MarkedMessages) (x : Msg × CloneSet) → Some x ≡ slice_get q 0
+    → (rest : MarkedMessages) × (q ≡ x ∷ rest)
 first_of [] x e = absurd (cc)
 first_of (y ∷ ys) x e = let h : y ≡ x = cc in (ys, ap (λ z. z ∷ ys) h)
 
@@ -119,7 +123,8 @@ tail_of [] = []
 tail_of (x ∷ xs) = xs
 
 -- a list that has a first has as its first what is read at place 0
-pub first_is : (q : MarkedMessages) (x y : Msg × CloneSet) (rest : MarkedMessages) → Some x ≡ slice_get q 0 → q ≡ y ∷ rest
+pub first_is : (q : MarkedMessages) (x y : Msg × CloneSet) (rest : MarkedMessages) → Some x ≡ slice_get q 0
+    → q ≡ y ∷ rest
     → q ≡ x ∷ rest
 first_is [] x y rest e f = absurd (cc)
 first_is (z ∷ zs) x y rest e f = let h : z ≡ x = cc in let t : zs ≡ rest = ap tail_of f in λ i. h i ∷ t i

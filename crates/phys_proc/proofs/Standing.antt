@@ -14,9 +14,9 @@ use Rattle.run_laws.specs.Queue.{In}
 use Rattle.run_laws.specs.Copies.{Disjoint, Carries}
 use Rattle.run_laws.proofs.Queue.{all_in, all_from}
 use Rattle.run_laws.proofs.Lists.{in_append, append_old, append_new}
-use Rattle.run_laws.proofs.Ends.{disjoint_append}
-use Rattle.phys_proc.specs.Own.{StationCopy, MarkedMessages, IsCopy, IsAdvance, Onward, IsStepResult, NothingDue, IsLate}
-use Rattle.phys_proc.specs.Own.{all_sizes, may_handle}
+use Rattle.run_laws.proofs.ComesTo.{disjoint_append}
+use Rattle.phys_proc.specs.Own.{StationCopy, MarkedMessages, IsCopy, IsAdvance, Onward, IsStepResult, NothingDue}
+use Rattle.phys_proc.specs.Own.{IsLate, all_sizes, may_handle}
 use Rattle.phys_proc.proofs.Counting.{alone-append}
 use Rattle.phys_proc.proofs.Shares.{few_next}
 use Rattle.phys_proc.proofs.AllCopies.{holds_at, stepping_start, stepping_more}
@@ -170,7 +170,8 @@ module _ (net : Net) (s : ℕ) (ends : ℕ → ℕ) (bound : ℕ) where
       }
 
   -- copies that were done before stay
-  advanced_behind : (front : List StationCopy) (r : StationCopy) (done0 done1 : List StationCopy) (sent0 sent1 : MarkedMessages)
+  advanced_behind : (front : List StationCopy) (r : StationCopy) (done0 done1 : List StationCopy)
+      (sent0 sent1 : MarkedMessages)
       (over0 over1 : CloneSet) (steps0 steps1 : ℕ)
       → IsAdvance net s ends bound r done0 done1 sent0 sent1 over0 over1 steps0 steps1
       → IsAdvance net s ends bound r (front ++ done0) (front ++ done1) sent0 sent1 over0 over1 steps0 steps1
@@ -262,7 +263,8 @@ module _ (net : Net) (valid : IsNet net) (s : ℕ) (ends : ℕ → ℕ) (bound :
         refl
 
     -- it is taken out, and the copies that it becomes are put with the others
-    pub standing_out : Disjoint has all → (y : StationCopy) (after more1 more2 : List StationCopy) (mid next : MarkedMessages)
+    pub standing_out : Disjoint has all → (y : StationCopy) (after more1 more2 : List StationCopy)
+        (mid next : MarkedMessages)
         (over1 over2 : CloneSet) (steps1 steps2 : ℕ) → Onward net s ends bound x y sent mid steps steps1
         → IsAdvance net s ends bound y more1 more2 mid next over1 over2 steps1 steps2
         → after ≡ remove (slice_set cs i y) i → more1 ≡ more → over1 ≡ over
@@ -283,7 +285,8 @@ module _ (net : Net) (valid : IsNet net) (s : ℕ) (ends : ℕ → ℕ) (bound :
         }
 
   -- all are done
-  pub standing_end : (all cs more : List StationCopy) (i : ℕ) (sent : MarkedMessages) (over : CloneSet) (steps0 steps : ℕ)
+  pub standing_end : (all cs more : List StationCopy) (i : ℕ) (sent : MarkedMessages) (over : CloneSet)
+      (steps0 steps : ℕ)
       → Standing net s ends bound all i cs more sent over steps0 steps → length cs ≤ i
       → IsStepResult net s ends bound all (cs ++ more) sent over steps0 steps
   standing_end all cs more i sent over steps0 steps h end =

@@ -28,7 +28,8 @@ use Rattle.phys_proc.proofs.Parted.{kept_of}
 
 -- ---- what a clone takes
 
-in_taken : (ends : ℕ → ℕ) (c : ℕ) (q : MarkedMessages) (z : Msg) → In z (taken_at ends c q) → (k : CloneSet) × In (z, k) q
+in_taken : (ends : ℕ → ℕ) (c : ℕ) (q : MarkedMessages) (z : Msg) → In z (taken_at ends c q)
+    → (k : CloneSet) × In (z, k) q
     × (takes_at ends z k c ≡ true)
 in_taken ends c [] z i = absurd i
 in_taken ends c (x ∷ xs) z i = elim (in_cons_if (takes_at ends x.0 x.1 c) x.0 (taken_at ends c xs) z i) [
@@ -112,14 +113,16 @@ none_with k (x ∷ xs) e = by_met (common x.1 k) refl e (λ f. none_with k xs f)
 -- ---- one clone
 
 -- it takes the first message that is marked with it, if that comes before its end
-pub least_one : (ends : ℕ → ℕ) (c end : ℕ) (q : MarkedMessages) (p : Msg × CloneSet) → end ≡ ends c → SortedMarked msg_cmp q
+pub least_one : (ends : ℕ → ℕ) (c end : ℕ) (q : MarkedMessages) (p : Msg × CloneSet) → end ≡ ends c
+    → SortedMarked msg_cmp q
     → Some p ≡ slice_get (cut_by common (one c) q) 0 → p.0.key.time < end
     → IsLeastTime (λ m. In m (taken_at ends c q)) (Some p.0.key.time)
 least_one ends c end q p e s first soon =
     let f = first_with (one c) q p s first in
     let j = common_is f.marks (one c) p.1 f.meets in
     let d = set_has_clone p.1 j.1 in
-    let both = and_cases (has f.marks d.0) (has (one c) d.0) (sym (common_some f.marks (one c) p.1 f.meets d.0) ∙ d.1) in
+    let both = and_cases (has f.marks d.0) (has (one c) d.0)
+    (sym (common_some f.marks (one c) p.1 f.meets d.0) ∙ d.1) in
     let same : c ≡ d.0 = eqb-true c d.0 (sym (has-one c d.0) ∙ both.1) in
     let marked : has f.marks c ≡ true = subst (λ n. has f.marks n ≡ true) (sym same) both.0 in (
       (
@@ -134,7 +137,8 @@ least_one ends c end q p e s first soon =
     )
 
 -- it takes nothing, if that comes at its end or later
-pub least_ended : (ends : ℕ → ℕ) (c end : ℕ) (q : MarkedMessages) (p : Msg × CloneSet) → end ≡ ends c → SortedMarked msg_cmp q
+pub least_ended : (ends : ℕ → ℕ) (c end : ℕ) (q : MarkedMessages) (p : Msg × CloneSet) → end ≡ ends c
+    → SortedMarked msg_cmp q
     → Some p ≡ slice_get (cut_by common (one c) q) 0 → end ≤ p.0.key.time → (z : Msg) → ¬ (In z (taken_at ends c q))
 least_ended ends c end q p e s first late z i =
     let f = first_with (one c) q p s first in
@@ -145,7 +149,8 @@ least_ended ends c end q p e s first late z i =
     absurd (omega (arith, l, b, late, e))
 
 -- nor does it where no message is marked with it
-pub least_unmarked : (ends : ℕ → ℕ) (c : ℕ) (q : MarkedMessages) → None ≡ slice_get (cut_by common (one c) q) 0 → (z : Msg)
+pub least_unmarked : (ends : ℕ → ℕ) (c : ℕ) (q : MarkedMessages) → None ≡ slice_get (cut_by common (one c) q) 0
+    → (z : Msg)
     → ¬ (In z (taken_at ends c q))
 least_unmarked ends c q none z i =
     let k = in_taken ends c q z i in
@@ -268,7 +273,8 @@ module _ (horizon : ℕ) (es : List (ℕ × ℕ)) (set alive : CloneSet) (q : Ma
         let f = first_with alive q p sorted first in
         let j = common_is f.marks alive p.1 f.meets in
         let d = set_has_clone p.1 j.1 in
-        let both = and_cases (has f.marks d.0) (has alive d.0) (sym (common_some f.marks alive p.1 f.meets d.0) ∙ d.1) in
+        let both = and_cases (has f.marks d.0) (has alive d.0)
+        (sym (common_some f.marks alive p.1 f.meets d.0) ∙ d.1) in
         minus_smaller alive p.1 (λ e. false≢true
         (sym (has-empty d.0) ∙ (sym (ap (λ k. has k d.0) e)
         ∙ (has-meet alive p.1 d.0 ∙ (ap (λ b. b && has p.1 d.0) both.1 ∙ d.1)))))

@@ -2,4 +2,5 @@ pub mod Gone
 pub mod Own
 pub mod Procs
 pub mod Racks
+pub mod Stages
 pub mod Stops

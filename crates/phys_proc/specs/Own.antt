@@ -16,7 +16,8 @@ use Rattle.stations.specs.Runs.{simulation, replay}
 use Rattle.run_laws.specs.World.{to_it}
 use Rattle.run_laws.specs.Window.{to_others}
 use Rattle.sim_base.specs.Marked.{SortedMarked}
-use Rattle.run_laws.specs.Copies.{Copy, insert_marked_all, handled_by, sends_aside, part, Ends, SoFar, GainTogether}
+use Rattle.run_laws.specs.Copies as copies
+use Rattle.run_laws.specs.Copies.{Copy, insert_marked_all, handled_by, sends_aside, part, ComesTo, SoFar, GainTogether}
 
 -- a copy of a station of a network
 abbrev pub StationCopy : Type 0
@@ -28,7 +29,7 @@ MarkedMessages = List (Msg × CloneSet)
 
 -- a clone that ends then takes a message with these marks
 abbrev pub takes_at : (ℕ → ℕ) → Msg → CloneSet → ℕ → Bool
-takes_at ends m k c = has k c && nat_lt m.key.time (ends c)
+takes_at ends = copies.takes_at (λ (m : Msg). m.key.time) has ends
 
 -- the messages among these that the clone takes
 abbrev pub taken_at : (ℕ → ℕ) → ℕ → MarkedMessages → List Msg
@@ -127,7 +128,8 @@ IsHandled net s old new before after = (m : Msg) (k : CloneSet) (q : MarkedMessa
     IsCopy net s new
 
 -- the first copy has become this one in so many steps: each end that this one may have is one of the first
-pub record Onward (net : Net) (s : ℕ) (ends : ℕ → ℕ) (bound : ℕ) (first copy : StationCopy) (start sent : MarkedMessages)
+pub record Onward (net : Net) (s : ℕ) (ends : ℕ → ℕ) (bound : ℕ) (first copy : StationCopy)
+    (start sent : MarkedMessages)
     (steps0 steps : ℕ) : Type 0 where
   pub fits : IsCopy net s copy
   pub set : copy.set ≡ first.set
@@ -135,8 +137,8 @@ pub record Onward (net : Net) (s : ℕ) (ends : ℕ → ℕ) (bound : ℕ) (firs
   pub log : length copy.log ≡ length first.log + taken
   pub counted : steps ≡ steps0 + taken
   pub next : (results : List StationCopy) (after : MarkedMessages) (over over_after : CloneSet) (n : ℕ) →
-      Ends (simulation net) has ends s bound copy results sent after over over_after n →
-      Ends (simulation net) has ends s bound first results start after over over_after (n + taken)
+      ComesTo (simulation net) has ends s bound copy results sent after over over_after n →
+      ComesTo (simulation net) has ends s bound first results start after over over_after (n + taken)
 
 -- the copies at the bound that a copy became, and what it sent to others
 pub record IsAdvance (net : Net) (s : ℕ) (ends : ℕ → ℕ) (bound : ℕ) (r : StationCopy) (done0 done1 : List StationCopy)
@@ -145,7 +147,7 @@ pub record IsAdvance (net : Net) (s : ℕ) (ends : ℕ → ℕ) (bound : ℕ) (r
   pub gained : ℕ
   pub done : done1 ≡ done0 ++ results
   pub steps : steps1 ≡ steps0 + gained
-  pub comes : Ends (simulation net) has ends s bound r results sent0 sent1 over0 over1 gained
+  pub comes : ComesTo (simulation net) has ends s bound r results sent0 sent1 over0 over1 gained
   pub fits : AllByRecursion (IsCopy net s) results
   pub few : gained ≤ may_handle net.limit r
   pub shared : over1 ≡ empty → size r.set * length r.log + gained ≤ handled_alone_by results
@@ -171,7 +173,8 @@ pending_of None k = []
 pending_of (Some m) k = (m, k) ∷ []
 
 -- the copies at the bound that all copies became, and what they sent to others
-pub record IsStepResult (net : Net) (s : ℕ) (ends : ℕ → ℕ) (bound : ℕ) (old done : List StationCopy) (sent : MarkedMessages)
+pub record IsStepResult (net : Net) (s : ℕ) (ends : ℕ → ℕ) (bound : ℕ) (old done : List StationCopy)
+    (sent : MarkedMessages)
     (over : CloneSet) (steps0 steps : ℕ) : Type 0 where
   pub far : SoFar (simulation net) has ends s bound old done sent empty over
   pub count : ℕ

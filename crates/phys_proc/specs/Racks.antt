@@ -1,6 +1,6 @@
 -- What a reader sees of a station.
-use Rattle.std.specs.Prelude.{◌≡◌, ◌↔◌, ℕ, ◌<◌, ◌≤◌, List, true, length}
-use Rattle.sim_base.specs.Clones.{Clone, clone_at}
+use Rattle.std.specs.Prelude.{◌≡◌, ◌↔◌, ℕ, ◌<◌, ◌≤◌, List, true, length, Some}
+use Rattle.sim_base.specs.Clones.{Clone, clone_at, place_of}
 use Rattle.sim_base.specs.declared.lists.TheConstants.{MOST_CLONES}
 use Rattle.sim_base.specs.declared.message.Msg.{Msg}
 use Rattle.sim_base.specs.declared.entry.Entry.{Entry}
@@ -11,6 +11,7 @@ use Rattle.net_model.specs.Net.{Net}
 use Rattle.stations.specs.Runs.{log_at}
 use Rattle.run_laws.specs.Queue.{In}
 use Rattle.phys_proc.specs.Own.{StationCopy}
+use Rattle.phys_proc.specs.declared.rack.Found.{Found}
 
 -- a copy as a reader sees it: its clones and its log
 pub record SeenView : Type 0 where
@@ -50,3 +51,7 @@ pub record IsSeen (net : Net) (cs : List Clone) (s front c handled shared : ℕ)
   pub class : CloneSet
   pub is_class : IsClassOf net cs s front c class
   pub size : shared ≡ size class
+
+-- what was found of the clone of this name
+abbrev pub IsFoundOf : Net → List Clone → ℕ → ℕ → List ℕ → Found → Type 0
+IsFoundOf net cs s front who f = (c : ℕ) × (place_of who cs ≡ Some c) × IsSeen net cs s front c f.handled f.shared

@@ -12,6 +12,7 @@ use arrayvec::ArrayVec;
 use clone_sets::CloneSet;
 use net_model::Model;
 use sim_base::{Msg, NoMemory, Steps};
+use stations::MOST_SENDS;
 use std::alloc::Global;
 use std::sync::ledger::Ledger;
 
@@ -69,7 +70,7 @@ pub(crate) fn go_on<L: Ledger>(
     station: u32,
     ends: &CloneEnds,
     bound: u64,
-    out: &mut ArrayVec<Msg, 16>,
+    out: &mut ArrayVec<Msg, MOST_SENDS>,
     stage: &mut Stage,
     steps: &mut Steps<L>,
 ) -> Result<Stop, NoMemory>
@@ -111,7 +112,7 @@ pub(crate) fn finish<L: Ledger>(
     station: u32,
     ends: &CloneEnds,
     bound: u64,
-    out: &mut ArrayVec<Msg, 16>,
+    out: &mut ArrayVec<Msg, MOST_SENDS>,
     stage: &mut Stage,
     steps: &mut Steps<L>,
 ) -> Result<(), NoMemory>

@@ -1,7 +1,7 @@
 //! A physical process: one copy of a station, which stands for the virtual processes of several clones.
-ghost use Rattle.std.specs.Prelude.{◌≡◌, ℕ, ◌<◌, ◌≤◌, List, ◌∷◌, length};
+ghost use Rattle.std.specs.Prelude.{◌≡◌, ◌<◌, ◌≤◌, List, ◌∷◌, length};
 ghost use Rattle.std.specs.Prelude.{IfOk, IfSome, IfNone, OnOk, ◌+◌};
-ghost use Rattle.clone_sets.specs.Sets.{has, minus};
+ghost use Rattle.clone_sets.specs.Sets.{minus};
 ghost use Rattle.clone_sets.specs.declared.set.CloneSet.{CloneSet as CloneSet'};
 ghost use Rattle.sim_base.specs.declared.message.Msg.{Msg as Msg'};
 ghost use Rattle.sim_base.specs.Order.{msg_cmp};
@@ -15,8 +15,8 @@ use clone_sets::CloneSet;
 use log_chain::Log;
 use net_model::Model;
 use sim_base::{Entry, Msg, NoMemory, Pending, Steps};
-use stations::State;
 use stations::state::handle;
+use stations::{MOST_SENDS, State};
 use std::alloc::Global;
 use std::sync::ledger::Ledger;
 
@@ -92,7 +92,7 @@ pub(crate) fn handle_least<L: Ledger>(
     copy: &mut PhysCopy,
     model: &Model,
     station: u32,
-    out: &mut ArrayVec<Msg, 16>,
+    out: &mut ArrayVec<Msg, MOST_SENDS>,
     sent: &mut Vec<(Msg, CloneSet)>,
     steps: &mut Steps<L>,
 ) -> Result<(), NoMemory>

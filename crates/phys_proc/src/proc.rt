@@ -22,6 +22,7 @@ use clone_sets::CloneSet;
 use log_chain::Log;
 use net_model::Model;
 use sim_base::{Lists, Msg, NoMemory, Pending, Steps};
+use stations::MOST_SENDS;
 use stations::state::setup;
 use std::alloc::Global;
 use std::mem;
@@ -38,7 +39,7 @@ pub struct Proc {
     // for each clone a guess where its copy stands, at which a search begins
     places: Vec<u8>,
     // for what one message sends, from the first step on: an empty one is more than a kilobyte that has to be written
-    out: Option<Box<ArrayVec<Msg, 16>>>,
+    out: Option<Box<ArrayVec<Msg, MOST_SENDS>>>,
 }
 
 impl std::marker::Model for Proc {
@@ -128,8 +129,8 @@ fn note_place(places: &mut Vec<u8>, set: CloneSet, place: usize) {
 // The buffer that was used before, or a new one.
 fn buffer(
     alloc: Global,
-    used: Option<Box<ArrayVec<Msg, 16>>>,
-) -> Result<Box<ArrayVec<Msg, 16>>, NoMemory> {
+    used: Option<Box<ArrayVec<Msg, MOST_SENDS>>>,
+) -> Result<Box<ArrayVec<Msg, MOST_SENDS>>, NoMemory> {
     match used {
         Some(out) => Ok(out),
         None => Ok(Box::new(alloc, ArrayVec::new())?),

@@ -1,11 +1,11 @@
 //! Racks: what a reader sees of a station at a window boundary (front).
-ghost use Rattle.std.specs.Prelude.{◌≡◌, ℕ, ◌<◌, IfOk, IfSome, IfNone, length, map, true, false, Some, None};
+ghost use Rattle.std.specs.Prelude.{◌≡◌, ℕ, ◌<◌, IfOk, IfSome, IfNone, length, true, false, None};
 ghost use Rattle.std.specs.List.{AllByRecursion};
 ghost use Rattle.sim_base.specs.Clones.{place_of};
 ghost use Rattle.sim_base.specs.declared.lists.TheConstants.{MOST_CLONES};
 ghost use Rattle.clone_sets.specs.Sets.{has, size};
 ghost use Rattle.run_laws.specs.Queue.{In};
-ghost use Rattle.phys_proc.specs.Racks.{SeenView, view_of_copy, IsSeen};
+ghost use Rattle.phys_proc.specs.Racks.{SeenView, view_of_copy, IsFoundOf};
 
 use crate::copy::PhysCopy;
 use clone_sets::CloneSet;
@@ -117,10 +117,10 @@ impl Rack {
     }
 
     // What it shows of the clone of this name.
-    fn found(&self, who: &Name) -> Option<Found>
+    fn find(&self, who: &Name) -> Option<Found>
         ensures unknown { IfNone result (place_of who.now self.now.clones ≡ None) }
-        ensures found { IfSome result (λ f. (c : ℕ) × (place_of who.now self.now.clones ≡ Some c) ×
-            IsSeen self.now.net self.now.clones self.now.station self.now.front c f.handled f.shared) }
+        ensures found { IfSome result (λ f. IsFoundOf self.now.net self.now.clones self.now.station self.now.front
+            who.now f) }
     {
         let Some(c) = self.lists.find(who) else {
             return None;
@@ -136,13 +136,13 @@ impl Rack {
         ensures front { result.front ≡ self.now.front }
         ensures clones { result.clones ≡ length self.now.clones }
         ensures unknown { IfNone result.found (place_of who.now self.now.clones ≡ None) }
-        ensures found { IfSome result.found (λ f. (c : ℕ) × (place_of who.now self.now.clones ≡ Some c) ×
-            IsSeen self.now.net self.now.clones self.now.station self.now.front c f.handled f.shared) }
+        ensures found { IfSome result.found (λ f. IsFoundOf self.now.net self.now.clones self.now.station
+            self.now.front who.now f) }
     {
         Glance {
             front: self.front,
             clones: self.lists.len(),
-            found: self.found(who),
+            found: self.find(who),
         }
     }
 }

@@ -1,12 +1,9 @@
 //! All physical processes of a station are advanced to a window boundary.
-ghost use Rattle.std.specs.Prelude.{◌≡◌, ◌≤◌, ◌+◌, ◌++◌, [], IfOk, OnOk};
-ghost use Rattle.std.specs.List.{AllByRecursion, AllZip};
-ghost use Rattle.sim_base.specs.declared.lists.TheConstants.{MOST_CLONES};
-ghost use Rattle.clone_sets.specs.Sets.{has, empty};
-ghost use Rattle.run_laws.specs.Copies.{Disjoint};
-ghost use Rattle.net_model.specs.Rules.{IsNet};
-ghost use Rattle.phys_proc.specs.Own.{IsCopy, IsStepResult, IsLate, AreLate, all_sizes};
+ghost use Rattle.std.specs.Prelude.{◌≡◌, ◌+◌, ◌++◌, IfOk, OnOk};
+ghost use Rattle.std.specs.List.{AllZip};
+ghost use Rattle.phys_proc.specs.Own.{IsStepResult, IsLate, AreLate};
 ghost use Rattle.phys_proc.specs.Gone.{ends_in};
+ghost use Rattle.phys_proc.specs.Stages.{MayStepCopies, IsNewStage};
 
 use crate::advancing::{Stage, Stop, finish, go_on};
 use crate::clone_ends::CloneEnds;
@@ -15,13 +12,14 @@ use crate::copy::PhysCopy;
 use arrayvec::ArrayVec;
 use net_model::Model;
 use sim_base::{Msg, NoMemory, Steps};
+use stations::MOST_SENDS;
 use std::alloc::Global;
 use std::sync::ledger::Ledger;
 
 // Steps the copies where they stand, and returns a time that nothing is pending before. Those whose clones part are
 // taken out, and the copies that they become are put with the others that are done. A copy is looked at only if its
 // time in `leasts` is before the bound.
-fn step_standing<L: Ledger>(
+fn step_in_place<L: Ledger>(
     alloc: Global,
     copies: &mut Vec<PhysCopy>,
     leasts: &mut Vec<u64>,
@@ -29,20 +27,13 @@ fn step_standing<L: Ledger>(
     station: u32,
     ends: &CloneEnds,
     bound: u64,
-    out: &mut ArrayVec<Msg, 16>,
+    out: &mut ArrayVec<Msg, MOST_SENDS>,
     stage: &mut Stage,
     steps: &mut Steps<L>,
 ) -> Result<u64, NoMemory>
-    requires valid { IsNet model.now }
-    requires fits { AllByRecursion (IsCopy model.now station) copies.old.items }
+    requires may_step { MayStepCopies model.now station bound copies.old.items }
     requires each { AllZip IsLate leasts.old.items copies.old.items }
-    requires disjoint { Disjoint has copies.old.items }
-    requires early { bound ≤ model.now.horizon }
-    requires few { all_sizes copies.old.items ≤ MOST_CLONES }
-    requires none { stage.old.done ≡ [] }
-    requires silent { stage.old.sent.items ≡ [] }
-    requires under { stage.old.over ≡ empty }
-    requires new { stage.old.handled ≡ 0 }
+    requires new { IsNewStage stage.old }
     ensures stepped { OnOk result (IsStepResult model.now station (ends_in model.now.horizon ends.now) bound
         copies.old.items (copies.new.items ++ stage.new.done) stage.new.sent.items stage.new.over steps.old steps.new) }
     ensures late { IfOk result (λ t. AreLate t copies.new.items) }
@@ -96,19 +87,12 @@ pub(crate) fn step_copies<L: Ledger>(
     station: u32,
     ends: &CloneEnds,
     bound: u64,
-    out: &mut ArrayVec<Msg, 16>,
+    out: &mut ArrayVec<Msg, MOST_SENDS>,
     stage: &mut Stage,
     steps: &mut Steps<L>,
 ) -> Result<(), NoMemory>
-    requires valid { IsNet model.now }
-    requires fits { AllByRecursion (IsCopy model.now station) copies }
-    requires disjoint { Disjoint has copies }
-    requires early { bound ≤ model.now.horizon }
-    requires few { all_sizes copies ≤ MOST_CLONES }
-    requires none { stage.old.done ≡ [] }
-    requires silent { stage.old.sent.items ≡ [] }
-    requires under { stage.old.over ≡ empty }
-    requires new { stage.old.handled ≡ 0 }
+    requires may_step { MayStepCopies model.now station bound copies }
+    requires new { IsNewStage stage.old }
     ensures stepped { OnOk result (IsStepResult model.now station (ends_in model.now.horizon ends.now) bound copies
         stage.new.done stage.new.sent.items stage.new.over steps.old steps.new) }
     ensures handled { OnOk result (stage.new.handled + steps.old ≡ steps.new) }
@@ -118,7 +102,7 @@ pub(crate) fn step_copies<L: Ledger>(
         return Ok(());
     }
     let (mut standing, mut leasts) = copies.into_parts();
-    let least = step_standing(
+    let least = step_in_place(
         alloc,
         &mut standing,
         &mut leasts,

@@ -60,12 +60,15 @@ impl Outcome {
     }
 }
 
-/// A command over a model in the file `m` and a script in the file `s`, and how it ends.
+/// A command over a model in the file `m`, in which the first `old` becomes `new`, and a script in the file `s`, and
+/// how it ends.
 #[derive(Clone, Copy)]
 struct Row<'a> {
     shows: &'a str,
     words: &'a [&'a str],
     model: &'a str,
+    old: &'a str,
+    new: &'a str,
     script: &'a str,
     status: u8,
     traces: &'a str,
@@ -76,14 +79,30 @@ struct Row<'a> {
 /// `run` of the model in `m` and the script in `s`.
 const RUN: &[&str] = &["run", "m", "s"];
 
+/// `solo` of their base.
+const SOLO_BASE: &[&str] = &["solo", "m", "s", "--clone", "base"];
+
+/// `live` of the two.
+const LIVE: &[&str] = &["live", "m", "s"];
+
+/// The lines of error where a file is not read, and where the output is cut off.
+const NO_MODEL: &str = "cloner: cannot read the model\n";
+
+const NO_SCRIPT: &str = "cloner: cannot read the script\n";
+
+const CUT: &str = "cloner: cannot write\n";
+
 /// The script of the worked example: from 8 on the desk of `fast` serves for 2.
-const FAST: &str = "fork fast from base\nset fast at 8 desk service 2 2";
+const FAST: &str = "fork fast from base
+set fast at 8 desk service 2 2";
 
 /// A run that is to be changed in one place or two.
 const PLAIN: Row<'static> = Row {
     shows: "a run of one desk",
     words: RUN,
     model: ONE_DESK,
+    old: "",
+    new: "",
     script: "",
     status: 0,
     traces: texts::BASE,
@@ -98,9 +117,26 @@ const REFUSED: Row<'static> = Row {
     ..PLAIN
 };
 
+/// A run where a station may handle three messages, and the desk gets a fourth.
+const LIMIT_3: Row<'static> = Row {
+    old: "lookahead",
+    new: "limit = 3\nlookahead",
+    status: 7,
+    errors: "cloner: limit 3 met at station desk in clone base\n",
+    ..REFUSED
+};
+
 impl<'a> Row<'a> {
+    /// The text of its model.
+    fn changed_model(&self, alloc: Global) -> Result<String, NoMemory> {
+        Ok(self.model.replacen(alloc, self.old, self.new, 1)?)
+    }
+
     fn holds<R: Threads + Wait + Sync>(&self, rt: &R, alloc: Global) -> bool {
-        let (words, model, script) = (self.words, self.model, self.script);
+        let Ok(model) = self.changed_model(alloc) else {
+            return false;
+        };
+        let (words, model, script) = (self.words, model.as_str(), self.script);
         match ended(rt, alloc, &NoGate, words, model, script, &GOOD) {
             Ok(ended) => {
                 ended.status == self.status

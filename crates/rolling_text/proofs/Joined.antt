@@ -1,4 +1,4 @@
--- Lines behind 32 bytes.
+-- Lines behind the margin.
 use Rattle.std.proofs.Common.{◌≡◌, ℕ, suc, ◌+◌, ◌-◌, ◌<◌, ◌≤◌, refl, sym}
 use Rattle.std.proofs.Common.{◌∙◌, ap, arith, List, ◌++◌, codes}
 use Rattle.std.proofs.Common.{get_or, append_assoc, length, take, drop, length-drop, length-append}
@@ -14,8 +14,9 @@ use Rattle.rolling_text.proofs.Keeping.{IsJoined, dropped_within, joined_at}
 use Rattle.trace_report.specs.Outputs.{clone_text}
 
 -- a page with lines of the clone before this one, of which the end is dropped
-module _ (net : Net) (valid : IsNet net) (cs : List Clone) (in_net : AreInNet net cs) (c dropped : ℕ) (there : c < length cs)
-    (old : List ℕ) (margin : 32 ≤ length old) (left : AreLeft net cs c dropped (drop 32 old)) where
+module _ (net : Net) (valid : IsNet net) (cs : List Clone) (in_net : AreInNet net cs) (c dropped : ℕ)
+    (there : c < length cs) (old : List ℕ) (margin : 32 ≤ length old)
+    (left : AreLeft net cs c dropped (drop 32 old)) where
   lengths : length (drop 32 old) + length left.others ≡ length (body_before net cs c)
   lengths = sym (length-append (drop 32 old) left.others) ∙ ap length left.before
 

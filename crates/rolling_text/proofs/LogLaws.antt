@@ -1,6 +1,6 @@
 -- The logs of a world at the horizon: their keys fit words, they rise, and merged or measured they are a clone's rest.
-use Rattle.std.proofs.Common.{◌≡◌, ℕ, zero, suc, ◌+◌, ◌<◌, ◌≤◌, Bool, true, false, not, nat_lt, if◌then◌else◌, List, [], ◌∷◌}
-use Rattle.std.proofs.Common.{◌++◌, refl, sym, ap, ap₂, ◌∙◌, subst, arith, length, sum_by, length-append}
+use Rattle.std.proofs.Common.{◌≡◌, ℕ, zero, suc, ◌+◌, ◌<◌, ◌≤◌, Bool, true, false, not, nat_lt, if◌then◌else◌, List}
+use Rattle.std.proofs.Common.{[], ◌∷◌, ◌++◌, refl, sym, ap, ap₂, ◌∙◌, subst, arith, length, sum_by, length-append}
 use Rattle.std.proofs.Common.{drop, ◌-◌}
 use Rattle.std.proofs.Math.Seq.{drop-append_seam}
 use Rattle.std.specs.List.{AllByRecursion, filter, flat_map}
@@ -30,7 +30,8 @@ use Rattle.log_chain.specs.Times.{RiseByTime, from_time, times_of}
 use Rattle.trace_report.specs.TraceText.{entry_line}
 use Rattle.trace_cursor.specs.Rests.{merge_of_rests}
 use Rattle.trace_cursor.specs.Words.{by_key}
-use Rattle.trace_cursor.proofs.Rests.{log_rises, rest_is_merge}
+use Rattle.run_laws.proofs.Traces.{log_rises}
+use Rattle.trace_cursor.proofs.Rests.{rest_is_merge}
 use Rattle.trace_cursor.proofs.Rising.{rise_by_time, fit_from}
 use Rattle.world_core.specs.Worlds.{WorldView}
 use Rattle.rolling_text.specs.Lengths.{log_length, first_lengths}
@@ -76,7 +77,8 @@ pub early_left : (t : ℕ) (e : Entry Msg Line) (es : List (Entry Msg Line)) →
     → from_time t (e ∷ es) ≡ from_time t es
 early_left t e es l = by (nat_lt e.msg.key.time t) refl
   where
-    by : (b : Bool) → nat_lt e.msg.key.time t ≡ b → (if not b then e ∷ from_time t es else from_time t es) ≡ from_time t es
+    by : (b : Bool) → nat_lt e.msg.key.time t ≡ b
+        → (if not b then e ∷ from_time t es else from_time t es) ≡ from_time t es
     by true p = refl
     by false p = let late = ltb-false e.msg.key.time t p in absurd (omega (arith, l, late))
 
@@ -208,7 +210,7 @@ module _ (world : WorldView) (over : IsOver world) (c : ℕ) (there : c < length
   pub log_rises_by_time : (s : ℕ) (log : List (Entry Msg Line)) → log ≡ log_at net clone s world.front → RiseByTime log
   log_rises_by_time s log e = subst RiseByTime (sym e) (rise_by_time (log_at net clone s world.front)
       (log_rises (lawful-stations net over.valid) (stations-to_stations net over.valid)
-      (fresh-stations net over.valid) clone s world.front (over.in_net.plans c there)))
+      (fresh-stations net over.valid) clone world.front (over.in_net.plans c there) s))
 
   -- what a walk has from a time on
   pub walk_is : (s t : ℕ) (log walk : List (Entry Msg Line)) → log ≡ log_at net clone s world.front
@@ -258,7 +260,8 @@ module _ (world : WorldView) (over : IsOver world) (c : ℕ) (there : c < length
   span_measured model is s from until len log e h =
       let of : (t : ℕ) → sum_by (λ (x : Entry Msg Line). length (entry_line model x)) (from_time t log)
       ≡ log_length net clone t s =
-      λ t. ap (λ m. sum_by (λ (x : Entry Msg Line). length (entry_line m x)) (from_time t log)) is ∙ log_measured t s log e in
+      λ t. ap (λ m. sum_by (λ (x : Entry Msg Line). length (entry_line m x)) (from_time t log)) is
+      ∙ log_measured t s log e in
       let a = of from in
       let b = of until in
       omega (arith, a, b, h)
@@ -354,7 +357,8 @@ pub lengths_more : (net : Net) (c : Clone) (t n : ℕ)
 unfolding first_lengths
 lengths_more net c t n =
     let up : n + 1 ≡ suc n = omega arith in
-    ap (station_sum (log_length net c t)) up ∙ ap (λ s. station_sum (log_length net c t) n + log_length net c t s) (sym up)
+    ap (station_sum (log_length net c t)) up
+    ∙ ap (λ s. station_sum (log_length net c t) n + log_length net c t s) (sym up)
 
 -- ---- the same of what contracts see of a world's traces
 

@@ -23,6 +23,7 @@ use Rattle.stations.specs.Good.{sender_of, number_of}
 use Rattle.stations.specs.Runs.{simulation, trace_of, log_at}
 use Rattle.stations.proofs.GoodLaws.{lawful-stations, stations-to_stations, fresh-stations}
 use Rattle.log_chain.specs.Times.{from_time}
+use Rattle.trace_report.specs.declared.line.TheConstants.{MOST_LINE}
 use Rattle.trace_report.specs.TraceText.{entry_line}
 use Rattle.trace_cursor.specs.Rests.{merge_of_rests}
 use Rattle.trace_cursor.specs.Words.{by_key}
@@ -40,12 +41,12 @@ pub short_none : (net : Net) → HaveShortLines net []
 short_none net = record { each = λ e i. absurd i }
 
 -- one entry more
-pub short_more : (net : Net) (e : Entry Msg Line) (es : List (Entry Msg Line)) → length (entry_line net e) ≤ 256
+pub short_more : (net : Net) (e : Entry Msg Line) (es : List (Entry Msg Line)) → length (entry_line net e) ≤ MOST_LINE
     → HaveShortLines net es → HaveShortLines net (e ∷ es)
 short_more net e es l h = record { each = one }
   where
-    one : (x : Entry Msg Line) → In x (e ∷ es) → length (entry_line net x) ≤ 256
-    one x (inl is) = subst (λ (y : Entry Msg Line). length (entry_line net y) ≤ 256) (sym is) l
+    one : (x : Entry Msg Line) → In x (e ∷ es) → length (entry_line net x) ≤ MOST_LINE
+    one x (inl is) = subst (λ (y : Entry Msg Line). length (entry_line net y) ≤ MOST_LINE) (sym is) l
     one x (inr i) = h.each x i
 
 -- two lists in order as one
@@ -57,7 +58,7 @@ short_merge net cmp xs ys h k = record {
 
 -- so their lines are not longer than so many short ones
 sum_short : (net : Net) (es : List (Entry Msg Line)) → HaveShortLines net es
-    → sum_by (λ e. length (entry_line net e)) es ≤ 256 * length es
+    → sum_by (λ e. length (entry_line net e)) es ≤ MOST_LINE * length es
 sum_short net [] h = omega arith
 sum_short net (e ∷ es) h =
     let a = h.each e (inl refl) in
@@ -77,7 +78,7 @@ met_more net c i t h k =
     (from_on (simulation net) t (log_at net c (suc i) net.horizon)) h
     (subst (λ n. HaveShortLines net (from_on (simulation net) t (log_at net c n net.horizon))) up k))
 
--- the lines of one log more are within 256 bytes each
+-- the lines of one log more are within `MOST_LINE` bytes each
 module _ (world : WorldView) (over : IsOver world) (c : ℕ) (there : c < length world.clones) where
   abbrev net : Net
   net = world.net
@@ -86,7 +87,7 @@ module _ (world : WorldView) (over : IsOver world) (c : ℕ) (there : c < length
   clone = clone_at world.clones c
 
   log_bounded : (s : ℕ) (log : List (Entry Msg Line)) → log ≡ log_at net clone s world.front
-      → HaveShortLines net (trace_of net clone) → log_length net clone 0 s ≤ 256 * length log
+      → HaveShortLines net (trace_of net clone) → log_length net clone 0 s ≤ MOST_LINE * length log
   log_bounded s log e h =
       let a = log_measured world over c there 0 s log e in
       let in_trace : (x : Entry Msg Line) → In x (from_time 0 log) → In x (trace_of net clone) =
@@ -101,7 +102,7 @@ module _ (world : WorldView) (over : IsOver world) (c : ℕ) (there : c < length
 
   pub bound_more : (i bound new : ℕ) (log : List (Entry Msg Line)) → log ≡ log_at net clone (i + 1) world.front
       → HaveShortLines net (trace_of net clone) → first_lengths net clone 0 i ≤ bound
-      → new ≡ bound + 256 * length log → first_lengths net clone 0 (i + 1) ≤ new
+      → new ≡ bound + MOST_LINE * length log → first_lengths net clone 0 (i + 1) ≤ new
   bound_more i bound new log e h l n =
       let a = log_bounded (i + 1) log e h in
       let b = lengths_more net clone 0 i in

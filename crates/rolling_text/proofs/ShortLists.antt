@@ -1,8 +1,9 @@
 -- A call adds one decision to one list at most.
 use Rattle.std.proofs.Common.{ℕ, zero, suc, ◌+◌, ◌≤◌, List}
 use Rattle.std.proofs.Common.{[], ◌∷◌, ◌++◌, arith, length, length-append, slice_set, Some, None}
-use Rattle.sim_base.specs.Clones.{Clone, base, clone_at, clones_with_plan, clones_with_end, clones_with_fork}
-use Rattle.sim_base.specs.KeyWords.{most_numbers}
+use Rattle.sim_base.specs.Clones.{Clone, base, clone_at, clones_with_plan, clones_with_end, clones_with_fork, fork_of}
+use Rattle.sim_base.specs.Clones.{with_plan}
+use Rattle.sim_base.specs.declared.message.TheConstants.{WORD_NUMBERS}
 use Rattle.sim_base.specs.declared.decision.Decision.{Decision}
 use Rattle.sim_base.specs.declared.decision.Decision.TheVariants.{Fork, Set, End}
 use Rattle.sim_base.specs.declared.decision.Planned.{Planned}
@@ -31,14 +32,14 @@ push_within n (y ∷ ys) x h l (suc k) = push_within n ys x (λ j. h (suc j)) l 
 added_within : (n : ℕ) (cs : List Clone) (c : ℕ) (plan : Planned) → ((k : ℕ) → length (clone_at cs k).plans ≤ n)
     → (k : ℕ) → length (clone_at (clones_with_plan cs c plan) k).plans ≤ n + 1
 added_within n cs c plan h = set_within (n + 1) cs c
-    (record (clone_at cs c) { plans = (clone_at cs c).plans ++ plan ∷ [] })
+    (with_plan (clone_at cs c) plan)
     (λ j. let l = h j in omega (arith, l))
     (let l = h c in let e = length-append (clone_at cs c).plans (plan ∷ []) in omega (arith, l, e))
 
 forked_within : (n : ℕ) (cs : List Clone) (new : List ℕ) (old : ℕ) → ((k : ℕ) → length (clone_at cs k).plans ≤ n)
     → (k : ℕ) → length (clone_at (clones_with_fork cs new old) k).plans ≤ n + 1
 forked_within n cs new old h k =
-    let l = push_within n cs (record { name = new; plans = (clone_at cs old).plans; end = None }) h (h old) k in
+    let l = push_within n cs (fork_of (clone_at cs old) new) h (h old) k in
     omega (arith, l)
 
 ended_within : (n : ℕ) (cs : List Clone) (c at : ℕ) → ((k : ℕ) → length (clone_at cs k).plans ≤ n) → (k : ℕ)
@@ -68,7 +69,7 @@ none_of_base zero = omega arith
 none_of_base (suc k) = omega arith
 
 -- after few calls each clone has few decisions
-pub short_after_calls : (net : Net) (calls : List Call) → length calls ≤ most_numbers
+pub short_after_calls : (net : Net) (calls : List Call) → length calls ≤ WORD_NUMBERS
     → AreShort (clones_after_calls net (base ∷ []) calls)
 short_after_calls net calls l k there = let h = calls_within net calls 0 (base ∷ []) none_of_base k in
     omega (arith, h, l)

@@ -26,7 +26,8 @@ both_ok (Err e) A B P a b f = tt
 -- the lines of what a cursor was given, from a time on, and of what it has left, from another time on
 module _ (net model : Net) (c : Clone) (from until count : ℕ) (left others : List (Entry Msg Line)) (is : model ≡ net)
     (given : left ≡ from_on (simulation net) from (trace_of net c))
-    (behind : drop count left ≡ from_on (simulation net) until (trace_of net c)) (taken : others ≡ drop count left) where
+    (behind : drop count left ≡ from_on (simulation net) until (trace_of net c))
+    (taken : others ≡ drop count left) where
   lines_from : flat_map (entry_line model) left ≡ rest net c from
   lines_from = lines_are net model c from left is given
 

@@ -13,6 +13,7 @@ use Rattle.trace_report.specs.declared.line.TheConstants.{MOST_LINE}
 use Rattle.trace_report.specs.TraceText.{entry_line}
 use Rattle.rolling_text.specs.Sharing.{same_plan}
 use Rattle.rolling_text.specs.WorldTraces.{IsWalk}
+use Rattle.rolling_text.specs.declared.texts.TheConstants.{MARGIN}
 use Rattle.rolling_text.specs.declared.texts.Texts.{Texts}
 
 -- the lines of a clone
@@ -52,9 +53,9 @@ pub record AreLeft (net : Net) (cs : List Clone) (c dropped : ℕ) (lines : List
 pub record HaveShortLines (net : Net) (es : List (Entry Msg Line)) : Type 0 where
   pub each : (e : Entry Msg Line) → In e es → length (entry_line net e) ≤ MOST_LINE
 
--- the lines of each clone fit in so many bytes, with 32 before
+-- the lines of each clone fit in so many bytes, with a margin before
 abbrev pub AllFit : Net → List Clone → ℕ → Type 0
-AllFit net cs reserved = (c : ℕ) → c < length cs → 32 + length (body net (clone_at cs c)) ≤ reserved
+AllFit net cs reserved = (c : ℕ) → c < length cs → MARGIN + length (body net (clone_at cs c)) ≤ reserved
 
 -- a cursor has free places for all logs, and the piece has the bytes of a line
 pub record CanPut (net : Net) (texts : Texts) : Type 0 where
@@ -64,5 +65,5 @@ pub record CanPut (net : Net) (texts : Texts) : Type 0 where
 -- all that the texts of these clones need is there: a buffer that fits the longest, too
 pub record IsReady (net : Net) (cs : List Clone) (texts : Texts) : Type 0 where
   pub fits : AllFit net cs texts.page.reserved
-  pub margin : length texts.page.text ≡ 32
+  pub margin : length texts.page.text ≡ MARGIN
   pub can : CanPut net texts

@@ -1,7 +1,7 @@
 -- The traces of the clones of a world.
 use Rattle.std.specs.Prelude.{◌≡◌, ℕ, ◌<◌, ◌≤◌, List, length}
 use Rattle.sim_base.specs.Clones.{Clone, clone_at}
-use Rattle.sim_base.specs.KeyWords.{most_numbers}
+use Rattle.sim_base.specs.declared.message.TheConstants.{WORD_NUMBERS}
 use Rattle.sim_base.specs.declared.lists.TheConstants.{MOST_CLONES}
 use Rattle.net_model.specs.Net.{Net}
 use Rattle.net_model.specs.Rules.{IsNet}
@@ -18,7 +18,7 @@ pub record WorldTracesView : Type 0 where
 
 -- each clone has few enough decisions for their numbers to fit a word
 abbrev pub AreShort : List Clone → Type 0
-AreShort cs = (k : ℕ) → k < length cs → length (clone_at cs k).plans ≤ most_numbers
+AreShort cs = (k : ℕ) → k < length cs → length (clone_at cs k).plans ≤ WORD_NUMBERS
 
 -- a world at the horizon
 pub record IsOver (world : WorldView) : Type 0 where

@@ -5,7 +5,7 @@
 //! both have are kept, and only what comes after the time at which the two decision lists part is made.
 //!
 //! ```text
-//!                      32 bytes    lines
+//!                      a margin    lines
 //!   text of `base`     clone base\n|3 gate ..\n5 desk ..\n|8 desk ..\n13 desk ..\n
 //!   text of `fast`     clone fast\n| kept                |8 desk analyst 0 set service 2 2 ..\n11 desk ..\n
 //!                                                        ^ the two lists part at 8
@@ -19,9 +19,9 @@
 //!
 //! A text is put in one call, whose parts are put as they are made: the name line and what is kept of the text before
 //! it, and then its own lines, 16 KiB at a time. Of these the next text's are kept, in a buffer for which `prepare`
-//! reserves 256 bytes a line, and no line is longer; memory that nothing kept reaches is never touched. So the text of a
-//! clone that no other follows takes hardly any memory. A line that is not kept costs its entry from the stations' logs,
-//! merged by key, and its bytes. `put_alone` puts the text of one log in the same way.
+//! reserves 256 bytes a line, and no line is longer; memory that nothing kept reaches is never touched. So the text of
+//! a clone that no other follows takes hardly any memory. A line that is not kept costs its entry from the stations'
+//! logs, merged by key, and its bytes. `put_alone` puts the text of one log in the same way.
 //!
 //! Long texts are put by several workers, which stay for a whole text. The text is cut into spans of about 8,192 lines.
 //! The others are makers: each merges what comes in a span and makes its lines in a buffer of its own, one span after

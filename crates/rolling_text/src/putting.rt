@@ -3,6 +3,7 @@ ghost use Rattle.std.specs.Prelude.{◌≡◌, ◌+◌, ◌<◌, ◌≤◌, ◌+
 ghost use Rattle.sim_base.specs.Clones.{clone_at};
 ghost use Rattle.sim_outer.specs.Bytes.{IsAppended, IsPrefixAppended};
 ghost use Rattle.sim_outer.specs.Causes.{AreCounted, HasRisen};
+ghost use Rattle.rolling_text.specs.declared.texts.TheConstants.{MARGIN};
 ghost use Rattle.rolling_text.specs.Counting.{AreCountedTo};
 ghost use Rattle.rolling_text.specs.Puts.{IsTaken, IsPut, IsCutOff};
 ghost use Rattle.rolling_text.specs.Texts.{AllFit, AreLeft, CanPut, IsReady, body, parting_at, rest};
@@ -21,13 +22,14 @@ use std::alloc::Global;
 use std::sync::Wait;
 use std::thread::Threads;
 
-// Puts a clone's name line before its lines, at the end of the 32 bytes there, and returns where it begins.
+// Puts a clone's name line before its lines, at the end of the margin there, and returns where it begins.
 fn put_head(page: &mut Page, name: &Name) -> usize
-    requires margin { 32 ≤ length page.old.text }
-    ensures text { drop result page.new.text ≡ codes "clone " ++ (name.now ++ (codes "\n" ++ drop 32 page.old.text)) }
-    ensures lines { drop 32 page.new.text ≡ drop 32 page.old.text }
+    requires margin { MARGIN ≤ length page.old.text }
+    ensures text { drop result page.new.text
+        ≡ codes "clone " ++ (name.now ++ (codes "\n" ++ drop MARGIN page.old.text)) }
+    ensures lines { drop MARGIN page.new.text ≡ drop MARGIN page.old.text }
     ensures size { length page.new.text ≡ length page.old.text }
-    ensures start { result ≤ 32 }
+    ensures start { result ≤ MARGIN }
     ensures reserved { page.new.reserved ≡ page.old.reserved }
 {
     let bytes = name.as_bytes();
@@ -43,14 +45,14 @@ fn put_head(page: &mut Page, name: &Name) -> usize
 fn begin_text(traces: &WorldTraces<'_>, c: u32, time: u64, dropped: usize, page: &mut Page) -> usize
     requires there { c < length traces.now.clones }
     requires time { time ≡ parting_at traces.now.net traces.now.clones c }
-    requires margin { 32 ≤ length page.old.text }
-    requires left { AreLeft traces.now.net traces.now.clones c dropped (drop 32 page.old.text) }
+    requires margin { MARGIN ≤ length page.old.text }
+    requires left { AreLeft traces.now.net traces.now.clones c dropped (drop MARGIN page.old.text) }
     ensures text { drop result page.new.text ++ rest traces.now.net (clone_at traces.now.clones c) time
         ≡ clone_text traces.now.net (clone_at traces.now.clones c) }
-    ensures lines { drop 32 page.new.text ++ rest traces.now.net (clone_at traces.now.clones c) time
+    ensures lines { drop MARGIN page.new.text ++ rest traces.now.net (clone_at traces.now.clones c) time
         ≡ body traces.now.net (clone_at traces.now.clones c) }
-    ensures margin { 32 ≤ length page.new.text }
-    ensures start { result ≤ 32 }
+    ensures margin { MARGIN ≤ length page.new.text }
+    ensures start { result ≤ MARGIN }
     ensures reserved { page.new.reserved ≡ page.old.reserved }
 {
     let _clones = traces.len();
@@ -126,15 +128,15 @@ fn put_text<'a, O: Sink, R: Threads + Wait + Sync>(
     requires there { c < length traces.now.clones }
     requires can { CanPut traces.now.net texts.old }
     requires fits { AllFit traces.now.net traces.now.clones texts.old.page.reserved }
-    requires margin { 32 ≤ length texts.old.page.text }
-    requires left { AreLeft traces.now.net traces.now.clones c dropped (drop 32 texts.old.page.text) }
+    requires margin { MARGIN ≤ length texts.old.page.text }
+    requires left { AreLeft traces.now.net traces.now.clones c dropped (drop MARGIN texts.old.page.text) }
     ensures ok { OnOk result (IsPut (clone_text traces.now.net (clone_at traces.now.clones c))
         (O.seen out.old) (O.seen out.new)) }
     ensures err { OnErr result (IsCutOff (clone_text traces.now.net (clone_at traces.now.clones c))
         (O.seen out.old) (O.seen out.new)) }
     ensures left { IfOk result (λ n. next ≡ parting_at traces.now.net traces.now.clones (c + 1) →
-        AreLeft traces.now.net traces.now.clones (c + 1) n (drop 32 texts.new.page.text)) }
-    ensures margin { OnOk result (32 ≤ length texts.new.page.text) }
+        AreLeft traces.now.net traces.now.clones (c + 1) n (drop MARGIN texts.new.page.text)) }
+    ensures margin { OnOk result (MARGIN ≤ length texts.new.page.text) }
     ensures reserved { OnOk result (texts.old.page.reserved ≤ texts.new.page.reserved) }
     ensures can { CanPut traces.now.net texts.new }
 {

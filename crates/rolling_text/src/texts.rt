@@ -9,7 +9,7 @@ use sim_base::NoMemory;
 use std::alloc::Global;
 use trace_cursor::Cursor;
 
-/// A name line is `clone `, at most 16 bytes and a line feed.
+/// The bytes before the lines, at the end of which a name line stands: `clone `, at most 16 bytes and a line feed.
 pub(crate) const MARGIN: usize = 32;
 
 /// How many bytes of lines are made at once: they stay near the processor from when they are made to when they are

@@ -1,10 +1,11 @@
 //! The lines of a clone in a span of time: put, or in a buffer of their own.
-ghost use Rattle.std.specs.Prelude.{◌≡◌, ◌<◌, ◌≤◌, ◌++◌, length, drop, IfOk, OnOk, OnErr};
+ghost use Rattle.std.specs.Prelude.{◌≡◌, ◌<◌, ◌≤◌, length, drop, IfOk, OnOk, OnErr};
 ghost use Rattle.sim_base.specs.Clones.{clone_at};
 ghost use Rattle.stations.specs.Runs.{simulation, trace_of};
 ghost use Rattle.run_laws.specs.SharedTexts.{from_on};
+ghost use Rattle.rolling_text.specs.Orders.{IsMade, span_between};
 ghost use Rattle.rolling_text.specs.TextSpans.{IsSpanCutOff, IsSpanPut, MayPut};
-ghost use Rattle.rolling_text.specs.Texts.{CanPut, rest};
+ghost use Rattle.rolling_text.specs.Texts.{CanPut};
 ghost use Rattle.rolling_text.specs.WorldTraces.{IsWalk};
 
 use crate::lines::{add_entries, gather, put_entries};
@@ -56,8 +57,7 @@ pub(crate) fn make_lines(
 ) -> Result<Vec<u8>, NoMemory>
     requires there { c < length traces.now.clones }
     requires order { from ≤ until }
-    ensures made { IfOk result (λ bytes. bytes.items ++ rest traces.now.net (clone_at traces.now.clones c) until
-        ≡ rest traces.now.net (clone_at traces.now.clones c) from) }
+    ensures made { IfOk result (λ bytes. IsMade (span_between traces.now c from until) bytes.items) }
 {
     let model = traces.world.model();
     let mut walk = Cursor::new(alloc, model.len() as usize)?;

@@ -4,7 +4,8 @@ use Rattle.std.proofs.Common.{nat_lt, min, None, refl, sym, ap, ◌∙◌, subst
 use Rattle.std.specs.List.{AllByRecursion, AllZip}
 use Rattle.std.proofs.lemmas.Bool.{cases_Bool, cases_eq, ne_eqb, lt-ltb, ltb-true, false≢true}
 use Rattle.std.proofs.lemmas.List.{length_push}
-use Rattle.sim_base.specs.Clones.{Clone, clone_at, clones_with_plan, clones_with_end, clones_with_fork}
+use Rattle.sim_base.specs.Clones.{Clone, clone_at, clones_with_plan, clones_with_end, clones_with_fork, fork_of}
+use Rattle.sim_base.specs.Clones.{with_plan, with_end}
 use Rattle.sim_base.specs.declared.decision.Planned.{Planned}
 use Rattle.run_laws.specs.Queue.{insert, In}
 use Rattle.run_laws.specs.Simulation.{Simulation}
@@ -12,14 +13,14 @@ use Rattle.run_laws.specs.World.{log_of, to_it}
 use Rattle.run_laws.specs.Window.{earlier_than}
 use Rattle.run_laws.specs.Runs.{run, end_of, run_of, log_at, state_at, due_at}
 use Rattle.run_laws.specs.Handlers.{HandlesLawfully}
-use Rattle.run_laws.specs.Laws.{with_plan, with_end, AddsDue, DropsDue}
+use Rattle.run_laws.specs.Laws.{AddsDue, DropsDue}
 use Rattle.sim_base.specs.Marked.{SortedMarked}
 use Rattle.run_laws.specs.Copies.{Copy, Carries, Disjoint, takes, messages_taken, takes_as}
 use Rattle.run_laws.specs.Copies.{origin_of, IsGiven, IsForked, ends_of, Stands}
 use Rattle.run_laws.proofs.Forks.{end_of-fork}
 use Rattle.run_laws.proofs.Queue.{all_in}
 use Rattle.run_laws.proofs.Parts.{part-congr, part-filter}
-use Rattle.run_laws.proofs.Late.{late_decision_adds_due, late_end_drops_due}
+use Rattle.run_laws.proofs.Late.{decision_adds_due, end_drops_due}
 use Rattle.run_laws.proofs.Places.{set_cases, clone_push_same, clone_push_other}
 use Rattle.run_laws.proofs.Delivery.{zip_from, zip_each, one_of, disjoint_given}
 
@@ -101,7 +102,7 @@ module _ {S M N K : Type 0} {sim : Simulation S M N} {Good : ℕ → S → Type 
 
     -- what it changes of its clone
     adds : AddsDue sim (clone_at cs who) p message front
-    adds = late_decision_adds_due law (clone_at cs who) p front late
+    adds = decision_adds_due law (clone_at cs who) p front late
 
     -- each log stays
     logs_added : (c : ℕ) → log_at sim (clone_at (clones_with_plan cs who p) c) s front
@@ -202,7 +203,7 @@ module _ {S M N K : Type 0} {sim : Simulation S M N} {Good : ℕ → S → Type 
       Stands sim has cs front s copies → Stands sim has (clones_with_end cs who at) front s copies
   stands_end copies at late within st =
       let drops : DropsDue sim (clone_at cs who) at front =
-      late_end_drops_due law (clone_at cs who) at front late within in
+      end_drops_due law (clone_at cs who) at front late within in
       stands_matched sim has cs (clones_with_end cs who at) front s copies copies
       (length-set cs who (with_end (clone_at cs who) at))
       (set_cases (λ c k. log_at sim k s front ≡ log_at sim (clone_at cs c) s front) cs who
@@ -258,11 +259,11 @@ module _ {S M N K : Type 0} (sim : Simulation S M N) (has : K → ℕ → Bool) 
 
   -- what holds of the new clone, which was the old one, and of the others, holds of each
   fork_cases : (P : Clone → Clone → Type 0) →
-      P (record { name = name; plans = (clone_at cs old).plans; end = None }) (clone_at cs old)
+      P (fork_of (clone_at cs old) name) (clone_at cs old)
       → ((k : Clone) → P k k) →
       (c : ℕ) → P (clone_at (clones_with_fork cs name old) c) (clone_at cs (origin_of old (length cs) c))
   fork_cases P a b c =
-      let k : Clone = record { name = name; plans = (clone_at cs old).plans; end = None } in
+      let k : Clone = fork_of (clone_at cs old) name in
       elim (cases_eq c (length cs)) [
         | inl e ↦ subst (λ t. P (clone_at (clones_with_fork cs name old) c) (clone_at cs t))
             (sym (ap (λ b. cond b old c) (eq-eqb c (length cs) e)))
@@ -278,7 +279,7 @@ module _ {S M N K : Type 0} (sim : Simulation S M N) (has : K → ℕ → Bool) 
       Stands sim has (clones_with_fork cs name old) front s done
   stands_fork front s copies done there no_end zip st =
       let new : ℕ = length cs in
-      let k : Clone = record { name = name; plans = (clone_at cs old).plans; end = None } in
+      let k : Clone = fork_of (clone_at cs old) name in
       let many : length (clones_with_fork cs name old) ≡ length cs + 1 = length_push cs k in
       let same_end : end_of sim k ≡ end_of sim (clone_at cs old) = end_of-fork sim (clone_at cs old) name no_end in
       let same_run : run_of sim k front ≡ run_of sim (clone_at cs old) front =

@@ -174,7 +174,7 @@ delivered sim has cs s sent msgs new done f g h = record {
       log = x.3;
       state = x.4;
       from = λ c z k l. elim (x.5 c z k l) [ inl u ↦ inl u | inr u ↦ inr (f c z u) ];
-      kept = λ c z k l. x.6 c z k (inl l);
+      still = λ c z k l. x.6 c z k (inl l);
       got = λ c r z k l t. x.6 c z k (inr (g c r z l t));
     },
   );

@@ -2,19 +2,18 @@
 use Rattle.std.proofs.Common.{◌≡◌, ◌⊎◌, ℕ, zero, suc, ◌<◌, ◌≤◌, List, [], ◌∷◌, ◌++◌, Option, Some, None}
 use Rattle.std.proofs.Common.{Bool, true, false, cond, inl, inr, refl, sym, ap, ◌∙◌, arith, subst, length, nat_lt}
 use Rattle.std.proofs.lemmas.Bool.{cases_eq}
-use Rattle.sim_base.specs.Clones.{Clone, clone_at, clones_with_fork}
+use Rattle.sim_base.specs.Clones.{Clone, clone_at, clones_with_fork, fork_of, with_plan, with_end}
 use Rattle.sim_base.specs.declared.decision.Planned.{Planned}
 use Rattle.run_laws.specs.Queue.{insert, In}
 use Rattle.run_laws.specs.Simulation.{Simulation}
 use Rattle.run_laws.specs.Runs.{end_of, all_due, due_at}
 use Rattle.run_laws.specs.Fronts.{earlier, least_time, least_of, least, window_end, next_front}
 use Rattle.run_laws.specs.Handlers.{IsStation, AreForStations, HandlesLawfully, SendsToStations}
-use Rattle.run_laws.specs.Laws.{with_plan, with_end}
 use Rattle.run_laws.specs.Copies.{Copy, Stands}
 use Rattle.run_laws.specs.FrontLaws.{time_before, IsLeastTime, least_to, IsTaken}
 use Rattle.run_laws.proofs.Lists.{in_own, own_from, in_append, append_old}
 use Rattle.run_laws.proofs.ForStations.{due_is_for_stations}
-use Rattle.run_laws.proofs.Late.{due_sorted, late_decision_adds_due, late_end_drops_due}
+use Rattle.run_laws.proofs.Late.{due_sorted, decision_adds_due, end_drops_due}
 use Rattle.run_laws.proofs.Stands.{clone_in}
 use Rattle.run_laws.proofs.Places.{place_in}
 use Rattle.run_laws.proofs.Forks.{all_due-fork}
@@ -50,7 +49,7 @@ module _ {S M N : Type 0} (sim : Simulation S M N) where
 
   -- of a fork
   pub least_of-fork : (c : Clone) (name : List ℕ) (front : ℕ) → c.end ≡ None →
-      least_of sim (record { name = name; plans = c.plans; end = None }) front ≡ least_of sim c front
+      least_of sim (fork_of c name) front ≡ least_of sim c front
   least_of-fork c name front e = ap (least_time sim.time) (all_due-fork sim c name e front)
 
 module _ {S M N : Type 0} {sim : Simulation S M N} {Good : ℕ → S → Type 0} (law : HandlesLawfully sim Good) where
@@ -62,7 +61,7 @@ module _ {S M N : Type 0} {sim : Simulation S M N} {Good : ℕ → S → Type 0}
   least_of-with_plan c p front t e l =
       let m : M = sim.set_message (length c.plans) p in
       let later : front ≤ sim.time m = subst (λ u. front ≤ u) (sym e) l in
-      ap (least_time sim.time) (late_decision_adds_due law c p front later).due
+      ap (least_time sim.time) (decision_adds_due law c p front later).due
       ∙ by m (all_due sim c front) (nat_lt (sim.time m) (end_of sim c))
       ∙ ap (λ u. cond (nat_lt u (end_of sim c)) (earlier (Some u) (least_of sim c front)) (least_of sim c front)) e
     where
@@ -75,7 +74,7 @@ module _ {S M N : Type 0} {sim : Simulation S M N} {Good : ℕ → S → Type 0}
   -- with an end at the front or later
   pub least_of-with_end : (c : Clone) (at front : ℕ) → front ≤ at → at ≤ end_of sim c →
       least_of sim (with_end c at) front ≡ time_before at (least_of sim c front)
-  least_of-with_end c at front l e = ap (least_time sim.time) (late_end_drops_due law c at front l e).due
+  least_of-with_end c at front l e = ap (least_time sim.time) (end_drops_due law c at front l e).due
       ∙ least-earlier_than law.order at (all_due sim c front) (due_sorted law c front)
 
 module _ {S M N : Type 0} {sim : Simulation S M N} {Good : ℕ → S → Type 0} (law : HandlesLawfully sim Good)
@@ -121,7 +120,7 @@ module _ {S M N : Type 0} (sim : Simulation S M N) (front : ℕ) where
   pub least-forked : (cs : List Clone) (old : ℕ) (name : List ℕ) → old < length cs → (clone_at cs old).end ≡ None →
       least sim (clones_with_fork cs name old) front ≡ least sim cs front
   least-forked cs old name there no_end =
-      let k : Clone = record { name = name; plans = (clone_at cs old).plans; end = None } in
+      let k : Clone = fork_of (clone_at cs old) name in
       least-unique sim.time (DueIn (cs ++ k ∷ [])) (DueIn cs) (least sim (cs ++ k ∷ []) front) (least sim cs front)
       (λ m h. elim (in_append cs (k ∷ []) h.0 h.1) [
         | inl i ↦ (h.0, i, h.2)

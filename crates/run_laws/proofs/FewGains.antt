@@ -27,7 +27,7 @@ use Rattle.run_laws.proofs.Parts.{sorted_part}
 use Rattle.run_laws.proofs.Prefixes.{no_longer}
 use Rattle.run_laws.proofs.Places.{place_in}
 use Rattle.run_laws.proofs.Counts.{in_map, map_has, logs_have_prefix, few_prefixes, none_cut}
-use Rattle.run_laws.proofs.Ends.{until_lawful}
+use Rattle.run_laws.proofs.ComesTo.{until_lawful}
 use Rattle.run_laws.proofs.Gaining.{begins_somehow}
 
 -- ---- gains

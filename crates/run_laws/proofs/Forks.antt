@@ -1,13 +1,13 @@
 -- A fork of a clone without end is as that clone is, at every front.
 use Rattle.std.proofs.Common.{◌≡◌, ℕ, List, None, sym, ap}
-use Rattle.sim_base.specs.Clones.{Clone}
+use Rattle.sim_base.specs.Clones.{Clone, fork_of}
 use Rattle.run_laws.specs.Simulation.{Simulation}
 use Rattle.run_laws.specs.Runs.{end_of, log_at, all_due}
 
 module _ {S M N : Type 0} (sim : Simulation S M N) (c : Clone) (name : List ℕ) (no_end : c.end ≡ None) where
   -- the clone with the new name
   abbrev fork : Clone
-  fork = record { name = name; plans = c.plans; end = None }
+  fork = fork_of c name
 
   -- it ends when the clone ends
   pub end_of-fork : end_of sim fork ≡ end_of sim c

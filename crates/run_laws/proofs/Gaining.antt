@@ -36,7 +36,7 @@ use Rattle.run_laws.proofs.CloneWindows.{windows_give_run}
 use Rattle.run_laws.proofs.Parts.{sorted_part}
 use Rattle.run_laws.proofs.CopyViews.{append_cancel, new_entry}
 use Rattle.run_laws.proofs.Prefixes.{count_same, count_both, count_unique, gained_same, too_long}
-use Rattle.run_laws.proofs.Ends.{until_lawful, comes_to_end, cut_of_some}
+use Rattle.run_laws.proofs.ComesTo.{until_lawful, comes_to_end, cut_of_some}
 use Rattle.run_laws.proofs.Steps.{ends_alone}
 use Rattle.run_laws.proofs.Stands.{clone_in}
 use Rattle.run_laws.proofs.Places.{place_in}
@@ -249,7 +249,8 @@ module _ {S M N K : Type 0} {sim : Simulation S M N} {Good : ℕ → S → Type 
         let k : Clone = clone_at cs c in
         let e : ℕ = ends_of sim cs c in
         let w = windows_give_run law cs k front bound (clone_in cs c (st.living a c i h)) later within in
-        ap (λ u. u.at.log) (ap (λ l. local sim s l a.state (messages_taken sim has (ends_of sim cs) c a.pending) bound e)
+        ap (λ u. u.at.log)
+        (ap (λ l. local sim s l a.state (messages_taken sim has (ends_of sim cs) c a.pending) bound e)
         (st.log a c i h)
         ∙ (ap (λ l. local sim s (log_at sim k s front) l (messages_taken sim has (ends_of sim cs) c a.pending) bound e)
         (st.state a c i h)

@@ -4,7 +4,8 @@ use Rattle.std.proofs.Common.{Bool, None, refl, sym, ap, ◌∙◌, subst, arith
 use Rattle.std.specs.Bool.{Decides}
 use Rattle.std.specs.List.{flat_map}
 use Rattle.std.specs.Set.{distinct_count}
-use Rattle.sim_base.specs.Clones.{Clone, clone_at, clones_with_plan, clones_with_end, clones_with_fork}
+use Rattle.sim_base.specs.Clones.{Clone, clone_at, clones_with_plan, clones_with_end, clones_with_fork, fork_of}
+use Rattle.sim_base.specs.Clones.{with_plan, with_end}
 use Rattle.sim_base.specs.declared.decision.Planned.{Planned}
 use Rattle.sim_base.specs.declared.entry.Entry.{Entry}
 use Rattle.run_laws.specs.Queue.{In}
@@ -12,7 +13,6 @@ use Rattle.run_laws.specs.Simulation.{Simulation}
 use Rattle.run_laws.specs.World.{log_of}
 use Rattle.run_laws.specs.Runs.{end_of, log_at}
 use Rattle.run_laws.specs.Handlers.{HandlesLawfully}
-use Rattle.run_laws.specs.Laws.{with_plan, with_end}
 use Rattle.run_laws.specs.Sharing.{prefixes, same_list, logs_at, handled_once}
 use Rattle.run_laws.specs.Prefixes.{IsGained}
 use Rattle.run_laws.proofs.Lists.{in_append, append_old}
@@ -21,7 +21,7 @@ use Rattle.run_laws.proofs.Counts.{prefixes_count, in_map, map_has}
 use Rattle.run_laws.proofs.Stands.{clone_in}
 use Rattle.run_laws.proofs.Beginning.{run_at_0}
 use Rattle.run_laws.proofs.Forks.{log_at-fork}
-use Rattle.run_laws.proofs.Late.{late_decision_adds_due, late_end_drops_due}
+use Rattle.run_laws.proofs.Late.{decision_adds_due, end_drops_due}
 
 -- a list in which the element at a place is changed to one with the same image has the same images
 map-set : {Y : Type 0} (f : Clone → Y) (cs : List Clone) (who : ℕ) (k : Clone) → who < length cs →
@@ -56,7 +56,7 @@ module _ {S M N : Type 0} {sim : Simulation S M N} {Good : ℕ → S → Type 0}
   handled-added same cs front s who p there late =
       ap (λ l. distinct_count (same_list same) (flat_map prefixes l))
       (map-set (λ c. log_at sim c s front) cs who (with_plan (clone_at cs who) p) there
-      (ap (λ w. log_of sim.to s w.trace) (late_decision_adds_due law (clone_at cs who) p front late).world))
+      (ap (λ w. log_of sim.to s w.trace) (decision_adds_due law (clone_at cs who) p front late).world))
 
   -- an end at the front or later
   pub handled-ended : (same : Entry M N → Entry M N → Bool) (cs : List Clone) (front s who at : ℕ) → who < length cs →
@@ -65,7 +65,7 @@ module _ {S M N : Type 0} {sim : Simulation S M N} {Good : ℕ → S → Type 0}
   handled-ended same cs front s who at there late within =
       ap (λ l. distinct_count (same_list same) (flat_map prefixes l))
       (map-set (λ c. log_at sim c s front) cs who (with_end (clone_at cs who) at) there
-      (ap (λ w. log_of sim.to s w.trace) (late_end_drops_due law (clone_at cs who) at front late within).world))
+      (ap (λ w. log_of sim.to s w.trace) (end_drops_due law (clone_at cs who) at front late within).world))
 
 module _ {S M N : Type 0} (sim : Simulation S M N) (same : Entry M N → Entry M N → Bool)
     (decides : (x y : Entry M N) → Decides (same x y) (x ≡ y)) where
@@ -84,7 +84,7 @@ module _ {S M N : Type 0} (sim : Simulation S M N) (same : Entry M N → Entry M
       (clone_at cs old).end ≡ None → handled_once sim same (clones_with_fork cs name old) s front
       ≡ handled_once sim same cs s front
   handled-forked cs name old s front there open_end =
-      let k : Clone = record { name = name; plans = (clone_at cs old).plans; end = None } in
+      let k : Clone = fork_of (clone_at cs old) name in
       let f : Clone → List (Entry M N) = λ c. log_at sim c s front in
       let here : List (List (Entry M N)) = logs_at sim cs s front in
       let log : f k ≡ f (clone_at cs old) = log_at-fork sim (clone_at cs old) name open_end s front in

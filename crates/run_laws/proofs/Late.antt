@@ -4,7 +4,7 @@ use Rattle.std.proofs.Common.{Bool, true, false, cond, nat_lt, refl, sym, ap, �
 use Rattle.std.specs.List.{filter}
 use Rattle.std.proofs.lemmas.Bool.{lt-ltb, ltb-true}
 use Rattle.std.specs.declared.cmp.Ordering.{Ordering}
-use Rattle.sim_base.specs.Clones.{Clone}
+use Rattle.sim_base.specs.Clones.{Clone, with_plan, with_end}
 use Rattle.sim_base.specs.declared.decision.Planned.{Planned}
 use Rattle.run_laws.specs.Queue.{insert, insert_all, Sorted}
 use Rattle.run_laws.specs.Machine.{run_to}
@@ -13,7 +13,7 @@ use Rattle.run_laws.specs.World.{to_it, world_step, openings, set_messages, begi
 use Rattle.run_laws.specs.Window.{earlier_than}
 use Rattle.run_laws.specs.Runs.{run, end_of, run_of, all_due, due_at}
 use Rattle.run_laws.specs.Handlers.{HandlesLawfully}
-use Rattle.run_laws.specs.Laws.{and_pending, with_plan, with_end, AddsDue, DropsDue}
+use Rattle.run_laws.specs.Laws.{and_pending, AddsDue, DropsDue}
 use Rattle.run_laws.proofs.Queue.{insert_all-push, same_elements}
 use Rattle.run_laws.proofs.Lists.{in_filter, filter_keeps, sorted_filter, filter_swap, filter-insert}
 use Rattle.run_laws.proofs.Running.{run_late}
@@ -73,10 +73,10 @@ module _ {S M N : Type 0} {sim : Simulation S M N} {Good : ℕ → S → Type 0}
       (run_of sim c front).pending (run_fine law c.plans (min front (end_of sim c))).sorted
 
   -- a decision at or after a front adds its message to what is due there
-  pub late_decision_adds_due : (c : Clone) (p : Planned) (front : ℕ)
+  pub decision_adds_due : (c : Clone) (p : Planned) (front : ℕ)
       → front ≤ sim.time (sim.set_message (length c.plans) p) →
       AddsDue sim c p (sim.set_message (length c.plans) p) front
-  late_decision_adds_due c p front l =
+  decision_adds_due c p front l =
       let m = sim.set_message (length c.plans) p in
       let end : ℕ = end_of sim c in
       let late : min front (end_of sim c) ≤ sim.time m = omega arith in
@@ -115,8 +115,8 @@ module _ {S M N : Type 0} {sim : Simulation S M N} {Good : ℕ → S → Type 0}
       filter_keeps (λ m. nat_lt (sim.time m) at) q z (in_filter (λ m. nat_lt (sim.time m) end) q z h.0).0 h.1)
 
   -- an end at or after a front drops what is due from it on
-  pub late_end_drops_due : (c : Clone) (at front : ℕ) → front ≤ at → at ≤ end_of sim c → DropsDue sim c at front
-  late_end_drops_due c at front l e =
+  pub end_drops_due : (c : Clone) (at front : ℕ) → front ≤ at → at ≤ end_of sim c → DropsDue sim c at front
+  end_drops_due c at front l e =
       let same : min front at ≡ min front (end_of sim c) = omega arith in
       let is : run_of sim (with_end c at) front ≡ run_of sim c front = ap (run sim c.plans) same in
       let d : all_due sim (with_end c at) front ≡ earlier_than sim.time at (all_due sim c front) =

@@ -16,7 +16,7 @@ pub mod Until
 pub mod CopyViews
 pub mod Prefixes
 pub mod Limits
-pub mod Ends
+pub mod ComesTo
 pub mod Steps
 pub mod Delivery
 pub mod Stands

@@ -41,7 +41,7 @@ first_of_cut (suc n) (y ∷ g) x u e = let h : y ≡ x = cc in (g, ap (λ t. t �
 -- a log that goes on behind one entry more, cut
 cut_more : {E : Type 0} (limit : ℕ) (short : List E) (x : E) (log l : List E) → length short < limit →
     l ≡ take limit log → (g : List E) × (log ≡ (short ++ x ∷ []) ++ g) → (g : List E) × (l ≡ (short ++ x ∷ []) ++ g)
-cut_more limit short x log l room e h =
+cut_more limit short x log l less e h =
     let b = length-append short (x ∷ []) in
     let c : length (x ∷ []) ≡ 1 = refl in
     let a : length (short ++ x ∷ []) ≤ limit = omega (arith, b, c) in

@@ -27,7 +27,8 @@ use Rattle.run_laws.proofs.Lists.{in_filter, filter_keeps, filter_swap, filter_a
 use Rattle.run_laws.specs.Merges.{entry_order}
 use Rattle.run_laws.proofs.Merges.{same_rising}
 use Rattle.run_laws.proofs.Traces.{entries_total, trace_sorted, of_station, in_trace}
-use Rattle.run_laws.specs.SharedTexts.{station_sum, from_on, shared_to, TellsPlans}
+use Rattle.run_laws.specs.SharedTexts.{station_sum, from_on, log_from, shared_to, TellsPlans}
+use Rattle.run_laws.specs.TraceLaws.{InLists}
 use Rattle.run_laws.proofs.SharedTextsAgreeing.{agree_to_parting}
 
 -- ---- station_sum
@@ -180,7 +181,7 @@ module _ {S M N : Type 0} {sim : Simulation S M N} {Good : ℕ → S → Type 0}
   -- how long the lines from a time on are
   pub rest_length : (c : Clone) (t : ℕ) (line : Entry M N → List ℕ) → AreForStations sim c.plans →
       length (flat_map line (from_on sim t (trace_of sim c))) ≡
-      station_sum (λ s. sum_by (λ e. length (line e)) (from_on sim t (log_at sim c s sim.horizon))) sim.stations
+      station_sum (λ s. sum_by (λ e. length (line e)) (log_from sim c t s)) sim.stations
   rest_length c t line there =
       let trace : List (Entry M N) = trace_of sim c in
       let es : List (Entry M N) = from_on sim t trace in
@@ -189,14 +190,13 @@ module _ {S M N : Type 0} {sim : Simulation S M N} {Good : ℕ → S → Type 0}
       of_station law stations fresh c sim.horizon there e (in_filter (is_late time_of t) trace e i).0) in
       length-flat_map line es
       ∙ weighed sim.to long sim.stations es for_stations
-      ∙ sum_same (weight sim.to long es) (λ s. sum_by long (from_on sim t (log_at sim c s sim.horizon))) sim.stations
+      ∙ sum_same (weight sim.to long es) (λ s. sum_by long (log_from sim c t s)) sim.stations
       (λ s. ap (sum_by long) (filter_swap (λ e. sim.to e.msg == s) (is_late time_of t) trace))
 
   -- the rest of a trace, by the logs
   pub rest_of_logs : (c : Clone) (t : ℕ) (es : List (Entry M N)) → AreForStations sim c.plans → Sorted by_key es →
-      ((e : Entry M N) → In e es → (s : ℕ) × IsStation sim s × In e (from_on sim t (log_at sim c s sim.horizon))) →
-      ((e : Entry M N) (s : ℕ) → IsStation sim s → In e (from_on sim t (log_at sim c s sim.horizon)) → In e es) →
-      es ≡ from_on sim t (trace_of sim c)
+      ((e : Entry M N) → In e es → InLists sim (log_from sim c t) e) →
+      ((e : Entry M N) → InLists sim (log_from sim c t) e → In e es) → es ≡ from_on sim t (trace_of sim c)
   rest_of_logs c t es there sorted from all =
       let later : Entry M N → Bool = is_late time_of t in
       let trace : List (Entry M N) = trace_of sim c in
@@ -211,4 +211,4 @@ module _ {S M N : Type 0} {sim : Simulation S M N} {Good : ℕ → S → Type 0}
       let s : ℕ = sim.to e.msg in
       let here = filter_keeps (λ f. sim.to f.msg == s) trace e k.0 (eq-eqb s s refl) in
       let is_station = of_station law stations fresh c sim.horizon there e k.0 in
-      all e s is_station (filter_keeps later (log_at sim c s sim.horizon) e here k.1))
+      all e (s, is_station, filter_keeps later (log_at sim c s sim.horizon) e here k.1))

@@ -171,7 +171,7 @@ module _ {S M N K : Type 0} {sim : Simulation S M N} {Good : ℕ → S → Type 
       ])
       (λ z t. let w = (v.due s z).0 t in
       elim w.1 [
-        | inl u ↦ g.received.kept c z g.has_mid
+        | inl u ↦ g.received.still c z g.has_mid
             (subst (In z) (sym p) (filter_keeps early (window sim k s front bound).pending z u
             (lt-ltb (sim.time z) end w.0)))
         | inr u ↦ elim (station_or_not sim u.1.0) [

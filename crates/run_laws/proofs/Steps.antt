@@ -9,12 +9,12 @@ use Rattle.run_laws.specs.Window.{Part, earlier_than}
 use Rattle.run_laws.specs.Handlers.{HandlesLawfully}
 use Rattle.sim_base.specs.Marked.{JoinsMarks, SortedMarked}
 use Rattle.run_laws.specs.Copies.{Copy, Carries, takes, messages_taken, view, Turns}
-use Rattle.run_laws.specs.Copies.{IsSettled, Ends, alone_from, IsStepped, AreOver, SoFar}
+use Rattle.run_laws.specs.Copies.{IsSettled, ComesTo, alone_from, IsStepped, AreOver, SoFar}
 use Rattle.run_laws.proofs.Bools.{and_cases}
 use Rattle.run_laws.proofs.Lists.{in_append, append_old, append_new, filter_all}
 use Rattle.run_laws.proofs.Parts.{sorted_part, all_part}
 use Rattle.run_laws.proofs.Until.{IsCutOf, cut_of_local}
-use Rattle.run_laws.proofs.Ends.{disjoint_append, not_has, moved_view, comes_to_end}
+use Rattle.run_laws.proofs.ComesTo.{disjoint_append, not_has, moved_view, comes_to_end}
 
 module _ {S M N K : Type 0} (sim : Simulation S M N) (has : K → ℕ → Bool) (ends : ℕ → ℕ) where
   -- what a clone takes comes before its end
@@ -58,7 +58,7 @@ module _ {S M N K : Type 0} {sim : Simulation S M N} {Good : ℕ → S → Type 
       (over0 over over_after : K) (n : ℕ) →
       ((a : Copy S M N K) (c : ℕ) → In a old → Carries has a c → Carries has r c → ⊥) →
       SoFar sim has ends s bound old new out over0 over
-      → Ends sim has ends s bound r results out next over over_after n →
+      → ComesTo sim has ends s bound r results out next over over_after n →
       SoFar sim has ends s bound (old ++ r ∷ []) (new ++ results) next over0 over_after
   so_far_more old new results r out next over0 over over_after n apart h e =
       let in_old : (b : Copy S M N K) (c : ℕ) → In b new → Carries has b c → Carries has r c → ⊥ =

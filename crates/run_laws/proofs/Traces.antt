@@ -18,8 +18,8 @@ use Rattle.run_laws.proofs.Queue.{all_in}
 use Rattle.run_laws.proofs.Lists.{in_filter, filter_keeps, sorted_filter}
 use Rattle.run_laws.proofs.ForStations.{trace_for_stations}
 use Rattle.run_laws.proofs.Rising.{key_total, trace_rises}
-use Rattle.run_laws.specs.Merges.{entry_order, merge_of_logs}
-use Rattle.run_laws.specs.TraceLaws.{InLogs}
+use Rattle.run_laws.specs.Merges.{entry_order, merge_of_lists, merge_of_logs}
+use Rattle.run_laws.specs.TraceLaws.{InLists, InLogs}
 use Rattle.run_laws.proofs.Merges.{in_merge, merge_has, sorted_merge, same_rising, ties_are_one}
 
 -- entries whose messages are in order are in order
@@ -77,48 +77,72 @@ module _ {S M N : Type 0} {sim : Simulation S M N} {Good : ℕ → S → Type 0}
         (λ e i. let h = from e i in in_trace h.0 e h.2)
         (λ e i. all e (in_some_log e i))
 
-    -- what is in the merged logs of the stations 1 to n
-    in_merged : (n : ℕ) (e : Entry M N) → In e (merge_of_logs sim sender number c front n) →
-        (s : ℕ) × (0 < s) × (s ≤ n) × In e (log_at sim c s front)
-    in_merged zero e i = absurd i
-    in_merged (suc n) e i = elim (in_merge by_key (merge_of_logs sim sender number c front n)
-        (log_at sim c (suc n) front) e i) [
-          | inl j ↦ let h = in_merged n e j in let l = h.1 in let k = h.2 in (h.0, h.1, omega arith, h.3)
-          | inr j ↦ (suc n, omega arith, omega arith, j)
-        ]
+    -- ---- merge_of_lists
 
-    merged_has : (n : ℕ) (e : Entry M N) (s : ℕ) → 0 < s → s ≤ n → In e (log_at sim c s front) →
-        In e (merge_of_logs sim sender number c front n)
-    merged_has zero e s l k i = absurd (omega arith)
-    merged_has (suc n) e s l k i = merge_has by_key (merge_of_logs sim sender number c front n)
-        (log_at sim c (suc n) front) e (elim (cases_eq s (suc n)) [
-          | inl a ↦ inr (subst (λ r. In e (log_at sim c r front)) a i)
-          | inr b ↦ inl (merged_has n e s l (omega arith) i)
-        ])
+    -- a list for each station, in order and of entries of its log
+    module _ (list : ℕ → List (Entry M N)) (rises : (s : ℕ) → Sorted by_key (list s))
+        (own : (s : ℕ) (e : Entry M N) → In e (list s) → In e (log_at sim c s front)) where
+      -- what is in the merged lists of the stations 1 to n
+      in_merged : (n : ℕ) (e : Entry M N) → In e (merge_of_lists sim sender number list n) →
+          (s : ℕ) × (0 < s) × (s ≤ n) × In e (list s)
+      in_merged zero e i = absurd i
+      in_merged (suc n) e i = elim (in_merge by_key (merge_of_lists sim sender number list n) (list (suc n)) e i) [
+        | inl j ↦ let h = in_merged n e j in let l = h.1 in let k = h.2 in (h.0, h.1, omega arith, h.3)
+        | inr j ↦ (suc n, omega arith, omega arith, j)
+      ]
 
-    -- no entry of an earlier station's log ties with one of the next
-    no_ties : (n : ℕ) (x y : Entry M N) → In x (merge_of_logs sim sender number c front n) →
-        In y (log_at sim c (suc n) front) → by_key x y ≡ Equal → ⊥
-    no_ties n x y i j tie =
-        let h = in_merged n x i in
-        let same : x ≡ y = ties_are_one entries_total trace x y trace_sorted (in_trace h.0 x h.3)
-        (in_trace (suc n) y j) tie in
-        let a : sim.to x.msg ≡ h.0 = eqb-true (sim.to x.msg) h.0 (in_filter (λ f. sim.to f.msg == h.0) trace x h.3).1 in
-        let b : sim.to y.msg ≡ suc n =
-        eqb-true (sim.to y.msg) (suc n) (in_filter (λ f. sim.to f.msg == suc n) trace y j).1 in
-        let l : h.0 ≤ n = h.2 in
-        let same_to : sim.to x.msg ≡ sim.to y.msg = ap (λ e. sim.to e.msg) same in
-        omega (arith, l, a, b, same_to)
+      -- each of them is from a station's list
+      pub merged_in_lists : (e : Entry M N) → In e (merge_of_lists sim sender number list sim.stations)
+          → InLists sim list e
+      merged_in_lists e i = let h = in_merged sim.stations e i in (h.0, (h.1, h.2), h.3)
 
-    merged_sorted : (n : ℕ) → Sorted by_key (merge_of_logs sim sender number c front n)
-    merged_sorted zero = tt
-    merged_sorted (suc n) = sorted_merge entries_total (merge_of_logs sim sender number c front n)
-        (log_at sim c (suc n) front) (merged_sorted n)
-        (sorted_filter by_key (λ f. sim.to f.msg == suc n) trace trace_sorted) (no_ties n)
+      merged_has : (n : ℕ) (e : Entry M N) (s : ℕ) → 0 < s → s ≤ n → In e (list s) →
+          In e (merge_of_lists sim sender number list n)
+      merged_has zero e s l k i = absurd (omega arith)
+      merged_has (suc n) e s l k i = merge_has by_key (merge_of_lists sim sender number list n) (list (suc n)) e (
+          elim (cases_eq s (suc n)) [
+            | inl a ↦ inr (subst (λ r. In e (list r)) a i)
+            | inr b ↦ inl (merged_has n e s l (omega arith) i)
+          ])
+
+      -- and the merged lists have all that is in a station's list
+      pub in_lists_merged : (e : Entry M N) → InLists sim list e
+          → In e (merge_of_lists sim sender number list sim.stations)
+      in_lists_merged e h = merged_has sim.stations e h.0 h.1.0 h.1.1 h.2
+
+      -- no entry of an earlier station's list ties with one of the next
+      no_ties : (n : ℕ) (x y : Entry M N) → In x (merge_of_lists sim sender number list n) → In y (list (suc n)) →
+          by_key x y ≡ Equal → ⊥
+      no_ties n x y i j tie =
+          let h = in_merged n x i in
+          let in_x = own h.0 x h.3 in
+          let in_y = own (suc n) y j in
+          let same : x ≡ y = ties_are_one entries_total trace x y trace_sorted (in_trace h.0 x in_x)
+          (in_trace (suc n) y in_y) tie in
+          let a : sim.to x.msg ≡ h.0 = eqb-true (sim.to x.msg) h.0
+          (in_filter (λ f. sim.to f.msg == h.0) trace x in_x).1 in
+          let b : sim.to y.msg ≡ suc n =
+          eqb-true (sim.to y.msg) (suc n) (in_filter (λ f. sim.to f.msg == suc n) trace y in_y).1 in
+          let l : h.0 ≤ n = h.2 in
+          let same_to : sim.to x.msg ≡ sim.to y.msg = ap (λ e. sim.to e.msg) same in
+          omega (arith, l, a, b, same_to)
+
+      merged_sorted : (n : ℕ) → Sorted by_key (merge_of_lists sim sender number list n)
+      merged_sorted zero = tt
+      merged_sorted (suc n) = sorted_merge entries_total (merge_of_lists sim sender number list n) (list (suc n))
+          (merged_sorted n) (rises (suc n)) (no_ties n)
+
+      -- the merged lists rise by key
+      pub merged_rises : Sorted by_key (merge_of_lists sim sender number list sim.stations)
+      merged_rises = merged_sorted sim.stations
+
+    -- each log rises by key, as the trace does
+    pub log_rises : (s : ℕ) → Sorted by_key (log_at sim c s front)
+    log_rises s = sorted_filter by_key (λ f. sim.to f.msg == s) trace trace_sorted
 
     -- the logs merged are the trace
     pub merge_of_logs-trace : merge_of_logs sim sender number c front sim.stations ≡ trace
-    merge_of_logs-trace = trace_of_logs (merge_of_logs sim sender number c front sim.stations)
-        (merged_sorted sim.stations)
-        (λ e i. let h = in_merged sim.stations e i in (h.0, (h.1, h.2), h.3))
-        (λ e h. merged_has sim.stations e h.0 h.1.0 h.1.1 h.2)
+    merge_of_logs-trace =
+        let log : ℕ → List (Entry M N) = λ s. log_at sim c s front in
+        trace_of_logs (merge_of_logs sim sender number c front sim.stations) (merged_rises log log_rises (λ s e i. i))
+        (merged_in_lists log log_rises (λ s e i. i)) (in_lists_merged log log_rises (λ s e i. i))

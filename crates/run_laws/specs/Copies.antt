@@ -26,6 +26,11 @@ module _ {M K : Type 0} (takes : M → K → ℕ → Bool) where
   part c [] = []
   part c (x ∷ xs) = if takes x.0 x.1 c then x.0 ∷ part c xs else part c xs
 
+module _ {M K : Type 0} (time : M → ℕ) (has : K → ℕ → Bool) (ends : ℕ → ℕ) where
+  -- clone c takes a message with these marks: they have it, and it ends later
+  abbrev pub takes_at : M → K → ℕ → Bool
+  takes_at m k c = has k c && nat_lt (time m) (ends c)
+
 module _ {M K : Type 0} (join : K → K → K) (cmp : M → M → Ordering) where
   -- each message is put in its place, with these marks
   abbrev pub insert_marked_all : List M → K → List (M × K) → List (M × K)
@@ -77,13 +82,13 @@ origin_of old new c = if c == new then old else c
 
 -- each clone c ends at `ends c`
 module _ {S M N K : Type 0} (sim : Simulation S M N) (has : K → ℕ → Bool) (ends : ℕ → ℕ) where
-  -- clone c takes a message with these marks: they have it, and it ends later
+  -- clone c takes a message of the simulation
   abbrev pub takes : M → K → ℕ → Bool
-  takes m k c = has k c && nat_lt (sim.time m) (ends c)
+  takes = takes_at sim.time has ends
 
   -- the same, where the clone `new` ends when the clone `old` does
   abbrev pub takes_as : ℕ → ℕ → M → K → ℕ → Bool
-  takes_as old new m k c = has k c && nat_lt (sim.time m) (ends (origin_of old new c))
+  takes_as old new = takes_at sim.time has (λ c. ends (origin_of old new c))
 
   -- the messages that clone c takes
   abbrev pub messages_taken : ℕ → List (M × K) → List M
@@ -141,7 +146,7 @@ module _ {S M N K : Type 0} (sim : Simulation S M N) (has : K → ℕ → Bool) 
 
     -- the results of r at the bound, as copies: with each, its clones have taken their turns; clones whose logs
     -- get too long are put with those over the limit; n prefixes were gained, of logs cut to the limit
-    pub record Ends (r : Copy S M N K) (results : List (Copy S M N K)) (before after : List (M × K))
+    pub record ComesTo (r : Copy S M N K) (results : List (Copy S M N K)) (before after : List (M × K))
         (over over_after : K)
         (n : ℕ) : Type 0 where
       pub inhabited : (b : Copy S M N K) → In b results → (c : ℕ) × Carries has b c
@@ -288,7 +293,7 @@ module _ {S M N K : Type 0} (sim : Simulation S M N) (has : K → ℕ → Bool) 
     pub from : (c : ℕ) (z : M) → Carries has a c → In z (messages_taken sim has (ends_of sim cs) c b.pending) →
         In z (messages_taken sim has (ends_of sim cs) c a.pending)
         ⊎ ((r : ℕ) × In z (messages_taken sim has (ends_of sim cs) c (sent r)) × (sim.to z ≡ s))
-    pub kept : (c : ℕ) (z : M) → Carries has a c → In z (messages_taken sim has (ends_of sim cs) c a.pending) →
+    pub still : (c : ℕ) (z : M) → Carries has a c → In z (messages_taken sim has (ends_of sim cs) c a.pending) →
         In z (messages_taken sim has (ends_of sim cs) c b.pending)
     pub got : (c r : ℕ) (z : M) → Carries has a c
         → In z (messages_taken sim has (ends_of sim cs) c (sent r)) → sim.to z ≡ s →

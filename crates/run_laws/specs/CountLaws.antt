@@ -72,26 +72,29 @@ module _ {S M N : Type 0} (K : Type 0) (sim : Simulation S M N) where
   CopiesAreLogs = (w : Counting M N K) (cs : List Clone) (front s : ℕ) (old : List (Copy S M N K)) →
       Stands sim w.has cs front s old → copies sim w.same cs s front ≡ length old
 
-  -- where no log gets too long in a window, and the copies gain so many prefixes, handled once at its bound is
-  -- handled once at the front and these
+  -- in a window the copies that stand for the clones of a station gain so many prefixes
+  pub record GainInWindow (has : K → ℕ → Bool) (cs : List Clone) (front bound s total : ℕ)
+      (old : List (Copy S M N K)) : Type 0 where
+    pub window : IsWindow sim cs front bound
+    pub stand : Stands sim has cs front s old
+    pub gained : GainTogether sim has (ends_of sim cs) s bound old total
+
+  -- where no log gets too long in a window, handled once at its bound is handled once at the front and what is gained
   abbrev pub HandledGrows : Type 0
   HandledGrows = (w : Counting M N K) (cs : List Clone) (front bound s total : ℕ) (old : List (Copy S M N K)) →
-      IsWindow sim cs front bound → NoneIsBeyond sim cs s bound → Stands sim w.has cs front s old →
-      GainTogether sim w.has (ends_of sim cs) s bound old total →
+      GainInWindow w.has cs front bound s total old → NoneIsBeyond sim cs s bound →
       handled_once sim w.same cs s bound ≡ handled_once sim w.same cs s front + total
 
-  -- where logs get too long, so it is of no log more than the limit
+  -- where logs may get too long, the same, of each log at the bound no more than the limit
   abbrev pub HandledGrowsToLimit : Type 0
   HandledGrowsToLimit = (w : Counting M N K) (cs : List Clone) (front bound s total : ℕ) (old : List (Copy S M N K)) →
-      IsWindow sim cs front bound → NoneIsBeyond sim cs s front → Stands sim w.has cs front s old →
-      GainTogether sim w.has (ends_of sim cs) s bound old total →
+      GainInWindow w.has cs front bound s total old → NoneIsBeyond sim cs s front →
       handled_to_limit sim w.same cs s bound ≡ handled_once sim w.same cs s front + total
 
   -- and that is at most as many as the limit allows for each clone
   abbrev pub HandledIsFew : Type 0
   HandledIsFew = (w : Counting M N K) (cs : List Clone) (front bound s total : ℕ) (old : List (Copy S M N K)) →
-      IsWindow sim cs front bound → NoneIsBeyond sim cs s front → Stands sim w.has cs front s old →
-      GainTogether sim w.has (ends_of sim cs) s bound old total →
+      GainInWindow w.has cs front bound s total old → NoneIsBeyond sim cs s front →
       handled_once sim w.same cs s front + total ≤ length cs * sim.limit
 
   -- those that a step puts over the limit are the clones whose logs at the bound are beyond it
@@ -139,25 +142,27 @@ module _ {S M N : Type 0} (K : Type 0) (sim : Simulation S M N) where
       0 < sim.lookahead → AreFronts sim cs 0 fs → NoneIsBeyond sim cs s sim.horizon →
       WindowsGain w.has cs s 0 fs n → handled_once sim w.same cs s sim.horizon ≡ n
 
-  -- size counts the clones of each copy
-  abbrev pub CountsClones : (K → ℕ → Bool) → (K → ℕ) → List (Copy S M N K) → Type 0
-  CountsClones has size copies = (a : Copy S M N K) → In a copies → IsCount (λ c. Carries has a c) (size a.set)
+  -- copies of a station that stand for the clones at a front, and how many clones each has
+  pub record CountedCopies : Type 0 where
+    pub has : K → ℕ → Bool
+    pub size : K → ℕ
+    pub clones : List Clone
+    pub front : ℕ
+    pub station : ℕ
+    pub copies : List (Copy S M N K)
+    pub counted : (a : Copy S M N K) → In a copies → IsCount (λ c. Carries has a c) (size a.set)
+    pub stand : Stands sim has clones front station copies
 
   -- each clone by itself would handle the messages of its copy's log
   abbrev pub AloneIsOfCopies : Type 0
-  AloneIsOfCopies = (has : K → ℕ → Bool) (cs : List Clone) (front s : ℕ) (copies : List (Copy S M N K)) (size : K → ℕ) →
-      CountsClones has size copies → Stands sim has cs front s copies
-      → handled_alone sim cs s front ≡ sum_by (λ a. size a.set * length a.log) copies
+  AloneIsOfCopies = (w : CountedCopies) →
+      handled_alone sim w.clones w.station w.front ≡ sum_by (λ a. w.size a.set * length a.log) w.copies
 
   -- each clone is in one copy
   abbrev pub ClonesAreOfCopies : Type 0
-  ClonesAreOfCopies = (has : K → ℕ → Bool) (cs : List Clone) (front s : ℕ) (copies : List (Copy S M N K)) (size : K
-      → ℕ) →
-      CountsClones has size copies → Stands sim has cs front s copies → length cs ≡ sum_by (λ a. size a.set) copies
+  ClonesAreOfCopies = (w : CountedCopies) → length w.clones ≡ sum_by (λ a. w.size a.set) w.copies
 
   -- the clones of one copy are those whose logs are its log
   abbrev pub CopyIsClass : Type 0
-  CopyIsClass = (has : K → ℕ → Bool) (cs : List Clone) (front s : ℕ) (copies : List (Copy S M N K)) (size : K → ℕ)
-      (a : Copy S M N K) →
-      CountsClones has size copies → Stands sim has cs front s copies → In a copies →
-      IsCount (λ c. (c < length cs) × (log_at sim (clone_at cs c) s front ≡ a.log)) (size a.set)
+  CopyIsClass = (w : CountedCopies) (a : Copy S M N K) → In a w.copies →
+      IsCount (λ c. (c < length w.clones) × (log_at sim (clone_at w.clones c) w.station w.front ≡ a.log)) (w.size a.set)

@@ -9,9 +9,9 @@ use Rattle.sim_base.specs.declared.message.Param.TheVariants.{Room}
 use Rattle.sim_base.specs.declared.entry.Entry.{Entry}
 use Rattle.run_laws.specs.Machine.{Config}
 use Rattle.run_laws.specs.Simulation.{Simulation}
-use Rattle.run_laws.specs.Window.{Part, local}
+use Rattle.run_laws.specs.Window.{Part}
 use Rattle.run_laws.specs.Merges.{merge_of_logs}
-use Rattle.run_laws.specs.Runs.{log_at, state_at, due_at, end_of}
+use Rattle.run_laws.specs.Laws.{window}
 
 -- the number is 0 for the ball that goes to and fro
 pub record Ball : Type 0 where
@@ -110,5 +110,4 @@ same_catch e f = ((e.msg.time == f.msg.time && e.msg.number == f.msg.number) && 
 
 -- one station's window by itself, from how it stands in a clone at a front
 abbrev pub window_of : Clone → ℕ → ℕ → ℕ → Config (Part ℕ Ball ℕ) Ball
-window_of c s front bound = local game s (log_at game c s front) (state_at game c s front)
-    (due_at game c s front) bound (end_of game c)
+window_of c s front bound = window game c s front bound

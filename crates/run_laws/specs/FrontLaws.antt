@@ -3,14 +3,13 @@ use Rattle.std.specs.Prelude.{◌≡◌, ℕ, zero, suc, ◌+◌, ◌<◌, ◌�
 use Rattle.std.specs.Prelude.{Bool, Option, Some, None, if◌then◌else◌, length, min, nat_lt}
 use Rattle.std.specs.List.{AllByRecursion}
 use Rattle.std.specs.Ordering.{nat_cmp}
-use Rattle.sim_base.specs.Clones.{Clone, clone_at, clones_with_fork}
+use Rattle.sim_base.specs.Clones.{Clone, clone_at, clones_with_fork, fork_of, with_plan, with_end}
 use Rattle.sim_base.specs.declared.decision.Planned.{Planned}
 use Rattle.run_laws.specs.Queue.{In, Sorted}
 use Rattle.run_laws.specs.Simulation.{Simulation}
 use Rattle.run_laws.specs.Runs.{end_of, due_at}
 use Rattle.run_laws.specs.Fronts.{earlier, least_time, least_of, least, next_front, AreFronts}
 use Rattle.run_laws.specs.Handlers.{IsStation, AreForStations}
-use Rattle.run_laws.specs.Laws.{with_plan, with_end}
 use Rattle.run_laws.specs.Copies.{Copy, Carries, messages_taken, ends_of, Stands}
 
 -- a time, where it comes before another
@@ -80,7 +79,7 @@ module _ {S M N : Type 0} (sim : Simulation S M N) where
   -- a fork of a clone without end has the least time of that clone
   abbrev pub LeastAtFork : Type 0
   LeastAtFork = (c : Clone) (name : List ℕ) (front : ℕ) → c.end ≡ None →
-      least_of sim (record { name = name; plans = c.plans; end = None }) front ≡ least_of sim c front
+      least_of sim (fork_of c name) front ≡ least_of sim c front
 
   -- so the next front is as it was
   abbrev pub FrontStaysAtFork : Type 0

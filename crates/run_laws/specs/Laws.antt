@@ -1,9 +1,9 @@
 -- What is proved of machines and of runs, in words that contracts cite.
-use Rattle.std.specs.Prelude.{◌≡◌, ◌⊎◌, ◌↔◌, ℕ, ◌<◌, ◌≤◌, List, [], ◌∷◌}
-use Rattle.std.specs.Prelude.{◌++◌, ◌==◌, ◌&&◌, if◌then◌else◌, Some, map, length, nat_lt}
+use Rattle.std.specs.Prelude.{◌≡◌, ◌⊎◌, ◌↔◌, ℕ, ◌<◌, ◌≤◌, List}
+use Rattle.std.specs.Prelude.{◌==◌, ◌&&◌, if◌then◌else◌, map, length, nat_lt}
 use Rattle.std.specs.List.{filter}
 use Rattle.std.specs.declared.cmp.Ordering.{Ordering}
-use Rattle.sim_base.specs.Clones.{Clone}
+use Rattle.sim_base.specs.Clones.{Clone, with_plan, with_end}
 use Rattle.sim_base.specs.declared.decision.Planned.{Planned}
 use Rattle.sim_base.specs.declared.entry.Entry.{Entry}
 use Rattle.run_laws.specs.Queue.{insert, In, Sorted}
@@ -44,14 +44,6 @@ module _ {X M : Type 0} (cmp : M → M → Ordering) (time : M → ℕ) (handle 
   abbrev pub LateMessageStaysPending : Type 0
   LateMessageStaysPending = (bound : ℕ) (c : Config X M) (m : M) → IsReady c → bound ≤ time m →
       run_to cmp handle time (and_pending cmp m c) bound ≡ and_pending cmp m (run_to cmp handle time c bound)
-
--- a decision more, the last of the clone
-abbrev pub with_plan : Clone → Planned → Clone
-with_plan c p = record c { plans = c.plans ++ p ∷ [] }
-
--- the clone with this end
-abbrev pub with_end : Clone → ℕ → Clone
-with_end c at = record c { end = Some at }
 
 -- a message that a world has handled, or that is pending there
 abbrev pub IsMessageOf : {S M N : Type 0} → Config (World S M N) M → M → Type 0
@@ -108,8 +100,8 @@ module _ {S M N : Type 0} (sim : Simulation S M N) where
         (due_at sim c s front) else due_at sim c s front)
 
   -- a decision at or after a front adds its message to what is due, and changes nothing else
-  abbrev pub LateDecisionAddsDue : Type 0
-  LateDecisionAddsDue = (c : Clone) (p : Planned) (front : ℕ) →
+  abbrev pub DecisionAddsDue : Type 0
+  DecisionAddsDue = (c : Clone) (p : Planned) (front : ℕ) →
       front ≤ sim.time (sim.set_message (length c.plans) p) → AddsDue c p (sim.set_message (length c.plans) p) front
 
   -- what a new end changes at a front: the due messages from it on are no longer due
@@ -120,8 +112,8 @@ module _ {S M N : Type 0} (sim : Simulation S M N) where
 
   -- an end at or after a front, and not past the end that the clone had, drops the due messages from it on,
   -- and changes nothing else
-  abbrev pub LateEndDropsDue : Type 0
-  LateEndDropsDue = (c : Clone) (at front : ℕ) → front ≤ at → at ≤ end_of sim c → DropsDue c at front
+  abbrev pub EndDropsDue : Type 0
+  EndDropsDue = (c : Clone) (at front : ℕ) → front ≤ at → at ≤ end_of sim c → DropsDue c at front
 
   -- station s of a clone by itself, from a front to a bound
   abbrev pub window : Clone → ℕ → ℕ → ℕ → Config (Part S M N) M

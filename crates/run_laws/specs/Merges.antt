@@ -30,8 +30,11 @@ abbrev pub entry_order : {M N : Type 0} → (M → ℕ) → (M → ℕ) → (M �
 entry_order time sender number e f = key_order time sender number e.msg f.msg
 
 module _ {S M N : Type 0} (sim : Simulation S M N) (sender number : M → ℕ) where
+  -- a list for each of the stations 1 to n, merged
+  abbrev pub merge_of_lists : (ℕ → List (Entry M N)) → ℕ → List (Entry M N)
+  merge_of_lists list zero = []
+  merge_of_lists list (suc n) = merge (entry_order sim.time sender number) (merge_of_lists list n) (list (suc n))
+
   -- the logs of the stations 1 to n, merged
   abbrev pub merge_of_logs : Clone → ℕ → ℕ → List (Entry M N)
-  merge_of_logs c front zero = []
-  merge_of_logs c front (suc n) = merge (entry_order sim.time sender number) (merge_of_logs c front n)
-      (log_at sim c (suc n) front)
+  merge_of_logs c front n = merge_of_lists (λ s. log_at sim c s front) n

@@ -11,7 +11,9 @@ use Rattle.run_laws.specs.World.{set_messages}
 use Rattle.run_laws.specs.Window.{earlier_than}
 use Rattle.run_laws.specs.Runs.{end_of, trace_of, log_at}
 use Rattle.run_laws.specs.Laws.{before}
-use Rattle.run_laws.specs.Handlers.{IsStation, AreForStations, key_order}
+use Rattle.run_laws.specs.Handlers.{AreForStations}
+use Rattle.run_laws.specs.Merges.{entry_order}
+use Rattle.run_laws.specs.TraceLaws.{InLists}
 
 -- the least time, from `most` down, of a decision that one of two lists has at a place and the other has not
 abbrev pub parting : (Planned → Planned → Bool) → ℕ → List Planned → List Planned → ℕ
@@ -30,6 +32,10 @@ module _ {S M N : Type 0} (sim : Simulation S M N) where
   -- the entries at a time or after it
   abbrev pub from_on : ℕ → List (Entry M N) → List (Entry M N)
   from_on t es = filter (λ e. not (nat_lt (sim.time e.msg) t)) es
+
+  -- what the log of station s has from a time on
+  abbrev pub log_from : Clone → ℕ → ℕ → List (Entry M N)
+  log_from c t s = from_on t (log_at sim c s sim.horizon)
 
   -- the time before which two clones have one trace
   abbrev pub shared_to : (Planned → Planned → Bool) → Clone → Clone → ℕ
@@ -70,13 +76,11 @@ module _ {S M N : Type 0} (sim : Simulation S M N) where
   abbrev pub LengthIsOfLogs : Type 0
   LengthIsOfLogs = (c : Clone) (t : ℕ) (line : Entry M N → List ℕ) → AreForStations sim c.plans →
       length (flat_map line (from_on t (trace_of sim c))) ≡
-      station_sum (λ s. sum_by (λ e. length (line e)) (from_on t (log_at sim c s sim.horizon))) sim.stations
+      station_sum (λ s. sum_by (λ e. length (line e)) (log_from c t s)) sim.stations
 
   -- a list that rises by key, and has the entries of the stations' logs from a time on and no others,
   -- is the trace from there on
   abbrev pub RestIsOfLogs : (M → ℕ) → (M → ℕ) → Type 0
   RestIsOfLogs sender number = (c : Clone) (t : ℕ) (es : List (Entry M N)) → AreForStations sim c.plans →
-      Sorted (λ e f. key_order sim.time sender number e.msg f.msg) es →
-      ((e : Entry M N) → In e es → (s : ℕ) × IsStation sim s × In e (from_on t (log_at sim c s sim.horizon))) →
-      ((e : Entry M N) (s : ℕ) → IsStation sim s → In e (from_on t (log_at sim c s sim.horizon)) → In e es) →
-      es ≡ from_on t (trace_of sim c)
+      Sorted (entry_order sim.time sender number) es → ((e : Entry M N) → In e es → InLists sim (log_from c t) e) →
+      ((e : Entry M N) → InLists sim (log_from c t) e → In e es) → es ≡ from_on t (trace_of sim c)

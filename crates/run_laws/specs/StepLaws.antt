@@ -7,7 +7,7 @@ use Rattle.run_laws.specs.Queue.{In}
 use Rattle.run_laws.specs.Simulation.{Simulation}
 use Rattle.sim_base.specs.Marked.{JoinsMarks, SortedMarked}
 use Rattle.run_laws.specs.Copies.{Copy, Carries, handled_by, sends_aside, takes, IsNarrowed, IsSettled}
-use Rattle.run_laws.specs.Copies.{view, Ends, IsStepped, AreOver, SoFar, Disjoint, messages_taken}
+use Rattle.run_laws.specs.Copies.{view, ComesTo, IsStepped, AreOver, SoFar, Disjoint, messages_taken}
 use Rattle.run_laws.specs.Copies.{GainTogether, IsGiven, SoFarGiven, ends_of, IsDelivered}
 
 -- what a step works with: which clones marks have and what marks are joined, when each clone ends, the station, and
@@ -24,7 +24,7 @@ pub record Step (K : Type 0) : Type 0 where
 module _ {S M N : Type 0} (K : Type 0) (sim : Simulation S M N) (Good : ℕ → S → Type 0) where
   -- the copy r gives these copies, sends, clones over the limit and so many new prefixes
   abbrev pub Gives : Step K → Copy S M N K → List (Copy S M N K) → List (M × K) → List (M × K) → K → K → ℕ → Type 0
-  Gives w = Ends sim w.has w.ends w.station w.bound
+  Gives w = ComesTo sim w.has w.ends w.station w.bound
 
   -- all clones of a copy take a message
   abbrev pub AllTake : Step K → Copy S M N K → M × K → Type 0

@@ -9,9 +9,13 @@ use Rattle.run_laws.specs.Handlers.{IsStation, AreForStations}
 use Rattle.run_laws.specs.Merges.{entry_order, merge_of_logs}
 
 module _ {S M N : Type 0} (sim : Simulation S M N) where
+  -- an entry of some station's list
+  abbrev pub InLists : (ℕ → List (Entry M N)) → Entry M N → Type 0
+  InLists list e = (s : ℕ) × IsStation sim s × In e (list s)
+
   -- an entry of some station's log
   abbrev pub InLogs : Clone → ℕ → Entry M N → Type 0
-  InLogs c front e = (s : ℕ) × IsStation sim s × In e (log_at sim c s front)
+  InLogs c front e = InLists (λ s. log_at sim c s front) e
 
   module _ (sender number : M → ℕ) where
     -- a list that rises by key, and has the entries of the stations' logs and no others, is the trace

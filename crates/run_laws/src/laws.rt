@@ -8,8 +8,8 @@ ghost use Rattle.run_laws.specs.Simulation.{Simulation};
 ghost use Rattle.run_laws.specs.Handlers.{IsTimed, IsLawful, HandlesLawfully, SendsToStations, HandlesFreshly};
 ghost use Rattle.run_laws.specs.Laws.{RunIsReached, RunIsDetermined, RunGoesOn, LateMessageStaysPending};
 ghost use Rattle.run_laws.specs.Laws.{TraceRises, NumbersAreOnce, DueIsForStations, StateIsReplay};
-ghost use Rattle.run_laws.specs.Laws.{ReplayIsGood, EqualLogsEqualStates, LogAtFront, LateDecisionAddsDue};
-ghost use Rattle.run_laws.specs.Laws.{LateEndDropsDue, WindowsGiveRuns};
+ghost use Rattle.run_laws.specs.Laws.{ReplayIsGood, EqualLogsEqualStates, LogAtFront, DecisionAddsDue};
+ghost use Rattle.run_laws.specs.Laws.{EndDropsDue, WindowsGiveRuns};
 ghost use Rattle.run_laws.specs.StepLaws.{SettledCopyStays, FullCopyGoesOver, SharedMessageIsHandledOnce};
 ghost use Rattle.run_laws.specs.StepLaws.{MessageOfNoneIsPassedOver, CopySplits, StepTakesCopies};
 ghost use Rattle.run_laws.specs.StepLaws.{StepGivesWindows, StepFindsThoseOver, CopiesGainTogether};
@@ -97,9 +97,9 @@ pub fn logs<S, M, N, T: Stations<S, M, N>>()
 {}
 
 /// What a decision or an end at or after a front changes there.
-pub fn late<S, M, N, T: Stations<S, M, N>>()
-    ensures decision { LateDecisionAddsDue T.sim }
-    ensures ending { LateEndDropsDue T.sim }
+pub fn deciding<S, M, N, T: Stations<S, M, N>>()
+    ensures decision { DecisionAddsDue T.sim }
+    ensures ending { EndDropsDue T.sim }
 {}
 
 /// Up to the next front each station may go by itself.

@@ -19,9 +19,9 @@
 //!
 //! There is nothing to run and nothing that costs time: the contract of each function in `laws` is a law, and
 //! `examples` pins the definitions by worked values. A crate above cites a definition in its contracts and a lemma in
-//! its proofs, as
+//! its proofs, as `phys_proc` does:
 //!
-//!     ensures windows { IsStepped (simulation model.now) has ends station bound copies result.copies out }
+//!     ensures windows { .. IsStepped (simulation model.now) has .. self.old.copies self.new.copies sent.new.items }
 //!     use Rattle.run_laws.proofs.Steps.{stepped}
 //!
 //! The promises that rest on it: copies give every clone its own trace, the report counts each message once that

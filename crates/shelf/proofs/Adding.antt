@@ -10,7 +10,7 @@ use Rattle.phys_proc.specs.Racks.{RackView}
 use Rattle.shelf.specs.Racks.{MayFollow, AreLegal}
 use Rattle.shelf.specs.Rules.{IsHistory, Adds}
 use Rattle.shelf.proofs.Prefixes.{prefix_whole}
-use Rattle.shelf.proofs.Legals.{legal_with}
+use Rattle.shelf.proofs.Legals.{AreLegal-push}
 
 -- what a rule shows of the history: nothing
 abbrev pub shown : List RackView → List RackView
@@ -29,7 +29,7 @@ pub adds_goes : (all seen : List RackView) (r : RackView) (old : ℕ) → length
 adds_goes all seen r old len may legal pre true is =
     let here : length all ≡ old = grind (arith, nat_tests) in
     let same : seen ≡ all = prefix_whole seen all pre (omega (arith, here, len)) in
-    let legal' : AreLegal (all ++ r ∷ []) = legal_with all r legal (subst (λ xs. MayFollow xs r) same may) in
+    let legal' : AreLegal (all ++ r ∷ []) = AreLegal-push all r legal (subst (λ xs. MayFollow xs r) same may) in
     let n : either (length all == old) (old + 1) (length all) ≡ length (all ++ r ∷ []) =
     rw is (omega (arith, here, length-append all (r ∷ []))) in (
       keeps,

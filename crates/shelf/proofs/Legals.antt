@@ -15,12 +15,14 @@ all_with : {A : Type 0} (P : A → Type 0) (xs : List A) (y : A) → AllByRecurs
 all_with P [] y h p = (p, tt)
 all_with P (x ∷ xs) y h p = (h.0, all_with P xs y h.1 p)
 
+-- ---- AreLegal
+
 -- one rack more that may follow leaves the list legal
-pub legal_with : (racks : List RackView) (r : RackView) → AreLegal racks → MayFollow racks r
+pub AreLegal-push : (racks : List RackView) (r : RackView) → AreLegal racks → MayFollow racks r
     → AreLegal (racks ++ r ∷ [])
-legal_with [] r legal may = (tt, tt)
-legal_with (q ∷ racks) r legal may =
-    (all_with (λ (r : RackView). MayComeAfter r q) racks r legal.0 may.0, legal_with racks r legal.1 may.1)
+AreLegal-push [] r legal may = (tt, tt)
+AreLegal-push (q ∷ racks) r legal may =
+    (all_with (λ (r : RackView). MayComeAfter r q) racks r legal.0 may.0, AreLegal-push racks r legal.1 may.1)
 
 -- ---- latest
 
@@ -181,9 +183,9 @@ opens racks each = record {
         (λ i r l e. let h = each i r e in (omega (arith, h), omega (arith, h, l)))
 
 -- each of the opening racks may follow those before it
-pub may_open : (racks : List RackView) (i : ℕ) (r : RackView) → MayOpen racks → slice_get racks i ≡ Some r
+pub MayOpen-follows : (racks : List RackView) (i : ℕ) (r : RackView) → MayOpen racks → slice_get racks i ≡ Some r
     → MayFollow (take i racks) r
-may_open racks i r may e = of_part racks i (λ j q l f. record {
+MayOpen-follows racks i r may e = of_part racks i (λ j q l f. record {
   net = may.net j i q r f e;
   later = λ same. let h = may.each j q f in let g = may.each i r e in absurd (omega (arith, h, g, same, l));
 })
@@ -213,20 +215,21 @@ take_more (z ∷ zs) (suc i) y e = ap (λ n. take n (z ∷ zs)) (one_more i) ∙
     one_more i = omega arith
 
 -- the next of the opening racks may follow those before it, and with it they are one more
-pub open_next : {A : Type 0} (f : A → RackView) (xs : List A) (i : ℕ) (x : A) (r : RackView) (published : List RackView)
+pub MayOpen-next : {A : Type 0} (f : A → RackView) (xs : List A) (i : ℕ) (x : A) (r : RackView)
+    (published : List RackView)
     → published ≡ take i (map f xs) → MayOpen (map f xs) → i < length xs → x ≡ get_or xs i x → r ≡ f x
     → MayFollow published r × (published ++ r ∷ [] ≡ take (i + 1) (map f xs))
-open_next f xs i x r published e may l got is =
+MayOpen-next f xs i x r published e may l got is =
     let g : slice_get (map f xs) i ≡ Some r = image_at f xs i x l got ∙ ap Some (sym is) in (
-      subst (λ q. MayFollow q r) (sym e) (may_open (map f xs) i r may g),
+      subst (λ q. MayFollow q r) (sym e) (MayOpen-follows (map f xs) i r may g),
       ap (λ q. q ++ r ∷ []) e
           ∙ sym (take_more (map f xs) i r g),
     )
 
 -- a rack that readers are shown is the last of its station
-pub shown_at : {A : Type 0} (f : A → RackView) (xs : List A) (published : List RackView) (s : ℕ) (x : A)
+pub AreShown-at : {A : Type 0} (f : A → RackView) (xs : List A) (published : List RackView) (s : ℕ) (x : A)
     → AreShown (map f xs) published → HasRack s published → x ≡ get_or xs (s - 1) x → latest s published ≡ Some (f x)
-shown_at f xs published s x shown has got =
+AreShown-at f xs published s x shown has got =
     let k = shown.all s has in
     let l : s - 1 < length xs = omega (arith, k.0, k.1, length-map xs f) in
     let m : s - 1 < length (map f xs) = omega (arith, l, length-map xs f) in
@@ -235,9 +238,9 @@ shown_at f xs published s x shown has got =
     ∙ image_at f xs (s - 1) x l got
 
 -- the place of the shown racks at which the rack of a station stands
-pub has_place : {A : Type 0} (f : A → RackView) (xs : List A) (published : List RackView) (s : ℕ)
+pub HasRack-bounds : {A : Type 0} (f : A → RackView) (xs : List A) (published : List RackView) (s : ℕ)
     → AreShown (map f xs) published → HasRack s published → (1 ≤ s) × (s ≤ length xs)
-has_place f xs published s shown has = let k = shown.all s has in (k.0, omega (arith, k.1, length-map xs f))
+HasRack-bounds f xs published s shown has = let k = shown.all s has in (k.0, omega (arith, k.1, length-map xs f))
 
 -- a station that has a rack has one also with one rack more
 pub has_with : (s : ℕ) (racks : List RackView) (r : RackView) → HasRack s racks → HasRack s (racks ++ r ∷ [])

@@ -9,15 +9,15 @@ use Rattle.shelf.specs.Racks.{HasRack, AreShown, EachIs, if_this, latest, with_r
 use Rattle.shelf.proofs.Legals.{latest-with}
 
 -- one more, which should stand there
-pub each_push : (want : ℕ → Option RackView) (xs : List RackView) (y : RackView) → EachIs want xs
+pub EachIs-push : (want : ℕ → Option RackView) (xs : List RackView) (y : RackView) → EachIs want xs
     → Some y ≡ want (length xs) → EachIs want (xs ++ y ∷ [])
-each_push want [] y each e = at_end
+EachIs-push want [] y each e = at_end
   where
     at_end : (i : ℕ) → i < length (y ∷ []) → slice_get (y ∷ []) i ≡ want i
     at_end zero l = e
     at_end (suc i) l = absurd (omega (arith, l))
-each_push want (x ∷ xs) y each e =
-    by_place (each_push (λ i. want (suc i)) xs y (λ i l. each (suc i) (omega (arith, l))) e)
+EachIs-push want (x ∷ xs) y each e =
+    by_place (EachIs-push (λ i. want (suc i)) xs y (λ i l. each (suc i) (omega (arith, l))) e)
   where
     by_place : EachIs (λ i. want (suc i)) (xs ++ y ∷ []) → (i : ℕ) → i < length (x ∷ (xs ++ y ∷ []))
         → slice_get (x ∷ (xs ++ y ∷ [])) i ≡ want i
@@ -25,21 +25,21 @@ each_push want (x ∷ xs) y each e =
     by_place rest (suc i) l = rest i (omega (arith, l))
 
 -- the same of the lists of which these are the images
-pub each_pushed : {A : Type 0} (f : A → RackView) (want : ℕ → Option RackView) (xs ys : List A) (x : A) (n : ℕ)
+pub EachIs-push_image : {A : Type 0} (f : A → RackView) (want : ℕ → Option RackView) (xs ys : List A) (x : A) (n : ℕ)
     → ys ≡ xs ++ x ∷ []
     → length xs ≡ n → EachIs want (map f xs) → Some (f x) ≡ want n → EachIs want (map f ys) × (length ys ≡ n + 1)
-each_pushed f want xs ys x n e many each last = (
+EachIs-push_image f want xs ys x n e many each last = (
   subst (EachIs want) (sym (ap (map f) e ∙ map-append f xs (x ∷ [])))
-      (each_push want (map f xs) (f x) each (last ∙ ap want (sym (length-map xs f ∙ many)))),
+      (EachIs-push want (map f xs) (f x) each (last ∙ ap want (sym (length-map xs f ∙ many)))),
   ap length e ∙ omega (arith, length-append xs (x ∷ []), many),
 )
 
 -- with the rack at its station's place readers are shown the last racks again
-pub shown_with : (shown published all : List RackView) (place : ℕ) (rack : RackView) → place ≡ rack.station - 1
+pub AreShown-push : (shown published all : List RackView) (place : ℕ) (rack : RackView) → place ≡ rack.station - 1
     → length all ≡ length shown
     → EachIs (with_rack shown place rack) all → AreShown shown published → HasRack rack.station published
     → AreShown all (published ++ rack ∷ [])
-shown_with shown published all place rack is many each old has = record {
+AreShown-push shown published all place rack is many each old has = record {
   each = λ i l. each i l ∙ (ap (λ o. if_this (i == place) rack o) (old.each i (omega (arith, l, many)))
       ∙ (ap (λ b. if_this b rack (latest (i + 1) published)) (same_test i) ∙ sym (latest-with (i + 1) published rack)));
   all = λ s h. let k = by_test s (rack.station == s) refl (h.0, sym (latest-with s published rack) ∙ h.1) in

@@ -1,5 +1,5 @@
 //! The history of all racks that were published, which only grows.
-ghost use Rattle.std.specs.Prelude.{◌≡◌, ◌+◌, ◌<◌, ◌≤◌, ◌^◌, ◌++◌, ◌∷◌, ◌⊎◌, [], length, MatchBool};
+ghost use Rattle.std.specs.Prelude.{◌≡◌, ◌+◌, ◌<◌, ◌^◌, ◌++◌, ◌∷◌, ◌⊎◌, [], length, MatchBool};
 ghost use mathlib.Core.List.{IsPrefix};
 ghost use Rattle.shelf.specs.Racks.{AreLegal, IsLonger, MayFollow};
 ghost use Rattle.shelf.specs.Rules.{head_of};
@@ -9,9 +9,9 @@ use phys_proc::Rack;
 use std::marker::{Brand, Model, PhantomData};
 
 /// The rule of the history: its racks rise in front, station by station.
-pub struct Law;
+pub struct HistoryRule;
 
-impl Rule<Rack, u64> for Law {
+impl Rule<Rack, u64> for HistoryRule {
     ghost use Rattle.std.specs.Prelude.{[]};
     ghost use base.Fml.{ftrue};
     ghost use Rattle.shelf.specs.Rules.{IsHistory};
@@ -70,8 +70,8 @@ impl Naming for Brand {
 /// An empty history, which has no name yet.
 #[derive(Drop)]
 pub struct Opened {
-    head: Word<Rack, u64, Law>,
-    seen: Seen<Rack, u64, Law>,
+    head: Word<Rack, u64, HistoryRule>,
+    seen: Seen<Rack, u64, HistoryRule>,
     pub ghost empty: { seen.log ≡ [] },
     pub ghost head_is: { head ≡ head_of seen.book },
 }
@@ -109,7 +109,7 @@ impl Opened {
 /// The word that the publisher changes: how many racks were published.
 #[derive(Drop)]
 pub struct History<J: Naming> {
-    head: Word<Rack, u64, Law>,
+    head: Word<Rack, u64, HistoryRule>,
     of: PhantomData<J>,
     ghost head_is: { head ≡ head_of J.book },
 }
@@ -118,7 +118,7 @@ pub struct History<J: Naming> {
 #[derive(Drop)]
 pub struct Published<J: Naming> {
     count: u64,
-    seen: Seen<Rack, u64, Law>,
+    seen: Seen<Rack, u64, HistoryRule>,
     of: PhantomData<J>,
 }
 
@@ -177,7 +177,9 @@ impl<J: Naming> Published<J> {
         requires may { MayFollow self.old rack.now }
         ensures value { MatchBool result (self.new ≡ self.old ++ rack.now ∷ []) (IsLonger self.old self.new) }
     {
-        let mut offer: Offer<Rack, u64, Law, Nothing> = self.seen.plain::<Nothing, Rack, Add>(rack);
+        let mut offer: Offer<Rack, u64, HistoryRule, Nothing> = self
+            .seen
+            .plain::<Nothing, Rack, Add>(rack);
         let mut pen = self.seen.no_pen();
         let count = self.count;
         let found = history

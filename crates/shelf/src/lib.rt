@@ -35,5 +35,5 @@ mod version;
 
 pub use history::{History, Naming, Opened, Published};
 pub use seat::{Seat, Told};
-pub use stocker::{Stocker, begin};
+pub use stocker::{MOST_READERS, Stocker, begin};
 pub use version::Version;

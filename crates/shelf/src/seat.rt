@@ -56,7 +56,7 @@ fn is_behind<J: Naming>(a: &Published<J>, b: &Published<J>) -> bool
 }
 
 // The version that is shown, where it has more than what is known.
-fn newer<J: Naming>(
+fn newer_version<J: Naming>(
     handle: &mut ReadHandle<Shown<J>>,
     known: &Published<J>,
 ) -> Option<Arc<Version<J>>>
@@ -75,13 +75,13 @@ fn newer<J: Naming>(
 fn refresh<J: Naming>(handle: &mut ReadHandle<Shown<J>>, newest: &mut Arc<Version<J>>)
     ensures begins { IsPrefix newest.old.value newest.new.value }
 {
-    if let Some(version) = newer(handle, newest.published()) {
+    if let Some(version) = newer_version(handle, newest.published()) {
         *newest = version;
     }
 }
 
-// What the version tells of the clone of this name at a station.
-fn glanced<J: Naming>(version: &Version<J>, station: u32, who: &Name) -> Glance
+// What the version shows of the clone of this name at a station.
+fn glance_at<J: Naming>(version: &Version<J>, station: u32, who: &Name) -> Glance
     requires there { HasRack station version.now }
     ensures glance { (r : RackView) × (latest station version.now ≡ Some r) × IsGlance r who.now result }
 {
@@ -101,7 +101,7 @@ impl<J: Naming> Seat<J> {
         refresh(&mut self.handle, &mut self.newest);
         // for its clause: the racks are legal, so a later one of a station shows a later front
         let _legal = self.newest.published().len();
-        glanced(&self.newest, station, who)
+        glance_at(&self.newest, station, who)
     }
 
     /// Learns what was published: no later look is older.

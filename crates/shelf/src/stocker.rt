@@ -4,6 +4,7 @@ ghost use Rattle.std.specs.Prelude.{length, map, List, Some, IfOk, IfSome, IfNon
 ghost use Rattle.std.specs.Arc.{arc_value};
 ghost use Rattle.phys_proc.specs.Racks.{RackView};
 ghost use Rattle.shelf.specs.Racks.{AreShown, HasRack, MayFollow, MayOpen, with_rack};
+ghost use Rattle.shelf.specs.declared.stocker.TheConstants.{MOST_READERS};
 
 use crate::history::{History, Naming, Opened, Published};
 use crate::seat::{Seat, Told};
@@ -16,6 +17,9 @@ use std::sync::{Arc, Wait};
 
 /// The most racks that a history may have.
 const MOST_RACKS: u64 = 1 << 61;
+
+/// The greatest number of readers of a shelf.
+pub const MOST_READERS: u32 = 16;
 
 // Handles of one version, so many.
 fn handles<J: Naming>(
@@ -50,7 +54,7 @@ fn at_place(
 }
 
 // The racks with this one at its station's place.
-fn replaced(
+fn replace_rack(
     alloc: Global,
     racks: &[Arc<Rack>],
     rack: &Arc<Rack>,
@@ -68,8 +72,8 @@ fn replaced(
     Ok(all)
 }
 
-// The opening racks as the first of the history.
-fn first_published<J: Naming>(
+// Makes the opening racks the first of the history.
+fn publish_opening<J: Naming>(
     history: &History<J>,
     nothing: Published<J>,
     racks: &[Arc<Rack>],
@@ -124,7 +128,7 @@ fn next_version<J: Naming>(
 {
     let mut next = published.again();
     let rack = Arc::new(alloc, rack)?;
-    let racks = replaced(alloc, newest.racks(), &rack)?;
+    let racks = replace_rack(alloc, newest.racks(), &rack)?;
     if !next.add(history, &rack) {
         return Err(NoMemory);
     }
@@ -180,7 +184,7 @@ where
 }
 
 // The racks, each to be shared.
-fn shared(alloc: Global, racks: Vec<Rack>) -> Result<Vec<Arc<Rack>>, NoMemory>
+fn share_racks(alloc: Global, racks: Vec<Rack>) -> Result<Vec<Arc<Rack>>, NoMemory>
     ensures value { IfOk result (λ v. map arc_value v.items ≡ racks.items) }
 {
     let mut all = Vec::with_capacity(alloc, racks.len())?;
@@ -221,7 +225,7 @@ pub fn begin<J: Naming, R: Wait + Drop>(
     requires opening { MayOpen racks.items }
     requires few { length racks.items ≤ 64 }
     requires some { 1 ≤ readers }
-    requires most { readers ≤ 16 }
+    requires most { readers ≤ MOST_READERS }
     ensures published { IfOk result (λ r. r.0.published ≡ racks.items) }
     ensures readers { IfOk result (λ r. r.0.readers ≡ readers) }
     ensures spares { IfOk result (λ r. r.0.spares.items ≡ []) }
@@ -229,8 +233,8 @@ pub fn begin<J: Naming, R: Wait + Drop>(
     ensures seats { IfOk result (λ r. All (λ s. s ≡ racks.items) r.1.items) }
 {
     let (history, nothing) = opened.named::<J>();
-    let racks = shared(alloc, racks)?;
-    let published = first_published(&history, nothing, racks.as_slice())?;
+    let racks = share_racks(alloc, racks)?;
+    let published = publish_opening(&history, nothing, racks.as_slice())?;
     let version = Arc::new(alloc, Version::of(published.again(), racks))?;
     let first = Shown {
         version: Arc::try_clone(&version)?,

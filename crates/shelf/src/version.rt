@@ -1,13 +1,12 @@
 //! What readers are shown: the last rack of each station.
-ghost use Rattle.std.specs.Prelude.{◌≡◌, ◌+◌, ◌<◌, ◌≤◌, length, map, Some};
+ghost use Rattle.std.specs.Prelude.{◌≡◌, map, Some};
 ghost use Rattle.std.specs.Arc.{arc_value};
-ghost use mathlib.Core.List.{IsPrefix};
 ghost use Rattle.shelf.specs.Racks.{AreShown, HasRack, latest};
 
 use crate::history::{Naming, Published};
 use left_right::Absorb;
 use phys_proc::Rack;
-use std::alloc::{AllocError, Global};
+use std::alloc::AllocError;
 use std::cell::Cell;
 use std::marker::Model;
 use std::sync::Arc;

@@ -9,7 +9,7 @@ use Rattle.std.proofs.lemmas.List.{append-nil, take-append-drop, length-take, le
 use Rattle.sim_base.specs.Pending.{insert_marked, cut_by, spread_marks}
 use Rattle.sim_base.proofs.Cutting.{cut-append}
 use Rattle.sim_base.specs.Marked.{SortedMarked}
-use Rattle.sim_base.specs.Blocks.{of_blocks, block_at, halved, AreFilled, AreSized, StartsAfter, IsBlockOf}
+use Rattle.sim_base.specs.Blocks.{of_blocks, block_at, halves_of, AreFilled, AreSized, StartsAfter, IsBlockOf}
 use Rattle.std.specs.Prelude.{slice_get}
 use Rattle.sim_base.proofs.Placing.{all_left, insert_behind, insert_before}
 use Rattle.sim_base.proofs.Placing.{all_before, sorted_right}
@@ -27,35 +27,35 @@ module _ {X : Type 0} where
       ∙ sym (append_assoc b (of_blocks bs) (of_blocks cs))
 
   -- a block that is cut in two keeps its messages
-  pub same_halved : (at : ℕ) (bs : List (List X)) → of_blocks (halved at bs) ≡ of_blocks bs
+  pub same_halved : (at : ℕ) (bs : List (List X)) → of_blocks (halves_of at bs) ≡ of_blocks bs
   same_halved at [] = refl
   same_halved zero (b ∷ bs) = sym (append_assoc (take 32 b) (drop 32 b) (of_blocks bs))
       ∙ ap (λ t. t ++ of_blocks bs) (take-append-drop 32 b)
   same_halved (suc at) (b ∷ bs) = ap (λ t. b ++ t) (same_halved at bs)
 
   -- and there is one block more then
-  pub length_halved : (at : ℕ) (bs : List (List X)) → at < length bs → length (halved at bs) ≡ suc (length bs)
+  pub length_halved : (at : ℕ) (bs : List (List X)) → at < length bs → length (halves_of at bs) ≡ suc (length bs)
   length_halved at [] l = absurd (omega arith)
   length_halved zero (b ∷ bs) l = refl
   length_halved (suc at) (b ∷ bs) l = ap suc (length_halved at bs (omega arith))
 
   -- at its place is its first half then
   pub first_half : (at : ℕ) (bs : List (List X)) → at < length bs
-      → get_or (halved at bs) at [] ≡ take 32 (get_or bs at [])
+      → get_or (halves_of at bs) at [] ≡ take 32 (get_or bs at [])
   first_half at [] l = absurd (omega arith)
   first_half zero (b ∷ bs) l = refl
   first_half (suc at) (b ∷ bs) l = first_half at bs (omega arith)
 
   -- at the next place is its second half
   pub second_half : (at : ℕ) (bs : List (List X)) → at < length bs
-      → get_or (halved at bs) (suc at) [] ≡ drop 32 (get_or bs at [])
+      → get_or (halves_of at bs) (suc at) [] ≡ drop 32 (get_or bs at [])
   second_half at [] l = absurd (omega arith)
   second_half zero (b ∷ bs) l = refl
   second_half (suc at) (b ∷ bs) l = second_half at bs (omega arith)
 
   -- and then comes the block that was behind it
   pub behind_halves : (at : ℕ) (bs : List (List X)) → at < length bs
-      → get_or (halved at bs) (suc (suc at)) [] ≡ get_or bs (suc at) []
+      → get_or (halves_of at bs) (suc (suc at)) [] ≡ get_or bs (suc at) []
   behind_halves at [] l = absurd (omega arith)
   behind_halves zero (b ∷ bs) l = refl
   behind_halves (suc at) (b ∷ bs) l = behind_halves at bs (omega arith)
@@ -64,7 +64,7 @@ module _ {X : Type 0} where
   half_lengths b full = (omega (arith, length-take 32 b), omega (arith, length-drop 32 b))
 
   filled_halved : (at : ℕ) (bs : List (List X)) → AreFilled bs → length (get_or bs at []) ≡ 64
-      → AreFilled (halved at bs)
+      → AreFilled (halves_of at bs)
   filled_halved at [] h full = h
   filled_halved zero (b ∷ bs) h full = let l = half_lengths b full in
       ((omega arith, omega arith), ((omega arith, omega arith), h.1))
@@ -72,7 +72,7 @@ module _ {X : Type 0} where
 
   -- halves are of a right size
   pub sized_halved : (at : ℕ) (first : List X) (later : List (List X)) (first' : List X) (later' : List (List X))
-      → AreSized first later → length (block_at first later at) ≡ 64 → (first' ∷ later') ≡ halved at (first ∷ later)
+      → AreSized first later → length (block_at first later at) ≡ 64 → (first' ∷ later') ≡ halves_of at (first ∷ later)
       → AreSized first' later'
   sized_halved zero first later first' later' h full e =
       let l = half_lengths first full in
@@ -85,14 +85,14 @@ module _ {X : Type 0} where
       }
   sized_halved (suc at) first later first' later' h full e =
       let here : first' ≡ first = cc in
-      let there : later' ≡ halved at later = cc in
+      let there : later' ≡ halves_of at later = cc in
       rw (here, there) record {
         first_filled = λ l. h.first_filled (some at later l);
         first_small = h.first_small;
         later_filled = filled_halved at later h.later_filled full;
       }
     where
-      some : (at : ℕ) (bs : List (List X)) → 0 < length (halved at bs) → 0 < length bs
+      some : (at : ℕ) (bs : List (List X)) → 0 < length (halves_of at bs) → 0 < length bs
       some at [] l = l
       some at (b ∷ bs) l = omega arith
 

@@ -1,6 +1,6 @@
 -- The decision lists of the clones in memory, and what contracts see of them.
 use Rattle.std.proofs.Common.{◌≡◌, ℕ, ◌+◌, ◌<◌, ◌≤◌, List, [], ◌∷◌, ◌++◌, length, map, refl, ap, ◌∙◌, sym, arith, zero}
-use Rattle.std.proofs.Common.{suc, Some, None, slice_set, length-set, position, Result, Ok, Err, OnOk, OnErr}
+use Rattle.std.proofs.Common.{suc, Some, slice_set, length-set, position, Result, Ok, Err, OnOk, OnErr}
 use Rattle.sim_base.proofs.ListLaws.{all_push, all_pop, position-map}
 use Rattle.std.specs.Str.{bytes_eq}
 use Rattle.std.specs.List.{AllByRecursion}
@@ -8,6 +8,7 @@ use Rattle.std.proofs.lemmas.List.{length_push, map_push, length-map, map-set}
 use Rattle.sim_base.specs.declared.decision.Planned.{Planned}
 use Rattle.sim_base.specs.Reserved.{ReservedView}
 use Rattle.sim_base.specs.Clones.{Clone, clone_at, clones_with_fork, clones_with_plan, place_of, clones_with_end}
+use Rattle.sim_base.specs.Clones.{fork_of}
 use Rattle.sim_base.specs.CloneListViews.{CloneListView, AreReserved, clone_of, list_at}
 use Rattle.sim_base.specs.CloneListViews.{list_fork, lists_with_plan, list_with_plan, lists_with_end}
 
@@ -21,7 +22,7 @@ seen_at (k ∷ ks) (suc c) = seen_at ks c
 pub seen_fork : (lists : List CloneListView) (new : List ℕ) (old reserved : ℕ)
     → map clone_of (lists ++ list_fork lists new old reserved ∷ []) ≡ clones_with_fork (map clone_of lists) new old
 seen_fork lists new old reserved = map_push clone_of lists (list_fork lists new old reserved)
-    ∙ ap (λ c. map clone_of lists ++ (record { name = new; plans = c.plans; end = None }) ∷ [])
+    ∙ ap (λ c. map clone_of lists ++ (fork_of c new) ∷ [])
     (sym (seen_at lists old))
 
 -- a fork takes one spare list, and leaves the others

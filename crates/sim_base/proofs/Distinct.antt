@@ -9,7 +9,7 @@ use Rattle.std.proofs.lemmas.List.Quantifiers.{all_pairs_push}
 use Rattle.std.proofs.lemmas.List.Sums.{position_or_len_is}
 use Rattle.std.proofs.lemmas.Slice.Eq.{bytes_eq-Decides}
 use Rattle.sim_base.specs.declared.decision.Planned.{Planned}
-use Rattle.sim_base.specs.Clones.{Clone, clone_at, clones_with_fork, place_of}
+use Rattle.sim_base.specs.Clones.{Clone, clone_at, clones_with_fork, place_of, fork_of}
 use Rattle.sim_base.specs.CloneListViews.{AreClones, names, CloneListView, clone_of}
 use Rattle.sim_base.specs.CloneListViews.{list_fork, lists_with_plan, lists_with_end}
 use Rattle.sim_base.proofs.ListLaws.{position-map, none_passes}
@@ -39,7 +39,7 @@ AreClones-set clones c k e h =
 AreClones-forked : (clones : List Clone) (new : List ℕ) (old : ℕ) → place_of new clones ≡ None
     → length clones + 1 < 2 ^ 32 → AreClones clones → AreClones (clones_with_fork clones new old)
 AreClones-forked clones new old unused few h =
-    let k : Clone = record { name = new; plans = (clone_at clones old).plans; end = None } in
+    let k : Clone = fork_of (clone_at clones old) new in
     let long = length_push clones k in
     let none = position-map (λ n. bytes_eq n new) (λ c. c.name) clones ∙ unused in
     record {

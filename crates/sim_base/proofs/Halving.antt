@@ -3,18 +3,18 @@ use Rattle.std.proofs.Common.{◌≡◌, ℕ, zero, suc, ◌+◌, ◌-◌, ◌<�
 use Rattle.std.proofs.Common.{[], ◌∷◌, Bool, true, false, Ordering, length, take, drop, get_or, set, arith}
 use Rattle.std.specs.List.{insert}
 use Rattle.std.proofs.lemmas.List.{length-take, length-drop, get_or_read}
-use Rattle.sim_base.specs.Blocks.{block_at, halved, AreFilled, AreSized, StartsAfter, IsBlockOf}
+use Rattle.sim_base.specs.Blocks.{block_at, halves_of, AreFilled, AreSized, StartsAfter, IsBlockOf}
 use Rattle.sim_base.proofs.Blocks.{length_halved, first_half, second_half, behind_halves}
 
 module _ {X : Type 0} where
   -- the first block is cut
   pub halve_first : (at : ℕ) (first first' half : List X) (later later' new : List (List X)) → at ≡ 0
       → first' ≡ take 32 first → half ≡ drop 32 first → later' ≡ later → new ≡ insert later' at half
-      → (first' ∷ new) ≡ halved at (first ∷ later)
+      → (first' ∷ new) ≡ halves_of at (first ∷ later)
   halve_first at first first' half later later' new e f h l n = rw (n, l, e, f, h) refl
 
   set_and_insert : (n : ℕ) (later : List (List X)) → n < length later
-      → insert (set later n (take 32 (get_or later n []))) (suc n) (drop 32 (get_or later n [])) ≡ halved n later
+      → insert (set later n (take 32 (get_or later n []))) (suc n) (drop 32 (get_or later n [])) ≡ halves_of n later
   set_and_insert n [] l = absurd (omega arith)
   set_and_insert zero (b ∷ bs) l = refl
   set_and_insert (suc n) (b ∷ bs) l = ap (λ t. b ∷ t) (set_and_insert n bs (omega arith))
@@ -23,7 +23,7 @@ module _ {X : Type 0} where
   pub halve_later : (at : ℕ) (first first' kept half old : List X) (later later' new : List (List X))
       → 0 < at → at ≤ length later → old ≡ get_or later (at - 1) old →
       first' ≡ first → kept ≡ take 32 old → half ≡ drop 32 old → later' ≡ set later (at - 1) kept
-      → new ≡ insert later' at half → (first' ∷ new) ≡ halved at (first ∷ later)
+      → new ≡ insert later' at half → (first' ∷ new) ≡ halves_of at (first ∷ later)
   halve_later zero first first' kept half old later later' new some within is f k h l e = absurd (omega arith)
   halve_later (suc n) first first' kept half old later later' new some within is f k h l e =
       let back : suc n - 1 ≡ n = omega arith in
@@ -32,7 +32,7 @@ module _ {X : Type 0} where
       rw (e, l, f, k, h, back, here) (ap (λ t. first ∷ t) (set_and_insert n later (omega arith)))
 
   module _ (at : ℕ) (first first' : List X) (later later' : List (List X))
-      (cut : (first' ∷ later') ≡ halved at (first ∷ later)) (within : at ≤ length later) where
+      (cut : (first' ∷ later') ≡ halves_of at (first ∷ later)) (within : at ≤ length later) where
     -- there is one later block more
     pub length_later : length later' ≡ suc (length later)
     length_later = let all = length_halved at (first ∷ later) (omega arith) in let same = ap length cut in omega arith
@@ -51,14 +51,14 @@ module _ {X : Type 0} where
     behind_at = ap (λ (bs : List (List X)). get_or bs (suc (suc at)) []) cut
         ∙ behind_halves at (first ∷ later) (omega arith)
 
-    -- where the block was full, there is room in the first half
-    pub first_room : length (block_at first later at) ≡ 64 → length (block_at first' later' at) < 64
-    first_room full = rw first_half_at (omega (arith, length-take 32 (block_at first later at)))
+    -- where the block was full, there is a free place in the first half
+    pub first_free : length (block_at first later at) ≡ 64 → length (block_at first' later' at) < 64
+    first_free full = rw first_half_at (omega (arith, length-take 32 (block_at first later at)))
 
     -- and in the second half
-    pub second_room : (to : ℕ) → to ≡ suc at → length (block_at first later at) ≡ 64
+    pub second_free : (to : ℕ) → to ≡ suc at → length (block_at first later at) ≡ 64
         → length (block_at first' later' to) < 64
-    second_room to e full = rw (e, second_half_at) (omega (arith, length-drop 32 (block_at first later at)))
+    second_free to e full = rw (e, second_half_at) (omega (arith, length-drop 32 (block_at first later at)))
 
 module _ {X : Type 0} where
   filled_small : (n : ℕ) (bs : List (List X)) → AreFilled bs → length (get_or bs n []) ≤ 64
@@ -89,7 +89,7 @@ module _ {M K : Type 0} (cmp : M → M → Ordering) (m : M) where
   starts_half (y ∷ ys) r h = h
 
   module _ (at : ℕ) (first first' : List (M × K)) (later later' : List (List (M × K)))
-      (cut : (first' ∷ later') ≡ halved at (first ∷ later)) (place : IsBlockOf cmp m later at) where
+      (cut : (first' ∷ later') ≡ halves_of at (first ∷ later)) (place : IsBlockOf cmp m later at) where
     -- the message goes to the first half
     pub place_first : StartsAfter cmp m (get_or later' at []) true → IsBlockOf cmp m later' at
     place_first after =

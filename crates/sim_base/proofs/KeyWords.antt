@@ -2,8 +2,7 @@
 use Rattle.std.proofs.Common.{◌≡◌, ◌⊎◌, inl, inr, ℕ, ◌<◌, refl, arith, Ordering, Less, Equal, Greater, nat_cmp}
 use Rattle.std.specs.Cmp.{ranks}
 use Rattle.std.specs.Ordering.{MatchOrdering, ordering_then}
-use Rattle.sim_base.specs.KeyWords.{FitsWord, key_word, WordsAreOrdered}
-use Rattle.sim_base.specs.declared.message.Key.{Key}
+use Rattle.sim_base.specs.KeyWords.{WordsAreOrdered}
 
 -- numbers by number, then by what comes next
 by_number : {A : Type 0} (x y : ℕ) (r s : Ordering) → MatchOrdering r (x < y) (x ≡ y) (y < x) → (y < x → ⊥)

@@ -13,5 +13,5 @@ pub mod Halving
 pub mod Putting
 pub mod Cutting
 pub mod CloneLists
-pub mod Turning
+pub mod Rotating
 pub mod Distinct

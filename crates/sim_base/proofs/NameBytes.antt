@@ -1,33 +1,35 @@
 -- The bytes of a name: zeros stand behind them, and they are text.
 use Rattle.std.proofs.Common.{◌≡◌, ℕ, ◌≤◌, ◌&&◌, refl, ◌∙◌, List, [], ◌∷◌, ◌++◌}
-use Rattle.std.proofs.Common.{length, drop, replicate, true, nat_le, zero, suc, ◌<◌, arith, length-append}
+use Rattle.std.proofs.Common.{length, drop, replicate, true, nat_lt, zero, suc, ◌<◌, arith, length-append}
 use Rattle.std.specs.List.{list_all}
 use Rattle.std.proofs.lemmas.List.{drop-replicate, length-replicate}
 use Rattle.std.proofs.Math.Seq.{drop-append_seam, take-append_seam}
 use Rattle.std.proofs.lemmas.Bool.{and_parts, false≢true}
 use Rattle.std.proofs.lemmas.Bool.Decides.{nat_tests}
 use Rattle.sim_base.specs.Names.{is_name, is_lower, is_name_byte}
+use Rattle.sim_base.specs.declared.name.TheConstants.{LONGEST_NAME}
 use Rattle.std.specs.Str.{IsAscii, IsUtf8}
 use Rattle.std.proofs.lemmas.Str.{IsUtf8-from_ascii}
 use Rattle.sim_base.specs.Padding.{IsPadded}
 
--- a name has at most 16 bytes
-pub short_name : (text : List ℕ) → is_name text ≡ true → length text ≤ 16
+-- a name is not too long
+pub short_name : (text : List ℕ) → is_name text ≡ true → length text ≤ LONGEST_NAME
 short_name [] h = omega arith
 short_name (b ∷ bs) h =
-    let (front, short) = and_parts (is_lower b && list_all is_name_byte bs) (nat_le (length bs) 15) h in
+    let (front, short) = and_parts (is_lower b && list_all is_name_byte bs) (nat_lt (length bs) LONGEST_NAME) h in
     grind (arith, nat_tests)
 
--- a name with zeros behind it, 16 bytes in all, is padded
+-- a name with zeros behind it is padded
 pub padded_name : (text : List ℕ) → is_name text ≡ true
-    → IsPadded (text ++ drop (length text) (replicate 16 0)) (length text)
+    → IsPadded (text ++ drop (length text) (replicate LONGEST_NAME 0)) (length text)
 padded_name text h =
     let short = short_name text h in
     record {
-      room = short;
+      free = short;
       size = simp (length-append, drop-replicate, length-replicate) (omega arith);
-      zeros = drop-append_seam text (drop (length text) (replicate 16 0)) ∙ drop-replicate (length text) 16 0;
-      named = rw (take-append_seam text (drop (length text) (replicate 16 0))) h;
+      zeros = drop-append_seam text (drop (length text) (replicate LONGEST_NAME 0))
+          ∙ drop-replicate (length text) LONGEST_NAME 0;
+      named = rw (take-append_seam text (drop (length text) (replicate LONGEST_NAME 0))) h;
     }
 
 name_byte_small : (b : ℕ) → is_name_byte b ≡ true → b < 128
@@ -50,6 +52,6 @@ small_bytes (b ∷ bs) h =
 pub name_is_text : (text : List ℕ) → is_name text ≡ true → IsUtf8 text
 name_is_text [] h = absurd (false≢true h)
 name_is_text (b ∷ bs) h =
-    let (front, short) = and_parts (is_lower b && list_all is_name_byte bs) (nat_le (length bs) 15) h in
+    let (front, short) = and_parts (is_lower b && list_all is_name_byte bs) (nat_lt (length bs) LONGEST_NAME) h in
     let (first, rest) = and_parts (is_lower b) (list_all is_name_byte bs) front in
     IsUtf8-from_ascii (b ∷ bs) (small_bytes (b ∷ bs) (rw (lower_is_name_byte b first, rest) refl))

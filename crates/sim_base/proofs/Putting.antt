@@ -80,7 +80,7 @@ module _ {M K A E : Type 0} {cmp : M → M → Ordering} (o : IsTotalOrder cmp) 
       → (first' ∷ later') ≡ set (first ∷ later) at b
       → OnOk r (b ≡ insert_marked join cmp m k (block_at first later at)) → OnErr r (b ≡ block_at first later at)
       → IsPut cmp join m k r first later first' later'
-  is_put at first later blocks place room (Ok a) b first' later' e ok err =
+  is_put at first later blocks place free (Ok a) b first' later' e ok err =
       let f : (first' ∷ later') ≡ set (first ∷ later) at (insert_marked join cmp m k (block_at first later at)) =
       e ∙ ap (set (first ∷ later) at) ok in
       let all = put_all o join m k at first later blocks place first' later' f in
@@ -96,7 +96,7 @@ module _ {M K A E : Type 0} {cmp : M → M → Ordering} (o : IsTotalOrder cmp) 
         ok = all;
         err = tt;
       }
-  is_put at first later blocks place room (Err a) b first' later' e ok err =
+  is_put at first later blocks place free (Err a) b first' later' e ok err =
       let f : (first' ∷ later') ≡ first ∷ later = e ∙ ap (set (first ∷ later) at) err
       ∙ set-get_or (first ∷ later) at [] in
       let here : first' ≡ first = cc in

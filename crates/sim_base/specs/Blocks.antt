@@ -1,11 +1,12 @@
 -- Pending messages in blocks: a first block, and later ones behind it.
-use Rattle.std.specs.Prelude.{◌≡◌, ℕ, zero, suc, ◌+◌, ◌<◌, ◌≤◌, List, [], ◌∷◌, ◌++◌}
+use Rattle.std.specs.Prelude.{◌≡◌, ℕ, zero, suc, ◌+◌, ◌/◌, ◌<◌, ◌≤◌, List, [], ◌∷◌, ◌++◌}
 use Rattle.std.specs.Prelude.{length, take, drop, Bool, true, false, slice_index_or, ⊤, Option, Some, None}
 use Rattle.std.specs.List.{AllByRecursion}
 use Rattle.std.specs.Ordering.{is_lt, is_eq, is_gt}
 use Rattle.std.specs.declared.cmp.Ordering.{Ordering}
 use Rattle.sim_base.specs.Marked.{SortedMarked}
 use Rattle.sim_base.specs.declared.message.Msg.{Msg}
+use Rattle.sim_base.specs.declared.pending.blocks.TheConstants.{MOST_MESSAGES}
 
 -- the messages of blocks, one block after another
 abbrev pub of_blocks : {X : Type 0} → List (List X) → List X
@@ -18,19 +19,19 @@ module _ {X : Type 0} where
   block_at first later at = slice_index_or (first ∷ later) at []
 
   -- the block of this number is cut in two halves
-  abbrev pub halved : ℕ → List (List X) → List (List X)
-  halved at [] = []
-  halved zero (b ∷ bs) = take 32 b ∷ drop 32 b ∷ bs
-  halved (suc at) (b ∷ bs) = b ∷ halved at bs
+  abbrev pub halves_of : ℕ → List (List X) → List (List X)
+  halves_of at [] = []
+  halves_of zero (b ∷ bs) = take (MOST_MESSAGES / 2) b ∷ drop (MOST_MESSAGES / 2) b ∷ bs
+  halves_of (suc at) (b ∷ bs) = b ∷ halves_of at bs
 
-  -- no block is empty, and none has more than 64 messages
+  -- no block is empty, and none has too many messages
   abbrev pub AreFilled : List (List X) → Type 0
-  AreFilled blocks = AllByRecursion (λ b. (0 < length b) × (length b ≤ 64)) blocks
+  AreFilled blocks = AllByRecursion (λ b. (0 < length b) × (length b ≤ MOST_MESSAGES)) blocks
 
   -- the first block may be empty, but only where it is alone
   pub record AreSized (first : List X) (later : List (List X)) : Type 0 where
     pub first_filled : 0 < length later → 0 < length first
-    pub first_small : length first ≤ 64
+    pub first_small : length first ≤ MOST_MESSAGES
     pub later_filled : AreFilled later
 
 -- where there is a first message, this is its time

@@ -32,20 +32,26 @@ nobody = record { name = []; plans = []; end = None }
 abbrev pub clone_at : List Clone → ℕ → Clone
 clone_at clones c = unwrap_or (slice_get clones c) nobody
 
--- a new clone at the end, with the decisions of the old one as they are now, and no end
-abbrev pub clones_with_fork : List Clone → List ℕ → ℕ → List Clone
-clones_with_fork clones new old = clones ++ (record {
-  name = new;
-  plans = (clone_at clones old).plans;
-  end =
-      None;
-}) ∷ []
+-- a new clone with the decisions of this one as they are now, and no end
+abbrev pub fork_of : Clone → List ℕ → Clone
+fork_of c name = record { name = name; plans = c.plans; end = None }
 
--- one decision more, the last of the clone at this place
+-- one decision more, the last of the clone
+abbrev pub with_plan : Clone → Planned → Clone
+with_plan c p = record c { plans = c.plans ++ p ∷ [] }
+
+-- the clone with this end
+abbrev pub with_end : Clone → ℕ → Clone
+with_end c at = record c { end = Some at }
+
+-- a fork of the old clone at the end
+abbrev pub clones_with_fork : List Clone → List ℕ → ℕ → List Clone
+clones_with_fork clones new old = clones ++ fork_of (clone_at clones old) new ∷ []
+
+-- one decision more of the clone at this place
 abbrev pub clones_with_plan : List Clone → ℕ → Planned → List Clone
-clones_with_plan clones c plan = slice_set clones c
-    (record (clone_at clones c) { plans = (clone_at clones c).plans ++ plan ∷ [] })
+clones_with_plan clones c plan = slice_set clones c (with_plan (clone_at clones c) plan)
 
 -- the clone at this place has this end
 abbrev pub clones_with_end : List Clone → ℕ → ℕ → List Clone
-clones_with_end clones c at = slice_set clones c (record (clone_at clones c) { end = Some at })
+clones_with_end clones c at = slice_set clones c (with_end (clone_at clones c) at)

@@ -1,6 +1,7 @@
 -- What a name is.
-use Rattle.std.specs.Prelude.{◌&&◌, ◌||◌, ◌==◌, ℕ, Bool, false, nat_le, List, [], ◌∷◌, length}
+use Rattle.std.specs.Prelude.{◌&&◌, ◌||◌, ◌==◌, ℕ, Bool, false, nat_le, nat_lt, List, [], ◌∷◌, length}
 use Rattle.std.specs.List.{list_all}
+use Rattle.sim_base.specs.declared.name.TheConstants.{LONGEST_NAME}
 
 -- whether a byte is one of a to z
 abbrev pub is_lower : ℕ → Bool
@@ -10,6 +11,10 @@ is_lower b = nat_le 97 b && nat_le b 122
 abbrev pub is_digit : ℕ → Bool
 is_digit b = nat_le 48 b && nat_le b 57
 
+-- whether it may lead a number of several digits: a digit other than 0
+abbrev pub is_leading : ℕ → Bool
+is_leading b = nat_le 49 b && nat_le b 57
+
 -- whether it may stand in a name: a to z, digits and _
 abbrev pub is_name_byte : ℕ → Bool
 is_name_byte b = (is_lower b || is_digit b) || (b == 95)
@@ -17,4 +22,4 @@ is_name_byte b = (is_lower b || is_digit b) || (b == 95)
 -- 1 to 16 bytes of a to z, digits and _, the first of a to z
 abbrev pub is_name : List ℕ → Bool
 is_name [] = false
-is_name (b ∷ bs) = (is_lower b && list_all is_name_byte bs) && nat_le (length bs) 15
+is_name (b ∷ bs) = (is_lower b && list_all is_name_byte bs) && nat_lt (length bs) LONGEST_NAME

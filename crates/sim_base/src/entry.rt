@@ -1,4 +1,4 @@
-//! Entries of a log.
+//! Entries of a log: each has a message that a station handled, and the station's counts after it.
 ghost use Rattle.std.specs.Prelude.{◌≡◌};
 ghost use Rattle.std.specs.Bool.{Decides};
 
@@ -32,7 +32,9 @@ pub enum Line {
 /// One element of a log: a message that was handled, and the counts after it.
 #[derive(Clone, Copy, Debug, PartialEq, Eq)]
 pub struct Entry<M = Msg, N = Line> {
+    /// What was handled.
     pub msg: M,
+    /// The counts after it.
     pub line: N,
 }
 

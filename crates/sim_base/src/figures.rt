@@ -1,4 +1,4 @@
-//! The report's numbers.
+//! What the report counts at a station: copies, and messages.
 
 /// What the report says of one station: its physical copies, the messages that copies handled, and
 /// the messages that the clones would have handled alone.

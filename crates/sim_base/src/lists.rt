@@ -62,8 +62,7 @@ impl Model for Lists {
 }
 
 impl Lists {
-    ghost use Rattle.std.specs.Prelude.{◌≡◌, ◌∷◌, [], ◌+◌, ◌^◌, ◌<◌, ◌≤◌, length};
-    ghost use Rattle.std.specs.Prelude.{OnOk, OnErr, IfOk, IsOk, None, Some, IfSome};
+    ghost use Rattle.std.specs.Prelude.{◌+◌, ◌^◌, None, Some, IfSome};
     ghost use Rattle.sim_base.specs.Clones.{base, clone_at, place_of};
     ghost use Rattle.sim_base.specs.Clones.{clones_with_end, clones_with_fork, clones_with_plan};
 
@@ -208,7 +207,7 @@ impl Lists {
         push_fork(&mut self.clones, plans, new, old as usize)
     }
 
-    /// The same within what is reserved: it takes no memory.
+    /// A further clone with an old one's decisions and no end, within what is reserved. It takes no memory.
     #[tactic(auto, using(crate::proofs::CloneLists::seen_fork))]
     pub fn fork_in_reserved(&mut self, new: Name, old: u32)
         requires there { old < length self.old.clones }

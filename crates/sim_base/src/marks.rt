@@ -1,4 +1,4 @@
-//! Marks of messages.
+//! What messages are marked with: what a type of marks must say, and the marks of one clone run alone.
 ghost use Rattle.std.specs.Prelude.{◌≡◌, Option, Some};
 
 /// What a pending message is marked with: for which clones it is.

@@ -2,9 +2,25 @@
 ghost use Rattle.std.specs.Prelude.{◌≡◌, ◌<◌, ◌^◌, ◌↔◌, IsTrue};
 ghost use Rattle.sim_base.specs.KeyWords.{FitsWord, key_word};
 ghost use Rattle.sim_base.specs.Order.{msg_cmp};
+ghost use Rattle.sim_base.specs.declared.message.TheConstants.{WORD_PLACES};
 ghost use Rattle.sim_base.specs.Params.{param_word, param_values, param_of_word};
 
 use std::cmp::Ordering;
+
+/// How many times the words of keys tell apart: the first 30 bits of a word's 64.
+pub const WORD_TIMES: u64 = 1_073_741_824;
+
+/// How many senders: 7 bits.
+pub const WORD_SENDERS: u32 = 128;
+
+/// How many numbers of one sender's messages: 21 bits.
+pub const WORD_NUMBERS: u64 = 2_097_152;
+
+/// How many places: the last 6 bits.
+pub const WORD_PLACES: u64 = 64;
+
+/// How many words the keys of one time have: the 34 bits below it.
+pub const WORDS_OF_TIME: u64 = 17_179_869_184;
 
 /// What orders messages: the time, then the sender, then the sender's running count.
 ///
@@ -22,17 +38,20 @@ impl Key {
     pub fn fits_word(self) -> bool
         ensures value { IsTrue result ↔ FitsWord self }
     {
-        self.time < 1 << 30 && self.sender < 1 << 7 && self.number < 1 << 21
+        self.time < WORD_TIMES && self.sender < WORD_SENDERS && self.number < WORD_NUMBERS
     }
 
-    /// The key as one word, with a place in its last 6 bits: words are in the order of keys.
+    /// The key as one word, with a place in its last bits: words are in the order of keys.
     #[inline(always)]
     pub fn word(self, place: u64) -> u64
         requires fit { FitsWord self }
-        requires few { place < 2 ^ 6 }
+        requires few { place < WORD_PLACES }
         ensures value { result ≡ key_word place self }
     {
-        ((self.time * 128 + u64::from(self.sender)) * 2_097_152 + self.number) * 64 + place
+        ((self.time * u64::from(WORD_SENDERS) + u64::from(self.sender)) * WORD_NUMBERS
+            + self.number)
+            * WORD_PLACES
+            + place
     }
 }
 

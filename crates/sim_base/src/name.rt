@@ -1,23 +1,28 @@
-//! Names.
-ghost use Rattle.std.specs.Prelude.{◌≡◌, ℕ, ◌<◌, ◌≤◌, List, length, take};
-ghost use Rattle.std.specs.Prelude.{IsTrue, MatchOption, Bool, true, false, position};
+//! Names of clones and stations: at most `LONGEST_NAME` bytes, held in so many with zeros behind them.
+ghost use Rattle.std.specs.Prelude.{◌≡◌, ◌≤◌, length, take};
+ghost use Rattle.std.specs.Prelude.{MatchOption, true, false, position};
 ghost use Rattle.std.specs.List.{list_all};
 ghost use Rattle.std.specs.Str.{bytes_eq};
 ghost use Rattle.sim_base.specs.Names.{is_name, is_lower, is_name_byte};
+ghost use Rattle.sim_base.specs.declared.name.TheConstants.{LONGEST_NAME};
 
 use std::marker::Model;
 use std::str;
 
+/// The most bytes of a name.
+pub const LONGEST_NAME: usize = 16;
+
 /// 1 to 16 bytes of `a-z`, `0-9` and `_`, the first of `a-z`.
 #[derive(Clone, Copy, Debug, PartialEq, Eq)]
 pub struct Name {
-    bytes: [u8; 16],
+    bytes: [u8; LONGEST_NAME],
     len: usize,
 }
 
 impl Model for Name {
-    ghost use Rattle.std.specs.Prelude.{◌≡◌, ℕ, ◌-◌, ◌≤◌, ◌++◌, List, length, take, replicate};
+    ghost use Rattle.std.specs.Prelude.{◌≡◌, ℕ, ◌-◌, ◌++◌, List, length, take, replicate};
     ghost use Rattle.sim_base.specs.Padding.{IsPadded, padded_back};
+    ghost use Rattle.sim_base.specs.declared.name.TheConstants.{LONGEST_NAME};
 
     ghost Value = { List ℕ };
 
@@ -25,7 +30,7 @@ impl Model for Name {
 
     ghost invariant = { λ n. IsPadded n.bytes n.len };
 
-    ghost inverse = { λ xs. record { bytes = xs ++ replicate (16 - length xs) 0; len = length xs } };
+    ghost inverse = { λ xs. record { bytes = xs ++ replicate (LONGEST_NAME - length xs) 0; len = length xs } };
 
     ghost inverse_ok = { λ n h i. record {
       bytes = (padded_back n.bytes n.len h).0 i;
@@ -51,7 +56,9 @@ fn are_name(text: &[u8]) -> bool
 {
     match text {
         [] => false,
-        [first, rest @ ..] => is_lower_byte(*first) && all_may_follow(rest) && rest.len() <= 15,
+        [first, rest @ ..] => is_lower_byte(*first)
+            && all_may_follow(rest)
+            && rest.len() < LONGEST_NAME,
     }
 }
 
@@ -70,7 +77,7 @@ impl Name {
         if !are_name(text) {
             return None;
         }
-        let mut bytes = [0u8; 16];
+        let mut bytes = [0u8; LONGEST_NAME];
         bytes[..text.len()].copy_from_slice(text);
         Some(Name {
             bytes,
@@ -95,19 +102,19 @@ impl Name {
         &self.bytes[..self.len]
     }
 
-    /// Its bytes, and others behind them that fill up 16.
+    /// Its bytes, and others behind them that fill up all.
     #[inline(always)]
-    pub fn padded(&self) -> &[u8; 16]
+    pub fn padded(&self) -> &[u8; LONGEST_NAME]
         ensures { take (length self.now) result.now ≡ self.now }
     {
         &self.bytes
     }
 
-    /// How many bytes it has, at most 16.
+    /// How many bytes it has.
     #[inline(always)]
     pub fn len(&self) -> usize
         ensures value { result ≡ length self.now }
-        ensures short { result ≤ 16 }
+        ensures short { result ≤ LONGEST_NAME }
     {
         self.len
     }

@@ -1,8 +1,8 @@
 //! Decimal numbers, as texts and command lines write them.
-ghost use Rattle.std.specs.Prelude.{◌≡◌, ◌≤◌, ◌&&◌, nat_le, length, true};
+ghost use Rattle.std.specs.Prelude.{◌≡◌, ◌≤◌, length, true};
 ghost use Rattle.std.specs.List.{list_all};
 ghost use Rattle.std.specs.Str.Parse.{digits_value};
-ghost use Rattle.sim_base.specs.Names.{is_digit};
+ghost use Rattle.sim_base.specs.Names.{is_digit, is_leading};
 
 /// The most digits that `value` takes.
 pub const MOST_DIGITS: usize = 10;
@@ -23,7 +23,7 @@ pub fn are_digits(word: &[u8]) -> bool
 
 /// Whether the byte may lead a number of several digits: a digit other than 0.
 pub fn may_lead(byte: u8) -> bool
-    ensures value { result ≡ (nat_le 49 byte && nat_le byte 57) }
+    ensures value { result ≡ is_leading byte }
 {
     b'1' <= byte && byte <= b'9'
 }

@@ -1,10 +1,11 @@
 //! Pending messages: the future event list.
 //!
 //! They stand in blocks of at most 64, each in order and all before the next. Most lists have one block, which is
-//! never looked for; in a long list an insert halves over the blocks and then within one, and moves at most 64 messages:
+//! never looked for. In a long list an insert halves over the blocks and then within one, and moves at most 64
+//! messages:
 //!
 //!     first [3 5 8 ..]   later [21 22 25 ..] [40 41 ..] ..
-ghost use Rattle.std.specs.Prelude.{◌≡◌, ◌<◌, ◌≤◌, ◌==◌, Option, List, [], ◌∷◌, ◌++◌};
+ghost use Rattle.std.specs.Prelude.{◌≡◌, ◌<◌, ◌==◌, Option, List, [], ◌∷◌};
 ghost use Rattle.std.specs.Prelude.{length, OnOk, OnErr, IfOk, IfNone, IfSome, Some, None, slice_get};
 ghost use Rattle.sim_base.specs.Pending.{insert_marked, spread_marks, cut_by, first_time, first_marks, NothingBefore};
 ghost use Rattle.sim_base.specs.Order.{msg_cmp};
@@ -16,7 +17,7 @@ use crate::marks::Marks;
 use crate::memory::NoMemory;
 use crate::message::Msg;
 use block::Block;
-use blocks::{add_block, block_of, keep_later, make_room, next_block, put, spread_later};
+use blocks::{add_block, block_of, find_place, keep_later, next_block, put, spread_later};
 use std::alloc::Global;
 use std::collections::VecDeque;
 use std::marker::Model;
@@ -65,7 +66,7 @@ impl<S: Marks> Pending<S> {
         ensures err { OnErr result (self.new ≡ self.old) }
     {
         let at = block_of(&self.later, &msg);
-        let at = make_room(&mut self.first, &mut self.later, at, &msg)?;
+        let at = find_place(&mut self.first, &mut self.later, at, &msg)?;
         put(&mut self.first, &mut self.later, at, msg, marks)
     }
 

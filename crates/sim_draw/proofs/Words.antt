@@ -9,7 +9,7 @@ unfolding state_after
 state_after_next w m p zero s = refl
 state_after_next w m p (suc n) s = state_after_next w m p n (next_state w m p s)
 
--- the generator's next state is where it stands when one word more was drawn
+-- the generator's next state is that after one word more
 pub generator_next : (d : DrawsView)
     → next 64 multiplier_64 (generator d) ≡ generator (record d { count = d.count + 1 })
 unfolding generator
@@ -18,7 +18,7 @@ generator_next d =
     rw add-one (ap (λ (s : ℕ). let r : Lcg = record { state = s; increment = g.increment } in r)
     (state_after_next 64 multiplier_64 g.increment d.count g.state))
 
--- a generator that has just started stands where no word was drawn
+-- a generator that has just started is that after no word
 pub generator_new : (seed stream : ℕ) → started 64 multiplier_64 seed (increment_of 64 stream) ≡ generator
     (record { seed = seed; stream = stream; count = 0 })
 unfolding generator state_after

@@ -10,7 +10,7 @@ pub record DrawsView : Type 0 where
   pub stream : ℕ
   pub count : ℕ
 
--- the generator that stands there
+-- the generator of that stream, after so many words
 unfoldable pub generator : DrawsView → Lcg
 generator d = advance 64 multiplier_64 d.count (started 64 multiplier_64 d.seed (increment_of 64 d.stream))
 

@@ -1,5 +1,5 @@
 //! Random variates: seeded draws from a range, and by weights.
-ghost use Rattle.std.specs.Prelude.{◌≡◌, ℕ, ◌+◌, ◌-◌, ◌%◌, ◌^◌, ◌<◌, ◌≤◌, List, length, sum};
+ghost use Rattle.std.specs.Prelude.{◌≡◌, ◌+◌, ◌-◌, ◌%◌, ◌^◌, ◌<◌, ◌≤◌, length, sum};
 ghost use Rattle.std.specs.List.{AllByRecursion};
 ghost use Rattle.sim_draw.specs.Drawing.{DrawsView, drawn_one, range_of, next_of};
 ghost use Rattle.sim_draw.specs.Drawing.{pick_of, index_of, drawn_by, IsFirstAbove};
@@ -75,7 +75,7 @@ impl Draws {
     pub fn range(&mut self, lo: u64, hi: u64) -> u64
         requires ordered { lo ≤ hi }
         requires small { hi ≤ 1000000 }
-        requires room { self.old.count < 2 ^ 32 }
+        requires few_drawn { self.old.count < 2 ^ 32 }
         ensures value { result ≡ range_of lo hi self.old }
         ensures drawn { self.new ≡ drawn_one self.old }
         ensures least { lo ≤ result }
@@ -93,7 +93,7 @@ impl Draws {
         requires few { length weights.now ≤ 16 }
         requires heavy { AllByRecursion (λ w. 1 ≤ w) weights.now }
         requires light { AllByRecursion (λ w. w ≤ 1000) weights.now }
-        requires room { self.old.count < 2 ^ 32 }
+        requires few_drawn { self.old.count < 2 ^ 32 }
         ensures value { result ≡ pick_of weights.now self.old }
         ensures drawn { self.new ≡ drawn_by weights.now self.old }
         ensures within { result < length weights.now }

@@ -86,7 +86,7 @@ impl MemSink {
     }
 
     // Takes what fits of a piece, up to a stop, and tells whether that is all of it.
-    fn keep(&mut self, piece: &[u8], stop: Option<usize>) -> bool
+    fn take_share(&mut self, piece: &[u8], stop: Option<usize>) -> bool
         ensures whole { result ≡ fits_whole stop (left_of self.old) (length piece.now) }
         ensures after { self.new ≡ with_share self.old stop piece.now }
     {
@@ -100,7 +100,7 @@ impl MemSink {
     }
 
     // Counts a call that ends, and a fault where it was not taken whole.
-    fn end(&mut self, whole: bool) -> Result<(), PutFailed>
+    fn end_call(&mut self, whole: bool) -> Result<(), PutFailed>
         ensures whole { IsOk result ↔ (whole ≡ true) }
         ensures later { self.old.faults ≤ self.new.faults }
         ensures after { self.new ≡ after_call self.old whole }
@@ -130,8 +130,8 @@ impl Sink for MemSink {
         ensures after { self.new ≡ after_put self.old piece.now }
     {
         let stop = self.stop();
-        let whole = self.keep(piece, stop);
-        self.end(whole && stop.is_none())
+        let whole = self.take_share(piece, stop);
+        self.end_call(whole && stop.is_none())
     }
 
     fn put_part(&mut self, part: &[u8]) -> Result<(), PutFailed>
@@ -147,10 +147,10 @@ impl Sink for MemSink {
         ensures after { self.new ≡ after_part self.old part.now }
     {
         let stop = self.stop();
-        if self.keep(part, stop) {
+        if self.take_share(part, stop) {
             return Ok(());
         }
-        self.end(false)
+        self.end_call(false)
     }
 }
 

@@ -1,9 +1,9 @@
-//! The sink that keeps nothing.
+//! The sink that drops what it takes.
 ghost use Rattle.std.specs.Prelude.{None, IsOk};
 
 use crate::sink::{PutFailed, Sink};
 
-/// Takes every piece and tells no bytes.
+/// Takes every piece and drops it. No clause knows the bytes.
 #[derive(Clone, Copy, Debug)]
 pub struct NullSink;
 

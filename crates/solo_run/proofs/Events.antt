@@ -1,7 +1,7 @@
 -- The pending messages of all stations: the least word is that of the first message, and what a change leaves.
 use Rattle.std.proofs.Common.{◌≡◌, ◌≢◌, inl, inr, ℕ, suc, ◌+◌, ◌/◌, ◌%◌, ◌<◌, ◌≤◌, refl, sym, ap, ◌∙◌}
-use Rattle.std.proofs.Common.{subst, arith, List, [], ◌∷◌, length, get_or, set, replicate, Ordering, Less, Equal, Greater}
-use Rattle.std.proofs.Common.{nat_cmp, true, false, Option, Some, None, slice_get}
+use Rattle.std.proofs.Common.{subst, arith, List, [], ◌∷◌, length, get_or, set, replicate, Ordering, Less, Equal}
+use Rattle.std.proofs.Common.{Greater, nat_cmp, true, false, Option, Some, None, slice_get}
 use Rattle.std.specs.Cmp.{ranks}
 use Rattle.std.specs.List.{AllByRecursion}
 use Rattle.std.specs.Ordering.{MatchOrdering, ordering_then, is_lt}
@@ -14,6 +14,7 @@ use Rattle.sim_base.specs.Pending.{insert_marked}
 use Rattle.sim_base.specs.declared.message.Msg.{Msg}
 use Rattle.sim_base.proofs.KeyWords.{words-ordered}
 use Rattle.sim_base.proofs.OrderEqual.{msg_same, msg-timed}
+use Rattle.sim_base.specs.declared.message.TheConstants.{WORD_TIMES, WORD_PLACES, WORDS_OF_TIME}
 use Rattle.run_laws.proofs.Queue.{not_below_itself, less_if_greater}
 use Rattle.run_laws.specs.Queue.{In, insert, Sorted}
 use Rattle.run_laws.proofs.Queue.{all_in, all_from, sorted_insert, all_insert_all}
@@ -22,7 +23,8 @@ use Rattle.trace_cursor.specs.Words.{no_word}
 use Rattle.solo_run.specs.EventLists.{EventListView, messages_of, all_messages, IsWordOf}
 use Rattle.solo_run.specs.EventLists.{HasFirst, IsFound, IsListOf, IsEventList}
 use Rattle.solo_run.proofs.Pairs.{messages_insert}
-use Rattle.solo_run.proofs.Merging.{MarkedMessages, messages_ordered, all_messages-in, all_messages-first, all_messages-insert, all_messages-none}
+use Rattle.solo_run.proofs.Merging.{MarkedMessages, messages_ordered, all_messages-in, all_messages-first}
+use Rattle.solo_run.proofs.Merging.{all_messages-insert, all_messages-none}
 
 -- ---- key_word
 
@@ -33,8 +35,8 @@ less_is x y Equal a l = absurd (omega (arith, a, l))
 less_is x y Greater a l = absurd (omega (arith, a, l))
 
 -- messages of two lists are ordered as their words
-less_by_word : (p q : ℕ) (m z : Msg) → FitsWord m.key → FitsWord z.key → m.to ≡ suc p → z.to ≡ suc q → p < 64 → q < 64
-    → key_word p m.key < key_word q z.key → msg_cmp m z ≡ Less
+less_by_word : (p q : ℕ) (m z : Msg) → FitsWord m.key → FitsWord z.key → m.to ≡ suc p → z.to ≡ suc q
+    → p < WORD_PLACES → q < WORD_PLACES → key_word p m.key < key_word q z.key → msg_cmp m z ≡ Less
 less_by_word p q m z a b am bz l k h =
     let then : Ordering → Ordering =
     λ o. ordering_then o (ordering_then (nat_cmp m.to z.to) (payload_cmp m.payload z.payload)) in
@@ -79,7 +81,7 @@ not_earlier bound x xs z s late (inr n) =
 -- ---- IsEventList
 
 -- no message of any list
-pub nothing_is : (n : ℕ) (ls : List MarkedMessages) (words : List ℕ) → n ≤ 64 → ls ≡ replicate n []
+pub nothing_is : (n : ℕ) (ls : List MarkedMessages) (words : List ℕ) → n ≤ WORD_PLACES → ls ≡ replicate n []
     → words ≡ replicate n no_word → IsEventList ls words
 nothing_is n ls words few is words_is =
     let long = ap length is ∙ length-replicate n [] in
@@ -96,7 +98,8 @@ nothing_is n ls words few is words_is =
 pub all_messages-nothing : (n : ℕ) (ls : List MarkedMessages) → ls ≡ replicate n [] → all_messages ls ≡ []
 all_messages-nothing n ls is =
     let long = ap length is ∙ length-replicate n [] in
-    all_messages-none ls (λ i there. ap (λ l. get_or l i []) is ∙ get_or-replicate n i [] [] (omega (arith, there, long)))
+    all_messages-none ls
+    (λ i there. ap (λ l. get_or l i []) is ∙ get_or-replicate n i [] [] (omega (arith, there, long)))
 
 module _ (ls : List MarkedMessages) (words : List ℕ) (inv : IsEventList ls words) where
   module _ (i : ℕ) (there : i < length ls) (new : MarkedMessages) where
@@ -152,13 +155,15 @@ module _ (ls : List MarkedMessages) (words : List ℕ) (inv : IsEventList ls wor
 
         pub inserted_is : m.to ≡ suc i → IsListOf i new
         inserted_is to = record {
-          sorted = subst (Sorted msg_cmp) (sym messages_are) (sorted_insert messages_ordered m (messages_of old) was.sorted);
+          sorted = subst (Sorted msg_cmp) (sym messages_are)
+              (sorted_insert messages_ordered m (messages_of old) was.sorted);
           own = subst (AllByRecursion (λ z. z.to ≡ suc i)) (sym messages_are)
               (all_insert_all messages_ordered (λ (z : Msg). z.to ≡ suc i) (m ∷ []) (messages_of old) (to, tt) was.own);
         }
 
         pub inserted : all_messages (set ls i new) ≡ insert msg_cmp m (all_messages ls)
-        inserted = all_messages-insert ls i new there m (messages_are ∙ ap (λ l. insert msg_cmp m (messages_of l)) (sym here))
+        inserted = all_messages-insert ls i new there m
+            (messages_are ∙ ap (λ l. insert msg_cmp m (messages_of l)) (sym here))
 
   module _ (w : ℕ) (h : IsLeast w words) (some : w ≢ 0) where
     low : h.place < length ls
@@ -167,8 +172,9 @@ module _ (ls : List MarkedMessages) (words : List ℕ) (inv : IsEventList ls wor
     not_less : (j : ℕ) → j < length ls → w ≤ get_or words j 0
     not_less j below = let count = inv.count in h.least j (omega (arith, count, below))
 
-    late_in : (bound j : ℕ) (l : MarkedMessages) (word : ℕ) (z : Msg) → bound < 1073741824
-        → bound ≤ w / 17179869184 → j < 64 → IsListOf j l → IsWordOf j l word → w ≤ word → In z (messages_of l)
+    late_in : (bound j : ℕ) (l : MarkedMessages) (word : ℕ) (z : Msg) → bound < WORD_TIMES
+        → bound ≤ w / WORDS_OF_TIME → j < WORD_PLACES → IsListOf j l → IsWordOf j l word → w ≤ word
+        → In z (messages_of l)
         → bound ≤ z.key.time
     late_in bound j [] word z soon late few is word_is le i = absurd i
     late_in bound j (x ∷ xs) word z soon late few is word_is le i =
@@ -184,7 +190,7 @@ module _ (ls : List MarkedMessages) (words : List ℕ) (inv : IsEventList ls wor
         not_earlier bound x xs z is.sorted begins i
 
     -- no message is before a bound that the least word is not before
-    pub none_before : (bound : ℕ) → bound < 1073741824 → bound ≤ w / 17179869184
+    pub none_before : (bound : ℕ) → bound < WORD_TIMES → bound ≤ w / WORDS_OF_TIME
         → AllByRecursion (λ m. bound ≤ m.key.time) (all_messages ls)
     none_before bound soon late = all_from (λ m. bound ≤ m.key.time) (all_messages ls) (λ z k.
         let f = all_messages-in ls z k in
@@ -194,9 +200,10 @@ module _ (ls : List MarkedMessages) (words : List ℕ) (inv : IsEventList ls wor
         (inv.lists_are f.0 f.1) (inv.words_are f.0 f.1) (not_less f.0 f.1) f.2)
 
     -- a word before a bound is that of the first message of all
-    module _ (bound : ℕ) (soon : bound < 1073741824) (early : w / 17179869184 < bound) where
-      before : (m : Msg) (p : ℕ) → FitsWord m.key → m.to ≡ suc p → p < 64 → key_word p m.key ≡ w
-          → (j : ℕ) (l : MarkedMessages) (word : ℕ) (z : Msg) → j ≢ p → j < 64 → IsListOf j l → IsWordOf j l word → w ≤ word
+    module _ (bound : ℕ) (soon : bound < WORD_TIMES) (early : w / WORDS_OF_TIME < bound) where
+      before : (m : Msg) (p : ℕ) → FitsWord m.key → m.to ≡ suc p → p < WORD_PLACES → key_word p m.key ≡ w
+          → (j : ℕ) (l : MarkedMessages) (word : ℕ) (z : Msg) → j ≢ p → j < WORD_PLACES → IsListOf j l
+          → IsWordOf j l word → w ≤ word
           → In z (messages_of l) → msg_cmp m z ≡ Less
       before m p fits to low_p own j [] word z other few is word_is le i = absurd i
       before m p fits to low_p own j (x ∷ xs) word z other few is word_is le i =
@@ -209,7 +216,7 @@ module _ (ls : List MarkedMessages) (words : List ℕ) (inv : IsEventList ls wor
           above m x xs z is.sorted ahead i
 
       has : (l : MarkedMessages) → get_or ls h.place [] ≡ l → IsListOf h.place l → IsWordOf h.place l w
-          → HasFirst ls bound (w % 64)
+          → HasFirst ls bound (w % WORD_PLACES)
       has [] is fit e = absurd (omega (arith, e, early, soon))
       has (x ∷ xs) is fit word_is = elim word_is [
         | inl c ↦
@@ -218,7 +225,8 @@ module _ (ls : List MarkedMessages) (words : List ℕ) (inv : IsEventList ls wor
             let there = low in
             let sender = c.0.sender in
             let number = c.0.number in
-            subst (HasFirst ls bound) (let p : h.place ≡ w % 64 = omega (arith, own, few, there) in p) (record {
+            let place : h.place ≡ w % WORD_PLACES = omega (arith, own, few, there) in
+            subst (HasFirst ls bound) place (record {
               there = low;
               message = x.0;
               rest = xs;
@@ -232,7 +240,7 @@ module _ (ls : List MarkedMessages) (words : List ℕ) (inv : IsEventList ls wor
         | inr (inr c) ↦ absurd (some c.2)
       ]
 
-      pub has_first : HasFirst ls bound (w % 64)
+      pub has_first : HasFirst ls bound (w % WORD_PLACES)
       has_first = has (get_or ls h.place []) refl (inv.lists_are h.place low)
           (subst (IsWordOf h.place (get_or ls h.place [])) h.is (inv.words_are h.place low))
 
@@ -278,7 +286,8 @@ pub unless_less : (r : Ordering) → is_lt r ≡ false → r ≢ Less
 unless_less r e is = let yes = ap is_lt is in cc
 
 -- what was found, by its name
-pub found_is : (ls : List MarkedMessages) (n : ℕ) (found f : Option (ℕ × Msg)) → found ≡ f → IsFound ls n found → IsFound ls n f
+pub found_is : (ls : List MarkedMessages) (n : ℕ) (found f : Option (ℕ × Msg)) → found ≡ f → IsFound ls n found
+    → IsFound ls n f
 found_is ls n found f e h = subst (IsFound ls n) e h
 
 -- the first message of the list at a place, whatever stands for a list that is not there
@@ -354,7 +363,8 @@ module _ (ls : List MarkedMessages) (n : ℕ) where
         ],
       )
 
-module _ (ls : List MarkedMessages) (bound : ℕ) (lists_are : (i : ℕ) → i < length ls → IsListOf i (get_or ls i [])) where
+module _ (ls : List MarkedMessages) (bound : ℕ)
+    (lists_are : (i : ℕ) → i < length ls → IsListOf i (get_or ls i [])) where
   -- a message for another station that does not come first comes after
   ahead_of : (m z : Msg) → m.to ≢ z.to → msg_cmp z m ≢ Less → msg_cmp m z ≡ Less
   ahead_of m z other unless = by (msg_cmp m z) refl

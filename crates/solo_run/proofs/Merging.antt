@@ -37,13 +37,16 @@ all_messages-in (l ∷ ls) z i = elim (in_insert_all messages_ordered (messages_
 ]
 
 -- what a list has, the one list has
-pub in_merged : (ls : List MarkedMessages) (j : ℕ) (z : Msg) → In z (messages_of (get_or ls j [])) → In z (all_messages ls)
+pub in_merged : (ls : List MarkedMessages) (j : ℕ) (z : Msg) → In z (messages_of (get_or ls j []))
+    → In z (all_messages ls)
 in_merged [] j z i = absurd i
 in_merged (l ∷ ls) zero z i = insert_all_new messages_ordered (messages_of l) (all_messages ls) z i
-in_merged (l ∷ ls) (suc j) z i = insert_all_old messages_ordered (messages_of l) (all_messages ls) z (in_merged ls j z i)
+in_merged (l ∷ ls) (suc j) z i =
+    insert_all_old messages_ordered (messages_of l) (all_messages ls) z (in_merged ls j z i)
 
 -- lists without messages have none
-pub all_messages-none : (ls : List MarkedMessages) → ((j : ℕ) → j < length ls → get_or ls j [] ≡ []) → all_messages ls ≡ []
+pub all_messages-none : (ls : List MarkedMessages) → ((j : ℕ) → j < length ls → get_or ls j [] ≡ [])
+    → all_messages ls ≡ []
 all_messages-none [] none = refl
 all_messages-none (l ∷ ls) none =
     ap (λ k. insert_all msg_cmp (messages_of k) (all_messages ls)) (none zero (omega arith))
@@ -95,7 +98,8 @@ module _ (ls : List MarkedMessages) (i : ℕ) (new : MarkedMessages) (there : i 
         | inr h ↦ insert_old o m (all_messages ls) z (in_merged ls h.0 z h.3)
       ])
       (λ z k. elim (in_insert o m (all_messages ls) z k) [
-        | inl e ↦ here_in z (subst (In z) (sym is) (subst (λ y. In y (insert msg_cmp m old)) (sym e) (insert_new o m old)))
+        | inl e ↦ here_in z (subst (In z) (sym is)
+            (subst (λ y. In y (insert msg_cmp m old)) (sym e) (insert_new o m old)))
         | inr j ↦ let h = all_messages-in ls z j in elim (cases_eq h.0 i) [
           | inl e ↦ here_in z (subst (In z) (sym is)
               (insert_old o m old z (subst (λ n. In z (messages_of (get_or ls n []))) e h.2)))

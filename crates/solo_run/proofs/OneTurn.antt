@@ -26,9 +26,9 @@ use Rattle.stations.specs.Opening.{setup}
 use Rattle.stations.specs.Sends.{AreSends}
 use Rattle.stations.proofs.Lawful.{handles-well}
 use Rattle.stations.proofs.GoodLaws.{lawful-stations}
-use Rattle.solo_run.specs.EventLists.{MayBePending}
+use Rattle.solo_run.specs.EventLists.{IsForStation}
 use Rattle.solo_run.specs.Limit.{receiver, first_beyond}
-use Rattle.solo_run.specs.SoloView.{SoloView, IsSolo, IsStateAfter, IsForStation}
+use Rattle.solo_run.specs.SoloView.{SoloView, IsSolo, IsStateAfter}
 use Rattle.solo_run.specs.SoloView.{config_of, state_of, with_due}
 use Rattle.solo_run.specs.Turns.{HandlesAt, HasTurned, step_of}
 
@@ -114,19 +114,14 @@ module _ (limit : ℕ) where
       → length (log_of receiver e.msg.to seen) < limit → first_beyond limit [] (seen ++ e ∷ []) ≡ None
   beyond_none seen e none below = beyond_append [] seen (e ∷ []) none ∙ beyond_later seen e [] below
 
--- what a station sends may be pending
-sends_pending : (net : Net) (now s k : ℕ) (ms : List Msg) → AreSends net now s k ms
-    → AllByRecursion (MayBePending (length net.sites)) ms
-sends_pending net now s k [] are = tt
-sends_pending net now s k (m ∷ ms) are = (
-  record { first = are.0.first; last = are.0.last },
-  sends_pending net now s (suc k) ms are.1,
-)
-
 -- what a station sends is for stations
-sends_for : (net : Net) (now s k : ℕ) (ms : List Msg) → AreSends net now s k ms → AllByRecursion (IsForStation net) ms
+sends_for : (net : Net) (now s k : ℕ) (ms : List Msg) → AreSends net now s k ms
+    → AllByRecursion (IsForStation (length net.sites)) ms
 sends_for net now s k [] are = tt
-sends_for net now s k (m ∷ ms) are = ((are.0.first, are.0.last), sends_for net now s (suc k) ms are.1)
+sends_for net now s k (m ∷ ms) are = (
+  record { first = are.0.first; last = are.0.last },
+  sends_for net now s (suc k) ms are.1,
+)
 
 module _ (net : Net) (valid : IsNet net) (v : SoloView) (m : Msg) (new : List StateView)
     (next : List Msg) (sends : List Msg) (line : Line)
@@ -138,7 +133,7 @@ module _ (net : Net) (valid : IsNet net) (v : SoloView) (m : Msg) (new : List St
   e = record { msg = m; line = line }
 
   number : suc (m.to - 1) ≡ m.to
-  number = let low : 1 ≤ m.to = solo.targets.0.0 in omega arith
+  number = let low : 1 ≤ m.to = solo.targets.0.first in omega arith
 
   old : IsStateAfter net v.trace (m.to - 1) h.before
   old = solo.states (m.to - 1) h.before h.is_there
@@ -147,7 +142,7 @@ module _ (net : Net) (valid : IsNet net) (v : SoloView) (m : Msg) (new : List St
   within = slice_get_within v.states (m.to - 1) h.before h.is_there
 
   full_log : h.before.handled ≡ length (log_of receiver m.to v.trace)
-  full_log = old.log ∙ ap (λ k. length (log_of receiver k v.trace)) (let low : 1 ≤ m.to = solo.targets.0.0 in
+  full_log = old.log ∙ ap (λ k. length (log_of receiver k v.trace)) (let low : 1 ≤ m.to = solo.targets.0.first in
       omega arith)
 
   config_is : next ≡ insert_all msg_cmp sends v.pending
@@ -191,7 +186,7 @@ module _ (net : Net) (valid : IsNet net) (v : SoloView) (m : Msg) (new : List St
         let station : h.after.sender.station ≡ h.before.sender.station = ap (λ d. d.sender.station) (sym state)
         ∙ well.station in
         let handled : h.after.handled ≡ h.before.handled + 1 = ap (λ d. d.handled) (sym state) ∙ well.handled in
-        let place : m.to ≡ i + 1 = let low : 1 ≤ m.to = solo.targets.0.0 in omega (arith, here) in
+        let place : m.to ≡ i + 1 = let low : 1 ≤ m.to = solo.targets.0.first in omega (arith, here) in
         let log = ap (λ t. length t) (log_here receiver (i + 1) v.trace e place) in
         let more = length-append (log_of receiver (i + 1) v.trace) (e ∷ []) in
         let count = full_log ∙ ap (λ k. length (log_of receiver k v.trace)) place in
@@ -215,26 +210,22 @@ module _ (net : Net) (valid : IsNet net) (v : SoloView) (m : Msg) (new : List St
           within = was.within;
           log = was.log ∙ ap (λ t. length t)
               (sym (log_there receiver (i + 1) v.trace e
-              (λ k. other (let low : 1 ≤ m.to = solo.targets.0.0 in omega (arith, k)))));
+              (λ k. other (let low : 1 ≤ m.to = solo.targets.0.first in omega (arith, k)))));
         }
   ]
 
   -- what is sent is for stations
-  sends_for_stations : AllByRecursion (IsForStation net) sends
+  sends_for_stations : AllByRecursion (IsForStation (length net.sites)) sends
   sends_for_stations =
       let well = handles-well net h.before m valid old.fits old.suits early in
-      subst (AllByRecursion (IsForStation net)) (ap (λ d. d.sends) h.gives)
+      subst (AllByRecursion (IsForStation (length net.sites))) (ap (λ d. d.sends) h.gives)
       (sends_for net m.key.time h.before.sender.station h.before.sender.next
       (handle net h.before m).sends well.sends)
 
-  -- and may be pending
-  pub sends_may_be_pending : (n : ℕ) → n ≡ length v.states → AllByRecursion (MayBePending n) sends
+  -- and may be pending where there are as many lists as states
+  pub sends_may_be_pending : (n : ℕ) → n ≡ length v.states → AllByRecursion (IsForStation n) sends
   sends_may_be_pending n is =
-      let well = handles-well net h.before m valid old.fits old.suits early in
-      subst (λ n. AllByRecursion (MayBePending n) sends) (sym (is ∙ solo.count))
-      (subst (AllByRecursion (MayBePending (length net.sites))) (ap (λ d. d.sends) h.gives)
-      (sends_pending net m.key.time h.before.sender.station h.before.sender.next (handle net h.before m).sends
-      well.sends))
+      subst (λ n. AllByRecursion (IsForStation n) sends) (sym (is ∙ solo.count)) sends_for_stations
 
   -- after the turn it is a run of the network still, with no log beyond the limit
   pub solo_is : next ≡ insert_all msg_cmp sends v.pending
@@ -253,8 +244,8 @@ module _ (net : Net) (valid : IsNet net) (v : SoloView) (m : Msg) (new : List St
         count = ap (λ t. length t) h.new_states ∙ (length-set v.states (m.to - 1) h.after ∙ solo.count);
         states = states_after;
         sorted = subst (Sorted msg_cmp) (sym is) (sorted_insert_all order sends v.pending solo.sorted.1);
-        targets = subst (AllByRecursion (IsForStation net)) (sym is)
-            (all_insert_all order (IsForStation net) sends v.pending sends_for_stations solo.targets.1);
+        targets = subst (AllByRecursion (IsForStation (length net.sites))) (sym is)
+            (all_insert_all order (IsForStation (length net.sites)) sends v.pending sends_for_stations solo.targets.1);
         total = omega (arith, handled, sum, new_sum, longer, total);
         below = beyond_none net.limit v.trace e solo.below (let below = h.below in omega (arith, full_log, below));
       }

@@ -21,7 +21,8 @@ use Rattle.stations.specs.Opening.{setup}
 use Rattle.stations.specs.Runs.{simulation}
 use Rattle.stations.proofs.GoodLaws.{lawful-stations, stations-to_stations}
 use Rattle.solo_run.specs.Beginning.{AreOpeningStates, and_put, start_of}
-use Rattle.solo_run.specs.SoloView.{IsSolo, IsForStation, config_of, state_of}
+use Rattle.solo_run.specs.EventLists.{IsForStation}
+use Rattle.solo_run.specs.SoloView.{IsSolo, config_of, state_of}
 use Rattle.solo_run.proofs.OneTurn.{sum_most}
 
 get_push : {X : Type 0} (xs : List X) (y : X) (i : ℕ) (x : X) → slice_get (xs ++ y ∷ []) i ≡ Some x
@@ -126,9 +127,10 @@ module _ (net : Net) (valid : IsNet net) (list : List Planned) (states : List St
         sorted = subst (λ q. Sorted msg_cmp q) (sym pending_is)
             (sorted_insert_all law.order.order
             (openings (simulation net) (length net.sites) ++ set_messages (simulation net) 0 list) [] tt);
-        targets = subst (AllByRecursion (IsForStation net)) (sym pending_is)
-            (all_from (IsForStation net) (start_of net list).pending
-            (λ z i. pending_for_stations law (stations-to_stations net valid) list 0 there z i));
+        targets = subst (AllByRecursion (IsForStation (length net.sites))) (sym pending_is)
+            (all_from (IsForStation (length net.sites)) (start_of net list).pending
+            (λ z i. let h = pending_for_stations law (stations-to_stations net valid) list 0 there z i in
+            record { first = h.0; last = h.1 }));
         total = omega (arith, none);
         below = refl;
       }

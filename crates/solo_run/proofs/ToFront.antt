@@ -121,7 +121,7 @@ module _ (net : Net) (valid : IsNet net) where
       let whole : (run_from net v front).at.trace ≡ w.trace ++ e ∷ more.0 = ap (λ k. k.at.trace) (sym same)
       ∙ (more.1 ∙ append_assoc w.trace (e ∷ []) more.0) in
       let old = here.states (m.to - 1) full.state full.is_there in
-      let low : 1 ≤ m.to = here.targets.0.0 in
+      let low : 1 ≤ m.to = here.targets.0.first in
       let place : m.to - 1 + 1 ≡ m.to = omega arith in
       let log = old.log ∙ ap (λ k. length (log_of receiver k w.trace)) place in
       let has = full.full in
@@ -139,7 +139,7 @@ module _ (net : Net) (valid : IsNet net) where
         first = ap (first_beyond net.limit []) whole ∙ (is ∙ ap Some (sym number));
         is_for = number;
         first_station = omega (arith, low, number);
-        last_station = let high = here.targets.0.1 in omega (arith, high, number);
+        last_station = let high = here.targets.0.last in omega (arith, high, number);
         keeps = full.keeps;
         steps = omega (arith, unmoved, count);
         bounded = short (with_due m w) here;

@@ -1,5 +1,5 @@
 -- The pending messages of all stations: a list for each, and the keys of their first messages as words.
-use Rattle.std.specs.Prelude.{◌≡◌, ◌≢◌, ◌⊎◌, ℕ, suc, ◌^◌, ◌<◌, ◌≤◌, List, [], ◌∷◌, length, map, get_or, slice_get}
+use Rattle.std.specs.Prelude.{◌≡◌, ◌≢◌, ◌⊎◌, ℕ, suc, ◌<◌, ◌≤◌, List, [], ◌∷◌, length, map, get_or, slice_get}
 use Rattle.std.specs.Prelude.{Option, Some, None}
 use Rattle.std.specs.declared.cmp.Ordering.TheVariants.{Less}
 use Rattle.std.specs.List.{AllByRecursion}
@@ -7,6 +7,7 @@ use Rattle.sim_base.specs.KeyWords.{FitsWord, key_word}
 use Rattle.sim_base.specs.Order.{msg_cmp}
 use Rattle.sim_base.specs.declared.message.Key.{Key}
 use Rattle.sim_base.specs.declared.message.Msg.{Msg}
+use Rattle.sim_base.specs.declared.message.TheConstants.{WORD_TIMES, WORD_PLACES}
 use Rattle.run_laws.specs.Queue.{In, insert_all, Sorted}
 use Rattle.trace_cursor.specs.Words.{no_word}
 
@@ -15,8 +16,8 @@ pub record EventListView : Type 0 where
   pub messages : List Msg
   pub stations : ℕ
 
--- a message that may be pending where there are so many stations
-pub record MayBePending (stations : ℕ) (m : Msg) : Type 0 where
+-- a message is for one of so many stations
+pub record IsForStation (stations : ℕ) (m : Msg) : Type 0 where
   pub first : 1 ≤ m.to
   pub last : m.to ≤ stations
 
@@ -33,7 +34,7 @@ all_messages (l ∷ ls) = insert_all msg_cmp (messages_of l) (all_messages ls)
 -- are to be looked through
 abbrev pub IsWordOfKey : ℕ → Key → ℕ → Type 0
 IsWordOfKey place k word = (FitsWord k × (word ≡ key_word place k))
-    ⊎ (((2 ^ 30 ≤ k.time) × (word ≡ no_word)) ⊎ (¬ (FitsWord k) × (k.time < 2 ^ 30) × (word ≡ 0)))
+    ⊎ (((WORD_TIMES ≤ k.time) × (word ≡ no_word)) ⊎ (¬ (FitsWord k) × (k.time < WORD_TIMES) × (word ≡ 0)))
 
 -- a list's word: that of its first key, and no word where it is empty
 abbrev pub IsWordOf : ℕ → List (Msg × Unit {0}) → ℕ → Type 0
@@ -47,7 +48,7 @@ pub record IsListOf (i : ℕ) (list : List (Msg × Unit {0})) : Type 0 where
 
 -- each list is its station's, and each word that of its list
 pub record IsEventList (lists : List (List (Msg × Unit {0}))) (words : List ℕ) : Type 0 where
-  pub few : length lists ≤ 64
+  pub few : length lists ≤ WORD_PLACES
   pub count : length words ≡ length lists
   pub lists_are : (i : ℕ) → i < length lists → IsListOf i (get_or lists i [])
   pub words_are : (i : ℕ) → i < length lists → IsWordOf i (get_or lists i []) (get_or words i 0)

@@ -13,6 +13,7 @@ use Rattle.net_model.specs.Rules.{IsNet}
 use Rattle.stations.specs.Fits.{FitsState, SuitsNet}
 use Rattle.stations.specs.Handling.{StateView}
 use Rattle.stations.specs.Opening.{setup}
+use Rattle.solo_run.specs.EventLists.{IsForStation}
 use Rattle.solo_run.specs.Limit.{receiver, first_beyond}
 
 -- what contracts see of a one-thread run: the states, the pending messages in their order, and the trace
@@ -45,16 +46,12 @@ pub record IsStateAfter (net : Net) (trace : List (Entry Msg Line)) (i : ℕ) (s
   pub within : st.handled ≤ net.limit
   pub log : st.handled ≡ length (log_of receiver (i + 1) trace)
 
--- a message is for a station of the network
-abbrev pub IsForStation : Net → Msg → Type 0
-IsForStation net m = (1 ≤ m.to) × (m.to ≤ length net.sites)
-
 -- a run of a model's network, in which no log is beyond the limit
 pub record IsSolo (net : Net) (v : SoloView) : Type 0 where
   pub valid : IsNet net
   pub count : length v.states ≡ length net.sites
   pub states : (i : ℕ) (st : StateView) → slice_get v.states i ≡ Some st → IsStateAfter net v.trace i st
   pub sorted : Sorted msg_cmp v.pending
-  pub targets : AllByRecursion (IsForStation net) v.pending
+  pub targets : AllByRecursion (IsForStation (length net.sites)) v.pending
   pub total : length v.trace ≡ sum_by (λ st. st.handled) v.states
   pub below : first_beyond net.limit [] v.trace ≡ None

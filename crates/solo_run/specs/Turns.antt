@@ -4,23 +4,25 @@ use Rattle.sim_base.specs.Order.{msg_cmp}
 use Rattle.sim_base.specs.declared.message.Msg.{Msg}
 use Rattle.sim_base.specs.declared.entry.Entry.{Entry}
 use Rattle.sim_base.specs.declared.entry.Line.{Line}
-use Rattle.run_laws.specs.Machine.{Config, after, run_to}
+use Rattle.run_laws.specs.Machine.{Config, after}
+use Rattle.run_laws.specs.Runs as runs
 use Rattle.run_laws.specs.World.{World, world_step}
 use Rattle.net_model.specs.Net.{Net}
 use Rattle.stations.specs.Fits.{FitsState, SuitsNet}
 use Rattle.stations.specs.Handling.{StateView, handle}
-use Rattle.solo_run.specs.Limit.{receiver, first_beyond}
+use Rattle.stations.specs.Runs.{simulation}
+use Rattle.solo_run.specs.Limit.{first_beyond}
 use Rattle.solo_run.specs.SoloView.{SoloView, config_of}
 use Rattle.solo_run.specs.declared.turn.SoloFault.{SoloFault}
 use Rattle.solo_run.specs.declared.turn.SoloFault.TheVariants.{NoMemory, Limit}
 
 -- a station of the network handles a message
 abbrev pub step_of : Net → World StateView Msg Line → Msg → World StateView Msg Line × List Msg
-step_of net = world_step receiver (λ s st m. handle net st m)
+step_of net = world_step (simulation net).to (simulation net).handle
 
 -- the run of a network from where it stands to a front
 abbrev pub run_from : Net → SoloView → ℕ → Config (World StateView Msg Line) Msg
-run_from net v front = run_to msg_cmp (step_of net) (λ m. m.key.time) (config_of net v) front
+run_from net v front = runs.run_from (simulation net) (config_of net v) front
 
 -- the state at place i handles a message
 pub record HandlesAt (net : Net) (i : ℕ) (m : Msg) (old new : List StateView) (sends : List Msg) (line : Line) :

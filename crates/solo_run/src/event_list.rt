@@ -7,15 +7,16 @@
 //!
 //! A key is one word of 64 bits, with the place of its list as the last six, so that a step is one `min` a level and
 //! no branch. The keys of a run fit; where one does not, all lists are looked through.
-ghost use Rattle.std.specs.Prelude.{ℕ, ◌+◌, ◌^◌, ◌<◌, ◌≤◌, ◌≡◌, ◌∷◌, [], length, get_or};
+ghost use Rattle.std.specs.Prelude.{ℕ, ◌+◌, ◌<◌, ◌≤◌, ◌≡◌, ◌∷◌, [], length, get_or};
 ghost use Rattle.std.specs.Prelude.{IfOk, IfNone, IfSome, OnOk, OnErr};
 ghost use Rattle.std.specs.List.{AllByRecursion};
 ghost use Rattle.sim_base.specs.Order.{msg_cmp};
+ghost use Rattle.sim_base.specs.declared.message.TheConstants.{WORD_TIMES, WORD_PLACES};
 ghost use Rattle.run_laws.specs.Queue.{insert};
-ghost use Rattle.solo_run.specs.EventLists.{HasFirst, IsEventList, IsFound, IsListOf, MayBePending, all_messages};
+ghost use Rattle.solo_run.specs.EventLists.{HasFirst, IsEventList, IsForStation, IsFound, IsListOf, all_messages};
 ghost use Rattle.solo_run.specs.EventLists.{IsWordOf, IsWordOfKey};
 
-use sim_base::message::compare;
+use sim_base::message::{WORD_PLACES, WORD_TIMES, WORDS_OF_TIME, compare};
 use sim_base::{Key, Msg, NoMemory, Pending};
 use std::alloc::Global;
 use std::marker::Model;
@@ -45,7 +46,7 @@ impl EventList {
     /// Nothing is pending.
     pub(crate) fn new(alloc: Global, stations: u32) -> Result<EventList, NoMemory>
         requires some { 1 ≤ stations }
-        requires few { stations ≤ 64 }
+        requires few { stations ≤ WORD_PLACES }
         ensures value { IfOk result (λ e. e ≡ record { messages = []; stations = stations }) }
     {
         let mut lists = Vec::new(alloc);
@@ -60,7 +61,7 @@ impl EventList {
     ///
     /// Out of memory leaves all unchanged.
     pub(crate) fn insert(&mut self, msg: Msg) -> Result<(), NoMemory>
-        requires pending { MayBePending self.old.stations msg }
+        requires pending { IsForStation self.old.stations msg }
         ensures ok { OnOk result (self.new ≡ record self.old { messages = insert msg_cmp msg self.old.messages }) }
         ensures err { OnErr result (self.new ≡ self.old) }
     {
@@ -73,7 +74,7 @@ impl EventList {
 
     /// Takes the first message out if its time is before the bound. None changes nothing.
     pub(crate) fn take_before(&mut self, bound: u64) -> Option<Msg>
-        requires soon { bound < 2 ^ 30 }
+        requires soon { bound < WORD_TIMES }
         ensures some { IfSome result (λ m. (self.old ≡ record self.new { messages = m ∷ self.new.messages })
             × (m.key.time < bound)) }
         ensures none { IfNone result ((self.new ≡ self.old)
@@ -91,7 +92,7 @@ impl EventList {
 #[inline(always)]
 fn first_before(lists: &Vec<Pending<()>>, words: &Tree, bound: u64) -> Option<usize>
     requires lists { IsEventList lists.now.items words.now }
-    requires soon { bound < 2 ^ 30 }
+    requires soon { bound < WORD_TIMES }
     ensures some { IfSome result (λ i. HasFirst lists.now.items bound i) }
     ensures none { IfNone result (AllByRecursion (λ m. bound ≤ m.key.time) (all_messages lists.now.items)) }
 {
@@ -99,9 +100,8 @@ fn first_before(lists: &Vec<Pending<()>>, words: &Tree, bound: u64) -> Option<us
     if word == 0 {
         return look_through(lists, bound);
     }
-    // 17_179_869_184 is 2^34: below the time, a word has 34 bits for the sender, the number and the place
-    if word / 17_179_869_184 < bound {
-        Some((word % 64) as usize)
+    if word / WORDS_OF_TIME < bound {
+        Some((word % WORD_PLACES) as usize)
     } else {
         None
     }
@@ -156,7 +156,7 @@ fn first_found(
 // The word of the first message of the list at place i.
 #[inline(always)]
 fn word_of(list: &Pending<()>, i: usize) -> u64
-    requires few { i < 64 }
+    requires few { i < WORD_PLACES }
     ensures value { IsWordOf i list.now result }
 {
     match list.least() {
@@ -168,12 +168,12 @@ fn word_of(list: &Pending<()>, i: usize) -> u64
 // A key as a word, with the place of its list.
 #[inline(always)]
 fn word_of_key(key: Key, i: usize) -> u64
-    requires few { i < 64 }
+    requires few { i < WORD_PLACES }
     ensures value { IsWordOfKey i key result }
 {
     if key.fits_word() {
         key.word(i as u64)
-    } else if key.time < 1 << 30 {
+    } else if key.time < WORD_TIMES {
         0
     } else {
         u64::MAX

@@ -8,7 +8,7 @@ ghost use Rattle.run_laws.specs.Queue.{insert_all};
 ghost use Rattle.run_laws.specs.World.{openings, set_messages};
 ghost use Rattle.stations.specs.Runs.{simulation};
 ghost use Rattle.solo_run.specs.Beginning.{AreOpeningStates, and_put};
-ghost use Rattle.solo_run.specs.EventLists.{MayBePending};
+ghost use Rattle.solo_run.specs.EventLists.{IsForStation};
 
 use crate::event_list::EventList;
 use net_model::Model;
@@ -18,7 +18,7 @@ use stations::state::setup;
 use std::alloc::Global;
 
 fn put_first(pending: &mut EventList, first: Option<Msg>) -> Result<(), NoMemory>
-    requires first { IfSome first (MayBePending pending.old.stations) }
+    requires first { IfSome first (IsForStation pending.old.stations) }
     ensures ok { OnOk result (pending.new.messages ≡ and_put first pending.old.messages) }
     ensures stations { pending.new.stations ≡ pending.old.stations }
 {

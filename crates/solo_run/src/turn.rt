@@ -1,14 +1,14 @@
 //! Event execution in a one-thread run, a turn: the least pending message is handled at its station, and what that
 //! sends becomes pending.
-ghost use Rattle.std.specs.Prelude.{◌≡◌, ◌+◌, ◌-◌, ◌≤◌, ◌<◌, ◌^◌, ◌∷◌, ℕ};
-ghost use Rattle.std.specs.Prelude.{length, IfErr, IfOk, IfNone, IfSome, OnOk, slice_get, Some};
+ghost use Rattle.std.specs.Prelude.{◌≡◌, ◌+◌, ◌-◌, ◌≤◌, ◌<◌, ◌^◌, ℕ};
+ghost use Rattle.std.specs.Prelude.{length, IfErr, IfOk, OnOk, slice_get, Some};
 ghost use Rattle.std.specs.List.{AllByRecursion};
 ghost use Rattle.arrayvec.specs.ArrayVec.{array_vec_len};
 ghost use Rattle.sim_base.specs.Order.{msg_cmp};
 ghost use Rattle.run_laws.specs.Queue.{insert_all};
 ghost use Rattle.stations.specs.Fits.{SuitsNet};
 ghost use Rattle.stations.specs.Handling.{StateView};
-ghost use Rattle.solo_run.specs.EventLists.{MayBePending};
+ghost use Rattle.solo_run.specs.EventLists.{IsForStation};
 ghost use Rattle.solo_run.specs.SoloView.{IsSolo, with_due};
 ghost use Rattle.solo_run.specs.Turns.{HandlesAt, StopsAt, HasTurned};
 
@@ -17,8 +17,8 @@ use crate::solo::Solo;
 use arrayvec::ArrayVec;
 use net_model::Model;
 use sim_base::{Entry, Line, Msg, NoMemory, Steps};
-use stations::State;
 use stations::state::handle;
+use stations::{MOST_SENDS, State};
 use std::sync::ledger::Ledger;
 
 /// Why a run stops.
@@ -32,7 +32,7 @@ pub enum SoloFault {
 
 // What was sent becomes pending.
 fn put_all(pending: &mut EventList, sends: &[Msg]) -> Result<(), NoMemory>
-    requires all { AllByRecursion (MayBePending pending.old.stations) sends.now }
+    requires all { AllByRecursion (IsForStation pending.old.stations) sends.now }
     ensures ok { OnOk result (pending.new.messages ≡ insert_all msg_cmp sends.now pending.old.messages) }
     ensures stations { pending.new.stations ≡ pending.old.stations }
 {
@@ -47,11 +47,10 @@ fn handle_at<L: Ledger>(
     states: &mut Vec<State>,
     model: &Model,
     msg: &Msg,
-    out: &mut ArrayVec<Msg, 16>,
+    out: &mut ArrayVec<Msg, MOST_SENDS>,
     steps: &mut Steps<L>,
 ) -> Result<Line, SoloFault>
-    requires first { 1 ≤ msg.now.to }
-    requires last { msg.now.to ≤ length model.now.sites }
+    requires receiver { IsForStation (length model.now.sites) msg.now }
     requires count { length states.old.items ≡ length model.now.sites }
     requires suits { (i : ℕ) (st : StateView) → slice_get states.old.items i ≡ Some st → SuitsNet model.now st }
     requires numbers { (i : ℕ) (st : StateView) → slice_get states.old.items i ≡ Some st → (st.sender.station ≡ i + 1) }
@@ -60,7 +59,7 @@ fn handle_at<L: Ledger>(
     ensures ok { IfOk result (λ line. HandlesAt model.now (msg.now.to - 1) msg.now states.old.items states.new.items
         out.new.items line) }
     ensures counted { OnOk result (steps.new ≡ steps.old + 1) }
-    ensures count_kept { length states.new.items ≡ length states.old.items }
+    ensures same_count { length states.new.items ≡ length states.old.items }
     ensures full { IfErr result (λ e. StopsAt model.now (msg.now.to - 1) states.old.items steps.old steps.new e) }
 {
     let state = &mut states[msg.to as usize - 1];
@@ -85,7 +84,7 @@ impl Solo {
         &mut self,
         model: &Model,
         msg: &Msg,
-        out: &mut ArrayVec<Msg, 16>,
+        out: &mut ArrayVec<Msg, MOST_SENDS>,
         steps: &mut Steps<L>,
     ) -> Result<(), SoloFault>
         requires solo { IsSolo model.now (with_due msg.now self.old) }

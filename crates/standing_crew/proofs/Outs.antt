@@ -25,12 +25,12 @@ use Rattle.std.proofs.Common.{
   length-append,
 }
 use Rattle.std.proofs.lemmas.List.{append_assoc, append-nil}
-use Rattle.standing_crew.specs.Parts.{Part, items_out, AreOutFrom, EachAnsweredFrom, IsAnsweredBy}
+use Rattle.standing_crew.specs.Parts.{PartView, items_out, AreOutFrom, EachAnsweredFrom, IsAnsweredBy}
 use Rattle.standing_crew.proofs.Runs.{EachAnsweredFrom-append}
 
 -- ---- items_out
 
-pub items_out-push : {W X : Type 0} (outs : List (Option (Part W X))) (part : Part W X)
+pub items_out-push : {W X : Type 0} (outs : List (Option (PartView W X))) (part : PartView W X)
     → items_out (outs ++ Some part ∷ []) ≡ items_out outs ++ part.items
 items_out-push [] part = append-nil part.items
 items_out-push (None ∷ outs) part = items_out-push outs part
@@ -40,7 +40,7 @@ items_out-push (Some one ∷ outs) part =
 -- ---- AreOutFrom
 
 -- one more part is out, which begins where the others end
-pub AreOutFrom-push : {W X : Type 0} (work : W) (n : ℕ) (outs : List (Option (Part W X))) (part : Part W X)
+pub AreOutFrom-push : {W X : Type 0} (work : W) (n : ℕ) (outs : List (Option (PartView W X))) (part : PartView W X)
     → AreOutFrom work n outs → part.work ≡ work → part.first ≡ n + length (items_out outs)
     → AreOutFrom work n (outs ++ Some part ∷ [])
 AreOutFrom-push work n [] part all same here = (same, omega (arith, here), tt)
@@ -53,9 +53,10 @@ AreOutFrom-push work n (Some one ∷ outs) part all same here = (
 )
 
 -- what one of the callers has out
-AreOutFrom-at : {W X : Type 0} (work : W) (n : ℕ) (outs : List (Option (Part W X))) (k : ℕ) (d : Option (Part W X))
+AreOutFrom-at : {W X : Type 0} (work : W) (n : ℕ) (outs : List (Option (PartView W X))) (k : ℕ)
+    (d : Option (PartView W X))
     → AreOutFrom work n outs → k < length outs
-    → (part : Part W X) × (get_or outs k d ≡ Some part) × (part.work ≡ work)
+    → (part : PartView W X) × (get_or outs k d ≡ Some part) × (part.work ≡ work)
     × (part.first ≡ n + length (items_out (take k outs)))
 AreOutFrom-at work n [] k d all less = absurd (omega (arith, less))
 AreOutFrom-at work n (None ∷ outs) k d all less = absurd all
@@ -65,9 +66,10 @@ AreOutFrom-at work n (Some one ∷ outs) (suc k) d all less =
     (rest.0, rest.1, rest.2, omega (arith, rest.3, length-append one.items (items_out (take k outs))))
 
 -- what the next of the callers has out
-pub AreOutFrom-next : {W X : Type 0} (work : W) (outs : List (Option (Part W X))) (k : ℕ) (line : Option (Part W X))
+pub AreOutFrom-next : {W X : Type 0} (work : W) (outs : List (Option (PartView W X))) (k : ℕ)
+    (line : Option (PartView W X))
     → AreOutFrom work 0 outs → (k < length outs) × (line ≡ get_or outs k line)
-    → (part : Part W X) × (line ≡ Some part) × (part.work ≡ work)
+    → (part : PartView W X) × (line ≡ Some part) × (part.work ≡ work)
     × (part.first ≡ 0 + length (items_out (take k outs)))
 AreOutFrom-next work outs k line all next =
     let out = AreOutFrom-at work 0 outs k line all next.0 in
@@ -77,7 +79,7 @@ AreOutFrom-next work outs k line all next =
 
 -- the answers to the parts so far, and then those to the next part
 pub EachAnsweredFrom-next : {W X Y : Type 0} (answers : W → ℕ → X → Y → Type 0) (work : W)
-    (all seen : List (Option (Part W X))) (line : Option (Part W X)) (part : Part W X) (outs more : List Y)
+    (all seen : List (Option (PartView W X))) (line : Option (PartView W X)) (part : PartView W X) (outs more : List Y)
     → seen ≡ take (length seen) all → line ≡ Some part → part.work ≡ work
     → part.first ≡ 0 + length (items_out (take (length seen) all))
     → EachAnsweredFrom (answers work) 0 (items_out seen) outs → IsAnsweredBy answers part more

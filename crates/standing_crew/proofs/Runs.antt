@@ -38,7 +38,8 @@ EachReadyFrom-run ready before run after each i d less =
 -- ---- EachAnsweredFrom
 
 -- answers to a run and to the next one are together answers to both
-pub EachAnsweredFrom-append : {X Y : Type 0} (answers : ℕ → X → Y → Type 0) (first : ℕ) (xs zs : List X) (ys ws : List Y)
+pub EachAnsweredFrom-append : {X Y : Type 0} (answers : ℕ → X → Y → Type 0) (first : ℕ) (xs zs : List X)
+    (ys ws : List Y)
     → EachAnsweredFrom answers first xs ys → EachAnsweredFrom answers (first + length xs) zs ws
     → EachAnsweredFrom answers first (xs ++ zs) (ys ++ ws)
 EachAnsweredFrom-append answers first xs zs ys ws one two = (

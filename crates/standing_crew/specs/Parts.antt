@@ -3,7 +3,7 @@ use Rattle.std.specs.Prelude.{◌≡◌, ℕ, ◌+◌, List, [], ◌∷◌, ◌+
 use Rattle.crew_pool.specs.Tasks.{EachReady, AnswersTo, EachAnswers}
 
 -- what a worker is given: the work, the number of the first task, and an item for each task from there
-pub record Part (W X : Type 0) : Type 0 where
+pub record PartView (W X : Type 0) : Type 0 where
   pub work : W
   pub first : ℕ
   pub items : List X
@@ -18,18 +18,18 @@ EachAnsweredFrom answers first items outs =
     (length outs ≡ length items) × EachAnswers (AnswersTo (λ i. answers (first + i)) items) outs
 
 -- these are answers to the items of a part
-abbrev pub IsAnsweredBy : {W X Y : Type 0} → (W → ℕ → X → Y → Type 0) → Part W X → List Y → Type 0
+abbrev pub IsAnsweredBy : {W X Y : Type 0} → (W → ℕ → X → Y → Type 0) → PartView W X → List Y → Type 0
 IsAnsweredBy answers part outs = EachAnsweredFrom (answers part.work) part.first part.items outs
 
 -- the items that callers have out, one run after the other
-abbrev pub items_out : {W X : Type 0} → List (Option (Part W X)) → List X
+abbrev pub items_out : {W X : Type 0} → List (Option (PartView W X)) → List X
 items_out [] = []
 items_out (None ∷ outs) = items_out outs
 items_out (Some part ∷ outs) = part.items ++ items_out outs
 
 -- each caller has a part of this work out: that of the first begins at this task, and each later one where the one
 -- before it ends
-abbrev pub AreOutFrom : {W X : Type 0} → W → ℕ → List (Option (Part W X)) → Type 0
+abbrev pub AreOutFrom : {W X : Type 0} → W → ℕ → List (Option (PartView W X)) → Type 0
 AreOutFrom work n [] = Unit {0}
 AreOutFrom work n (None ∷ outs) = ⊥
 AreOutFrom work n (Some part ∷ outs) =

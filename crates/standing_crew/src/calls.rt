@@ -2,22 +2,23 @@
 ghost use Rattle.std.specs.Prelude.{◌≡◌, ◌+◌, ◌≤◌, ◌++◌, All, None, Some, length, IfOk};
 ghost use Rattle.crew_pool.specs.Tasks.{EachReady};
 ghost use Rattle.crew_pool.specs.declared.crew.TheConstants.{MOST_TASKS};
-ghost use Rattle.standing_crew.specs.Parts.{Part, EachReadyFrom, EachAnsweredFrom, AreOutFrom, items_out, IsAnsweredBy};
+ghost use Rattle.standing_crew.specs.Parts.{PartView, EachReadyFrom, EachAnsweredFrom};
+ghost use Rattle.standing_crew.specs.Parts.{AreOutFrom, items_out, IsAnsweredBy};
 
 use crate::bell::Bell;
-use crate::lists::{add, add_all, cut};
-use crate::task::{Answer, InParts, Task};
-use crew_pool::{Gate, Work};
+use crate::lists::cut;
+use crate::part::{Answer, InParts, Part};
+use crew_pool::{Gate, Work, add, add_all};
 use mailbox::Caller;
 use sim_base::NoMemory;
 use std::alloc::Global;
 use std::sync::{Arc, Wait};
 
 /// The caller's end of one worker's mailbox.
-pub type Line<W> = Caller<Task<W>, Answer<W>, InParts>;
+pub type Line<W> = Caller<Part<W>, Answer<W>, InParts>;
 
 /// What is out after a call has given its parts.
-pub(crate) struct HandedOut<W: Work> {
+pub(crate) struct PartsOut<W: Work> {
     /// The lines of the workers that were given a part, in the order of the parts.
     pub busy: Vec<Line<W>>,
     /// The lines of the others.
@@ -37,7 +38,7 @@ pub(crate) fn hand_out<W: Work + Send + Drop>(
     work: &Arc<W>,
     items: Vec<W::In>,
     size: usize,
-) -> Result<HandedOut<W>, NoMemory>
+) -> Result<PartsOut<W>, NoMemory>
     requires few { length items.items ≤ MOST_TASKS }
     requires ready { EachReady (W.ready work.now.value) items.items }
     requires idle { All (λ line. line ≡ None) lines.items }
@@ -62,7 +63,7 @@ pub(crate) fn hand_out<W: Work + Send + Drop>(
             own = rest;
         }
     }
-    Ok(HandedOut {
+    Ok(PartsOut {
         busy,
         idle,
         first,
@@ -83,7 +84,7 @@ fn give<W: Work + Send + Drop>(
     ensures given { IfOk result (λ r. r ≡ Some (record { work = work.now.value; first = first; items = items.items })) }
 {
     let work = work.clone()?;
-    line.give(Task::new(work, first, items));
+    line.give(Part::new(work, first, items));
     Ok(line)
 }
 
@@ -94,13 +95,13 @@ fn finish<W: Work + Send + Drop, G: Gate, R: Wait>(
     gate: &G,
     line: &mut Line<W>,
 ) -> Answer<W>
-    requires given { (part : Part W W.In) × (line.old ≡ Some part) }
+    requires given { (part : PartView W W.In) × (line.old ≡ Some part) }
     ensures idle { line.new ≡ None }
-    ensures answers { (part : Part W W.In) → line.old ≡ Some part
+    ensures answers { (part : PartView W W.In) → line.old ≡ Some part
         → IfOk result (λ outs. IsAnsweredBy W.answers part outs.items) }
 {
     match line.take_back() {
-        Some(task) => task.run(rt, alloc, gate, 0),
+        Some(part) => part.run(rt, alloc, gate, 0),
         None => line.collect(rt),
     }
 }

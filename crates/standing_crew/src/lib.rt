@@ -36,11 +36,10 @@ pub mod bell;
 mod calls;
 mod lists;
 pub mod member;
-mod part;
-pub mod task;
+pub mod part;
 pub mod team;
 
 pub use bell::Bell;
 pub use member::{Member, serve, serve_all};
-pub use task::{Answer, InParts, Task};
+pub use part::{Answer, InParts, Part};
 pub use team::Team;

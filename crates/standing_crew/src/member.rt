@@ -1,6 +1,6 @@
-//! The workers' part of a team.
+//! The workers of a team, and what each does.
 use crate::bell::Bell;
-use crate::task::{Answer, InParts, Task};
+use crate::part::{Answer, InParts, Part};
 use crew_pool::{Gate, Work};
 use crossbeam_utils::sync::Parker;
 use mailbox::Worker;
@@ -9,14 +9,14 @@ use std::sync::Wait;
 use std::thread;
 use std::thread::Threads;
 
-/// How often a worker looks for a task, in vain, before it sleeps.
+/// How often a worker looks for a part, in vain, before it sleeps.
 const MOST_LOOKS: u32 = 2_000;
 
 /// A worker's end of a team.
 #[derive(Drop)]
 pub struct Member<W: Work> {
     number: u32,
-    tasks: Worker<Task<W>, Answer<W>, InParts>,
+    parts: Worker<Part<W>, Answer<W>, InParts>,
     parker: Parker,
 }
 
@@ -27,30 +27,30 @@ impl<W: Work> std::marker::Model for Member<W> {
 
     ghost view = { λ _. tt };
 
-    ghost invariant = { λ m. m.tasks ≡ None };
+    ghost invariant = { λ m. m.parts ≡ None };
 }
 
 impl<W: Work> Member<W> {
     ghost use Rattle.std.specs.Prelude.{◌≡◌, None};
 
-    /// The worker of this number, whose tasks come from a mailbox.
+    /// The worker of this number, whose parts come from a mailbox.
     pub(crate) fn new(
         number: u32,
-        tasks: Worker<Task<W>, Answer<W>, InParts>,
+        parts: Worker<Part<W>, Answer<W>, InParts>,
         parker: Parker,
     ) -> Member<W>
-        requires idle { tasks ≡ None }
+        requires idle { parts ≡ None }
     {
         Member {
             number,
-            tasks,
+            parts,
             parker,
         }
     }
 }
 
-/// A worker's part: it runs the tasks that it is given, until the bell says that no more come. Between tasks it looks
-/// again and again, and at last sleeps until it is woken.
+/// Runs each part that a worker is given, until the bell says that no more come. Between parts the worker looks again
+/// and again, and at last sleeps until it is woken.
 pub fn serve<W: Work + Send + Drop, G: Gate, R: Wait>(
     rt: &R,
     alloc: Global,
@@ -60,7 +60,7 @@ pub fn serve<W: Work + Send + Drop, G: Gate, R: Wait>(
 ) {
     let Member {
         number,
-        mut tasks,
+        mut parts,
         parker,
     } = member;
     let mut looks = 0;
@@ -68,9 +68,9 @@ pub fn serve<W: Work + Send + Drop, G: Gate, R: Wait>(
         if bell.is_ended() {
             break;
         }
-        if let Some(task) = tasks.take() {
-            let answer = task.run(rt, alloc, gate, number);
-            tasks.answer(answer);
+        if let Some(part) = parts.take() {
+            let answer = part.run(rt, alloc, gate, number);
+            parts.answer(answer);
             looks = 0;
         } else if looks < MOST_LOOKS {
             looks += 1;
@@ -82,9 +82,9 @@ pub fn serve<W: Work + Send + Drop, G: Gate, R: Wait>(
     }
 }
 
-/// Runs the workers' part of a team, each in a thread of its own, until the bell says that no more calls come. Where no
-/// thread can be made they run one after another. So in a join with the caller's part it comes first: `thread::join`
-/// runs its first closure in a new thread, or where none can be made after the second, when the bell has ended.
+/// Runs the workers of a team, each in a thread of its own, until the bell says that no more calls come. Where no
+/// thread can be made they run one after another. So in a join with the caller this comes first: `thread::join` runs
+/// its first closure in a new thread, or where none can be made after the second, when the bell has ended.
 pub fn serve_all<W: Work + Send + Drop, G: Gate, R: Threads + Wait + Sync>(
     rt: &R,
     alloc: Global,

@@ -1,14 +1,13 @@
-//! The caller's part of a team.
+//! The caller's end of a team.
 ghost use Rattle.std.specs.Prelude.{◌≡◌, ◌≤◌, ◌+◌, length, sum_by, IfOk};
 ghost use Rattle.crew_pool.specs.Tasks.{EachReady, AnswersTo, EachAnswers};
 ghost use Rattle.crew_pool.specs.declared.crew.TheConstants.{MOST_TASKS};
 
 use crate::bell::Bell;
-use crate::calls::{HandedOut, Line, gather, hand_out};
-use crate::lists::{add, add_all};
+use crate::calls::{Line, PartsOut, gather, hand_out};
 use crate::member::Member;
 use crate::part::run_part;
-use crew_pool::{Gate, Work, Workers, tick_costs};
+use crew_pool::{Gate, Work, Workers, add, add_all, tick_costs};
 use crossbeam_utils::sync::Parker;
 use sim_base::{NoMemory, Steps};
 use std::alloc::Global;
@@ -39,11 +38,11 @@ impl<W: Work + Send + Drop> Team<W> {
         let mut members = Vec::new(alloc);
         let mut wakers = Vec::new(alloc);
         for number in 1..workers.count {
-            let (line, tasks) = mailbox::open(alloc)?;
+            let (line, parts) = mailbox::open(alloc)?;
             let parker = Parker::new(alloc)?;
             add(&mut wakers, parker.unparker().clone()?)?;
             add(&mut lines, line)?;
-            add(&mut members, Member::new(number, tasks, parker))?;
+            add(&mut members, Member::new(number, parts, parker))?;
         }
         let bell = Arc::new(alloc, Bell::new(wakers))?;
         Ok((Team { lines, bell }, members))
@@ -74,7 +73,7 @@ impl<W: Work + Send + Drop> Team<W> {
     {
         let Team { lines, bell } = self;
         let size = run_size(&*work, items.len(), lines.len());
-        let HandedOut {
+        let PartsOut {
             busy,
             idle,
             first,

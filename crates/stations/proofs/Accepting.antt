@@ -7,9 +7,9 @@ use Rattle.sim_base.specs.declared.message.Param.TheVariants.{Every, Service, Ho
 use Rattle.net_model.specs.declared.station.Kind.{Kind}
 use Rattle.net_model.specs.declared.station.Kind.TheVariants.{Source, Server, Delay, Router, Sink}
 use Rattle.net_model.specs.Net.{Site}
-use Rattle.net_model.specs.Rules.{IsRange}
+use Rattle.net_model.specs.Rules.{IsRange, is_range, is_within}
 use Rattle.net_model.specs.declared.limits.TheConstants.{MOST_ROOM, MOST_TIME, MOST_WEIGHT}
-use Rattle.stations.specs.Changes.{has_parameter, is_range, is_within, is_in_range, is_accepted}
+use Rattle.stations.specs.Changes.{has_parameter, is_in_range, is_accepted}
 use Rattle.stations.specs.Fits.{is_router}
 
 both : (t r : Bool) (site : Site) (c : Change) → has_parameter site.kind c.param ≡ t

@@ -24,8 +24,9 @@ use Rattle.stations.specs.Runs.{simulation}
 use Rattle.stations.proofs.KindLaws.{good_kind, kind_on-good}
 use Rattle.stations.proofs.Lawful.{site_valid, number_in, site_is}
 use Rattle.stations.proofs.OpeningLaws.{opening-fits, opening-kind, first_tick-station, first_tick-first}
+use Rattle.stations.specs.declared.sender.TheConstants.{MOST_SENDS}
 
--- a number is that of a station, or nothing stands there
+-- a number is that of a station, or no station has it
 site_cases : (net : Net) (s : ℕ) → ((site : Site) × (site_at net s ≡ Some site)) ⊎ (site_of net s ≡ no_site)
 site_cases net zero = inr refl
 site_cases net (suc i) = elim (slice_get_cases net.sites i).1 [
@@ -38,7 +39,7 @@ module _ (net : Net) (valid : IsNet net) where
   pub record HandlesGood (s : ℕ) (st : StateView) (m : Msg) : Type 0 where
     pub good : IsGood net s (handle net st m).state
     pub sends : AreSends net m.key.time s st.sender.next (handle net st m).sends
-    pub few : length (handle net st m).sends ≤ 16
+    pub few : length (handle net st m).sends ≤ MOST_SENDS
     pub next : (handle net st m).state.sender.next ≡ st.sender.next + length (handle net st m).sends
 
   at_station : (site : Site) (st : StateView) (m : Msg) → site_at net st.sender.station ≡ Some site
@@ -62,7 +63,7 @@ module _ (net : Net) (valid : IsNet net) where
         next = omega (arith, g.next, count);
       }
 
-  -- a number that is no station's stands for a sink
+  -- a number that no station has is handled as a sink's
   nowhere : (sender : Sender) (handled : ℕ) (k : KindState) (m : Msg) → site_of net sender.station ≡ no_site
       → IsOfKind no_site kind.Sink k
       → HandlesGood sender.station (record { sender = sender; handled = handled; kind = k }) m

@@ -1,7 +1,7 @@
 -- How high the senders and numbers of a run's messages go: the law of numbers, at these stations.
 use Rattle.std.proofs.Common.{ℕ, ◌+◌, ◌*◌, ◌<◌, ◌≤◌, inl, inr, List, min, arith}
 use Rattle.std.specs.Prelude.{◌==◌}
-use Rattle.sim_base.specs.KeyWords.{most_numbers}
+use Rattle.sim_base.specs.declared.message.TheConstants.{WORD_NUMBERS}
 use Rattle.sim_base.specs.declared.message.Msg.{Msg}
 use Rattle.sim_base.specs.declared.entry.Entry.{Entry}
 use Rattle.sim_base.specs.declared.entry.Line.{Line}
@@ -20,10 +20,11 @@ use Rattle.stations.specs.Laws.{KeysAreSmall, LogKeysAreSmall}
 use Rattle.stations.specs.Runs.{simulation}
 use Rattle.stations.proofs.GoodLaws.{lawful-stations, stations-to_stations, fresh-stations}
 use Rattle.stations.proofs.ReplayLaws.{sends-next_numbers}
+use Rattle.stations.specs.declared.sender.TheConstants.{MOST_SENDS}
 
 module _ (net : Net) (valid : IsNet net) where
   -- a station uses up at most 16 numbers with one message
-  pub few-numbers : UsesFewNumbers (simulation net) (IsGood net) next_number 16
+  pub few-numbers : UsesFewNumbers (simulation net) (IsGood net) next_number MOST_SENDS
   few-numbers = record {
     opens = λ s there. let first = (sends-next_numbers net valid).opens s in omega (arith, first);
     grows = λ s st m there good.
@@ -33,7 +34,7 @@ module _ (net : Net) (valid : IsNet net) where
   }
 
   -- 16 numbers for each message of a log that keeps the limit, and 16 more, fit words
-  bound-enough : 16 * (net.limit + 1) ≤ most_numbers
+  bound-enough : MOST_SENDS * (net.limit + 1) ≤ WORD_NUMBERS
   bound-enough = let short = valid.short in omega (arith, short)
 
   -- at a front where no log is beyond the limit each message of a clone's run has a small sender and number
@@ -47,7 +48,7 @@ module _ (net : Net) (valid : IsNet net) where
         ];
     number = numbers_fit (lawful-stations net valid) (stations-to_stations net valid)
         (fresh-stations net valid) few-numbers
-        c front counted.there most_numbers m (λ s here beyond. counted.within s here.0 here.1 beyond) counted.short
+        c front counted.there WORD_NUMBERS m (λ s here beyond. counted.within s here.0 here.1 beyond) counted.short
         bound-enough i;
   }
 

@@ -18,6 +18,7 @@ use Rattle.stations.proofs.DelayLaws.{delay_on-good}
 use Rattle.stations.proofs.RouterLaws.{router_on-good}
 use Rattle.stations.proofs.ServerLaws.{server_on-good}
 use Rattle.stations.proofs.SinkLaws.{sink_on-fits}
+use Rattle.stations.specs.declared.sender.TheConstants.{MOST_SENDS}
 
 -- a state that fits is good, whatever its kind
 pub good_kind : (handled : ℕ) (s : KindState) → FitsKind handled s → GoodKind handled s
@@ -32,7 +33,7 @@ module _ (net : Net) (site : Site) (now : ℕ) where
   pub record IsGoodReaction (handled : ℕ) (a : Outgoing) (r : Reaction KindState) : Type 0 where
     pub good : GoodKind (handled + 1) r.state
     pub kind : IsOfKind site site.kind r.state
-    pub grown : Grown net now 16 a r.out
+    pub grown : Grown net now MOST_SENDS a r.out
 
 module _ (net : Net) (site : Site) (now : ℕ) (links : AllByRecursion (IsLink net) site.links)
     (ahead : 1 ≤ net.lookahead)
@@ -58,7 +59,7 @@ module _ (net : Net) (site : Site) (now : ℕ) (links : AllByRecursion (IsLink n
         grown = r.2;
       }
   kind_on-good kind.Sink handled p (Sink s) is of f =
-      record { good = tt; kind = rw is tt; grown = grown-same net now 16 a }
+      record { good = tt; kind = rw is tt; grown = grown-same net now MOST_SENDS a }
   kind_on-good (kind.Source lo hi jobs class) handled p (Server s) is of f = absurd of
   kind_on-good (kind.Source lo hi jobs class) handled p (Delay s) is of f = absurd of
   kind_on-good (kind.Source lo hi jobs class) handled p (Router s) is of f = absurd of

@@ -15,6 +15,7 @@ use Rattle.stations.specs.Sending.{Outgoing, outgoing, reaction}
 use Rattle.stations.specs.Sends.{AreSends}
 use Rattle.stations.proofs.Places.{all_at}
 use Rattle.stations.proofs.KindLaws.{good_kind, kind_on-good, kind_on-fits}
+use Rattle.stations.specs.declared.sender.TheConstants.{MOST_SENDS}
 
 -- a station that is there meets the rules
 pub site_valid : (net : Net) (s : ℕ) (site : Site) → IsNet net → site_at net s ≡ Some site → IsSite net site
@@ -54,7 +55,7 @@ pub record HandlesWell (net : Net) (st : StateView) (m : Msg) : Type 0 where
   pub suits : SuitsNet net (handle net st m).state
   pub sends : AreSends net m.key.time st.sender.station st.sender.next (handle net st m).sends
   pub next : (handle net st m).state.sender.next ≡ st.sender.next + length (handle net st m).sends
-  pub few : length (handle net st m).sends ≤ 16
+  pub few : length (handle net st m).sends ≤ MOST_SENDS
   pub handled : (handle net st m).state.handled ≡ st.handled + 1
   pub station : (handle net st m).state.sender.station ≡ st.sender.station
 

@@ -11,12 +11,12 @@ module _ (net : Net) (jobs : List JobOf) (i : ℕ) (job : JobOf) (at : slice_get
       (drop (i + 1) jobs)
   least-drop n = ap (least_class net n) (drop-at jobs i job at)
 
-  -- the first of a class stands at the place
+  -- the first of a class is at the place
   pub place-here : (n : ℕ) → class_of net job ≡ n → place_of_class net n (drop i jobs) ≡ 0
   place-here n is = ap (place_of_class net n) (drop-at jobs i job at)
       ∙ ap (λ b. cond (not b) (1 + place_of_class net n (drop (i + 1) jobs)) 0) (eq-eqb (class_of net job) n is)
 
-  -- or it stands behind it
+  -- or it is behind it
   pub place-later : (n : ℕ) → class_of net job ≢ n → place_of_class net n (drop i jobs) ≡ 1 + place_of_class net n
       (drop (i + 1) jobs)
   place-later n is = ap (place_of_class net n) (drop-at jobs i job at)

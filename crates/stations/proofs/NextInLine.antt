@@ -1,4 +1,4 @@
--- The next in line stands in the line.
+-- The next in line is in the line.
 use Rattle.std.proofs.Common.{◌≡◌, ℕ, ◌<◌, ◌≤◌, ◌⊎◌, inl, inr, min, List, [], ◌∷◌}
 use Rattle.std.proofs.Common.{length, Bool, true, false, if◌then◌else◌, eqb, eq-eqb, refl, sym, ◌∙◌, arith}
 use Rattle.std.proofs.lemmas.Bool.{cases_Bool, cases_lt, false≢true}

@@ -104,15 +104,15 @@ opens-well net s site valid there =
     )
 
 -- the code's steps come to the opening of the station
-pub opened-is : (net : Net) (s : ℕ) (site : Site) (kept : KindState) (sender' : Sender) (before after : List Msg)
-    → site_at net s ≡ Some site → kept ≡ opening_kind site site.kind → before ≡ []
-    → first_tick kept (outgoing (record {
+pub opened-is : (net : Net) (s : ℕ) (site : Site) (begun : KindState) (sender' : Sender) (before after : List Msg)
+    → site_at net s ≡ Some site → begun ≡ opening_kind site site.kind → before ≡ []
+    → first_tick begun (outgoing (record {
       station = s;
       next = 0;
       draws = record { seed = net.seed; stream = site.stream; count = 0 };
     }) before) ≡ outgoing sender' after
-    → (setup net s).state ≡ record { sender = sender'; handled = 0; kind = kept }
-opened-is net s site kept sender' before after there is none ticked =
+    → (setup net s).state ≡ record { sender = sender'; handled = 0; kind = begun }
+opened-is net s site begun sender' before after there is none ticked =
     let ticked_here = rw (none, is) at ticked in
     rw (site_is net s site there, is)
     (ap (λ (o : Outgoing). let st : StateView = record {

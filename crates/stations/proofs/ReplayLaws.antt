@@ -22,6 +22,7 @@ use Rattle.stations.specs.Sending.{Outgoing, send_later}
 use Rattle.stations.proofs.GoodLaws.{among, handles-good, opens_good}
 use Rattle.stations.proofs.Lawful.{handles-well, site_is}
 use Rattle.stations.proofs.OpeningLaws.{opens-well}
+use Rattle.stations.specs.declared.sender.TheConstants.{MOST_SENDS}
 
 -- what a station opens with has at most one number
 first_tick-next : (k : KindState) (o : Outgoing) → (first_tick k o).sender.next ≤ o.sender.next + 1
@@ -117,7 +118,7 @@ module _ (net : Net) (valid : IsNet net) where
   }
 
   next_from : (s : ℕ) (st : StateView) (log : List (Entry Msg Line)) → IsGood net s st
-      → (replay_from net s st log).sender.next ≤ st.sender.next + 16 * length log
+      → (replay_from net s st log).sender.next ≤ st.sender.next + MOST_SENDS * length log
   next_from s st [] good = omega arith
   next_from s st (e ∷ es) good =
       let one = handles-good net valid s st e.msg good in

@@ -17,6 +17,7 @@ use Rattle.stations.specs.Sending.{Outgoing, send_over, route_by}
 use Rattle.stations.specs.Routers.{router_job, router_set, router_on}
 use Rattle.stations.proofs.Accepting.{router-accepts}
 use Rattle.stations.proofs.Growing.{Grown, grown-more, grown-route, grown-over, grown-same}
+use Rattle.stations.specs.declared.sender.TheConstants.{MOST_SENDS}
 
 module _ (net : Net) (site : Site) (now : ℕ) (links : AllByRecursion (IsLink net) site.links)
     (ahead : 1 ≤ net.lookahead)
@@ -54,15 +55,15 @@ module _ (net : Net) (site : Site) (now : ℕ) (links : AllByRecursion (IsLink n
           )
       by false refused = (router_later handled s f, count)
 
-  router_job-grown : (j : JobOf) (s : RouterState) → Grown net now 16 a (router_job site now j s a)
+  router_job-grown : (j : JobOf) (s : RouterState) → Grown net now MOST_SENDS a (router_job site now j s a)
   router_job-grown j s = by (routes_by_turn site.kind)
     where
-      by : (b : Bool) → Grown net now 16 a
+      by : (b : Bool) → Grown net now MOST_SENDS a
           (if b then send_over (slice_get site.links (s.passed % length site.links)) now j a else route_by site.links
           s.weights.items now j a)
-      by true = grown-more net now 1 16 a _
+      by true = grown-more net now 1 MOST_SENDS a _
           (grown-over net now site.links (s.passed % length site.links) j a links ahead) (omega arith)
-      by false = grown-more net now 1 16 a _ (grown-route net now site.links s.weights.items j a links ahead)
+      by false = grown-more net now 1 MOST_SENDS a _ (grown-route net now site.links s.weights.items j a links ahead)
           (omega arith)
 
   -- after any message a router fits one more, has a weight for each link, and sends at most 16 messages
@@ -70,10 +71,10 @@ module _ (net : Net) (site : Site) (now : ℕ) (links : AllByRecursion (IsLink n
       → length s.weights.items ≡ length site.links → FitsRouter handled s
       → FitsRouter (handled + 1) (router_on site now p s a).state
       × (length (router_on site now p s a).state.weights.items ≡ length site.links)
-      × Grown net now 16 a (router_on site now p s a).out
+      × Grown net now MOST_SENDS a (router_on site now p s a).out
   router_on-good handled (Job j) s is count f =
       (record { weights = f.weights; passed = omega (arith, f.passed) }, count, router_job-grown j s)
   router_on-good handled (Set c) s is count f = let r = router_set-fits handled c s is count f in
-      (r.0, r.1, grown-same net now 16 a)
-  router_on-good handled Tick s is count f = (router_later handled s f, count, grown-same net now 16 a)
-  router_on-good handled (Done j) s is count f = (router_later handled s f, count, grown-same net now 16 a)
+      (r.0, r.1, grown-same net now MOST_SENDS a)
+  router_on-good handled Tick s is count f = (router_later handled s f, count, grown-same net now MOST_SENDS a)
+  router_on-good handled (Done j) s is count f = (router_later handled s f, count, grown-same net now MOST_SENDS a)

@@ -23,6 +23,7 @@ use Rattle.stations.specs.Servers.{server_job, server_done, server_change, serve
 use Rattle.stations.proofs.Accepting.{accepted-parts, range-bounds, within-bounds, room-bound}
 use Rattle.stations.proofs.NextInLine.{next_place-below}
 use Rattle.stations.proofs.Growing.{Grown, grown-none, grown-more, grown-then, grown-later, grown-route}
+use Rattle.stations.specs.declared.sender.TheConstants.{MOST_SENDS}
 
 -- a server that could take n waiting jobs more into service
 pub record IsBusyBut (n handled : ℕ) (s : ServerState) : Type 0 where
@@ -184,11 +185,11 @@ module _ (net : Net) (site : Site) (now : ℕ) (links : AllByRecursion (IsLink n
 
     -- where a job comes, the server fits one message more and sends at most 16 messages
     pub server_job-good : (handled : ℕ) (job : JobOf) (s : ServerState) → FitsServer handled s
-        → Holds (FitsServer (handled + 1)) 16 a (server_job now job s a)
+        → Holds (FitsServer (handled + 1)) MOST_SENDS a (server_job now job s a)
     server_job-good handled job s f = by (nat_lt s.busy s.servers) (nat_lt (length s.waiting) s.room) refl refl
       where
         by : (free space : Bool) → nat_lt s.busy s.servers ≡ free → nat_lt (length s.waiting) s.room ≡ space
-            → Holds (FitsServer (handled + 1)) 16 a
+            → Holds (FitsServer (handled + 1)) MOST_SENDS a
             (if free then start now job s a else if space then reaction
             (record s { waiting = s.waiting ++ job ∷ [] }) a else reaction (record s { lost = s.lost + 1 }) a)
         by true space free e =
@@ -205,7 +206,7 @@ module _ (net : Net) (site : Site) (now : ℕ) (links : AllByRecursion (IsLink n
                 done = omega (arith, f.done);
                 lost = omega (arith, f.lost);
               };
-              grown = grown-more net now 1 16 a (start now job s a).out
+              grown = grown-more net now 1 MOST_SENDS a (start now job s a).out
                   (grown-later net now a first last s.lo s.hi (Done job) (λ job. job) f.range.above) (omega arith);
             }
         by false true full space =
@@ -223,7 +224,7 @@ module _ (net : Net) (site : Site) (now : ℕ) (links : AllByRecursion (IsLink n
                 done = omega (arith, f.done);
                 lost = omega (arith, f.lost);
               };
-              grown = same_grown 16;
+              grown = same_grown MOST_SENDS;
             }
         by false false full no_space = record {
           holds = record {
@@ -237,16 +238,16 @@ module _ (net : Net) (site : Site) (now : ℕ) (links : AllByRecursion (IsLink n
             done = omega (arith, f.done);
             lost = omega (arith, f.lost);
           };
-          grown = same_grown 16;
+          grown = same_grown MOST_SENDS;
         }
 
     -- where a service ends, the server fits one message more and sends at most 16 messages
     pub server_done-good : (handled : ℕ) (job : JobOf) (s : ServerState) → FitsServer handled s
-        → Holds (FitsServer (handled + 1)) 16 a (server_done net site now job s a)
+        → Holds (FitsServer (handled + 1)) MOST_SENDS a (server_done net site now job s a)
     server_done-good handled job s f = by (nat_lt 0 s.busy) refl
       where
         by : (some : Bool) → nat_lt 0 s.busy ≡ some
-            → Holds (FitsServer (handled + 1)) 16 a
+            → Holds (FitsServer (handled + 1)) MOST_SENDS a
             (if some then start_next net site now (record s { busy = s.busy - 1; done = s.done + 1 })
             (route site.links now job a) else reaction s a)
         by true some =
@@ -269,14 +270,16 @@ module _ (net : Net) (site : Site) (now : ℕ) (links : AllByRecursion (IsLink n
             let r = start_next net site now (record s { busy = s.busy - 1; done = s.done + 1 }) after in
             record {
               holds = busy_fits (handled + 1) r.state one.holds;
-              grown = grown-more net now 2 16 a r.out (grown-then net now 1 1 a after r.out routed one.grown)
+              grown = grown-more net now 2 MOST_SENDS a r.out (grown-then net now 1 1 a after r.out routed one.grown)
                   (omega arith);
             }
-        by false none = record { holds = server-later handled s f; grown = same_grown 16 }
+        by false none = record { holds = server-later handled s f; grown = same_grown MOST_SENDS }
 
-    change_kept : (handled : ℕ) (p : Param) (c : Change) (s : ServerState) → c.param ≡ p → is_accepted site c ≡ true
-        → FitsServer handled s → Holds (FitsServer (handled + 1)) 16 a (server_change net site now p c.a c.b s a)
-    change_kept handled Service c s is accepted f =
+    -- where a parameter changes that a server takes, it fits one message more and sends at most 16 messages
+    change-good : (handled : ℕ) (p : Param) (c : Change) (s : ServerState) → c.param ≡ p → is_accepted site c ≡ true
+        → FitsServer handled s
+        → Holds (FitsServer (handled + 1)) MOST_SENDS a (server_change net site now p c.a c.b s a)
+    change-good handled Service c s is accepted f =
         let range = range-bounds 1 c.a c.b (let h = (accepted-parts site c accepted).1 in rw is at h) in
         record {
           holds = record {
@@ -290,9 +293,9 @@ module _ (net : Net) (site : Site) (now : ℕ) (links : AllByRecursion (IsLink n
             done = omega (arith, f.done);
             lost = omega (arith, f.lost);
           };
-          grown = same_grown 16;
+          grown = same_grown MOST_SENDS;
         }
-    change_kept handled Room c s is accepted f =
+    change-good handled Room c s is accepted f =
         let room = room-bound c.a (let h = (accepted-parts site c accepted).1 in rw is at h) in
         record {
           holds = record {
@@ -306,9 +309,9 @@ module _ (net : Net) (site : Site) (now : ℕ) (links : AllByRecursion (IsLink n
             done = omega (arith, f.done);
             lost = omega (arith, f.lost);
           };
-          grown = same_grown 16;
+          grown = same_grown MOST_SENDS;
         }
-    change_kept handled Servers c s is accepted f =
+    change-good handled Servers c s is accepted f =
         let bounds = within-bounds 1 16 c.a (let h = (accepted-parts site c accepted).1 in rw is at h) in
         let few = bounds.1 in
         let begun : IsBusyBut (c.a - s.busy) (handled + 1) (record s { servers = c.a }) = record {
@@ -327,26 +330,30 @@ module _ (net : Net) (site : Site) (now : ℕ) (links : AllByRecursion (IsLink n
         let r = start_times (c.a - s.busy) net site now begin in
         record {
           holds = busy_fits (handled + 1) r.state rest.holds;
-          grown = grown-more net now (0 + (c.a - s.busy)) 16 a r.out rest.grown (omega arith);
+          grown = grown-more net now (0 + (c.a - s.busy)) MOST_SENDS a r.out rest.grown (omega arith);
         }
-    change_kept handled Every c s is accepted f = record { holds = server-later handled s f; grown = same_grown 16 }
-    change_kept handled Hold c s is accepted f = record { holds = server-later handled s f; grown = same_grown 16 }
-    change_kept handled Weight c s is accepted f = record { holds = server-later handled s f; grown = same_grown 16 }
+    change-good handled Every c s is accepted f =
+        record { holds = server-later handled s f; grown = same_grown MOST_SENDS }
+    change-good handled Hold c s is accepted f =
+        record { holds = server-later handled s f; grown = same_grown MOST_SENDS }
+    change-good handled Weight c s is accepted f =
+        record { holds = server-later handled s f; grown = same_grown MOST_SENDS }
 
-    set_kept : (handled : ℕ) (c : Change) (s : ServerState) → FitsServer handled s
-        → Holds (FitsServer (handled + 1)) 16 a (server_set net site now c s a)
-    set_kept handled c s f = by (is_accepted site c) refl
+    -- so it does where any change comes
+    set-good : (handled : ℕ) (c : Change) (s : ServerState) → FitsServer handled s
+        → Holds (FitsServer (handled + 1)) MOST_SENDS a (server_set net site now c s a)
+    set-good handled c s f = by (is_accepted site c) refl
       where
         by : (t : Bool) → is_accepted site c ≡ t
-            → Holds (FitsServer (handled + 1)) 16 a
+            → Holds (FitsServer (handled + 1)) MOST_SENDS a
             (if t then server_change net site now c.param c.a c.b s a else reaction s a)
-        by true accepted = change_kept handled c.param c s refl accepted f
-        by false refused = record { holds = server-later handled s f; grown = same_grown 16 }
+        by true accepted = change-good handled c.param c s refl accepted f
+        by false refused = record { holds = server-later handled s f; grown = same_grown MOST_SENDS }
 
     -- whatever message comes, a server keeps what servers keep, and sends as stations send
     pub server_on-good : (handled : ℕ) (p : Payload) (s : ServerState) → FitsServer handled s
-        → Holds (FitsServer (handled + 1)) 16 a (server_on net site now p s a)
+        → Holds (FitsServer (handled + 1)) MOST_SENDS a (server_on net site now p s a)
     server_on-good handled (Job j) s f = server_job-good handled j s f
     server_on-good handled (Done j) s f = server_done-good handled j s f
-    server_on-good handled (Set c) s f = set_kept handled c s f
-    server_on-good handled Tick s f = record { holds = server-later handled s f; grown = same_grown 16 }
+    server_on-good handled (Set c) s f = set-good handled c s f
+    server_on-good handled Tick s f = record { holds = server-later handled s f; grown = same_grown MOST_SENDS }

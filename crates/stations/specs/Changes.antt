@@ -5,8 +5,9 @@ use Rattle.sim_base.specs.declared.message.Param.{Param}
 use Rattle.sim_base.specs.declared.message.Param.TheVariants.{Every, Service, Hold, Servers, Room, Weight}
 use Rattle.net_model.specs.declared.station.Kind.{Kind}
 use Rattle.net_model.specs.declared.station.Kind.TheVariants.{Source, Server, Delay, Router}
-use Rattle.net_model.specs.declared.limits.TheConstants.{MOST_ROOM, MOST_SERVERS, MOST_TIME, MOST_WEIGHT}
+use Rattle.net_model.specs.declared.limits.TheConstants.{MOST_ROOM, MOST_SERVERS, MOST_WEIGHT}
 use Rattle.net_model.specs.Net.{Site}
+use Rattle.net_model.specs.Rules.{is_range, is_within}
 use Rattle.stations.specs.declared.change.ChangeFault.{ChangeFault}
 use Rattle.stations.specs.declared.change.ChangeFault.TheVariants.{WrongParameter, OutOfRange}
 
@@ -19,14 +20,6 @@ has_parameter (Server servers room lo hi by_class) Room = true
 has_parameter (Delay lo hi) Hold = true
 has_parameter (Router turn) Weight = not turn
 has_parameter _ _ = false
-
--- whether n is from low to high
-abbrev pub is_within : ℕ → ℕ → ℕ → Bool
-is_within low high n = nat_le low n && nat_le n high
-
--- whether the times from lo to hi are a range: no less than low, in order, and no more than a time may be
-abbrev pub is_range : ℕ → ℕ → ℕ → Bool
-is_range low lo hi = (nat_le low lo && nat_le lo hi) && nat_le hi MOST_TIME
 
 -- whether the values are in the parameter's range, at a station of so many links
 abbrev pub is_in_range : ℕ → Param → ℕ → ℕ → Bool

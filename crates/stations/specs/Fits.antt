@@ -17,6 +17,7 @@ use Rattle.stations.specs.declared.kind_state.DelayState.{DelayState}
 use Rattle.stations.specs.declared.kind_state.RouterState.{RouterState}
 use Rattle.stations.specs.declared.kind_state.SinkState.{SinkState}
 use Rattle.stations.specs.Handling.{StateView}
+use Rattle.stations.specs.declared.sender.TheConstants.{MOST_SENDS}
 
 -- weights by which a link may be picked
 pub record AreWeights (weights : List ℕ) : Type 0 where
@@ -79,19 +80,16 @@ FitsKind handled (Delay s) = FitsDelay handled s
 FitsKind handled (Router s) = FitsRouter handled s
 FitsKind handled (Sink s) = FitsSink handled s
 
--- what a kind keeps whatever the times of the messages are
+-- what a kind keeps whatever the times of the messages are: the stays of a sink may be any
 abbrev pub GoodKind : ℕ → KindState → Type 0
 GoodKind handled (Sink s) = Unit {0}
-GoodKind handled (Source s) = FitsSource handled s
-GoodKind handled (Server s) = FitsServer handled s
-GoodKind handled (Delay s) = FitsDelay handled s
-GoodKind handled (Router s) = FitsRouter handled s
+GoodKind handled s = FitsKind handled s
 
--- the sender is a station, and has used at most 16 numbers and 16 draws for each message, and 16 more
+-- the sender is a station, and has used at most so many numbers and draws for each message and for the opening
 pub record FitsSender (handled : ℕ) (s : Sender) : Type 0 where
   pub station : 1 ≤ s.station
-  pub next : s.next ≤ 16 * (handled + 1)
-  pub draws : s.draws.count ≤ 16 * (handled + 1)
+  pub next : s.next ≤ MOST_SENDS * (handled + 1)
+  pub draws : s.draws.count ≤ MOST_SENDS * (handled + 1)
 
 -- a state keeps what its sender keeps and what its kind keeps, after as many messages as it handled
 pub record FitsState (st : StateView) : Type 0 where

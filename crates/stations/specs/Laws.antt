@@ -2,7 +2,7 @@
 use Rattle.std.specs.Prelude.{◌≡◌, ℕ, ◌+◌, ◌*◌, ◌^◌, ◌<◌, ◌≤◌, List, [], ◌∷◌, ◌++◌, length}
 use Rattle.std.specs.List.{AllByRecursion}
 use Rattle.sim_base.specs.Clones.{Clone}
-use Rattle.sim_base.specs.KeyWords.{most_numbers}
+use Rattle.sim_base.specs.declared.message.TheConstants.{WORD_NUMBERS}
 use Rattle.sim_base.specs.declared.message.Key.{Key}
 use Rattle.sim_base.specs.declared.message.Msg.{Msg}
 use Rattle.sim_base.specs.declared.entry.Entry.{Entry}
@@ -18,6 +18,7 @@ use Rattle.stations.specs.Handling.{StateView, handle}
 use Rattle.stations.specs.Opening.{setup}
 use Rattle.stations.specs.Runs.{simulation, replay, log_at, IsBeyond}
 use Rattle.stations.specs.Sends.{AreSends, IsJob}
+use Rattle.stations.specs.declared.sender.TheConstants.{MOST_SENDS}
 
 module _ (net : Net) where
   -- the state that a log leads to is a good one of its station
@@ -42,11 +43,11 @@ module _ (net : Net) where
   ReplayGoesOn = (s : ℕ) (log : List (Entry Msg Line)) (e : Entry Msg Line) →
       replay net s (log ++ e ∷ []) ≡ (handle net (replay net s log) e.msg).state
 
-  -- a station opens with at most one message, and a message that it handles makes it send at most 16; each of them
+  -- a station opens with at most one message, and a message that it handles makes it send at most so many; each of them
   -- gets the next number
   pub record SendsNextNumbers : Type 0 where
     pub opens : (s : ℕ) → (setup net s).state.sender.next ≤ 1
-    pub few : (s : ℕ) (st : StateView) (m : Msg) → IsGood net s st → length (handle net st m).sends ≤ 16
+    pub few : (s : ℕ) (st : StateView) (m : Msg) → IsGood net s st → length (handle net st m).sends ≤ MOST_SENDS
     pub next : (s : ℕ) (st : StateView) (m : Msg) → IsGood net s st →
         (handle net st m).state.sender.next ≡ st.sender.next + length (handle net st m).sends
     pub sends : (s : ℕ) (st : StateView) (m : Msg) → IsGood net s st →
@@ -54,7 +55,8 @@ module _ (net : Net) where
 
   -- so the next number of a station is small, measured by its log
   abbrev pub NumbersAreSmall : Type 0
-  NumbersAreSmall = (s : ℕ) (log : List (Entry Msg Line)) → (replay net s log).sender.next ≤ 16 * (length log + 1)
+  NumbersAreSmall = (s : ℕ) (log : List (Entry Msg Line)) →
+      (replay net s log).sender.next ≤ MOST_SENDS * (length log + 1)
 
   -- a job that is sent comes by the lookahead later or more, also where its link goes back to its own station
   abbrev pub JobsTakeTheLookahead : Type 0
@@ -64,12 +66,12 @@ module _ (net : Net) where
   -- a message's sender is the analyst, who is 0, or a station, and its number fits a word
   pub record HasSmallKey (k : Key) : Type 0 where
     pub sender : k.sender ≤ length net.sites
-    pub number : k.number < most_numbers
+    pub number : k.number < WORD_NUMBERS
 
   -- at a front no station's log is beyond the limit, and the list has decisions for stations alone, whose numbers fit
   pub record IsCounted (c : Clone) (front : ℕ) : Type 0 where
     pub there : AreForStations (simulation net) c.plans
-    pub short : length c.plans ≤ most_numbers
+    pub short : length c.plans ≤ WORD_NUMBERS
     pub within : (s : ℕ) → 1 ≤ s → s ≤ length net.sites → ¬ (IsBeyond net s front c)
 
   -- then each message of the clone's run, handled or pending there, has such a key

@@ -10,9 +10,10 @@ use Rattle.sim_base.specs.declared.entry.Line.{Line}
 use Rattle.sim_base.specs.declared.decision.Planned.{Planned}
 use Rattle.run_laws.specs.Simulation.{Simulation}
 use Rattle.run_laws.specs.Machine.{Config}
-use Rattle.run_laws.specs.Window.{Part, local}
+use Rattle.run_laws.specs.Window.{Part}
 use Rattle.run_laws.specs.World as world
 use Rattle.run_laws.specs.Runs as runs
+use Rattle.run_laws.specs.Laws as laws
 use Rattle.run_laws.specs.Fronts as fronts
 use Rattle.run_laws.specs.Sharing as sharing
 use Rattle.net_model.specs.Net.{Net}
@@ -60,10 +61,7 @@ state_at net c s front = runs.state_at (simulation net) c s front
 
 -- one station's window by itself, from how it stands in a clone at a front, to a bound
 abbrev pub window_of : Net → Clone → ℕ → ℕ → ℕ → Config (Part StateView Msg Line) Msg
-window_of net c s front bound =
-    let sim = simulation net in
-    local sim s (runs.log_at sim c s front) (runs.state_at sim c s front) (runs.due_at sim c s front) bound
-    (runs.end_of sim c)
+window_of net c s front bound = laws.window (simulation net) c s front bound
 
 -- the next front of the clones
 abbrev pub next_front : Net → List Clone → ℕ → ℕ

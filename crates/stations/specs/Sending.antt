@@ -7,6 +7,7 @@ use Rattle.sim_base.specs.declared.message.Payload.TheVariants.{Job}
 use Rattle.sim_draw.specs.Drawing.{drawn_one, range_of, pick_of, drawn_by}
 use Rattle.net_model.specs.declared.station.Link.{Link}
 use Rattle.stations.specs.declared.sender.Sender.{Sender}
+use Rattle.stations.specs.declared.sender.TheConstants.{MOST_SENDS}
 
 -- a sender, and what it has sent since a message came, in order
 pub record Outgoing : Type 0 where
@@ -17,10 +18,10 @@ pub record Outgoing : Type 0 where
 abbrev pub outgoing : Sender → List Msg → Outgoing
 outgoing sender sends = record { sender = sender; sends = sends }
 
--- a station that has sent so many messages for the one that came at `now` may send so many more: its list has 16
+-- a station that has sent so many messages for the one that came at `now` may send so many more: its list has
 -- places, its numbers and draws are far from their ends, and so is the time; a message takes at most two words drawn
 pub record MaySend (more now : ℕ) (sender : Sender) (sent : ℕ) : Type 0 where
-  pub free : sent + more ≤ 16
+  pub free : sent + more ≤ MOST_SENDS
   pub next : sender.next + more ≤ 2 ^ 32
   pub draws : sender.draws.count + 2 * more ≤ 2 ^ 32
   pub early : now < 2 ^ 31

@@ -1,8 +1,9 @@
 //! Whether a station takes a change.
 ghost use Rattle.std.specs.Prelude.{◌≡◌, ◌≤◌, length};
 ghost use Rattle.net_model.specs.Net.{site_of};
+ghost use Rattle.net_model.specs.Rules.{is_range};
 ghost use Rattle.net_model.specs.Sites.{as_site};
-ghost use Rattle.stations.specs.Changes.{accepts as accepts_at, is_accepted, has_parameter, is_range, is_in_range};
+ghost use Rattle.stations.specs.Changes.{accepts as accepts_at, is_accepted, has_parameter, is_in_range};
 
 use net_model::limits::{MOST_ROOM, MOST_SERVERS, MOST_TIME, MOST_WEIGHT};
 use net_model::{Kind, Model, Station};

@@ -7,10 +7,11 @@ ghost use Rattle.net_model.specs.Sites.{as_site};
 ghost use Rattle.stations.specs.Delays.{delay_job, delay_set, delay_on};
 ghost use Rattle.stations.specs.Fits.{AreLinks, FitsDelay};
 ghost use Rattle.stations.specs.Sending.{MaySend, outgoing, reaction};
+ghost use Rattle.stations.specs.declared.sender.TheConstants.{MOST_SENDS};
 
 use crate::change::takes_change;
 use crate::kind_state::DelayState;
-use crate::sender::{Sender, pick_by_model, send_over_link};
+use crate::sender::{MOST_SENDS, Sender, pick_by_model, send_over_link};
 use arrayvec::ArrayVec;
 use net_model::Station;
 use sim_base::{Change, Job, Msg, Payload};
@@ -19,7 +20,7 @@ use sim_base::{Change, Job, Msg, Payload};
 fn hold_job(
     delay: &DelayState,
     sender: &mut Sender,
-    out: &mut ArrayVec<Msg, 16>,
+    out: &mut ArrayVec<Msg, MOST_SENDS>,
     station: &Station,
     now: u64,
     job: Job,
@@ -48,12 +49,12 @@ fn set_delay(delay: &mut DelayState, station: &Station, change: &Change)
 pub(crate) fn delay_handles(
     delay: &mut DelayState,
     sender: &mut Sender,
-    out: &mut ArrayVec<Msg, 16>,
+    out: &mut ArrayVec<Msg, MOST_SENDS>,
     station: &Station,
     now: u64,
     payload: &Payload,
 )
-    requires may_send { MaySend 16 now sender.old (array_vec_len out.old) }
+    requires may_send { MaySend MOST_SENDS now sender.old (array_vec_len out.old) }
     requires links { AreLinks station.now.links.items }
     requires fits { FitsDelay MOST_LIMIT delay.old }
     ensures { delay_on (as_site station.now) now payload.now delay.old (outgoing sender.old out.old.items)

@@ -1,6 +1,7 @@
 //! What each kind of station keeps.
 use crate::job_queue::JobQueue;
 use arrayvec::ArrayVec;
+use net_model::limits::MOST_LINKS;
 
 /// A source: the range of its times between jobs, how many jobs it makes, and how many it has sent.
 #[derive(Clone, Copy, Debug, PartialEq, Eq)]
@@ -35,7 +36,7 @@ pub struct DelayState {
 /// A router: the weights of its links, and how many jobs it has passed on.
 #[derive(Drop)]
 pub struct RouterState {
-    pub weights: ArrayVec<u32, 16>,
+    pub weights: ArrayVec<u32, MOST_LINKS>,
     pub passed: u64,
 }
 

@@ -20,7 +20,7 @@
 //!     let line = state::handle(&mut state, &model, &msg, &mut out, &mut steps)?;
 //!
 //! A message costs a constant time; a queue that is served by class is looked through twice. A handling sends at
-//! most 16 messages, and none is allocated.
+//! most `MOST_SENDS` messages, and none is allocated.
 //!
 //! Every simulator of this project computes with `handle`, whose contract is the definition in `specs/Handling.antt`;
 //! `laws` states for every valid network what the argument that clones may share rests on: the state of a station is
@@ -44,5 +44,5 @@ pub mod state;
 pub use change::ChangeFault;
 pub use job_queue::JobQueue;
 pub use kind_state::{DelayState, KindState, RouterState, ServerState, SinkState, SourceState};
-pub use sender::Sender;
+pub use sender::{MOST_SENDS, Sender};
 pub use state::State;

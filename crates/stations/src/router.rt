@@ -6,10 +6,11 @@ ghost use Rattle.net_model.specs.declared.limits.TheConstants.{MOST_LIMIT};
 ghost use Rattle.stations.specs.Fits.{AreLinks, AreWeights, FitsRouter, is_router};
 ghost use Rattle.stations.specs.Routers.{router_job, router_set, router_on};
 ghost use Rattle.stations.specs.Sending.{MaySend, outgoing, reaction};
+ghost use Rattle.stations.specs.declared.sender.TheConstants.{MOST_SENDS};
 
 use crate::change::takes_change;
 use crate::kind_state::RouterState;
-use crate::sender::{Sender, link_at, pick_link, send_over_link};
+use crate::sender::{MOST_SENDS, Sender, link_at, pick_link, send_over_link};
 use arrayvec::ArrayVec;
 use net_model::Station;
 use sim_base::{Change, Job, Msg, Payload};
@@ -18,7 +19,7 @@ use sim_base::{Change, Job, Msg, Payload};
 fn pass_job(
     router: &RouterState,
     sender: &mut Sender,
-    out: &mut ArrayVec<Msg, 16>,
+    out: &mut ArrayVec<Msg, MOST_SENDS>,
     station: &Station,
     now: u64,
     job: Job,
@@ -53,12 +54,12 @@ fn set_router(router: &mut RouterState, station: &Station, change: &Change)
 pub(crate) fn router_handles(
     router: &mut RouterState,
     sender: &mut Sender,
-    out: &mut ArrayVec<Msg, 16>,
+    out: &mut ArrayVec<Msg, MOST_SENDS>,
     station: &Station,
     now: u64,
     payload: &Payload,
 )
-    requires may_send { MaySend 16 now sender.old (array_vec_len out.old) }
+    requires may_send { MaySend MOST_SENDS now sender.old (array_vec_len out.old) }
     requires links { AreLinks station.now.links.items }
     requires fits { FitsRouter MOST_LIMIT router.old }
     requires same { length router.old.weights.items ≡ length station.now.links.items }

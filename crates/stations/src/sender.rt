@@ -6,11 +6,16 @@ ghost use Rattle.net_model.specs.Rules.{IsRange};
 ghost use Rattle.net_model.specs.declared.limits.TheConstants.{MOST_LINKS, MOST_TIME};
 ghost use Rattle.stations.specs.Fits.{AreWeights, AreLinks};
 ghost use Rattle.stations.specs.Sending.{MaySend, outgoing, send, send_later, send_over, route, weights_of};
+ghost use Rattle.stations.specs.declared.sender.TheConstants.{MOST_SENDS};
 
 use arrayvec::ArrayVec;
 use net_model::Link;
+use net_model::limits::MOST_LINKS;
 use sim_base::{Job, Key, Msg, Payload};
 use sim_draw::Draws;
+
+/// The most messages that a station sends for one that it handles.
+pub const MOST_SENDS: usize = 16;
 
 /// A station's number, the count of the messages that it has sent, and its draws.
 #[derive(Drop)]
@@ -23,12 +28,12 @@ pub struct Sender {
 /// Sends a message, with the sender's next number.
 pub(crate) fn send_message(
     sender: &mut Sender,
-    out: &mut ArrayVec<Msg, 16>,
+    out: &mut ArrayVec<Msg, MOST_SENDS>,
     time: u64,
     to: u32,
     payload: Payload,
 )
-    requires free { array_vec_len out.old < 16 }
+    requires free { array_vec_len out.old < MOST_SENDS }
     requires next { sender.old.next < 2 ^ 32 }
     ensures { send time to payload (outgoing sender.old out.old.items) ≡ outgoing sender.new out.new.items }
 {
@@ -47,7 +52,7 @@ pub(crate) fn send_message(
 /// Sends a message to the station itself, after a time drawn from `lo` to `hi`.
 pub(crate) fn send_to_itself(
     sender: &mut Sender,
-    out: &mut ArrayVec<Msg, 16>,
+    out: &mut ArrayVec<Msg, MOST_SENDS>,
     now: u64,
     lo: u64,
     hi: u64,
@@ -65,12 +70,12 @@ pub(crate) fn send_to_itself(
 /// Sends a job over a link, which takes the link's delay from `time` on.
 pub(crate) fn send_over_link(
     sender: &mut Sender,
-    out: &mut ArrayVec<Msg, 16>,
+    out: &mut ArrayVec<Msg, MOST_SENDS>,
     link: &Link,
     time: u64,
     job: Job,
 )
-    requires free { array_vec_len out.old < 16 }
+    requires free { array_vec_len out.old < MOST_SENDS }
     requires next { sender.old.next < 2 ^ 32 }
     requires near { link.now.delay ≤ MOST_TIME }
     requires early { time < 2 ^ 32 }
@@ -100,7 +105,7 @@ pub(crate) fn link_at(links: &[Link], place: usize) -> Link
 }
 
 /// The weights of links, as the model states them.
-pub(crate) fn link_weights(links: &[Link]) -> ArrayVec<u32, 16>
+pub(crate) fn link_weights(links: &[Link]) -> ArrayVec<u32, MOST_LINKS>
     requires { length links.now ≤ MOST_LINKS }
     ensures { result.items ≡ weights_of links.now }
 {
@@ -129,7 +134,7 @@ pub(crate) fn pick_by_model(sender: &mut Sender, links: &[Link]) -> Link
 /// Sends a job over one of the links, by the weights of the model.
 pub(crate) fn route_job(
     sender: &mut Sender,
-    out: &mut ArrayVec<Msg, 16>,
+    out: &mut ArrayVec<Msg, MOST_SENDS>,
     links: &[Link],
     now: u64,
     job: Job,

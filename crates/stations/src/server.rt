@@ -4,16 +4,18 @@ ghost use Rattle.arrayvec.specs.ArrayVec.{array_vec_len};
 ghost use Rattle.net_model.specs.Rules.{IsRange};
 ghost use Rattle.net_model.specs.declared.limits.TheConstants.{MOST_LIMIT};
 ghost use Rattle.net_model.specs.Sites.{as_site};
+ghost use Rattle.net_model.specs.declared.limits.TheConstants.{MOST_SERVERS};
 ghost use Rattle.stations.specs.Fits.{AreLinks, FitsServer};
 ghost use Rattle.stations.specs.Sending.{MaySend, outgoing, reaction};
 ghost use Rattle.stations.specs.Servers.{least_in, place_of_class, next_place, start, start_next as next_started};
 ghost use Rattle.stations.specs.Servers.{start_times, server_job, server_done, server_change, server_set, server_on};
+ghost use Rattle.stations.specs.declared.sender.TheConstants.{MOST_SENDS};
 ghost use Rattle.sim_base.specs.declared.message.Param.TheVariants.{Servers};
 
 use crate::change::takes_change;
 use crate::job_queue::JobQueue;
 use crate::kind_state::ServerState;
-use crate::sender::{Sender, route_job, send_to_itself};
+use crate::sender::{MOST_SENDS, Sender, route_job, send_to_itself};
 use arrayvec::ArrayVec;
 use net_model::{Model, Station};
 use sim_base::{Change, Job, Msg, NoMemory, Param, Payload};
@@ -52,7 +54,7 @@ fn place_of_next(model: &Model, station: &Station, jobs: &JobQueue) -> usize
 fn start_job(
     server: &mut ServerState,
     sender: &mut Sender,
-    out: &mut ArrayVec<Msg, 16>,
+    out: &mut ArrayVec<Msg, MOST_SENDS>,
     now: u64,
     job: Job,
 )
@@ -70,7 +72,7 @@ fn start_job(
 fn start_next(
     server: &mut ServerState,
     sender: &mut Sender,
-    out: &mut ArrayVec<Msg, 16>,
+    out: &mut ArrayVec<Msg, MOST_SENDS>,
     model: &Model,
     station: &Station,
     now: u64,
@@ -91,7 +93,7 @@ fn start_next(
 fn job_comes(
     server: &mut ServerState,
     sender: &mut Sender,
-    out: &mut ArrayVec<Msg, 16>,
+    out: &mut ArrayVec<Msg, MOST_SENDS>,
     now: u64,
     job: Job,
 ) -> Result<(), NoMemory>
@@ -116,7 +118,7 @@ fn job_comes(
 fn job_is_done(
     server: &mut ServerState,
     sender: &mut Sender,
-    out: &mut ArrayVec<Msg, 16>,
+    out: &mut ArrayVec<Msg, MOST_SENDS>,
     model: &Model,
     station: &Station,
     now: u64,
@@ -142,14 +144,14 @@ fn job_is_done(
 fn start_many(
     server: &mut ServerState,
     sender: &mut Sender,
-    out: &mut ArrayVec<Msg, 16>,
+    out: &mut ArrayVec<Msg, MOST_SENDS>,
     model: &Model,
     station: &Station,
     now: u64,
     times: u64,
 )
-    requires may_send { MaySend 16 now sender.old (array_vec_len out.old) }
-    requires few_times { times ≤ 16 }
+    requires may_send { MaySend MOST_SENDS now sender.old (array_vec_len out.old) }
+    requires few_times { times ≤ MOST_SERVERS }
     requires range { IsRange 1 server.old.lo server.old.hi }
     ensures { start_times times model.now (as_site station.now) now
         (reaction server.old (outgoing sender.old out.old.items)) ≡ reaction server.new
@@ -164,14 +166,14 @@ fn start_many(
 fn set_servers(
     server: &mut ServerState,
     sender: &mut Sender,
-    out: &mut ArrayVec<Msg, 16>,
+    out: &mut ArrayVec<Msg, MOST_SENDS>,
     model: &Model,
     station: &Station,
     now: u64,
     servers: u32,
 )
-    requires may_send { MaySend 16 now sender.old (array_vec_len out.old) }
-    requires few_servers { servers ≤ 16 }
+    requires may_send { MaySend MOST_SENDS now sender.old (array_vec_len out.old) }
+    requires few_servers { servers ≤ MOST_SERVERS }
     requires range { IsRange 1 server.old.lo server.old.hi }
     ensures { server_change model.now (as_site station.now) now Servers servers 0 server.old
         (outgoing sender.old out.old.items) ≡ reaction server.new (outgoing sender.new out.new.items) }
@@ -184,13 +186,13 @@ fn set_servers(
 fn set_server(
     server: &mut ServerState,
     sender: &mut Sender,
-    out: &mut ArrayVec<Msg, 16>,
+    out: &mut ArrayVec<Msg, MOST_SENDS>,
     model: &Model,
     station: &Station,
     now: u64,
     change: &Change,
 )
-    requires may_send { MaySend 16 now sender.old (array_vec_len out.old) }
+    requires may_send { MaySend MOST_SENDS now sender.old (array_vec_len out.old) }
     requires range { IsRange 1 server.old.lo server.old.hi }
     ensures { server_set model.now (as_site station.now) now change.now server.old (outgoing sender.old out.old.items)
         ≡ reaction server.new (outgoing sender.new out.new.items) }
@@ -215,13 +217,13 @@ fn set_server(
 pub(crate) fn server_handles(
     server: &mut ServerState,
     sender: &mut Sender,
-    out: &mut ArrayVec<Msg, 16>,
+    out: &mut ArrayVec<Msg, MOST_SENDS>,
     model: &Model,
     station: &Station,
     now: u64,
     payload: &Payload,
 ) -> Result<(), NoMemory>
-    requires may_send { MaySend 16 now sender.old (array_vec_len out.old) }
+    requires may_send { MaySend MOST_SENDS now sender.old (array_vec_len out.old) }
     requires links { AreLinks station.now.links.items }
     requires fits { FitsServer MOST_LIMIT server.old }
     ensures ok { OnOk result (server_on model.now (as_site station.now) now payload.now server.old

@@ -7,10 +7,11 @@ ghost use Rattle.net_model.specs.Sites.{as_site};
 ghost use Rattle.stations.specs.Fits.{AreLinks, FitsSource};
 ghost use Rattle.stations.specs.Sending.{MaySend, outgoing, reaction};
 ghost use Rattle.stations.specs.Sources.{next_tick, source_ticks, source_set, source_on};
+ghost use Rattle.stations.specs.declared.sender.TheConstants.{MOST_SENDS};
 
 use crate::change::takes_change;
 use crate::kind_state::SourceState;
-use crate::sender::{Sender, route_job, send_to_itself};
+use crate::sender::{MOST_SENDS, Sender, route_job, send_to_itself};
 use arrayvec::ArrayVec;
 use net_model::Station;
 use sim_base::{Change, Job, Msg, Payload};
@@ -19,7 +20,7 @@ use sim_base::{Change, Job, Msg, Payload};
 pub(crate) fn send_tick(
     source: &SourceState,
     sender: &mut Sender,
-    out: &mut ArrayVec<Msg, 16>,
+    out: &mut ArrayVec<Msg, MOST_SENDS>,
     now: u64,
 )
     requires may_send { MaySend 1 now sender.old (array_vec_len out.old) }
@@ -34,7 +35,7 @@ pub(crate) fn send_tick(
 fn make_job(
     source: &mut SourceState,
     sender: &mut Sender,
-    out: &mut ArrayVec<Msg, 16>,
+    out: &mut ArrayVec<Msg, MOST_SENDS>,
     station: &Station,
     now: u64,
 )
@@ -68,12 +69,12 @@ fn set_source(source: &mut SourceState, station: &Station, change: &Change)
 pub(crate) fn source_handles(
     source: &mut SourceState,
     sender: &mut Sender,
-    out: &mut ArrayVec<Msg, 16>,
+    out: &mut ArrayVec<Msg, MOST_SENDS>,
     station: &Station,
     now: u64,
     payload: &Payload,
 )
-    requires may_send { MaySend 16 now sender.old (array_vec_len out.old) }
+    requires may_send { MaySend MOST_SENDS now sender.old (array_vec_len out.old) }
     requires links { AreLinks station.now.links.items }
     requires fits { FitsSource MOST_LIMIT source.old }
     ensures { source_on (as_site station.now) now payload.now source.old (outgoing sender.old out.old.items)

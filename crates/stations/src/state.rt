@@ -8,16 +8,18 @@ ghost use Rattle.stations.specs.Handling.{handle as handled_by, kind_on, line_of
 ghost use Rattle.stations.specs.Opening.{setup as opened_by, opening_kind, first_tick};
 ghost use Rattle.stations.specs.Sending.{MaySend, outgoing, reaction};
 ghost use Rattle.stations.specs.Sends.{AreSends};
+ghost use Rattle.stations.specs.declared.sender.TheConstants.{MOST_SENDS};
 
 use crate::delay::delay_handles;
 use crate::job_queue::JobQueue;
 use crate::kind_state::{DelayState, KindState, RouterState, ServerState, SinkState, SourceState};
 use crate::router::router_handles;
-use crate::sender::{Sender, link_weights};
+use crate::sender::{MOST_SENDS, Sender, link_weights};
 use crate::server::server_handles;
 use crate::sink::sink_handles;
 use crate::source::{send_tick, source_handles};
 use arrayvec::ArrayVec;
+use net_model::limits::MOST_LINKS;
 use net_model::{Kind, Model, Station};
 use sim_base::{Line, Msg, NoMemory, Payload, Steps};
 use sim_draw::Draws;
@@ -46,13 +48,13 @@ impl std::marker::Model for State {
 fn kind_handles(
     kind: &mut KindState,
     sender: &mut Sender,
-    out: &mut ArrayVec<Msg, 16>,
+    out: &mut ArrayVec<Msg, MOST_SENDS>,
     model: &Model,
     station: &Station,
     now: u64,
     payload: &Payload,
 ) -> Result<(), NoMemory>
-    requires may_send { MaySend 16 now sender.old (array_vec_len out.old) }
+    requires may_send { MaySend MOST_SENDS now sender.old (array_vec_len out.old) }
     requires links { HasLinks kind.old station.now.links.items }
     requires of_kind { IsOfKind (as_site station.now) station.now.kind kind.old }
     requires fits { FitsKind MOST_LIMIT kind.old }
@@ -116,7 +118,7 @@ pub fn handle<L: Ledger>(
     state: &mut State,
     model: &Model,
     msg: &Msg,
-    out: &mut ArrayVec<Msg, 16>,
+    out: &mut ArrayVec<Msg, MOST_SENDS>,
     steps: &mut Steps<L>,
 ) -> Result<Line, NoMemory>
     requires suits { SuitsNet model.now state.old }
@@ -190,7 +192,7 @@ fn opening_state(alloc: Global, station: &Station) -> KindState
 }
 
 // A source sends itself its first tick.
-fn send_first(kind: &KindState, sender: &mut Sender, out: &mut ArrayVec<Msg, 16>)
+fn send_first(kind: &KindState, sender: &mut Sender, out: &mut ArrayVec<Msg, MOST_SENDS>)
     requires may_send { MaySend 1 0 sender.old (array_vec_len out.old) }
     requires fits { FitsKind 0 kind.now }
     ensures { first_tick kind.now (outgoing sender.old out.old.items) ≡ outgoing sender.new out.new.items }
@@ -210,13 +212,13 @@ pub fn setup(alloc: Global, model: &Model, station: u32) -> Result<(State, Optio
     ensures own { IfOk result (λ p. p.0.sender.station ≡ station) }
     ensures fresh { IfOk result (λ p. p.0.handled ≡ 0) }
 {
-    let place = model.station(station);
+    let site = model.station(station);
     let mut sender = Sender {
         station,
         next: 0,
-        draws: Draws::new(model.seed(), place.stream),
+        draws: Draws::new(model.seed(), site.stream),
     };
-    let kind = opening_state(alloc, place);
+    let kind = opening_state(alloc, site);
     let mut out = ArrayVec::new();
     send_first(&kind, &mut sender, &mut out);
     let first = out.first().copied();
@@ -278,7 +280,7 @@ fn copy_kind(kind: &KindState, alloc: Global) -> Result<KindState, NoMemory>
     }
 }
 
-fn copy_weights(weights: &[u32]) -> ArrayVec<u32, 16>
+fn copy_weights(weights: &[u32]) -> ArrayVec<u32, MOST_LINKS>
     requires { length weights.now ≤ MOST_LINKS }
     ensures { result.items ≡ weights.now }
 {

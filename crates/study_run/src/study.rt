@@ -7,12 +7,13 @@ ghost use Rattle.study_run.specs.Going.{GoesToHorizon, HasGoneOn, HasStopped, Is
 ghost use Rattle.study_run.specs.Faults.{IsFaultOfAll};
 ghost use Rattle.study_run.specs.Limits.{AreWithin};
 
+use crate::crew::begin_team;
 use crate::fault::StudyFault;
-use crew_pool::{Crew, Gate, Kind, Workers};
+use crew_pool::{Crew, Gate};
 use decision_book::Call;
 use net_model::Model;
 use sim_base::{NoMemory, Steps};
-use standing_crew::{Bell, Member, Team, serve_all};
+use standing_crew::{Bell, Member, serve_all};
 use std::alloc::Global;
 use std::sync::ledger::Ledger;
 use std::sync::{Arc, Wait};
@@ -126,7 +127,7 @@ fn go_on_beside<C: Crew, G: Gate, L: Ledger, R: Threads + Wait + Sync>(
     done
 }
 
-// Goes on to the horizon with a team of so many workers; where there is no memory for it, without one.
+// Goes on to the horizon with a team of the crew, where it has one.
 fn go_on_with_team<C: Crew, G: Gate, L: Ledger, R: Threads + Wait + Sync>(
     rt: &R,
     alloc: Global,
@@ -134,17 +135,14 @@ fn go_on_with_team<C: Crew, G: Gate, L: Ledger, R: Threads + Wait + Sync>(
     gate: &G,
     model: &Model,
     world: World,
-    workers: Workers,
     steps: &mut Steps<L>,
 ) -> Result<World, StudyFault>
     requires under_way { IsUnderWay model.now world }
     ensures goes { GoesToHorizon model.now world steps.old steps.new result }
 {
-    if let Ok((team, members)) = Team::begin(alloc, workers) {
-        if let Ok(bell) = team.bell() {
-            let world = world.with_team(team);
-            return go_on_beside(rt, alloc, crew, gate, model, world, members, &bell, steps);
-        }
+    if let Some((team, members, bell)) = begin_team(alloc, crew.kind()) {
+        let world = world.with_team(team);
+        return go_on_beside(rt, alloc, crew, gate, model, world, members, &bell, steps);
     }
     go_on(rt, alloc, crew, gate, model, world, false, steps)
 }
@@ -162,11 +160,6 @@ fn go_to_horizon<C: Crew, G: Gate, L: Ledger, R: Threads + Wait + Sync>(
     requires under_way { IsUnderWay model.now world }
     ensures goes { GoesToHorizon model.now world steps.old steps.new result }
 {
-    let workers = match crew.kind() {
-        Kind::Serial => return go_on(rt, alloc, crew, gate, model, world, false, steps),
-        Kind::Forked(workers) => workers,
-        Kind::Stealing(workers) => workers,
-    };
     let large = match go_on(rt, alloc, crew, gate, model, world, true, steps) {
         Ok(large) => large,
         Err(fault) => return Err(fault),
@@ -175,7 +168,7 @@ fn go_to_horizon<C: Crew, G: Gate, L: Ledger, R: Threads + Wait + Sync>(
     if large.front() >= model.horizon() {
         return Ok(large);
     }
-    go_on_with_team(rt, alloc, crew, gate, model, large, workers, steps)
+    go_on_with_team(rt, alloc, crew, gate, model, large, steps)
 }
 
 // Runs all clones window by window, up to the horizon.

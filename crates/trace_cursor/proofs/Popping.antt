@@ -10,6 +10,7 @@ use Rattle.std.proofs.lemmas.List.{length-set, get_or-set_same, get_or-set_other
 use Rattle.sim_base.specs.KeyWords.{FitsWord, key_word}
 use Rattle.sim_base.specs.declared.message.Msg.{Msg}
 use Rattle.sim_base.proofs.KeyWords.{words-ordered}
+use Rattle.sim_base.specs.declared.message.TheConstants.{WORD_PLACES}
 use Rattle.run_laws.proofs.Rising.{key_total}
 use Rattle.log_chain.specs.Packing.{FitWords}
 use Rattle.trace_cursor.specs.Tournament.{IsLeast}
@@ -23,7 +24,7 @@ keys_total = on_total (λ (e : E). e.msg) (key_total (λ (m : Msg). m.key.time) 
 -- ---- key_word
 
 -- an entry of a lesser word does not come after
-less_word : (p q : ℕ) (e f : E) → FitsWord e.msg.key → FitsWord f.msg.key → p < 64 → q < 64
+less_word : (p q : ℕ) (e f : E) → FitsWord e.msg.key → FitsWord f.msg.key → p < WORD_PLACES → q < WORD_PLACES
     → key_word p e.msg.key < key_word q f.msg.key → (by_key e f ≡ Less) ⊎ (by_key e f ≡ Equal)
 less_word p q e f a b l k h = elim (words-ordered p q e.msg.key f.msg.key a b l k h) [
   | inl d ↦ inl d
@@ -31,7 +32,7 @@ less_word p q e f a b l k h = elim (words-ordered p q e.msg.key f.msg.key a b l 
 ]
 
 -- and one of a later place comes before
-greater_word : (p q : ℕ) (e f : E) → FitsWord e.msg.key → FitsWord f.msg.key → p < 64 → q < p
+greater_word : (p q : ℕ) (e f : E) → FitsWord e.msg.key → FitsWord f.msg.key → p < WORD_PLACES → q < p
     → key_word p e.msg.key < key_word q f.msg.key → by_key f e ≡ Greater
 greater_word p q e f a b l k h = elim (words-ordered p q e.msg.key f.msg.key a b l (omega arith) h) [
   | inl d ↦ keys_total.antisymm f e ∙ ap ordering_reverse d
@@ -60,7 +61,7 @@ fit_set (x ∷ ls) (suc i) l a b = (a.0, fit_set ls i l a.1 b)
 
 module _ (w : ℕ) (words : List ℕ) (ls : List (List E)) (reserved most : ℕ) (c : IsCursor ls words reserved most)
     (h : IsLeast w words) where
-  few : length words ≤ 64
+  few : length words ≤ WORD_PLACES
   few = c.few
 
   place : length ls ≤ length words
@@ -75,32 +76,32 @@ module _ (w : ℕ) (words : List ℕ) (ls : List (List E)) (reserved most : ℕ)
   at_place = sym (c.words_are h.place h.there) ∙ h.is
 
   -- the least word is that of the list whose place it tells
-  here_of : (l : List E) → get_or ls h.place [] ≡ l → word_of h.place l ≡ w → w % 64 < length ls →
-      word_of (w % 64) (get_or ls (w % 64) []) ≡ w
+  here_of : (l : List E) → get_or ls h.place [] ≡ l → word_of h.place l ≡ w → w % WORD_PLACES < length ls →
+      word_of (w % WORD_PLACES) (get_or ls (w % WORD_PLACES) []) ≡ w
   here_of (x ∷ xs) is e there =
       let p = h.there in
-      let same : w % 64 ≡ h.place = omega (arith, e, p, few) in
+      let same : w % WORD_PLACES ≡ h.place = omega (arith, e, p, few) in
       ap (λ i. word_of i (get_or ls i [])) same ∙ at_place
   here_of [] is e there =
-      let last : w % 64 ≡ 63 = omega (arith, e) in
-      let le = not_less (w % 64) (omega (arith, there, place)) in
-      greatest (get_or ls (w % 64) []) (fit_at ls (w % 64) c.fit) le
+      let last : w % WORD_PLACES ≡ 63 = omega (arith, e) in
+      let le = not_less (w % WORD_PLACES) (omega (arith, there, place)) in
+      greatest (get_or ls (w % WORD_PLACES) []) (fit_at ls (w % WORD_PLACES) c.fit) le
     where
       -- no word is greater
-      greatest : (l : List E) → FitWords l → w ≤ word_of (w % 64) l → word_of (w % 64) l ≡ w
+      greatest : (l : List E) → FitWords l → w ≤ word_of (w % WORD_PLACES) l → word_of (w % WORD_PLACES) l ≡ w
       greatest [] fit le = e
       greatest (y ∷ ys) fit le =
           let a = fit.0.time in let b = fit.0.sender in let d = fit.0.number in
           omega (arith, a, b, d, le, e)
 
-  here : w % 64 < length ls → word_of (w % 64) (get_or ls (w % 64) []) ≡ w
+  here : w % WORD_PLACES < length ls → word_of (w % WORD_PLACES) (get_or ls (w % WORD_PLACES) []) ≡ w
   here = here_of (get_or ls h.place []) refl at_place
 
   -- so that list's first entry is the first of all
-  pub first_is : (e : E) (es : List E) → w % 64 < length ls → get_or ls (w % 64) [] ≡ e ∷ es →
-      merge_all ls ≡ e ∷ merge_all (set ls (w % 64) es)
+  pub first_is : (e : E) (es : List E) → w % WORD_PLACES < length ls → get_or ls (w % WORD_PLACES) [] ≡ e ∷ es →
+      merge_all ls ≡ e ∷ merge_all (set ls (w % WORD_PLACES) es)
   first_is e es there is =
-      let i : ℕ = w % 64 in
+      let i : ℕ = w % WORD_PLACES in
       let word : key_word i e.msg.key ≡ w = sym (ap (word_of i) is) ∙ here there in
       let fe : FitsWord e.msg.key = fit_first ls i e es c.fit is in
       first_of_all [] i ls e es there is (λ f fs q. let a : ⊥ = cc in absurd a)
@@ -117,17 +118,17 @@ module _ (w : ℕ) (words : List ℕ) (ls : List (List E)) (reserved most : ℕ)
       (omega (arith, word, le, wf, behind, lj, place, few)))
 
   -- where that list has nothing left, the word is the greatest
-  greatest_of : (l : List E) → get_or ls h.place [] ≡ l → word_of h.place l ≡ w → get_or ls (w % 64) [] ≡ []
+  greatest_of : (l : List E) → get_or ls h.place [] ≡ l → word_of h.place l ≡ w → get_or ls (w % WORD_PLACES) [] ≡ []
       → w ≡ no_word
   greatest_of [] is e none = sym e
   greatest_of (x ∷ xs) is e none =
       let p = h.there in
-      let same : w % 64 ≡ h.place = omega (arith, e, p, few) in
+      let same : w % WORD_PLACES ≡ h.place = omega (arith, e, p, few) in
       let q : get_or ls h.place [] ≡ [] = subst (λ i. get_or ls i [] ≡ []) same none in
       let a : ⊥ = cc in absurd a
 
   -- and no list has anything left
-  nothing_at : (j : ℕ) (l : List E) → j < length ls → get_or ls j [] ≡ l → get_or ls (w % 64) [] ≡ [] → l ≡ []
+  nothing_at : (j : ℕ) (l : List E) → j < length ls → get_or ls j [] ≡ l → get_or ls (w % WORD_PLACES) [] ≡ [] → l ≡ []
   nothing_at j [] lj is none = refl
   nothing_at j (f ∷ fs) lj is none =
       let top : w ≡ no_word = greatest_of (get_or ls h.place []) refl at_place none in
@@ -135,30 +136,30 @@ module _ (w : ℕ) (words : List ℕ) (ls : List (List E)) (reserved most : ℕ)
       let wf = ap (word_of j) is in
       let ff = fit_first ls j f fs c.fit is in
       let a = ff.time in let b = ff.sender in let d = ff.number in
-      let same : w % 64 ≡ j = omega (arith, top, le, wf, a, b, d, lj, place, few) in
+      let same : w % WORD_PLACES ≡ j = omega (arith, top, le, wf, a, b, d, lj, place, few) in
       let q : get_or ls j [] ≡ [] = subst (λ i. get_or ls i [] ≡ []) same none in
       let x : ⊥ = cc in absurd x
 
   -- no list has an entry left where the list that the least word tells has none
-  pub none_is : get_or ls (w % 64) [] ≡ [] → merge_all ls ≡ []
+  pub none_is : get_or ls (w % WORD_PLACES) [] ≡ [] → merge_all ls ≡ []
   none_is none = none_of_all ls (λ j lj. nothing_at j (get_or ls j []) lj refl none)
 
   -- nor where there is no such list
-  pub none_past : length ls ≤ w % 64 → merge_all ls ≡ []
-  none_past past = none_is (get_or_past ls (w % 64) [] past)
+  pub none_past : length ls ≤ w % WORD_PLACES → merge_all ls ≡ []
+  none_past past = none_is (get_or_past ls (w % WORD_PLACES) [] past)
 
   -- where an entry is left, the least word tells a list
-  pub turn_there : 1 ≤ length (merge_all ls) → w % 64 < length ls
-  turn_there some = elim (cases_lt (w % 64) (length ls)) [
+  pub turn_there : 1 ≤ length (merge_all ls) → w % WORD_PLACES < length ls
+  turn_there some = elim (cases_lt (w % WORD_PLACES) (length ls)) [
     | inl l ↦ l
     | inr l ↦ let e = ap length (none_past l) in absurd (omega (arith, e, some))
   ]
 
   -- which has one
-  pub turn_has : 1 ≤ length (merge_all ls) → 1 ≤ length (get_or ls (w % 64) [])
-  turn_has some = by (get_or ls (w % 64) []) refl
+  pub turn_has : 1 ≤ length (merge_all ls) → 1 ≤ length (get_or ls (w % WORD_PLACES) [])
+  turn_has some = by (get_or ls (w % WORD_PLACES) []) refl
     where
-      by : (l : List E) → get_or ls (w % 64) [] ≡ l → 1 ≤ length l
+      by : (l : List E) → get_or ls (w % WORD_PLACES) [] ≡ l → 1 ≤ length l
       by [] e = let n = ap length (none_is e) in absurd (omega (arith, n, some))
       by (x ∷ xs) e = omega arith
 

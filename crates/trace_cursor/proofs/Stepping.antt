@@ -3,6 +3,7 @@ use Rattle.std.proofs.Common.{◌≡◌, ℕ, zero, suc, ◌+◌, ◌%◌, ◌<�
 use Rattle.std.proofs.Common.{sym, ap, ◌∙◌, subst, arith, length, get_or, set, Option, Some, None}
 use Rattle.std.specs.Prelude.{IfSome, IfNone}
 use Rattle.std.proofs.lemmas.List.{get_or-set_same, set-get_or}
+use Rattle.sim_base.specs.declared.message.TheConstants.{WORD_PLACES}
 use Rattle.run_laws.specs.Merges.{merge}
 use Rattle.log_chain.specs.Packing.{FitWords}
 use Rattle.trace_cursor.specs.Tournament.{IsLeast}
@@ -30,10 +31,10 @@ same_view a b m n p q x y z = ap (λ l. seen l m p) x ∙ (ap (λ k. seen b k p)
 
 module _ (ls : List (List E)) (words : List ℕ) (reserved most : ℕ) (c : IsCursor ls words reserved most)
     (w : ℕ) (h : IsLeast w words)
-    (there : w % 64 < length ls) (old new : List E) (at : old ≡ get_or ls (w % 64) old) (r : Option E)
+    (there : w % WORD_PLACES < length ls) (old new : List E) (at : old ≡ get_or ls (w % WORD_PLACES) old) (r : Option E)
     (some : IfSome r (λ e. old ≡ e ∷ new)) (none : IfNone r ((old ≡ []) × (new ≡ []))) where
   abbrev i : ℕ
-  i = w % 64
+  i = w % WORD_PLACES
 
   at_first : get_or ls i [] ≡ old
   at_first = sym (at ∙ same_element ls i old there)
@@ -88,23 +89,23 @@ module _ (ls : List (List E)) (words : List ℕ) (reserved most : ℕ) (c : IsCu
   some_left = let e = ap (λ (u : CursorView). length u.left) is in omega (arith, e, some)
 
   -- the list whose turn it is is there
-  pub turn_is : w % 64 < length ls
+  pub turn_is : w % WORD_PLACES < length ls
   turn_is = turn_there w words ls reserved most c h some_left
 
   -- and has an entry
-  pub turn_some : (old : List E) → old ≡ get_or ls (w % 64) old → 1 ≤ length old
+  pub turn_some : (old : List E) → old ≡ get_or ls (w % WORD_PLACES) old → 1 ≤ length old
   turn_some old at =
-      let e = ap length (at ∙ same_element ls (w % 64) old turn_is) in
+      let e = ap length (at ∙ same_element ls (w % WORD_PLACES) old turn_is) in
       let n = turn_has w words ls reserved most c h some_left in
       omega (arith, e, n)
 
   -- what it has left fits words
-  pub turn_fits : (old new here : List E) (e : E) → old ≡ get_or ls (w % 64) old → old ≡ e ∷ new
-      → here ≡ get_or (set ls (w % 64) new) (w % 64) here → FitWords here
+  pub turn_fits : (old new here : List E) (e : E) → old ≡ get_or ls (w % WORD_PLACES) old → old ≡ e ∷ new
+      → here ≡ get_or (set ls (w % WORD_PLACES) new) (w % WORD_PLACES) here → FitWords here
   turn_fits old new here e at taken is_here =
-      let all : FitWords (e ∷ new) = subst FitWords (sym (at ∙ same_element ls (w % 64) old turn_is) ∙ taken)
-      (fit_at ls (w % 64) c.fit) in
-      subst FitWords (sym (is_here ∙ get_or-set_same ls (w % 64) new here turn_is)) all.1
+      let all : FitWords (e ∷ new) = subst FitWords (sym (at ∙ same_element ls (w % WORD_PLACES) old turn_is) ∙ taken)
+      (fit_at ls (w % WORD_PLACES) c.fit) in
+      subst FitWords (sym (is_here ∙ get_or-set_same ls (w % WORD_PLACES) new here turn_is)) all.1
 
 -- what is left where a list was added
 pub added : (ls new : List (List E)) (most : ℕ) (l : List E) (v : CursorView) → view_of ls most ≡ v

@@ -3,6 +3,7 @@ use Rattle.std.specs.Prelude.{◌≡◌, ℕ, ◌<◌, ◌≤◌, List, [], leng
 use Rattle.sim_base.specs.declared.entry.Entry.{Entry}
 use Rattle.sim_base.specs.declared.entry.Line.{Line}
 use Rattle.sim_base.specs.declared.message.Msg.{Msg}
+use Rattle.sim_base.specs.declared.message.TheConstants.{WORD_PLACES}
 use Rattle.trace_cursor.specs.Words.{word_of, AllFitWords}
 
 -- what contracts see of a cursor
@@ -19,7 +20,7 @@ AreWordsOf words ls = (j : ℕ) → j < length words → get_or words j 0 ≡ wo
 
 -- the lists that are left, the words of their keys, for how many lists memory is reserved, and how many may be added
 pub record IsCursor (ls : List (List (Entry Msg Line))) (words : List ℕ) (reserved most : ℕ) : Type 0 where
-  pub few : length words ≤ 64
+  pub few : length words ≤ WORD_PLACES
   pub within : length ls ≤ most
   pub there : most ≤ length words
   pub fits : most ≤ reserved

@@ -1,20 +1,18 @@
 -- The rest of a trace is the merge of the rests of the logs, station after station.
-use Rattle.std.specs.Prelude.{◌≡◌, ℕ, zero, suc, List, []}
+use Rattle.std.specs.Prelude.{◌≡◌, ℕ, List}
 use Rattle.sim_base.specs.Clones.{Clone}
 use Rattle.sim_base.specs.declared.entry.Entry.{Entry}
 use Rattle.run_laws.specs.Queue.{Sorted}
 use Rattle.run_laws.specs.Simulation.{Simulation}
 use Rattle.run_laws.specs.Runs.{trace_of, log_at}
 use Rattle.run_laws.specs.Handlers.{AreForStations}
-use Rattle.run_laws.specs.Merges.{merge, entry_order}
-use Rattle.run_laws.specs.SharedTexts.{from_on}
+use Rattle.run_laws.specs.Merges.{entry_order, merge_of_lists}
+use Rattle.run_laws.specs.SharedTexts.{from_on, log_from}
 
 module _ {S M N : Type 0} (sim : Simulation S M N) (sender number : M → ℕ) where
   -- what the logs of the stations 1 to n have from a time on, merged
   abbrev pub merge_of_rests : Clone → ℕ → ℕ → List (Entry M N)
-  merge_of_rests c t zero = []
-  merge_of_rests c t (suc n) = merge (entry_order sim.time sender number) (merge_of_rests c t n)
-      (from_on sim t (log_at sim c (suc n) sim.horizon))
+  merge_of_rests c t n = merge_of_lists sim sender number (log_from sim c t) n
 
   -- for all stations it is what the trace has from there on
   abbrev pub RestIsMerge : Type 0

@@ -1,5 +1,6 @@
 //! The merge of several logs by time stamp, sender and sequence number, entry by entry.
 ghost use Rattle.std.specs.Prelude.{◌≡◌, ◌∷◌, [], ◌+◌, ◌<◌, ◌≤◌, IfSome, IfNone, IfOk, length};
+ghost use Rattle.sim_base.specs.declared.message.TheConstants.{WORD_PLACES};
 ghost use Rattle.run_laws.specs.Merges.{merge};
 ghost use Rattle.log_chain.specs.Packing.{FitWords};
 ghost use Rattle.log_chain.specs.Stored.{entry_in};
@@ -7,6 +8,7 @@ ghost use Rattle.trace_cursor.specs.Words.{by_key, word_of};
 
 use crate::tree::Tree;
 use log_chain::{StoredEntry, Walk};
+use sim_base::message::WORD_PLACES;
 use sim_base::{Entry, NoMemory};
 use std::alloc::Global;
 use std::marker::Model;
@@ -39,7 +41,7 @@ impl<'a> Cursor<'a> {
     /// No logs; so many may be added. It takes all the memory here that a cursor ever takes.
     pub fn new(alloc: Global, most: usize) -> Result<Cursor<'a>, NoMemory>
         requires some { 1 ≤ most }
-        requires few { most ≤ 64 }
+        requires few { most ≤ WORD_PLACES }
         ensures value { IfOk result (λ c. c ≡ record { left = []; logs = 0; most = most }) }
     {
         let walks = Vec::with_capacity(alloc, most)?;
@@ -80,7 +82,7 @@ impl<'a> Cursor<'a> {
         ensures logs { self.new.logs ≡ self.old.logs }
         ensures most { self.new.most ≡ self.old.most }
     {
-        let place = self.tree.least() % 64;
+        let place = self.tree.least() % WORD_PLACES;
         let i = place as usize;
         if i >= self.walks.len() {
             return None;
@@ -98,7 +100,7 @@ impl<'a> Cursor<'a> {
         ensures logs { self.new.logs ≡ self.old.logs }
         ensures most { self.new.most ≡ self.old.most }
     {
-        let place = self.tree.least() % 64;
+        let place = self.tree.least() % WORD_PLACES;
         let i = place as usize;
         let entry = self.walks[i].take();
         self.tree.set(i, word(&self.walks[i], place));
@@ -108,10 +110,10 @@ impl<'a> Cursor<'a> {
 
 // The least power of two that is not less than `most`.
 fn places(most: usize) -> usize
-    requires few { most ≤ 64 }
+    requires few { most ≤ WORD_PLACES }
     ensures all { most ≤ result }
     ensures some { 1 ≤ result }
-    ensures few { result ≤ 64 }
+    ensures few { result ≤ WORD_PLACES }
 {
     match most {
         0..=1 => 1,
@@ -127,7 +129,7 @@ fn places(most: usize) -> usize
 // The key of the next entry as a word, with the place of the walk; the greatest word at the end.
 #[inline(always)]
 fn word(walk: &Walk<'_>, place: u64) -> u64
-    requires few { place < 64 }
+    requires few { place < WORD_PLACES }
     requires fit { FitWords walk.now }
     ensures value { result ≡ word_of place walk.now }
 {

@@ -2,10 +2,14 @@
 ghost use Rattle.std.specs.Prelude.{◌≡◌, ◌+◌, ◌-◌, ◌^◌, ◌<◌, ◌≤◌, length, replicate, slice_set, IfOk};
 ghost use Rattle.trace_cursor.specs.Tournament.{beside, IsLeast};
 ghost use Rattle.trace_cursor.specs.Words.{no_word};
+ghost use Rattle.trace_cursor.specs.declared.tree.TheConstants.{MOST_WORDS};
 
 use sim_base::NoMemory;
 use std::alloc::Global;
 use std::marker::Model;
+
+/// The most words of a tournament.
+pub const MOST_WORDS: usize = 1_048_576;
 
 /// Words, and the least of them at hand: a change costs one `min` a level.
 #[derive(Drop)]
@@ -30,7 +34,7 @@ impl Tree {
     /// So many words, each the greatest.
     pub fn new(alloc: Global, count: usize) -> Result<Tree, NoMemory>
         requires some { 1 ≤ count }
-        requires few { count ≤ 1048576 }
+        requires few { count ≤ MOST_WORDS }
         ensures value { IfOk result (λ t. t ≡ replicate count no_word) }
     {
         let nodes = vec![in alloc; u64::MAX; 2 * count]?;

@@ -1,7 +1,7 @@
 -- The text of a clone's trace: a head, and then a line for each message that was handled.
 use Rattle.std.specs.Prelude.{◌==◌, ℕ, ◌++◌, if◌then◌else◌, List}
-use Rattle.std.specs.Prelude.{[], ◌∷◌, Option, Some, None, codes, decimal}
-use Rattle.std.specs.List.{flat_map, join_with_byte}
+use Rattle.std.specs.Prelude.{[], Option, Some, None, codes, decimal}
+use Rattle.std.specs.List.{flat_map}
 use Rattle.sim_base.specs.Params.{param_word, param_values}
 use Rattle.sim_base.specs.declared.entry.Entry.{Entry}
 use Rattle.sim_base.specs.declared.entry.Line.{Line}
@@ -13,10 +13,6 @@ use Rattle.sim_base.specs.declared.message.Msg.{Msg}
 use Rattle.sim_base.specs.declared.message.Payload.{Payload}
 use Rattle.sim_base.specs.declared.message.Payload.TheVariants.{Tick, Job, Done, Set}
 use Rattle.net_model.specs.Net.{Net, Site, site_at, site_of, class_of_kind}
-
--- words, with a space between each two and a line feed at the end
-abbrev pub line_of : List (List ℕ) → List ℕ
-line_of words = join_with_byte 32 words ++ codes "\n"
 
 -- the name of a station, or that of the analyst where there is no station
 abbrev pub name_or_analyst : Option Site → List ℕ
@@ -66,16 +62,11 @@ key_text net key to =
     decimal key.time ++ codes " " ++ station_name net to ++ codes " " ++ station_name net key.sender ++ codes " "
     ++ decimal key.number ++ codes " "
 
--- the time, the receiver, the sender, its running count, what the message tells, and the counts after it
+-- the line of an entry: its key, what the message tells, and the counts after it
 abbrev pub entry_line : Net → Entry Msg Line → List ℕ
 entry_line net entry =
-    line_of (
-    decimal entry.msg.key.time
-    ∷ station_name net entry.msg.to
-    ∷ station_name net entry.msg.key.sender
-    ∷ decimal entry.msg.key.number
-    ∷ payload_text net entry.msg.payload
-    ∷ counts_text entry.line ∷ [])
+    key_text net entry.msg.key entry.msg.to ++ payload_text net entry.msg.payload ++ codes " "
+    ++ counts_text entry.line ++ codes "\n"
 
 -- the trace text of a clone of this name with these entries
 abbrev pub trace_text : Net → List ℕ → List (Entry Msg Line) → List ℕ

@@ -9,7 +9,7 @@ use crate::digits::digits;
 use crate::line::word_of;
 use crate::names::Names;
 use net_model::Model;
-use sim_base::{Change, Entry, Job, Line, Param, Payload};
+use sim_base::{Change, Entry, Job, Line, Payload};
 
 #[inline(always)]
 fn station_len(model: &Model, names: &Names, s: u32) -> usize
@@ -49,9 +49,10 @@ fn values_len(change: &Change) -> usize
     ensures value { result ≡ length (values_text change.now) }
     ensures short { result ≤ 41 }
 {
-    match change.param {
-        Param::Servers | Param::Room => digits(change.a),
-        _ => digits(change.a) + 1 + digits(change.b),
+    if change.param.values() == 2 {
+        digits(change.a) + 1 + digits(change.b)
+    } else {
+        digits(change.a)
     }
 }
 

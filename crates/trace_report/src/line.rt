@@ -74,9 +74,10 @@ fn put_values(bytes: &mut [u8], at: usize, change: &Change) -> usize
     ensures near { result ≤ at + 41 }
 {
     let at = put_number(bytes, at, change.a);
-    match change.param {
-        Param::Servers | Param::Room => at,
-        _ => put_count(bytes, at, b" ", change.b),
+    if change.param.values() == 2 {
+        put_count(bytes, at, b" ", change.b)
+    } else {
+        at
     }
 }
 

@@ -4,8 +4,12 @@ ghost use Rattle.net_model.specs.Net.{site_at};
 ghost use Rattle.net_model.specs.Sites.{as_site};
 ghost use Rattle.trace_report.specs.TraceText.{station_name};
 
+use net_model::limits::MOST_STATIONS;
 use net_model::{Model, Station};
 use sim_base::Name;
+
+// The numbers of stations, and that of the analyst.
+pub(crate) const SLOTS: usize = MOST_STATIONS + 1;
 
 /// What lines show of a station: its name, and the class of the jobs that it makes.
 #[derive(Clone, Copy)]
@@ -18,7 +22,7 @@ pub struct Slot {
 #[derive(Drop)]
 pub struct Names {
     // By the number of a station; where there is none, the analyst's.
-    slots: [Slot; 65],
+    slots: [Slot; SLOTS],
 }
 
 impl std::marker::Model for Names {
@@ -72,8 +76,8 @@ impl Names {
             name: analyst(),
             class: 1,
         };
-        let mut slots = [analyst; 65];
-        for s in 0..65u32 {
+        let mut slots = [analyst; SLOTS];
+        for s in 0..SLOTS as u32 {
             slots[s as usize] = Slot {
                 name: name_of(model, s),
                 class: model.class_of(s),
@@ -89,7 +93,7 @@ impl Names {
         requires names { AreNames _model.now self.now }
         ensures value { result.now ≡ slot_of _model.now s }
     {
-        if s > 64 {
+        if s as usize >= SLOTS {
             return &self.slots[0];
         }
         &self.slots[s as usize]

@@ -2,6 +2,7 @@
 ghost use Rattle.std.specs.Prelude.{◌≡◌, ◌+◌, ◌*◌, ◌<◌, ◌≤◌, ◌^◌, ◌++◌, length, take, sum_by, IfOk};
 ghost use Rattle.std.specs.List.{flat_map, zip};
 ghost use Rattle.trace_report.specs.ReportText.{report_text as report_of, station_line, total_line};
+ghost use Rattle.trace_report.specs.declared.report.TheConstants.{MOST_REPORT_LINE};
 ghost use Rattle.net_model.specs.Sites.{as_site};
 
 use crate::pieces::{put, put_count, put_name};
@@ -10,13 +11,13 @@ use sim_base::{Figures, NoMemory};
 use std::alloc::Global;
 
 // No line of a report is longer.
-const LINE: usize = 128;
+pub(crate) const MOST_REPORT_LINE: usize = 128;
 
 fn write_figures(bytes: &mut [u8], at: usize, station: &Station, figures: &Figures) -> usize
-    requires free { at + 128 ≤ length bytes.old }
+    requires free { at + MOST_REPORT_LINE ≤ length bytes.old }
     ensures text { take result bytes.new ≡ take at bytes.old ++ station_line (as_site station.now) figures.now }
     ensures size { length bytes.new ≡ length bytes.old }
-    ensures near { result ≤ at + 128 }
+    ensures near { result ≤ at + MOST_REPORT_LINE }
 {
     let at = put_name(bytes, at, &station.name);
     let at = put_count(bytes, at, b" copies=", figures.copies);
@@ -28,11 +29,11 @@ fn write_figures(bytes: &mut [u8], at: usize, station: &Station, figures: &Figur
 // The lines of all stations, one after the other.
 fn write_stations(bytes: &mut [u8], start: usize, model: &Model, figures: &[Figures]) -> usize
     requires all { length figures.now ≡ length model.now.sites }
-    requires free { start + 128 * length model.now.sites ≤ length bytes.old }
+    requires free { start + MOST_REPORT_LINE * length model.now.sites ≤ length bytes.old }
     ensures text { take result bytes.new ≡ take start bytes.old
         ++ flat_map (λ beside. station_line beside.0 beside.1) (zip model.now.sites figures.now) }
     ensures size { length bytes.new ≡ length bytes.old }
-    ensures near { result ≤ start + 128 * length model.now.sites }
+    ensures near { result ≤ start + MOST_REPORT_LINE * length model.now.sites }
 {
     let mut at = start;
     for s in 0..model.len() {
@@ -58,10 +59,10 @@ fn alone_in_all(figures: &[Figures]) -> u64
 fn write_total(bytes: &mut [u8], at: usize, figures: &[Figures]) -> usize
     requires handled { sum_by (λ f. f.handled) figures.now < 2 ^ 64 }
     requires alone { sum_by (λ f. f.alone) figures.now < 2 ^ 64 }
-    requires free { at + 128 ≤ length bytes.old }
+    requires free { at + MOST_REPORT_LINE ≤ length bytes.old }
     ensures text { take result bytes.new ≡ take at bytes.old ++ total_line figures.now }
     ensures size { length bytes.new ≡ length bytes.old }
-    ensures near { result ≤ at + 128 }
+    ensures near { result ≤ at + MOST_REPORT_LINE }
 {
     let at = put_count(bytes, at, b"total handled=", handled_in_all(figures));
     let at = put_count(bytes, at, b" alone=", alone_in_all(figures));
@@ -75,7 +76,7 @@ pub fn report_text(alloc: Global, model: &Model, figures: &[Figures]) -> Result<
     requires alone { sum_by (λ f. f.alone) figures.now < 2 ^ 64 }
     ensures { IfOk result (λ text. text.items ≡ report_of model.now figures.now) }
 {
-    let mut text = vec![in alloc; 0u8; LINE * (model.len() as usize + 2)]?;
+    let mut text = vec![in alloc; 0u8; MOST_REPORT_LINE * (model.len() as usize + 2)]?;
     let at = put(&mut text, 0, b"report\n");
     let at = write_stations(&mut text, at, model, figures);
     let end = write_total(&mut text, at, figures);

@@ -2,14 +2,11 @@
 ghost use Rattle.std.specs.Prelude.{◌≡◌, IfOk};
 ghost use Rattle.trace_report.specs.TraceText.{trace_text as trace_of};
 
-use crate::line::write_line;
+use crate::line::{MOST_LINE, write_line};
 use crate::names::Names;
 use net_model::Model;
 use sim_base::{Entry, Name, NoMemory};
 use std::alloc::Global;
-
-// A line and what its pieces may reach past its end.
-const PAGE: usize = 512;
 
 /// The trace text of a clone: its name, and a line for each message that it handled.
 ///
@@ -27,7 +24,7 @@ pub fn trace_text(
     let mut text = Vec::from_slice(alloc, b"clone ")?;
     text.extend_from_slice(name.as_bytes())?;
     text.extend_from_slice(b"\n")?;
-    let mut page = [0u8; PAGE];
+    let mut page = [0u8; MOST_LINE];
     for entry in entries {
         let end = write_line(&mut page, 0, model, &names, entry);
         text.extend_from_slice(&page[..end])?;

@@ -10,7 +10,7 @@ use Rattle.sim_base.specs.declared.decision.Decision.{Decision}
 use Rattle.sim_base.specs.declared.decision.Decision.TheVariants.{Fork, Set, End}
 use Rattle.sim_base.specs.declared.message.Change.{Change}
 use Rattle.sim_base.specs.declared.lists.TheConstants.{MOST_DECISIONS}
-use Rattle.net_model.specs.Net.{Net, number_of, site_of}
+use Rattle.net_model.specs.Net.{Net, station_named, site_of}
 use Rattle.stations.specs.declared.change.ChangeFault.{ChangeFault}
 use Rattle.stations.specs.declared.change.ChangeFault.TheVariants as refused
 use Rattle.stations.specs.Changes.{accepts}
@@ -83,7 +83,7 @@ from_one (Some i) s h = let same : i + 1 ≡ s = cc in omega arith
 -- a set's station is there, its time is not late, and the list of its clone is not full
 pub record MaySet (net : Net) (cs : List Clone) (front c at : ℕ) (station : List ℕ) : Type 0 where
   pub number : ℕ
-  pub found : number_of station net ≡ Some number
+  pub found : station_named station net ≡ Some number
   pub low : 1 ≤ number
   pub late : front ≤ at
   pub early : at < net.horizon
@@ -93,9 +93,9 @@ pub record MaySet (net : Net) (cs : List Clone) (front c at : ℕ) (station : Li
 pub may_set : (net : Net) (cs : List Clone) (front c at : ℕ) (who station : List ℕ) (change : Change)
     → first_row (rows (situation net cs front) c (Set who at station change)) ≡ Accepted
     → MaySet net cs front c at station
-may_set net cs front c at who station change h = by (number_of station net) refl h
+may_set net cs front c at who station change h = by (station_named station net) refl h
   where
-    after : (s : ℕ) → number_of station net ≡ Some s
+    after : (s : ℕ) → station_named station net ≡ Some s
         → first_row (fault_row (accepts (site_of net s) change) ∷ row
         (nat_le MOST_DECISIONS (length (clone_at cs c).plans)) ListFull ∷ time_rows net front at) ≡ Accepted
         → MaySet net cs front c at station
@@ -114,7 +114,7 @@ may_set net cs front c at who station change h = by (number_of station net) refl
           short = above MOST_DECISIONS (length (clone_at cs c).plans) b.0;
         }
 
-    by : (o : Option ℕ) → number_of station net ≡ o
+    by : (o : Option ℕ) → station_named station net ≡ o
         → first_row (row (is_none o) UnknownStation ∷ change_row net o change ∷ row
         (nat_le MOST_DECISIONS (length (clone_at cs c).plans)) ListFull ∷ time_rows net front at) ≡ Accepted
         → MaySet net cs front c at station

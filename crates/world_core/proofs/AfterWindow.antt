@@ -44,7 +44,8 @@ use Rattle.world_core.specs.Windows.{all_sent, done_at, sent_at, after_window, a
 
 module _ (net : Net) (ends : ℕ → ℕ) where
   -- messages given one after the other
-  given_so_far : (ms msgs : MarkedMessages) (new done : List StationCopy) → SoFarGiven (simulation net) has ends msgs new done
+  given_so_far : (ms msgs : MarkedMessages) (new done : List StationCopy)
+      → SoFarGiven (simulation net) has ends msgs new done
       → SoFarGiven (simulation net) has ends (msgs ++ ms) new (with_mail ms done)
   given_so_far [] msgs new done f = subst (λ l. SoFarGiven (simulation net) has ends l new done)
       (sym (append-nil msgs)) f
@@ -58,7 +59,8 @@ module _ (net : Net) (ends : ℕ → ℕ) where
       order = record { total = msg_total; same = msg_same }
 
   -- what a clone takes of the messages to a station
-  taken_to : (i c : ℕ) (ms : MarkedMessages) (z : Msg) → In z (messages_taken (simulation net) has ends c (sent_to i ms))
+  taken_to : (i c : ℕ) (ms : MarkedMessages) (z : Msg)
+      → In z (messages_taken (simulation net) has ends c (sent_to i ms))
       → In z (messages_taken (simulation net) has ends c ms) × (z.to ≡ i + 1)
   taken_to i c [] z h = absurd h
   taken_to i c (x ∷ ms) z h = elim (cases_Bool (x.0.to == i + 1)) [
@@ -87,7 +89,8 @@ module _ (net : Net) (ends : ℕ → ℕ) where
         ]
   ]
 
-  to_taken : (i c : ℕ) (ms : MarkedMessages) (z : Msg) → In z (messages_taken (simulation net) has ends c ms) → z.to ≡ i + 1
+  to_taken : (i c : ℕ) (ms : MarkedMessages) (z : Msg) → In z (messages_taken (simulation net) has ends c ms)
+      → z.to ≡ i + 1
       → In z (messages_taken (simulation net) has ends c (sent_to i ms))
   to_taken i c [] z h e = absurd h
   to_taken i c (x ∷ ms) z h e = elim (cases_Bool (takes (simulation net) has ends x.0 x.1 c)) [

@@ -73,7 +73,8 @@ sorted_none m k sent procs posts n h = record {
 }
 
 -- the next message is for the station at place j
-pub sorted_one : (m : Msg) (k : CloneSet) (sent : MarkedMessages) (procs : List ProcView) (posts : List PostView) (j : ℕ)
+pub sorted_one : (m : Msg) (k : CloneSet) (sent : MarkedMessages) (procs : List ProcView) (posts : List PostView)
+    (j : ℕ)
     (old new : PostView) → j < length posts → m.to ≡ j + 1 → old ≡ get_or posts j old → new.proc ≡ old.proc
     → new.mail ≡ old.mail ++ (m, k) ∷ [] → ArePosts sent procs posts
     → ArePosts (sent ++ (m, k) ∷ []) procs (slice_set posts j new)
@@ -99,7 +100,8 @@ sorted_one m k sent procs posts j old new l to is proc mail h = record {
 -- ---- giving
 
 -- messages, and then one more
-pub given_next : (ms : MarkedMessages) (x : Msg × CloneSet) (first second third : ProcView) → IsDeliveredTo ms first second
+pub given_next : (ms : MarkedMessages) (x : Msg × CloneSet) (first second third : ProcView)
+    → IsDeliveredTo ms first second
     → IsDeliveredTo (x ∷ []) second third → IsDeliveredTo (ms ++ x ∷ []) first third
 given_next ms x first second third a b = record {
   copies = b.copies ∙ ap (with_mail (x ∷ [])) a.copies ∙ sym (with_mail-append ms (x ∷ []) first.copies);

@@ -9,7 +9,7 @@ use Rattle.std.proofs.lemmas.List.{length_push}
 use Rattle.sim_base.specs.Order.{msg_cmp}
 use Rattle.sim_base.specs.Marked.{SortedMarked}
 use Rattle.sim_base.specs.Same.{same_entry}
-use Rattle.sim_base.specs.Clones.{Clone, clone_at, clones_with_plan, clones_with_end, clones_with_fork}
+use Rattle.sim_base.specs.Clones.{Clone, clone_at, clones_with_plan, clones_with_end, clones_with_fork, fork_of}
 use Rattle.sim_base.specs.declared.message.Msg.{Msg}
 use Rattle.sim_base.specs.declared.decision.Planned.{Planned}
 use Rattle.sim_base.specs.declared.lists.TheConstants.{MOST_CLONES}
@@ -55,7 +55,7 @@ lives_not net cs ended front procs world = λ i p got. (world.each i p got).livi
 module _ (net : Net) (cs : List Clone) (name : List ℕ) (old : ℕ) (there : old < length cs)
     (open_end : (clone_at cs old).end ≡ None) where
   abbrev new_clone : Clone
-  new_clone = record { name = name; plans = (clone_at cs old).plans; end = None }
+  new_clone = fork_of (clone_at cs old) name
 
   ends_forked : (c : ℕ) → ends_of (simulation net) cs c ≡ ends_of (simulation net) (clones_with_fork cs name old) c
   ends_forked c = elim (cases_eq c (length cs)) [

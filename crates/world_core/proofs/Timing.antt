@@ -7,8 +7,7 @@ use Rattle.run_laws.proofs.Queue.{all_in}
 use Rattle.run_laws.proofs.Parts.{all_part_of}
 use Rattle.run_laws.proofs.Leasts.{least-either}
 use Rattle.phys_proc.specs.Own.{StationCopy, IsLate, AreLate, taken_at, takes_at}
-use Rattle.phys_proc.specs.Procs.{IsTakenBy, IsLeastTime}
-use Rattle.world_core.specs.Due.{IsWithLeast}
+use Rattle.phys_proc.specs.Procs.{IsTakenBy, IsLeastTime, IsWithLeast}
 use Rattle.world_core.proofs.DueTimes.{time_of, by_law, by_words}
 
 -- what a clone takes of copies of which nothing is pending before a time comes at that time or later

@@ -3,7 +3,6 @@ pub mod Windows
 pub mod Opening
 pub mod Overs
 pub mod Stepping
-pub mod Due
 pub mod Taking
 pub mod Forking
 pub mod Tracing

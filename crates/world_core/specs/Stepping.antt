@@ -15,7 +15,8 @@ FirstOver flows (Some p) = IsFirstOver flows p.0 p.1
 
 -- the station at place i has answered, what it sent stands behind what the others sent before, and the others stand as
 -- they did
-pub record SteppedAt (net : Net) (ends : ℕ → ℕ) (bound i : ℕ) (olds news : List ProcView) (before after : MarkedMessages)
+pub record SteppedAt (net : Net) (ends : ℕ → ℕ) (bound i : ℕ) (olds news : List ProcView)
+    (before after : MarkedMessages)
     (over : CloneSet) (handled : ℕ) : Type 0 where
   pub flow : Flow
   pub is_flow : (p : ProcView) → slice_get olds i ≡ Some p → IsFlow net ends bound i p flow

@@ -1,5 +1,6 @@
 //! After a window each station (a logical process) gets the messages that the others sent to it.
 ghost use Rattle.std.specs.Prelude.{◌≡◌, ◌∷◌, [], ◌<◌, ◌≤◌, length, IfOk, OnOk};
+ghost use Rattle.net_model.specs.declared.limits.TheConstants.{MOST_STATIONS};
 ghost use Rattle.world_core.specs.Windows.{AllDelivered, AreNumbered, MayStep};
 
 use crate::jobs::{mail_for, procs_of};
@@ -57,7 +58,7 @@ fn give_by_team<L: Ledger, R: Wait>(
     sent: &[(Msg, CloneSet)],
     blank: Blank,
 ) -> Result<(Vec<TimedProc>, Team<Window>), NoMemory>
-    requires few { length procs.items ≤ 64 }
+    requires few { length procs.items ≤ MOST_STATIONS }
     requires numbered { AreNumbered procs.items }
     requires name { blank.name ≡ L.name }
     requires parts { blank.parts ≡ L.parts }
@@ -87,7 +88,7 @@ pub(crate) fn give_all<R: Wait>(
     small: bool,
 ) -> Result<(Vec<TimedProc>, Option<Team<Window>>), NoMemory>
     requires step { MayStep model.now.value bound }
-    requires few { length procs.items ≤ 64 }
+    requires few { length procs.items ≤ MOST_STATIONS }
     requires numbered { AreNumbered procs.items }
     ensures given { IfOk result (λ r. AllDelivered sent.now procs.items r.0.items) }
 {

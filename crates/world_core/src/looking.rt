@@ -1,14 +1,12 @@
 //! What a world tells: due times, the next front (window boundary) and the report's figures.
-ghost use Rattle.std.specs.Prelude.{◌≡◌, ℕ, ◌*◌, ◌<◌, ◌≤◌, length, sum_by};
+ghost use Rattle.std.specs.Prelude.{◌≡◌, ◌*◌, ◌<◌, ◌≤◌, length};
 ghost use Rattle.std.specs.List.{AllByRecursion};
 ghost use Rattle.sim_base.specs.Clones.{clone_at};
 ghost use Rattle.sim_base.specs.declared.lists.TheConstants.{MOST_CLONES};
-ghost use Rattle.clone_sets.specs.Sets.{size};
-ghost use Rattle.net_model.specs.Net.{Net};
 ghost use Rattle.net_model.specs.declared.limits.TheConstants.{MOST_LIMIT};
 ghost use Rattle.stations.specs.Runs.{simulation, next_front, copies, handled_once, handled_alone};
 ghost use Rattle.run_laws.specs.Fronts.{least_of, least};
-ghost use Rattle.phys_proc.specs.Own.{IsCopy, handled_alone_by, all_sizes};
+ghost use Rattle.phys_proc.specs.Own.{handled_alone_by, all_sizes};
 
 use crate::world::World;
 use phys_proc::PhysCopy;

@@ -2,6 +2,7 @@
 //! them. The caller only sorts the messages by station, so that the lists of a station's copies are not moved between
 //! processors.
 ghost use Rattle.std.specs.Prelude.{◌≡◌, ◌≤◌, ◌++◌, ◌∷◌, [], List, length, map, IfOk, OnOk};
+ghost use Rattle.net_model.specs.declared.limits.TheConstants.{MOST_STATIONS};
 ghost use Rattle.phys_proc.specs.Own.{MarkedMessages};
 ghost use Rattle.phys_proc.specs.Procs.{ProcView};
 ghost use Rattle.world_core.specs.Windows.{IsDeliveredTo};
@@ -65,7 +66,8 @@ impl Post {
 
 // The message is put into the mail of the station that it is for, if there is one.
 fn put_in(posts: &mut Vec<Post>, msg: Msg, set: CloneSet) -> Result<(), NoMemory>
-    ensures sorted { OnOk result ((sent : MarkedMessages) (procs : List ProcView) → ArePosts sent procs posts.old.items →
+    ensures sorted { OnOk result ((sent : MarkedMessages) (procs : List ProcView) →
+        ArePosts sent procs posts.old.items →
         ArePosts (sent ++ (msg, set) ∷ []) procs posts.new.items) }
 {
     if 1 <= msg.to && msg.to as usize <= posts.len() {
@@ -94,7 +96,7 @@ pub(crate) fn posts_of(
     procs: Vec<TimedProc>,
     sent: &[(Msg, CloneSet)],
 ) -> Result<Vec<Post>, NoMemory>
-    requires few { length procs.items ≤ 64 }
+    requires few { length procs.items ≤ MOST_STATIONS }
     ensures posts { IfOk result (λ posts. ArePosts sent.now procs.items posts.items) }
 {
     let mut posts = with_no_mail(alloc, procs)?;

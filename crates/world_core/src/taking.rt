@@ -1,5 +1,5 @@
 //! Decisions that a world takes: forks, sets and ends, at its front (window boundary).
-ghost use Rattle.std.specs.Prelude.{◌≡◌, ℕ, ◌+◌, ◌<◌, ◌≤◌, None, length, IfOk, slice_get, Some};
+ghost use Rattle.std.specs.Prelude.{◌≡◌, ◌<◌, ◌≤◌, None, length, IfOk, Some};
 ghost use Rattle.sim_base.specs.Clones.{clone_at, place_of, clones_with_fork, clones_with_plan, clones_with_end};
 ghost use Rattle.sim_base.specs.declared.lists.TheConstants.{MOST_CLONES};
 ghost use Rattle.stations.specs.Runs.{set_message};
@@ -54,13 +54,13 @@ impl World {
     {
         let mut world = self;
         for call in fresh {
-            world = world.decided(alloc, &call.decision)?;
+            world = world.with_decision(alloc, &call.decision)?;
         }
         Ok(world)
     }
 
     // Takes one decision that was accepted.
-    fn decided(self, alloc: Global, decision: &Decision) -> Result<World, NoMemory>
+    fn with_decision(self, alloc: Global, decision: &Decision) -> Result<World, NoMemory>
         requires accepted { IsAccepted self.net self.clones self.front decision.now }
         ensures net { IfOk result (λ w. w.net ≡ self.net) }
         ensures front { IfOk result (λ w. w.front ≡ self.front) }
@@ -71,7 +71,7 @@ impl World {
         };
         match *decision {
             Decision::Fork { new, .. } => {
-                let world = self.forked(alloc, new, clone)?;
+                let world = self.with_fork(alloc, new, clone)?;
                 Ok(world)
             }
             Decision::Set {
@@ -101,7 +101,7 @@ impl World {
     }
 
     /// A new clone stands beside its old one, which has no end.
-    pub(crate) fn forked(self, alloc: Global, new: Name, old: u32) -> Result<World, NoMemory>
+    pub(crate) fn with_fork(self, alloc: Global, new: Name, old: u32) -> Result<World, NoMemory>
         requires there { old < length self.clones }
         requires open { (clone_at self.clones old).end ≡ None }
         requires unused { place_of new self.clones ≡ None }
@@ -140,7 +140,7 @@ impl World {
         requires there { who < length self.clones }
         requires low { 1 ≤ plan.station }
         requires high { plan.station ≤ length self.net.sites }
-        requires late { self.front ≤ plan.at }
+        requires not_late { self.front ≤ plan.at }
         ensures net { IfOk result (λ w. w.net ≡ self.net) }
         ensures front { IfOk result (λ w. w.front ≡ self.front) }
         ensures clones { IfOk result (λ w. w.clones ≡ clones_with_plan self.clones who plan) }
@@ -174,7 +174,7 @@ impl World {
     pub(crate) fn with_end(self, alloc: Global, who: u32, at: u64) -> Result<World, NoMemory>
         requires there { who < length self.clones }
         requires open { (clone_at self.clones who).end ≡ None }
-        requires late { self.front ≤ at }
+        requires not_late { self.front ≤ at }
         requires early { at ≤ self.net.horizon }
         ensures net { IfOk result (λ w. w.net ≡ self.net) }
         ensures front { IfOk result (λ w. w.front ≡ self.front) }

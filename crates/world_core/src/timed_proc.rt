@@ -9,9 +9,8 @@ ghost use Rattle.stations.specs.Runs.{simulation};
 ghost use Rattle.run_laws.specs.Copies.{IsForked, IsStepped, AreOver, GainTogether, Stands};
 ghost use Rattle.phys_proc.specs.Own.{with_message, AreLate};
 ghost use Rattle.phys_proc.specs.Gone.{ends_in};
-ghost use Rattle.phys_proc.specs.Procs.{IsProc, IsLeastOf, AreShared};
+ghost use Rattle.phys_proc.specs.Procs.{IsProc, IsLeastOf, IsWithLeast, AreShared};
 ghost use Rattle.phys_proc.specs.Racks.{view_of_copy};
-ghost use Rattle.world_core.specs.Due.{IsWithLeast};
 
 use clone_sets::CloneSet;
 use net_model::Model;

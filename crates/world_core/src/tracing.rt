@@ -1,5 +1,5 @@
 //! The trace of a clone, out of the logs of the copies (physical processes) that stand for it.
-ghost use Rattle.std.specs.Prelude.{◌≡◌, ◌<◌, ◌≤◌, ◌+◌, length, IfOk, IfSome, IfNone, true, false};
+ghost use Rattle.std.specs.Prelude.{◌≡◌, ◌<◌, ◌≤◌, ◌+◌, length, IfOk, IfSome, IfNone, false};
 ghost use Rattle.std.specs.List.{AllByRecursion};
 ghost use Rattle.sim_base.specs.Clones.{clone_at};
 ghost use Rattle.sim_base.specs.declared.lists.TheConstants.{MOST_CLONES};
@@ -36,7 +36,7 @@ fn entries(alloc: Global, log: &Log) -> Result<Vec<Entry>, NoMemory>
 }
 
 // Both lists, each in order, as one.
-fn merged(alloc: Global, xs: &[Entry], ys: &[Entry]) -> Result<Vec<Entry>, NoMemory>
+fn merge_logs(alloc: Global, xs: &[Entry], ys: &[Entry]) -> Result<Vec<Entry>, NoMemory>
     ensures value { IfOk result (λ v. v.items ≡ merge by_key xs.now ys.now) }
 {
     let mut out = Vec::with_capacity(alloc, xs.len().saturating_add(ys.len()))?;
@@ -99,7 +99,7 @@ impl World {
                 unreachable!()
             };
             let log = entries(alloc, log)?;
-            trace = merged(alloc, trace.as_slice(), log.as_slice())?;
+            trace = merge_logs(alloc, trace.as_slice(), log.as_slice())?;
         }
         Ok(trace)
     }

@@ -1,9 +1,9 @@
 //! The tasks of a window: each station (a logical process) steps its own copies (physical processes). Where little is
 //! due, they run in the caller's thread, else on the workers of a team that stay between windows, or on those of a
 //! crew.
-ghost use Rattle.std.specs.Prelude.{◌≡◌, ℕ, ◌+◌, ◌<◌, ◌≤◌, ◌++◌, ◌∷◌, []};
+ghost use Rattle.std.specs.Prelude.{◌≡◌, ◌+◌, ◌<◌, ◌≤◌, ◌++◌, ◌∷◌, []};
 ghost use Rattle.std.specs.Prelude.{Some, None, List, length, map, slice_get, IfOk, OnOk, IfSome};
-ghost use Rattle.clone_sets.specs.declared.set.CloneSet.{CloneSet as CloneSet'};
+ghost use Rattle.net_model.specs.declared.limits.TheConstants.{MOST_STATIONS};
 ghost use Rattle.phys_proc.specs.Gone.{ends_in};
 ghost use Rattle.phys_proc.specs.Procs.{ProcView};
 ghost use Rattle.world_core.specs.declared.flow.Flow.{Flow as Flow'};
@@ -59,7 +59,7 @@ impl Window {
     }
 
     // Steps the copies of station i + 1 to the bound.
-    fn stepped<L: Ledger>(
+    fn step<L: Ledger>(
         &self,
         alloc: Global,
         _i: u32,
@@ -106,7 +106,7 @@ impl Work for Window {
     ) -> Result<Done, NoMemory> {
         match item {
             Job::Step(proc) => {
-                let flow = self.stepped(alloc, i, proc, steps)?;
+                let flow = self.step(alloc, i, proc, steps)?;
                 Ok(Done::Stepped(flow))
             }
             Job::Give(post) => {
@@ -131,7 +131,7 @@ impl Work for Window {
 /// The result of a window: the copies of all stations, what they sent to others, and the first station with a
 /// clone over the limit beside the first such clone there.
 #[derive(Drop)]
-pub(crate) struct Stepped {
+pub(crate) struct WindowResult {
     /// The copies of each station at the bound, in the order of the stations; with a clone over the limit they mean
     /// nothing.
     pub procs: Vec<TimedProc>,
@@ -174,11 +174,11 @@ fn put_behind(all: &mut Vec<(Msg, CloneSet)>, more: &[(Msg, CloneSet)]) -> Resul
 
 // The first station over the limit so far, and there the first clone, where the station at place i comes next.
 fn first_with(before: Option<(u32, u32)>, i: u32, over: CloneSet) -> Option<(u32, u32)>
-    requires few { i < 64 }
-    requires before { IfSome before (λ p. p.0 < 64) }
+    requires few { i < MOST_STATIONS }
+    requires before { IfSome before (λ p. p.0 < MOST_STATIONS) }
     ensures first { (flows : List Flow') (f : Flow') → length flows ≡ i → f.over ≡ over → FirstOver flows before →
         FirstOver (flows ++ f ∷ []) result }
-    ensures few { IfSome result (λ p. p.0 < 64) }
+    ensures few { IfSome result (λ p. p.0 < MOST_STATIONS) }
 {
     if let Some(first) = before {
         return Some(first);
@@ -199,7 +199,7 @@ fn step_place<L: Ledger>(
     steps: &mut Steps<L>,
 ) -> Result<Gain, NoMemory>
     requires place { i < length procs.old.items }
-    requires few { i < 64 }
+    requires few { i < MOST_STATIONS }
     requires numbered { (p : ProcView) → slice_get procs.old.items i ≡ Some p → IsNumbered work.now.net i p }
     ensures stepped { IfOk result (λ gain. SteppedAt work.now.net (ends_in work.now.net.horizon work.now.ends)
         work.now.bound i procs.old.items procs.new.items outbox.old.all.items outbox.new.all.items gain.over
@@ -228,12 +228,12 @@ fn step_in_place<G: Gate, L: Ledger, R: Wait>(
     olds: Vec<TimedProc>,
     outbox: Outbox,
     steps: &mut Steps<L>,
-) -> Result<Stepped, NoMemory>
-    requires few { length olds.items ≤ 64 }
+) -> Result<WindowResult, NoMemory>
+    requires few { length olds.items ≤ MOST_STATIONS }
     requires numbered { AllNumbered work.now.net olds.items }
     ensures stepped { IfOk result (λ s. AllStepped work.now.net (ends_in work.now.net.horizon work.now.ends)
         work.now.bound olds.items s.procs.items s.outbox.all.items s.over steps.old steps.new) }
-    ensures few { IfOk result (λ s. IfSome s.over (λ p. p.0 < 64)) }
+    ensures few { IfOk result (λ s. IfSome s.over (λ p. p.0 < MOST_STATIONS)) }
 {
     let mut procs = olds;
     let mut outbox = outbox;
@@ -249,7 +249,7 @@ fn step_in_place<G: Gate, L: Ledger, R: Wait>(
         over = first_with(over, i as u32, gain.over);
         handled = handled.saturating_add(gain.handled);
     }
-    Ok(Stepped {
+    Ok(WindowResult {
         procs,
         outbox,
         over,
@@ -293,9 +293,9 @@ fn handled_in(flows: &[Flow]) -> u64 {
 
 // The first station with a clone over the limit, and there the first clone.
 fn first_over(flows: &[Flow]) -> Option<(u32, u32)>
-    requires few { length flows.now ≤ 64 }
+    requires few { length flows.now ≤ MOST_STATIONS }
     ensures first { FirstOver flows.now result }
-    ensures few { IfSome result (λ p. p.0 < 64) }
+    ensures few { IfSome result (λ p. p.0 < MOST_STATIONS) }
 {
     for i in 0..flows.len() {
         if let Some(who) = flows[i].over.first() {
@@ -306,19 +306,19 @@ fn first_over(flows: &[Flow]) -> Option<(u32, u32)>
 }
 
 // The result of a window, out of the answers of all tasks.
-fn gathered(alloc: Global, flows: Vec<Flow>, outbox: Outbox) -> Result<Stepped, NoMemory>
-    requires few { length flows.items ≤ 64 }
+fn gather_flows(alloc: Global, flows: Vec<Flow>, outbox: Outbox) -> Result<WindowResult, NoMemory>
+    requires few { length flows.items ≤ MOST_STATIONS }
     ensures procs { IfOk result (λ s. s.procs.items ≡ map (λ f. f.done) flows.items) }
     ensures sent { IfOk result (λ s. s.outbox.all.items ≡ all_sent flows.items) }
     ensures over { IfOk result (λ s. FirstOver flows.items s.over) }
-    ensures few { IfOk result (λ s. IfSome s.over (λ p. p.0 < 64)) }
+    ensures few { IfOk result (λ s. IfSome s.over (λ p. p.0 < MOST_STATIONS)) }
 {
     let over = first_over(flows.as_slice());
     let handled = handled_in(flows.as_slice());
     let mut outbox = outbox;
     outbox.all.clear();
     let procs = take_apart(alloc, flows, &mut outbox.all)?;
-    Ok(Stepped {
+    Ok(WindowResult {
         procs,
         outbox,
         over,
@@ -337,7 +337,7 @@ fn answers_of<C: Crew, G: Gate, L: Ledger, R: Threads + Wait + Sync>(
     procs: Vec<TimedProc>,
     steps: &mut Steps<L>,
 ) -> Result<(Vec<Flow>, Option<Team<Window>>), NoMemory>
-    requires few { length procs.items ≤ 64 }
+    requires few { length procs.items ≤ MOST_STATIONS }
     requires numbered { AllNumbered work.net procs.items }
     ensures count { IfOk result (λ r. length r.0.items ≡ length procs.items) }
     ensures flows { IfOk result (λ r. AllFlow work.net (ends_in work.net.horizon work.ends) work.bound procs.items
@@ -378,13 +378,13 @@ pub(crate) fn step_all<C: Crew, G: Gate, L: Ledger, R: Threads + Wait + Sync>(
     bound: u64,
     small: bool,
     steps: &mut Steps<L>,
-) -> Result<(Stepped, Option<Team<Window>>), NoMemory>
+) -> Result<(WindowResult, Option<Team<Window>>), NoMemory>
     requires step { MayStep model.now.value bound }
-    requires few { length procs.items ≤ 64 }
+    requires few { length procs.items ≤ MOST_STATIONS }
     requires numbered { AllNumbered model.now.value procs.items }
     ensures stepped { IfOk result (λ r. AllStepped model.now.value (ends_in model.now.value.horizon ends.now) bound
         procs.items r.0.procs.items r.0.outbox.all.items r.0.over steps.old steps.new) }
-    ensures few { IfOk result (λ r. IfSome r.0.over (λ p. p.0 < 64)) }
+    ensures few { IfOk result (λ r. IfSome r.0.over (λ p. p.0 < MOST_STATIONS)) }
 {
     let work = Window::new(model, ends, bound)?;
     if small {
@@ -392,6 +392,6 @@ pub(crate) fn step_all<C: Crew, G: Gate, L: Ledger, R: Threads + Wait + Sync>(
         return Ok((stepped, team));
     }
     let (flows, team) = answers_of(rt, alloc, crew, team, gate, work, procs, steps)?;
-    let stepped = gathered(alloc, flows, outbox)?;
+    let stepped = gather_flows(alloc, flows, outbox)?;
     Ok((stepped, team))
 }

@@ -1,8 +1,9 @@
 //! The world of all clones, its time windows, none longer than the lookahead allows, and the team that steps the larger
 //! ones.
-ghost use Rattle.std.specs.Prelude.{◌≡◌, ℕ, ◌+◌, ◌<◌, ◌≤◌, ◌∷◌, [], length, IfOk, IfErr};
+ghost use Rattle.std.specs.Prelude.{◌≡◌, ◌+◌, ◌<◌, ◌≤◌, ◌∷◌, [], length, IfOk, IfErr};
 ghost use Rattle.sim_base.specs.Clones.{base};
 ghost use Rattle.sim_base.specs.declared.lists.TheConstants.{MOST_CLONES};
+ghost use Rattle.net_model.specs.declared.limits.TheConstants.{MOST_STATIONS};
 ghost use Rattle.net_model.specs.Rules.{IsNet};
 ghost use Rattle.stations.specs.Runs.{next_front};
 ghost use Rattle.world_core.specs.Worlds.{AreInNet, total_handled};
@@ -14,7 +15,7 @@ use crate::delivery::give_all;
 use crate::shared_ends::SharedEnds;
 use crate::shared_lists::SharedLists;
 use crate::timed_proc::TimedProc;
-use crate::windows::{Outbox, Stepped, Window, step_all};
+use crate::windows::{Outbox, Window, WindowResult, step_all};
 use crew_pool::{Crew, Gate};
 use net_model::Model;
 use phys_proc::Proc;
@@ -86,7 +87,7 @@ fn open_all(alloc: Global, model: &Model) -> Result<Vec<TimedProc>, NoMemory>
 // The fault of a window in which the station at this place is the first with a log over the limit, and there the
 // clone is the first.
 fn beyond_limit(model: &Model, place: u32, who: u32) -> WorldFault
-    requires few { place < 64 }
+    requires few { place < MOST_STATIONS }
     ensures value { result ≡ EventLimit (place + 1) who model.now.limit }
 {
     WorldFault::EventLimit {
@@ -206,7 +207,7 @@ impl World {
         ) else {
             return Err(WorldFault::NoMemory);
         };
-        let Stepped {
+        let WindowResult {
             procs,
             outbox,
             over,

@@ -2,8 +2,8 @@
 
 use super::texts::{SEVENTEEN, SMALL};
 
-/// A text in which the first `old` becomes `new`, and its refusal: the number, the station or 0 for the top, and the key,
-/// or none where it is empty.
+/// A text in which the first `old` becomes `new`, and its refusal: the number, the station or 0 for the top, and the
+/// key, or none where it is empty.
 pub struct Refused {
     pub old: &'static str,
     pub new: &'static str,

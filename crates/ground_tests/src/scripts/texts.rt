@@ -79,8 +79,11 @@ pub struct Own {
     pub places: &'static [(u32, u32)],
 }
 
-const TWO_CLONES: &str =
-    "fork a from base\nfork b from base\nset a at 8 desk service 2 2\nset b at 8 desk service 2 2\n";
+const TWO_CLONES: &str = "fork a from base
+fork b from base
+set a at 8 desk service 2 2
+set b at 8 desk service 2 2
+";
 
 const PLANNERS: &str =
     "set base at 1 desk every 1 2\r\n\nanalyst ben\n# ben\nfork b from base\nset base at 2 desk hold 3 4\nanalyst ada\nset b at 3 desk servers 5\nanalyst main\nlook b desk\nend base at 9\nanalyst ben\nend b at 4";
@@ -108,19 +111,51 @@ pub const OWN_SCRIPTS: &[Own] = &[
     Own {
         text: PLANNERS,
         who: "",
-        canonical: "analyst ben\nanalyst ada\nanalyst main\nset base at 1 desk every 1 2\nanalyst ben\nfork b from base\nset base at 2 desk hold 3 4\nanalyst ada\nset b at 3 desk servers 5\nanalyst main\nlook b desk\nend base at 9\nanalyst ben\nend b at 4\n",
+        canonical: "analyst ben
+analyst ada
+analyst main
+set base at 1 desk every 1 2
+analyst ben
+fork b from base
+set base at 2 desk hold 3 4
+analyst ada
+set b at 3 desk servers 5
+analyst main
+look b desk
+end base at 9
+analyst ben
+end b at 4
+",
         places: &[(1, 1), (5, 2), (6, 2), (8, 3), (10, 1), (11, 1), (13, 2)],
     },
     Own {
         text: PLANNERS,
         who: "b",
-        canonical: "analyst ben\nanalyst ada\nanalyst main\nset base at 1 desk every 1 2\nanalyst ben\nfork b from base\nanalyst ada\nset b at 3 desk servers 5\nanalyst ben\nend b at 4\n",
+        canonical: "analyst ben
+analyst ada
+analyst main
+set base at 1 desk every 1 2
+analyst ben
+fork b from base
+analyst ada
+set b at 3 desk servers 5
+analyst ben
+end b at 4
+",
         places: &[(1, 1), (5, 2), (8, 3), (13, 2)],
     },
     Own {
         text: PLANNERS,
         who: "base",
-        canonical: "analyst ben\nanalyst ada\nanalyst main\nset base at 1 desk every 1 2\nanalyst ben\nset base at 2 desk hold 3 4\nanalyst main\nend base at 9\n",
+        canonical: "analyst ben
+analyst ada
+analyst main
+set base at 1 desk every 1 2
+analyst ben
+set base at 2 desk hold 3 4
+analyst main
+end base at 9
+",
         places: &[(1, 1), (6, 2), (11, 1)],
     },
 ];

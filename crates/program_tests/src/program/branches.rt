@@ -2,15 +2,26 @@
 use super::{FAST, PLAIN, Row, texts};
 use std::test::Fail;
 
-const TWINS: &str = "set base at 8 desk service 2 2\nfork twin from base\n";
+const TWINS: &str = "set base at 8 desk service 2 2
+fork twin from base
+";
 
-const EQUAL: &str =
-    "fork a from base\nfork b from base\nset a at 8 desk service 2 2\nset b at 8 desk service 2 2\n";
+const EQUAL: &str = "fork a from base
+fork b from base
+set a at 8 desk service 2 2
+set b at 8 desk service 2 2
+";
 
-const APART: &str =
-    "fork a from base\nfork b from base\nset a at 15 desk room 9\nset a at 8 desk service 2 2\nset b at 8 desk service 2 2\n";
+const APART: &str = "fork a from base
+fork b from base
+set a at 15 desk room 9
+set a at 8 desk service 2 2
+set b at 8 desk service 2 2
+";
 
-const ALONE: &str = "fork b from base\nset b at 8 desk service 2 2\n";
+const ALONE: &str = "fork b from base
+set b at 8 desk service 2 2
+";
 
 const SOLO_B: &[&str] = &["solo", "m", "s", "--clone", "b"];
 

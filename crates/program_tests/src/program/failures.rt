@@ -1,17 +1,13 @@
 //! Inputs and sinks that fail.
-use super::{FAST, GOOD, Outside, RUN, begins_both, ended, texts};
+use super::{
+    CUT, FAST, GOOD, LIVE, NO_MODEL, NO_SCRIPT, Outside, RUN, SOLO_BASE, begins_both, ended, texts,
+};
 use crew_pool::NoGate;
 use sample_models::ONE_DESK;
 use std::alloc::Global;
 use std::sync::Wait;
 use std::test::Fail;
 use std::thread::Threads;
-
-const NO_MODEL: &str = "cloner: cannot read the model\n";
-
-const NO_SCRIPT: &str = "cloner: cannot read the script\n";
-
-const CUT: &str = "cloner: cannot write\n";
 
 /// A run of two branches over an outside: its status, how many bytes of the output are written, and what is told.
 #[derive(Clone, Copy)]
@@ -62,19 +58,9 @@ fn is_unread<R: Threads + Wait + Sync>(
 /// Each of the two fetches fails, in each mode that has them.
 #[test]
 fn fetches_fail(rt: HostRuntime) -> Result<(), Fail> {
-    let solo: &[&str] = &["solo", "m", "s", "--clone", "base"];
-    let live: &[&str] = &["live", "m", "s"];
-    for words in [RUN, solo, live] {
-        assert!(rt;
-            is_unread(&rt, rt.alloc(), words, 1, NO_MODEL),
-            "{} words",
-            words.len()
-        );
-        assert!(rt;
-            is_unread(&rt, rt.alloc(), words, 2, NO_SCRIPT),
-            "{} words",
-            words.len()
-        );
+    for (mode, words) in [("run", RUN), ("solo", SOLO_BASE), ("live", LIVE)] {
+        assert!(rt; is_unread(&rt, rt.alloc(), words, 1, NO_MODEL), "{}", mode);
+        assert!(rt; is_unread(&rt, rt.alloc(), words, 2, NO_SCRIPT), "{}", mode);
     }
     Ok(())
 }
@@ -211,12 +197,11 @@ fn faults_of_no_call(rt: HostRuntime) -> Result<(), Fail> {
 
 #[test]
 fn solo_is_cut_off(rt: HostRuntime) -> Result<(), Fail> {
-    let words: &[&str] = &["solo", "m", "s", "--clone", "base"];
     let outside = Outside {
         put: &[(1, 7)],
         ..GOOD
     };
-    let ended = ended(&rt, rt.alloc(), &NoGate, words, ONE_DESK, "", &outside)?;
+    let ended = ended(&rt, rt.alloc(), &NoGate, SOLO_BASE, ONE_DESK, "", &outside)?;
     assert!(rt; ended.is(8, b"clone b", CUT));
     Ok(())
 }

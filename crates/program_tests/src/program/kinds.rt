@@ -41,7 +41,9 @@ const ROWS: &[Row] = &[
     },
     Row {
         shows: "more servers take the waiting",
-        model: models::SOME_ROOM,
+        model: NO_ROOM,
+        old: "room = 0",
+        new: "room = 5",
         script: "set base at 6 desk servers 3",
         traces: texts::MORE_SERVERS,
         report: texts::MORE_SERVERS_REPORT,
@@ -56,7 +58,9 @@ const ROWS: &[Row] = &[
     },
     Row {
         shows: "a router by weights",
-        model: models::BY_WEIGHTS,
+        model: FAN_BY_TURN,
+        old: "turn",
+        new: "weights",
         traces: texts::FAN,
         report: texts::FAN_REPORT,
         ..PLAIN

@@ -1,5 +1,5 @@
 //! Live studies: analysts who decide and look while the engine runs.
-use super::{GOOD, Outcome, Outside, RUN, ended, is_both, models, texts};
+use super::{CUT, GOOD, LIMIT_3, LIVE, Outcome, Outside, RUN, ended, is_both, models, texts};
 use crew_pool::{Gate, NoGate};
 use sample_models::{CLINIC, ONE_DESK, QUIET_JOURNAL};
 use sim_base::NoMemory;
@@ -9,9 +9,6 @@ use std::sync::atomic::{AtomicU64, Ordering};
 use std::test::Fail;
 use std::thread;
 use std::thread::Threads;
-
-/// `live` of the model in `m` and the script in `s`.
-const LIVE: &[&str] = &["live", "m", "s"];
 
 /// How long a gate waits for the other side.
 const TURNS: u32 = 1_000_000;
@@ -101,22 +98,25 @@ fn has_six_looks(errors: &[u8]) -> bool {
         && has(errors, " absent\n")
 }
 
+/// How `live` of one desk ends where the desk meets its limit.
+fn live_to_limit<R: Threads + Wait + Sync>(
+    rt: &R,
+    alloc: Global,
+    script: &str,
+    outside: &Outside<'_>,
+) -> Result<Outcome, NoMemory> {
+    let model = LIMIT_3.changed_model(alloc)?;
+    ended(rt, alloc, &NoGate, LIVE, model.as_str(), script, outside)
+}
+
 /// Fronts up to the one at which the limit is met, six looks, and then the line.
 #[test]
 fn limit_met_beside_lookers(rt: HostRuntime) -> Result<(), Fail> {
-    let ended = ended(
-        &rt,
-        rt.alloc(),
-        &NoGate,
-        LIVE,
-        models::LIMIT_3,
-        SIX_LOOKS,
-        &GOOD,
-    )?;
+    let ended = live_to_limit(&rt, rt.alloc(), SIX_LOOKS, &GOOD)?;
     let errors = ended.errors();
     assert!(rt; ended.status == 7 && ended.output().is_empty());
     assert!(rt; errors.starts_with(FRONTS_TO_LIMIT.as_bytes()) && has_six_looks(errors));
-    assert!(rt; errors.ends_with(b"cloner: limit 3 met at station desk in clone base\n"));
+    assert!(rt; errors.ends_with(LIMIT_3.errors.as_bytes()));
     Ok(())
 }
 
@@ -127,15 +127,7 @@ fn journal_is_cut_off(rt: HostRuntime) -> Result<(), Fail> {
         error: &[(1, 12)],
         ..GOOD
     };
-    let ended = ended(
-        &rt,
-        rt.alloc(),
-        &NoGate,
-        LIVE,
-        models::LIMIT_3,
-        "",
-        &outside,
-    )?;
+    let ended = live_to_limit(&rt, rt.alloc(), "", &outside)?;
     assert!(rt; ended.is(7, &[], "journal 0 5\n"));
     Ok(())
 }
@@ -175,9 +167,7 @@ fn put_fails<R: Threads + Wait + Sync>(
             error: &[(1, 6)],
             ..GOOD
         };
-        if !is_cut(rt, alloc, &outside, part, "cloner: cannot write\n")
-            || !is_cut(rt, alloc, &silent, part, "cloner")
-        {
+        if !is_cut(rt, alloc, &outside, part, CUT) || !is_cut(rt, alloc, &silent, part, "cloner") {
             return false;
         }
     }

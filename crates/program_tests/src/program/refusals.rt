@@ -1,12 +1,8 @@
 //! What is refused, and the limit.
-use super::{PLAIN, REFUSED, Row, models};
+use super::{LIMIT_3, PLAIN, REFUSED, Row, SOLO_BASE, models};
 use std::test::Fail;
 
 const SOLO_GHOST: &[&str] = &["solo", "m", "s", "--clone", "ghost"];
-
-const SOLO_BASE: &[&str] = &["solo", "m", "s", "--clone", "base"];
-
-const AT_DESK: &str = "cloner: limit 3 met at station desk in clone base\n";
 
 const AT_SPIN: &str = "cloner: limit 16384 met at station spin in clone base\n";
 
@@ -23,14 +19,16 @@ const CUT_AT_13: &str = "clone base
 const REFUSALS: &[Row] = &[
     Row {
         shows: "a delay below the lookahead",
-        model: models::SHORT_DELAY,
+        old: "delay = 2",
+        new: "delay = 1",
         status: 4,
         errors: "cloner: model: refusal 10 at station 1\n",
         ..REFUSED
     },
     Row {
         shows: "an unknown key",
-        model: models::UNKNOWN_KEY,
+        old: "lookahead",
+        new: "spedd = 3\nlookahead",
         status: 4,
         errors: "cloner: model: refusal 5 at station 0 key spedd\n",
         ..REFUSED
@@ -124,50 +122,47 @@ const REFUSALS: &[Row] = &[
     },
 ];
 
+/// A run where a station may handle four messages, as many as the desk gets.
+const LIMIT_4: Row<'static> = Row {
+    old: "lookahead",
+    new: "limit = 4\nlookahead",
+    ..PLAIN
+};
+
 const LIMITS: &[Row] = &[
     Row {
         shows: "the desk meets its limit",
-        model: models::LIMIT_3,
-        status: 7,
-        errors: AT_DESK,
-        ..REFUSED
+        ..LIMIT_3
     },
     Row {
         shows: "only the later clone meets it",
-        model: models::LIMIT_3,
         script: "fork later from base\nend base at 13\n",
-        status: 7,
         errors: "cloner: limit 3 met at station desk in clone later\n",
-        ..REFUSED
+        ..LIMIT_3
     },
     Row {
         shows: "a limit that is just not met",
-        model: models::LIMIT_4,
-        ..PLAIN
+        ..LIMIT_4
     },
     Row {
         shows: "solo meets it",
         words: SOLO_BASE,
-        model: models::LIMIT_3,
-        status: 7,
-        errors: AT_DESK,
-        ..REFUSED
+        ..LIMIT_3
     },
     Row {
         shows: "solo just keeps it",
         words: SOLO_BASE,
-        model: models::LIMIT_4,
         report: "",
-        ..PLAIN
+        ..LIMIT_4
     },
     Row {
         shows: "an end before the limit",
         words: SOLO_BASE,
-        model: models::LIMIT_3,
         script: "end base at 13\n",
+        status: 0,
         traces: CUT_AT_13,
-        report: "",
-        ..PLAIN
+        errors: "",
+        ..LIMIT_3
     },
     Row {
         shows: "a router that spins",

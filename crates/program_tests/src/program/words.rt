@@ -1,5 +1,5 @@
 //! The words of the command line, files that are not there, and made studies.
-use super::{GOOD, PLAIN, REFUSED, Row, ended};
+use super::{GOOD, NO_MODEL, NO_SCRIPT, PLAIN, REFUSED, Row, ended};
 use command_words::usage_line;
 use crew_pool::NoGate;
 use std::alloc::Global;
@@ -10,58 +10,76 @@ use std::thread::Threads;
 const USAGE: &str =
     "usage: cloner run MODEL SCRIPT [--workers N], solo MODEL SCRIPT --clone NAME, live MODEL SCRIPT [--workers N], gen NUMBER [--workers N]\n";
 
-const NO_FORM: &[&[&str]] = &[
-    &[],
-    &["run", "m"],
-    &["run", "m", "s", "x"],
-    &["walk", "m", "s"],
-    &["run", "", "s"],
-    &["run", "m", "-s"],
-    &["run", "m", "s", "--workers", "0"],
-    &["run", "m", "s", "--workers", "17"],
-    &["run", "m", "s", "--workers", "04"],
-    &["run", "m", "s", "--workers", "+1"],
-    &["run", "m", "s", "--workers", "2", "--workers", "2"],
-    &["run", "m", "s", "--clone", "base"],
-    &["live", "m", "s", "--clone", "x"],
-    &["solo", "m", "s"],
-    &["solo", "m", "s", "--clone", "Base"],
-    &["solo", "m", "s", "--clone", "base", "--workers", "2"],
-    &["gen", "0"],
-    &["gen", "1000000"],
-    &["gen", "7", "--clone", "base"],
-    &["--help"],
+/// What a command line shows, and its words.
+type Words = (&'static str, &'static [&'static str]);
+
+const NO_FORM: &[Words] = &[
+    ("no words", &[]),
+    ("no script", &["run", "m"]),
+    ("a third file", &["run", "m", "s", "x"]),
+    ("no such mode", &["walk", "m", "s"]),
+    ("an empty name", &["run", "", "s"]),
+    ("a dash before a name", &["run", "m", "-s"]),
+    ("no workers", &["run", "m", "s", "--workers", "0"]),
+    ("17 workers", &["run", "m", "s", "--workers", "17"]),
+    ("a leading zero", &["run", "m", "s", "--workers", "04"]),
+    ("a sign", &["run", "m", "s", "--workers", "+1"]),
+    (
+        "an option twice",
+        &["run", "m", "s", "--workers", "2", "--workers", "2"],
+    ),
+    (
+        "a clone where all are run",
+        &["run", "m", "s", "--clone", "base"],
+    ),
+    (
+        "a clone where all are run live",
+        &["live", "m", "s", "--clone", "x"],
+    ),
+    ("no clone", &["solo", "m", "s"]),
+    (
+        "a capital in a name",
+        &["solo", "m", "s", "--clone", "Base"],
+    ),
+    (
+        "workers for one clone",
+        &["solo", "m", "s", "--clone", "base", "--workers", "2"],
+    ),
+    ("number 0", &["gen", "0"]),
+    ("a number too great", &["gen", "1000000"]),
+    ("a clone of a made study", &["gen", "7", "--clone", "base"]),
+    ("help", &["--help"]),
 ];
 
 #[test]
 fn words_of_no_form(rt: HostRuntime) -> Result<(), Fail> {
     assert!(rt; usage_line() == USAGE);
-    for words in NO_FORM {
+    for (shows, words) in NO_FORM {
         let row = Row {
             words: *words,
             status: 2,
             errors: USAGE,
             ..REFUSED
         };
-        assert!(rt; row.holds(&rt, rt.alloc()), "{} words", words.len());
+        assert!(rt; row.holds(&rt, rt.alloc()), "{}", shows);
     }
     Ok(())
 }
 
-const FORMS: &[&[&str]] = &[
-    &["--workers=2", "run", "--", "m", "s"],
-    &["run", "--workers", "16", "m", "s"],
-    &["run", "m", "s", "--workers=1"],
+const FORMS: &[Words] = &[
+    ("before the mode", &["--workers=2", "run", "--", "m", "s"]),
+    ("behind it", &["run", "--workers", "16", "m", "s"]),
+    ("at the end", &["run", "m", "s", "--workers=1"]),
 ];
 
 #[test]
 fn options_in_every_place(rt: HostRuntime) -> Result<(), Fail> {
-    for words in FORMS {
+    for (shows, words) in FORMS {
         let row = Row {
             words: *words,
             ..PLAIN
         };
-        assert!(rt; row.holds(&rt, rt.alloc()));
+        assert!(rt; row.holds(&rt, rt.alloc()), "{}", shows);
     }
     Ok(())
 }
@@ -71,13 +89,13 @@ fn files_that_are_not_there(rt: HostRuntime) -> Result<(), Fail> {
     let model = Row {
         words: &["run", "-", "s"],
         status: 3,
-        errors: "cloner: cannot read the model\n",
+        errors: NO_MODEL,
         ..REFUSED
     };
     let script = Row {
         words: &["run", "m", "-"],
         status: 3,
-        errors: "cloner: cannot read the script\n",
+        errors: NO_SCRIPT,
         ..REFUSED
     };
     assert!(rt; model.holds(&rt, rt.alloc()) && script.holds(&rt, rt.alloc()));

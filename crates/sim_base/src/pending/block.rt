@@ -1,6 +1,6 @@
 //! One block of pending messages.
-ghost use Rattle.std.specs.Prelude.{◌≡◌, ℕ, ◌+◌, ◌-◌, ◌<◌, ◌≤◌, ◌==◌, List, []};
-ghost use Rattle.std.specs.Prelude.{◌++◌, length, take, drop, slice_get, Some, OnOk, OnErr, IfOk};
+ghost use Rattle.std.specs.Prelude.{◌≡◌, ◌+◌, ◌-◌, ◌<◌, ◌≤◌, ◌==◌, List, []};
+ghost use Rattle.std.specs.Prelude.{length, take, drop, slice_get, Some, OnOk, OnErr, IfOk};
 ghost use Rattle.sim_base.specs.Pending.{insert_marked, spread_marks, cut_by, first_time, first_marks};
 ghost use Rattle.std.specs.Ordering.{is_eq, is_gt};
 ghost use Rattle.sim_base.specs.Order.{msg_cmp};
@@ -220,10 +220,10 @@ impl<S: Marks> Block<S> {
     pub(crate) fn copy(&self, alloc: Global) -> Result<Block<S>, NoMemory>
         ensures value { IfOk result (λ b. b ≡ self.now) }
     {
-        let (front, back) = self.items.as_slices();
+        let (first, second) = self.items.as_slices();
         let mut items = Vec::with_capacity(alloc, self.items.len())?;
-        items.extend_from_slice(front)?;
-        items.extend_from_slice(back)?;
+        items.extend_from_slice(first)?;
+        items.extend_from_slice(second)?;
         Ok(Block::of(VecDeque::from_vec(items)))
     }
 
@@ -231,7 +231,7 @@ impl<S: Marks> Block<S> {
     pub(crate) fn keep(&mut self, by: S)
         ensures value { self.new ≡ cut_by S.met by self.old }
     {
-        // each message leaves at the front, and comes in again at the back if it stays
+        // each message is taken out first, and put in again as the last if it stays
         for _ in 0..self.items.len() {
             let Some(item) = self.items.pop_front() else {
                 unreachable!()

@@ -1,8 +1,9 @@
 //! The blocks of pending messages: a first one, which is empty only where nothing is pending, and later ones.
-ghost use Rattle.std.specs.Prelude.{◌≡◌, ℕ, ◌<◌, ◌≤◌, List, [], ◌∷◌, ◌++◌, length, OnOk, OnErr, IfOk};
+ghost use Rattle.std.specs.Prelude.{◌≡◌, ◌<◌, ◌≤◌, [], ◌∷◌, ◌++◌, length, OnOk, OnErr, IfOk};
 ghost use Rattle.sim_base.specs.Pending.{insert_marked, spread_marks, cut_by};
 ghost use Rattle.sim_base.specs.Order.{msg_cmp};
-ghost use Rattle.sim_base.specs.Blocks.{of_blocks, block_at, halved, AreBlocks, AreSized, AreFilled, IsBlockOf};
+ghost use Rattle.sim_base.specs.Blocks.{of_blocks, block_at, halves_of, AreBlocks, AreSized, AreFilled, IsBlockOf};
+ghost use Rattle.sim_base.specs.declared.pending.blocks.TheConstants.{MOST_MESSAGES};
 
 use super::block::Block;
 use crate::marks::Marks;
@@ -11,7 +12,7 @@ use crate::message::Msg;
 use std::collections::VecDeque;
 
 /// The most messages of a block.
-const MOST: usize = 64;
+pub const MOST_MESSAGES: usize = 64;
 
 /// To which block a message goes: 0 for the first, and 1 more than the place of a later one.
 pub(crate) fn block_of<S: Marks>(later: &VecDeque<Block<S>>, msg: &Msg) -> usize
@@ -49,15 +50,15 @@ fn halve<S: Marks>(
     at: usize,
 ) -> Result<(), NoMemory>
     requires within { at ≤ length later.old.items }
-    requires full { length (block_at first.old later.old.items at) ≡ 64 }
-    ensures ok { OnOk result ((first.new ∷ later.new.items) ≡ halved at (first.old ∷ later.old.items)) }
+    requires full { length (block_at first.old later.old.items at) ≡ MOST_MESSAGES }
+    ensures ok { OnOk result ((first.new ∷ later.new.items) ≡ halves_of at (first.old ∷ later.old.items)) }
     ensures err { OnErr result ((first.new ≡ first.old) × (later.new.items ≡ later.old.items)) }
 {
     later.reserve(1)?;
     let half = if at == 0 {
-        first.split_off(MOST / 2)?
+        first.split_off(MOST_MESSAGES / 2)?
     } else {
-        later[at - 1].split_off(MOST / 2)?
+        later[at - 1].split_off(MOST_MESSAGES / 2)?
     };
     let Ok(_) = later.insert(at, half) else {
         unreachable!()
@@ -65,8 +66,8 @@ fn halve<S: Marks>(
     Ok(())
 }
 
-/// Makes room in the block to which a message goes, and says which that is then.
-pub(crate) fn make_room<S: Marks>(
+/// Sees to a free place in the block to which a message goes, and says which block that is then.
+pub(crate) fn find_place<S: Marks>(
     first: &mut Block<S>,
     later: &mut VecDeque<Block<S>>,
     at: usize,
@@ -77,9 +78,9 @@ pub(crate) fn make_room<S: Marks>(
     ensures same { of_blocks (first.new ∷ later.new.items) ≡ of_blocks (first.old ∷ later.old.items) }
     ensures blocks { AreBlocks msg_cmp first.new later.new.items }
     ensures place { IfOk result (λ to. IsBlockOf msg_cmp msg.now later.new.items to) }
-    ensures room { IfOk result (λ to. length (block_at first.new later.new.items to) < 64) }
+    ensures free { IfOk result (λ to. length (block_at first.new later.new.items to) < MOST_MESSAGES) }
 {
-    if len_at(first, later, at) < MOST {
+    if len_at(first, later, at) < MOST_MESSAGES {
         return Ok(at);
     }
     halve(first, later, at)?;
@@ -100,7 +101,7 @@ pub(crate) fn put<S: Marks>(
 ) -> Result<(), NoMemory>
     requires blocks { AreBlocks msg_cmp first.old later.old.items }
     requires place { IsBlockOf msg_cmp msg later.old.items at }
-    requires room { length (block_at first.old later.old.items at) < 64 }
+    requires free { length (block_at first.old later.old.items at) < MOST_MESSAGES }
     ensures blocks { AreBlocks msg_cmp first.new later.new.items }
     ensures ok { OnOk result (of_blocks (first.new ∷ later.new.items) ≡ insert_marked S.joined msg_cmp msg marks
         (of_blocks (first.old ∷ later.old.items))) }
@@ -132,7 +133,7 @@ pub(crate) fn add_block<S: Marks>(
     block: Block<S>,
 ) -> Result<(), NoMemory>
     requires sized { AreSized first.old later.old.items }
-    requires small { length block ≤ 64 }
+    requires small { length block ≤ MOST_MESSAGES }
     ensures all { OnOk result (of_blocks (first.new ∷ later.new.items) ≡ of_blocks (first.old ∷ later.old.items)
         ++ block) }
     ensures sized { OnOk result (AreSized first.new later.new.items) }
@@ -154,7 +155,7 @@ pub(crate) fn keep_later<S: Marks>(later: &mut VecDeque<Block<S>>, by: S)
     ensures value { of_blocks later.new.items ≡ cut_by S.met by (of_blocks later.old.items) }
     ensures filled { AreFilled later.new.items }
 {
-    // each block leaves at the front, and comes in again at the back if a message stays
+    // each block is taken out first, and put in again as the last if a message stays
     for _ in 0..later.len() {
         let Some(mut block) = later.pop_front() else {
             unreachable!()

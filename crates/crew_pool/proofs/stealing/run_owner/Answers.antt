@@ -8,7 +8,7 @@ pub pop_as-requires-clause-fifo : goal.pop_as-requires-clause-fifo
 pop_as-requires-clause-fifo g c _ =
     let e : (worker_view c.loop.owner).parts ≡ (worker_view c.args.owner).parts =
     ap (λ (u : SeatView). u.parts) c.loop.invariant.2 in
-    TasksOnce-takes g.B.Batch.items _ _ (omega (arith, e, c.requires.parts))
+    TasksOnce-takes g.B.Batch.items _ _ (omega (arith, e, c.requires.owner.part))
 
 pub pop_as-requires-clause-lifo : goal.pop_as-requires-clause-lifo
 pop_as-requires-clause-lifo g c lifo = absurd (omega (arith, lifo, c.loop.invariant.1))

@@ -3,13 +3,14 @@ use Rattle.std.proofs.lemmas.List.Elements.{All-push}
 use Rattle.crossbeam_deque.specs.Handles.{worker_deque, worker_view}
 use Rattle.crew_pool.specs.declared.task_deque.SeatView.{SeatView}
 use Rattle.crew_pool.specs.Deque.{seat_view, IsStart}
+use Rattle.crew_pool.specs.declared.task_deque.TheConstants.{ALL_PARTS}
 use Rattle.crew_pool.proofs.Answers.{length-push}
 use Rattle.crew_pool.proofs.TaskMoves.{TasksOnce-forks}
 use Rattle.crew_pool.proofs.stealing.seat_thieves.Goals as goal
 
 pub another-seat-requires : goal.another-seat-requires
 another-seat-requires g c =
-    let e : (worker_view c.loop-worker.owner).parts ≡ 1024 - length c.loop-worker.starts.items =
+    let e : (worker_view c.loop-worker.owner).parts ≡ ALL_PARTS - length c.loop-worker.starts.items =
     ap (λ (u : SeatView). u.parts) c.loop-worker.invariant.3 in
     TasksOnce-forks g.B.Batch.items _ _
     (omega (arith, e, c.loop-worker.invariant.2, c.args.workers.few, c.loop-worker-test.true))

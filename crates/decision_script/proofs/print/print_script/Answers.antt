@@ -15,7 +15,7 @@ returns c =
         c.in_ok-push_items.ensures.value,
         c.in_ok-push_sections.ensures.value,
         c.new-out.ensures.items,
-        c.others.ensures.value,
+        c.other_analysts.ensures.value,
         c.as_slice-analysts.ensures.value,
         c.as_slice.ensures.value,
       )

@@ -1,12 +1,6 @@
-use Rattle.std.proofs.Common.{[], rules, All, sym, subst}
-use Rattle.atomic_table.specs.Seated.{TableId}
-use Rattle.net_model.specs.Net.{Net}
-use Rattle.live_study.specs.Asking.{IsReady, SeatedAnalyst}
-use Rattle.live_study.specs.Showing.{HasLooked, HasReserved}
+use Rattle.std.proofs.Common.{rules, All, sym, subst}
+use Rattle.live_study.specs.Showing.{MayAct}
 use Rattle.live_study.proofs.asking.act_everyone.Goals as goal
-
-abbrev MayAct : TableId → Net → SeatedAnalyst → Type 0
-MayAct desk net a = IsReady desk a.0 × HasLooked net [] a × HasReserved a.0
 
 pub for_each_mut-requires-clause-accepts : goal.for_each_mut-requires-clause-accepts
 for_each_mut-requires-clause-accepts g c κs within i p less e =

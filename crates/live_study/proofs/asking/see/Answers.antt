@@ -35,5 +35,6 @@ look-requires g c =
     let s = c.in-Some.s in
     record {
       there = c.requires.there s
-          (number_low c.args.station c.args.model.now s (sym c.find.ensures.value ∙ c.in-Some.is)) c.in-Some.ensures.there;
+          (number_low c.args.station c.args.model.now s (sym c.find.ensures.value ∙ c.in-Some.is))
+          c.in-Some.ensures.there;
     }

@@ -1,6 +1,7 @@
 use Rattle.std.proofs.Common.{◌≡◌, ◌∙◌, ◌+◌, ◌-◌, ◌≤◌, ap, sym, subst, arith, length}
 use Rattle.std.proofs.lemmas.Bool.Decides.{nat_tests}
 use Rattle.net_model.specs.Net.{Net}
+use Rattle.live_study.specs.Driving.{MayShow}
 use Rattle.live_study.specs.Showing.{AreShownTo}
 use Rattle.live_study.proofs.Publishing.{round_skips}
 use Rattle.live_study.proofs.engine.show.Goals as goal
@@ -10,14 +11,16 @@ use Rattle.live_study.proofs.engine.show.Goals.{then-last+in_ok-show_one, else-l
 of_same : {A : Type 0} (a b : A) → a ≡ b → (P : A → Type 0) → P b → P a
 of_same a b e P p = subst P (sym e) p
 
-pub show_one-requires-clause-shown : goal.show_one-requires-clause-shown
-show_one-requires-clause-shown g c =
+pub show_one-requires-clause-may_show : goal.show_one-requires-clause-may_show
+show_one-requires-clause-may_show g c =
     let helm = c.args.helm.now in
     let racks = c.loop-s.stocker.published in
     let s = c.loop-s.s in
+    let may = c.requires.may_show in
     let back : s ≡ s + 1 - 1 = omega arith in
-    subst (λ w. AreShownTo helm w (s + 1 - 1) racks) (sym c.loop-s.invariant.same)
-    (subst (λ n. AreShownTo helm c.args.world.now n racks) back c.loop-s.invariant.shown)
+    subst (λ w. MayShow helm w (s + 1 - 1) racks) (sym c.loop-s.invariant.same)
+    (subst (λ n. MayShow helm c.args.world.now n racks) back
+    (record { net = may.net; at = may.at; shown = c.loop-s.invariant.shown }))
 
 pub loop-s-preserved : goal.loop-s-preserved
 loop-s-preserved g c =

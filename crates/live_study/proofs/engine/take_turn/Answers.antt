@@ -8,13 +8,14 @@ pub take-requires : goal.take-requires
 take-requires g c =
     let t = c.in_ok-turn.ensures.turn in
     record {
-      accepted = may_take _ c.args.world c.in_ok-turn.turn _ t.0 _ c.requires.in_step t.1 c.as_slice-2.ensures.value;
+      accepted = may_take _ c.args.world c.in_ok-turn.turn _ t.0 _ c.requires.may_turn.in_step t.1
+          c.as_slice-2.ensures.value;
     }
 
 pub returns-clause-ahead : goal.returns-clause-ahead
 returns-clause-ahead g c =
     let t = c.in_ok-turn.ensures.turn in
-    goes_ahead _ c.args.world c.in_ok-turn.turn _ t.0 _ c.in_ok-world.world c.requires.in_step t.1
+    goes_ahead _ c.args.world c.in_ok-turn.turn _ t.0 _ c.in_ok-world.world c.requires.may_turn.in_step t.1
     c.as_slice-2.ensures.value c.in_ok-world.ensures.net c.in_ok-world.ensures.front c.in_ok-world.ensures.clones
     (subst (λ (n : Net). IsNet n) c.model.ensures.value c.lookahead-valid.ensures.valid) c.lists-short.ensures.short
 

@@ -17,9 +17,10 @@ close-book-requires-clause-passes g c k d less =
     let desk = c.args.desk.table.shared.table_id in
     let new = c.side_by_side-helm.result.1.items in
     let are : c.gather-reserve.result.0.passes.items ≡ map (λ (a : SeatedAnalyst). a.0.pass) new =
-    c.gather-reserve.ensures.passes ∙ ap (λ l. l ++ map (λ (a : SeatedAnalyst). a.0.pass) new) c.requires.reserve.no_passes in
-    let s = c.side_by_side-helm.ensures in
-    let done = all_done desk new (λ i d less. s.done i d (omega (arith, less, s.len))) in
+    c.gather-reserve.ensures.passes
+    ∙ ap (λ l. l ++ map (λ (a : SeatedAnalyst). a.0.pass) new) c.requires.reserve.no_passes in
+    let acted = c.side_by_side-helm.ensures.acted in
+    let done = all_done desk new (λ i d less. (acted.each i d (omega (arith, less, acted.len))).done) in
     subst (λ l. (k : ℕ) (d : PassView) → k < length l → (slice_index_or l k d).desk ≡ desk) (sym are)
     (of_desk desk new done) k d less
 
@@ -28,28 +29,31 @@ returns-clause-asked g c =
     let desk = c.args.desk.table.shared.table_id in
     let new = c.side_by_side-helm.result.1.items in
     let are : c.gather-reserve.result.0.passes.items ≡ map (λ (a : SeatedAnalyst). a.0.pass) new =
-    c.gather-reserve.ensures.passes ∙ ap (λ l. l ++ map (λ (a : SeatedAnalyst). a.0.pass) new) c.requires.reserve.no_passes in
+    c.gather-reserve.ensures.passes
+    ∙ ap (λ l. l ++ map (λ (a : SeatedAnalyst). a.0.pass) new) c.requires.reserve.no_passes in
     let s = c.side_by_side-helm.ensures in
     asked_in desk c.args.helm c.side_by_side-helm.result.0.0 c.args.seated.items new
     c.gather-reserve.result.0.passes.items c.close-book.result s.driven.steers c.requires.fresh are
     c.close-book.ensures.closed
     (subst (λ (b : BookView). IsRight b.net b.events) c.book.ensures.value c.front-legal.ensures.right)
-    c.book.ensures.goes_on s.len s.done s.same c.requires.few
+    c.book.ensures.goes_on s.acted.len (λ i d less. (s.acted.each i d less).done)
+    (λ i d less. (s.acted.each i d less).same) c.requires.few
 
 pub gather-reserve-requires-clause-there : goal.gather-reserve-requires-clause-there
 gather-reserve-requires-clause-there g c k d less =
-    let s = c.side_by_side-helm.ensures in
-    (s.looked k d (omega (arith, less, s.len))).there
+    let acted = c.side_by_side-helm.ensures.acted in
+    (acted.each k d (omega (arith, less, acted.len))).looked.there
 
 pub returns-clause-made : goal.returns-clause-made
 returns-clause-made g c =
     let new = c.side_by_side-helm.result.1.items in
-    let s = c.side_by_side-helm.ensures in
+    let acted = c.side_by_side-helm.ensures.acted in
     let looks = c.gather-reserve.result.0.looks.items in
     let are : looks ≡ looks_of new =
     c.gather-reserve.ensures.looks ∙ ap (λ l. l ++ looks_of new) c.requires.reserve.no_looks in
     made_all c.args.model.now c.args.seated.items new looks
-    (all_looked c.args.model.now new (λ i d less. s.looked i d (omega (arith, less, s.len)))) s.len s.same are
+    (all_looked c.args.model.now new (λ i d less. (acted.each i d (omega (arith, less, acted.len))).looked)) acted.len
+    (λ i d less. (acted.each i d less).same) are
 
 pub returns-clause-looked : goal.returns-clause-looked
 returns-clause-looked g c =
@@ -65,7 +69,8 @@ returns-clause-looked g c =
     (told_if net helm events c.side_by_side-helm.result.0.1.published new looks c.gather-reserve.result.1
     c.side_by_side-helm.result.0.2 c.if_caught_up.result (s.driven.steers.net ∙ c.requires.net)
     c.close-book.ensures.closed.only_calls s.driven.in_step s.driven.shown c.gather-reserve.ensures.caught_up
-    (all_looked net new (λ i d less. s.looked i d (omega (arith, less, s.len)))) are c.if_caught_up.ensures.ok)
+    (all_looked net new (λ i d less. (s.acted.each i d (omega (arith, less, s.acted.len))).looked)) are
+    c.if_caught_up.ensures.ok)
 
 pub returns-clause-finished : goal.returns-clause-finished
 returns-clause-finished g c =

@@ -23,7 +23,8 @@ returns-then-len-lt-BLOCK-clause-ok c =
     let last = c.len-count.result - 1 in
     let long : length blocks.items ≡ last + 1 = omega (arith, c.len-count.ensures, blocks.ok.0) in
     on_ok c.push.result c.push.ensures.ok
-    (all_push_last blocks.items last c.index_mut.result.now c.push.new.self c.args.entry.now long c.index_mut.ensures.value)
+    (all_push_last blocks.items last c.index_mut.result.now c.push.new.self c.args.entry.now long
+    c.index_mut.ensures.value)
 
 pub returns-clause-blocks : goal.returns-clause-blocks
 returns-clause-blocks c =

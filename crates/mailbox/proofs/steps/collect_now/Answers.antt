@@ -1,6 +1,6 @@
 use Rattle.std.proofs.Common.{arith, ◌∙◌}
 use Rattle.mailbox.proofs.Moves.{collects}
-use Rattle.mailbox.proofs.Tellings.{has_slot, collected}
+use Rattle.mailbox.proofs.Tellings.{has_slot, HasCollected-hit}
 use Rattle.mailbox.proofs.steps.collect_now.Goals as goal
 
 pub compare_exchange-requires : goal.compare_exchange-requires
@@ -12,6 +12,6 @@ compare_exchange-requires g c = (
 
 pub exchange-requires : goal.exchange-requires
 exchange-requires g c =
-    let told = collected g.E.Errand.answers c.args.seat.now.me _ _ c.requires.sent.0 c.requires.sent.1
+    let told = HasCollected-hit g.E.Errand.answers c.args.seat.now.me _ _ c.requires.sent.0 c.requires.sent.1
     c.compare_exchange.ensures.2 c.if-compare_exchange-eq-ANSWERED.true in
     (c.compare_exchange.ensures.0 ∙ c.requires.table.0, has_slot _ _ _ told.2)

@@ -1,6 +1,6 @@
 use Rattle.std.proofs.Common.{arith, ◌∙◌}
 use Rattle.mailbox.proofs.Moves.{undoes}
-use Rattle.mailbox.proofs.Tellings.{has_slot, undone}
+use Rattle.mailbox.proofs.Tellings.{has_slot, HasUndone-hit}
 use Rattle.mailbox.proofs.steps.undo.Goals as goal
 
 pub compare_exchange-requires : goal.compare_exchange-requires
@@ -12,6 +12,6 @@ compare_exchange-requires g c = (
 
 pub exchange-requires : goal.exchange-requires
 exchange-requires g c =
-    let told = undone c.args.seat.now.me _ _ c.requires.sent.0 c.requires.sent.1 c.compare_exchange.ensures.2
+    let told = HasUndone-hit c.args.seat.now.me _ _ c.requires.sent.0 c.requires.sent.1 c.compare_exchange.ensures.2
     c.if-compare_exchange-eq-WAITS.true in
     (c.compare_exchange.ensures.0 ∙ c.requires.table.0, has_slot _ _ _ told)

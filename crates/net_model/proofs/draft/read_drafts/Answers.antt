@@ -1,7 +1,7 @@
 use Rattle.std.proofs.Common.{◌≡◌, ap, ◌∙◌, ◌+◌, map, Ok, arith}
 use Rattle.toml.specs.View.{view}
 use Rattle.net_model.specs.Drafts.{as_draft, draft_of}
-use Rattle.net_model.proofs.Turns.{drafts_step}
+use Rattle.net_model.proofs.ElementByElement.{drafts_step}
 use Rattle.net_model.proofs.draft.read_drafts.Goals as goal
 
 pub drafts-preserved : goal.drafts-preserved

@@ -1,7 +1,7 @@
 use Rattle.std.proofs.Common.{◌≡◌, ◌+◌, [], length, map, drop}
 use Rattle.toml.specs.View.{view}
 use Rattle.net_model.specs.Drafts.{as_draft, drafts_of}
-use Rattle.net_model.proofs.Turns.{after}
+use Rattle.net_model.proofs.ElementByElement.{after}
 use Rattle.net_model.proofs.draft.read_drafts.Given as goal
 
 abbrev pub invariant-drafts : goal.invariant-drafts

@@ -1,7 +1,7 @@
 use Rattle.std.proofs.Common.{◌≡◌, length, map, drop}
 use Rattle.toml.specs.View.{view}
 use Rattle.net_model.specs.NamedLinks.{each_link}
-use Rattle.net_model.proofs.Turns.{after}
+use Rattle.net_model.proofs.ElementByElement.{after}
 use Rattle.net_model.proofs.links.read_each.Given as goal
 
 abbrev pub invariant-links : goal.invariant-links

@@ -1,5 +1,5 @@
 use Rattle.std.proofs.Common.{◌∙◌}
-use Rattle.net_model.proofs.Turns.{resolved_there, resolved_nowhere}
+use Rattle.net_model.proofs.ElementByElement.{resolved_there, resolved_nowhere}
 use Rattle.net_model.proofs.resolve.resolve_link.Goals as goal
 
 pub returns-in-Some : goal.returns-in-Some

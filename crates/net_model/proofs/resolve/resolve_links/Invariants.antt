@@ -1,7 +1,7 @@
 use Rattle.std.proofs.Common.{◌≡◌, length, map, drop}
 use Rattle.net_model.specs.Drafts.{as_draft}
 use Rattle.net_model.specs.Resolving.{links_of_named}
-use Rattle.net_model.proofs.Turns.{after}
+use Rattle.net_model.proofs.ElementByElement.{after}
 use Rattle.net_model.proofs.resolve.resolve_links.Given as goal
 
 abbrev pub invariant-links : goal.invariant-links

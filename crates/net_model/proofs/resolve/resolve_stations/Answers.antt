@@ -1,6 +1,6 @@
 use Rattle.std.proofs.Common.{map}
 use Rattle.net_model.specs.Drafts.{as_draft}
-use Rattle.net_model.proofs.Turns.{sites_step}
+use Rattle.net_model.proofs.ElementByElement.{sites_step}
 use Rattle.net_model.proofs.resolve.resolve_stations.Goals as goal
 
 pub stations-preserved : goal.stations-preserved

@@ -2,7 +2,7 @@ use Rattle.std.proofs.Common.{◌≡◌, ◌+◌, map, drop}
 use Rattle.net_model.specs.Drafts.{as_draft}
 use Rattle.net_model.specs.Resolving.{sites_of}
 use Rattle.net_model.specs.Sites.{as_site}
-use Rattle.net_model.proofs.Turns.{after}
+use Rattle.net_model.proofs.ElementByElement.{after}
 use Rattle.net_model.proofs.resolve.resolve_stations.Given as goal
 
 abbrev pub invariant-stations : goal.invariant-stations

@@ -85,12 +85,12 @@ loop-takers-smaller g c =
     let d = subst (λ h. NextDue (ends_in h c.args.ends.now) c.args.bound c.loop-takers.copy c.next_due.new.copy
     c.in-Some.ensures.some.0 c.in-Some.takers) c.horizon.ensures.value c.in-Some.ensures.some.1 in
     let log = ap length c.log.ensures.value in
-    let room : length c.next_due.new.copy.log < c.args.model.now.limit = let l = c.if-len-limit.false in let a =
+    let less : length c.next_due.new.copy.log < c.args.model.now.limit = let l = c.if-len-limit.false in let a =
     c.len.ensures in let b = c.limit.ensures.value in omega (arith, l, a, b, log) in
     fewer_left c.args.model.now.limit (length c.next_due.new.copy.log) (length c.handle_least.new.copy.log)
     (length c.loop-takers.copy.log) (longer_log c.args.model.now c.args.station c.next_due.new.copy
     c.handle_least.new.copy _ _ c.in-Some.ensures.some.0 d.marks d.rest d.pending c.in_ok-handle_least.ensures.handled)
-    (ap (λ l. length l) d.same.log) room
+    (ap (λ l. length l) d.same.log) less
 
 pub loop-takers-preserved : goal.loop-takers-preserved
 loop-takers-preserved g c =
@@ -98,7 +98,7 @@ loop-takers-preserved g c =
     c.in-Some.ensures.some.0 c.in-Some.takers) c.horizon.ensures.value c.in-Some.ensures.some.1 in
     let inv = c.loop-takers.invariant in
     let log = ap length c.log.ensures.value in
-    let room : length c.next_due.new.copy.log < c.args.model.now.limit = let l = c.if-len-limit.false in let a =
+    let less : length c.next_due.new.copy.log < c.args.model.now.limit = let l = c.if-len-limit.false in let a =
     c.len.ensures in let b = c.limit.ensures.value in omega (arith, l, a, b, log) in
     record {
       onward = came_on c.args.model.now c.args.station (ends_in c.args.model.now.horizon c.args.ends.now) c.args.bound
@@ -106,7 +106,7 @@ loop-takers-preserved g c =
           c.loop-takers.stage.sent.items c.args.steps.now c.loop-takers.steps
           inv.onward c.in-Some.ensures.some.0 c.in-Some.takers d
           c.handle_least.new.copy c.handle_least.new.sent.items c.handle_least.new.steps
-          (eqb-true c.in-Some.takers c.set.result (sym c.if-eq.ensures) ∙ c.set.ensures.value) room
+          (eqb-true c.in-Some.takers c.set.result (sym c.if-eq.ensures) ∙ c.set.ensures.value) less
           c.in_ok-handle_least.ensures.handled c.in_ok-handle_least.ensures.counted;
       done = inv.done;
       over = inv.over;

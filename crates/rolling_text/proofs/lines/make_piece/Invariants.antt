@@ -5,7 +5,8 @@ use Rattle.rolling_text.proofs.lines.make_piece.Given as goal
 
 abbrev pub invariant-loop-left : goal.invariant-loop-left
 invariant-loop-left l = record {
-  text : take l.at l.piece ++ flat_map (entry_line l.model) l.cursor.left ≡ flat_map (entry_line l.model) l.fn.cursor.left;
+  text : take l.at l.piece ++ flat_map (entry_line l.model) l.cursor.left
+      ≡ flat_map (entry_line l.model) l.fn.cursor.left;
   within : l.at ≤ length l.piece;
   left : l.left ≤ length l.cursor.left;
   behind : drop l.left l.cursor.left ≡ drop l.fn.left l.fn.cursor.left;

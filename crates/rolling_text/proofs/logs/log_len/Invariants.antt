@@ -1,5 +1,7 @@
 use Rattle.std.proofs.Common.{◌≡◌, ◌+◌, ◌*◌, ◌≤◌, length, sum_by}
 use Rattle.log_chain.specs.Times.{RiseByTime, from_time}
+use Rattle.net_model.specs.declared.limits.TheConstants.{MOST_LIMIT}
+use Rattle.trace_report.specs.declared.line.TheConstants.{MOST_LINE}
 use Rattle.trace_report.specs.TraceText.{entry_line}
 use Rattle.rolling_text.proofs.logs.log_len.Given as goal
 
@@ -9,7 +11,7 @@ invariant-loop-entry l = record {
       (from_time l.from l.log);
   late : from_time l.until l.walk ≡ from_time l.until l.log;
   rises : RiseByTime l.walk;
-  bound : l.sum + 256 * length l.walk ≤ 256 * 65536;
+  bound : l.sum + MOST_LINE * length l.walk ≤ MOST_LINE * MOST_LIMIT;
 }
 
 abbrev pub decreases-loop-entry : goal.decreases-loop-entry

@@ -2,17 +2,18 @@ use Rattle.std.proofs.Common.{◌<◌, ◌≤◌, length, take, drop}
 use Rattle.std.specs.List.{flat_map}
 use Rattle.sim_outer.specs.Bytes.{IsAppended}
 use Rattle.sim_outer.specs.Causes.{AreCounted}
+use Rattle.rolling_text.specs.declared.texts.TheConstants.{MARGIN}
 use Rattle.rolling_text.specs.Texts.{AreLeft, CanPut}
 use Rattle.trace_report.specs.Outputs.{clone_text}
 use Rattle.rolling_text.proofs.putting.put_texts.Given as goal
 
--- nothing is said of the 32 bytes before the lines: they are what the last head left
+-- nothing is said of the margin before the lines: they are what the last head left
 abbrev pub invariant-loop-c : goal.invariant-loop-c
 invariant-loop-c g l = record {
   can : CanPut l.traces.net l.texts;
-  margin : 32 ≤ length l.texts.page.text;
+  margin : MARGIN ≤ length l.texts.page.text;
   reserved : l.fn.texts.page.reserved ≤ l.texts.page.reserved;
-  left : l.c < l.clones → AreLeft l.traces.net l.traces.clones l.c l.dropped (drop 32 l.texts.page.text);
+  left : l.c < l.clones → AreLeft l.traces.net l.traces.clones l.c l.dropped (drop MARGIN l.texts.page.text);
   appended : IsAppended (g.O.Sink.seen l.fn.out).bytes
       (flat_map (clone_text l.traces.net) (take l.c l.traces.clones))
       (g.O.Sink.seen l.out).bytes;

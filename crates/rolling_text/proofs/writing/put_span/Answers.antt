@@ -10,8 +10,8 @@ use Rattle.rolling_text.proofs.writing.put_span.Goals as goal
 pub put_entries-requires-clause-fits : goal.put_entries-requires-clause-fits
 put_entries-requires-clause-fits g c is =
     let view = c.args.traces.now in
-    let lines = ap length (lines_are view.net c.model-model.result.now (clone_at view.clones c.args.span.c) c.args.span.from
-    c.gather_span-count.new.walk.left (c.model-model.ensures.value
+    let lines = ap length (lines_are view.net c.model-model.result.now (clone_at view.clones c.args.span.c)
+    c.args.span.from c.gather_span-count.new.walk.left (c.model-model.ensures.value
     ∙ ap (λ (v : WorldTracesView). v.net) c.traces.view_is)
     c.gather_span-count.ensures.left) in
     let fits = c.requires.may.fits is in
@@ -23,8 +23,8 @@ returns-clause-ok g c =
     let span = c.gather_span-count in
     let put = c.put_entries in
     both_ok put.result _ _ _ put.ensures.ok put.ensures.left
-    (λ ok left. span_put view.net c.model-model.result.now (clone_at view.clones c.args.span.c) c.args.span.from c.args.span.until
-    span.result span.new.walk.left put.new.cursor.left
+    (λ ok left. span_put view.net c.model-model.result.now (clone_at view.clones c.args.span.c) c.args.span.from
+    c.args.span.until span.result span.new.walk.left put.new.cursor.left
     (c.model-model.ensures.value ∙ ap (λ (v : WorldTracesView). v.net) c.traces.view_is) span.ensures.left
     span.ensures.behind left c.args.span.keeps _ _ _ _ ok)
 

@@ -4,14 +4,14 @@ use Rattle.run_laws.proofs.RunTotals.{windows-add_up, run-adds_up}
 use Rattle.run_laws.proofs.laws.gaining.Goals as goal
 
 pub returns-clause-to_limit : goal.returns-clause-to_limit
-returns-clause-to_limit g c = λ w cs front bound s total old window short st counted.
-    handled_grows_to_limit g.T.Stations.lawful w.joins cs s front bound old st window.later window.within w.same total
-    w.tells short counted
+returns-clause-to_limit g c = λ w cs front bound s total old h short.
+    handled_grows_to_limit g.T.Stations.lawful w.joins cs s front bound old h.stand h.window.later h.window.within
+    w.same total w.tells short h.gained
 
 pub returns-clause-few : goal.returns-clause-few
-returns-clause-few g c = λ w cs front bound s total old window short st counted.
-    handled_is_few g.T.Stations.lawful w.joins cs s front bound old st window.later window.within w.same total w.tells
-    short counted
+returns-clause-few g c = λ w cs front bound s total old h short.
+    handled_is_few g.T.Stations.lawful w.joins cs s front bound old h.stand h.window.later h.window.within w.same total
+    w.tells short h.gained
 
 pub returns-clause-copy : goal.returns-clause-copy
 returns-clause-copy g c = λ has ends s bound n size r sent good sorted clones h.

@@ -1,4 +1,5 @@
-use Rattle.run_laws.proofs.Ends.{settled_if_late, ends_done, ends_over, ends_handle, ends_same, ends_split, skipped}
+use Rattle.run_laws.proofs.ComesTo.{settled_if_late, comes_to-done, comes_to-over, comes_to-handle, comes_to-same}
+use Rattle.run_laws.proofs.ComesTo.{comes_to-split, skipped}
 use Rattle.run_laws.proofs.Steps.{so_far_more, stepped, are_over}
 use Rattle.run_laws.proofs.Gaining.{gained_alone, together_push}
 use Rattle.run_laws.proofs.laws.stepping.Goals as goal
@@ -8,26 +9,28 @@ returns-clause-late g c = λ w r sent k late. settled_if_late g.T.Stations.lawfu
     sent k late
 
 pub returns-clause-settled : goal.returns-clause-settled
-returns-clause-settled g c = λ w r sent over. ends_done g.T.Stations.lawful w.joins w.ends w.station w.bound r sent over
+returns-clause-settled g c = λ w r sent over. comes_to-done g.T.Stations.lawful w.joins w.ends w.station w.bound r sent
+    over
 
 pub returns-clause-full : goal.returns-clause-full
-returns-clause-full g c = λ w r x q sent over. ends_over g.T.Stations.lawful w.joins w.ends w.station w.bound r x.0
+returns-clause-full g c = λ w r x q sent over. comes_to-over g.T.Stations.lawful w.joins w.ends w.station w.bound r x.0
     x.1 q sent over
 
 pub returns-clause-shared : goal.returns-clause-shared
 returns-clause-shared g c = λ w r x q sent after results over over_after n.
-    ends_handle g.T.Stations.lawful w.joins w.ends w.station w.bound r x.0 x.1 q sent results after over over_after n
+    comes_to-handle g.T.Stations.lawful w.joins w.ends w.station w.bound r x.0 x.1 q sent results after over
+    over_after n
 
 pub returns-clause-passed : goal.returns-clause-passed
 returns-clause-passed g c = λ w r x q before after results over over_after n p none h.
-    ends_same g.T.Stations.lawful w.joins w.ends w.station w.bound r (record r { pending = q }) results before after
+    comes_to-same g.T.Stations.lawful w.joins w.ends w.station w.bound r (record r { pending = q }) results before after
     over over_after n
     (skipped g.T.Stations.lawful w.joins w.ends w.station w.bound r x.0 x.1 q p none) (λ c i. i) h
 
 pub returns-clause-splits : goal.returns-clause-splits
 returns-clause-splits g c = λ w r some rest x q before mid after results1 results2 over over1 over2 n1 n2 short p
     sorted early one two all none each a b.
-    ends_split g.T.Stations.lawful w.joins w.ends w.station w.bound r some rest x.0 x.1 q before mid after results1
+    comes_to-split g.T.Stations.lawful w.joins w.ends w.station w.bound r some rest x.0 x.1 q before mid after results1
     results2 over over1 over2 n1 n2 short p sorted early one two all none each a b
 
 pub returns-clause-copies : goal.returns-clause-copies

@@ -2,13 +2,13 @@ use Rattle.run_laws.proofs.Sums.{alone-copies, clones-copies, class-copy}
 use Rattle.run_laws.proofs.laws.summing.Goals as goal
 
 pub returns-clause-alone : goal.returns-clause-alone
-returns-clause-alone g c = λ has cs front s copies size sized st.
-    alone-copies has size g.T.Stations.sim cs front s copies sized st
+returns-clause-alone g c = λ w.
+    alone-copies w.has w.size g.T.Stations.sim w.clones w.front w.station w.copies w.counted w.stand
 
 pub returns-clause-clones : goal.returns-clause-clones
-returns-clause-clones g c = λ has cs front s copies size sized st.
-    clones-copies has size g.T.Stations.sim cs front s copies sized st
+returns-clause-clones g c = λ w.
+    clones-copies w.has w.size g.T.Stations.sim w.clones w.front w.station w.copies w.counted w.stand
 
 pub returns-clause-class : goal.returns-clause-class
-returns-clause-class g c = λ has cs front s copies size a sized st i.
-    class-copy has size g.T.Stations.sim cs front s copies sized st a i
+returns-clause-class g c = λ w.
+    class-copy w.has w.size g.T.Stations.sim w.clones w.front w.station w.copies w.counted w.stand

@@ -15,7 +15,7 @@ use Rattle.std.proofs.Common.{
   length-append,
 }
 use Rattle.crew_pool.specs.Tasks.{EachReady}
-use Rattle.standing_crew.specs.Parts.{Part, EachReadyFrom, AreOutFrom, items_out}
+use Rattle.standing_crew.specs.Parts.{PartView, EachReadyFrom, AreOutFrom, items_out}
 use Rattle.standing_crew.proofs.Runs.{EachReadyFrom-run}
 use Rattle.standing_crew.proofs.Outs.{items_out-push, AreOutFrom-push}
 use Rattle.standing_crew.proofs.calls.hand_out.Goals as goal
@@ -39,7 +39,7 @@ loop-line-preserved g c =
     let run = c.in_ok-run.run'.items in
     let rest = c.in_ok-run.rest.items in
     let work = c.args.work.now.value in
-    let part : Part _ _ = record { work = work; first = c.loop-line.first; items = run } in
+    let part : PartView _ _ = record { work = work; first = c.loop-line.first; items = run } in
     let added : c.add-else-len-size.new.list.items ≡ busy ++ Some part ∷ [] =
     c.in_ok-add-2.ensures.value ∙ ap (λ line. busy ++ line ∷ []) c.in_ok-line.ensures.given in
     let longer : items_out c.add-else-len-size.new.list.items ≡ before ++ run =

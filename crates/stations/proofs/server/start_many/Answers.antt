@@ -18,7 +18,7 @@ starts-preserved c =
     record {
       rest = ap (start_times (c.args.times - (c.starts.counter + 1)) net site c.args.now) (sym c.start_next.ensures)
           ∙ (sym more ∙ inv.rest);
-      room = omega (arith, one.sends, inv.room);
+      sent = omega (arith, one.sends, inv.sent);
       next = omega (arith, one.next, inv.next);
       draws = omega (arith, one.draws, inv.draws);
       lo = one.lo ∙ inv.lo;

@@ -11,7 +11,7 @@ invariant-starts l = record {
       (reaction l.server (outgoing l.sender l.out.items))
       ≡ start_times l.times l.model (as_site l.station) l.now
       (reaction l.initial.server (outgoing l.initial.sender l.initial.out.items));
-  room : array_vec_len l.out ≤ l.counter;
+  sent : array_vec_len l.out ≤ l.counter;
   next : l.sender.next ≤ l.initial.sender.next + l.counter;
   draws : l.sender.draws.count ≤ l.initial.sender.draws.count + l.counter;
   lo : l.server.lo ≡ l.initial.server.lo;

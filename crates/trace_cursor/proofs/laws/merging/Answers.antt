@@ -1,9 +1,10 @@
-use Rattle.trace_cursor.proofs.Rests.{log_rises, rest_is_merge}
+use Rattle.run_laws.proofs.Traces.{log_rises}
+use Rattle.trace_cursor.proofs.Rests.{rest_is_merge}
 use Rattle.trace_cursor.proofs.laws.merging.Goals as goal
 
 pub returns-clause-log_rises : goal.returns-clause-log_rises
 returns-clause-log_rises g c = λ k s front there.
-    log_rises g.T.Stations.lawful g.T.Stations.to_stations g.met.T.Numbered.fresh k s front there
+    log_rises g.T.Stations.lawful g.T.Stations.to_stations g.met.T.Numbered.fresh k front there s
 
 pub returns-clause-rest : goal.returns-clause-rest
 returns-clause-rest g c = λ k t there.

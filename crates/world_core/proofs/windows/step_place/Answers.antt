@@ -11,7 +11,8 @@ use Rattle.world_core.proofs.windows.step_place.Goals as goal
 
 pub returns-clause-stepped : goal.returns-clause-stepped
 returns-clause-stepped g c =
-    let v : WindowView = record { net = c.deref.result.now; ends = c.deref-2.result.now; bound = c.work.inside.bound } in
+    let v : WindowView =
+    record { net = c.deref.result.now; ends = c.deref-2.result.now; bound = c.work.inside.bound } in
     let here : v ≡ c.args.work.now = ap₂ (λ n e. record { net = n; ends = e; bound = c.work.inside.bound })
     c.deref.ensures c.deref-2.ensures ∙ c.work.view_is in
     let ends = ends_in v.net.horizon v.ends in
@@ -22,7 +23,12 @@ returns-clause-stepped g c =
     let e = c.in_ok-gain.ensures in
     let got = got_at items i x c.requires.place c.index_mut.ensures.value in
     let at = subst (λ (w : WindowView). IsNumbered w.net i x) (sym here) (c.requires.numbered x got) in
-    let flow : Flow = record { done = y; sent = c.advance.new.sent; over = c.in_ok-gain.gain.over; handled = c.in_ok-gain.gain.handled } in
+    let flow : Flow = record {
+      done = y;
+      sent = c.advance.new.sent;
+      over = c.in_ok-gain.gain.over;
+      handled = c.in_ok-gain.gain.handled;
+    } in
     let sent : c.put_behind.new.all.items ≡ c.args.outbox.now.all.items ++ c.advance.new.sent.items =
     c.in_ok-put_behind.ensures.both ∙ ap (λ l. c.args.outbox.now.all.items ++ l) c.as_slice.ensures.value in
     subst (λ (w : WindowView). SteppedAt w.net (ends_in w.net.horizon w.ends) w.bound i items (slice_set items i y)

@@ -3,7 +3,7 @@ use Rattle.decision_book.specs.Journal.{Event, after}
 use Rattle.decision_book.specs.Books.{BookView, journal_of}
 use Rattle.decision_book.proofs.Scripts.{asking_is_next}
 use Rattle.decision_book.proofs.Booking.{called, journal_called}
-use Rattle.decision_book.proofs.Fulls.{full_where_full, replied, kept_of}
+use Rattle.decision_book.proofs.Fulls.{full_where_full, replied, with_last_entry}
 use Rattle.decision_book.proofs.book.Book.decide.Goals as goal
 
 pub invariant_of-self : goal.invariant_of-self
@@ -60,10 +60,11 @@ returns-else-not-fills_up-clause-full c =
     c.self.invariant c.self.view_is
     (rw (← c.len-calls.ensures.value, ← c.deref.ensures) c.decide_by_table-reply.ensures.reply))
 
-pub returns-in-Ok-clause-kept : goal.returns-in-Ok-clause-kept
-returns-in-Ok-clause-kept c not =
+pub returns-in-Ok-clause-entry : goal.returns-in-Ok-clause-entry
+returns-in-Ok-clause-entry c not =
     let b = c.self.inside in
-    ap (λ (v : BookView). v.events) (kept_of c.args.self.now _ c.args.caller c.args.d c.decide_by_table-reply.result
+    ap (λ (v : BookView). v.events) (with_last_entry c.args.self.now _ c.args.caller c.args.d
+    c.decide_by_table-reply.result
     (replied b.model.value b.lists b.calls b.fronts b.front c.args.d c.decide_by_table-reply.result c.args.self.now
     c.self.invariant c.self.view_is
     (rw (← c.len-calls.ensures.value, ← c.deref.ensures) c.decide_by_table-reply.ensures.reply))

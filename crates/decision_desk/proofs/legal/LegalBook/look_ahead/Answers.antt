@@ -12,8 +12,8 @@ use Rattle.decision_desk.specs.Passes.{IsSince, IsTurnAhead}
 use Rattle.decision_desk.proofs.Leasts.{known_calls, is_turn_ahead}
 use Rattle.decision_desk.proofs.legal.LegalBook.look_ahead.Goals as goal
 
-pub accepted_from-requires : goal.accepted_from-requires
-accepted_from-requires c = record {
+pub accepted_calls_from-requires : goal.accepted_calls_from-requires
+accepted_calls_from-requires c = record {
   known = subst (λ (l : List Call). c.args.known ≤ length l)
       (sym (c.calls.ensures.value ∙ ap (λ (b : BookView). calls_of b.events) c.book-book.ensures.value))
       (known_calls c.args.self.now c.args.known c.args.least.now c.requires.since);

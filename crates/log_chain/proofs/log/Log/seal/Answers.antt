@@ -8,24 +8,25 @@ pub invariant_of-self-2 : goal.invariant_of-self-2
 invariant_of-self-2 c =
     let l = c.self.inside in
     let segments = l.segments.items in
-    let stay = c.place_behind-stay.result.0 in
-    let fit : IsFit (lengths segments) stay c.place_behind-stay.result.1 =
-    rw c.as_slice.ensures.value at c.place_behind-stay.ensures.fit in
-    let size : c.place_behind-stay.result.1 ≡ length (entries_in (drop stay segments)) + l.more =
-    rw (← c.as_slice.ensures.value) c.place_behind-stay.ensures.size in
-    let joined = taken_in segments _ stay _ _ (all_of l.blocks.items) c.in_ok-segment.ensures.value
+    let before = c.place_behind-before.result.0 in
+    let fit : IsFit (lengths segments) before c.place_behind-before.result.1 =
+    rw c.as_slice.ensures.value at c.place_behind-before.ensures.fit in
+    let size : c.place_behind-before.result.1 ≡ length (entries_in (drop before segments)) + l.more =
+    rw (← c.as_slice.ensures.value) c.place_behind-before.ensures.size in
+    let joined = taken_in segments _ before _ _ (all_of l.blocks.items) c.in_ok-segment.ensures.value
     c.as_slice-2.ensures.value (ap all_of c.as_slice-3.ensures.value) in
-    rw c.new.ensures.items (sealed_chain segments _ l.shared l.more stay _ _ l.blocks.items c.self.invariant
+    rw c.new.ensures.items (sealed_chain segments _ l.shared l.more before _ _ l.blocks.items c.self.invariant
     (omega arith) fit size joined c.in_ok-put_behind.ensures.ok)
 
 pub returns : goal.returns
 returns c =
     let l = c.self.inside in
     let segments = l.segments.items in
-    let stay = c.place_behind-stay.result.0 in
-    let joined = taken_in segments _ stay _ _ (all_of l.blocks.items) c.in_ok-segment.ensures.value
+    let before = c.place_behind-before.result.0 in
+    let joined = taken_in segments _ before _ _ (all_of l.blocks.items) c.in_ok-segment.ensures.value
     c.as_slice-2.ensures.value (ap all_of c.as_slice-3.ensures.value) in
     record {
       same = rw (c.new.ensures.items, append-nil)
-          (sealed_same segments _ stay _ (all_of l.blocks.items) joined c.in_ok-put_behind.ensures.ok ∙ c.self.view_is);
+          (sealed_same segments _ before _ (all_of l.blocks.items) joined c.in_ok-put_behind.ensures.ok
+          ∙ c.self.view_is);
     }

@@ -5,17 +5,28 @@ use Rattle.stations.specs.Runs.{simulation}
 use Rattle.run_laws.specs.Copies.{IsStepped, AreOver, GainTogether}
 use Rattle.phys_proc.specs.Own.{all_sizes, IsStepResult}
 use Rattle.phys_proc.specs.Procs.{ProcView, IsProc, KeepsShares}
+use Rattle.phys_proc.specs.Stages.{MayStepCopies}
 use Rattle.phys_proc.specs.Gone.{ends_in}
 use Rattle.phys_proc.proofs.AllCopies.{all_stepped, all_over, all_gained, all_few, all_shared}
 use Rattle.phys_proc.proofs.Shares.{few_members, few_clones, sizes_are, shares_after, few_handled}
 use Rattle.phys_proc.proofs.proc.Proc.advance.Goals.{then-is_empty, else-is_empty}
 use Rattle.phys_proc.proofs.proc.Proc.advance.Goals as goal
 
-pub step_copies-requires-clause-few : goal.step_copies-requires-clause-few
-step_copies-requires-clause-few g c =
-    subst (λ k. all_sizes k ≤ 256) (sym c.take_copies-copies.ensures.copies)
-    (few_clones c.self.inside.living c.self.inside.copies c.self.invariant.shares
-    (few_members c.self.inside.living c.len-clones.result c.len-clones.ensures.value c.len-clones.ensures.members))
+pub step_copies-requires-clause-may_step : goal.step_copies-requires-clause-may_step
+step_copies-requires-clause-may_step g c =
+    let net = c.args.model.now in
+    let i = c.self.inside in
+    let h = subst (IsProc net) (sym c.self.view_is) c.requires.proc in
+    subst (λ s. MayStepCopies net s c.args.bound c.take_copies-copies.result)
+    (sym (ap (λ (u : ProcView). u.station) (c.self-2.view_is ∙ c.take_copies-copies.ensures.none)))
+    (subst (MayStepCopies net i.station c.args.bound) (sym c.take_copies-copies.ensures.copies) (record {
+      valid = h.valid;
+      fits = h.copies;
+      disjoint = c.self.invariant.shares.disjoint;
+      early = c.requires.early;
+      few = few_clones i.living i.copies c.self.invariant.shares
+          (few_members i.living c.len-clones.result c.len-clones.ensures.value c.len-clones.ensures.members);
+    }))
 
 pub overflow_add-self : goal.overflow_add-self
 overflow_add-self g c =
@@ -50,7 +61,8 @@ invariant_of-self-then-is_empty g c =
     c.args.steps.now c.step_copies.new.steps) c.take_copies-copies.ensures.copies
     c.in_ok-step_copies.ensures.stepped) in
     let none = eqb-true st.over empty (sym c.if-is_empty.ensures.value) in
-    subst (λ s. KeepsShares (record { station = s; living = i.living; handled = i.handled + st.handled; copies = st.done }))
+    subst (λ s. KeepsShares
+    (record { station = s; living = i.living; handled = i.handled + st.handled; copies = st.done }))
     (sym (ap (λ (u : ProcView). u.station) (c.self-2.view_is ∙ c.take_copies-copies.ensures.none)))
     (shares_after net i.station ends c.args.bound i.copies st.done st.sent.items
     (all_stepped net h.valid i.station ends c.args.bound i.copies st.done st.sent.items st.over c.args.steps.now

@@ -5,8 +5,8 @@ use Rattle.shelf.specs.Racks.{AreLegal, HasRack, latest}
 use Rattle.shelf.proofs.Legals.{has_later, front-later}
 use Rattle.shelf.proofs.seat.Seat.look.Goals as goal
 
-pub glanced-requires : goal.glanced-requires
-glanced-requires g c =
+pub glance_at-requires : goal.glance_at-requires
+glance_at-requires g c =
     let known = c.self.inside.newest.value in
     let now = c.refresh.new.newest.value in
     let has = subst (λ (l : List RackView). HasRack c.args.station l) (sym c.self.view_is) c.requires.there in
@@ -21,7 +21,7 @@ returns-clause-front g c = λ r e.
     let now = c.refresh.new.newest.value in
     let legal : AreLegal now = subst AreLegal (c.published.ensures.value ∙ c.deref.ensures) c.len-legal.ensures.legal in
     let before = subst (λ (l : List RackView). latest c.args.station l ≡ Some r) (sym c.self.view_is) e in
-    let h = c.glanced.ensures.glance in
+    let h = c.glance_at.ensures.glance in
     let after = subst (λ (l : List RackView). latest c.args.station l ≡ Some h.0) c.deref-2.ensures h.1 in
     let f = front-later c.args.station known now r h.0 legal c.refresh.ensures.begins before after in
     omega (arith, f, h.2.front)

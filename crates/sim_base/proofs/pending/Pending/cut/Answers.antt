@@ -6,7 +6,7 @@ use Rattle.sim_base.specs.Order.{msg_cmp}
 use Rattle.sim_base.specs.Marked.{SortedMarked}
 use Rattle.sim_base.specs.Blocks.{of_blocks, AreFilled, AreSized}
 use Rattle.sim_base.proofs.Cutting.{cut-append, sorted_cut, length_cut}
-use Rattle.sim_base.proofs.Turning.{cut_more, cut_end}
+use Rattle.sim_base.proofs.Rotating.{cut_more, cut_end}
 use Rattle.sim_base.proofs.pending.Pending.cut.Goals as goal
 
 pub loop-block-init : goal.loop-block-init

@@ -5,7 +5,7 @@ use Rattle.sim_base.specs.Marked.{SortedMarked}
 use Rattle.sim_base.specs.Blocks.{of_blocks}
 use Rattle.sim_base.proofs.Cutting.{cut-append, sorted_cut, length_cut}
 use Rattle.sim_base.proofs.Placing.{sorted_right}
-use Rattle.sim_base.proofs.Turning.{filled_if, empty_if}
+use Rattle.sim_base.proofs.Rotating.{filled_if, empty_if}
 use Rattle.sim_base.proofs.pending.Pending.keep.Goals as goal
 
 pub invariant_of-self : goal.invariant_of-self

@@ -1,5 +1,5 @@
 use Rattle.std.proofs.Common.{◌∷◌, ◌++◌, ◌+◌, [], ◌<◌, ap, sym, ◌∙◌, subst, arith, length}
-use Rattle.sim_base.proofs.Turning.{Turned, block_kept, block_dropped, filled_if, empty_if}
+use Rattle.sim_base.proofs.Rotating.{HasRotated, block_kept, block_dropped, filled_if, empty_if}
 use Rattle.sim_base.proofs.pending.blocks.keep_later.Goals as goal
 
 pub loop-preserved-then-is_empty : goal.loop-preserved-then-is_empty
@@ -17,5 +17,5 @@ loop-preserved g c =
     let kept = block_kept g.S.Marks.met c.args.by c.args.later.now.items c.loop.later.items c.pop_front.new.self.items
     c.loop.counter c.in-Some.block l c.loop.invariant c.in-Some.ensures.items c.requires.filled
     (subst (λ b. 0 < length b) c.keep.ensures.value some) in
-    subst (λ bs. Turned g.S.Marks.met c.args.by c.args.later.now.items bs (c.loop.counter + 1))
+    subst (λ bs. HasRotated g.S.Marks.met c.args.by c.args.later.now.items bs (c.loop.counter + 1))
     (sym (c.in-Ok.ensures.items ∙ ap (λ b. c.pop_front.new.self.items ++ b ∷ []) c.keep.ensures.value)) kept

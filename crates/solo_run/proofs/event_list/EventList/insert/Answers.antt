@@ -9,8 +9,9 @@ use Rattle.solo_run.proofs.event_list.EventList.insert.Goals as goal
 pub invariant_of-self : goal.invariant_of-self
 invariant_of-self c =
     let lists = c.self.inside.lists.items in
+    let stations = ap (λ (v : EventListView). v.stations) c.self.view_is in
     let there : c.args.msg.to - 1 < length lists =
-    omega (arith, c.requires.pending.first, c.requires.pending.last, ap (λ (v : EventListView). v.stations) c.self.view_is) in
+    omega (arith, c.requires.pending.first, c.requires.pending.last, stations) in
     subst (λ l. IsEventList l c.self.inside.words)
     (sym (unchanged lists _ c.self.invariant (c.args.msg.to - 1) there c.insert.new.self c.index_mut.result.now
     c.index_mut.ensures.value c.in_err-insert.ensures.err)) c.self.invariant
@@ -18,9 +19,10 @@ invariant_of-self c =
 pub invariant_of-self-2 : goal.invariant_of-self-2
 invariant_of-self-2 c =
     let lists = c.self.inside.lists.items in
+    let stations = ap (λ (v : EventListView). v.stations) c.self.view_is in
     let i = c.args.msg.to - 1 in
     let there : i < length lists =
-    omega (arith, c.requires.pending.first, c.requires.pending.last, ap (λ (v : EventListView). v.stations) c.self.view_is) in
+    omega (arith, c.requires.pending.first, c.requires.pending.last, stations) in
     let own : c.args.msg.to ≡ suc i = omega (arith, c.requires.pending.first) in
     changed lists _ c.self.invariant i there c.insert.new.self
     (inserted_is lists _ c.self.invariant i there c.insert.new.self c.index_mut.result.now
@@ -31,11 +33,11 @@ invariant_of-self-2 c =
 pub returns-clause-ok : goal.returns-clause-ok
 returns-clause-ok c =
     let lists = c.self.inside.lists.items in
+    let stations = ap (λ (v : EventListView). v.stations) c.self.view_is in
     let there : c.args.msg.to - 1 < length lists =
-    omega (arith, c.requires.pending.first, c.requires.pending.last, ap (λ (v : EventListView). v.stations) c.self.view_is) in
+    omega (arith, c.requires.pending.first, c.requires.pending.last, stations) in
     view_is _ _ _ _
     (inserted lists _ c.self.invariant (c.args.msg.to - 1) there c.insert.new.self c.index_mut.result.now
     c.index_mut.ensures.value _ c.args.msg c.in_ok-insert.ensures.ok
     ∙ ap (λ (v : EventListView). insert msg_cmp c.args.msg v.messages) c.self.view_is)
-    (length-set lists (c.args.msg.to - 1) c.insert.new.self
-    ∙ ap (λ (v : EventListView). v.stations) c.self.view_is)
+    (length-set lists (c.args.msg.to - 1) c.insert.new.self ∙ stations)

@@ -12,7 +12,8 @@ take_message-msg-requires c = record {
 pub invariant_of-self : goal.invariant_of-self
 invariant_of-self c =
     changed c.self.inside.lists.items _ c.self.invariant c.in_ok-i.i c.in_ok-i.ensures.some.there
-    c.take_message-msg.new.self (taken_is c.self.inside.lists.items _ c.self.invariant c.args.bound c.in_ok-i.i c.in_ok-i.ensures.some
+    c.take_message-msg.new.self
+    (taken_is c.self.inside.lists.items _ c.self.invariant c.args.bound c.in_ok-i.i c.in_ok-i.ensures.some
     c.index_mut.result.now c.index_mut.ensures.value c.take_message-msg.result c.take_message-msg.ensures.value.0
     c.take_message-msg.new.self c.take_message-msg.ensures.value.1)
     c.index.result.now c.index.ensures c.word_of-word.result c.word_of-word.ensures.value
@@ -20,7 +21,8 @@ invariant_of-self c =
 
 pub returns-clause-some : goal.returns-clause-some
 returns-clause-some c = (
-  sym c.self.view_is ∙ view_is _ _ _ _ (taken_first c.self.inside.lists.items _ c.self.invariant c.args.bound c.in_ok-i.i c.in_ok-i.ensures.some
+  sym c.self.view_is ∙ view_is _ _ _ _
+      (taken_first c.self.inside.lists.items _ c.self.invariant c.args.bound c.in_ok-i.i c.in_ok-i.ensures.some
       c.index_mut.result.now c.index_mut.ensures.value c.take_message-msg.result c.take_message-msg.ensures.value.0
       c.take_message-msg.new.self c.take_message-msg.ensures.value.1)
       (sym (length-set c.self.inside.lists.items c.in_ok-i.i c.take_message-msg.new.self)),

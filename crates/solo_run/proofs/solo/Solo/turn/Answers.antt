@@ -62,5 +62,5 @@ returns-clause-solo g c =
       trace = c.self.inside.trace;
     } in
     let solo = subst (λ (w : SoloView). IsSolo net (with_due m w)) (sym c.self.view_is) c.requires.solo in
-    rw c.in-Ok-push.ensures.ok (solo_is net solo.valid v m c.handle_at.new.states.items c.put_all.new.pending.messages _ _
-    c.requires.early solo c.in_ok-line.ensures.ok (rw c.as_slice.ensures.value at c.in-Ok.ensures.ok))
+    rw c.in-Ok-push.ensures.ok (solo_is net solo.valid v m c.handle_at.new.states.items c.put_all.new.pending.messages
+    _ _ c.requires.early solo c.in_ok-line.ensures.ok (rw c.as_slice.ensures.value at c.in-Ok.ensures.ok))

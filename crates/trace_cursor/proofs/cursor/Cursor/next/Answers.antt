@@ -1,4 +1,5 @@
 use Rattle.std.proofs.Common.{◌≤◌, ◌<◌, ◌%◌, length, sym, ap, ◌∙◌, arith}
+use Rattle.sim_base.specs.declared.message.TheConstants.{WORD_PLACES}
 use Rattle.trace_cursor.specs.Cursors.{CursorView}
 use Rattle.trace_cursor.proofs.Popping.{none_past}
 use Rattle.trace_cursor.proofs.Stepping.{stepped, given, ended}
@@ -7,7 +8,7 @@ use Rattle.trace_cursor.proofs.cursor.Cursor.next.Goals as goal
 pub returns-then-i-len-clause-none : goal.returns-then-i-len-clause-none
 returns-then-i-len-clause-none c =
     let walks = c.self.inside.walks in
-    let past : length walks.items ≤ c.least-place.result % 64 =
+    let past : length walks.items ≤ c.least-place.result % WORD_PLACES =
     omega (arith, c.if-i-len.true, c.len.ensures, walks.ok.0) in
     let nothing = sym (ap (λ (v : CursorView). v.left) c.self.view_is)
     ∙ none_past c.least-place.result c.self.inside.tree walks.items _ _ c.self.invariant c.least-place.ensures.value
@@ -17,7 +18,7 @@ returns-then-i-len-clause-none c =
 pub invariant_of-self : goal.invariant_of-self
 invariant_of-self c =
     let walks = c.self.inside.walks in
-    let there : c.least-place.result % 64 < length walks.items =
+    let there : c.least-place.result % WORD_PLACES < length walks.items =
     omega (arith, c.if-i-len.false, c.len.ensures, walks.ok.0) in
     stepped walks.items c.self.inside.tree _ _ c.self.invariant c.least-place.result c.least-place.ensures.value there
     c.index_mut.result.now c.next-entry.new.self c.index_mut.ensures.value
@@ -27,7 +28,7 @@ invariant_of-self c =
 pub returns-clause-some : goal.returns-clause-some
 returns-clause-some c =
     let walks = c.self.inside.walks in
-    let there : c.least-place.result % 64 < length walks.items =
+    let there : c.least-place.result % WORD_PLACES < length walks.items =
     omega (arith, c.if-i-len.false, c.len.ensures, walks.ok.0) in
     given walks.items c.self.inside.tree _ _ c.self.invariant c.least-place.result c.least-place.ensures.value there
     c.index_mut.result.now c.next-entry.new.self c.index_mut.ensures.value
@@ -37,7 +38,7 @@ returns-clause-some c =
 pub returns-clause-none : goal.returns-clause-none
 returns-clause-none c =
     let walks = c.self.inside.walks in
-    let there : c.least-place.result % 64 < length walks.items =
+    let there : c.least-place.result % WORD_PLACES < length walks.items =
     omega (arith, c.if-i-len.false, c.len.ensures, walks.ok.0) in
     ended walks.items c.self.inside.tree _ _ c.self.invariant c.least-place.result c.least-place.ensures.value there
     c.index_mut.result.now c.next-entry.new.self c.index_mut.ensures.value

@@ -4,8 +4,8 @@ use Rattle.trace_report.specs.Slots.{slot_of}
 use Rattle.trace_report.proofs.Slots.{slot_past}
 use Rattle.trace_report.proofs.names.Names.slot.Goals as goal
 
-pub returns-then-s-gt64 : goal.returns-then-s-gt64
-returns-then-s-gt64 c =
+pub returns-then-s-ge-SLOTS : goal.returns-then-s-ge-SLOTS
+returns-then-s-ge-SLOTS c =
     let net = c.args._model.now in
     let there = subst (λ slots. slice_get slots 0 ≡ Some (slot_of net 0)) (sym c.self.view_is)
     (c.requires.names.each 0 (omega arith)) in

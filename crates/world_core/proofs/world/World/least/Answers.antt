@@ -3,8 +3,8 @@ use Rattle.net_model.specs.Net.{Net}
 use Rattle.stations.specs.Runs.{simulation}
 use Rattle.run_laws.specs.Fronts.{least}
 use Rattle.phys_proc.specs.Gone.{ends_in}
+use Rattle.phys_proc.specs.Procs.{IsWithLeast}
 use Rattle.world_core.specs.Worlds.{WorldView}
-use Rattle.world_core.specs.Due.{IsWithLeast}
 use Rattle.world_core.proofs.Places.{got_at}
 use Rattle.world_core.proofs.DueTimes.{TakenTo, by_words, least_next, least_all}
 use Rattle.world_core.proofs.Timing.{least_with}
@@ -24,7 +24,8 @@ loop-i-preserved c =
     (subst (λ (e : List (ℕ × ℕ)). IsWithLeast (ends_in net.horizon e) p.copies c.loop-i.least
     c.with_least-least.result) c.ends.ensures.value
     (subst (λ (n : Net). IsWithLeast (ends_in n.horizon c.ends.result.now) p.copies c.loop-i.least
-    c.with_least-least.result) c.deref.ensures c.with_least-least.ensures.least)) (TakenTo (ends_in net.horizon ended) procs c.loop-i.i)
+    c.with_least-least.result) c.deref.ensures c.with_least-least.ensures.least))
+    (TakenTo (ends_in net.horizon ended) procs c.loop-i.i)
     (by_words (TakenTo (ends_in net.horizon ended) procs c.loop-i.i) c.loop-i.least c.loop-i.invariant))
 
 pub returns : goal.returns

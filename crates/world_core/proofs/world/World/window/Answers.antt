@@ -8,7 +8,8 @@ use Rattle.world_core.specs.Windows.{AllDelivered, AreNumbered, all_sent}
 use Rattle.world_core.specs.Stepping.{FirstOver}
 use Rattle.world_core.specs.Overs.{IsFault, NoneBeyond}
 use Rattle.world_core.specs.declared.world.WorldFault.TheVariants.{EventLimit}
-use Rattle.world_core.proofs.Worlds.{all_numbered, first_beyond_is, few_are, done_numbered, none_are_beyond, steps_sum, world_after}
+use Rattle.world_core.proofs.Worlds.{all_numbered, first_beyond_is, few_are, done_numbered, none_are_beyond}
+use Rattle.world_core.proofs.Worlds.{steps_sum, world_after}
 use Rattle.world_core.proofs.world.World.window.Goals as goal
 
 pub step_all-requires-clause-numbered : goal.step_all-requires-clause-numbered

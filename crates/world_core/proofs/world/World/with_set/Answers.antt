@@ -17,7 +17,7 @@ invariant_of-result c =
     let there = subst (λ (w : WorldView). c.args.who < length w.clones) (sym c.self.view_is) c.requires.there in
     let high = subst (λ (w : WorldView). c.args.plan.station ≤ length w.net.sites)
     (sym c.self.view_is) c.requires.high in
-    let late = subst (λ (w : WorldView). w.front ≤ c.args.plan.at) (sym c.self.view_is) c.requires.late in
+    let late = subst (λ (w : WorldView). w.front ≤ c.args.plan.at) (sym c.self.view_is) c.requires.not_late in
     let tells : c.message_of-msg.result ≡ set_message (length (clone_at cs c.args.who).plans) c.args.plan =
     c.message_of-msg.ensures.value ∙ ap (λ (l : List Planned). set_message (length l) c.args.plan)
     (c.list.ensures.value ∙ ap (λ (l : ListsView). (clone_at l.clones c.args.who).plans) c.lists.ensures.value) in

@@ -1,5 +1,5 @@
 use Rattle.std.proofs.Common.{◌≡◌, ◌<◌, ◌∷◌, ap, sym, ◌∙◌, arith, length}
-use Rattle.sim_base.proofs.Turning.{keep_kept, keep_dropped}
+use Rattle.sim_base.proofs.Rotating.{keep_kept, keep_dropped}
 use Rattle.sim_base.proofs.pending.block.Block.keep.Goals as goal
 use Rattle.sim_base.proofs.pending.block.Block.keep.Goals.{in-Some-meet+in-Ok, in_default-meet}
 

@@ -2,7 +2,7 @@ use Rattle.std.proofs.Common.{◌<◌, ap, sym, ◌∙◌, subst, arith, length,
 use Rattle.std.specs.Prelude.{is_some}
 use Rattle.std.proofs.lemmas.List.Edits.{map_over_more}
 use Rattle.sim_base.specs.Blocks.{StartsAt}
-use Rattle.sim_base.proofs.Turning.{spread_met, spread_apart, starts_set}
+use Rattle.sim_base.proofs.Rotating.{spread_met, spread_apart, starts_set}
 use Rattle.sim_base.proofs.pending.block.Block.spread.Goals as goal
 use Rattle.sim_base.proofs.pending.block.Block.spread.Goals.{then-is_some, else-is_some}
 

@@ -1,0 +1,25 @@
+-- What a step of all copies of a station begins with.
+use Rattle.std.specs.Prelude.{◌≡◌, ℕ, ◌≤◌, List, []}
+use Rattle.std.specs.List.{AllByRecursion}
+use Rattle.sim_base.specs.declared.lists.TheConstants.{MOST_CLONES}
+use Rattle.clone_sets.specs.Sets.{has, empty}
+use Rattle.net_model.specs.Net.{Net}
+use Rattle.net_model.specs.Rules.{IsNet}
+use Rattle.run_laws.specs.Copies.{Disjoint}
+use Rattle.phys_proc.specs.Own.{StationCopy, IsCopy, all_sizes}
+use Rattle.phys_proc.specs.declared.advancing.Stage.{Stage}
+
+-- the copies of station s may be stepped to the bound
+pub record MayStepCopies (net : Net) (s bound : ℕ) (copies : List StationCopy) : Type 0 where
+  pub valid : IsNet net
+  pub fits : AllByRecursion (IsCopy net s) copies
+  pub disjoint : Disjoint has copies
+  pub early : bound ≤ net.horizon
+  pub few : all_sizes copies ≤ MOST_CLONES
+
+-- no copy has come to the bound yet, nothing was sent or handled, and no clone is over the limit
+pub record IsNewStage (stage : Stage) : Type 0 where
+  pub none : stage.done ≡ []
+  pub silent : stage.sent.items ≡ []
+  pub under : stage.over ≡ empty
+  pub idle : stage.handled ≡ 0

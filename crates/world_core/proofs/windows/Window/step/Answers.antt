@@ -1,0 +1,29 @@
+use Rattle.std.proofs.Common.{◌≡◌, ap, ap₂, subst, ◌∙◌}
+use Rattle.phys_proc.specs.Gone.{ends_in}
+use Rattle.phys_proc.specs.Procs.{ProcView}
+use Rattle.world_core.specs.Windows.{WindowView, IsFlow}
+use Rattle.world_core.specs.declared.flow.Flow.{Flow}
+use Rattle.world_core.proofs.Flows.{is_flow}
+use Rattle.world_core.proofs.windows.Window.step.Goals as goal
+
+pub returns-clause-flow : goal.returns-clause-flow
+returns-clause-flow g c =
+    let same = c.lend-sent.ensures.same in
+    let v : WindowView =
+    record { net = c.deref.result.now; ends = c.deref-2.result.now; bound = c.self.inside.bound } in
+    let here : v ≡ c.args.self.now = ap₂ (λ n e. record { net = n; ends = e; bound = c.self.inside.bound })
+    c.deref.ensures c.deref-2.ensures ∙ c.self.view_is in
+    let net = v.net in
+    let ends = ends_in v.net.horizon v.ends in
+    let e = c.in_ok-gain.ensures in
+    let flow : Flow = record {
+      done = c.advance.new.self;
+      sent = c.advance.new.sent;
+      over = c.in_ok-gain.gain.over;
+      handled = c.in_ok-gain.gain.handled;
+    } in
+    subst (λ (w : WindowView). IsFlow w.net (ends_in w.net.horizon w.ends) w.bound c.args._i c.args.proc flow) here
+    (subst (λ (p : ProcView). IsFlow net ends c.self.inside.bound c.args._i p flow) same
+    (is_flow net ends c.self.inside.bound c.args._i c.lend-sent.new.self flow
+    (ap (λ (p : ProcView). p.station) same ∙ c.requires.numbered.number)
+    e.windows e.over e.gained e.proc e.station e.living e.handled))

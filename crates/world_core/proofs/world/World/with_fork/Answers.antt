@@ -1,0 +1,36 @@
+use Rattle.std.proofs.Common.{◌≡◌, ◌<◌, None, sym, ap, ◌∙◌, subst, length}
+use Rattle.sim_base.specs.Clones.{ListsView, clone_at}
+use Rattle.sim_base.specs.declared.lists.TheConstants.{MOST_CLONES}
+use Rattle.world_core.specs.Worlds.{WorldView, WorldStands}
+use Rattle.world_core.specs.Forking.{AllForked, LivesNowhere}
+use Rattle.world_core.proofs.Taken.{world_forked, lives, lives_not}
+use Rattle.world_core.proofs.world.World.with_fork.Goals as goal
+
+pub fork_all-requires-clause-old : goal.fork_all-requires-clause-old
+fork_all-requires-clause-old c =
+    lives c.self.inside.model.value c.self.inside.lists.clones c.self.inside.ends c.self.inside.front
+    c.self.inside.procs.items c.self.invariant c.args.old
+    (subst (λ (w : WorldView). c.args.old < length w.clones) (sym c.self.view_is) c.requires.there)
+
+pub fork_all-requires-clause-new : goal.fork_all-requires-clause-new
+fork_all-requires-clause-new c =
+    subst (λ n. LivesNowhere n c.self.inside.procs.items)
+    (sym (c.len-number.ensures.value ∙ ap (λ (l : ListsView). length l.clones) c.lists.ensures.value))
+    (lives_not c.self.inside.model.value c.self.inside.lists.clones c.self.inside.ends c.self.inside.front
+    c.self.inside.procs.items c.self.invariant)
+
+pub invariant_of-result : goal.invariant_of-result
+invariant_of-result c =
+    let net = c.self.inside.model.value in
+    let cs = c.self.inside.lists.clones in
+    let there = subst (λ (w : WorldView). c.args.old < length w.clones) (sym c.self.view_is) c.requires.there in
+    let open_end = subst (λ (w : WorldView). (clone_at w.clones c.args.old).end ≡ None)
+    (sym c.self.view_is) c.requires.open in
+    let few = subst (λ (w : WorldView). length w.clones < MOST_CLONES) (sym c.self.view_is) c.requires.few in
+    subst (λ cs. WorldStands net cs c.self.inside.ends c.self.inside.front c.fork_all.new.procs.items)
+    (sym c.in_ok-fork.ensures.clones)
+    (world_forked net cs c.args.new c.args.old there open_end c.self.inside.ends c.self.inside.front
+    c.self.inside.procs.items c.fork_all.new.procs.items few c.self.invariant
+    (subst (λ n. AllForked c.args.old n c.self.inside.procs.items c.fork_all.new.procs.items)
+    (c.len-number.ensures.value ∙ ap (λ (l : ListsView). length l.clones) c.lists.ensures.value)
+    c.fork_all.ensures.forked))
