@@ -1,54 +1,40 @@
 -- A set's size is the number of its clones.
-use Rattle.std.proofs.Common.{◌≡◌, ◌≢◌, ◌⊎◌, inl, inr, ℕ, zero, suc, ◌+◌, ◌/◌, ◌^◌, ◌<◌, ◌≤◌}
-use Rattle.std.proofs.Common.{Bool, true, false, List, [], ◌∷◌, length, refl, sym, ap, ◌∙◌, arith, pow-suc}
+use Rattle.std.proofs.Common.{◌≡◌, ◌≢◌, inl, inr, ℕ, zero, suc, ◌+◌, ◌/◌, ◌^◌, ◌<◌, ◌≤◌}
+use Rattle.std.proofs.Common.{Bool, true, false, List, [], ◌∷◌, length, refl, sym, ap, ◌∙◌, arith}
 use Rattle.std.specs.Prelude.{count_ones}
-use Rattle.std.proofs.lemmas.Bool.{cases_eq, false≢true}
+use Rattle.std.proofs.lemmas.Bool.{cases_eq}
 use Rattle.sim_base.specs.Counts.{In, Apart, IsCount}
+use Rattle.sim_base.proofs.Elements.{in_cons_if, cons_if_old, cons_if_new}
 use Rattle.clone_sets.specs.Sets.{has, empty, size}
 use Rattle.clone_sets.proofs.SetLaws.{below_limit}
-use Rattle.clone_sets.proofs.SizeLaws.{size_some}
+use Rattle.clone_sets.proofs.SizeLaws.{below_pow, size_some}
 use Rattle.clone_sets.proofs.MemberLaws.{picked, members_among, length-members_among}
 
--- ---- a list with c at its front, where b says so
+-- ---- Apart
 
--- an element is the front or one of the rest
-in_picked : (b : Bool) (c d : ℕ) (xs : List ℕ) → In d (picked b c xs) → ((b ≡ true) × (d ≡ c)) ⊎ In d xs
-in_picked true c d xs h = elim h [ inl e ↦ inl (refl, e) | inr i ↦ inr i ]
-in_picked false c d xs h = inr h
-
--- the rest stays
-picked_rest : (b : Bool) (c d : ℕ) (xs : List ℕ) → In d xs → In d (picked b c xs)
-picked_rest true c d xs h = inr h
-picked_rest false c d xs h = h
-
--- so does the front
-picked_front : (b : Bool) (c d : ℕ) (xs : List ℕ) → b ≡ true → d ≡ c → In d (picked b c xs)
-picked_front true c d xs e f = inl f
-picked_front false c d xs e f = absurd (false≢true e)
-
--- no element stands twice, where the front is not one of the rest
+-- no element stands twice, where the head is not one of the rest
 apart_picked : (b : Bool) (c : ℕ) (xs : List ℕ) → (In c xs → ⊥) → Apart xs → Apart (picked b c xs)
 apart_picked true c xs n a = (n, a)
 apart_picked false c xs n a = a
 
--- ---- the clones among the k numbers from c on
+-- ---- members_among
 
--- each of them is in the set, and not below c
+-- the clones of the set among the k numbers from c on are in the set, and not below c
 among_has : (k c s d : ℕ) → In d (members_among k c s) → (has s d ≡ true) × (c ≤ d)
 among_has zero c s d h = absurd h
 among_has (suc k) c s d h =
-    elim (in_picked (has s c) c d (members_among k (c + 1) s) h) [
+    elim (in_cons_if (has s c) c (members_among k (c + 1) s) d h) [
       | inl e ↦ (ap (has s) e.1 ∙ e.0, omega (arith, e.1))
       | inr i ↦ let later = among_has k (c + 1) s d i in (later.0, omega (arith, later.1))
     ]
 
--- each clone of the set there is one of them
+-- each clone of the set there is one of these
 has_among : (k c s d : ℕ) → c ≤ d → d < c + k → has s d ≡ true → In d (members_among k c s)
 has_among zero c s d l m h = absurd (omega arith)
 has_among (suc k) c s d l m h =
     elim (cases_eq d c) [
-      | inl e ↦ picked_front (has s c) c d (members_among k (c + 1) s) (ap (has s) (sym e) ∙ h) e
-      | inr ne ↦ picked_rest (has s c) c d (members_among k (c + 1) s)
+      | inl e ↦ cons_if_new (has s c) c (members_among k (c + 1) s) d (ap (has s) (sym e) ∙ h) e
+      | inr ne ↦ cons_if_old (has s c) c (members_among k (c + 1) s) d
           (has_among k (c + 1) s d (omega arith) (omega arith) h)
     ]
 
@@ -59,12 +45,7 @@ apart_among (suc k) c s =
     apart_picked (has s c) c (members_among k (c + 1) s)
     (λ i. let later : c + 1 ≤ c = (among_has k (c + 1) s c i).1 in omega (arith, later)) (apart_among k (c + 1) s)
 
--- ---- the laws
-
--- a number is below its power of two
-below_pow : (n : ℕ) → n < 2 ^ n
-below_pow zero = omega arith
-below_pow (suc n) = omega (arith, below_pow n, pow-suc 2 n)
+-- ---- size
 
 -- a clone of the set is below the set's number
 has_below : (s c : ℕ) → has s c ≡ true → c < s

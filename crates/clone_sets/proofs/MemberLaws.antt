@@ -12,16 +12,30 @@ use Rattle.std.specs.List.Sorted.{IsStrictlyIncreasing}
 use Rattle.std.proofs.lemmas.List.Elements.{All-filter, All-contains, filter_passes, All-from_get_or}
 use Rattle.std.proofs.lemmas.List.Kept.{IsStrictlyIncreasing-filter}
 use Rattle.std.proofs.lemmas.List.FromFn.{length-range_with_len, get_or-range_with_len}
+use Rattle.sim_base.specs.declared.lists.TheConstants.{MOST_CLONES}
+use Rattle.sim_base.proofs.Elements.{contains_tail}
 use Rattle.clone_sets.specs.Sets.{has, empty, without, size, IsFirst, members}
 use Rattle.clone_sets.proofs.SetLaws.{has-empty, has-without}
 
--- a list with c at its front, where b says so
+-- a list with c at its head, where b says so
 abbrev pub picked : Bool → ℕ → List ℕ → List ℕ
 picked b c xs = if b then c ∷ xs else xs
 
 -- those of the set among the k numbers from c on
 abbrev pub members_among : ℕ → ℕ → ℕ → List ℕ
 members_among k c s = filter (has s) (range_with_len c k)
+
+-- ---- has
+
+-- without one clone, the others stay
+has_without_other : (s f d : ℕ) → f ≢ d → has (without s f) d ≡ has s d
+has_without_other s f d ne = has-without s f d ∙ ap (λ b. not b && has s d) (ne_eqb f d ne)
+
+-- and that one is gone
+has_without_same : (s f d : ℕ) → f ≡ d → has (without s f) d ≡ false
+has_without_same s f d e = has-without s f d ∙ ap (λ b. not b && has s d) (eq-eqb f d e)
+
+-- ---- members_among
 
 -- the empty set has none among them
 members_among-empty : (k c : ℕ) → members_among k c empty ≡ []
@@ -33,14 +47,6 @@ members_among_same : (k c s t : ℕ) → ((d : ℕ) → c ≤ d → has s d ≡ 
 members_among_same zero c s t h = refl
 members_among_same (suc k) c s t h =
     ap₂ (λ b xs. picked b c xs) (h c (omega arith)) (members_among_same k (c + 1) s t (λ d l. h d (omega arith)))
-
--- without one clone, the others stay
-has_without_other : (s f d : ℕ) → f ≢ d → has (without s f) d ≡ has s d
-has_without_other s f d ne = has-without s f d ∙ ap (λ b. not b && has s d) (ne_eqb f d ne)
-
--- and that one is gone
-has_without_same : (s f d : ℕ) → f ≡ d → has (without s f) d ≡ false
-has_without_same s f d e = has-without s f d ∙ ap (λ b. not b && has s d) (eq-eqb f d e)
 
 -- the least clone comes first, and the others follow
 members_among_first : (k c s f : ℕ) → IsFirst s f → c ≤ f → f < c + k
@@ -59,15 +65,19 @@ members_among_first (suc k) c s f h l m =
           (sym (has_without_other s f c ne ∙ h.least c (omega arith)))
     ]
 
+-- ---- members
+
 -- the empty set has no members
 pub members-empty : members empty ≡ []
 unfolding members
-members-empty = members_among-empty 256 0
+members-empty = members_among-empty MOST_CLONES 0
 
 -- the first member is the least clone, and the others are those of the set without it
-pub members_first : (s f : ℕ) → IsFirst s f → f < 256 → members s ≡ f ∷ members (without s f)
+pub members_first : (s f : ℕ) → IsFirst s f → f < MOST_CLONES → members s ≡ f ∷ members (without s f)
 unfolding members
-members_first s f h l = members_among_first 256 0 s f h (omega arith) (omega arith)
+members_first s f h l = members_among_first MOST_CLONES 0 s f h (omega arith) (omega arith)
+
+-- ---- length
 
 -- a digit that is 1 counts an element
 length_picked : (d c : ℕ) (xs : List ℕ) → d < 2 → length (picked (d == 1) c xs) ≡ d + length xs
@@ -87,45 +97,45 @@ length-members_among (suc k) c s l =
     ∙ sym (ones_step (s / 2 ^ c))
 
 -- there are as many members as the set's size
-pub length-members : (s : ℕ) → s < 2 ^ 256 → length (members s) ≡ size s
+pub length-members : (s : ℕ) → s < 2 ^ MOST_CLONES → length (members s) ≡ size s
 unfolding members size
-length-members s l = let e : s / 2 ^ 0 ≡ s = omega arith in length-members_among 256 0 s (omega arith) ∙ ap count_ones e
+length-members s l =
+    let e : s / 2 ^ 0 ≡ s = omega arith in
+    length-members_among MOST_CLONES 0 s (omega arith) ∙ ap count_ones e
 
--- ---- what the members are
+-- ---- All, IsStrictlyIncreasing and Contains of members
 
--- the numbers that are looked at are below 256
-numbers_below : All (λ c. c < 256) (range_with_len 0 256)
+-- the numbers that are looked at are below the limit
+numbers_below : All (λ c. c < MOST_CLONES) (range_with_len 0 MOST_CLONES)
 numbers_below =
-    All-from_get_or (λ c. c < 256) (range_with_len 0 256) 0
-    (λ i l. let low : i < 256 = omega (arith, length-range_with_len 0 256) in
-    omega (arith, get_or-range_with_len 0 256 i 0 low))
+    All-from_get_or (λ c. c < MOST_CLONES) (range_with_len 0 MOST_CLONES) 0
+    (λ i l. let low : i < MOST_CLONES = omega (arith, length-range_with_len 0 MOST_CLONES) in
+    omega (arith, get_or-range_with_len 0 MOST_CLONES i 0 low))
 
 -- and they rise
-numbers_rise : IsStrictlyIncreasing (range_with_len 0 256)
+numbers_rise : IsStrictlyIncreasing (range_with_len 0 MOST_CLONES)
 numbers_rise = λ k l.
-    let low : k + 1 < 256 = omega (arith, length-range_with_len 0 256) in
-    omega (arith, get_or-range_with_len 0 256 k 0 (omega arith), get_or-range_with_len 0 256 (k + 1) 0 low)
+    let low : k + 1 < MOST_CLONES = omega (arith, length-range_with_len 0 MOST_CLONES) in
+    let here = get_or-range_with_len 0 MOST_CLONES k 0 (omega arith) in
+    let next = get_or-range_with_len 0 MOST_CLONES (k + 1) 0 low in
+    omega (arith, here, next)
 
--- the members are below 256
-pub members_below : (s : ℕ) → All (λ c. c < 256) (members s)
+-- the members are below the limit
+pub members_below : (s : ℕ) → All (λ c. c < MOST_CLONES) (members s)
 unfolding members
-members_below s = All-filter (has s) (λ c. c < 256) (range_with_len 0 256) numbers_below
+members_below s = All-filter (has s) (λ c. c < MOST_CLONES) (range_with_len 0 MOST_CLONES) numbers_below
 
 -- the members rise
 pub members_rise : (s : ℕ) → IsStrictlyIncreasing (members s)
 unfolding members
-members_rise s = IsStrictlyIncreasing-filter (has s) (range_with_len 0 256) numbers_rise
+members_rise s = IsStrictlyIncreasing-filter (has s) (range_with_len 0 MOST_CLONES) numbers_rise
 
 -- each member is in the set
 pub members_in : (s c : ℕ) → Contains (members s) c → has s c ≡ true
 unfolding members
-members_in s c = All-contains (λ d. has s d ≡ true) (members s) c (filter_passes (has s) (range_with_len 0 256))
+members_in s c = All-contains (λ d. has s d ≡ true) (members s) c (filter_passes (has s) (range_with_len 0 MOST_CLONES))
 
--- what a list has, a longer one has
-contains_tail : (x c : ℕ) (xs : List ℕ) → Contains xs c → Contains (x ∷ xs) c
-contains_tail x c xs h = (suc h.0, omega (arith, h.1), h.2)
-
--- also where b says whether it is longer
+-- what a list has, it has with x at its head, whether b says so or not
 contains_picked : (b : Bool) (x c : ℕ) (xs : List ℕ) → Contains xs c → Contains (picked b x xs) c
 contains_picked true x c xs h = contains_tail x c xs h
 contains_picked false x c xs h = h
@@ -143,6 +153,6 @@ in_members_among (suc k) c s d l m h =
     ]
 
 -- each clone of the set is a member
-pub in_members : (s c : ℕ) → c < 256 → has s c ≡ true → Contains (members s) c
+pub in_members : (s c : ℕ) → c < MOST_CLONES → has s c ≡ true → Contains (members s) c
 unfolding members
-in_members s c l h = in_members_among 256 0 s c (omega arith) (omega arith) h
+in_members s c l h = in_members_among MOST_CLONES 0 s c (omega arith) (omega arith) h

@@ -1,9 +1,10 @@
 -- What is in a set after each operation, and which sets are equal.
 use Rattle.std.proofs.Common.{◌≡◌, ◌≢◌, inl, inr, ℕ, zero, suc, ◌+◌, ◌%◌, ◌^◌, ◌<◌, ◌≤◌, min, max, ◌==◌}
-use Rattle.std.proofs.Common.{◌||◌, ◌&&◌, not, Bool, true, false, Some, None, refl, sym, ap, ◌∙◌, subst, arith, eq-eqb}
+use Rattle.std.proofs.Common.{◌||◌, ◌&&◌, not, true, false, Some, None, refl, sym, ap, ◌∙◌, subst, arith, eq-eqb}
 use Rattle.std.specs.Prelude.{bit_and, if◌then◌else◌}
 use Rattle.std.specs.Int.{bit_at}
 use Rattle.std.proofs.lemmas.Bool.{cases_eq, ne_eqb, cases_lt, false≢true}
+use Rattle.std.proofs.Math.Bool.{or_comm, and_comm}
 use Rattle.std.proofs.lemmas.Option.{none-some}
 use Rattle.std.proofs.lemmas.Nat.Bits.{bit_at_and, bit_at_or, bit_at_xor, bit_at-lt, bit_at-zero}
 use Rattle.std.proofs.lemmas.Nat.Bits.{bit_at-pow_same, bit_at-pow_other, bit_at_above, same_from_bits}
@@ -47,7 +48,7 @@ digit_same (suc zero) (suc zero) p q e = refl
 digit_same (suc (suc x)) y p q e = absurd (omega arith)
 digit_same x (suc (suc y)) p q e = absurd (omega arith)
 
--- ---- what is in a set
+-- ---- has
 
 -- no clone is in the empty set
 pub has-empty : (c : ℕ) → has empty c ≡ false
@@ -91,28 +92,14 @@ has-one c d = elim (cases_eq c d) [
       ∙ sym (ne_eqb c d ne)
 ]
 
--- the order of an or is free
-or_turned : (x y : Bool) → (x || y) ≡ (y || x)
-or_turned true true = refl
-or_turned true false = refl
-or_turned false true = refl
-or_turned false false = refl
-
--- and that of an and
-and_turned : (x y : Bool) → (x && y) ≡ (y && x)
-and_turned true true = refl
-and_turned true false = refl
-and_turned false true = refl
-and_turned false false = refl
-
 -- a clone is in the set with one more where it is that one or was there
 pub has-with : (s c d : ℕ) → has (with s c) d ≡ ((c == d) || has s d)
-has-with s c d = has-union s (one c) d ∙ ap (λ x. has s d || x) (has-one c d) ∙ or_turned (has s d) (c == d)
+has-with s c d = has-union s (one c) d ∙ ap (λ x. has s d || x) (has-one c d) ∙ or_comm (has s d) (c == d)
 
 -- a clone is in the set with one less where it is another and was there
 pub has-without : (s c d : ℕ) → has (without s c) d ≡ (not (c == d) && has s d)
 has-without s c d = has-minus s (one c) d ∙ ap (λ x. has s d && not x) (has-one c d)
-    ∙ and_turned (has s d) (not (c == d))
+    ∙ and_comm (has s d) (not (c == d))
 
 -- ---- equal sets
 
@@ -123,7 +110,7 @@ same_members a b h = same_from_bits a b (λ c. digit_same (bit_at a c) (bit_at b
     (h c))
 
 -- a set below the number 2 ^ k has no clone from k on
-pub none_from : (s k c : ℕ) → s < 2 ^ k → k ≤ c → has s c ≡ false
+none_from : (s k c : ℕ) → s < 2 ^ k → k ≤ c → has s c ≡ false
 unfolding has
 none_from s k c p q = ap (λ x. x == 1) (bit_at_above s k c p q)
 
@@ -135,7 +122,7 @@ empty_from_none s h = same_members s empty (λ c. h c ∙ sym (has-empty c))
 pub below_limit : (s k c : ℕ) → s < 2 ^ k → has s c ≡ true → c < k
 below_limit s k c p h = elim (cases_lt c k) [ inl l ↦ l | inr m ↦ absurd (false≢true (sym (none_from s k c p m) ∙ h)) ]
 
--- ---- what two sets have in common
+-- ---- common
 
 -- an empty meet is None
 common_off : (a b : ℕ) → meet a b ≡ 0 → common a b ≡ None

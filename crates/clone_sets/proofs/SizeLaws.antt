@@ -8,6 +8,15 @@ use Rattle.std.proofs.lemmas.Nat.{and_le_l, and_shr, xor_shr, ones_le_self, zero
 use Rattle.std.proofs.lemmas.Nat.Bits.{bit_at_lowest, bit_at_and, bit_at_xor}
 use Rattle.clone_sets.specs.Sets.{empty, meet, minus, size}
 
+-- ---- 2 ^ n
+
+-- a number is below its power of two
+pub below_pow : (n : ℕ) → n < 2 ^ n
+below_pow zero = omega arith
+below_pow (suc n) = omega (arith, below_pow n, pow-suc 2 n)
+
+-- ---- size
+
 -- the empty set has no clone
 pub size-empty : size empty ≡ 0
 unfolding size
@@ -17,6 +26,8 @@ size-empty = omega (arith, ones_le_self 0)
 pub size_some : (s : ℕ) → s ≢ empty → 0 < size s
 unfolding size
 size_some s ne = elim (cases_eq (count_ones s) 0) [ inl e ↦ absurd (ne (zero_from_ones s e)) | inr some ↦ omega arith ]
+
+-- ---- meet and minus: the lowest bit
 
 -- a meet without its lowest bit
 meet_half : (a b : ℕ) → meet a b / 2 ≡ meet (a / 2) (b / 2)
@@ -40,6 +51,8 @@ low_parts a b =
       bit_at_lowest a,
       bit_at_lowest b,
     )
+
+-- ---- size of meet and minus
 
 -- the lowest bit is counted, and then the others
 size_step : (s : ℕ) → size s ≡ s % 2 + size (s / 2)
@@ -70,11 +83,7 @@ size_parts_by (suc k) a b l =
 
 -- the sizes of the two parts of a set, cut by another, together are its size
 pub size_parts : (a b : ℕ) → size (meet a b) + size (minus a b) ≡ size a
-size_parts a b = size_parts_by a a b (lt_pow a)
-  where
-    lt_pow : (n : ℕ) → n < 2 ^ n
-    lt_pow zero = omega arith
-    lt_pow (suc n) = omega (arith, lt_pow n, pow-suc 2 n)
+size_parts a b = size_parts_by a a b (below_pow a)
 
 -- where neither part is empty, each is smaller than the whole
 pub meet_smaller : (a b : ℕ) → minus a b ≢ empty → size (meet a b) < size a

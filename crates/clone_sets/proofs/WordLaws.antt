@@ -8,6 +8,7 @@ use Rattle.std.proofs.lemmas.Nat.Bits.{bit_at_and, bit_at_xor, bit_at_not, bit_a
 use Rattle.std.proofs.lemmas.Nat.Bits.{same_from_bits_below, bit_at_cat_low, bit_at_cat_high, bit_at-trailing_zeros}
 use Rattle.std.specs.Int.Bits.{xor_self}
 use Rattle.std.proofs.lemmas.Bool.{cases_eq, cases_lt, ne_eqb}
+use Rattle.sim_base.specs.declared.lists.TheConstants.{MOST_CLONES}
 use Rattle.clone_sets.specs.Sets.{has, one, union, meet, minus, size, IsFirst}
 use Rattle.clone_sets.specs.Words.{above_word, low_word, high_words, set_of, AreWords, words_back, bit_in_word}
 use Rattle.clone_sets.proofs.SetLaws.{has-empty}
@@ -15,19 +16,19 @@ use Rattle.clone_sets.proofs.SetLaws.{has-empty}
 -- ---- a word below further ones
 
 -- a union, word by word
-pub union_above : (a b r s : ℕ) → r < 2 ^ 64 → s < 2 ^ 64
+union_above : (a b r s : ℕ) → r < 2 ^ 64 → s < 2 ^ 64
     → union (above_word a r) (above_word b s) ≡ above_word (union a b) (union r s)
 unfolding above_word union
 union_above a b r s = or_block 64 a b r s
 
 -- a meet, word by word
-pub meet_above : (a b r s : ℕ) → r < 2 ^ 64 → s < 2 ^ 64
+meet_above : (a b r s : ℕ) → r < 2 ^ 64 → s < 2 ^ 64
     → meet (above_word a r) (above_word b s) ≡ above_word (meet a b) (meet r s)
 unfolding above_word meet
 meet_above a b r s = and_block 64 a b r s
 
 -- what is left, word by word
-pub minus_above : (a b r s : ℕ) → r < 2 ^ 64 → s < 2 ^ 64
+minus_above : (a b r s : ℕ) → r < 2 ^ 64 → s < 2 ^ 64
     → minus (above_word a r) (above_word b s) ≡ above_word (minus a b) (minus r s)
 unfolding above_word minus
 minus_above a b r s p q =
@@ -35,24 +36,24 @@ minus_above a b r s p q =
     (omega (arith, and_le_l r s))
 
 -- the sizes add up
-pub size_above : (h l : ℕ) → l < 2 ^ 64 → size (above_word h l) ≡ size h + size l
+size_above : (h l : ℕ) → l < 2 ^ 64 → size (above_word h l) ≡ size h + size l
 unfolding above_word size
 size_above h l = ones_cat 64 h l
 
 -- the lowest word has the clones below 64
-pub has_above_low : (h l d : ℕ) → d < 64 → has (above_word h l) d ≡ has l d
+has_above_low : (h l d : ℕ) → d < 64 → has (above_word h l) d ≡ has l d
 unfolding above_word has
 has_above_low h l d p = ap (λ x. x == 1) (bit_at_cat_low h 64 l d p)
 
 -- those above it have the others
-pub has_above_high : (h l d : ℕ) → l < 2 ^ 64 → 64 ≤ d → has (above_word h l) d ≡ has h (d - 64)
+has_above_high : (h l d : ℕ) → l < 2 ^ 64 → 64 ≤ d → has (above_word h l) d ≡ has h (d - 64)
 unfolding above_word has
 has_above_high h l d p q = ap (λ x. x == 1) (bit_at_cat_high h 64 l d p q)
 
 -- ---- one word
 
 -- a word without the bits of another
-pub and_not_word : (a b : ℕ) → a < 2 ^ 64 → b < 2 ^ 64 → bit_and a (bit_not w64 b) ≡ minus a b
+and_not_word : (a b : ℕ) → a < 2 ^ 64 → b < 2 ^ 64 → bit_and a (bit_not w64 b) ≡ minus a b
 unfolding minus
 and_not_word a b p q =
     same_from_bits_below 64 (bit_and a (bit_not w64 b)) (bit_xor a (bit_and a b))
@@ -76,7 +77,7 @@ one_digit : (n : ℕ) → n ≡ 1 → (n == 1) ≡ true
 one_digit n e = ap (λ x. x == 1) e
 
 -- the lowest bit of a word that is not 0
-pub first_in_word : (w : ℕ) → w ≢ 0 → w < 2 ^ 64 → IsFirst w (trailing_zeros w64 w) × (trailing_zeros w64 w < 64)
+first_in_word : (w : ℕ) → w ≢ 0 → w < 2 ^ 64 → IsFirst w (trailing_zeros w64 w) × (trailing_zeros w64 w < 64)
 unfolding has
 first_in_word w some p =
     let h = bit_at-trailing_zeros w64 w (omega arith) p in
@@ -280,8 +281,8 @@ module _ (w0 w1 w2 w3 : ℕ) (h : AreWords w0 w1 w2 w3) where
       (omega (arith, le_or_l (bit_or (bit_or w0 w1) w2) w3, le_or_r (bit_or w0 w1) w2))
       (omega (arith, le_or_r (bit_or (bit_or w0 w1) w2) w3))) words_empty
 
-  -- a set's clones are below 256
-  pub set_of-lt : set_of w0 w1 w2 w3 < 2 ^ 256
+  -- a set is below the number that has a bit for each clone
+  pub set_of-lt : set_of w0 w1 w2 w3 < 2 ^ MOST_CLONES
   unfolding above_word
   set_of-lt = omega (arith, h.word0, h.word1, h.word2, h.word3)
 
@@ -298,6 +299,6 @@ one_by (suc (suc (suc zero))) c r l e = let f : c ≡ 192 + r = omega arith in
 one_by (suc (suc (suc (suc q)))) c r l e = absurd (omega arith)
 
 -- the words of one clone alone make the set of it
-pub set_of-one : (c : ℕ) → c < 256 → set_of (bit_in_word c 0) (bit_in_word c 1) (bit_in_word c 2) (bit_in_word c 3)
-    ≡ one c
+pub set_of-one : (c : ℕ) → c < MOST_CLONES
+    → set_of (bit_in_word c 0) (bit_in_word c 1) (bit_in_word c 2) (bit_in_word c 3) ≡ one c
 set_of-one c l = one_by (c / 64) c (c % 64) (omega arith) (omega arith)

@@ -1,4 +1,4 @@
--- A set as it is kept: four words, the lowest first.
+-- A set in memory: four words, the lowest first.
 use Rattle.std.specs.Prelude.{◌≡◌, ℕ, ◌+◌, ◌*◌, ◌/◌, ◌%◌, ◌^◌, ◌<◌, ◌==◌, if◌then◌else◌}
 use Rattle.std.proofs.Common.{ap, ◌∙◌}
 use Rattle.std.proofs.lemmas.Nat.{shr_high, mod_low}
@@ -31,12 +31,12 @@ abbrev pub bit_in_word : ℕ → ℕ → ℕ
 bit_in_word c i = if c / 64 == i then 2 ^ (c % 64) else 0
 
 -- the lowest word of a word below further ones
-pub low_above : (h l : ℕ) → l < 2 ^ 64 → low_word (above_word h l) ≡ l
+low_above : (h l : ℕ) → l < 2 ^ 64 → low_word (above_word h l) ≡ l
 unfolding above_word low_word
 low_above h l = mod_low h 64 l
 
 -- and the further ones
-pub high_above : (h l : ℕ) → l < 2 ^ 64 → high_words (above_word h l) ≡ h
+high_above : (h l : ℕ) → l < 2 ^ 64 → high_words (above_word h l) ≡ h
 unfolding above_word high_words
 high_above h l = shr_high h 64 l
 

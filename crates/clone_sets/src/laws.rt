@@ -2,13 +2,13 @@
 ghost use Rattle.clone_sets.specs.Laws.{UnionJoinsMarks, CommonMeetsMarks, SizeIsCount, HalvesAddUp, SetHasClone};
 
 /// Sets of clones may mark messages: to join and to meet is said clone by clone.
-pub fn marks()
+pub fn sets_are_marks()
     ensures join { UnionJoinsMarks }
     ensures meet { CommonMeetsMarks }
 {}
 
 /// How many clones a set has, and that there is one in each set that is not empty.
-pub fn sizes()
+pub fn sizes_are_counts()
     ensures count { SizeIsCount }
     ensures halves { HalvesAddUp }
     ensures some { SetHasClone }

@@ -1,13 +1,13 @@
 //! A set of clones as the marks of a message: the clones that it is for.
-ghost use Rattle.clone_sets.specs.Sets.{union, common};
+ghost use Rattle.clone_sets.specs.Sets.{union as union', common as common'};
 
 use crate::set::CloneSet;
 use sim_base::Marks;
 
 impl Marks for CloneSet {
-    ghost joined = { union };
+    ghost union = { union' };
 
-    ghost met = { common };
+    ghost common = { common' };
 
     fn join(self, other: CloneSet) -> CloneSet {
         self.union(other)

@@ -1,4 +1,4 @@
-//! `CloneSet`: a set of the clones 0 to 255, one bit each, and what is done with sets.
+//! `CloneSet`: a set of clones below `CloneSet::LIMIT`, one bit each, and what is done with sets.
 ghost use Rattle.std.specs.Prelude.{◌≡◌, ℕ, ◌+◌, ◌*◌, ◌<◌, ◌==◌, true, false, ◌||◌, ◌&&◌};
 ghost use Rattle.std.specs.Prelude.{not, IfNone, IfSome, IsTrue, ◌↔◌, length, nat_eq, All, Contains};
 ghost use Rattle.std.specs.List.Sorted.{IsStrictlyIncreasing};
@@ -7,6 +7,7 @@ ghost use Rattle.clone_sets.specs.Sets.{has, empty, one, union, meet, minus, wit
 ghost use Rattle.clone_sets.specs.Words.{bit_in_word};
 
 use crate::members::Members;
+use sim_base::MOST_CLONES;
 use std::marker::Model;
 
 /// A set of clone numbers below `CloneSet::LIMIT`.
@@ -64,7 +65,7 @@ impl Eq for CloneSet {
 
 impl CloneSet {
     /// Clone numbers are below this.
-    pub const LIMIT: u32 = 256;
+    pub const LIMIT: u32 = MOST_CLONES;
 
     /// No clone.
     pub fn empty() -> CloneSet

@@ -17,16 +17,17 @@ use Rattle.decision_book.specs.Replies.{reply}
 use Rattle.decision_book.specs.Right.{journal_with}
 use Rattle.decision_book.specs.Scripts.{Question, after_all, first_refusal, journal_of_script}
 use Rattle.decision_book.specs.declared.call.Reply.TheVariants.{Accepted}
-use Rattle.decision_book.proofs.Scripts.{accepted_goes_on, refused_is_first, script_stands}
+use Rattle.decision_book.proofs.Scripts.{accepted_goes_on, refused_is_first, situation_of_script}
 use Rattle.cloner_top.specs.declared.stop.Stop.{Stop}
 use Rattle.cloner_top.specs.declared.stop.Stop.TheVariants.{BadDecision}
 use Rattle.study_run.proofs.Accepting.{none_asked}
-use Rattle.study_run.specs.Accepted.{AllAccepted}
+use Rattle.study_run.specs.Accepted.{IsAcceptedJournal}
 use Rattle.cloner_top.specs.Deciding.{AcceptsAct, IsDecided, IsRefusal, RefusesAct, by_line, decision_lines}
 use Rattle.cloner_top.specs.Deciding.{journal_after, lines_onto, questions, questions_onto, script_journal}
 
 -- ---- items that stand before others
 
+-- the questions of items, and then those of others
 questions-append : (xs ys : List Item) → questions (xs ++ ys) ≡ questions xs ++ questions ys
 questions-append [] ys = refl
 questions-append (i ∷ is) ys = of_act i.act (questions-append is ys)
@@ -37,6 +38,7 @@ questions-append (i ∷ is) ys = of_act i.act (questions-append is ys)
     of_act (Decide d) h = ap (λ qs. record { caller = i.analyst; decision = d } ∷ qs) h
     of_act (Look who station) h = h
 
+-- the decisions of items, and then those of others
 decisions-append : (xs ys : List Item) → decisions (xs ++ ys) ≡ decisions xs ++ decisions ys
 decisions-append [] ys = refl
 decisions-append (i ∷ is) ys = of_act i.act (decisions-append is ys)
@@ -46,6 +48,7 @@ decisions-append (i ∷ is) ys = of_act i.act (decisions-append is ys)
     of_act (Decide d) h = ap (λ ds. d ∷ ds) h
     of_act (Look who station) h = h
 
+-- the lines of decisions, and then those of others
 lines-append : (xs ys : List Item) → decision_lines (xs ++ ys) ≡ decision_lines xs ++ decision_lines ys
 lines-append [] ys = refl
 lines-append (i ∷ is) ys = of_act i.act (lines-append is ys)
@@ -79,13 +82,16 @@ asked-decisions (i ∷ is) = of_act i.act (asked-decisions is)
 -- ---- one item more
 
 module _ (is : List Item) (i : ℕ) (item : Item) (there : slice_get is i ≡ Some item) where
+  -- the items from this one on
   rest_is : drop i is ≡ item ∷ drop (i + 1) is
   rest_is = drop_more is i item (slice_get_within is i item there)
       ∙ ap (λ x. x ∷ drop (i + 1) is) (get_or_from_slice_get is i item item there)
 
+  -- all items, in three parts
   all_are : take i is ++ (item ∷ drop (i + 1) is) ≡ is
   all_are = ap (λ l. take i is ++ l) (sym rest_is) ∙ take-append-drop i is
 
+  -- the items up to this one
   first_are : take i is ++ item ∷ [] ≡ take (i + 1) is
   first_are = sym (take_more is i item (slice_get_within is i item there)
       ∙ ap (λ x. take i is ++ x ∷ []) (get_or_from_slice_get is i item item there))
@@ -93,8 +99,10 @@ module _ (is : List Item) (i : ℕ) (item : Item) (there : slice_get is i ≡ So
 -- the situation after the items up to one
 after-journal_of_script : (net : Net) (is : List Item)
     → after net (journal_of_script net (questions is)) ≡ after_all (outset net) (decisions is)
-after-journal_of_script net is = script_stands net (questions is) ∙ ap (after_all (outset net)) (asked-decisions is)
+after-journal_of_script net is =
+    situation_of_script net (questions is) ∙ ap (after_all (outset net)) (asked-decisions is)
 
+-- the journal with one item more
 journal-more : (net : Net) (is : List Item) (item : Item) → journal_of_script net (questions (is ++ item ∷ []))
     ≡ journal_after net (journal_of_script net (questions is)) item.analyst item.act
 journal-more net is item = ap (journal_of_script net) (questions-append is (item ∷ [])) ∙ of_act item.act
@@ -105,6 +113,7 @@ journal-more net is item = ap (journal_of_script net) (questions-append is (item
         (questions is) (record { caller = item.analyst; decision = d } ∷ [])
     of_act (Look who station) = ap (journal_of_script net) (append-nil (questions is))
 
+-- with one item more that is accepted, no decision is refused
 none-more : (net : Net) (is : List Item) (item : Item) → first_refusal net (decisions is) ≡ None
     → AcceptsAct (after net (journal_of_script net (questions is))) item.act
     → first_refusal net (decisions (is ++ item ∷ [])) ≡ None
@@ -162,7 +171,7 @@ pub record IsAt (net : Net) (is : List Item) (i : ℕ) (book : BookView) : Type 
   pub net_is : book.net ≡ net
   pub events : book.events ≡ journal_of_script net (questions (take i is))
   pub none : first_refusal net (decisions (take i is)) ≡ None
-  pub accepted : AllAccepted book.net book.events
+  pub accepted : IsAcceptedJournal book.net book.events
 
 -- a book of the network in which nothing has been asked has come to the first item
 pub begins : (net : Net) (is : List Item) (book : BookView) → book ≡ record { net = net; events = [] }
@@ -176,6 +185,7 @@ begins net is book e = record {
 
 module _ (net : Net) (is : List Item) (i : ℕ) (item : Item) (old : BookView) (there : slice_get is i ≡ Some item)
     (at : IsAt net is i old) where
+  -- the book leaves what the journal of the items before leaves
   journal_is : after old.net old.events ≡ after net (journal_of_script net (questions (take i is)))
   journal_is = ap₂ after at.net_is at.events
 
@@ -183,7 +193,7 @@ module _ (net : Net) (is : List Item) (i : ℕ) (item : Item) (old : BookView) (
   pub goes_on : (new : BookView) → new.net ≡ old.net
       → new.events ≡ journal_after old.net old.events item.analyst item.act
       → AcceptsAct (after old.net old.events) item.act
-      → (AllAccepted old.net old.events → AllAccepted new.net new.events) → IsAt net is (i + 1) new
+      → (IsAcceptedJournal old.net old.events → IsAcceptedJournal new.net new.events) → IsAt net is (i + 1) new
   goes_on new same events accepts all = record {
     net_is = same ∙ at.net_is;
     events = events ∙ (ap₂ (λ n es. journal_after n es item.analyst item.act) at.net_is at.events
@@ -213,6 +223,6 @@ ends net stated i book last at =
       events = events;
       none = ap (option_map (by_line (decision_lines stated.items)))
           (ap (λ l. first_refusal net (decisions l)) (sym all) ∙ at.none);
-      accepted = subst (λ n. AllAccepted n book.events) at.net_is at.accepted;
+      accepted = subst (λ n. IsAcceptedJournal n book.events) at.net_is at.accepted;
       clones = ap (λ (s : Situation). s.clones) (ap (after net) events ∙ after-journal_of_script net stated.items);
     }

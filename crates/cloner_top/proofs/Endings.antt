@@ -11,7 +11,7 @@ use Rattle.decision_book.specs.Books.{BookView}
 use Rattle.decision_book.specs.Journal.{after}
 use Rattle.command_words.specs.declared.request.WordsFault.{WordsFault}
 use Rattle.command_words.specs.declared.request.WordsFault.TheVariants as fault
-use Rattle.command_words.specs.Requests.{Assignment, Source, made, named}
+use Rattle.command_words.specs.Requests.{Assignment, FileNames, Number, SourceView}
 use Rattle.cloner_top.specs.declared.reading.Text.TheVariants.{Model, Script}
 use Rattle.cloner_top.specs.declared.halt.Halt.{Halt}
 use Rattle.cloner_top.specs.declared.halt.Halt.TheVariants as halt
@@ -24,7 +24,7 @@ use Rattle.cloner_top.specs.Answers.{IsAnswer, IsDisobeyed, IsLawfulEnding, IsRe
 use Rattle.cloner_top.specs.Answers as answer
 use Rattle.cloner_top.specs.Deciding.{IsDecided, IsRefusal, clones_of_book}
 use Rattle.cloner_top.specs.Endings.{DecidesFirst, Ending, MayEnd, MaySimulate}
-use Rattle.cloner_top.specs.Endings.{StoppedFor, Wrote, early_stop, overrun, whole_output}
+use Rattle.cloner_top.specs.Endings.{StoppedFor, HasWritten, early_stop, overrun, whole_output}
 use Rattle.cloner_top.specs.Endings as ends
 use Rattle.cloner_top.specs.Outsides.{ArePut, ArePutOrCut, IsFailed, IsStudyPut, IsHalted, IsNotPut}
 use Rattle.cloner_top.specs.Plans.{IsRead, IsUnreadStudy, StopsEarly}
@@ -35,7 +35,8 @@ use Rattle.cloner_top.specs.Texts.{all_fetches, fetches_of, text_of}
 
 -- ---- the texts of a study
 
-bad_model_stops : (source : Source) (files : Option Files) (m : List ℕ) (stop : Stop)
+-- a rule that the model's text breaks stops the study before its script
+bad_model_stops : (source : SourceView) (files : Option Files) (m : List ℕ) (stop : Stop)
     → IsText (text_of source Model files) m → IsBadModel m stop → StopsEarly source files stop
 bad_model_stops source files m (BadModel fault) text h = record {
   m = m;
@@ -49,7 +50,7 @@ bad_model_stops source files m (NoClone name) text h = absurd h
 bad_model_stops source files m (LimitMet limit station clone) text h = absurd h
 
 -- memory that was refused, or a rule that the model's text breaks, is why the study is not read
-pub no_model : (rose : Type 0) (source : Source) (files : Option Files) (m : List ℕ) (r : Refusal)
+pub no_model : (rose : Type 0) (source : SourceView) (files : Option Files) (m : List ℕ) (r : Refusal)
     → IsText (text_of source Model files) m → Stops (IsBadModel m) r → IsUnreadStudy rose source files r
 no_model rose source files m OutOfMemory text h = tt
 no_model rose source files m Usage text h = absurd h
@@ -59,12 +60,14 @@ no_model rose source files m (Stopped stop) text h = bad_model_stops source file
 no_model rose source files m CannotWrite text h = absurd h
 
 -- both texts of a study
-pub both_texts : (source : Source) (files more : Option Files) (m s : List ℕ) → IsText (text_of source Model files) m
-    → more ≡ files → IsText (text_of source Script more) s → AreTexts source files m s
+pub both_texts : (source : SourceView) (files more : Option Files) (m s : List ℕ)
+    → IsText (text_of source Model files) m → more ≡ files
+    → IsText (text_of source Script more) s → AreTexts source files m s
 both_texts source files more m s model_is same script_is =
     record { model_is = model_is; script_is = λ net is. subst (λ f. IsText (text_of source Script f) s) same script_is }
 
-bad_script_stops : (source : Source) (files : Option Files) (m s : List ℕ) (net : Net) (stop : Stop)
+-- a rule that the script breaks stops the study before its decisions
+bad_script_stops : (source : SourceView) (files : Option Files) (m s : List ℕ) (net : Net) (stop : Stop)
     → AreTexts source files m s → model m ≡ Ok net → IsBadScript s stop → StopsEarly source files stop
 bad_script_stops source files m s net (BadScript fault) texts is h =
     record { m = m; s = s; texts = texts; may = λ a. ends.bad_script net fault is h }
@@ -74,7 +77,7 @@ bad_script_stops source files m s net (NoClone name) texts is h = absurd h
 bad_script_stops source files m s net (LimitMet limit station clone) texts is h = absurd h
 
 -- where the model is one, memory that was refused, or a rule that the script breaks, is why it is not read
-pub no_script : (rose : Type 0) (source : Source) (files : Option Files) (m s : List ℕ) (net : Net) (r : Refusal)
+pub no_script : (rose : Type 0) (source : SourceView) (files : Option Files) (m s : List ℕ) (net : Net) (r : Refusal)
     → AreTexts source files m s → model m ≡ Ok net → Stops (IsBadScript s) r → IsUnreadStudy rose source files r
 no_script rose source files m s net OutOfMemory texts is h = tt
 no_script rose source files m s net Usage texts is h = absurd h
@@ -102,24 +105,22 @@ refused_end a net stated steps out CannotWrite first h = absurd h
 
 -- ---- how often is fetched
 
-twice : (source : Source) (a b c : Option ℕ) → AreCounted (fetches_of source) a b → AreCounted (fetches_of source) b c
-    → AreCounted (all_fetches source) a c
-twice (made n) None b c h k = let e : b ≡ None = h in (rw e at k)
-twice (made n) (Some x) b c h k = (rw h at k)
-twice (named m s) None b c h k = let e : b ≡ None = h in (rw e at k)
-twice (named m s) (Some x) b c h k = (rw h at k)
-
 -- calls counted for one text of a study, and then for the other, are counted for both
-pub fetched_twice : (source : Source) (a b c : Option ℕ) → AreCounted (fetches_of source) a b
+pub fetched_twice : (source : SourceView) (a b c : Option ℕ) → AreCounted (fetches_of source) a b
     → AreCounted (fetches_of source) b c → AreCounted (all_fetches source) a c
-fetched_twice = twice
+fetched_twice (Number n) None b c h k = let e : b ≡ None = h in (rw e at k)
+fetched_twice (Number n) (Some x) b c h k = (rw h at k)
+fetched_twice (FileNames m s) None b c h k = let e : b ≡ None = h in (rw e at k)
+fetched_twice (FileNames m s) (Some x) b c h k = (rw h at k)
 
 -- ---- endings
 
 module _ (P Q : Ending → Type 0) (on : (end : Ending) → P end → Q end) (old_steps new_steps : ℕ) where
-  wrote_on : (texts : List (List ℕ)) → Wrote P old_steps new_steps texts → Wrote Q old_steps new_steps texts
+  -- texts that were written for an ending of the one kind were written for one of the other
+  wrote_on : (texts : List (List ℕ)) → HasWritten P old_steps new_steps texts → HasWritten Q old_steps new_steps texts
   wrote_on texts w = record { work = w.work; may = on (whole_output texts w.work) w.may; steps = w.steps }
 
+  -- and what the study stopped for it stopped for in the other kind
   stopped_on : (told : List (List ℕ)) (stop : Stop) → StoppedFor P old_steps new_steps told stop
       → StoppedFor Q old_steps new_steps told stop
   stopped_on told stop (ends.at_once none may same) = ends.at_once none (on (early_stop stop) may) same
@@ -164,7 +165,7 @@ comes files a net stated read end may = record {
 }
 
 -- why the study was not written is why what is asked was not written
-pub failed_is : (rose : Type 0) (files : Option Files) (a : Assignment) (old_steps new_steps : ℕ) (old new : SinkView)
+failed_is : (rose : Type 0) (files : Option Files) (a : Assignment) (old_steps new_steps : ℕ) (old new : SinkView)
     (r : Refusal)
     → IsFailed (IsLawfulEnding files a) old_steps new_steps old new r
     → IsUnobeyed rose files a old_steps new_steps old new r
@@ -224,6 +225,7 @@ stops_failed P old_steps new_steps out CannotWrite h = absurd h
 -- ---- answers
 
 module _ (words : Option Assignment) (before after : Outside) where
+  -- where the words were not read, and nothing but a line was told: the answer by its cause
   by_fault : (f : WordsFault) → (f ≡ fault.Usage → words ≡ None) → IsRefused before after [] (words_refusal f)
       → after.inputs ≡ before.inputs → after.steps ≡ before.steps
       → IsAnswer words before after (status_of (words_refusal f))
@@ -237,6 +239,7 @@ module _ (words : Option Assignment) (before after : Outside) where
   unread_words f status none refused inputs steps is =
       subst (IsAnswer words before after) (sym is) (by_fault f none refused inputs steps)
 
+  -- where what is asked was not written, and a line was told: the answer by its cause
   by_refusal : (a : Assignment) (r : Refusal) → words ≡ Some a
       → IsUnobeyed (HasRisen before.inputs.faults after.inputs.faults) before.inputs.files a before.steps after.steps
       before.output after.output r

@@ -11,7 +11,7 @@ use Rattle.decision_script.specs.Reading.{script}
 use Rattle.decision_script.specs.Stating.{ScriptView}
 use Rattle.command_words.specs.declared.request.Mode.{Mode}
 use Rattle.command_words.specs.declared.request.Mode.TheVariants.{All, One, Live}
-use Rattle.command_words.specs.Requests.{Assignment, Source, made, named}
+use Rattle.command_words.specs.Requests.{Assignment, FileNames, Number, SourceView}
 use Rattle.cloner_top.specs.declared.reading.Text.{Text}
 use Rattle.cloner_top.specs.declared.reading.Text.TheVariants.{Model, Script}
 use Rattle.cloner_top.specs.declared.refusal.Refusal.{Refusal}
@@ -33,6 +33,7 @@ use Rattle.cloner_top.specs.Facts.{IsWritten, IsStatusOf, Writes, WritesAll, Wri
 use Rattle.cloner_top.specs.Stops.{stop_status}
 use Rattle.cloner_top.specs.Texts.{AreTexts, IsUnread}
 
+-- ---- IsAnswer, of a command line of no known form
 module _ (words : Option Assignment) (before after : Outside) where
   -- status 2 means that the command line has no known form
   pub usage_cause : (status : ℕ) → IsAnswer words before after status → status ≡ 2 → words ≡ None
@@ -51,6 +52,7 @@ module _ (words : Option Assignment) (before after : Outside) where
       not_two (LimitMet limit station clone) h = omega (arith, h)
   usage_cause _ (cut a is off told) two = absurd (omega (arith, two))
 
+  -- where something is asked, the command line has a known form
   none_is : (a : Assignment) → words ≡ Some a → words ≡ None → ⊥
   none_is a is none = let h = sym is ∙ none in cc
 
@@ -64,21 +66,24 @@ module _ (words : Option Assignment) (before after : Outside) where
   formless _ (study_stop a is told stop why refused) none = absurd (none_is a is none)
   formless _ (cut a is off told) none = absurd (none_is a is none)
 
--- the status of a stop
-low : (s : Stop) → 4 ≤ stop_status s
-low (BadModel fault) = omega arith
-low (BadScript fault) = omega arith
-low (BadDecision reply line) = omega arith
-low (NoClone name) = omega arith
-low (LimitMet limit station clone) = omega arith
+-- ---- stop_status
+-- the status of a stop is at least 4
+stop_status-low : (s : Stop) → 4 ≤ stop_status s
+stop_status-low (BadModel fault) = omega arith
+stop_status-low (BadScript fault) = omega arith
+stop_status-low (BadDecision reply line) = omega arith
+stop_status-low (NoClone name) = omega arith
+stop_status-low (LimitMet limit station clone) = omega arith
 
-high : (s : Stop) → stop_status s ≤ 7
-high (BadModel fault) = omega arith
-high (BadScript fault) = omega arith
-high (BadDecision reply line) = omega arith
-high (NoClone name) = omega arith
-high (LimitMet limit station clone) = omega arith
+-- and at most 7
+stop_status-high : (s : Stop) → stop_status s ≤ 7
+stop_status-high (BadModel fault) = omega arith
+stop_status-high (BadScript fault) = omega arith
+stop_status-high (BadDecision reply line) = omega arith
+stop_status-high (NoClone name) = omega arith
+stop_status-high (LimitMet limit station clone) = omega arith
 
+-- ---- IsAnswer, by its status
 module _ (words : Option Assignment) (before after : Outside) where
   -- status 3 means that a text was not read
   pub unread_cause : (status : ℕ) → IsAnswer words before after status → status ≡ 3 → IsUnreadFor words before after
@@ -87,7 +92,8 @@ module _ (words : Option Assignment) (before after : Outside) where
   unread_cause _ (usage none refused inputs steps) three = absurd (omega (arith, three))
   unread_cause _ (no_model a is unread refused steps) three = record { a = a; asks = is; unread = inl unread }
   unread_cause _ (no_script a is has unread refused steps) three = record { a = a; asks = is; unread = inr unread }
-  unread_cause _ (study_stop a is told stop why refused) three = absurd (let l = low stop in omega (arith, three, l))
+  unread_cause _ (study_stop a is told stop why refused) three =
+      absurd (let l = stop_status-low stop in omega (arith, three, l))
   unread_cause _ (cut a is off told) three = absurd (omega (arith, three))
 
   -- statuses 4 to 7 mean that the study stopped, and that a line tells why
@@ -109,7 +115,8 @@ module _ (words : Option Assignment) (before after : Outside) where
   cut_cause _ (usage none refused inputs steps) eight = absurd (omega (arith, eight))
   cut_cause _ (no_model a is unread refused steps) eight = absurd (omega (arith, eight))
   cut_cause _ (no_script a is has unread refused steps) eight = absurd (omega (arith, eight))
-  cut_cause _ (study_stop a is told stop why refused) eight = absurd (let h = high stop in omega (arith, eight, h))
+  cut_cause _ (study_stop a is told stop why refused) eight =
+      absurd (let h = stop_status-high stop in omega (arith, eight, h))
   cut_cause _ (cut a is off told) eight = record { a = a; asks = is; cut = off }
 
   -- where the status is neither 0 nor 8, the output is as before
@@ -125,34 +132,41 @@ module _ (words : Option Assignment) (before after : Outside) where
 
 -- ---- only status 7 comes after work
 
+-- in a run of all clones
 run_7 : (net : Net) (clones : List Clone) (texts told : List (List ℕ)) (stop : Stop) (most : ℕ)
     → MayRun net clones texts (overrun told stop most) → stop_status stop ≡ 7
 run_7 net clones texts told stop most (ends.over station who meets) = refl
 
+-- in the run of one clone by itself
 alone_7 : (net : Net) (clones : List Clone) (name : List ℕ) (told : List (List ℕ)) (stop : Stop) (most : ℕ)
     → MayRunAlone net clones name (overrun told stop most) → stop_status stop ≡ 7
-alone_7 net clones name told stop most (ends.beyond k station is meets) = refl
+alone_7 net clones name told stop most (ends.limit_met k station is meets) = refl
 
+-- in a live study
 live_7 : (net : Net) (s : ScriptView) (told : List (List ℕ)) (stop : Stop) (most : ℕ)
     → MayLive net s (overrun told stop most) → stop_status stop ≡ 7
 live_7 net s told stop most (ends.over book looks station who journal all meets) = refl
 
-simulation_7 : (mode : Mode) (source : Source) (net : Net) (clones : List Clone) (told : List (List ℕ)) (stop : Stop)
-    (most : ℕ) → MaySimulate mode source net clones (overrun told stop most) → stop_status stop ≡ 7
+-- in a simulation of decided clones
+simulation_7 : (mode : Mode) (source : SourceView) (net : Net) (clones : List Clone) (told : List (List ℕ))
+    (stop : Stop) (most : ℕ) → MaySimulate mode source net clones (overrun told stop most) → stop_status stop ≡ 7
 simulation_7 All source net clones told stop most h = run_7 net clones (study_texts source net clones) told stop most h
 simulation_7 (One name) source net clones told stop most h = alone_7 net clones name told stop most h
 simulation_7 Live source net clones told stop most h = absurd h
 
+-- in a study that was read
 end_7 : (a : Assignment) (net : Net) (s : ScriptView) (told : List (List ℕ)) (stop : Stop) (most : ℕ)
     → MayEnd a net s (overrun told stop most) → stop_status stop ≡ 7
 end_7 a net s told stop most (ends.simulation end none may) =
     simulation_7 a.mode a.source net (clones_of net s) told stop most may
 end_7 a net s told stop most (ends.live end is may) = live_7 net s told stop most may
 
+-- in the study of two texts
 come_7 : (a : Assignment) (m s : List ℕ) (told : List (List ℕ)) (stop : Stop) (most : ℕ)
     → MayEndByTexts a m s (overrun told stop most) → stop_status stop ≡ 7
 come_7 a m s told stop most (ends.study net stated end is_model is_script may) = end_7 a net stated told stop most may
 
+-- so a stop with a status up to 6 comes before any work
 idle_stop : (files : Option Files) (a : Assignment) (old new : ℕ) (told : List (List ℕ)) (stop : Stop)
     → StoppedFor (IsLawfulEnding files a) old new told stop → stop_status stop ≤ 6 → new ≡ old
 idle_stop files a old new told stop (ends.at_once none may same) h = same
@@ -161,36 +175,43 @@ idle_stop files a old new told stop (ends.at_limit most may few) h =
 
 -- ---- what is told before the line
 
+-- in a run of all clones nothing is
 run_told : (net : Net) (clones : List Clone) (texts told : List (List ℕ)) (stop : Stop) (most : ℕ)
     → MayRun net clones texts (overrun told stop most) → told ≡ []
 run_told net clones texts told stop most (ends.over station who meets) = refl
 
+-- nor in the run of one clone by itself
 alone_told : (net : Net) (clones : List Clone) (name : List ℕ) (told : List (List ℕ)) (stop : Stop) (most : ℕ)
     → MayRunAlone net clones name (overrun told stop most) → told ≡ []
-alone_told net clones name told stop most (ends.beyond k station is meets) = refl
+alone_told net clones name told stop most (ends.limit_met k station is meets) = refl
 
-simulation_told : (mode : Mode) (source : Source) (net : Net) (clones : List Clone) (told : List (List ℕ)) (stop : Stop)
-    (most : ℕ) → MaySimulate mode source net clones (overrun told stop most) → told ≡ []
+-- nor in a simulation of decided clones
+simulation_told : (mode : Mode) (source : SourceView) (net : Net) (clones : List Clone) (told : List (List ℕ))
+    (stop : Stop) (most : ℕ) → MaySimulate mode source net clones (overrun told stop most) → told ≡ []
 simulation_told All source net clones told stop most h =
     run_told net clones (study_texts source net clones) told stop most h
 simulation_told (One name) source net clones told stop most h = alone_told net clones name told stop most h
 simulation_told Live source net clones told stop most h = absurd h
 
+-- in a live study one text is
 live_told : (net : Net) (s : ScriptView) (told : List (List ℕ)) (stop : Stop) (most : ℕ)
     → MayLive net s (overrun told stop most) → length told ≡ 1
 live_told net s told stop most (ends.over book looks station who journal all meets) = refl
 
+-- so in a study that was read nothing is, or one text if it is a live one
 end_told : (a : Assignment) (net : Net) (s : ScriptView) (told : List (List ℕ)) (stop : Stop) (most : ℕ)
     → MayEnd a net s (overrun told stop most) → (told ≡ []) ⊎ ((length told ≡ 1) × (a.mode ≡ Live))
 end_told a net s told stop most (ends.simulation end none may) =
     inl (simulation_told a.mode a.source net (clones_of net s) told stop most may)
 end_told a net s told stop most (ends.live end is may) = inr (live_told net s told stop most may, is)
 
+-- and so in the study of two texts
 come_told : (a : Assignment) (m s : List ℕ) (told : List (List ℕ)) (stop : Stop) (most : ℕ)
     → MayEndByTexts a m s (overrun told stop most) → (told ≡ []) ⊎ ((length told ≡ 1) × (a.mode ≡ Live))
 come_told a m s told stop most (ends.study net stated end is_model is_script may) =
     end_told a net stated told stop most may
 
+-- what is told before the line of a stop, by its status
 preceded : (words : Option Assignment) (files : Option Files) (a : Assignment) (old new : ℕ) (told : List (List ℕ))
     (stop : Stop)
     → words ≡ Some a → StoppedFor (IsLawfulEnding files a) old new told stop → ArePreceded words (stop_status stop) told
@@ -203,6 +224,7 @@ preceded words files a old new told stop is (ends.at_limit most may few) =
     by_kind (inr one) = inr (come_7 a may.m may.s told stop most may.may, (one.0, (a, (is, one.1))))
 
 module _ (words : Option Assignment) (before after : Outside) where
+  -- a line alone, by its cause
   one_line : (r : Refusal) → ArePutOrCut (line_of r ∷ []) before.errors after.errors
       → IsToldFor words before after (status_of r)
   one_line r told = record { told = []; refusal = r; is = refl; preceded = inl refl; told_is = told }
@@ -237,6 +259,7 @@ module _ (words : Option Assignment) (before after : Outside) where
 
 -- ---- what is written
 
+-- a run of all clones writes the texts of all
 writes_all : (before after : Outside) (a : Assignment) (net : Net) (s : ScriptView) (texts : Net → List Clone
     → List (List ℕ)) (put : List (List ℕ)) (work : ℕ)
     → IsStudy before.inputs.files a net s
@@ -245,6 +268,7 @@ writes_all : (before after : Outside) (a : Assignment) (net : Net) (s : ScriptVi
 writes_all before after a net s texts put work study (ends.within within) are steps =
     record { net = net; stated = s; study = study; within = within; put = are; steps = steps }
 
+-- the run of one clone by itself writes the text of that clone
 writes_one : (before after : Outside) (a : Assignment) (net : Net) (s : ScriptView) (name : List ℕ)
     (put : List (List ℕ))
     (work : ℕ)
@@ -253,18 +277,20 @@ writes_one : (before after : Outside) (a : Assignment) (net : Net) (s : ScriptVi
 writes_one before after a net s name put work study (ends.fits k is within) are steps =
     record { net = net; stated = s; study = study; place = k; named = is; within = within; put = are; steps = steps }
 
+-- a simulation of decided clones writes what its mode and its source ask for
 writes_by : (before after : Outside) (a : Assignment) (net : Net) (s : ScriptView) (put : List (List ℕ)) (work : ℕ)
-    (mode : Mode) (source : Source)
+    (mode : Mode) (source : SourceView)
     → IsStudy before.inputs.files a net s → MaySimulate mode source net (clones_of net s) (whole_output put work)
     → ArePut put before.output after.output → after.steps ≡ before.steps + work → Writes mode source before after a
-writes_by before after a net s put work All (named m t) study may are steps =
+writes_by before after a net s put work All (FileNames m t) study may are steps =
     writes_all before after a net s run_texts put work study may are steps
-writes_by before after a net s put work All (made n) study may are steps =
+writes_by before after a net s put work All (Number n) study may are steps =
     writes_all before after a net s (λ k cs. report k cs ∷ []) put work study may are steps
 writes_by before after a net s put work (One name) source study may are steps =
     writes_one before after a net s name put work study may are steps
 writes_by before after a net s put work Live source study may are steps = absurd may
 
+-- a live study writes its journal and the texts of all clones
 writes_live : (before after : Outside) (a : Assignment) (net : Net) (s : ScriptView) (put : List (List ℕ)) (work : ℕ)
     → IsRead a.source before.inputs.files net s → MayLive net s (whole_output put work)
     → ArePut put before.output after.output → after.steps ≡ before.steps + work → WritesLive before after a
@@ -282,6 +308,7 @@ writes_live before after a net s put work read (ends.finished book looks journal
   steps = steps;
 }
 
+-- a study that was read writes what is asked
 writes_end : (before after : Outside) (a : Assignment) (m s : List ℕ) (net : Net) (stated : ScriptView)
     (put : List (List ℕ)) (work : ℕ)
     → AreTexts a.source before.inputs.files m s → model m ≡ Ok net → script s ≡ Ok stated
@@ -297,6 +324,7 @@ writes_end before after a m s net stated put work texts is_model is_script (ends
     (writes_live before after a net stated put work
     (record { m = m; s = s; texts = texts; is_model = is_model; is_script = is_script }) may are steps)
 
+-- and so does the study of two texts
 writes_come : (before after : Outside) (a : Assignment) (m s : List ℕ) (put : List (List ℕ)) (work : ℕ)
     → AreTexts a.source before.inputs.files m s → MayEndByTexts a m s (whole_output put work)
     → ArePut put before.output after.output → after.steps ≡ before.steps + work → Writes a.mode a.source before after a
@@ -319,12 +347,14 @@ module _ (words : Option Assignment) (before after : Outside) where
   finished _ (usage none refused inputs steps) is_0 = absurd (omega (arith, is_0))
   finished _ (no_model a is unread refused steps) is_0 = absurd (omega (arith, is_0))
   finished _ (no_script a is has unread refused steps) is_0 = absurd (omega (arith, is_0))
-  finished _ (study_stop a is told stop why refused) is_0 = absurd (let l = low stop in omega (arith, is_0, l))
+  finished _ (study_stop a is told stop why refused) is_0 =
+      absurd (let l = stop_status-low stop in omega (arith, is_0, l))
   finished _ (cut a is off told) is_0 = absurd (omega (arith, is_0))
 
 -- ---- an ending comes
 
 module _ (before after : Outside) where
+  -- where a study stopped, a lawful ending with the status of the stop comes
   comes_stopped : (a : Assignment) (told : List (List ℕ)) (stop : Stop)
       → StoppedFor (IsLawfulEnding before.inputs.files a) before.steps after.steps told stop
       → (end : Ending) × (IsLawfulEnding before.inputs.files a end × IsStatusOf end
@@ -333,13 +363,15 @@ module _ (before after : Outside) where
   comes_stopped a told stop (ends.at_once none may same) = (early_stop stop, (may, refl))
   comes_stopped a told stop (ends.at_limit most may few) = (overrun told stop most, (may, refl))
 
-  without : (a : Assignment) (text : Text) (source : Source) → ¬ (InputsFailed before after)
+  -- where no input failed, a text that was not read is not there
+  unread-no_fault : (a : Assignment) (text : Text) (source : SourceView) → ¬ (InputsFailed before after)
       → IsUnread (InputsFailed before after) source text before.inputs.files
       → IsUnread ⊥ source text before.inputs.files
-  without a text (named m s) none (inl failed) = absurd (none failed)
-  without a text (named m s) none (inr lacks) = inr lacks
-  without a text (made n) none h = h
+  unread-no_fault a text (FileNames m s) none (inl failed) = absurd (none failed)
+  unread-no_fault a text (FileNames m s) none (inr lacks) = inr lacks
+  unread-no_fault a text (Number n) none h = h
 
+  -- out of memory is an answer to all that is asked
   of_memory : (words : Option Assignment) → Completes words before after 1
   of_memory None = inl refl
   of_memory (Some a) = λ well. inl refl
@@ -354,10 +386,10 @@ module _ (before after : Outside) where
   completes words _ (usage none refused inputs steps) = subst (λ w. Completes w before after 2) (sym none) (inr refl)
   completes words _ (no_model a is unread refused steps) =
       subst (λ w. Completes w before after 3) (sym is)
-      (λ well. inr (inl (refl, inl (without a Model a.source well unread))))
+      (λ well. inr (inl (refl, inl (unread-no_fault a Model a.source well unread))))
   completes words _ (no_script a is has unread refused steps) =
       subst (λ w. Completes w before after 3) (sym is)
-      (λ well. inr (inl (refl, inr (without a Script a.source well unread))))
+      (λ well. inr (inl (refl, inr (unread-no_fault a Script a.source well unread))))
   completes words _ (study_stop a is told stop why refused) =
       subst (λ w. Completes w before after (stop_status stop)) (sym is)
       (λ well. inr (inr (comes_stopped a told stop why)))

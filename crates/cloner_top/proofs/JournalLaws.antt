@@ -43,12 +43,13 @@ acts_are many a [] all = tt
 acts_are many a (item ∷ items) all = own_first (nat_eq item.analyst a) item.act (acts_by a items) all.0.act
     (acts_are many a items all.1)
 
--- the first of numbered calls, and the others
+-- the first of numbered calls, where it is the caller's own, has such a decision
 first_is : (own : Bool) (n : ℕ) (c : Call) (ps : List (ℕ × Call)) → own ≡ true
     → AllByRecursion IsDecision (decisions_in (if own then (n, c) ∷ ps else ps)) → IsDecision c.decision
 first_is true n c ps is all = all.0
 first_is false n c ps is all = absurd cc
 
+-- and the others have such decisions, whether it is or not
 others_are : (own : Bool) (n : ℕ) (c : Call) (ps : List (ℕ × Call))
     → AllByRecursion IsDecision (decisions_in (if own then (n, c) ∷ ps else ps))
     → AllByRecursion IsDecision (decisions_in ps)

@@ -1,4 +1,3 @@
-pub mod Short
 pub mod Decisions
 pub mod Puts
 pub mod Endings

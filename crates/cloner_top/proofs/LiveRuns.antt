@@ -1,6 +1,7 @@
 -- What a live study leaves, for its texts.
 use Rattle.std.proofs.Common.{◌≡◌, ◌≤◌, ℕ, ◌+◌, refl, sym, ap, ap₂, subst, ◌∙◌, arith, List, [], ◌∷◌, length}
-use Rattle.std.proofs.Common.{Result, Ok, Err, IfOk, IfErr}
+use Rattle.std.proofs.Common.{Result, Ok, Err, IfOk}
+use Rattle.std.proofs.lemmas.Result.{IfErr-at_err, IfOk-at_ok}
 use Rattle.sim_base.specs.Clones.{clone_at}
 use Rattle.sim_base.specs.declared.lists.TheConstants.{MOST_CLONES}
 use Rattle.sim_outer.specs.Views.{SinkView}
@@ -27,45 +28,30 @@ use Rattle.cloner_top.specs.declared.refusal.Refusal.TheVariants.{OutOfMemory, U
 use Rattle.cloner_top.specs.declared.refusal.Refusal.TheVariants.{NoScript, Stopped, CannotWrite}
 use Rattle.cloner_top.specs.Deciding.{clones_of_book}
 use Rattle.cloner_top.specs.Endings.{MayLive, StoppedFor, at_limit, finished, limit_stop, over, run_texts, whole_output}
-use Rattle.cloner_top.specs.LiveRuns.{HaltsFor, IsJournaledRun, IsLiveWorld, IsOverrun, IsPlaced, StopsLive}
+use Rattle.cloner_top.specs.LiveRuns.{HaltsFor, IsJournaledRun, IsLiveWorld, IsOverrun, StopsLive}
 use Rattle.cloner_top.specs.Outsides.{ArePut, IsFailed, IsHalted, IsNotPut, IsStudyPut}
 use Rattle.cloner_top.proofs.Endings.{all_put, not_put}
 use Rattle.cloner_top.proofs.Runs.{short_planned}
 
--- what holds of a result that is there
-of_ok : {T E : Type 0} (P : T → Type 0) (r : Result T E) (t : T) → r ≡ Ok t → IfOk r P → P t
-of_ok {T} {E} P r t is h = subst (λ (q : Result T E). IfOk q P) is h
-
-of_err : {T E : Type 0} (P : E → Type 0) (r : Result T E) (e : E) → r ≡ Err e → IfErr r P → P e
-of_err {T} {E} P r e is h = subst (λ (q : Result T E). IfErr q P) is h
+-- ---- IsJournaledRun
 
 module _ (net : Net) (s : ScriptView) (old_steps new_steps : ℕ) (live : LiveRun) (text : List ℕ)
     (ran : IsJournaledRun net s old_steps new_steps live text) where
-  -- the station and the clone of a limit are there
-  pub placed : (told : Net) → told ≡ net → IfErr live.run (λ e. IsPlaced told live.book.events e)
-  placed told same = subst (λ (n : Net). IfErr live.run (λ e. IsPlaced n live.book.events e)) (sym same)
-      (on_each live.run ran.stopped)
-    where
-      one : (e : StudyFault) → IsStopped net live.book e → IsPlaced net live.book.events e
-      one NoMemory h = tt
-      one (LimitMet station who) h = (h.first.low, h.first.high, h.first.clone)
-
-      on_each : {T : Type 0} (r : Result T StudyFault) → IfErr r (λ e. IsStopped net live.book e)
-          → IfErr r (λ e. IsPlaced net live.book.events e)
-      on_each (Ok t) h = tt
-      on_each (Err e) h = one e h
-
   -- the world at the horizon, with the text
   module _ (w : WorldView) (is : live.run ≡ Ok w) where
+    -- the run is finished
     ends : IsAtHorizon net live.book w
-    ends = of_ok (IsAtHorizon net live.book) live.run w is ran.finished
+    ends = IfOk-at_ok (IsAtHorizon net live.book) is ran.finished
 
+    -- its clones are those that the journal leaves
     clones_are : w.clones ≡ (after net live.book.events).clones
     clones_are = ap (λ (v : WorldView). v.clones) ends.world_is
 
+    -- it is one of the network
     net_is : w.net ≡ net
     net_is = ap (λ (v : WorldView). v.net) ends.world_is
 
+    -- and its front is the horizon
     front_is : w.front ≡ net.horizon
     front_is = ap (λ (v : WorldView). v.front) ends.world_is
 
@@ -87,11 +73,11 @@ module _ (net : Net) (s : ScriptView) (old_steps new_steps : ℕ) (live : LiveRu
               (subst (λ cs. MayLive net s (whole_output
               (journal_text s.analysts live.book.events (all_looks live.looks.items) ∷ run_texts net cs)
               (total_handled net cs net.horizon))) (sym clones_are)
-              (finished live.book (all_looks live.looks.items) ran.journal ends.last (of_ok
-              (λ v. AreLooks net s live.book.events (all_looks live.looks.items)) live.run w is ran.looks)
+              (finished live.book (all_looks live.looks.items) ran.journal ends.last (IfOk-at_ok
+              (λ (v : WorldView). AreLooks net s live.book.events (all_looks live.looks.items)) is ran.looks)
               (subst (λ cs. AreWithin net cs) clones_are within)));
-          steps = of_ok (λ (v : WorldView). new_steps ≡ old_steps + total_handled net v.clones net.horizon) live.run w
-              is ran.steps;
+          steps = IfOk-at_ok
+              (λ (v : WorldView). new_steps ≡ old_steps + total_handled net v.clones net.horizon) is ran.steps;
         }
 
   -- the same of what is handed on
@@ -108,8 +94,8 @@ module _ (net : Net) (s : ScriptView) (old_steps new_steps : ℕ) (live : LiveRu
       → ((e : StudyFault) × ((live.run ≡ Err e) × HaltsFor told live.book.events text e h))
       → StopsLive net s old_steps new_steps h
   live_stops told same h why =
-      by_fault why.0 h (of_err (IsStopped net live.book) live.run why.0 why.1.0 ran.stopped)
-      (of_err (λ e. new_steps ≡ old_steps) live.run why.0 why.1.0 ran.idle)
+      by_fault why.0 h (IfErr-at_err (IsStopped net live.book) why.1.0 ran.stopped)
+      (IfErr-at_err (λ (e : StudyFault). new_steps ≡ old_steps) why.1.0 ran.idle)
       (subst (λ (n : Net). HaltsFor n live.book.events text why.0 h) same why.1.1)
     where
       told_limit : (station who : ℕ) (h : Halt) → IsStopped net live.book (LimitMet station who)
@@ -129,6 +115,8 @@ module _ (net : Net) (s : ScriptView) (old_steps new_steps : ℕ) (live : LiveRu
       by_fault NoMemory h stopped idle is = subst (StopsLive net s old_steps new_steps) (sym is) tt
       by_fault (LimitMet station who) h stopped idle is = told_limit station who h stopped idle is
 
+-- ---- what is written
+
 -- a live study without texts is not written
 pub stops_halted : (net : Net) (s : ScriptView) (old_steps new_steps : ℕ) (out : SinkView) (h : Halt)
     → StopsLive net s old_steps new_steps h → IsHalted (MayLive net s) old_steps new_steps out out h
@@ -144,6 +132,7 @@ stops_halted net s old_steps new_steps out (halt.Refused CannotWrite) h = absurd
 module _ (net told : Net) (s : ScriptView) (old_steps new_steps : ℕ) (w : WorldView) (text put : List ℕ)
     (is : IsLiveWorld net s old_steps new_steps w text) (same_net : told ≡ net) (same_text : put ≡ text)
     (old new : SinkView) where
+  -- the texts, by other names of the network and of the journal
   texts_same : put ∷ run_texts told w.clones ≡ text ∷ run_texts net w.clones
   texts_same = ap₂ (λ t (n : Net). t ∷ run_texts n w.clones) same_text same_net
 

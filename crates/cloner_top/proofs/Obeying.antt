@@ -1,9 +1,11 @@
 -- From the plan of a study and its run to what the program answers.
 use Rattle.std.proofs.Common.{◌≡◌, ℕ, refl, sym, ap, subst, ◌∙◌, arith}
 use Rattle.std.proofs.Common.{[], ◌∷◌, Option, Some, None, Result, Ok, Err, IfErr, OnOk}
+use Rattle.std.proofs.lemmas.Result.{IfErr-weaker, on_ok_weaker}
 use Rattle.sim_outer.specs.Causes.{AreCounted}
 use Rattle.sim_outer.specs.Files.{Files}
 use Rattle.sim_outer.specs.Views.{SinkView}
+use Rattle.sim_outer.proofs.Counts.{none_counted}
 use Rattle.net_model.specs.Net.{Net}
 use Rattle.decision_script.specs.Stating.{ScriptView}
 use Rattle.decision_book.specs.Books.{BookView}
@@ -11,7 +13,7 @@ use Rattle.command_words.specs.declared.request.Mode.TheVariants.{Live}
 use Rattle.command_words.specs.declared.request.WordsFault.{WordsFault}
 use Rattle.command_words.specs.declared.request.WordsFault.TheVariants as fault
 use Rattle.command_words.specs.Requests.{Assignment}
-use Rattle.study_run.specs.Accepted.{AllAccepted}
+use Rattle.study_run.specs.Accepted.{IsAcceptedJournal}
 use Rattle.cloner_top.specs.declared.halt.Halt.{Halt}
 use Rattle.cloner_top.specs.declared.refusal.Refusal.{Refusal}
 use Rattle.cloner_top.specs.Answers.{IsAnswer, IsDisobeyed, IsLawfulEnding, Outside}
@@ -22,14 +24,16 @@ use Rattle.cloner_top.specs.Outsides.{ArePutOrCut, IsFailed, IsStudyPut, IsHalte
 use Rattle.cloner_top.specs.Plans.{IsRead}
 use Rattle.cloner_top.specs.Refusals.{line_of, status_of, words_refusal}
 use Rattle.cloner_top.proofs.Endings.{comes, decided_end, failed_on, finished_on, halted_is, halted_on, unread_words}
-use Rattle.cloner_top.proofs.Runs.{on_err, on_ok}
+
+-- ---- IsDecided
 
 module _ (a : Assignment) (net told : Net) (stated : ScriptView) (book : BookView) (is : IsDecided net stated book)
     (same : told ≡ net) where
   -- the decisions in the book were all accepted in its network
-  pub plan_accepted : AllAccepted book.net book.events
-  plan_accepted = subst (λ n. AllAccepted n book.events) (sym is.net_is) is.accepted
+  pub plan_accepted : IsAcceptedJournal book.net book.events
+  plan_accepted = subst (λ n. IsAcceptedJournal n book.events) (sym is.net_is) is.accepted
 
+  -- how the simulation of decided clones ends, the study may end
   to_end : (end : Ending) → MaySimulate a.mode a.source told (clones_of_book book) end
       → MayEnd a net stated end
   to_end end may = decided_end a net stated book is end
@@ -41,7 +45,7 @@ module _ (a : Assignment) (net told : Net) (stated : ScriptView) (book : BookVie
       old new)
       → OnOk r (IsStudyPut (MayEnd a net stated) old_steps new_steps old new)
   decided_put old_steps new_steps old new r h =
-      on_ok r (finished_on (MaySimulate a.mode a.source told (clones_of_book book)) (MayEnd a net stated)
+      on_ok_weaker r (finished_on (MaySimulate a.mode a.source told (clones_of_book book)) (MayEnd a net stated)
       to_end old_steps new_steps old new) h
 
   -- and so does why nothing is
@@ -50,8 +54,10 @@ module _ (a : Assignment) (net told : Net) (stated : ScriptView) (book : BookVie
       new_steps old new e)
       → IfErr r (λ e. IsFailed (MayEnd a net stated) old_steps new_steps old new e)
   decided_not_put old_steps new_steps old new r h =
-      on_err r (failed_on (MaySimulate a.mode a.source told (clones_of_book book)) (MayEnd a net stated)
+      IfErr-weaker r _ _ (failed_on (MaySimulate a.mode a.source told (clones_of_book book)) (MayEnd a net stated)
       to_end old_steps new_steps old new) h
+
+-- ---- MayLive
 
 -- what is written while analysts decide ends a live study
 module _ (a : Assignment) (net : Net) (stated : ScriptView) (is : a.mode ≡ Live) (old_steps new_steps : ℕ)
@@ -59,15 +65,17 @@ module _ (a : Assignment) (net : Net) (stated : ScriptView) (is : a.mode ≡ Liv
   -- what is written for an ending of the live study is written for one of the study that is asked
   pub live_put : {T : Type 0} (r : Result T Halt) → OnOk r (IsStudyPut (MayLive net stated) old_steps new_steps old new)
       → OnOk r (IsStudyPut (MayEnd a net stated) old_steps new_steps old new)
-  live_put r h = on_ok r (finished_on (MayLive net stated) (MayEnd a net stated) (λ end may. live end is may)
-      old_steps new_steps old new) h
+  live_put r h = on_ok_weaker r (finished_on (MayLive net stated) (MayEnd a net stated)
+      (λ end may. live end is may) old_steps new_steps old new) h
 
   -- and why it is not written is why that study is not
   pub live_not_put : {T : Type 0} (r : Result T Halt)
       → IfErr r (λ e. IsHalted (MayLive net stated) old_steps new_steps old new e)
       → IfErr r (λ e. IsHalted (MayEnd a net stated) old_steps new_steps old new e)
-  live_not_put r h = on_err r (halted_on (MayLive net stated) (MayEnd a net stated) (λ end may. live end is may)
-      old_steps new_steps old new) h
+  live_not_put r h = IfErr-weaker r _ _ (halted_on (MayLive net stated) (MayEnd a net stated)
+      (λ end may. live end is may) old_steps new_steps old new) h
+
+-- ---- IsRead
 
 module _ (files : Option Files) (a : Assignment) (net : Net) (stated : ScriptView)
     (read : IsRead a.source files net stated) where
@@ -76,27 +84,26 @@ module _ (files : Option Files) (a : Assignment) (net : Net) (stated : ScriptVie
       → OnOk r (IsStudyPut (MayEnd a net stated) old_steps new_steps old new)
       → OnOk r (IsStudyPut (IsLawfulEnding files a) old_steps new_steps old new)
   obeyed old_steps new_steps old new r h =
-      on_ok r (finished_on (MayEnd a net stated) (IsLawfulEnding files a) (comes files a net stated read) old_steps
-      new_steps old new) h
+      on_ok_weaker r (finished_on (MayEnd a net stated) (IsLawfulEnding files a) (comes files a net stated read)
+      old_steps new_steps old new) h
 
   -- and why nothing is written
   pub not_obeyed : (rose : Type 0) (old_steps new_steps : ℕ) (old new : SinkView) {T : Type 0} (r : Result T Halt)
       → IfErr r (λ e. IsHalted (MayEnd a net stated) old_steps new_steps old new e)
       → IfErr r (λ e. IsDisobeyed rose files a old_steps new_steps old new e)
   not_obeyed rose old_steps new_steps old new r h =
-      on_err r (λ e halts. halted_is rose files a old_steps new_steps old new e
+      IfErr-weaker r _ _ (λ e halts. halted_is rose files a old_steps new_steps old new e
       (halted_on (MayEnd a net stated) (IsLawfulEnding files a) (comes files a net stated read) old_steps new_steps
       old new e halts)) h
+
+-- ---- OnOk
 
 -- what holds holds where a result is there
 pub if_ok : {T E : Type 0} {A : Type 0} (r : Result T E) → A → OnOk r A
 if_ok (Ok t) a = a
 if_ok (Err e) a = tt
 
--- no call is none
-pub not_counted : (calls : Option ℕ) → AreCounted 0 calls calls
-not_counted None = refl
-not_counted (Some n) = refl
+-- ---- IsAnswer, AreFewFetches
 
 module _ (words : Option Assignment) (before after : Outside) where
   -- the words were not read, and one line tells why
@@ -120,5 +127,5 @@ module _ (words : Option Assignment) (before after : Outside) where
   no_fetches same = record {
     fetches = 0;
     few = omega arith;
-    calls = subst (λ i. AreCounted 0 before.inputs.calls i.calls) (sym same) (not_counted before.inputs.calls);
+    calls = subst (λ i. AreCounted 0 before.inputs.calls i.calls) (sym same) (none_counted before.inputs.calls);
   }

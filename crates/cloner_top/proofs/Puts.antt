@@ -1,7 +1,7 @@
 -- Texts that are put one after the other.
 use Rattle.std.proofs.Common.{◌≡◌, ◌≤◌, inl, inr, ℕ, zero, suc, ◌+◌, refl, sym, ap, ap₂, ◌∙◌, subst, arith, min}
 use Rattle.std.proofs.Common.{List, [], ◌∷◌, ◌++◌, append-nil, length, length-append, map, take, Option, Some, None}
-use Rattle.std.proofs.lemmas.List.{append_assoc, length-map, take-append-le, take_all}
+use Rattle.std.proofs.lemmas.List.{append_assoc, length-map}
 use Rattle.std.proofs.lemmas.List.Concat.{concat_is}
 use Rattle.std.proofs.lemmas.List.Folds.{concat-append, flat_map-map}
 use Rattle.std.specs.List.{concat, flat_map}
@@ -9,7 +9,9 @@ use Rattle.std.proofs.Math.Seq.{take-append-add}
 use Rattle.sim_outer.specs.Bytes.{IsAppended, IsPrefixAppended}
 use Rattle.sim_outer.specs.Causes.{AreCounted, IsCounted, HasRisen, counts_after, next_count}
 use Rattle.sim_outer.specs.Views.{SinkView}
-use Rattle.rolling_text.proofs.Pieces.{appended_then}
+use Rattle.sim_outer.proofs.Appending.{appended_then, take-append-prefix}
+use Rattle.sim_outer.proofs.Counts.{counted_more}
+use Rattle.rolling_text.specs.Counting.{AreCountedTo}
 use Rattle.cloner_top.specs.declared.refusal.Refusal.{Refusal}
 use Rattle.cloner_top.specs.declared.refusal.Refusal.TheVariants.{CannotWrite}
 use Rattle.cloner_top.specs.Outsides.{AreCut, ArePut, ArePutOrCut, IsNotPut}
@@ -17,10 +19,7 @@ use Rattle.cloner_top.specs.Outsides.{AreCut, ArePut, ArePutOrCut, IsNotPut}
 -- a prefix of the first text is one of both
 part_first : (a b : List ℕ) (old new : Option (List ℕ)) → IsPrefixAppended old a new → IsPrefixAppended old (a ++ b) new
 part_first a b None new h = h
-part_first a b (Some o) new h = (min h.0 (length a), h.1 ∙ ap (λ t. Some (o ++ t)) (sym (take_front h.0 a b)))
-  where
-    take_front : (n : ℕ) (b c : List ℕ) → take (min n (length b)) (b ++ c) ≡ take n b
-    take_front n b c = grind (arith, take-append-le (min n (length b)) b c, take_all)
+part_first a b (Some o) new h = (min h.0 (length a), h.1 ∙ ap (λ t. Some (o ++ t)) (sym (take-append-prefix h.0 a b)))
 
 -- the first text, and a prefix of the second
 part_second : (a b : List ℕ) (old mid new : Option (List ℕ)) → IsAppended old a mid → IsPrefixAppended mid b new
@@ -33,15 +32,10 @@ part_second a b (Some o) mid new h k =
           ∙ ap (λ t. o ++ t) (sym (take-append-add a b k2.0)))),
     )
 
-one_more : (n : ℕ) (old mid new : Option ℕ) → AreCounted n old mid → IsCounted mid new → AreCounted (n + 1) old new
-one_more n None mid new h k = let m : mid ≡ None = h in (rw m at k)
-one_more n (Some o) mid new h k =
-    let e : n + 1 ≡ suc n = omega arith in
-    (rw h at k) ∙ ap (λ m. Some (counts_after m o)) (sym e)
-
-one : (old new : Option ℕ) → IsCounted old new → AreCounted 1 old new
-one None new h = h
-one (Some o) new h = h
+-- a call that was counted is one call
+counted_one : (old new : Option ℕ) → IsCounted old new → AreCounted 1 old new
+counted_one None new h = h
+counted_one (Some o) new h = h
 
 -- ---- one text
 
@@ -50,28 +44,32 @@ pub put_one : (text : List ℕ) (old new : SinkView) → IsAppended old.bytes te
     → ArePut (text ∷ []) old new
 put_one text old new bytes calls = record {
   bytes = subst (λ t. IsAppended old.bytes t new.bytes) (sym (append-nil text)) bytes;
-  calls = one old.calls new.calls calls;
+  calls = counted_one old.calls new.calls calls;
 }
 
 -- a text of which a prefix was appended, in a call that failed, was cut off
 pub cut_one : (text : List ℕ) (old new : SinkView) → IsPrefixAppended old.bytes text new.bytes
     → HasRisen old.faults new.faults → IsCounted old.calls new.calls → AreCut (text ∷ []) old new
-cut_one text old new bytes failed calls = record {
+cut_one text old new bytes failed counted = record {
   bytes = subst (λ t. IsPrefixAppended old.bytes t new.bytes) (sym (append-nil text)) bytes;
   failed = failed;
-  puts = 1;
-  some = omega arith;
-  few = omega arith;
-  calls = one old.calls new.calls calls;
+  calls = record {
+    calls = 1;
+    some = omega arith;
+    few = omega arith;
+    counted = counted_one old.calls new.calls counted;
+  };
 }
 
 -- ---- texts, and then one
 
 module _ {X : Type 0} (f : X → List ℕ) (xs : List X) (last : List ℕ) where
+  -- what they are, one behind the other
   all_texts : concat (map f xs ++ last ∷ []) ≡ flat_map f xs ++ last
   all_texts = concat-append (map f xs) (last ∷ [])
       ∙ ap₂ (λ a b. a ++ b) (concat_is (map f xs) ∙ flat_map-map (λ x. x) f xs) (append-nil last)
 
+  -- how many they are
   how_many : length (map f xs ++ last ∷ []) ≡ length xs + 1
   how_many = length-append (map f xs) (last ∷ []) ∙ ap (λ n. n + 1) (length-map xs f)
 
@@ -84,7 +82,7 @@ module _ {X : Type 0} (f : X → List ℕ) (xs : List X) (last : List ℕ) where
           (appended_then (flat_map f xs) last old.bytes mid.bytes new.bytes bytes
           (subst (λ t. IsAppended mid.bytes t new.bytes) (append-nil last) put.bytes));
       calls = subst (λ n. AreCounted n old.calls new.calls) (sym how_many)
-          (one_more (length xs) old.calls mid.calls new.calls calls (of_one mid.calls new.calls put.calls));
+          (counted_more (length xs) old.calls mid.calls new.calls calls (of_one mid.calls new.calls put.calls));
     }
       where
         of_one : (a b : Option ℕ) → AreCounted 1 a b → IsCounted a b
@@ -95,16 +93,18 @@ module _ {X : Type 0} (f : X → List ℕ) (xs : List X) (last : List ℕ) where
     pub cut_last : IsAppended old.bytes (flat_map f xs) mid.bytes → AreCounted (length xs) old.calls mid.calls
         → old.faults ≤ mid.faults → AreCut (last ∷ []) mid new
         → AreCut (map f xs ++ last ∷ []) old new
-    cut_last bytes calls later cut = record {
+    cut_last bytes counted later cut = record {
       bytes = subst (λ t. IsPrefixAppended old.bytes t new.bytes) (sym all_texts)
           (part_second (flat_map f xs) last old.bytes mid.bytes new.bytes bytes
           (subst (λ t. IsPrefixAppended mid.bytes t new.bytes) (append-nil last) cut.bytes));
       failed = let r = cut.failed in omega (arith, r, later);
-      puts = length xs + 1;
-      some = omega arith;
-      few = let n = how_many in omega (arith, n);
-      calls = one_more (length xs) old.calls mid.calls new.calls calls
-          (of_some mid.calls new.calls cut.puts cut.some cut.few cut.calls);
+      calls = record {
+        calls = length xs + 1;
+        some = omega arith;
+        few = let n = how_many in omega (arith, n);
+        counted = let to = cut.calls in counted_more (length xs) old.calls mid.calls new.calls counted
+            (of_some mid.calls new.calls to.calls to.some to.few to.counted);
+      };
     }
       where
         of_some : (a b : Option ℕ) (n : ℕ) → 1 ≤ n → n ≤ 1 → AreCounted n a b → IsCounted a b
@@ -114,29 +114,34 @@ module _ {X : Type 0} (f : X → List ℕ) (xs : List X) (last : List ℕ) where
   -- where a call before the last failed, and a part was taken, the texts were cut off
   pub cut_before : (old new : SinkView) → IsPrefixAppended old.bytes (flat_map f xs) new.bytes
       → HasRisen old.faults new.faults
-      → (n : ℕ) → 1 ≤ n → n ≤ length xs → AreCounted n old.calls new.calls → AreCut (map f xs ++ last ∷ []) old new
-  cut_before old new bytes failed n some few calls = record {
+      → AreCountedTo (length xs) old.calls new.calls → AreCut (map f xs ++ last ∷ []) old new
+  cut_before old new bytes failed to = record {
     bytes = subst (λ t. IsPrefixAppended old.bytes t new.bytes) (sym all_texts)
         (part_first (flat_map f xs) last old.bytes new.bytes bytes);
     failed = failed;
-    puts = n;
-    some = some;
-    few = let e = how_many in omega (arith, e, few);
-    calls = calls;
+    calls = record {
+      calls = to.calls;
+      some = to.some;
+      few = let e = how_many in let l = to.few in omega (arith, e, l);
+      counted = to.counted;
+    };
   }
 
 -- ---- a text, and then others
 
+-- one call before n others, or behind them
 count_first : (n before : ℕ) → counts_after n (next_count before) ≡ next_count (counts_after n before)
 count_first zero before = refl
 count_first (suc n) before = ap next_count (count_first n before)
 
+-- one call, and then n
 counted_then : (n : ℕ) (old mid new : Option ℕ) → AreCounted 1 old mid → AreCounted n mid new
     → AreCounted (suc n) old new
 counted_then n None mid new h k = let m : mid ≡ None = h in (rw m at k)
 counted_then n (Some o) mid new h k = (rw h at k) ∙ ap Some (count_first n o)
 
 module _ (first : List ℕ) (texts : List (List ℕ)) where
+  -- what they are, one behind the other
   both_are : concat (first ∷ texts) ≡ concat (first ∷ []) ++ concat texts
   both_are = concat-append (first ∷ []) texts
 
@@ -156,10 +161,12 @@ module _ (first : List ℕ) (texts : List (List ℕ)) where
       bytes = subst (λ t. IsPrefixAppended old.bytes t new.bytes) (sym both_are)
           (part_second (concat (first ∷ [])) (concat texts) old.bytes mid.bytes new.bytes h.bytes k.bytes);
       failed = let r = k.failed in omega (arith, r, later);
-      puts = suc k.puts;
-      some = omega arith;
-      few = let f = k.few in omega (arith, f);
-      calls = counted_then k.puts old.calls mid.calls new.calls h.calls k.calls;
+      calls = record {
+        calls = suc k.calls.calls;
+        some = omega arith;
+        few = let f = k.calls.few in omega (arith, f);
+        counted = counted_then k.calls.calls old.calls mid.calls new.calls h.calls k.calls.counted;
+      };
     }
 
     -- where the first was put, and the others were told, all together were told
@@ -169,15 +176,17 @@ module _ (first : List ℕ) (texts : List (List ℕ)) where
     told_then h later (inr k) = inr (cut_then h later k)
 
   -- where the first was cut off, all together were
-  pub cut_first : (old new : SinkView) → AreCut (first ∷ []) old new → AreCut (first ∷ texts) old new
+  cut_first : (old new : SinkView) → AreCut (first ∷ []) old new → AreCut (first ∷ texts) old new
   cut_first old new h = record {
     bytes = subst (λ t. IsPrefixAppended old.bytes t new.bytes) (sym both_are)
         (part_first (concat (first ∷ [])) (concat texts) old.bytes new.bytes h.bytes);
     failed = h.failed;
-    puts = h.puts;
-    some = h.some;
-    few = let f = h.few in omega (arith, f);
-    calls = h.calls;
+    calls = record {
+      calls = h.calls.calls;
+      some = h.calls.some;
+      few = let f = h.calls.few in omega (arith, f);
+      counted = h.calls.counted;
+    };
   }
 
   -- only the outside's fault keeps a text from being put, once it is there

@@ -1,6 +1,7 @@
 -- The texts of a run: each clone's trace text, put from one buffer, and then the report.
 use Rattle.std.proofs.Common.{◌≡◌, ◌≤◌, ℕ, refl, sym, ap, subst, ◌∙◌, List, []}
 use Rattle.std.proofs.Common.{◌∷◌, ◌++◌, length, map, Result, Ok, Err, IfErr, OnOk}
+use Rattle.std.proofs.lemmas.Result.{on_ok_weaker}
 use Rattle.sim_base.specs.Clones.{Clone}
 use Rattle.sim_outer.specs.Bytes.{IsAppended, IsPrefixAppended}
 use Rattle.sim_outer.specs.Causes.{AreCounted, HasRisen}
@@ -13,8 +14,8 @@ use Rattle.cloner_top.specs.declared.refusal.Refusal.TheVariants.{CannotWrite}
 use Rattle.cloner_top.specs.Endings.{run_texts}
 use Rattle.cloner_top.specs.Outsides.{AreCut, ArePut, IsNotPut}
 use Rattle.cloner_top.proofs.Puts.{cut_before, cut_last, cut_then, put_more, put_then}
-use Rattle.cloner_top.proofs.Runs.{on_ok}
 
+-- ---- run_texts, clone_texts
 -- the texts of a run by their parts
 texts_are : (net : Net) (cs : List Clone) (last : List ℕ) → last ≡ report net cs
     → map (clone_text net) cs ++ last ∷ [] ≡ run_texts net cs
@@ -27,6 +28,7 @@ same_texts : (told net : Net) (those cs : List Clone) → told ≡ net → those
 same_texts told net those cs same_net same_clones = ap (λ (n : Net). clone_texts n those) same_net
     ∙ ap (clone_texts net) same_clones
 
+-- ---- ArePut, IsNotPut, AreCut, of a run
 module _ (told net : Net) (those cs : List Clone) (same_net : told ≡ net) (same_clones : those ≡ cs) where
   module _ (last : List ℕ) (last_is : last ≡ report net cs) (old mid new : SinkView) {T : Type 0}
       (r : Result T Refusal) where
@@ -35,7 +37,7 @@ module _ (told net : Net) (those cs : List Clone) (same_net : told ≡ net) (sam
         → AreCounted (length those) old.calls mid.calls
         → OnOk r (ArePut (run_texts net cs) old new)
     all_texts_put h bytes calls =
-        on_ok r (λ put. subst (λ t. ArePut t old new) (texts_are net cs last last_is)
+        on_ok_weaker r (λ put. subst (λ t. ArePut t old new) (texts_are net cs last last_is)
         (put_more (clone_text net) cs last old mid new
         (subst (λ t. IsAppended old.bytes t mid.bytes) (same_texts told net those cs same_net same_clones) bytes)
         (subst (λ l. AreCounted (length l) old.calls mid.calls) same_clones calls) put)) h
@@ -70,18 +72,20 @@ module _ (told net : Net) (those cs : List Clone) (same_net : told ≡ net) (sam
       subst (λ t. AreCut t old new) (texts_are net cs (report net cs) refl)
       (cut_before (clone_text net) cs (report net cs) old new
       (subst (λ t. IsPrefixAppended old.bytes t new.bytes) (same_texts told net those cs same_net same_clones) part)
-      failed calls.calls calls.some calls.few calls.counted)
+      failed calls)
 
+-- ---- ArePut, IsNotPut, of a journal and a run
 -- a journal was put, and then the texts of a run
 module _ (journal : List ℕ) (told net : Net) (those cs : List Clone) (same_net : told ≡ net) (same_clones : those ≡ cs)
     (old mid new : SinkView) {T : Type 0} (r : Result T Refusal) (put : ArePut (journal ∷ []) old mid) where
+  -- the texts of the run, by other names of the network and of the clones
   run_same : run_texts told those ≡ run_texts net cs
   run_same = ap (λ (n : Net). run_texts n those) same_net ∙ ap (run_texts net) same_clones
 
   -- where the texts of the run were put after the journal, all of them were put
   pub journal_put : OnOk r (ArePut (run_texts told those) mid new)
       → OnOk r (ArePut (journal ∷ run_texts net cs) old new)
-  journal_put h = on_ok r (λ more. put_then journal (run_texts net cs) old mid new put
+  journal_put h = on_ok_weaker r (λ more. put_then journal (run_texts net cs) old mid new put
       (subst (λ t. ArePut t mid new) run_same more)) h
 
   -- or those were cut off

@@ -29,6 +29,10 @@ pub record Outside : Type 0 where
   pub errors : SinkView
   pub steps : ℕ
 
+-- the outside of these inputs and sinks, where so many messages were handled
+abbrev pub outside_of : InputsView → SinkView → SinkView → ℕ → Outside
+outside_of inputs output errors steps = record { inputs = inputs; output = output; errors = errors; steps = steps }
+
 -- a lawful ending of what is asked, by two texts that are those of the study as far as the files are known
 pub record IsLawfulEnding (files : Option Files) (a : Assignment) (end : Ending) : Type 0 where
   pub m : List ℕ

@@ -14,7 +14,7 @@ use Rattle.decision_book.specs.Right.{journal_with}
 use Rattle.decision_book.specs.Scripts.{Question, first_refusal, journal_of_script, lists_of}
 use Rattle.decision_book.specs.declared.call.Reply.{Reply}
 use Rattle.decision_book.specs.declared.call.Reply.TheVariants.{Accepted}
-use Rattle.study_run.specs.Accepted.{AllAccepted}
+use Rattle.study_run.specs.Accepted.{IsAcceptedJournal}
 use Rattle.cloner_top.specs.declared.stop.Stop.{Stop}
 use Rattle.cloner_top.specs.declared.stop.Stop.TheVariants.{BadDecision}
 
@@ -83,5 +83,5 @@ pub record IsDecided (net : Net) (s : ScriptView) (book : BookView) : Type 0 whe
   pub net_is : book.net ≡ net
   pub events : book.events ≡ script_journal net s
   pub none : first_refused net s ≡ None
-  pub accepted : AllAccepted net book.events
+  pub accepted : IsAcceptedJournal net book.events
   pub clones : (after net book.events).clones ≡ clones_of net s

@@ -22,7 +22,7 @@ use Rattle.live_study.specs.Looks.{AreLooks, HasMadeLooks}
 use Rattle.live_study.specs.Scripts.{IsJournalOf}
 use Rattle.command_words.specs.declared.request.Mode.{Mode}
 use Rattle.command_words.specs.declared.request.Mode.TheVariants.{All, One, Live}
-use Rattle.command_words.specs.Requests.{Assignment, Source, made, named}
+use Rattle.command_words.specs.Requests.{Assignment, FileNames, Number, SourceView}
 use Rattle.cloner_top.specs.declared.stop.Stop.{Stop}
 use Rattle.cloner_top.specs.declared.stop.Stop.TheVariants.{BadModel, BadScript, BadDecision, NoClone, LimitMet}
 use Rattle.cloner_top.specs.Deciding.{clones_of, first_refused}
@@ -51,7 +51,7 @@ pub data MayRunAlone (net : Net) (clones : List Clone) (name : List ℕ) : Endin
   fits : (k : ℕ) → place_of name clones ≡ Some k → IsWithin net (clone_at clones k)
       → MayRunAlone net clones name (whole_output (clone_text net (clone_at clones k) ∷ [])
       (length (trace_of net (clone_at clones k))))
-  beyond : (k station : ℕ) → place_of name clones ≡ Some k → MeetsLimitAlone net (clone_at clones k) station
+  limit_met : (k station : ℕ) → place_of name clones ≡ Some k → MeetsLimitAlone net (clone_at clones k) station
       → MayRunAlone net clones name (overrun [] (limit_stop net station name) (most_handled net 1))
 
 -- what a run of all clones writes: each one's trace text, in order of making, and then the report
@@ -59,12 +59,12 @@ unfoldable pub run_texts : Net → List Clone → List (List ℕ)
 run_texts net clones = map (clone_text net) clones ++ report net clones ∷ []
 
 -- what is written of a study: of a made one the report alone
-abbrev pub study_texts : Source → Net → List Clone → List (List ℕ)
-study_texts (named model script) net clones = run_texts net clones
-study_texts (made n) net clones = report net clones ∷ []
+abbrev pub study_texts : SourceView → Net → List Clone → List (List ℕ)
+study_texts (FileNames model script) net clones = run_texts net clones
+study_texts (Number n) net clones = report net clones ∷ []
 
 -- how the simulation of these clones may end: of all of them, or of one by itself
-abbrev pub MaySimulate : Mode → Source → Net → List Clone → Ending → Type 0
+abbrev pub MaySimulate : Mode → SourceView → Net → List Clone → Ending → Type 0
 MaySimulate All source net clones end = MayRun net clones (study_texts source net clones) end
 MaySimulate (One name) source net clones end = MayRunAlone net clones name end
 MaySimulate Live source net clones end = ⊥
@@ -109,7 +109,7 @@ pub data MayEndByTexts (a : Assignment) (m s : List ℕ) : Ending → Type 0 whe
       → MayEndByTexts a m s end
 
 -- what was written for an ending for which this holds; the steps are the messages handled
-pub record Wrote (P : Ending → Type 0) (old_steps new_steps : ℕ) (texts : List (List ℕ)) : Type 0 where
+pub record HasWritten (P : Ending → Type 0) (old_steps new_steps : ℕ) (texts : List (List ℕ)) : Type 0 where
   pub work : ℕ
   pub may : P (whole_output texts work)
   pub steps : new_steps ≡ old_steps + work

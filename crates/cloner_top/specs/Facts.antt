@@ -17,7 +17,7 @@ use Rattle.live_study.specs.Looks.{AreLooks}
 use Rattle.live_study.specs.Scripts.{IsJournalOf}
 use Rattle.command_words.specs.declared.request.Mode.{Mode}
 use Rattle.command_words.specs.declared.request.Mode.TheVariants.{All, One, Live}
-use Rattle.command_words.specs.Requests.{Assignment, Source, made, named}
+use Rattle.command_words.specs.Requests.{Assignment, FileNames, Number, SourceView}
 use Rattle.cloner_top.specs.declared.reading.Text.TheVariants.{Model, Script}
 use Rattle.cloner_top.specs.declared.refusal.Refusal.{Refusal}
 use Rattle.cloner_top.specs.declared.stop.Stop.{Stop}
@@ -76,9 +76,9 @@ pub record WritesLive (before after : Outside) (a : Assignment) : Type 0 where
 
 -- what is written: `run` each clone's trace text and then the report, `live` the journal before them, `gen` the report
 -- alone, `solo` one trace text
-abbrev pub Writes : Mode → Source → Outside → Outside → Assignment → Type 0
-Writes All (named model script) before after a = WritesAll run_texts before after a
-Writes All (made n) before after a = WritesAll (λ net clones. report net clones ∷ []) before after a
+abbrev pub Writes : Mode → SourceView → Outside → Outside → Assignment → Type 0
+Writes All (FileNames model script) before after a = WritesAll run_texts before after a
+Writes All (Number n) before after a = WritesAll (λ net clones. report net clones ∷ []) before after a
 Writes (One name) source before after a = WritesOne name before after a
 Writes Live source before after a = WritesLive before after a
 

@@ -12,7 +12,7 @@ use Rattle.journal_text.specs.Laws.{without_comments}
 use Rattle.study_run.specs.Limits.{AreWithin}
 use Rattle.live_study.specs.Scripts.{IsJournalOf}
 use Rattle.command_words.specs.declared.request.Mode.TheVariants.{All}
-use Rattle.command_words.specs.Requests.{named}
+use Rattle.command_words.specs.Requests.{FileNames}
 use Rattle.cloner_top.specs.Endings.{MayEnd, run_texts, whole_output}
 
 -- the lines of a journal's calls and fronts, without comments, are read as a script, with which `run` may end by
@@ -20,7 +20,7 @@ use Rattle.cloner_top.specs.Endings.{MayEnd, run_texts, whole_output}
 pub record IsRunAgain (net : Net) (s : ScriptView) (book : BookView) (model text : List ℕ) : Type 0 where
   pub again : ScriptView
   pub read : script (without_comments (events_text s.analysts book.events)) ≡ Ok again
-  pub may : MayEnd (record { mode = All; source = named model text }) net again
+  pub may : MayEnd (record { mode = All; source = FileNames model text }) net again
       (whole_output (run_texts net (after net book.events).clones)
       (total_handled net (after net book.events).clones net.horizon))
 

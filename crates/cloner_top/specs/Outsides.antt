@@ -1,14 +1,15 @@
 -- The outside of the program: what contracts see of sinks, and what was put into them.
-use Rattle.std.specs.Prelude.{◌≡◌, ◌⊎◌, ℕ, ◌≤◌, List, [], ◌∷◌, length}
+use Rattle.std.specs.Prelude.{◌≡◌, ◌⊎◌, ℕ, List, [], ◌∷◌, length}
 use Rattle.std.specs.List.{concat}
 use Rattle.sim_outer.specs.Bytes.{IsAppended, IsPrefixAppended}
 use Rattle.sim_outer.specs.Causes.{AreCounted, HasRisen}
 use Rattle.sim_outer.specs.Views.{SinkView}
+use Rattle.rolling_text.specs.Counting.{AreCountedTo}
 use Rattle.cloner_top.specs.declared.halt.Halt.{Halt}
 use Rattle.cloner_top.specs.declared.halt.Halt.TheVariants.{Refused, Overrun}
 use Rattle.cloner_top.specs.declared.refusal.Refusal.{Refusal}
 use Rattle.cloner_top.specs.declared.refusal.Refusal.TheVariants.{OutOfMemory, Stopped, CannotWrite}
-use Rattle.cloner_top.specs.Endings.{Ending, StoppedFor, Wrote}
+use Rattle.cloner_top.specs.Endings.{Ending, StoppedFor, HasWritten}
 
 -- each text was put, in one call
 pub record ArePut (texts : List (List ℕ)) (old new : SinkView) : Type 0 where
@@ -19,10 +20,7 @@ pub record ArePut (texts : List (List ℕ)) (old new : SinkView) : Type 0 where
 pub record AreCut (texts : List (List ℕ)) (old new : SinkView) : Type 0 where
   pub bytes : IsPrefixAppended old.bytes (concat texts) new.bytes
   pub failed : HasRisen old.faults new.faults
-  pub puts : ℕ
-  pub some : 1 ≤ puts
-  pub few : puts ≤ length texts
-  pub calls : AreCounted puts old.calls new.calls
+  pub calls : AreCountedTo (length texts) old.calls new.calls
 
 -- each text was put, in one call, or they were cut off: the sink took them all, or failed and took a prefix of them
 abbrev pub ArePutOrCut : List (List ℕ) → SinkView → SinkView → Type 0
@@ -31,13 +29,13 @@ ArePutOrCut texts old new = ArePut texts old new ⊎ AreCut texts old new
 -- a study of which an ending is lawful was written
 pub record IsStudyPut (P : Ending → Type 0) (old_steps new_steps : ℕ) (old new : SinkView) : Type 0 where
   pub texts : List (List ℕ)
-  pub wrote : Wrote P old_steps new_steps texts
+  pub wrote : HasWritten P old_steps new_steps texts
   pub put : ArePut texts old new
 
 -- or it was cut off
 pub record IsStudyCut (P : Ending → Type 0) (old_steps new_steps : ℕ) (old new : SinkView) : Type 0 where
   pub texts : List (List ℕ)
-  pub wrote : Wrote P old_steps new_steps texts
+  pub wrote : HasWritten P old_steps new_steps texts
   pub cut : AreCut texts old new
 
 -- why it was not written, where nothing is told but a line

@@ -14,21 +14,21 @@ use Rattle.cloner_top.specs.declared.stop.Stop.{Stop}
 use Rattle.cloner_top.specs.declared.stop.Stop.TheVariants.{BadModel, BadScript}
 use Rattle.cloner_top.specs.declared.reading.Text.{Text}
 use Rattle.cloner_top.specs.declared.reading.Text.TheVariants.{Model, Script}
-use Rattle.command_words.specs.Requests.{Source, named, made}
+use Rattle.command_words.specs.Requests.{FileNames, Number, SourceView}
 
 -- what is known of a text: nothing, that it is not there, or its bytes
-pub data Known : Type 0 where
-  unknown : Known
-  absent : Known
-  bytes : List ℕ → Known
+pub data KnownText : Type 0 where
+  unknown : KnownText
+  no_file : KnownText
+  bytes : List ℕ → KnownText
 
--- a file that is known: absent, or its bytes as far as a fetch gives them
-abbrev pub known_file : Option (List ℕ) → Known
-known_file None = absent
+-- a file, where the files are known: there is none, or its bytes as far as a fetch gives them
+abbrev pub known_file : Option (List ℕ) → KnownText
+known_file None = no_file
 known_file (Some file) = bytes (prefix_of file)
 
 -- a file, as far as a fetch gives it
-abbrev pub known_in : Option Files → List ℕ → Known
+abbrev pub known_in : Option Files → List ℕ → KnownText
 known_in None name = unknown
 known_in (Some files) name = known_file (map.get files name)
 
@@ -43,35 +43,35 @@ made_text Model n = model_text n
 made_text Script n = canonical_text made_script
 
 -- a text of a study: in a file, or made of a number
-abbrev pub text_of : Source → Text → Option Files → Known
-text_of (named model script) text files = known_in files (name_of text model script)
-text_of (made n) text files = bytes (made_text text n)
+abbrev pub text_of : SourceView → Text → Option Files → KnownText
+text_of (FileNames model script) text files = known_in files (name_of text model script)
+text_of (Number n) text files = bytes (made_text text n)
 
 -- these bytes may be the text
-abbrev pub IsText : Known → List ℕ → Type 0
+abbrev pub IsText : KnownText → List ℕ → Type 0
 IsText unknown found = Unit {0}
-IsText absent found = ⊥
+IsText no_file found = ⊥
 IsText (bytes known) found = found ≡ known
 
 -- the model's text, and where that is a model the script's
-pub record AreTexts (source : Source) (files : Option Files) (m s : List ℕ) : Type 0 where
+pub record AreTexts (source : SourceView) (files : Option Files) (m s : List ℕ) : Type 0 where
   pub model_is : IsText (text_of source Model files) m
   pub script_is : (net : Net) → model m ≡ Ok net → IsText (text_of source Script files) s
 
 -- a text was not read: the inputs had a fault, or the files are known and lack it; a made text is always there
-abbrev pub IsUnread : Type 0 → Source → Text → Option Files → Type 0
-IsUnread rose (named model script) text files = rose ⊎ Lacks files (name_of text model script)
-IsUnread rose (made n) text files = ⊥
+abbrev pub IsUnread : Type 0 → SourceView → Text → Option Files → Type 0
+IsUnread rose (FileNames model script) text files = rose ⊎ Lacks files (name_of text model script)
+IsUnread rose (Number n) text files = ⊥
 
 -- how many fetches one text takes
-abbrev pub fetches_of : Source → ℕ
-fetches_of (named model script) = 1
-fetches_of (made n) = 0
+abbrev pub fetches_of : SourceView → ℕ
+fetches_of (FileNames model script) = 1
+fetches_of (Number n) = 0
 
 -- and how many both take
-abbrev pub all_fetches : Source → ℕ
-all_fetches (named model script) = 2
-all_fetches (made n) = 0
+abbrev pub all_fetches : SourceView → ℕ
+all_fetches (FileNames model script) = 2
+all_fetches (Number n) = 0
 
 -- the refusal where a text was not read
 abbrev pub unread_refusal : Text → Refusal
@@ -79,7 +79,7 @@ unread_refusal Model = NoModel
 unread_refusal Script = NoScript
 
 -- out of memory, or a text was not read
-abbrev pub IsNotRead : Type 0 → Source → Text → Option Files → Refusal → Type 0
+abbrev pub IsNotRead : Type 0 → SourceView → Text → Option Files → Refusal → Type 0
 IsNotRead rose source text files OutOfMemory = Unit {0}
 IsNotRead rose source Model files NoModel = IsUnread rose source Model files
 IsNotRead rose source Script files NoScript = IsUnread rose source Script files

@@ -2,7 +2,7 @@
 ghost use Rattle.std.specs.Prelude.{◌≡◌, IfErr, IfOk, OnOk};
 ghost use Rattle.decision_book.specs.Journal.{after};
 ghost use Rattle.cloner_top.specs.Deciding.{AcceptsAct, IsDecided, IsRefusal, RefusesAct, journal_after};
-ghost use Rattle.study_run.specs.Accepted.{AllAccepted};
+ghost use Rattle.study_run.specs.Accepted.{IsAcceptedJournal};
 ghost use Rattle.cloner_top.specs.Refusals.{Stops};
 
 use crate::refusal::Refusal;
@@ -13,13 +13,14 @@ use net_model::Model;
 use std::alloc::Global;
 use std::sync::Arc;
 
+// Makes the decision of an item, or passes over a look. A decision that is refused stops the study.
 fn decide_item(book: &mut Book, item: &Item) -> Result<(), Stop>
     ensures events { book.new.events ≡ journal_after book.old.net book.old.events item.now.analyst item.now.act }
     ensures ok { OnOk result (AcceptsAct (after book.old.net book.old.events) item.now.act) }
     ensures err { IfErr result (λ stop. RefusesAct (after book.old.net book.old.events) item.now.line item.now.act
         stop) }
-    ensures accepted { OnOk result (AllAccepted book.old.net book.old.events
-        → AllAccepted book.new.net book.new.events) }
+    ensures accepted { OnOk result (IsAcceptedJournal book.old.net book.old.events
+        → IsAcceptedJournal book.new.net book.new.events) }
     ensures net { book.new.net ≡ book.old.net }
 {
     let Act::Decide(decision) = item.act else {

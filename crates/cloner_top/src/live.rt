@@ -30,10 +30,13 @@ use world_core::World;
 fn world_or_halt(model: &Model, live: LiveRun, journal: Vec<u8>) -> Result<(World, Vec<u8>), Halt>
     requires net { live.book.net ≡ model.now }
     requires there { IfErr live.run (λ e. IsPlaced model.now live.book.events e) }
+    // the world at the horizon, with the text of the journal
     ensures ok { IfOk result (λ r. (live.run ≡ Ok r.0) × (r.1.items ≡ journal.items)) }
+    // what holds of the clones then
     ensures few { IfOk result (λ r. length r.0.clones ≤ MOST_CLONES) }
     ensures within { IfOk result (λ r. NoneBeyond r.0.net r.0.clones r.0.front) }
     ensures planned { IfOk result (λ r. ArePlanned live.book.net (clones_of_book live.book)) }
+    // or why there is none, for the fault of the run
     ensures err { IfErr result (λ h. (e : _) × ((live.run ≡ Err e)
         × HaltsFor model.now live.book.events journal.items e h)) }
 {
@@ -107,9 +110,9 @@ pub(crate) fn write_live<O: Sink, G: Gate, L: Ledger, R: Threads + Wait + Sync>(
     steps: &mut Steps<L>,
 ) -> Result<(), Halt>
     ensures ok { OnOk result (IsStudyPut (MayLive study.now.model.value study.now.script) steps.old steps.new
-        (O.seen out.old) (O.seen out.new)) }
+        (O.view out.old) (O.view out.new)) }
     ensures err { IfErr result (λ h. IsHalted (MayLive study.now.model.value study.now.script) steps.old steps.new
-        (O.seen out.old) (O.seen out.new) h) }
+        (O.view out.old) (O.view out.new) h) }
 {
     let (world, journal) = match run_live(rt, alloc, gate, request, study, steps) {
         Ok(ran) => ran,

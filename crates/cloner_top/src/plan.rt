@@ -8,7 +8,7 @@ ghost use Rattle.cloner_top.specs.Refusals.{Stops};
 ghost use Rattle.cloner_top.specs.Texts.{all_fetches};
 
 use crate::deciding::decide_script;
-use crate::reading::{Text, fetch_text, model_of, script_of};
+use crate::reading::{Text, fetch_text, read_model_text, read_script_text};
 use crate::refusal::Refusal;
 use command_words::Source;
 use decision_book::Book;
@@ -57,23 +57,23 @@ pub(crate) fn read_study<I: Inputs>(
     inputs: &mut I,
     source: &Source,
 ) -> Result<Study, Refusal>
-    ensures ok { IfOk result (λ study. IsRead (source_view source.now) (I.seen inputs.old).files study.model.value
+    ensures ok { IfOk result (λ study. IsRead (source_view source.now) (I.view inputs.old).files study.model.value
         study.script) }
     ensures err { IfErr result (λ r.
-        IsUnreadStudy (HasRisen (I.seen inputs.old).faults (I.seen inputs.new).faults) (source_view source.now)
-        (I.seen inputs.old).files r) }
-    ensures later { (I.seen inputs.old).faults ≤ (I.seen inputs.new).faults }
-    ensures same { (I.seen inputs.new).files ≡ (I.seen inputs.old).files }
-    ensures fetched { OnOk result (AreCounted (all_fetches (source_view source.now)) (I.seen inputs.old).calls
-        (I.seen inputs.new).calls) }
+        IsUnreadStudy (HasRisen (I.view inputs.old).faults (I.view inputs.new).faults) (source_view source.now)
+        (I.view inputs.old).files r) }
+    ensures later { (I.view inputs.old).faults ≤ (I.view inputs.new).faults }
+    ensures same { (I.view inputs.new).files ≡ (I.view inputs.old).files }
+    ensures fetched { OnOk result (AreCounted (all_fetches (source_view source.now)) (I.view inputs.old).calls
+        (I.view inputs.new).calls) }
     ensures few { (n : ℕ) × ((n ≤ all_fetches (source_view source.now))
-        × AreCounted n (I.seen inputs.old).calls (I.seen inputs.new).calls) }
+        × AreCounted n (I.view inputs.old).calls (I.view inputs.new).calls) }
 {
     let text = match fetch_text(alloc, inputs, source, Text::Model) {
         Ok(text) => text,
         Err(refusal) => return Err(refusal),
     };
-    let model = match model_of(alloc, text.as_slice()) {
+    let model = match read_model_text(alloc, text.as_slice()) {
         Ok(model) => model,
         Err(refusal) => return Err(refusal),
     };
@@ -81,7 +81,7 @@ pub(crate) fn read_study<I: Inputs>(
         Ok(text) => text,
         Err(refusal) => return Err(refusal),
     };
-    let script = match script_of(alloc, text.as_slice()) {
+    let script = match read_script_text(alloc, text.as_slice()) {
         Ok(script) => script,
         Err(refusal) => return Err(refusal),
     };

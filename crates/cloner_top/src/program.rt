@@ -2,7 +2,7 @@
 ghost use Rattle.std.specs.Prelude.{◌≡◌, ◌≢◌, ◌⊎◌, ◌≤◌, ◌∷◌, [], ℕ, IfErr, None, MatchBool, OnOk};
 ghost use Rattle.sim_outer.specs.Causes.{AreCounted, HasRisen};
 ghost use Rattle.command_words.specs.Requests.{request_view, source_view};
-ghost use Rattle.cloner_top.specs.Answers.{IsAnswer, IsDisobeyed, IsLawfulEnding, assignment_of};
+ghost use Rattle.cloner_top.specs.Answers.{IsAnswer, IsDisobeyed, IsLawfulEnding, assignment_of, outside_of};
 ghost use Rattle.cloner_top.specs.Endings.{DecidesFirst, MayEnd};
 ghost use Rattle.cloner_top.specs.Facts.{AreFewFetches, Completes, IsCutFor, IsStoppedFor};
 ghost use Rattle.cloner_top.specs.Facts.{IsToldFor, IsUnreadFor, IsWritten};
@@ -40,10 +40,10 @@ fn decide_and_write<O: Sink, G: Gate, L: Ledger, R: Threads + Wait + Sync>(
     requires first { DecidesFirst request.now.mode }
     ensures ok { OnOk result (IsStudyPut
         (MayEnd (request_view request.now).assignment study.now.model.value study.now.script) steps.old steps.new
-        (O.seen out.old) (O.seen out.new)) }
+        (O.view out.old) (O.view out.new)) }
     ensures err { IfErr result (λ r. IsFailed
         (MayEnd (request_view request.now).assignment study.now.model.value study.now.script) steps.old steps.new
-        (O.seen out.old) (O.seen out.new) r) }
+        (O.view out.old) (O.view out.new) r) }
 {
     match plan_study(alloc, study) {
         Ok(plan) => write_study(rt, alloc, gate, request, &plan, out, steps),
@@ -73,10 +73,10 @@ fn run_and_write<O: Sink, G: Gate, L: Ledger, R: Threads + Wait + Sync>(
 ) -> Result<(), Halt>
     ensures ok { OnOk result (IsStudyPut
         (MayEnd (request_view request.now).assignment study.now.model.value study.now.script) steps.old steps.new
-        (O.seen out.old) (O.seen out.new)) }
+        (O.view out.old) (O.view out.new)) }
     ensures err { IfErr result (λ h. IsHalted
         (MayEnd (request_view request.now).assignment study.now.model.value study.now.script) steps.old steps.new
-        (O.seen out.old) (O.seen out.new) h) }
+        (O.view out.old) (O.view out.new) h) }
 {
     if !decides_first(&request.mode) {
         return write_live(rt, alloc, gate, request, study, out, steps);
@@ -98,17 +98,17 @@ fn obey<I: Inputs, O: Sink, G: Gate, L: Ledger, R: Threads + Wait + Sync>(
     steps: &mut Steps<L>,
 ) -> Result<(), Halt>
     ensures ok { OnOk result (IsStudyPut
-        (IsLawfulEnding (I.seen inputs.old).files (request_view request.now).assignment) steps.old steps.new
-        (O.seen out.old) (O.seen out.new)) }
-    ensures err { IfErr result (λ h. IsDisobeyed (HasRisen (I.seen inputs.old).faults (I.seen inputs.new).faults)
-        (I.seen inputs.old).files (request_view request.now).assignment steps.old steps.new
-        (O.seen out.old) (O.seen out.new) h) }
-    ensures later { (I.seen inputs.old).faults ≤ (I.seen inputs.new).faults }
-    ensures same { (I.seen inputs.new).files ≡ (I.seen inputs.old).files }
-    ensures fetched { OnOk result (AreCounted (all_fetches (source_view request.now.source)) (I.seen inputs.old).calls
-        (I.seen inputs.new).calls) }
+        (IsLawfulEnding (I.view inputs.old).files (request_view request.now).assignment) steps.old steps.new
+        (O.view out.old) (O.view out.new)) }
+    ensures err { IfErr result (λ h. IsDisobeyed (HasRisen (I.view inputs.old).faults (I.view inputs.new).faults)
+        (I.view inputs.old).files (request_view request.now).assignment steps.old steps.new
+        (O.view out.old) (O.view out.new) h) }
+    ensures later { (I.view inputs.old).faults ≤ (I.view inputs.new).faults }
+    ensures same { (I.view inputs.new).files ≡ (I.view inputs.old).files }
+    ensures fetched { OnOk result (AreCounted (all_fetches (source_view request.now.source)) (I.view inputs.old).calls
+        (I.view inputs.new).calls) }
     ensures few { (n : ℕ) × ((n ≤ all_fetches (source_view request.now.source))
-        × AreCounted n (I.seen inputs.old).calls (I.seen inputs.new).calls) }
+        × AreCounted n (I.view inputs.old).calls (I.view inputs.new).calls) }
 {
     match read_study(alloc, inputs, &request.source) {
         Ok(study) => run_and_write(rt, alloc, gate, request, &study, out, steps),
@@ -119,7 +119,7 @@ fn obey<I: Inputs, O: Sink, G: Gate, L: Ledger, R: Threads + Wait + Sync>(
 // Tells the error sink why. Its faults change nothing else.
 fn complain<E: Sink>(err: &mut E, refusal: &Refusal) -> u8
     ensures status { result ≡ status_of refusal.now }
-    ensures told { ArePutOrCut (line_of refusal.now ∷ []) (E.seen err.old) (E.seen err.new) }
+    ensures told { ArePutOrCut (line_of refusal.now ∷ []) (E.view err.old) (E.view err.new) }
 {
     let line = refusal.line();
     let _ = put_text(err, line.text().as_bytes());
@@ -130,7 +130,7 @@ fn complain<E: Sink>(err: &mut E, refusal: &Refusal) -> u8
 // cut off, nothing follows it.
 fn complain_of_limit<E: Sink>(err: &mut E, journal: &[u8], stop: &Stop) -> u8
     ensures status { result ≡ stop_status stop.now }
-    ensures told { ArePutOrCut (journal.now ∷ stop_line stop.now ∷ []) (E.seen err.old) (E.seen err.new) }
+    ensures told { ArePutOrCut (journal.now ∷ stop_line stop.now ∷ []) (E.view err.old) (E.view err.new) }
 {
     let line = stop.line();
     let Ok(()) = put_text(err, journal) else {
@@ -162,14 +162,14 @@ fn obey_or_complain<I: Inputs, O: Sink, E: Sink, G: Gate, L: Ledger, R: Threads 
     steps: &mut Steps<L>,
 ) -> u8
     ensures answer { IsAnswer (assignment_of words.now)
-        (record { inputs = I.seen inputs.old; output = O.seen out.old; errors = E.seen err.old; steps = steps.old })
-        (record { inputs = I.seen inputs.new; output = O.seen out.new; errors = E.seen err.new; steps = steps.new })
+        (outside_of (I.view inputs.old) (O.view out.old) (E.view err.old) steps.old)
+        (outside_of (I.view inputs.new) (O.view out.new) (E.view err.new) steps.new)
         result }
-    ensures later { (I.seen inputs.old).faults ≤ (I.seen inputs.new).faults }
-    ensures same { (I.seen inputs.new).files ≡ (I.seen inputs.old).files }
+    ensures later { (I.view inputs.old).faults ≤ (I.view inputs.new).faults }
+    ensures same { (I.view inputs.new).files ≡ (I.view inputs.old).files }
     ensures fetches { AreFewFetches (assignment_of words.now)
-        (record { inputs = I.seen inputs.old; output = O.seen out.old; errors = E.seen err.old; steps = steps.old })
-        (record { inputs = I.seen inputs.new; output = O.seen out.new; errors = E.seen err.new; steps = steps.new }) }
+        (outside_of (I.view inputs.old) (O.view out.old) (E.view err.old) steps.old)
+        (outside_of (I.view inputs.new) (O.view out.new) (E.view err.new) steps.new) }
 {
     let request = match read_words(alloc, words) {
         Ok(request) => request,
@@ -213,43 +213,43 @@ pub fn cloner<R: Threads + Wait + Sync, I: Inputs, O: Sink, E: Sink, G: Gate, L:
 ) -> u8
     // What each status says.
     ensures finished { result ≡ 0 → IsWritten (assignment_of words.now)
-        (record { inputs = I.seen inputs.old; output = O.seen out.old; errors = E.seen err.old; steps = steps.old })
-        (record { inputs = I.seen inputs.new; output = O.seen out.new; errors = E.seen err.new; steps = steps.new }) }
+        (outside_of (I.view inputs.old) (O.view out.old) (E.view err.old) steps.old)
+        (outside_of (I.view inputs.new) (O.view out.new) (E.view err.new) steps.new) }
     ensures usage { (result ≡ 2 → assignment_of words.now ≡ None)
         × (assignment_of words.now ≡ None → (result ≡ 1) ⊎ (result ≡ 2)) }
     ensures unread { result ≡ 3 → IsUnreadFor (assignment_of words.now)
-        (record { inputs = I.seen inputs.old; output = O.seen out.old; errors = E.seen err.old; steps = steps.old })
-        (record { inputs = I.seen inputs.new; output = O.seen out.new; errors = E.seen err.new; steps = steps.new }) }
+        (outside_of (I.view inputs.old) (O.view out.old) (E.view err.old) steps.old)
+        (outside_of (I.view inputs.new) (O.view out.new) (E.view err.new) steps.new) }
     ensures refused { 4 ≤ result → result ≤ 7 → IsStoppedFor (assignment_of words.now)
-        (record { inputs = I.seen inputs.old; output = O.seen out.old; errors = E.seen err.old; steps = steps.old })
-        (record { inputs = I.seen inputs.new; output = O.seen out.new; errors = E.seen err.new; steps = steps.new })
+        (outside_of (I.view inputs.old) (O.view out.old) (E.view err.old) steps.old)
+        (outside_of (I.view inputs.new) (O.view out.new) (E.view err.new) steps.new)
         result }
     ensures cut { result ≡ 8 → IsCutFor (assignment_of words.now)
-        (record { inputs = I.seen inputs.old; output = O.seen out.old; errors = E.seen err.old; steps = steps.old })
-        (record { inputs = I.seen inputs.new; output = O.seen out.new; errors = E.seen err.new; steps = steps.new }) }
+        (outside_of (I.view inputs.old) (O.view out.old) (E.view err.old) steps.old)
+        (outside_of (I.view inputs.new) (O.view out.new) (E.view err.new) steps.new) }
 
     // What stays as it was, what is told, and how much is done.
     ensures output_same { result ≢ 0 → result ≢ 8 →
-        ((O.seen out.new).bytes ≡ (O.seen out.old).bytes) × ((O.seen out.new).calls ≡ (O.seen out.old).calls) }
+        ((O.view out.new).bytes ≡ (O.view out.old).bytes) × ((O.view out.new).calls ≡ (O.view out.old).calls) }
     ensures told { result ≢ 0 → IsToldFor (assignment_of words.now)
-        (record { inputs = I.seen inputs.old; output = O.seen out.old; errors = E.seen err.old; steps = steps.old })
-        (record { inputs = I.seen inputs.new; output = O.seen out.new; errors = E.seen err.new; steps = steps.new })
+        (outside_of (I.view inputs.old) (O.view out.old) (E.view err.old) steps.old)
+        (outside_of (I.view inputs.new) (O.view out.new) (E.view err.new) steps.new)
         result }
     ensures idle { 2 ≤ result → result ≤ 6 → steps.new ≡ steps.old }
     ensures fetches { AreFewFetches (assignment_of words.now)
-        (record { inputs = I.seen inputs.old; output = O.seen out.old; errors = E.seen err.old; steps = steps.old })
-        (record { inputs = I.seen inputs.new; output = O.seen out.new; errors = E.seen err.new; steps = steps.new }) }
-    ensures same { (I.seen inputs.new).files ≡ (I.seen inputs.old).files }
-    ensures later { (I.seen inputs.old).faults ≤ (I.seen inputs.new).faults }
+        (outside_of (I.view inputs.old) (O.view out.old) (E.view err.old) steps.old)
+        (outside_of (I.view inputs.new) (O.view out.new) (E.view err.new) steps.new) }
+    ensures same { (I.view inputs.new).files ≡ (I.view inputs.old).files }
+    ensures later { (I.view inputs.old).faults ≤ (I.view inputs.new).faults }
 
     // That a lawful ending comes, and all of this at once.
     ensures complete { Completes (assignment_of words.now)
-        (record { inputs = I.seen inputs.old; output = O.seen out.old; errors = E.seen err.old; steps = steps.old })
-        (record { inputs = I.seen inputs.new; output = O.seen out.new; errors = E.seen err.new; steps = steps.new })
+        (outside_of (I.view inputs.old) (O.view out.old) (E.view err.old) steps.old)
+        (outside_of (I.view inputs.new) (O.view out.new) (E.view err.new) steps.new)
         result }
     ensures answer { IsAnswer (assignment_of words.now)
-        (record { inputs = I.seen inputs.old; output = O.seen out.old; errors = E.seen err.old; steps = steps.old })
-        (record { inputs = I.seen inputs.new; output = O.seen out.new; errors = E.seen err.new; steps = steps.new })
+        (outside_of (I.view inputs.old) (O.view out.old) (E.view err.old) steps.old)
+        (outside_of (I.view inputs.new) (O.view out.new) (E.view err.new) steps.new)
         result }
 {
     obey_or_complain(rt, alloc, words, inputs, out, err, gate, steps)

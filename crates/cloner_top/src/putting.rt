@@ -17,16 +17,16 @@ use sim_outer::Sink;
 use std::alloc::Global;
 use std::sync::Wait;
 use std::thread::Threads;
-use study_run::report_of;
+use study_run::make_report;
 use world_core::World;
 
 /// Puts one text.
 pub(crate) fn put_text<O: Sink>(out: &mut O, text: &[u8]) -> Result<(), Refusal>
-    ensures ok { OnOk result (ArePut (text.now ∷ []) (O.seen out.old) (O.seen out.new)) }
-    ensures err { IfErr result (λ r. IsNotPut (text.now ∷ []) (O.seen out.old) (O.seen out.new) r) }
+    ensures ok { OnOk result (ArePut (text.now ∷ []) (O.view out.old) (O.view out.new)) }
+    ensures err { IfErr result (λ r. IsNotPut (text.now ∷ []) (O.view out.old) (O.view out.new) r) }
     ensures cause { IfErr result (λ r. r ≡ Refusal.CannotWrite) }
-    ensures told { ArePutOrCut (text.now ∷ []) (O.seen out.old) (O.seen out.new) }
-    ensures later { (O.seen out.old).faults ≤ (O.seen out.new).faults }
+    ensures told { ArePutOrCut (text.now ∷ []) (O.view out.old) (O.view out.new) }
+    ensures later { (O.view out.old).faults ≤ (O.view out.new).faults }
 {
     match out.put(text) {
         Ok(()) => Ok(()),
@@ -41,9 +41,9 @@ pub(crate) fn put_trace<O: Sink>(
     trace: &Log,
     out: &mut O,
 ) -> Result<(), Refusal>
-    ensures ok { OnOk result (ArePut (trace_text model.now name.now trace.now ∷ []) (O.seen out.old) (O.seen out.new)) }
+    ensures ok { OnOk result (ArePut (trace_text model.now name.now trace.now ∷ []) (O.view out.old) (O.view out.new)) }
     ensures err { IfErr result (λ r. IsNotPut (trace_text model.now name.now trace.now ∷ [])
-        (O.seen out.old) (O.seen out.new) r) }
+        (O.view out.old) (O.view out.new) r) }
 {
     match put_alone(model, name, trace, out) {
         Ok(()) => Ok(()),
@@ -59,11 +59,11 @@ pub(crate) fn put_report<O: Sink>(
     out: &mut O,
 ) -> Result<(), Refusal>
     requires may_report { MayReport model.now world.now }
-    ensures ok { OnOk result (ArePut (report model.now world.now.clones ∷ []) (O.seen out.old) (O.seen out.new)) }
+    ensures ok { OnOk result (ArePut (report model.now world.now.clones ∷ []) (O.view out.old) (O.view out.new)) }
     ensures err { IfErr result (λ r. IsNotPut (report model.now world.now.clones ∷ [])
-        (O.seen out.old) (O.seen out.new) r) }
+        (O.view out.old) (O.view out.new) r) }
 {
-    match report_of(alloc, model, world) {
+    match make_report(alloc, model, world) {
         Ok(text) => put_text(out, text.as_slice()),
         Err(NoMemory) => Err(Refusal::OutOfMemory),
     }
@@ -85,7 +85,7 @@ fn prepare_run<'a>(alloc: Global, model: &Model, world: &'a World) -> Result<Run
 {
     let traces = WorldTraces::of(world);
     let texts = prepare(alloc, &traces)?;
-    let report = report_of(alloc, model, world)?;
+    let report = make_report(alloc, model, world)?;
     Ok(RunTexts {
         traces,
         texts,
@@ -103,9 +103,9 @@ fn put_prepared<'a, O: Sink, R: Threads + Wait + Sync>(
 ) -> Result<(), Refusal>
     requires ready { IsReadyRun run.traces.net run.traces.clones run }
     ensures ok { OnOk result (ArePut (run_texts run.entry.traces.net run.entry.traces.clones)
-        (O.seen out.old) (O.seen out.new)) }
+        (O.view out.old) (O.view out.new)) }
     ensures err { IfErr result (λ r. IsNotPut (run_texts run.entry.traces.net run.entry.traces.clones)
-        (O.seen out.old) (O.seen out.new) r) }
+        (O.view out.old) (O.view out.new) r) }
     ensures cause { IfErr result (λ r. r ≡ Refusal.CannotWrite) }
 {
     let RunTexts {
@@ -130,9 +130,9 @@ pub(crate) fn put_run<O: Sink, R: Threads + Wait + Sync>(
 ) -> Result<(), Refusal>
     requires may_report { MayReport model.now world.now }
     requires short { AreShort world.now.clones }
-    ensures ok { OnOk result (ArePut (run_texts model.now world.now.clones) (O.seen out.old) (O.seen out.new)) }
+    ensures ok { OnOk result (ArePut (run_texts model.now world.now.clones) (O.view out.old) (O.view out.new)) }
     ensures err { IfErr result (λ r. IsNotPut (run_texts model.now world.now.clones)
-        (O.seen out.old) (O.seen out.new) r) }
+        (O.view out.old) (O.view out.new) r) }
 {
     match prepare_run(alloc, model, world) {
         Ok(run) => put_prepared(rt, alloc, workers, run, out),
@@ -153,9 +153,9 @@ pub(crate) fn put_live<O: Sink, R: Threads + Wait + Sync>(
     requires may_report { MayReport model.now world.now }
     requires short { AreShort world.now.clones }
     ensures ok { OnOk result (ArePut (journal.now ∷ run_texts model.now world.now.clones)
-        (O.seen out.old) (O.seen out.new)) }
+        (O.view out.old) (O.view out.new)) }
     ensures err { IfErr result (λ r. IsNotPut (journal.now ∷ run_texts model.now world.now.clones)
-        (O.seen out.old) (O.seen out.new) r) }
+        (O.view out.old) (O.view out.new) r) }
 {
     let run = match prepare_run(alloc, model, world) {
         Ok(run) => run,

@@ -27,8 +27,8 @@ pub enum Text {
     Script,
 }
 
-/// The model that a text is.
-pub(crate) fn model_of(alloc: Global, text: &[u8]) -> Result<Model, Refusal>
+/// Reads the model that a text is.
+pub(crate) fn read_model_text(alloc: Global, text: &[u8]) -> Result<Model, Refusal>
     ensures ok { IfOk result (λ m. model text.now ≡ Ok m) }
     ensures err { IfErr result (λ r. Stops (IsBadModel text.now) r) }
 {
@@ -39,8 +39,8 @@ pub(crate) fn model_of(alloc: Global, text: &[u8]) -> Result<Model, Refusal>
     }
 }
 
-/// The script that a text is.
-pub(crate) fn script_of(alloc: Global, text: &[u8]) -> Result<Script, Refusal>
+/// Reads the script that a text is.
+pub(crate) fn read_script_text(alloc: Global, text: &[u8]) -> Result<Script, Refusal>
     ensures ok { IfOk result (λ s. script text.now ≡ Ok s) }
     ensures err { IfErr result (λ r. Stops (IsBadScript text.now) r) }
 {
@@ -78,13 +78,13 @@ pub(crate) fn fetch_text<I: Inputs>(
     source: &Source,
     text: Text,
 ) -> Result<Vec<u8>, Refusal>
-    ensures ok { IfOk result (λ v. IsText (text_of (source_view source.now) text (I.seen inputs.old).files) v.items) }
-    ensures err { IfErr result (λ r. IsNotRead (HasRisen (I.seen inputs.old).faults (I.seen inputs.new).faults)
-        (source_view source.now) text (I.seen inputs.old).files r) }
-    ensures later { (I.seen inputs.old).faults ≤ (I.seen inputs.new).faults }
-    ensures same { (I.seen inputs.new).files ≡ (I.seen inputs.old).files }
-    ensures counted { AreCounted (fetches_of (source_view source.now)) (I.seen inputs.old).calls
-        (I.seen inputs.new).calls }
+    ensures ok { IfOk result (λ v. IsText (text_of (source_view source.now) text (I.view inputs.old).files) v.items) }
+    ensures err { IfErr result (λ r. IsNotRead (HasRisen (I.view inputs.old).faults (I.view inputs.new).faults)
+        (source_view source.now) text (I.view inputs.old).files r) }
+    ensures later { (I.view inputs.old).faults ≤ (I.view inputs.new).faults }
+    ensures same { (I.view inputs.new).files ≡ (I.view inputs.old).files }
+    ensures counted { AreCounted (fetches_of (source_view source.now)) (I.view inputs.old).calls
+        (I.view inputs.new).calls }
 {
     let name = match *source {
         Source::Named { model, script } => name_of(text, model, script),

@@ -24,7 +24,8 @@ pub enum Refusal {
     CannotWrite,
 }
 
-fn just(text: &str) -> ErrorLine
+// The line of a text that needs no numbers.
+fn line_of_text(text: &str) -> ErrorLine
     requires { length text.now ≤ LONGEST_LINE }
     ensures { result ≡ text.now }
 {
@@ -52,12 +53,12 @@ impl Refusal {
         ensures { result ≡ line_of self.now }
     {
         match self {
-            Refusal::OutOfMemory => just("cloner: out of memory\n"),
-            Refusal::Usage => just(usage_line()),
-            Refusal::NoModel => just("cloner: cannot read the model\n"),
-            Refusal::NoScript => just("cloner: cannot read the script\n"),
+            Refusal::OutOfMemory => line_of_text("cloner: out of memory\n"),
+            Refusal::Usage => line_of_text(usage_line()),
+            Refusal::NoModel => line_of_text("cloner: cannot read the model\n"),
+            Refusal::NoScript => line_of_text("cloner: cannot read the script\n"),
             Refusal::Stopped(stop) => stop.line(),
-            Refusal::CannotWrite => just("cloner: cannot write\n"),
+            Refusal::CannotWrite => line_of_text("cloner: cannot write\n"),
         }
     }
 }

@@ -2,7 +2,7 @@
 ghost use Rattle.std.specs.Prelude.{◌≡◌, ◌+◌, ◌≤◌, ℕ, List, [], ◌∷◌, length, IfErr, IfOk, OnOk};
 ghost use Rattle.rolling_text.specs.WorldTraces.{AreShort};
 ghost use Rattle.world_core.specs.Worlds.{total_handled};
-ghost use Rattle.study_run.specs.Accepted.{AllAccepted};
+ghost use Rattle.study_run.specs.Accepted.{IsAcceptedJournal};
 ghost use Rattle.study_run.specs.Reports.{MayReport};
 ghost use Rattle.command_words.specs.Requests.{source_view};
 ghost use Rattle.cloner_top.specs.Deciding.{clones_of_book};
@@ -50,7 +50,7 @@ fn run_world<G: Gate, L: Ledger, R: Threads + Wait + Sync>(
     plan: &Plan,
     steps: &mut Steps<L>,
 ) -> Result<World, Refusal>
-    requires accepted { AllAccepted plan.now.book.net plan.now.book.events }
+    requires accepted { IsAcceptedJournal plan.now.book.net plan.now.book.events }
     ensures may_report { IfOk result (λ w. MayReport plan.now.model.value w) }
     ensures clones { IfOk result (λ w. w.clones ≡ clones_of_book plan.now.book) }
     ensures short { IfOk result (λ w. AreShort w.clones) }
@@ -95,15 +95,15 @@ fn write_run<O: Sink, G: Gate, L: Ledger, R: Threads + Wait + Sync>(
     out: &mut O,
     steps: &mut Steps<L>,
 ) -> Result<(), Refusal>
-    requires accepted { AllAccepted plan.now.book.net plan.now.book.events }
+    requires accepted { IsAcceptedJournal plan.now.book.net plan.now.book.events }
     ensures ok { OnOk result (IsStudyPut
         (MayRun plan.now.model.value (clones_of_book plan.now.book)
         (run_texts plan.now.model.value (clones_of_book plan.now.book))) steps.old steps.new
-        (O.seen out.old) (O.seen out.new)) }
+        (O.view out.old) (O.view out.new)) }
     ensures err { IfErr result (λ r. IsFailed
         (MayRun plan.now.model.value (clones_of_book plan.now.book)
         (run_texts plan.now.model.value (clones_of_book plan.now.book))) steps.old steps.new
-        (O.seen out.old) (O.seen out.new) r) }
+        (O.view out.old) (O.view out.new) r) }
 {
     match run_world(rt, alloc, gate, request, plan, steps) {
         Ok(world) => put_run(rt, alloc, request.workers, &plan.model, &world, out),
@@ -121,15 +121,15 @@ fn write_report<O: Sink, G: Gate, L: Ledger, R: Threads + Wait + Sync>(
     out: &mut O,
     steps: &mut Steps<L>,
 ) -> Result<(), Refusal>
-    requires accepted { AllAccepted plan.now.book.net plan.now.book.events }
+    requires accepted { IsAcceptedJournal plan.now.book.net plan.now.book.events }
     ensures ok { OnOk result (IsStudyPut
         (MayRun plan.now.model.value (clones_of_book plan.now.book)
         (report plan.now.model.value (clones_of_book plan.now.book) ∷ [])) steps.old steps.new
-        (O.seen out.old) (O.seen out.new)) }
+        (O.view out.old) (O.view out.new)) }
     ensures err { IfErr result (λ r. IsFailed
         (MayRun plan.now.model.value (clones_of_book plan.now.book)
         (report plan.now.model.value (clones_of_book plan.now.book) ∷ [])) steps.old steps.new
-        (O.seen out.old) (O.seen out.new) r) }
+        (O.view out.old) (O.view out.new) r) }
 {
     match run_world(rt, alloc, gate, request, plan, steps) {
         Ok(world) => put_report(alloc, &plan.model, &world, out),
@@ -147,10 +147,10 @@ fn write_alone<O: Sink, L: Ledger>(
 ) -> Result<(), Refusal>
     ensures ok { OnOk result (IsStudyPut
         (MayRunAlone plan.now.model.value (clones_of_book plan.now.book) name.now) steps.old steps.new
-        (O.seen out.old) (O.seen out.new)) }
+        (O.view out.old) (O.view out.new)) }
     ensures err { IfErr result (λ r. IsFailed
         (MayRunAlone plan.now.model.value (clones_of_book plan.now.book) name.now) steps.old steps.new
-        (O.seen out.old) (O.seen out.new) r) }
+        (O.view out.old) (O.view out.new) r) }
 {
     let lists = plan.book.lists();
     let Some(place) = lists.find(name) else {
@@ -176,13 +176,13 @@ pub(crate) fn write_study<O: Sink, G: Gate, L: Ledger, R: Threads + Wait + Sync>
     steps: &mut Steps<L>,
 ) -> Result<(), Refusal>
     requires first { DecidesFirst request.now.mode }
-    requires accepted { AllAccepted plan.now.book.net plan.now.book.events }
+    requires accepted { IsAcceptedJournal plan.now.book.net plan.now.book.events }
     ensures ok { OnOk result (IsStudyPut
         (MaySimulate request.now.mode (source_view request.now.source) plan.now.model.value
-        (clones_of_book plan.now.book)) steps.old steps.new (O.seen out.old) (O.seen out.new)) }
+        (clones_of_book plan.now.book)) steps.old steps.new (O.view out.old) (O.view out.new)) }
     ensures err { IfErr result (λ r. IsFailed
         (MaySimulate request.now.mode (source_view request.now.source) plan.now.model.value
-        (clones_of_book plan.now.book)) steps.old steps.new (O.seen out.old) (O.seen out.new) r) }
+        (clones_of_book plan.now.book)) steps.old steps.new (O.view out.old) (O.view out.new) r) }
 {
     match (request.mode, request.source) {
         (Mode::All, Source::Named { .. }) => write_run(rt, alloc, gate, request, plan, out, steps),

@@ -4,6 +4,8 @@ ghost use Rattle.cloner_top.specs.Stops.{key_part, stop_line, stop_status, model
 ghost use Rattle.cloner_top.specs.Stops.{script_line, decision_line, no_clone_line, limit_line};
 ghost use Rattle.cloner_top.specs.declared.error_line.TheConstants.{LONGEST_LINE};
 ghost use Rattle.net_model.specs.Faults.{fault_key};
+ghost use Rattle.net_model.specs.declared.key_text.TheConstants.{LONGEST_KEY_TEXT};
+ghost use Rattle.sim_base.specs.declared.name.TheConstants.{LONGEST_NAME};
 
 use crate::error_line::ErrorLine;
 use decision_book::Reply;
@@ -33,6 +35,7 @@ pub enum Stop {
     },
 }
 
+// The line of a model that is refused.
 fn line_of_model(fault: &ModelFault) -> ErrorLine
     ensures { result ≡ model_line fault.now }
 {
@@ -46,10 +49,11 @@ fn line_of_model(fault: &ModelFault) -> ErrorLine
     line
 }
 
+// Appends the key that a refusal names, where it names one.
 fn push_key(line: &mut ErrorLine, fault: &ModelFault)
-    requires free { length line.old + 37 ≤ LONGEST_LINE }
+    requires free { length line.old + 5 + LONGEST_KEY_TEXT ≤ LONGEST_LINE }
     ensures value { line.new ≡ line.old ++ key_part (fault_key fault.now) }
-    ensures short { length line.new ≤ length line.old + 37 }
+    ensures short { length line.new ≤ length line.old + 5 + LONGEST_KEY_TEXT }
 {
     if let Some(key) = fault.key() {
         line.push(" key ");
@@ -57,6 +61,7 @@ fn push_key(line: &mut ErrorLine, fault: &ModelFault)
     }
 }
 
+// The line of a script that is refused.
 fn line_of_script(fault: &ScriptFault) -> ErrorLine
     ensures { result ≡ script_line fault.now }
 {
@@ -69,6 +74,7 @@ fn line_of_script(fault: &ScriptFault) -> ErrorLine
     line
 }
 
+// The line of a decision that is refused, with the number of its line in the script.
 fn line_of_decision(reply: &Reply, number: u32) -> ErrorLine
     ensures { result ≡ decision_line reply.now number }
 {
@@ -81,6 +87,7 @@ fn line_of_decision(reply: &Reply, number: u32) -> ErrorLine
     line
 }
 
+// The line of a name that no clone has.
 fn line_of_no_clone(name: &Name) -> ErrorLine
     ensures { result ≡ no_clone_line name.now }
 {
@@ -91,6 +98,7 @@ fn line_of_no_clone(name: &Name) -> ErrorLine
     line
 }
 
+// The line of a limit that is met.
 fn line_of_limit(limit: u64, station: &Name, clone: &Name) -> ErrorLine
     ensures { result ≡ limit_line limit station.now clone.now }
 {
@@ -105,11 +113,12 @@ fn line_of_limit(limit: u64, station: &Name, clone: &Name) -> ErrorLine
     line
 }
 
-#[tactic(auto, using(crate::proofs::Short::name_short))]
+// Appends a name.
+#[tactic(auto, using(sim_base::proofs::NameBytes::short_name))]
 fn push_name(line: &mut ErrorLine, name: &Name)
-    requires free { length line.old + 16 ≤ LONGEST_LINE }
+    requires free { length line.old + LONGEST_NAME ≤ LONGEST_LINE }
     ensures value { line.new ≡ line.old ++ name.now }
-    ensures short { length line.new ≤ length line.old + 16 }
+    ensures short { length line.new ≤ length line.old + LONGEST_NAME }
 {
     line.push(name.text());
 }

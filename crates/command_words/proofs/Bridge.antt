@@ -20,10 +20,10 @@ use Rattle.command_words.specs.Clap.{ClapFindsTheValues, clap_values, unless_fau
 use Rattle.command_words.specs.Rules.{DashedWord, OptionName, after_dashed, bare_option, clone, dashed_word, ending}
 use Rattle.command_words.specs.Rules.{is_dashed, option_with_value, read, unknown, values, with_positionals}
 use Rattle.command_words.specs.Rules.{with_value, workers}
-use Rattle.command_words.specs.Values.{Values}
-use Rattle.command_words.proofs.ClapRows.{Stage, Stands, at_start, fault-missing, fault-twice}
+use Rattle.command_words.specs.Values.{GivenView}
+use Rattle.command_words.proofs.ClapRows.{HaveValues, Stage, at_start, fault-missing, fault-twice}
 use Rattle.command_words.proofs.ClapRows.{no_fault-option}
-use Rattle.command_words.proofs.ClapRows.{no_fault-place, none, one, place, three, two, values_at, values_in-stands}
+use Rattle.command_words.proofs.ClapRows.{no_fault-place, none, one, place, three, two, values_at, values_in-have}
 use Rattle.command_words.proofs.ClapRows.{with_clone, with_first, with_mode, with_second, with_workers}
 use Rattle.command_words.proofs.ClapSteps.{IsPlain, at, end_of, fault_at_end, fault_behind}
 use Rattle.command_words.proofs.ClapSteps.{fault_of_fourth}
@@ -37,7 +37,7 @@ use Rattle.command_words.proofs.WordShapes.{Says, plain, says}
 -- ---- more than three positionals
 
 -- values with four positionals or more
-abbrev pub many : Option Text → Option Text → Text → Text → Text → Text → List Text → Values
+abbrev pub many : Option Text → Option Text → Text → Text → Text → Text → List Text → GivenView
 many w c x y z u more = record { workers = w; clone = c; positionals = x ∷ y ∷ z ∷ u ∷ more }
 
 -- clap has no place for them
@@ -122,18 +122,18 @@ up_to_three-end w c (three a b d) = refl
 
 -- clap finds what its rows tell
 found-end : (rows : List Row) (p : Option (Text × List Text)) (waiting : Waiting) (ended : Bool) (w c : Option Text)
-    (s : Stage) → pending_fault rows p ≡ [] → Stands (rows_with rows p) w c s
+    (s : Stage) → pending_fault rows p ≡ [] → HaveValues (rows_with rows p) w c s
     → found (at rows p waiting (place s) ended) [] ≡ Some (values_at w c s)
 found-end rows p waiting ended w c s clear st =
     at_last rows p waiting (place s) ended
     ∙ ap (λ k. unless_fault k (Some (values_in (rows_with rows p)))) clear
-    ∙ ap (λ (v : Values). Some v) (values_in-stands (rows_with rows p) w c s st)
+    ∙ ap (λ (v : GivenView). Some v) (values_in-have (rows_with rows p) w c s st)
 
 -- ---- behind `--`
 
 -- each word is a positional, and a fourth is refused
 behind : (rest : List Text) (rows : List Row) (p : Option (Text × List Text)) (waiting : Waiting) (w c : Option Text)
-    (s : Stage) → pending_fault rows p ≡ [] → Stands (rows_with rows p) w c s
+    (s : Stage) → pending_fault rows p ≡ [] → HaveValues (rows_with rows p) w c s
     → found (at rows p waiting (place s) true) rest ≡ up_to_three (with_positionals rest (values_at w c s))
 behind [] rows p waiting w c s clear st =
     found-end rows p waiting true w c s clear st ∙ sym (up_to_three-end w c s)
@@ -231,12 +231,12 @@ doomed (word ∷ rest) u rows p s k ks fault = ⊎_elim
 -- where nothing is due, clap finds in these words what the rules read
 abbrev Free : List Text → Type 0
 Free words = (rows : List Row) (p : Option (Text × List Text)) (w c : Option Text) (s : Stage)
-    → pending_fault rows p ≡ [] → Stands (rows_with rows p) w c s
+    → pending_fault rows p ≡ [] → HaveValues (rows_with rows p) w c s
     → found (at rows p idle (place s) false) words ≡ option_and_then up_to_three (read words None (values_at w c s))
 
 -- and so where the value of an option is due
 abbrev Due : List Text → Type 0
-Due words = (name : OptionName) (rows : List Row) (w c : Option Text) (s : Stage) → Stands rows w c s
+Due words = (name : OptionName) (rows : List Row) (w c : Option Text) (s : Stage) → HaveValues rows w c s
     → found (at rows (Some (id_of name, [])) (option (id_of name)) (place s) false) words
     ≡ option_and_then up_to_three (read words (Some name) (values_at w c s))
 
@@ -251,7 +251,7 @@ repeat id rows h = rw h refl
 -- `--NAME=V`
 value_step : (name : OptionName) (v : Text) (rest : List Text) → Free rest → (rows : List Row)
     (p : Option (Text × List Text)) (w c : Option Text) (s : Stage) → pending_fault rows p ≡ []
-    → Stands (rows_with rows p) w c s
+    → HaveValues (rows_with rows p) w c s
     → found (at rows p idle (place s) false) ((long name ++ (61 ∷ v)) ∷ rest)
     ≡ option_and_then up_to_three (option_and_then (read rest None) (with_value name v (values_at w c s)))
 value_step workers v rest free rows p None c s clear st =
@@ -286,7 +286,7 @@ value_step clone v rest free rows p w (Some o) s clear st =
 -- a word with a dash, where nothing is due
 free_dashed : (d : DashedWord) (word : Text) (rest : List Text) → Free rest → Due rest → Says d word → (rows : List Row)
     (p : Option (Text × List Text)) (w c : Option Text) (s : Stage) → pending_fault rows p ≡ []
-    → Stands (rows_with rows p) w c s
+    → HaveValues (rows_with rows p) w c s
     → found (at rows p idle (place s) false) (word ∷ rest)
     ≡ option_and_then up_to_three (after_dashed d rest (read rest) (values_at w c s))
 free_dashed ending word rest free due e rows p w c s clear st =
@@ -309,7 +309,7 @@ free_dashed unknown word rest free due refuses rows p w c s clear st =
 -- a word without one, where nothing is due: a positional
 free_plain : (word : Text) (rest : List Text) → Free rest → IsPlain word → (rows : List Row)
     (p : Option (Text × List Text)) (w c : Option Text) (s : Stage) → pending_fault rows p ≡ []
-    → Stands (rows_with rows p) w c s
+    → HaveValues (rows_with rows p) w c s
     → found (at rows p idle (place s) false) (word ∷ rest)
     ≡ option_and_then up_to_three (read rest None (with_positionals (word ∷ []) (values_at w c s)))
 free_plain word rest free is rows p w c none clear st =
@@ -335,8 +335,8 @@ free_plain word rest free is rows p w c (three a b d) clear st =
 -- any word, where nothing is due
 free_step : (word : Text) (rest : List Text) → IsUtf8 word → Free rest → Due rest → Free (word ∷ rest)
 free_step word rest u free due rows p w c s clear st =
-    let dash : Option Values = after_dashed (dashed_word word) rest (read rest) (values_at w c s) in
-    let text : Option Values = read rest None (with_positionals (word ∷ []) (values_at w c s)) in
+    let dash : Option GivenView = after_dashed (dashed_word word) rest (read rest) (values_at w c s) in
+    let text : Option GivenView = read rest None (with_positionals (word ∷ []) (values_at w c s)) in
     ⊎_elim
     (λ (yes : is_dashed word ≡ true).
     free_dashed (dashed_word word) word rest free due (says word u yes) rows p w c s clear st
@@ -347,7 +347,7 @@ free_step word rest u free due rows p w c s clear st =
 
 -- a word without a dash, where a value is due: the value
 due_plain : (name : OptionName) (word : Text) (rest : List Text) → AllByRecursion IsUtf8 rest → Free rest
-    → IsPlain word → (rows : List Row) (w c : Option Text) (s : Stage) → Stands rows w c s
+    → IsPlain word → (rows : List Row) (w c : Option Text) (s : Stage) → HaveValues rows w c s
     → found (at rows (Some (id_of name, [])) (option (id_of name)) (place s) false) (word ∷ rest)
     ≡ option_and_then up_to_three (option_and_then (read rest None) (with_value name word (values_at w c s)))
 due_plain workers word rest us free is rows None c s st =
@@ -379,7 +379,7 @@ due_plain clone word rest us free is rows w (Some o) s st =
 due_step : (word : Text) (rest : List Text) → IsUtf8 word → AllByRecursion IsUtf8 rest → Free rest
     → Due (word ∷ rest)
 due_step word rest u us free name rows w c s st =
-    let text : Option Values = option_and_then (read rest None) (with_value name word (values_at w c s)) in
+    let text : Option GivenView = option_and_then (read rest None) (with_value name word (values_at w c s)) in
     ⊎_elim
     (λ (yes : is_dashed word ≡ true).
     doomed_dashed (dashed_word word) word rest rows (Some (id_of name, [])) (option (id_of name)) s kind.InvalidValue []

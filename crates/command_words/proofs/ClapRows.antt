@@ -9,7 +9,7 @@ use Rattle.clap.specs.declared.builder.value_parser.Reading.TheVariants.{AsWritt
 use Rattle.clap.specs.declared.parser.matches.ValueSource.TheVariants.{CommandLine}
 use Rattle.command_words.specs.Clap.{values_in}
 use Rattle.command_words.specs.Rules.{OptionName, workers, clone}
-use Rattle.command_words.specs.Values.{Values, positionals_of}
+use Rattle.command_words.specs.Values.{GivenView, positionals_of}
 use Rattle.command_words.proofs.ClapSteps.{Place, first, id_of, mode, name_of, pending_fault, second, used}
 
 -- ---- a use of what was not used yet is a row more
@@ -133,11 +133,11 @@ second_in (two a b) = None
 second_in (three a b c) = Some c
 
 -- these as the values of a command line
-abbrev pub values_at : Option Text → Option Text → Stage → Values
+abbrev pub values_at : Option Text → Option Text → Stage → GivenView
 values_at w c s = record { workers = w; clone = c; positionals = listed s }
 
 -- the rows have these values of the options, and these positionals
-pub record Stands (rows : List Row) (w c : Option Text) (s : Stage) : Type 0 where
+pub record HaveValues (rows : List Row) (w c : Option Text) (s : Stage) : Type 0 where
   pub workers_row : Tells rows (codes "workers") w
   pub clone_row : Tells rows (codes "clone") c
   pub mode_row : Tells rows (codes "mode") (mode_in s)
@@ -145,7 +145,7 @@ pub record Stands (rows : List Row) (w c : Option Text) (s : Stage) : Type 0 whe
   pub second_row : Tells rows (codes "second") (second_in s)
 
 -- no rows tell of nothing
-pub at_start : Stands [] None None none
+pub at_start : HaveValues [] None None none
 at_start = record {
   workers_row = record { first_value = refl; there = refl };
   clone_row = record { first_value = refl; there = refl };
@@ -162,9 +162,9 @@ positionals_of-stage (two a b) = refl
 positionals_of-stage (three a b c) = refl
 
 -- what the rows have is what they tell
-pub values_in-stands : (rows : List Row) (w c : Option Text) (s : Stage) → Stands rows w c s
+pub values_in-have : (rows : List Row) (w c : Option Text) (s : Stage) → HaveValues rows w c s
     → values_in rows ≡ values_at w c s
-values_in-stands rows w c s h = rw (
+values_in-have rows w c s h = rw (
   h.workers_row.first_value,
   h.clone_row.first_value,
   h.second_row.first_value,
@@ -174,8 +174,8 @@ values_in-stands rows w c s h = rw (
 ) refl
 
 -- a first `--workers`
-pub with_workers : (v : Text) (rows : List Row) (c : Option Text) (s : Stage) → Stands rows None c s
-    → Stands (used (codes "workers") v rows) (Some v) c s
+pub with_workers : (v : Text) (rows : List Row) (c : Option Text) (s : Stage) → HaveValues rows None c s
+    → HaveValues (used (codes "workers") v rows) (Some v) c s
 with_workers v rows c s h = record {
   workers_row = tells-same (codes "workers") v rows refl h.workers_row;
   clone_row = tells-other (codes "workers") (codes "clone") v rows c h.workers_row.there refl h.clone_row;
@@ -186,8 +186,8 @@ with_workers v rows c s h = record {
 }
 
 -- a first `--clone`
-pub with_clone : (v : Text) (rows : List Row) (w : Option Text) (s : Stage) → Stands rows w None s
-    → Stands (used (codes "clone") v rows) w (Some v) s
+pub with_clone : (v : Text) (rows : List Row) (w : Option Text) (s : Stage) → HaveValues rows w None s
+    → HaveValues (used (codes "clone") v rows) w (Some v) s
 with_clone v rows w s h = record {
   workers_row = tells-other (codes "clone") (codes "workers") v rows w h.clone_row.there refl h.workers_row;
   clone_row = tells-same (codes "clone") v rows refl h.clone_row;
@@ -197,8 +197,8 @@ with_clone v rows w s h = record {
 }
 
 -- a first positional
-pub with_mode : (v : Text) (rows : List Row) (w c : Option Text) → Stands rows w c none
-    → Stands (used (codes "mode") v rows) w c (one v)
+pub with_mode : (v : Text) (rows : List Row) (w c : Option Text) → HaveValues rows w c none
+    → HaveValues (used (codes "mode") v rows) w c (one v)
 with_mode v rows w c h = record {
   workers_row = tells-other (codes "mode") (codes "workers") v rows w h.mode_row.there refl h.workers_row;
   clone_row = tells-other (codes "mode") (codes "clone") v rows c h.mode_row.there refl h.clone_row;
@@ -208,8 +208,8 @@ with_mode v rows w c h = record {
 }
 
 -- a second one
-pub with_first : (v a : Text) (rows : List Row) (w c : Option Text) → Stands rows w c (one a)
-    → Stands (used (codes "first") v rows) w c (two a v)
+pub with_first : (v a : Text) (rows : List Row) (w c : Option Text) → HaveValues rows w c (one a)
+    → HaveValues (used (codes "first") v rows) w c (two a v)
 with_first v a rows w c h = record {
   workers_row = tells-other (codes "first") (codes "workers") v rows w h.first_row.there refl h.workers_row;
   clone_row = tells-other (codes "first") (codes "clone") v rows c h.first_row.there refl h.clone_row;
@@ -219,8 +219,8 @@ with_first v a rows w c h = record {
 }
 
 -- a third one
-pub with_second : (v a b : Text) (rows : List Row) (w c : Option Text) → Stands rows w c (two a b)
-    → Stands (used (codes "second") v rows) w c (three a b v)
+pub with_second : (v a b : Text) (rows : List Row) (w c : Option Text) → HaveValues rows w c (two a b)
+    → HaveValues (used (codes "second") v rows) w c (three a b v)
 with_second v a b rows w c h = record {
   workers_row = tells-other (codes "second") (codes "workers") v rows w h.second_row.there refl h.workers_row;
   clone_row = tells-other (codes "second") (codes "clone") v rows c h.second_row.there refl h.clone_row;

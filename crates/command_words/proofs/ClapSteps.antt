@@ -19,7 +19,7 @@ use Rattle.clap.specs.declared.parser.matches.ValueSource.TheVariants.{CommandLi
 use Rattle.command_words.specs.Application.{cloner_app}
 use Rattle.command_words.specs.Clap.{unless_fault, values_in}
 use Rattle.command_words.specs.Rules.{OptionName, workers, clone}
-use Rattle.command_words.specs.Values.{Values}
+use Rattle.command_words.specs.Values.{GivenView}
 
 -- the command, built
 abbrev pub shape : Shape
@@ -44,7 +44,7 @@ abbrev pub end_of : Walk → List Text → Held
 end_of w words = (fold (walked shape.rules []) w words).held
 
 -- what clap finds, from where its walk stands
-abbrev pub found : Walk → List Text → Option Values
+abbrev pub found : Walk → List Text → Option GivenView
 found w words = unless_fault (or_else (walk_fault shape [] w words) (settle_fault shape.rules false (end_of w words)))
     (Some (values_in (settled shape.rules (end_of w words)).rows))
 
@@ -63,7 +63,7 @@ used id value rows = with_values id AsWritten CommandLine (value ∷ []) (withou
 -- ---- found
 
 -- two steps, one after the other
-two_faults : (a b c : Kinds) (v : Option Values)
+two_faults : (a b c : Kinds) (v : Option GivenView)
     → unless_fault (or_else (or_else a b) c) v ≡ unless_fault a (unless_fault (or_else b c) v)
 two_faults [] b c v = refl
 two_faults (k ∷ ks) b c v = refl

@@ -5,10 +5,11 @@ use Rattle.command_words.specs.declared.given.Given.{Given}
 use Rattle.command_words.specs.Clap.{up_to_three}
 use Rattle.command_words.specs.Requests.{RequestView, form, form_of}
 use Rattle.command_words.specs.Rules.{values}
-use Rattle.command_words.specs.Values.{Values}
-use Rattle.command_words.specs.Views.{values_view}
+use Rattle.command_words.specs.Values.{GivenView}
+use Rattle.command_words.specs.Views.{given_view}
 use Rattle.command_words.proofs.Bridge.{more_than_three}
 
+-- ---- form_of
 -- no form has more than three positionals
 form_of_few : (w c : Option (List ℕ)) (words : List (List ℕ))
     → option_and_then form_of (up_to_three (record { workers = w; clone = c; positionals = words }))
@@ -18,24 +19,26 @@ form_of_few w c (x ∷ []) = refl
 form_of_few w c (x ∷ y ∷ []) = refl
 form_of_few w c (x ∷ y ∷ z ∷ []) = refl
 form_of_few w c (x ∷ y ∷ z ∷ u ∷ more) =
-    ap (λ (v : Option Values). option_and_then form_of v) (more_than_three w c x y z u more)
+    ap (λ (v : Option GivenView). option_and_then form_of v) (more_than_three w c x y z u more)
 
 -- also where a rule is broken
-form_by_few : (v : Option Values) → option_and_then form_of (option_and_then up_to_three v) ≡ option_and_then form_of v
+form_by_few : (v : Option GivenView)
+    → option_and_then form_of (option_and_then up_to_three v) ≡ option_and_then form_of v
 form_by_few None = refl
 form_by_few (Some v) = form_of_few v.workers v.clone v.positionals
 
+-- ---- form_given
 -- what the values that were read ask for
 abbrev pub form_given : Option Given → Option RequestView
-form_given given = option_and_then (λ g. form_of (values_view g)) given
+form_given given = option_and_then (λ g. form_of (given_view g)) given
 
 -- it is what their values ask for
-by_values : (given : Option Given) → form_given given ≡ option_and_then form_of (option_map values_view given)
+by_values : (given : Option Given) → form_given given ≡ option_and_then form_of (option_map given_view given)
 by_values None = refl
 by_values (Some g) = refl
 
 -- so what clap finds asks for what the words ask for
 pub form_found : (words : List (List ℕ)) (given : Option Given)
-    → option_map values_view given ≡ option_and_then up_to_three (values words) → form_given given ≡ form words
+    → option_map given_view given ≡ option_and_then up_to_three (values words) → form_given given ≡ form words
 form_found words given same =
-    by_values given ∙ ap (λ (v : Option Values). option_and_then form_of v) same ∙ form_by_few (values words)
+    by_values given ∙ ap (λ (v : Option GivenView). option_and_then form_of v) same ∙ form_by_few (values words)

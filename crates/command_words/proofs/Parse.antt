@@ -1,6 +1,6 @@
 -- What the parse of the command comes to.
 use Rattle.std.proofs.Common.{◌≡◌, inl, inr, ℕ, Bool, true, false, List, [], ◌∷◌}
-use Rattle.std.proofs.Common.{map, refl, ap, Some, None, option_map, codes, slice_get, cond, Option}
+use Rattle.std.proofs.Common.{map, refl, Some, None, option_map, codes, slice_get, cond, Option}
 use Rattle.std.specs.Prelude.{find, option_and_then}
 use Rattle.std.specs.Str.{bytes_eq}
 use Rattle.std.specs.Borrow.{Bor}
@@ -15,7 +15,9 @@ use Rattle.clap.specs.declared.parser.matches.Found.{Found}
 use Rattle.clap.proofs.OnLiterals.{clap_on_literals}
 use Rattle.command_words.specs.Application.{cloner_app}
 use Rattle.command_words.specs.Clap.{clap_values, unless_fault}
-use Rattle.command_words.specs.Values.{Values, positionals_of}
+use Rattle.command_words.specs.Values.{GivenView, positionals_of}
+
+-- ---- is_simple, is_simple_and_free
 
 -- clap says of the command what it finds in all words
 pub simple : is_simple cloner_app ≡ true
@@ -27,12 +29,16 @@ pub simple_and_free : is_simple_and_free cloner_app ≡ true
 unfolding clap_on_literals
 simple_and_free = refl
 
+-- ---- HasKind
+
 -- clap refuses words only where they have a fault, or out of memory
-pub refused : (kinds : Kinds) (e : Error) (g : Option Values) → HasKind kinds e → (kind_of e ≡ OutOfMemory → ⊥)
+pub refused : (kinds : Kinds) (e : Error) (g : Option GivenView) → HasKind kinds e → (kind_of e ≡ OutOfMemory → ⊥)
     → None ≡ unless_fault kinds g
 refused [] e g (inl memory) other = absurd (other memory)
 refused [] e g (inr among) other = absurd among
 refused (k ∷ ks) e g h other = refl
+
+-- ---- first_of
 
 -- a first value behind a reference
 first_text : (xs : List (Bor (List ℕ))) → slice_get (texts xs) 0 ≡ option_map (λ s. s.now) (slice_get xs 0)
@@ -60,6 +66,8 @@ first_in (e ∷ es) id = one (bytes_eq e.0.now id) (first_in es id)
 first_is : (f : Found) (id : List ℕ) → first_of id (rows_of f) ≡ first_value f id
 first_is f id = first_in f.entries.items id
 
+-- ---- clap_values
+
 -- where clap refuses the words, it finds no values
 pub refused_words : (words : List (List ℕ)) (e : Error) → HasKind (fault_of cloner_app words) e
     → (kind_of e ≡ OutOfMemory → ⊥) → None ≡ clap_values words
@@ -86,8 +94,3 @@ read_words words m none rows =
       first_is (found_of m) (codes "workers"),
       first_is (found_of m) (codes "clone"),
     ) refl
-
--- words that are read as they are
-pub same_words : (words : List (List ℕ)) → map (λ w. w) words ≡ words
-same_words [] = refl
-same_words (w ∷ ws) = ap (λ rest. w ∷ rest) (same_words ws)

@@ -6,10 +6,10 @@ use Rattle.std.specs.Str.{is_utf8}
 use Rattle.clap.specs.Words.{Row, Kinds, fault_of, matches_of, first_of}
 use Rattle.command_words.specs.Application.{cloner_app}
 use Rattle.command_words.specs.Rules.{values}
-use Rattle.command_words.specs.Values.{Values, positionals_of}
+use Rattle.command_words.specs.Values.{GivenView, positionals_of}
 
 -- the values of the options and positionals in clap's rows
-abbrev pub values_in : List Row → Values
+abbrev pub values_in : List Row → GivenView
 values_in rows = record {
   workers = first_of (codes "workers") rows;
   clone = first_of (codes "clone") rows;
@@ -18,16 +18,16 @@ values_in rows = record {
 }
 
 -- what was found, None where there is a fault
-abbrev pub unless_fault : Kinds → Option Values → Option Values
+abbrev pub unless_fault : Kinds → Option GivenView → Option GivenView
 unless_fault [] found = found
 unless_fault (k ∷ ks) found = None
 
 -- the values that clap finds for its command, None where it refuses the words
-unfoldable pub clap_values : List (List ℕ) → Option Values
+unfoldable pub clap_values : List (List ℕ) → Option GivenView
 clap_values words = unless_fault (fault_of cloner_app words) (Some (values_in (matches_of cloner_app words)))
 
 -- clap's command has three positionals
-abbrev pub up_to_three : Values → Option Values
+abbrev pub up_to_three : GivenView → Option GivenView
 up_to_three v = if nat_le (length v.positionals) 3 then Some v else None
 
 -- clap finds the values of the rules, in each list of texts; more than three positionals it refuses

@@ -2,7 +2,7 @@
 use Rattle.std.specs.Prelude.{◌≡◌, ◌==◌, ℕ, codes, List, [], ◌∷◌, map, Option, Some, None}
 use Rattle.std.specs.List.{slice_split}
 use Rattle.command_words.specs.declared.request.Mode.TheVariants.{All, One, Live}
-use Rattle.command_words.specs.Requests.{RequestView, form, named, made}
+use Rattle.command_words.specs.Requests.{FileNames, Number, RequestView, form}
 
 -- the words of a line, which one space parts
 abbrev pub words_of : List ℕ → List (List ℕ)
@@ -24,31 +24,32 @@ AreRight examples = map (λ e. form e.words) examples ≡ map (λ e. e.asks) exa
 -- all clones of the texts m and s, by so many workers
 abbrev pub run_by : ℕ → Option RequestView
 run_by workers = Some (record {
-  assignment = record { mode = All; source = named (codes "m") (codes "s") };
+  assignment = record { mode = All; source = FileNames (codes "m") (codes "s") };
   workers = workers;
 })
 
 -- the clone `fast` of the texts m and s
 abbrev pub solo_fast : Option RequestView
 solo_fast = Some (record {
-  assignment = record { mode = One (codes "fast"); source = named (codes "m") (codes "s") };
+  assignment = record { mode = One (codes "fast"); source = FileNames (codes "m") (codes "s") };
   workers = 1;
 })
 
 -- all clones of the texts m and s, while analysts decide, by so many workers
 abbrev pub live_by : ℕ → Option RequestView
 live_by workers = Some (record {
-  assignment = record { mode = Live; source = named (codes "m") (codes "s") };
+  assignment = record { mode = Live; source = FileNames (codes "m") (codes "s") };
   workers = workers;
 })
 
 -- what is made of a number, by so many workers
 abbrev pub gen_by : ℕ → ℕ → Option RequestView
-gen_by number workers = Some (record { assignment = record { mode = All; source = made number }; workers = workers })
+gen_by number workers = Some (record { assignment = record { mode = All; source = Number number }; workers = workers })
 
 -- all clones of two texts with odd names, by one worker
 abbrev pub run_named : List ℕ → List ℕ → Option RequestView
-run_named model script = Some (record { assignment = record { mode = All; source = named model script }; workers = 1 })
+run_named model script =
+    Some (record { assignment = record { mode = All; source = FileNames model script }; workers = 1 })
 
 -- the modes; without --workers there is one worker
 abbrev pub modes : List Example

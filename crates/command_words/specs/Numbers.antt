@@ -3,7 +3,7 @@ use Rattle.std.specs.Prelude.{◌&&◌, ℕ, Bool, false, nat_le, if◌then◌el
 use Rattle.std.specs.List.{list_all}
 use Rattle.std.specs.Str.Parse.{digits_value}
 use Rattle.sim_base.specs.Names.{is_digit, is_leading}
-use Rattle.command_words.specs.declared.number.TheConstants.{LONGEST_NUMBER}
+use Rattle.command_words.specs.declared.number.TheConstants.{LONGEST_GIVEN_NUMBER}
 
 -- digits of which the first is not 0
 abbrev pub is_positive : List ℕ → Bool
@@ -14,7 +14,7 @@ is_positive (d ∷ ds) = is_leading d && list_all is_digit ds
 -- digits
 abbrev pub number_to : ℕ → List ℕ → Option ℕ
 number_to most word =
-    if (is_positive word && nat_le (length word) LONGEST_NUMBER) &&
+    if (is_positive word && nat_le (length word) LONGEST_GIVEN_NUMBER) &&
     (nat_le 1 (digits_value 10 word) && nat_le (digits_value 10 word) most)
     then Some (digits_value 10 word)
     else None

@@ -6,22 +6,22 @@ use Rattle.sim_base.specs.Names.{is_name}
 use Rattle.command_words.specs.declared.request.Mode.{Mode}
 use Rattle.command_words.specs.declared.request.Mode.TheVariants.{All, One, Live}
 use Rattle.command_words.specs.declared.request.Request.{Request}
-use Rattle.command_words.specs.declared.request.Source.{Source as Texts}
+use Rattle.command_words.specs.declared.request.Source.{Source}
 use Rattle.command_words.specs.declared.request.Source.TheVariants.{Named, Made}
 use Rattle.command_words.specs.declared.request.TheConstants.{MOST_NUMBER, MOST_WORKERS}
 use Rattle.command_words.specs.Numbers.{number_to}
 use Rattle.command_words.specs.Rules.{values}
-use Rattle.command_words.specs.Values.{Values}
+use Rattle.command_words.specs.Values.{GivenView}
 
 -- where the model and the script come from: two files by their names, or a number that they are made of
-pub data Source : Type 0 where
-  named : List ℕ → List ℕ → Source
-  made : ℕ → Source
+pub data SourceView : Type 0 where
+  FileNames : List ℕ → List ℕ → SourceView
+  Number : ℕ → SourceView
 
 -- an assignment: which clones are run, and from which texts, whoever does it
 pub record Assignment : Type 0 where
   pub mode : Mode
-  pub source : Source
+  pub source : SourceView
 
 -- what is asked, and by how many workers it is done
 pub record RequestView : Type 0 where
@@ -29,9 +29,9 @@ pub record RequestView : Type 0 where
   pub workers : ℕ
 
 -- where a request's texts come from, as plain data
-abbrev pub source_view : Texts → Source
-source_view (Named model script) = named model.now script.now
-source_view (Made number) = made number
+abbrev pub source_view : Source → SourceView
+source_view (Named model script) = FileNames model.now script.now
+source_view (Made number) = Number number
 
 -- a request as plain data
 abbrev pub request_view : Request → RequestView
@@ -48,7 +48,7 @@ workers_of None = Some 1
 workers_of (Some word) = number_to MOST_WORKERS word
 
 -- a study of these texts
-abbrev pub study_of : Mode → Source → ℕ → RequestView
+abbrev pub study_of : Mode → SourceView → ℕ → RequestView
 study_of mode source workers = record { assignment = record { mode = mode; source = source }; workers = workers }
 
 -- `run MODEL SCRIPT [--workers N]` and `live MODEL SCRIPT [--workers N]`
@@ -56,21 +56,21 @@ abbrev pub study_form : Mode → List ℕ → List ℕ → Option (List ℕ) →
 study_form mode model script workers (Some clone) = None
 study_form mode model script workers None =
     if is_text model && is_text script
-    then option_map (study_of mode (named model script)) (workers_of workers)
+    then option_map (study_of mode (FileNames model script)) (workers_of workers)
     else None
 
 -- `solo MODEL SCRIPT --clone NAME`
 abbrev pub solo_form : List ℕ → List ℕ → Option (List ℕ) → Option (List ℕ) → Option RequestView
 solo_form model script None (Some clone) =
     if (is_text model && is_text script) && is_name clone
-    then Some (study_of (One clone) (named model script) 1)
+    then Some (study_of (One clone) (FileNames model script) 1)
     else None
 solo_form model script _ _ = None
 
 -- `gen NUMBER [--workers N]`
 abbrev pub gen_form : List ℕ → Option (List ℕ) → Option (List ℕ) → Option RequestView
 gen_form number workers (Some clone) = None
-gen_form number workers None = option_and_then (λ n. option_map (study_of All (made n)) (workers_of workers))
+gen_form number workers None = option_and_then (λ n. option_map (study_of All (Number n)) (workers_of workers))
     (number_to MOST_NUMBER number)
 
 -- the modes of two positionals more; a later mode of two names is one `else if` more
@@ -92,7 +92,7 @@ by_positionals (mode ∷ number ∷ []) workers clone = form_of_one mode number 
 by_positionals _ workers clone = None
 
 -- what the values ask for, None where they have no known form
-abbrev pub form_of : Values → Option RequestView
+abbrev pub form_of : GivenView → Option RequestView
 form_of v = by_positionals v.positionals v.workers v.clone
 
 -- what the words ask for, None where the command line has no known form
@@ -102,4 +102,4 @@ form words = option_and_then form_of (values words)
 -- where analysts decide, the texts are two files by their names
 abbrev pub LiveIsNamed : Type 0
 LiveIsNamed = (words : List (List ℕ)) (r : RequestView) → form words ≡ Some r → r.assignment.mode ≡ Live
-    → (model : List ℕ) × (script : List ℕ) × (r.assignment.source ≡ named model script)
+    → (model : List ℕ) × (script : List ℕ) × (r.assignment.source ≡ FileNames model script)

@@ -3,7 +3,7 @@ use Rattle.std.specs.Prelude.{◌==◌, ℕ, Bool, false, nat_eq, codes, if◌th
 use Rattle.std.specs.Prelude.{drop, Option, Some, None, is_some, option_and_then}
 use Rattle.std.specs.List.{starts_with}
 use Rattle.std.specs.Str.{bytes_eq}
-use Rattle.command_words.specs.Values.{Values}
+use Rattle.command_words.specs.Values.{GivenView}
 
 -- the two options
 pub data OptionName : Type 0 where
@@ -38,17 +38,17 @@ dashed_word word =
     else unknown
 
 -- one value more, None where the option has one already: each stands at most once
-abbrev pub with_value : OptionName → List ℕ → Values → Option Values
+abbrev pub with_value : OptionName → List ℕ → GivenView → Option GivenView
 with_value workers value v = if is_some v.workers then None else Some (record v { workers = Some value })
 with_value clone value v = if is_some v.clone then None else Some (record v { clone = Some value })
 
 -- more positionals, behind those that there are
-abbrev pub with_positionals : List (List ℕ) → Values → Values
+abbrev pub with_positionals : List (List ℕ) → GivenView → GivenView
 with_positionals words v = record v { positionals = v.positionals ++ words }
 
 -- after a word that begins with `-`, where `read_on` reads the words behind it
-abbrev pub after_dashed : DashedWord → List (List ℕ) → (Option OptionName → Values → Option Values) → Values
-    → Option Values
+abbrev pub after_dashed : DashedWord → List (List ℕ) → (Option OptionName → GivenView → Option GivenView) → GivenView
+    → Option GivenView
 after_dashed ending rest read_on v = Some (with_positionals rest v)
 after_dashed (bare_option name) rest read_on v = read_on (Some name) v
 after_dashed (option_with_value name value) rest read_on v = option_and_then (read_on None) (with_value name value v)
@@ -57,7 +57,7 @@ after_dashed unknown rest read_on v = None
 -- The words from here on, where those before them gave v. Where nothing is due, a word without a dash is a positional.
 -- Where the value of an option is due, the next word is the value, unless it begins with `-` and is more than `-`
 -- itself.
-abbrev pub read : List (List ℕ) → Option OptionName → Values → Option Values
+abbrev pub read : List (List ℕ) → Option OptionName → GivenView → Option GivenView
 read [] None v = Some v
 read [] (Some due) v = None
 read (word ∷ rest) None v =
@@ -67,9 +67,9 @@ read (word ∷ rest) (Some due) v =
     if is_dashed word then None else option_and_then (read rest None) (with_value due word v)
 
 -- no option is there, and no positional
-abbrev pub no_values : Values
+abbrev pub no_values : GivenView
 no_values = record { workers = None; clone = None; positionals = [] }
 
 -- the values that the words give, None where they break a rule
-unfoldable pub values : List (List ℕ) → Option Values
+unfoldable pub values : List (List ℕ) → Option GivenView
 values words = read words None no_values

@@ -2,7 +2,7 @@
 use Rattle.std.specs.Prelude.{ℕ, List, [], ◌∷◌, Option, Some, None}
 
 -- the value of each option, None where the option isn't there, and the positionals in their order
-pub record Values : Type 0 where
+pub record GivenView : Type 0 where
   pub workers : Option (List ℕ)
   pub clone : Option (List ℕ)
   pub positionals : List (List ℕ)

@@ -6,6 +6,7 @@ ghost use Rattle.command_words.specs.Application.{cloner_app, bare_app, option, 
 use clap::{Arg, ArgAction, Command};
 use std::alloc::{AllocError, Global};
 
+// An option of this name, which takes one value.
 fn option_arg<'a>(alloc: Global, name: &'a str) -> Arg<'a>
     ensures rule { rule_of result ≡ option name.entry.now }
     ensures local { result.global ≡ false }
@@ -13,6 +14,7 @@ fn option_arg<'a>(alloc: Global, name: &'a str) -> Arg<'a>
     Arg::new(alloc, name).long(name).action(ArgAction::Set)
 }
 
+// A positional of this name.
 fn positional_arg<'a>(alloc: Global, name: &'a str) -> Arg<'a>
     ensures rule { rule_of result ≡ positional name.entry.now }
     ensures local { result.global ≡ false }
@@ -20,6 +22,7 @@ fn positional_arg<'a>(alloc: Global, name: &'a str) -> Arg<'a>
     Arg::new(alloc, name)
 }
 
+// The command without its arguments.
 fn bare_command<'a>(alloc: Global) -> Command<'a>
     ensures value { app_of result ≡ bare_app }
 {
@@ -28,6 +31,7 @@ fn bare_command<'a>(alloc: Global) -> Command<'a>
         .disable_help_flag(true)
 }
 
+// The command with one argument more.
 fn with_arg<'a>(command: Command<'a>, arg: Arg<'a>) -> Result<Command<'a>, AllocError>
     requires local { arg.global ≡ false }
     ensures value { IfOk result (λ c. app_of c ≡ with_rule (app_of command.entry) (rule_of arg.entry)) }

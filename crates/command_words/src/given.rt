@@ -6,7 +6,7 @@ ghost use Rattle.clap.specs.Words.{kind_of};
 ghost use Rattle.command_words.specs.Clap.{up_to_three};
 ghost use Rattle.command_words.specs.Requests.{form, form_of};
 ghost use Rattle.command_words.specs.Rules.{values};
-ghost use Rattle.command_words.specs.Views.{values_view};
+ghost use Rattle.command_words.specs.Views.{given_view};
 
 use crate::command::command;
 use clap::Error;
@@ -24,6 +24,7 @@ pub(crate) struct Given<'a> {
     pub(crate) clone: Option<&'a str>,
 }
 
+// Whether the library was refused memory.
 fn is_memory(error: &Error) -> bool
     ensures value { IsTrue result ↔ (kind_of error.now ≡ ErrorKind.OutOfMemory) }
 {
@@ -52,11 +53,11 @@ pub(crate) fn given_words<'a>(
     words: &'a [Word],
 ) -> Result<Option<Given<'a>>, AllocError>
     // the library finds the values of the rules
-    ensures value { IfOk result (λ g. option_map values_view g ≡ option_and_then up_to_three
+    ensures value { IfOk result (λ g. option_map given_view g ≡ option_and_then up_to_three
         (values words.entry.now)) }
 
     // they ask for what the words ask for
-    ensures asks { IfOk result (λ g. option_and_then (λ v. form_of (values_view v)) g ≡ form words.entry.now) }
+    ensures asks { IfOk result (λ g. option_and_then (λ v. form_of (given_view v)) g ≡ form words.entry.now) }
 {
     note_texts(words);
     let matches = match command(alloc)?.try_get_matches_from(words) {

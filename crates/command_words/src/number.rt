@@ -5,8 +5,9 @@ ghost use Rattle.command_words.specs.Numbers.{is_positive, number_to as number_i
 use sim_base::number::{are_digits, may_lead, value};
 
 // The digits of the greatest number that any command line may have.
-pub(crate) const LONGEST_NUMBER: usize = 6;
+pub(crate) const LONGEST_GIVEN_NUMBER: usize = 6;
 
+// Whether a word is a number from 1 on, without leading zero or sign.
 fn is_positive_number(word: &[u8]) -> bool
     ensures value { result ≡ is_positive word.now }
 {
@@ -23,7 +24,7 @@ pub(crate) fn number_to(most: u32, word: &[u8]) -> Option<u32>
     ensures some { IfSome result (λ n. 1 ≤ n) }
     ensures few { IfSome result (λ n. n ≤ most) }
 {
-    if !is_positive_number(word) || word.len() > LONGEST_NUMBER {
+    if !is_positive_number(word) || word.len() > LONGEST_GIVEN_NUMBER {
         return None;
     }
     let number = value(word);

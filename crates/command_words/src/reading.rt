@@ -2,7 +2,7 @@
 ghost use Rattle.std.specs.Prelude.{◌≡◌, ◌⊎◌, ◌≤◌, IfOk, IfSome, None, Err, option_map};
 ghost use Rattle.command_words.specs.Requests.{form, form_of, form_of_one, form_of_two, is_text as is_text_of};
 ghost use Rattle.command_words.specs.Requests.{gen_form, solo_form, study_form, request_view, workers_of as workers_in};
-ghost use Rattle.command_words.specs.Views.{values_view};
+ghost use Rattle.command_words.specs.Views.{given_view};
 
 use crate::given::{Given, given_words};
 use crate::number::number_to;
@@ -11,6 +11,7 @@ use sim_base::Name;
 use sim_outer::Word;
 use std::alloc::{AllocError, Global};
 
+// Whether a word has a byte.
 fn is_text(text: &str) -> bool
     ensures value { result ≡ is_text_of text.now }
 {
@@ -20,6 +21,7 @@ fn is_text(text: &str) -> bool
     }
 }
 
+// How many workers an option asks for; without it, one.
 fn workers_of(word: Option<&str>) -> Option<u32>
     ensures value { result ≡ workers_in (option_map (λ s. s.now) word.entry) }
     ensures some { IfSome result (λ n. 1 ≤ n) }
@@ -94,6 +96,7 @@ fn gen_request<'a>(number: &str, workers: Option<&str>, clone: Option<&str>) -> 
     })
 }
 
+// What a mode with two positionals behind it asks for.
 fn request_of_two<'a>(
     mode: &str,
     model: &'a str,
@@ -115,6 +118,7 @@ fn request_of_two<'a>(
     }
 }
 
+// What a mode with one positional behind it asks for.
 fn request_of_one<'a>(
     mode: &str,
     number: &str,
@@ -131,8 +135,9 @@ fn request_of_one<'a>(
     }
 }
 
+// What the values ask for.
 fn request_of<'a>(given: &Given<'a>) -> Option<Request<'a>>
-    ensures value { option_map request_view result ≡ form_of (values_view given.now) }
+    ensures value { option_map request_view result ≡ form_of (given_view given.now) }
 {
     let mode = given.mode?;
     let first = given.first?;

@@ -1,4 +1,4 @@
-mod Answers
+mod AnswerLists
 mod Slots
 mod DequeRule
 mod Pairs

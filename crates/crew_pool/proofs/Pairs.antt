@@ -20,6 +20,7 @@ use Rattle.std.proofs.Common.{
   get_or,
   remove,
 }
+use Rattle.std.proofs.lemmas.List.{get_or_default, map-append}
 use Rattle.crew_pool.specs.declared.task_deque.SeatView.{SeatView}
 use Rattle.crew_pool.specs.Deque.{seat_view, occurrences, one_if_same, numbers, EachPair, Without}
 
@@ -27,13 +28,11 @@ use Rattle.crew_pool.specs.Deque.{seat_view, occurrences, one_if_same, numbers, 
 
 -- the numbers of pairs with one more at the end are theirs, and then the number of that one
 pub numbers-push : {X : Type 0} (ps : List (ℕ × X)) (p : ℕ × X) → numbers (ps ++ p ∷ []) ≡ numbers ps ++ p.0 ∷ []
-numbers-push [] p = refl
-numbers-push (q ∷ qs) p = ap (λ l. q.0 ∷ l) (numbers-push qs p)
+numbers-push {X} ps p = map-append (λ (q : ℕ × X). q.0) ps (p ∷ [])
 
 -- the numbers of two lists together are those of the first, and then those of the second
 pub numbers-append : {X : Type 0} (ps qs : List (ℕ × X)) → numbers (ps ++ qs) ≡ numbers ps ++ numbers qs
-numbers-append [] qs = refl
-numbers-append (p ∷ ps) qs = ap (λ l. p.0 ∷ l) (numbers-append ps qs)
+numbers-append {X} ps qs = map-append (λ (p : ℕ × X). p.0) ps qs
 
 -- a number that stands at no place stands nowhere
 pub numbers-nowhere : {X : Type 0} (i : ℕ) (ps : List (ℕ × X))
@@ -89,6 +88,4 @@ Without-remove asks (q ∷ qs) (suc k) p less e =
 -- what is read at one place twice is the same
 pub get_or-same : {X : Type 0} (l : List X) (k : ℕ) (a b : X) → k < length l → a ≡ get_or l k a → b ≡ get_or l k b
     → a ≡ b
-get_or-same [] k a b less e f = absurd (omega (arith, less))
-get_or-same (x ∷ xs) zero a b less e f = e ∙ sym f
-get_or-same (x ∷ xs) (suc k) a b less e f = get_or-same xs k a b (omega (arith, less)) e f
+get_or-same l k a b less e f = e ∙ (get_or_default l k a b less ∙ sym f)

@@ -2,8 +2,6 @@
 use Rattle.std.proofs.Common.{
   ◌≡◌,
   ℕ,
-  zero,
-  suc,
   ◌+◌,
   ◌-◌,
   ◌<◌,
@@ -14,12 +12,12 @@ use Rattle.std.proofs.Common.{
   length,
   set,
   sym,
-  refl,
   ◌∙◌,
   subst,
   arith,
   get_or,
 }
+use Rattle.std.proofs.lemmas.List.{get_or_default}
 use Rattle.crossbeam_deque.specs.Tasks.{Pushes, Takes, Forks, Merges, Finds}
 use Rattle.crew_pool.specs.declared.task_deque.SeatView.{SeatView}
 use Rattle.crew_pool.specs.Deque.{seat_view, NumbersOnce, IsComplete, numbers, IsItemAt, TasksOnce, TakesTasks}
@@ -91,9 +89,4 @@ IsItemAt-answers answers items i x y is one d = subst (λ z. answers i z y) (sym
 -- what is read at a place is the item there
 pub IsItemAt-read : {X : Type 0} (items : List X) (i : ℕ) (x : X) → i < length items → x ≡ get_or items i x
     → IsItemAt items i x
-IsItemAt-read {X} items i x less e = (less, λ d. same items i d less ∙ sym e)
-  where
-    same : (l : List X) (k : ℕ) (d : X) → k < length l → get_or l k d ≡ get_or l k x
-    same [] k d below = absurd (omega (arith, below))
-    same (y ∷ ys) zero d below = refl
-    same (y ∷ ys) (suc k) d below = same ys k d (omega (arith, below))
+IsItemAt-read items i x less e = (less, λ d. get_or_default items i d x less ∙ sym e)

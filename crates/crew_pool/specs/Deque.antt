@@ -11,12 +11,15 @@ use Rattle.std.specs.Prelude.{
   nat_eq,
   nat_lt,
   length,
+  map,
   slice_index_or,
+  sum_by,
   if◌then◌else◌,
   Result,
   IfOk,
   Vec,
 }
+use Rattle.std.specs.List.{AllByRecursion}
 use mathlib.Core.Option.{some}
 use lib.ListN.{get_elem?}
 use Rattle.atomic_blocks.specs.Lent.{RowsId}
@@ -32,11 +35,6 @@ SameDeque old new = (worker_deque new ≡ worker_deque old) × (worker_flavor ne
 -- what a seat knows: its parts, how many tasks were dealt, and the numbers of those that it has taken
 abbrev pub seat_view : ℕ → ℕ → List ℕ → SeatView
 seat_view parts dealt taken = record { parts = parts; dealt = dealt; taken = taken }
-
--- the sum over all seats
-abbrev pub total : (SeatView → ℕ) → List SeatView → ℕ
-total f [] = 0
-total f (v ∷ vs) = f v + total f vs
 
 -- 1 where the numbers are equal, else 0
 abbrev pub one_if_same : ℕ → ℕ → ℕ
@@ -62,18 +60,13 @@ EachKnowsDealt n views = (port : ℕ) (v : SeatView) → get_elem? views port �
 -- each number below that of the tasks dealt is in the deque or was taken by one seat, once, and no other number is
 abbrev pub NumbersOnce : List ℕ → List SeatView → Type 0
 NumbersOnce queue views =
-    (n : ℕ) × (total (λ v. v.parts) views ≡ ALL_PARTS)
-    × ((x : ℕ) → total (λ v. occurrences x v.taken) views + occurrences x queue ≡ one_if_below x n)
+    (n : ℕ) × (sum_by (λ v. v.parts) views ≡ ALL_PARTS)
+    × ((x : ℕ) → sum_by (λ v. occurrences x v.taken) views + occurrences x queue ≡ one_if_below x n)
     × EachKnowsDealt n views
-
--- each number of the list is below n
-abbrev pub AllBelow : ℕ → List ℕ → Type 0
-AllBelow n [] = Unit {0}
-AllBelow n (x ∷ xs) = (x < n) × AllBelow n xs
 
 -- the numbers were dealt, and join those that the seat has taken
 abbrev pub TakesNumbers : SeatView → List ℕ → SeatView → Type 0
-TakesNumbers v xs w = AllBelow v.dealt xs × (w ≡ seat_view v.parts v.dealt (v.taken ++ xs))
+TakesNumbers v xs w = AllByRecursion (λ x. x < v.dealt) xs × (w ≡ seat_view v.parts v.dealt (v.taken ++ xs))
 
 -- whoever has every part has taken each number that was dealt, once
 abbrev pub IsComplete : SeatView → Type 0
@@ -81,13 +74,11 @@ IsComplete v = v.parts ≡ ALL_PARTS → (x : ℕ) → occurrences x v.taken ≡
 
 -- the numbers of numbered things
 abbrev pub numbers : {X : Type 0} → List (ℕ × X) → List ℕ
-numbers [] = []
-numbers (p ∷ ps) = p.0 ∷ numbers ps
+numbers ps = map (λ p. p.0) ps
 
 -- each thing is as its number asks
 abbrev pub EachPair : {X : Type 0} → (ℕ → X → Type 0) → List (ℕ × X) → Type 0
-EachPair asks [] = Unit {0}
-EachPair asks (p ∷ ps) = asks p.0 p.1 × EachPair asks ps
+EachPair asks ps = AllByRecursion (λ p. asks p.0 p.1) ps
 
 -- an owner who pops first in, first out, has a part at least, and knows that so many tasks were dealt
 pub record IsOwner {T A P : Type 0} (n : ℕ) (owner : Worker T A SeatView P) : Type 0 where
@@ -121,8 +112,7 @@ TasksOnce items tasks views = NumbersOnce (numbers tasks) views × EachPair (IsI
 
 -- the seat takes these tasks, each number with its item
 abbrev pub TakesTasks : {X : Type 0} → List X → SeatView → List (ℕ × X) → SeatView → Type 0
-TakesTasks items v tasks w = EachPair (IsItemAt items) tasks
-    × (w ≡ seat_view v.parts v.dealt (v.taken ++ numbers tasks))
+TakesTasks items v tasks w = EachPair (IsItemAt items) tasks × (w ≡ view_after v tasks)
 
 -- a thief begins with a seat at this deque that has one part and has taken nothing
 abbrev pub IsStart : {X A : Type 0} → ℕ → RowsId × A → Pass (ℕ × X) SeatView A → Type 0

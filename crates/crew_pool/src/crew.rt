@@ -1,5 +1,5 @@
-//! What every crew does: it runs the tasks of one call, at most 64, each once, and gives each answer at its item's
-//! place. One contract, that of `all`, holds for all kinds of crews.
+//! What every crew does: it runs the tasks of one call, at most [`MOST_TASKS`], each once, and gives each answer at its
+//! item's place. One contract, that of `all`, holds for all kinds of crews.
 ghost use Rattle.std.specs.Prelude.{◌≡◌, ◌+◌, ◌≤◌, length, sum_by, IfOk};
 ghost use Rattle.crew_pool.specs.Tasks.{EachReady, AnswersTo, EachAnswers};
 ghost use Rattle.crew_pool.specs.declared.crew.TheConstants.{MOST_TASKS};
@@ -50,8 +50,10 @@ pub trait Crew {
     ) -> Result<Vec<W::Out>, NoMemory>
         requires few { length items.items ≤ MOST_TASKS }
         requires ready { EachReady (W.ready work.now) items.items }
+        // what it gives: an answer for each item, at the item's place
         ensures count { IfOk result (λ outs. length outs.items ≡ length items.items) }
         ensures answers { IfOk result (λ outs. EachAnswers (AnswersTo (W.answers work.now) items.items) outs.items) }
+        // what is counted: the steps that the answers took
         ensures cost { IfOk result (λ outs. steps.new ≡ steps.old + sum_by W.cost outs.items) }
     {
         if work.is_small() {

@@ -122,7 +122,7 @@ fn run_slots<W: Work, G: Gate, R: Threads + Wait + Sync>(
 }
 
 /// Runs the tasks, each worker a run of neighbouring ones, each task on a counter of its own.
-#[tactic(auto, using(crate::proofs::Slots::slots_ready, crate::proofs::Slots::slots_count, crate::proofs::Slots::slots_answers))]
+#[tactic(auto, using(crate::proofs::Slots::slots_count))]
 pub(crate) fn run_forked<W: Work, G: Gate, L: Ledger, R: Threads + Wait + Sync>(
     rt: &R,
     alloc: Global,

@@ -22,12 +22,16 @@ fn absorb_one<W: Work, B: Batch<W::In>>(
     seat: Seat<W::In>,
     outs: Vec<(u32, W::Out)>,
 ) -> Result<(), NoMemory>
+    // what it asks: the thief's seat, which has one part of the owner's deque, and an owner who has a part too
     requires pass { IsPassOf (worker_deque owner.old) seat }
     requires view { view seat ≡ seat_view 1 (worker_view owner.old).dealt (numbers outs.items) }
     requires part { 0 < (worker_view owner.old).parts }
+    // answers of the tasks that the owner has taken, and of those that the thief has taken
     requires taken { HasTaken (AnswersTo (W.answers _work.now) B.items) owner.old all.old.items }
     requires new { EachPair (AnswersTo (W.answers _work.now) B.items) outs.items }
+    // what is kept, also where it fails: the deque
     ensures same { SameDeque owner.old owner.new }
+    // what it gives: the owner has one part more, and `all` an answer of each task that counts as taken by the owner
     ensures view { OnOk result (worker_view owner.new
         ≡ seat_view ((worker_view owner.old).parts + 1) (worker_view owner.old).dealt (numbers all.new.items)) }
     ensures answers { OnOk result (EachPair (AnswersTo (W.answers _work.now) B.items) all.new.items) }

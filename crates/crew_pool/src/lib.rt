@@ -9,7 +9,7 @@
 //! Serial                 worker 0 runs 0, 1, 2, 3, 4 in the caller's thread
 //! Forked, 2 workers      worker 0 runs 0, 1, 2                worker 1 runs 3, 4
 //! Stealing, 2 workers    workers 0 and 1 take  <-  | 0 1 2 3 4 |
-//!                        each one task at a time from the front, whoever is free; what is left, worker 0 runs
+//!                        each one task at a time from the head, whoever is free; what is left, worker 0 runs
 //! ```
 //!
 //! ```text

@@ -34,6 +34,7 @@ pub fn tick_costs<W: Work, L: Ledger>(work: &W, outs: &[W::Out], steps: &mut Ste
     }
 }
 
+/// Ticks the counter so many times.
 fn tick_many<L: Ledger>(many: u64, steps: &mut Steps<L>)
     ensures value { steps.new ≡ steps.old + many }
 {

@@ -238,13 +238,17 @@ fn gather<W: Work, B: Batch<W::In>, G: Gate, R: Wait>(
     ends: Vec<(Seat<W::In>, NumberedAnswers<W::Out>)>,
     tasks: u32,
 ) -> Result<Vec<W::Out>, NoMemory>
+    // what it asks: as many tasks as items, and each item ready for its task
     requires tasks { tasks ≡ length B.items }
     requires ready { EachReady (W.ready work.now) B.items }
+    // all parts of one deque, the owner's and one for each thief; `all` has an answer of each task that the owner has
+    // taken, and each end of those that its thief has, unless that was out of memory
     requires each { All (IsEnd (AnswersTo (W.answers work.now) B.items) (worker_view owner).dealt
         (worker_deque owner)) ends.items }
     requires owner { IsOwner (length B.items) owner }
     requires taken { HasTaken (AnswersTo (W.answers work.now) B.items) owner all.items }
     requires every_part { (worker_view owner).parts + length ends.items ≡ ALL_PARTS }
+    // what it gives: an answer of each task to its item, in the order of the tasks
     ensures count { IfOk result (λ outs. length outs.items ≡ length B.items) }
     ensures answers { IfOk result (λ outs. EachAnswers (AnswersTo (W.answers work.now) B.items) outs.items) }
 {
@@ -255,7 +259,7 @@ fn gather<W: Work, B: Batch<W::In>, G: Gate, R: Wait>(
     sort_answers::<W, B>(alloc, work, all, tasks)
 }
 
-/// As `run_stealing`, with a type parameter that stands for the items.
+/// As `run_stealing`, with a type parameter that has the items.
 fn run_batch<W: Work, B: Batch<W::In>, G: Gate, L: Ledger, R: Threads + Wait + Sync>(
     rt: &R,
     alloc: Global,

@@ -27,7 +27,7 @@ pub struct SeatView {
     pub taken: LinkedList<u32>,
 }
 
-/// The items of a call, in order. A rule is a property of a type, so a type parameter stands for a call's items. No
+/// The items of a call, in order. A rule is a property of a type, so a type parameter has a call's items. No
 /// program reads them.
 pub trait Batch<X>: Sync {
     ghost items: { List X };
@@ -111,10 +111,10 @@ impl<X, B: Batch<X>> Outcome<(u32, X), SeatView> for StealTask<B> {
     ghost then = { TakesTasks B.items };
 }
 
-/// The owner's handle of the deque. It deals at the back and pops at the front, since it is made with `fifo_as`.
+/// The owner's handle of the deque. It deals at the tail and pops at the head, since it is made with `fifo_as`.
 pub type Owner<X, B> = Worker<(u32, X), Global, SeatView, EachOnce<B>>;
 
-/// The handle of the deque that all thieves share. They steal at the front.
+/// The handle of the deque that all thieves share. They steal at the head.
 pub type Thief<X, B> = Stealer<(u32, X), Global, SeatView, EachOnce<B>>;
 
 /// The seat of a thief.

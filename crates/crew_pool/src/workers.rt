@@ -1,4 +1,4 @@
-//! How many workers a crew has: 1 to 16, and the caller's thread is one of them.
+//! How many workers a crew has: 1 to [`MOST_WORKERS`], and the caller's thread is one of them.
 ghost use Rattle.std.specs.Prelude.{◌≡◌, ◌≤◌, MatchOption};
 ghost use Rattle.crew_pool.specs.declared.workers.TheConstants.{MOST_WORKERS};
 

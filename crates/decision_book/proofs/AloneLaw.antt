@@ -1,9 +1,8 @@
 -- The decisions that reach one clone give it what all decisions give it.
 use Rattle.std.proofs.Common.{◌≡◌, ℕ, ◌+◌, ◌≤◌, Bool, true, false, nat_le, cond, List}
 use Rattle.std.proofs.Common.{[], ◌∷◌, ◌++◌, length, refl, sym, ap, ◌∙◌, arith, Option}
-use Rattle.std.proofs.Common.{Some, None, is_some, option_map, unwrap_or, slice_set, subst, length-set}
+use Rattle.std.proofs.Common.{Some, None, is_some, unwrap_or, slice_set, subst, length-set}
 use Rattle.std.proofs.lemmas.List.{length_push}
-use Rattle.std.specs.Prelude.{◌==◌}
 use Rattle.std.specs.Option.{option_or}
 use Rattle.std.specs.Str.{bytes_eq}
 use Rattle.std.proofs.lemmas.Bool.Decides.{nat_tests}
@@ -12,102 +11,66 @@ use Rattle.sim_base.specs.declared.decision.Decision.TheVariants.{Fork, Set, End
 use Rattle.sim_base.specs.Clones.{Clone, clone_at, place_of, clones_with_fork, base, fork_of}
 use Rattle.sim_base.specs.declared.lists.TheConstants.{MOST_CLONES}
 use Rattle.net_model.specs.Net.{Net}
-use Rattle.decision_book.specs.declared.call.TheConstants.{MOST_CALLS}
-use Rattle.decision_book.specs.declared.call.Reply.{Reply}
-use Rattle.decision_book.specs.declared.call.Reply.TheVariants.{Accepted, Full, Closed, Ended, NameTaken, TooManyClones}
+use Rattle.decision_book.specs.declared.call.Reply.TheVariants.{Accepted, NameTaken, TooManyClones}
 use Rattle.decision_script.specs.Alone.{history, history_if, object}
 use Rattle.sim_base.specs.Decisions.{subject}
 use Rattle.decision_book.specs.Journal.{Situation, clones_after, plan_of_set}
-use Rattle.decision_book.specs.Replies.{row, first_row, reply, rows, fork_rows, clone_rows}
+use Rattle.decision_book.specs.Replies.{row, first_row, reply, rows, fork_rows}
 use Rattle.decision_book.specs.Scripts.{next, after_all, first_refusal_from}
 use Rattle.decision_book.specs.Laws.{clone_named, AloneSuffices}
 use Rattle.decision_book.proofs.ClonesByName.{placed, place_of-none, clone_named-place, clone_named-none}
 use Rattle.decision_book.proofs.ClonesByName.{clone_named-push, clone_named-set, same_name, name_itself, name_at}
+use Rattle.decision_book.proofs.Rows.{IsOpen, IsOpen-accepted, first_row-Accepted, reply-IsOpen}
 use Rattle.decision_book.proofs.Scripts.{accepted_first, next_accepted}
 
-first_row-Accepted : (b : Bool) (r : Reply) (more : List (Option Reply)) → (r ≡ Accepted → ⊥)
-    → first_row (row b r ∷ more) ≡ Accepted → (b ≡ false) × (first_row more ≡ Accepted)
-first_row-Accepted true r more other h = absurd (other h)
-first_row-Accepted false r more other h = (refl, h)
-
--- what an accepted decision found
-pub record IsOpen (j : Situation) (d : Decision) : Type 0 where
-  pub few : nat_le MOST_CALLS j.calls ≡ false
-  pub running : (j.front == j.net.horizon) ≡ false
-  pub clone : ℕ
-  pub place : place_of (subject d) j.clones ≡ Some clone
-  pub going : (clone_at j.clones clone).end ≡ None
-  pub rest : first_row (rows j clone d) ≡ Accepted
-
-not_full : Full ≡ Accepted → ⊥
-not_full h = cc
-
-not_closed : Closed ≡ Accepted → ⊥
-not_closed h = cc
-
-open_end : (end : Option ℕ) (more : List (Option Reply))
-    → first_row (option_map (λ at. Ended at) end ∷ more) ≡ Accepted → (end ≡ None) × (first_row more ≡ Accepted)
-open_end None more h = (refl, h)
-open_end (Some at) more h = absurd cc
-
-open_clone : (j : Situation) (d : Decision) → nat_le MOST_CALLS j.calls ≡ false → (j.front == j.net.horizon) ≡ false
-    → (o : Option ℕ) → place_of (subject d) j.clones ≡ o → first_row (clone_rows j d o) ≡ Accepted → IsOpen j d
-open_clone j d few running None e h = absurd cc
-open_clone j d few running (Some clone) e h =
-    let going = open_end (clone_at j.clones clone).end (rows j clone d) h in
-    record { few = few; running = running; clone = clone; place = e; going = going.0; rest = going.1 }
-
--- an accepted decision found room, a front that is not the horizon, and its clone without an end
-pub opened : (j : Situation) (d : Decision) → reply j d ≡ Accepted → IsOpen j d
-opened j d h =
-    let one = first_row-Accepted (nat_le MOST_CALLS j.calls) Full
-    (row (j.front == j.net.horizon) Closed ∷ clone_rows j d (place_of (subject d) j.clones)) not_full h in
-    let two = first_row-Accepted (j.front == j.net.horizon) Closed
-    (clone_rows j d (place_of (subject d) j.clones)) not_closed one.1 in
-    open_clone j d one.0 two.0 (place_of (subject d) j.clones) refl two.1
-
--- and one that finds all this is accepted
-pub reopened : (j : Situation) (d : Decision) → IsOpen j d → reply j d ≡ Accepted
-reopened j d o = rw (o.few, o.running, o.place, o.going) o.rest
+-- ---- Same
 
 -- two states, of which the second knows no other clones, no more of them, and the same clone of this name
-pub record Same (t : List ℕ) (full own : List Clone) : Type 0 where
+record Same (t : List ℕ) (full own : List Clone) : Type 0 where
   pub same : clone_named t full ≡ clone_named t own
   pub fewer : (n : List ℕ) → clone_named n full ≡ None → clone_named n own ≡ None
   pub shorter : length own ≤ length full
 
+-- these clones at front 0, after so many calls
 abbrev at_opening : Net → ℕ → List Clone → Situation
 at_opening net calls clones = record { net = net; clones = clones; front = 0; calls = calls }
 
 -- the same clone in both
-pub record InBoth (j k : Situation) (d : Decision) : Type 0 where
+record InBoth (j k : Situation) (d : Decision) : Type 0 where
   pub found : IsOpen j d
   pub place : ℕ
   pub placed : place_of (subject d) k.clones ≡ Some place
   pub clone : clone_at k.clones place ≡ clone_at j.clones found.clone
 
+-- where the clone of a name is the same in both states, an accepted decision finds it in the other too
 in_both : (j k : Situation) (d : Decision) → reply j d ≡ Accepted → Same (subject d) j.clones k.clones → InBoth j k d
 in_both j k d h s =
-    let found = opened j d h in
+    let found = IsOpen-accepted j d h in
     let at = placed (subject d) k.clones (clone_at j.clones found.clone)
     (sym s.same ∙ clone_named-place (subject d) j.clones found.clone found.place) in
     record { found = found; place = at.at; placed = at.place; clone = at.clone }
 
+-- ---- fork_rows
+
+-- an answer that is not there is None
 is_none_from : {X : Type 0} (o : Option X) → is_some o ≡ false → o ≡ None
 is_none_from None h = refl
 is_none_from (Some x) h = absurd cc
 
+-- a fork that is refused for its name is not accepted
 not_taken : NameTaken ≡ Accepted → ⊥
 not_taken h = cc
 
+-- nor is one that is refused for the number of clones
 not_many : TooManyClones ≡ Accepted → ⊥
 not_many h = cc
 
 -- the rows of an accepted fork
-pub record IsFresh (clones : List Clone) (new : List ℕ) : Type 0 where
+record IsFresh (clones : List Clone) (new : List ℕ) : Type 0 where
   pub fresh : place_of new clones ≡ None
   pub few : nat_le MOST_CLONES (length clones) ≡ false
 
+-- the rows of an accepted fork hold nowhere, so its name is new and there is a free place
 fresh_from : (clones : List Clone) (new : List ℕ) → first_row (fork_rows clones new) ≡ Accepted → IsFresh clones new
 fresh_from clones new h =
     let one = first_row-Accepted (is_some (place_of new clones)) NameTaken
@@ -115,12 +78,16 @@ fresh_from clones new h =
     let two = first_row-Accepted (nat_le MOST_CLONES (length clones)) TooManyClones [] not_many one.1 in
     record { fresh = is_none_from (place_of new clones) one.0; few = two.0 }
 
+-- and this is so in a state with no other clones, and no more of them
 fresh_again : {t : List ℕ} (full own : List Clone) (new : List ℕ) → Same t full own → IsFresh full new → IsFresh own new
 fresh_again full own new s f = record {
   fresh = place_of-none new own (s.fewer new (clone_named-none new full f.fresh));
   few = (let few = f.few in let less = s.shorter in grind (arith, nat_tests));
 }
 
+-- ---- reply, in another state
+
+-- what an accepted decision passes in the one state it passes in the other
 rows_again : (net : Net) (n m : ℕ) (full own : List Clone) (d : Decision) (i k : ℕ) → Same (subject d) full own
     → clone_at own k ≡ clone_at full i
     → first_row (rows (at_opening net n full) i d) ≡ Accepted → first_row (rows (at_opening net m own) k d) ≡ Accepted
@@ -131,11 +98,11 @@ rows_again net n m full own (Set who at station change) i k s e h = rw e h
 rows_again net n m full own (End who at) i k s e h = h
 
 -- what is accepted at front 0 is too after no more calls, among no more clones, none new, its subject the same
-pub again : (net : Net) (n m : ℕ) (full own : List Clone) (d : Decision) → m ≤ n → Same (subject d) full own
+again : (net : Net) (n m : ℕ) (full own : List Clone) (d : Decision) → m ≤ n → Same (subject d) full own
     → reply (at_opening net n full) d ≡ Accepted → reply (at_opening net m own) d ≡ Accepted
 again net n m full own d less s h =
     let b = in_both (at_opening net n full) (at_opening net m own) d h s in
-    reopened (at_opening net m own) d (record {
+    reply-IsOpen (at_opening net m own) d (record {
       few = (let few = b.found.few in grind (arith, nat_tests));
       running = b.found.running;
       clone = b.place;
@@ -144,12 +111,15 @@ again net n m full own d less s h =
       rest = rows_again net n m full own d b.found.clone b.place s b.clone b.found.rest;
     })
 
+-- ---- clones_after, by names
+
 -- what a decision makes of the clone that it is of
 abbrev made : Net → Decision → Clone → Clone
 made net (Fork new old) k = fork_of k new
 made net (Set who at station change) k = record k { plans = k.plans ++ plan_of_set net at station change ∷ [] }
 made net (End who at) k = record k { end = Some at }
 
+-- how many clones a decision adds
 abbrev grows : Decision → ℕ
 grows (Fork new old) = 1
 grows (Set who at station change) = 0
@@ -162,19 +132,23 @@ record Effect (net : Net) (d : Decision) (before next : List Clone) (i : ℕ) : 
   pub none : (m : List ℕ) → clone_named m next ≡ None → bytes_eq (object d) m ≡ false
   pub length_is : length next ≡ length before + grows d
 
+-- an option, or else none, is the option
 option_or-none : (o : Option Clone) → option_or o None ≡ o
 option_or-none None = refl
 option_or-none (Some k) = refl
 
+-- where the clone that is pushed is not found, the name is not its own
 pushed_none : (o : Option Clone) (b : Bool) (k : Clone) → option_or o (cond b (Some k) None) ≡ None → b ≡ false
 pushed_none None true k h = absurd cc
 pushed_none None false k h = refl
 pushed_none (Some c) b k h = absurd cc
 
+-- nor is it where the clone that is changed is not found
 set_none : (b : Bool) (k : Clone) (o : Option Clone) → cond b (Some k) o ≡ None → b ≡ false
 set_none true k o h = absurd cc
 set_none false k o h = refl
 
+-- what a fork does to the clones, by their names
 fork_effect : (net : Net) (clones : List Clone) (new old : List ℕ) (i : ℕ) → place_of new clones ≡ None
     → Effect net (Fork new old) clones (clones_with_fork clones new i) i
 fork_effect net clones new old i fresh =
@@ -189,7 +163,7 @@ fork_effect net clones new old i fresh =
       length_is = length_push clones k;
     }
 
--- a set or an end
+-- what a set or an end does to them
 change_effect : (net : Net) (d : Decision) (clones : List Clone) (i : ℕ) → grows d ≡ 0
     → place_of (object d) clones ≡ Some i → (made net d (clone_at clones i)).name ≡ object d
     → Effect net d clones (slice_set clones i (made net d (clone_at clones i))) i
@@ -205,6 +179,7 @@ change_effect net d clones i none place name =
       length_is = omega (arith, length-set clones i k, none);
     }
 
+-- what each accepted decision does to them
 effect : (net : Net) (n : ℕ) (clones : List Clone) (d : Decision) (o : IsOpen (at_opening net n clones) d)
     → Effect net d clones (clones_after net clones d) o.clone
 effect net n clones (Fork new old) o =
@@ -222,12 +197,14 @@ effect net n clones (End who at) o =
     (sym (ap (λ p. unwrap_or p 0) o.place))
     (change_effect net d clones o.clone refl o.place (name_at who clones o.clone o.place))
 
+-- ---- history
+
 -- a decision of the history keeps the two states alike, at the clone that it makes or changes
 history_same : (net : Net) (n m : ℕ) (full own : List Clone) (d : Decision) → m ≤ n → Same (subject d) full own
     → reply (at_opening net n full) d ≡ Accepted → Same (object d) (clones_after net full d) (clones_after net own d)
 history_same net n m full own d less s h =
     let b = in_both (at_opening net n full) (at_opening net m own) d h s in
-    let mine = opened (at_opening net m own) d (again net n m full own d less s h) in
+    let mine = IsOpen-accepted (at_opening net m own) d (again net n m full own d less s h) in
     let all = effect net n full d b.found in
     let part = effect net m own d mine in
     let place : mine.clone ≡ b.place = cc in
@@ -243,15 +220,17 @@ history_same net n m full own d less s h =
 dropped_same : (net : Net) (n : ℕ) (t : List ℕ) (full own : List Clone) (d : Decision) → bytes_eq (object d) t ≡ false
     → Same t full own → reply (at_opening net n full) d ≡ Accepted → Same t (clones_after net full d) own
 dropped_same net n t full own d other s h =
-    let all = effect net n full d (opened (at_opening net n full) d h) in
+    let all = effect net n full d (IsOpen-accepted (at_opening net n full) d h) in
     record {
       same = all.others t other ∙ s.same;
       fewer = λ q gone. s.fewer q (sym (all.others q (all.none q gone)) ∙ gone);
       shorter = omega (arith, all.length_is, s.shorter);
     }
 
+-- ---- alone
+
 -- what became of the clone's own decisions, from where they stand
-pub record IsAloneFrom (net : Net) (m k : ℕ) (own : List Clone) (ds : List Decision) (who : List ℕ)
+record IsAloneFrom (net : Net) (m k : ℕ) (own : List Clone) (ds : List Decision) (who : List ℕ)
     (end : List Clone) : Type 0 where
   pub accepted : first_refusal_from (at_opening net m own) k ds ≡ None
   pub same : clone_named who (after_all (at_opening net m own) ds).clones ≡ clone_named who end
@@ -267,6 +246,7 @@ history_first net m k own d ds who end h on =
           (sym (next_accepted (at_opening net m own) d h)) on.same;
     }
 
+-- one decision before the others, whether it is of the history or not
 alone_by : (net : Net) (n m k : ℕ) (who : List ℕ) (full own end : List Clone) (d : Decision)
     (rest : List ℕ × List Decision) → m ≤ n → reply (at_opening net n full) d ≡ Accepted
     → ((l j : ℕ) (mine : List Clone) → l ≤ n + 1 → Same rest.0 (clones_after net full d) mine
@@ -283,7 +263,7 @@ alone_by net n m k who full own end d rest less h go false e s =
     go m k own (omega arith) (dropped_same net n rest.0 full own d e s h)
 
 -- where no decision is refused, those of one clone suffice, from a state the same for the clone it goes back to
-pub alone_from : (net : Net) (n i m k : ℕ) (who : List ℕ) (full own : List Clone) (ds : List Decision) → m ≤ n
+alone_from : (net : Net) (n i m k : ℕ) (who : List ℕ) (full own : List Clone) (ds : List Decision) → m ≤ n
     → Same (history who ds).0 full own → first_refusal_from (at_opening net n full) i ds ≡ None
     → IsAloneFrom net m k own (history who ds).1 who (after_all (at_opening net n full) ds).clones
 alone_from net n i m k who full own [] less s h = record { accepted = refl; same = sym s.same }

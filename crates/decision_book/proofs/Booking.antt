@@ -1,70 +1,64 @@
 -- A book after a call and after a front.
 use Rattle.std.proofs.Common.{◌≡◌, ℕ, ◌<◌, ◌≤◌, List, [], ◌∷◌, ◌++◌, length}
-use Rattle.std.proofs.Common.{refl, sym, ap, ◌∙◌, ap₂, arith, true, false}
+use Rattle.std.proofs.Common.{sym, ap, ◌∙◌, ap₂, arith, false}
 use Rattle.std.proofs.lemmas.List.{length_push}
 use Rattle.std.proofs.lemmas.List.Sums.{fold_push}
-use Rattle.sim_base.specs.declared.decision.Decision.{Decision}
 use Rattle.sim_base.specs.Reserved.{ReservedView}
 use Rattle.sim_base.specs.Clones.{ListsView}
 use Rattle.net_model.specs.Net.{Net}
 use Rattle.decision_book.specs.declared.call.Call.{Call}
-use Rattle.decision_book.specs.declared.call.Reply.{Reply}
-use Rattle.decision_book.specs.declared.call.Reply.TheVariants.{Full}
-use Rattle.decision_book.specs.Journal.{Event, raised, asked, calls_of, fronts_of}
+use Rattle.decision_book.specs.Journal.{NewFront, NewCall, calls_of, fronts_of}
 use Rattle.decision_book.specs.Journal.{Situation, after_event, clones_after_reply, with_reply, is_full}
 use Rattle.decision_book.specs.Replies.{reply}
-use Rattle.decision_book.specs.Right.{IsAnswered, MayFollow, journal_with}
+use Rattle.decision_book.specs.Right.{IsRightCall, MayFollow, journal_with}
 use Rattle.decision_book.specs.Plans.{ArePlanned}
 use Rattle.decision_book.specs.Books.{IsBook, journal_of}
-use Rattle.decision_book.proofs.Growing.{each_push, stamped_push, stamped_more, journal_from-call}
+use Rattle.decision_book.proofs.Fulls.{is_full-false, with_reply-not_full}
+use Rattle.decision_book.proofs.Growing.{each_push, AreInOrder-push, AreInOrder-front, journal_from-call}
 use Rattle.decision_book.proofs.Growing.{journal_from-front, calls_of-journal_from, fronts_of-journal_from}
 
-with_reply-not_full : (es : List Event) (caller : ℕ) (d : Decision) (r : Reply) → is_full r ≡ false
-    → with_reply es caller d r ≡ es
-    ++ asked (record { caller = caller; fronts = length (fronts_of es); decision = d; reply = r }) ∷ []
-with_reply-not_full es caller d Full h = absurd cc
-with_reply-not_full es caller d r h = refl
-
-not_full : (r : Reply) → is_full r ≡ false → r ≡ Full → ⊥
-not_full r h e = let bad : is_full r ≡ true = ap is_full e in cc
+-- ---- IsNextCall
 
 -- a call of the book, before it is put there
-pub record IsNext (net : Net) (lists : ListsView) (calls : ReservedView Call) (fronts : ReservedView ℕ) (last : ℕ)
+pub record IsNextCall (net : Net) (lists : ListsView) (calls : ReservedView Call) (fronts : ReservedView ℕ) (last : ℕ)
     (call : Call) : Type 0 where
   pub stamp : call.fronts ≡ length fronts.items
   pub answer : call.reply ≡ reply
       (record { net = net; clones = lists.clones; front = last; calls = length calls.items }) call.decision
   pub not_full : is_full call.reply ≡ false
 
+-- a next call is a right one behind the journal of the book
 answered_in : (net : Net) (lists : ListsView) (calls : ReservedView Call) (fronts : ReservedView ℕ) (last : ℕ)
-    (call : Call) → IsBook net lists calls fronts last → IsNext net lists calls fronts last call
-    → IsAnswered net (journal_of calls.items fronts.items) call
+    (call : Call) → IsBook net lists calls fronts last → IsNextCall net lists calls fronts last call
+    → IsRightCall net (journal_of calls.items fronts.items) call
 answered_in net lists calls fronts last call h n = record {
   fronts = n.stamp ∙ ap length (sym (fronts_of-journal_from 0 calls.items fronts.items));
   answer = n.answer ∙ ap (λ (s : Situation). reply s call.decision) (sym h.situation);
-  not_full = not_full call.reply n.not_full;
+  not_full = is_full-false call.reply n.not_full;
 }
 
+-- ---- IsBook, journal_of: a call
+
 -- a call is added to a book
-pub called : (net : Net) (lists then : ListsView) (calls : ReservedView Call) (fronts : ReservedView ℕ) (last : ℕ)
-    (call : Call) → IsBook net lists calls fronts last → IsNext net lists calls fronts last call
+pub IsBook-call : (net : Net) (lists then : ListsView) (calls : ReservedView Call) (fronts : ReservedView ℕ) (last : ℕ)
+    (call : Call) → IsBook net lists calls fronts last → IsNextCall net lists calls fronts last call
     → then ≡ record lists { clones = clones_after_reply net lists.clones call.decision call.reply }
     → ArePlanned net then.clones
     → IsBook net then (record { items = calls.items ++ call ∷ []; reserved = calls.reserved }) fronts last
-called net lists then calls fronts last call h n e planned =
+IsBook-call net lists then calls fronts last call h n e planned =
     let more = journal_from-call 0 (length fronts.items) calls.items fronts.items call (omega arith) h.stamps n.stamp in
     let before = journal_of calls.items fronts.items in
     record {
-      situation = rw (more, fold_push) (ap (λ s. after_event s (asked call)) h.situation
+      situation = rw (more, fold_push) (ap (λ s. after_event s (NewCall call)) h.situation
           ∙ (λ i. record {
             net = net;
             clones = ap (λ l. l.clones) (sym e) i;
             front = last;
             calls = sym (length_push calls.items call) i;
           }));
-      right = rw more (each_push (MayFollow net) [] before (asked call) h.right
+      right = rw more (each_push (MayFollow net) [] before (NewCall call) h.right
           (answered_in net lists calls fronts last call h n));
-      stamps = stamped_push 0 (length fronts.items) calls.items call n.stamp h.stamps;
+      stamps = AreInOrder-push 0 (length fronts.items) calls.items call n.stamp h.stamps;
       few = h.few;
       early = h.early;
       soon = h.soon;
@@ -75,35 +69,37 @@ called net lists then calls fronts last call h n e planned =
     }
 
 -- and its journal is the one with the call added
-pub journal_called : (net : Net) (lists : ListsView) (calls : ReservedView Call) (fronts : ReservedView ℕ) (last : ℕ)
-    (call : Call) → IsBook net lists calls fronts last → IsNext net lists calls fronts last call
+pub journal_of-call : (net : Net) (lists : ListsView) (calls : ReservedView Call) (fronts : ReservedView ℕ) (last : ℕ)
+    (call : Call) → IsBook net lists calls fronts last → IsNextCall net lists calls fronts last call
     → journal_of (calls.items ++ call ∷ []) fronts.items ≡ journal_with net (journal_of calls.items fronts.items)
     call.caller call.decision
-journal_called net lists calls fronts last call h n =
+journal_of-call net lists calls fronts last call h n =
     let a = answered_in net lists calls fronts last call h n in
     let es = journal_of calls.items fronts.items in
     journal_from-call 0 (length fronts.items) calls.items fronts.items call (omega arith) h.stamps n.stamp
-    ∙ ap (λ k. es ++ asked (record {
+    ∙ ap (λ k. es ++ NewCall (record {
       caller = call.caller;
       fronts = k;
       decision = call.decision;
       reply = call.reply;
     }) ∷ []) a.fronts
-    ∙ sym (with_reply-not_full es call.caller call.decision call.reply n.not_full)
+    ∙ sym (with_reply-not_full es call.caller call.decision call.reply (is_full-false call.reply n.not_full))
     ∙ ap (with_reply es call.caller call.decision) a.answer
 
+-- ---- IsBook, journal_of: a front
+
 -- the front is raised
-pub advanced : (net : Net) (lists : ListsView) (calls : ReservedView Call) (fronts : ReservedView ℕ) (last front : ℕ)
-    → IsBook net lists calls fronts last → last < front → front ≤ net.horizon
+pub IsBook-front : (net : Net) (lists : ListsView) (calls : ReservedView Call) (fronts : ReservedView ℕ)
+    (last front : ℕ) → IsBook net lists calls fronts last → last < front → front ≤ net.horizon
     → IsBook net lists calls (record { items = fronts.items ++ front ∷ []; reserved = fronts.reserved }) front
-advanced net lists calls fronts last front h above within =
+IsBook-front net lists calls fronts last front h above within =
     let more = journal_from-front 0 (length fronts.items) calls.items fronts.items front (omega arith) h.stamps in
     let before = journal_of calls.items fronts.items in
     let longer = length_push fronts.items front in
     record {
-      situation = rw (more, fold_push) (ap (λ s. after_event s (raised front)) h.situation);
-      right = rw more (each_push (MayFollow net) [] before (raised front) h.right (rw h.situation above, within));
-      stamps = rw longer (stamped_more 0 (length fronts.items) calls.items h.stamps);
+      situation = rw (more, fold_push) (ap (λ s. after_event s (NewFront front)) h.situation);
+      right = rw more (each_push (MayFollow net) [] before (NewFront front) h.right (rw h.situation above, within));
+      stamps = rw longer (AreInOrder-front 0 (length fronts.items) calls.items h.stamps);
       few = omega (arith, longer, h.few, above);
       early = within;
       soon = h.soon;
@@ -114,14 +110,16 @@ advanced net lists calls fronts last front h above within =
     }
 
 -- and its journal is the one with the front added
-pub journal_advanced : (net : Net) (lists : ListsView) (calls : ReservedView Call) (fronts : ReservedView ℕ)
+pub journal_of-front : (net : Net) (lists : ListsView) (calls : ReservedView Call) (fronts : ReservedView ℕ)
     (last front : ℕ) → IsBook net lists calls fronts last
-    → journal_of calls.items (fronts.items ++ front ∷ []) ≡ journal_of calls.items fronts.items ++ raised front ∷ []
-journal_advanced net lists calls fronts last front h =
+    → journal_of calls.items (fronts.items ++ front ∷ []) ≡ journal_of calls.items fronts.items ++ NewFront front ∷ []
+journal_of-front net lists calls fronts last front h =
     journal_from-front 0 (length fronts.items) calls.items fronts.items front (omega arith) h.stamps
 
+-- ---- journal_of
+
 -- a journal is its calls and fronts put together
-pub journal_whole : (calls : List Call) (fronts : List ℕ)
+pub journal_of-whole : (calls : List Call) (fronts : List ℕ)
     → journal_of (calls_of (journal_of calls fronts)) (fronts_of (journal_of calls fronts)) ≡ journal_of calls fronts
-journal_whole calls fronts = ap₂ journal_of (calls_of-journal_from 0 calls fronts)
+journal_of-whole calls fronts = ap₂ journal_of (calls_of-journal_from 0 calls fronts)
     (fronts_of-journal_from 0 calls fronts)

@@ -1,14 +1,17 @@
 -- Clones by their names.
-use Rattle.std.proofs.Common.{◌≡◌, ℕ, ◌+◌, Bool, true, false, not, nat_lt, cond, List, [], ◌∷◌, ◌++◌}
+use Rattle.std.proofs.Common.{◌≡◌, ℕ, ◌+◌, ◌<◌, Bool, true, false, not, nat_lt, cond, List, [], ◌∷◌, ◌++◌}
 use Rattle.std.proofs.Common.{length, refl, sym, ap, ◌∙◌, arith, zero, suc, Option, Some, None, option_map, slice_set}
 use Rattle.std.specs.List.{prefix_len}
 use Rattle.std.specs.Str.{bytes_eq}
 use Rattle.std.proofs.lemmas.Slice.Eq.{bytes_eq-Decides}
 use Rattle.std.proofs.lemmas.Bool.Decides.{nat_tests}
 use Rattle.std.proofs.lemmas.List.Folds.{find-append}
+use Rattle.std.proofs.lemmas.List.Quantifiers.{position-Some}
 use Rattle.std.specs.Option.{option_or}
-use Rattle.sim_base.specs.Clones.{Clone, clone_at, place_of}
+use Rattle.sim_base.specs.Clones.{Clone, clone_at, nobody, place_of}
 use Rattle.decision_book.specs.Laws.{clone_named}
+
+-- ---- bytes_eq
 
 -- names that compare as equal are the same
 pub same_name : (a b : List ℕ) → bytes_eq a b ≡ true → a ≡ b
@@ -18,6 +21,9 @@ same_name a b h = (bytes_eq-Decides a b).0 h
 pub name_itself : (a : List ℕ) → bytes_eq a a ≡ true
 name_itself a = (bytes_eq-Decides a a).1 refl
 
+-- ---- place_of
+
+-- one place on, in a list that is one longer
 next_place : (k n : ℕ) → cond (nat_lt (1 + k) (suc n)) (Some (1 + k)) None ≡ option_map (λ i. suc i)
     (cond (nat_lt k n) (Some k) None)
 next_place k n =
@@ -40,12 +46,19 @@ place_of-cons m c cs = by (bytes_eq c.name m)
     by true = let lt : nat_lt 0 (suc (length cs)) ≡ true = grind (arith, nat_tests) in rw lt refl
     by false = next_place (prefix_len (λ x. not (bytes_eq x.name m)) cs) (length cs)
 
+-- a name that has a place has it among the clones
+pub place_of-bounds : (m : List ℕ) (clones : List Clone) (i : ℕ) → place_of m clones ≡ Some i → i < length clones
+place_of-bounds m clones i e = (position-Some (λ (c : Clone). bytes_eq c.name m) clones i nobody e).0
+
+-- ---- IsPlaced
+
 -- the place of a name, and the clone at it is this one
 pub record IsPlaced (m : List ℕ) (clones : List Clone) (k : Clone) : Type 0 where
   pub at : ℕ
   pub place : place_of m clones ≡ Some at
   pub clone : clone_at clones at ≡ k
 
+-- a name has its place at the first clone or among the others
 placed_by : (m : List ℕ) (c : Clone) (cs : List Clone) (k : Clone) → (clone_named m cs ≡ Some k → IsPlaced m cs k)
     → (b : Bool) → bytes_eq c.name m ≡ b → cond b (Some c) (clone_named m cs) ≡ Some k → IsPlaced m (c ∷ cs) k
 placed_by m c cs k again true e g = record { at = 0; place = place_of-cons m c cs ∙ rw e refl; clone = cc }
@@ -58,7 +71,9 @@ pub placed : (m : List ℕ) (clones : List Clone) (k : Clone) → clone_named m 
 placed m [] k h = absurd cc
 placed m (c ∷ cs) k h = placed_by m c cs k (placed m cs k) (bytes_eq c.name m) refl h
 
--- and it has none where it has no clone
+-- ---- place_of, clone_named
+
+-- and it has none where neither the first clone has it nor another
 none_by : (m : List ℕ) (c : Clone) (cs : List Clone) → (clone_named m cs ≡ None → place_of m cs ≡ None) → (b : Bool)
     → bytes_eq c.name m ≡ b → cond b (Some c) (clone_named m cs) ≡ None → place_of m (c ∷ cs) ≡ None
 none_by m c cs again true e g = absurd cc
@@ -89,20 +104,26 @@ clone_named-none m clones h = by (clone_named m clones) refl
     by None e = e
     by (Some k) e = let at = placed m clones k e in absurd cc
 
--- a clone that is pushed
+-- ---- clone_named: a clone more
+
+-- a name finds the clone that is pushed where no other has the name, and it is this one's
 pub clone_named-push : (m : List ℕ) (clones : List Clone) (k : Clone)
     → clone_named m (clones ++ k ∷ []) ≡ option_or (clone_named m clones) (cond (bytes_eq k.name m) (Some k) None)
 clone_named-push m clones k = find-append (λ c. bytes_eq c.name m) clones (k ∷ [])
 
--- a clone that is changed and keeps its name
+-- ---- clone_named: a clone in the place of another
+
+-- of two tests that are one the second makes no difference
 twice : {X : Type 0} (b : Bool) (x y z : X) → cond b x z ≡ cond b x (cond b y z)
 twice true x y z = refl
 twice false x y z = refl
 
+-- a place behind the first is one more than a place among the others
 suc_place : (o : Option ℕ) (j : ℕ) → option_map (λ i. suc i) o ≡ Some (suc j) → o ≡ Some j
 suc_place None j h = absurd cc
 suc_place (Some i) j h = cc
 
+-- and is not the first
 no_place : (o : Option ℕ) → option_map (λ i. suc i) o ≡ Some 0 → ⊥
 no_place None h = cc
 no_place (Some i) h = let bad : suc i ≡ 0 = cc in omega arith
@@ -114,6 +135,7 @@ swapped true true x y z other = absurd (other refl refl)
 swapped true false x y z other = refl
 swapped false b x y z other = refl
 
+-- a clone is replaced at the first place or among the others
 set_by : (m who : List ℕ) (c : Clone) (cs : List Clone) (k : Clone) → k.name ≡ who
     → ((j : ℕ) → place_of who cs ≡ Some j → clone_named m (slice_set cs j k) ≡ cond (bytes_eq who m) (Some k)
     (clone_named m cs))
@@ -142,6 +164,9 @@ clone_named-set m who [] i k h e = absurd cc
 clone_named-set m who (c ∷ cs) i k h e = set_by m who c cs k e (λ j g. clone_named-set m who cs j k g e)
     (bytes_eq c.name who) refl i (sym (place_of-cons who c cs) ∙ h)
 
+-- ---- names
+
+-- the clone that is found by a name has this name
 found_name : (m : List ℕ) (clones : List Clone) (k : Clone) → clone_named m clones ≡ Some k → k.name ≡ m
 found_name m [] k h = absurd cc
 found_name m (c ∷ cs) k h = by (bytes_eq c.name m) refl h (found_name m cs k)

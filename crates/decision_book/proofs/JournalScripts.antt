@@ -1,7 +1,8 @@
 -- The accepted calls of a right journal are a script that leaves the same clones.
 use Rattle.std.proofs.Common.{◌≡◌, ◌⊎◌, inl, inr, ⊎_elim, ◌==◌, ℕ, ◌+◌, ◌<◌, ◌≤◌, Bool}
 use Rattle.std.proofs.Common.{true, false, true≢false, List, [], ◌∷◌, ◌++◌, map, Option, Some, None}
-use Rattle.std.proofs.Common.{nat_lt, nat_le, refl, sym, ap, ◌∙◌, subst, arith, fold, append_assoc, append-nil}
+use Rattle.std.proofs.Common.{nat_lt, nat_le, refl, sym, ap, ◌∙◌, subst, arith, eq-eqb, fold, append_assoc, append-nil}
+use Rattle.std.proofs.lemmas.List.Sums.{fold-append}
 use Rattle.sim_base.specs.declared.decision.Decision.{Decision}
 use Rattle.sim_base.specs.declared.decision.Decision.TheVariants.{Fork, Set, End}
 use Rattle.sim_base.specs.Clones.{Clone}
@@ -10,14 +11,16 @@ use Rattle.decision_book.specs.declared.call.Call.{Call}
 use Rattle.decision_book.specs.declared.call.TheConstants.{MOST_CALLS}
 use Rattle.decision_book.specs.declared.call.Reply.{Reply}
 use Rattle.decision_book.specs.declared.call.Reply.TheVariants.{Accepted, PastHorizon, Late}
-use Rattle.decision_book.specs.Journal.{Event, Situation, raised, asked, after}
+use Rattle.decision_book.specs.Journal.{Event, Situation, NewFront, NewCall, after}
 use Rattle.decision_book.specs.Journal.{after_event, outset, clones_after, if_accepted, calls_of}
 use Rattle.decision_book.specs.Replies.{row, first_row, rows, reply}
 use Rattle.decision_book.specs.Right.{MayFollow, EachAfter}
 use Rattle.decision_book.specs.Scripts.{next, after_all, refusal_or, first_refusal_from, accepted_onto, accepted_of}
 use Rattle.decision_book.specs.Laws.{JournalIsScript, ClosedChangesNothing}
-use Rattle.decision_book.proofs.AloneLaw.{opened, reopened}
+use Rattle.decision_book.proofs.Rows.{IsOpen-accepted, reply-IsOpen}
 use Rattle.decision_book.proofs.Scripts.{next_accepted}
+
+-- ---- reply, at front 0
 
 -- rows that all fail fail with another last row that fails
 last_row : (xs : List (Option Reply)) (b : Bool) (r q : Reply) → first_row (xs ++ row b r ∷ []) ≡ Accepted
@@ -30,9 +33,11 @@ last_row (None ∷ xs) b r q h = last_row xs b r q h
 abbrev at_start : Situation → ℕ → Situation
 at_start s m = record s { front = 0; calls = m }
 
+-- at front 0 no time is late
 no_late : (at : ℕ) → false ≡ nat_lt at 0
 no_late at = grind arith
 
+-- rows that all fail at a front fail at front 0
 rows_at_start : (s : Situation) (m clone : ℕ) (d : Decision) → first_row (rows s clone d) ≡ Accepted
     → first_row (rows (at_start s m) clone d) ≡ Accepted
 rows_at_start s m clone (Fork new old) h = h
@@ -53,11 +58,11 @@ rows_at_start s m clone (End who at) h =
 accepted_at_start : (s : Situation) (m : ℕ) (d : Decision) → 0 < s.net.horizon → m ≤ s.calls → reply s d ≡ Accepted
     → reply (at_start s m) d ≡ Accepted
 accepted_at_start s m d some_time few h =
-    let o = opened s d h in
+    let o = IsOpen-accepted s d h in
     let running : (0 == s.net.horizon) ≡ false = grind (arith, some_time) in
-    let room : nat_le MOST_CALLS m ≡ false = grind (arith, few, o.few) in
-    reopened (at_start s m) d (record {
-      few = room;
+    let free : nat_le MOST_CALLS m ≡ false = grind (arith, few, o.few) in
+    reply-IsOpen (at_start s m) d (record {
+      few = free;
       running = running;
       clone = o.clone;
       place = o.place;
@@ -65,30 +70,44 @@ accepted_at_start s m d some_time few h =
       rest = rows_at_start s m o.clone d o.rest;
     })
 
+-- ---- ChangesNothing
+
 -- a reply that takes no call into the script, and leaves the clones as they are
-abbrev pub Passes : Reply → Type 0
-Passes r = ((c : Call) (cs : List Call) → accepted_onto r c cs ≡ cs)
+abbrev pub ChangesNothing : Reply → Type 0
+ChangesNothing r = ((c : Call) (cs : List Call) → accepted_onto r c cs ≡ cs)
     × ((new old : List Clone) → if_accepted r new old ≡ old)
 
 -- each reply is Accepted, or is such a one
-pub kind_of : (r : Reply) → (r ≡ Accepted) ⊎ Passes r
-kind_of Accepted = inl refl
-kind_of r = inr ((λ c cs. refl), λ new old. refl)
+pub accepted_or_refused : (r : Reply) → (r ≡ Accepted) ⊎ ChangesNothing r
+accepted_or_refused Accepted = inl refl
+accepted_or_refused r = inr ((λ c cs. refl), λ new old. refl)
 
--- how things stand after two journals, one behind the other
-pub fold_append : (s : Situation) (xs ys : List Event)
-    → fold after_event s (xs ++ ys) ≡ fold after_event (fold after_event s xs) ys
-fold_append s [] ys = refl
-fold_append s (x ∷ xs) ys = fold_append (after_event s x) xs ys
+-- ---- after_event
+
+-- the situation after a decision that is accepted
+abbrev pub moved_by : Situation → Decision → Situation
+moved_by s d = record s { clones = clones_after s.net s.clones d; calls = s.calls + 1 }
+
+-- an accepted call leads to it
+pub after_event-accepted : (s : Situation) (c : Call) → c.reply ≡ Accepted
+    → after_event s (NewCall c) ≡ moved_by s c.decision
+after_event-accepted s c h = ap (λ r. record s {
+  clones = if_accepted r (clones_after s.net s.clones c.decision) s.clones;
+  calls = s.calls + 1;
+}) h
+
+-- and a refused one is counted, and changes nothing else
+pub after_event-refused : (s : Situation) (c : Call) → ChangesNothing c.reply
+    → after_event s (NewCall c) ≡ record s { calls = s.calls + 1 }
+after_event-refused s c h = ap (λ l. record s { clones = l; calls = s.calls + 1 })
+    (h.1 (clones_after s.net s.clones c.decision) s.clones)
+
+-- ---- Leads
 
 -- these decisions are all accepted at front 0, and lead to these clones
 abbrev Leads : Situation → ℕ → ℕ → List Decision → List Clone → Type 0
 Leads s m place ds clones = (first_refusal_from (at_start s m) place ds ≡ None)
     × ((after_all (at_start s m) ds).clones ≡ clones)
-
--- the situation after a decision that is accepted
-abbrev moved_by : Situation → Decision → Situation
-moved_by s d = record s { clones = clones_after s.net s.clones d; calls = s.calls + 1 }
 
 -- one decision more, which is accepted
 leads_on : (s : Situation) (m place : ℕ) (d : Decision) (ds : List Decision) (clones : List Clone) → 0 < s.net.horizon
@@ -103,6 +122,7 @@ leads_on s m place d ds clones some_time few h more =
       ap (λ (x : Situation). (after_all x ds).clones) step ∙ more.1,
     )
 
+-- what these calls ask for
 abbrev decisions_of : List Call → List Decision
 decisions_of cs = map (λ c. c.decision) cs
 
@@ -111,21 +131,19 @@ from_here : (net : Net) (before es : List Event) (s : Situation) (m place : ℕ)
     → EachAfter (MayFollow net) before es → 0 < s.net.horizon → m ≤ s.calls
     → Leads s m place (decisions_of (accepted_of (calls_of es))) (fold after_event s es).clones
 from_here net before [] s m place is right some_time few = (refl, refl)
-from_here net before (raised f ∷ es) s m place is right some_time few =
-    from_here net (before ++ raised f ∷ []) es (after_event s (raised f)) m place
-    (fold_append (outset net) before (raised f ∷ []) ∙ ap (λ (x : Situation). after_event x (raised f)) is)
+from_here net before (NewFront f ∷ es) s m place is right some_time few =
+    from_here net (before ++ NewFront f ∷ []) es (after_event s (NewFront f)) m place
+    (fold-append after_event (outset net) before (NewFront f ∷ [])
+    ∙ ap (λ (x : Situation). after_event x (NewFront f)) is)
     right.1 some_time few
-from_here net before (asked c ∷ es) s m place is right some_time few =
-    let then = fold_append (outset net) before (asked c ∷ []) ∙ ap (λ (x : Situation). after_event x (asked c)) is in
+from_here net before (NewCall c ∷ es) s m place is right some_time few =
+    let then = fold-append after_event (outset net) before (NewCall c ∷ [])
+    ∙ ap (λ (x : Situation). after_event x (NewCall c)) is in
     let answer : c.reply ≡ reply s c.decision = right.0.answer ∙ ap (λ (x : Situation). reply x c.decision) is in
     ⊎_elim
     (λ (h : c.reply ≡ Accepted).
-    let moved : after_event s (asked c) ≡ moved_by s c.decision =
-    ap (λ r. record s {
-      clones = if_accepted r (clones_after s.net s.clones c.decision) s.clones;
-      calls = s.calls + 1;
-    }) h in
-    let more = from_here net (before ++ asked c ∷ []) es (moved_by s c.decision) (m + 1) (place + 1)
+    let moved = after_event-accepted s c h in
+    let more = from_here net (before ++ NewCall c ∷ []) es (moved_by s c.decision) (m + 1) (place + 1)
     (then ∙ moved) right.1 some_time (omega (arith, few)) in
     let one = leads_on s m place c.decision (decisions_of (accepted_of (calls_of es)))
     (fold after_event (moved_by s c.decision) es).clones some_time few (sym answer ∙ h) more in
@@ -133,23 +151,23 @@ from_here net before (asked c ∷ es) s m place is right some_time few =
     (ap (λ (x : Situation). (fold after_event x es).clones) (sym moved))
     (subst (λ r. Leads s m place (decisions_of (accepted_onto r c (accepted_of (calls_of es))))
     (fold after_event (moved_by s c.decision) es).clones) (sym h) one))
-    (λ (h : Passes c.reply).
-    let moved : after_event s (asked c) ≡ record s { calls = s.calls + 1 } =
-    ap (λ l. record s { clones = l; calls = s.calls + 1 })
-    (h.1 (clones_after s.net s.clones c.decision) s.clones) in
-    let more = from_here net (before ++ asked c ∷ []) es (record s { calls = s.calls + 1 }) m place
+    (λ (h : ChangesNothing c.reply).
+    let moved = after_event-refused s c h in
+    let more = from_here net (before ++ NewCall c ∷ []) es (record s { calls = s.calls + 1 }) m place
     (then ∙ moved) right.1 some_time (omega (arith, few)) in
     subst (λ cl. Leads s m place (decisions_of (accepted_onto c.reply c (accepted_of (calls_of es)))) cl)
     (ap (λ (x : Situation). (fold after_event x es).clones) (sym moved))
     (subst (λ l. Leads s m place (decisions_of l) (fold after_event (record s { calls = s.calls + 1 }) es).clones)
     (sym (h.0 c (accepted_of (calls_of es)))) more))
-    (kind_of c.reply)
+    (accepted_or_refused c.reply)
 
 -- where the horizon is above 0, the accepted decisions of a right journal are a script that leaves its clones
 pub journal_is_script : (net : Net) → JournalIsScript net
 journal_is_script net events right some_time =
     let l = from_here net [] events (outset net) 0 0 refl right some_time (omega arith) in
     record { accepted = l.0; lists = l.1 }
+
+-- ---- EachAfter
 
 -- what holds of each event of a journal holds of its later part behind the earlier one
 pub each_later : (P : List Event → Event → Type 0) (before xs ys : List Event) → EachAfter P before (xs ++ ys)
@@ -158,35 +176,36 @@ each_later P before [] ys h = subst (λ (es : List Event). EachAfter P es ys) (s
 each_later P before (x ∷ xs) ys h = subst (λ (es : List Event). EachAfter P es ys) (append_assoc before (x ∷ []) xs)
     (each_later P (before ++ x ∷ []) xs ys h.1)
 
-same_number : (a b : ℕ) → a ≡ b → (a == b) ≡ true
-same_number a b e = grind (arith, e)
+-- ---- calls at the horizon
 
 -- calls behind events at whose front the horizon is reached
 closed_from : (net : Net) (before : List Event) (calls : List Call) (s : Situation) → after net before ≡ s
-    → s.front ≡ s.net.horizon → EachAfter (MayFollow net) before (map asked calls)
-    → (fold after_event s (map asked calls)).clones ≡ s.clones
+    → s.front ≡ s.net.horizon → EachAfter (MayFollow net) before (map NewCall calls)
+    → (fold after_event s (map NewCall calls)).clones ≡ s.clones
 closed_from net before [] s is closed right = refl
 closed_from net before (c ∷ cs) s is closed right =
-    let then = fold_append (outset net) before (asked c ∷ []) ∙ ap (λ (x : Situation). after_event x (asked c)) is in
+    let then = fold-append after_event (outset net) before (NewCall c ∷ [])
+    ∙ ap (λ (x : Situation). after_event x (NewCall c)) is in
     let answer : c.reply ≡ reply s c.decision = right.0.answer ∙ ap (λ (x : Situation). reply x c.decision) is in
-    let at_end : (s.front == s.net.horizon) ≡ true = same_number s.front s.net.horizon closed in
+    let at_end : (s.front == s.net.horizon) ≡ true = eq-eqb s.front s.net.horizon closed in
     ⊎_elim
-    (λ (h : c.reply ≡ Accepted). absurd (true≢false (sym at_end ∙ (opened s c.decision (sym answer ∙ h)).running)))
-    (λ (h : Passes c.reply).
-    let same : (after_event s (asked c)).clones ≡ s.clones = h.1 (clones_after s.net s.clones c.decision) s.clones in
-    closed_from net (before ++ asked c ∷ []) cs (after_event s (asked c)) then closed right.1 ∙ same)
-    (kind_of c.reply)
+    (λ (h : c.reply ≡ Accepted).
+    absurd (true≢false (sym at_end ∙ (IsOpen-accepted s c.decision (sym answer ∙ h)).running)))
+    (λ (h : ChangesNothing c.reply).
+    let same : (after_event s (NewCall c)).clones ≡ s.clones = h.1 (clones_after s.net s.clones c.decision) s.clones in
+    closed_from net (before ++ NewCall c ∷ []) cs (after_event s (NewCall c)) then closed right.1 ∙ same)
+    (accepted_or_refused c.reply)
 
 -- the network stays the same
 pub net_stays : (s : Situation) (es : List Event) → (fold after_event s es).net ≡ s.net
 net_stays s [] = refl
-net_stays s (raised f ∷ es) = net_stays (after_event s (raised f)) es
-net_stays s (asked c ∷ es) = net_stays (after_event s (asked c)) es
+net_stays s (NewFront f ∷ es) = net_stays (after_event s (NewFront f)) es
+net_stays s (NewCall c ∷ es) = net_stays (after_event s (NewCall c)) es
 
 -- in a right journal, calls at the horizon leave the clones as they are
 pub closed_changes_nothing : (net : Net) → ClosedChangesNothing net
 closed_changes_nothing net before calls closed right =
-    ap (λ (s : Situation). s.clones) (fold_append (outset net) before (map asked calls))
+    ap (λ (s : Situation). s.clones) (fold-append after_event (outset net) before (map NewCall calls))
     ∙ closed_from net before calls (after net before) refl
     (closed ∙ ap (λ (n : Net). n.horizon) (sym (net_stays (outset net) before)))
-    (each_later (MayFollow net) [] before (map asked calls) right)
+    (each_later (MayFollow net) [] before (map NewCall calls) right)

@@ -3,6 +3,7 @@ pub mod Growing
 pub mod Booking
 pub mod Scripts
 pub mod ClonesByName
+pub mod Rows
 pub mod AloneLaw
 pub mod OwnScripts
 pub mod Fulls

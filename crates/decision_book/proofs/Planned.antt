@@ -1,5 +1,5 @@
 -- Accepted decisions keep the lists as they are planned.
-use Rattle.std.proofs.Common.{◌≡◌, ℕ, ◌+◌, ◌<◌, ◌≤◌, List, [], ◌∷◌, ◌++◌, length, arith, zero, suc, Some, None}
+use Rattle.std.proofs.Common.{◌≡◌, ℕ, ◌+◌, ◌<◌, ◌≤◌, List, [], ◌∷◌, length, arith, zero, suc, Some, None}
 use Rattle.std.proofs.Common.{slice_set, length-set, true, Option, option_map, Result, Ok, Err, is_ok, position, refl}
 use Rattle.std.specs.List.{AllByRecursion}
 use Rattle.std.proofs.lemmas.List.{length_push}
@@ -16,13 +16,16 @@ use Rattle.stations.specs.Changes.{accepts}
 use Rattle.decision_book.specs.Laws.{PlansAreForStations}
 use Rattle.decision_book.specs.Plans.{IsPlan, IsPlanned, ArePlanned}
 
+-- ---- ArePlanned
+
+-- each clone is planned, and so is the one that stands for none
 planned_at : (net : Net) (clones : List Clone) (c : ℕ) → AllByRecursion (IsPlanned net) clones
     → IsPlanned net (clone_at clones c)
 planned_at net [] c h = record { plans = tt; short = omega arith; end = tt }
 planned_at net (k ∷ ks) zero h = h.0
 planned_at net (k ∷ ks) (suc c) h = planned_at net ks c h.1
 
--- a fork keeps the lists as planned, where there is room for one clone more
+-- a fork keeps the lists as planned, where there is a free place for one clone more
 pub planned_forked : (net : Net) (clones : List Clone) (new : List ℕ) (old : ℕ) → ArePlanned net clones
     → length clones < MOST_CLONES → ArePlanned net (clones_with_fork clones new old)
 planned_forked net clones new old h few =
@@ -33,6 +36,7 @@ planned_forked net clones new old h few =
       each = all_push (IsPlanned net) clones fork h.each (record { plans = from.plans; short = from.short; end = tt });
     }
 
+-- planned clones stay so where one is replaced by a planned one
 replaced : (net : Net) (clones : List Clone) (c : ℕ) (k : Clone) → ArePlanned net clones → IsPlanned net k
     → ArePlanned net (slice_set clones c k)
 replaced net clones c k h p = record { few = rw length-set h.few; each = all_set (IsPlanned net) clones c k h.each p }
@@ -45,7 +49,7 @@ planned_ended net clones c at h early =
     replaced net clones c (record (clone_at clones c) { end = Some at }) h
     (record { plans = from.plans; short = from.short; end = early })
 
--- and so does one set more that may be planned, where the clone's list has room
+-- and so does one set more that may be planned, where the clone's list has a free place
 pub planned_added : (net : Net) (clones : List Clone) (c : ℕ) (plan : Planned) → ArePlanned net clones
     → length (clone_at clones c).plans < MOST_DECISIONS → IsPlan net plan
     → ArePlanned net (clones_with_plan clones c plan)
@@ -58,12 +62,18 @@ planned_added net clones c plan h s p =
       end = from.end;
     })
 
--- a set that was accepted
+-- ---- IsPlan
 
+-- one more than a place is at least 1
 from_one : (o : Option ℕ) (s : ℕ) → option_map (λ i. i + 1) o ≡ Some s → 1 ≤ s
 from_one None s h = absurd cc
 from_one (Some i) s h = let same : i + 1 ≡ s = cc in omega arith
 
+-- so the number of a station that is found by its name is at least 1
+pub station_named-low : (name : List ℕ) (net : Net) (s : ℕ) → station_named name net ≡ Some s → 1 ≤ s
+station_named-low name net s e = from_one (position (λ site. bytes_eq site.name name) net.sites) s e
+
+-- a change that a station takes is accepted
 taken_from : (r : Result (Unit {0}) ChangeFault) (u : Unit {0}) → r ≡ Ok u → is_ok r ≡ true
 taken_from (Ok v) u h = refl
 taken_from (Err e) u h = absurd cc
@@ -74,11 +84,14 @@ pub plan_taken : (net : Net) (at s : ℕ) (station : List ℕ) (change : Change)
     → at < net.horizon → IsPlan net (record { at = at; station = s; change = change })
 plan_taken net at s station change u number last taken early = record {
   early = early;
-  first = from_one (position (λ site. bytes_eq site.name station) net.sites) s number;
+  first = station_named-low station net s number;
   last = last;
   taken = taken_from (accepts (site_of net s) change) u taken;
 }
 
+-- ---- PlansAreForStations
+
+-- the sets of a planned list are for stations that are there
 for_stations : (net : Net) (plans : List Planned) → AllByRecursion (IsPlan net) plans
     → AllByRecursion (λ p. (0 < p.station) × (p.station ≤ length net.sites)) plans
 for_stations net [] h = tt

@@ -7,7 +7,7 @@ use Rattle.sim_base.specs.declared.decision.Decision.{Decision}
 use Rattle.net_model.specs.Net.{Net}
 use Rattle.decision_book.specs.declared.call.Reply.{Reply}
 use Rattle.decision_book.specs.declared.call.Reply.TheVariants.{Accepted, Full}
-use Rattle.decision_book.specs.Journal.{Event, asked, calls_of, fronts_of, Situation, outset}
+use Rattle.decision_book.specs.Journal.{Event, NewCall, calls_of, fronts_of, Situation, outset}
 use Rattle.decision_book.specs.Journal.{after_event, after, clones_after_reply, clones_after, with_reply}
 use Rattle.decision_book.specs.Replies.{reply}
 use Rattle.decision_book.specs.Right.{journal_with, MayFollow, IsRight}
@@ -15,48 +15,56 @@ use Rattle.decision_book.specs.Scripts.{Question, calls_after, next, after_all}
 use Rattle.decision_book.specs.Scripts.{refusal_or, first_refusal_from, first_refusal}
 use Rattle.decision_book.specs.Laws.{last_of, SituationOfJournal, AskingIsNext, SituationOfScript, ScriptIsRight}
 use Rattle.decision_book.specs.Laws.{AcceptedAdds, RefusedFirst, AcceptedGoesOn, RefusedIsFirst}
-use Rattle.decision_book.proofs.Growing.{each_push, stands_by}
+use Rattle.decision_book.proofs.Growing.{each_push, situation_by_parts}
 
--- how things stand after this reply
+-- ---- after
+
+-- the situation after this reply
 abbrev by_reply : Situation → Decision → Reply → Situation
 by_reply s d r = record s { clones = clones_after_reply s.net s.clones d r; calls = calls_after r s.calls }
 
+-- after a decision had a reply, the situation is the one after this reply
 after-with_reply : (net : Net) (es : List Event) (caller : ℕ) (d : Decision) (r : Reply)
     → after net (with_reply es caller d r) ≡ by_reply (after net es) d r
 after-with_reply net es caller d Full = refl
 after-with_reply net es caller d r =
     fold_push after_event (outset net) es
-    (asked (record { caller = caller; fronts = length (fronts_of es); decision = d; reply = r }))
+    (NewCall (record { caller = caller; fronts = length (fronts_of es); decision = d; reply = r }))
 
--- asking a decision takes things to where they stand next, whoever asks
+-- asking a decision leads to the next situation, whoever asks
 pub asking_is_next : (net : Net) → AskingIsNext net
 asking_is_next net es caller d = after-with_reply net es caller d (reply (after net es) d)
 
 -- after a journal the front is its last one, or 0, and the number of calls is how many it has
-pub journal_stands : (net : Net) → SituationOfJournal net
-journal_stands net es = let none : 0 + length (calls_of es) ≡ length (calls_of es) = omega arith in
-    stands_by (outset net) es ∙ ap
+pub situation_of_journal : (net : Net) → SituationOfJournal net
+situation_of_journal net es = let none : 0 + length (calls_of es) ≡ length (calls_of es) = omega arith in
+    situation_by_parts (outset net) es ∙ ap
     (λ n. record { net = net; clones = (after net es).clones; front = last_of (fronts_of es); calls = n }) none
 
-stands_from : (net : Net) (es : List Event) (s : Situation) (qs : List Question) → after net es ≡ s
+-- ---- journal_of_script
+
+-- after the decisions of the rest of a script it is the one that they lead to
+situation_from : (net : Net) (es : List Event) (s : Situation) (qs : List Question) → after net es ≡ s
     → after net (fold (λ events q. journal_with net events q.caller q.decision) es qs) ≡ after_all s
     (map (λ q. q.decision) qs)
-stands_from net es s [] h = h
-stands_from net es s (q ∷ qs) h = stands_from net (journal_with net es q.caller q.decision) (next s q.decision) qs
+situation_from net es s [] h = h
+situation_from net es s (q ∷ qs) h = situation_from net (journal_with net es q.caller q.decision) (next s q.decision) qs
     (asking_is_next net es q.caller q.decision ∙ ap (λ t. next t q.decision) h)
 
--- after the journal of a script, things stand where its decisions lead
-pub script_stands : (net : Net) → SituationOfScript net
-script_stands net qs = stands_from net [] (outset net) qs refl
+-- the situation after the journal of a script is the one that its decisions lead to
+pub situation_of_script : (net : Net) → SituationOfScript net
+situation_of_script net qs = situation_from net [] (outset net) qs refl
 
+-- a right journal stays right with a decision that had the reply of the table
 right_reply : (net : Net) (es : List Event) (caller : ℕ) (d : Decision) (r : Reply) → r ≡ reply (after net es) d
     → IsRight net es → IsRight net (with_reply es caller d r)
 right_reply net es caller d Full e h = h
 right_reply net es caller d r e h =
     each_push (MayFollow net) [] es
-    (asked (record { caller = caller; fronts = length (fronts_of es); decision = d; reply = r })) h
+    (NewCall (record { caller = caller; fronts = length (fronts_of es); decision = d; reply = r })) h
     (record { fronts = refl; answer = e; not_full = λ full. cc })
 
+-- and with the rest of a script
 right_from : (net : Net) (es : List Event) (qs : List Question) → IsRight net es
     → IsRight net (fold (λ events q. journal_with net events q.caller q.decision) es qs)
 right_from net es [] h = h
@@ -67,11 +75,14 @@ right_from net es (q ∷ qs) h = right_from net (journal_with net es q.caller q.
 pub script_is_right : (net : Net) → ScriptIsRight net
 script_is_right net qs = right_from net [] qs tt
 
+-- ---- next, after_all
+
 -- a decision that is accepted
 pub next_accepted : (s : Situation) (d : Decision) → reply s d ≡ Accepted
     → next s d ≡ record s { clones = clones_after s.net s.clones d; calls = s.calls + 1 }
 next_accepted s d h = ap (by_reply s d) h
 
+-- decisions leave the network as it is
 net_stays : (s : Situation) (ds : List Decision) → (after_all s ds).net ≡ s.net
 net_stays s [] = refl
 net_stays s (d ∷ ds) = net_stays (next s d) ds
@@ -83,11 +94,15 @@ accepted_adds net ds d h =
     ap (λ t. t.clones) (fold_push next (outset net) ds d ∙ next_accepted s d h)
     ∙ ap (λ n. clones_after n s.clones d) (net_stays (outset net) ds)
 
+-- ---- first_refusal
+
+-- an earlier refusal comes before all later ones
 refusal_or-or : (place : ℕ) (r : Reply) (x y : Option (ℕ × Reply))
     → refusal_or place r (option_or x y) ≡ option_or (refusal_or place r x) y
 refusal_or-or place Accepted x y = refl
 refusal_or-or place r x y = refl
 
+-- the first refusal, where the first decision has this place
 refused_first_from : (s : Situation) (place : ℕ) (ds more : List Decision)
     → first_refusal_from s place (ds ++ more) ≡ option_or (first_refusal_from s place ds)
     (first_refusal_from (after_all s ds) (place + length ds) more)
@@ -114,6 +129,7 @@ pub accepted_first : (place : ℕ) (r : Reply) (later : Option (ℕ × Reply)) �
 accepted_first place Accepted later h = (refl, h)
 accepted_first place r later h = absurd cc
 
+-- a reply that is a refusal is the first
 refusal_or-refusal : (place : ℕ) (r : Reply) (later : Option (ℕ × Reply)) → (r ≡ Accepted → ⊥)
     → refusal_or place r later ≡ Some (place, r)
 refusal_or-refusal place Accepted later other = absurd (other refl)

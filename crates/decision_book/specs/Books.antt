@@ -10,7 +10,7 @@ use Rattle.decision_book.specs.declared.call.TheConstants.{MOST_CALLS}
 use Rattle.sim_base.specs.declared.decision.Decision.{Decision}
 use Rattle.decision_book.specs.declared.call.Reply.{Reply}
 use Rattle.decision_book.specs.declared.call.Reply.TheVariants.{Full}
-use Rattle.decision_book.specs.Journal.{Event, raised, asked, after, call_of}
+use Rattle.decision_book.specs.Journal.{Event, NewFront, NewCall, after, call_of}
 use Rattle.decision_book.specs.Right.{IsRight}
 use Rattle.decision_book.specs.Plans.{ArePlanned}
 
@@ -22,18 +22,18 @@ pub record BookView : Type 0 where
 -- the journal of these calls and fronts, where so many fronts stood before it; each call says how many stood before
 -- the call
 abbrev pub journal_from : ℕ → List Call → List ℕ → List Event
-journal_from n [] fronts = map raised fronts
+journal_from n [] fronts = map NewFront fronts
 journal_from n (c ∷ cs) fronts =
-    map raised (take (c.fronts - n) fronts) ++ (asked c ∷ journal_from c.fronts cs (drop (c.fronts - n) fronts))
+    map NewFront (take (c.fronts - n) fronts) ++ (NewCall c ∷ journal_from c.fronts cs (drop (c.fronts - n) fronts))
 
 -- the whole journal of calls and fronts
 abbrev pub journal_of : List Call → List ℕ → List Event
 journal_of calls fronts = journal_from 0 calls fronts
 
 -- each call stands behind no fewer fronts than the one before, and than n, and behind no more than there are
-abbrev pub AreStamped : ℕ → ℕ → List Call → Type 0
-AreStamped n all [] = n ≤ all
-AreStamped n all (c ∷ cs) = (n ≤ c.fronts) × AreStamped c.fronts all cs
+abbrev pub AreInOrder : ℕ → ℕ → List Call → Type 0
+AreInOrder n all [] = n ≤ all
+AreInOrder n all (c ∷ cs) = (n ≤ c.fronts) × AreInOrder c.fronts all cs
 
 -- lists, front and number of calls are those of the journal, which is right, and memory is reserved for all calls,
 -- clones and decisions
@@ -46,7 +46,7 @@ pub record IsBook (net : Net) (lists : ListsView) (calls : ReservedView Call) (f
     calls = length calls.items;
   }
   pub right : IsRight net (journal_of calls.items fronts.items)
-  pub stamps : AreStamped 0 (length fronts.items) calls.items
+  pub stamps : AreInOrder 0 (length fronts.items) calls.items
   pub few : length fronts.items ≤ last
   pub early : last ≤ net.horizon
   pub soon : net.horizon ≤ MOST_HORIZON
@@ -56,12 +56,12 @@ pub record IsBook (net : Net) (lists : ListsView) (calls : ReservedView Call) (f
   pub reserved_calls : calls.reserved ≡ MOST_CALLS
 
 -- the call of a decision with this reply, and the book, whose last entry it is
-pub record IsEntered (old : BookView) (caller : ℕ) (d : Decision) (reply : Reply) (call : Call) (new : BookView) :
+pub record IsEntry (old : BookView) (caller : ℕ) (d : Decision) (reply : Reply) (call : Call) (new : BookView) :
     Type 0 where
   pub call_is : call ≡ call_of caller old.events d reply
-  pub new_is : new ≡ record old { events = old.events ++ asked call ∷ [] }
+  pub new_is : new ≡ record old { events = old.events ++ NewCall call ∷ [] }
 
 -- the call is the last entry of the journal; or the reply is Full, there is no call, and the book stays as it was
 abbrev pub IsCallUnlessFull : BookView → ℕ → Decision → Reply → Option Call → BookView → Type 0
 IsCallUnlessFull old caller d reply given new = MatchOption given
-    ((reply ≡ Full) × (new ≡ old)) (λ call. (reply ≢ Full) × IsEntered old caller d reply call new)
+    ((reply ≡ Full) × (new ≡ old)) (λ call. (reply ≢ Full) × IsEntry old caller d reply call new)

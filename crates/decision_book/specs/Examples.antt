@@ -8,7 +8,7 @@ use Rattle.stations.specs.Examples.{set_at}
 use Rattle.stations.specs.Examples.OneDesk.{desk}
 use Rattle.decision_book.specs.declared.call.Reply.{Reply}
 use Rattle.decision_book.specs.declared.call.Reply.TheVariants.{Accepted, Closed, Late}
-use Rattle.decision_book.specs.Journal.{Event, raised, asked}
+use Rattle.decision_book.specs.Journal.{Event, NewFront, NewCall}
 
 -- fork NEW from base
 abbrev pub branch : List ℕ → Decision
@@ -24,16 +24,16 @@ roomier who at = Set who at (codes "desk") (record { param = Room; a = 9; b = 0 
 
 -- a call by a caller, so many fronts before it, and its reply
 abbrev pub call : ℕ → ℕ → Decision → Reply → Event
-call caller fronts d reply = asked (record { caller = caller; fronts = fronts; decision = d; reply = reply })
+call caller fronts d reply = NewCall (record { caller = caller; fronts = fronts; decision = d; reply = reply })
 
 -- three calls at front 10, and one at the horizon
 abbrev pub during_a_run : List Event
 during_a_run =
-    raised 5 ∷ raised 7 ∷ raised 10
+    NewFront 5 ∷ NewFront 7 ∷ NewFront 10
     ∷ call 1 3 (branch (codes "fast")) Accepted
     ∷ call 1 3 (faster (codes "fast") 10) Accepted
     ∷ call 2 3 (faster (codes "fast") 9) (Late 10)
-    ∷ raised 13 ∷ raised 15 ∷ raised 17 ∷ raised 20
+    ∷ NewFront 13 ∷ NewFront 15 ∷ NewFront 17 ∷ NewFront 20
     ∷ call 1 7 (branch (codes "x")) Closed ∷ []
 
 -- the clones that this leaves

@@ -1,4 +1,4 @@
--- Journals of decisions and fronts, and how things stand after one.
+-- Journals of decisions and fronts, and the situation after one.
 use Rattle.std.specs.Prelude.{ℕ, ◌+◌, Bool, true, false, List, [], ◌∷◌, ◌++◌, length, fold, unwrap_or}
 use Rattle.sim_base.specs.declared.decision.Decision.{Decision}
 use Rattle.sim_base.specs.declared.decision.Decision.TheVariants.{Fork, Set, End}
@@ -12,20 +12,20 @@ use Rattle.decision_book.specs.declared.call.Reply.TheVariants.{Accepted, Full}
 
 -- a journal is a list of events: a front to which the simulation was raised, or a call
 pub data Event : Type 0 where
-  raised : ℕ → Event
-  asked : Call → Event
+  NewFront : ℕ → Event
+  NewCall : Call → Event
 
 -- the calls of a journal
 abbrev pub calls_of : List Event → List Call
 calls_of [] = []
-calls_of (raised f ∷ es) = calls_of es
-calls_of (asked c ∷ es) = c ∷ calls_of es
+calls_of (NewFront f ∷ es) = calls_of es
+calls_of (NewCall c ∷ es) = c ∷ calls_of es
 
 -- the fronts of a journal
 abbrev pub fronts_of : List Event → List ℕ
 fronts_of [] = []
-fronts_of (raised f ∷ es) = f ∷ fronts_of es
-fronts_of (asked c ∷ es) = fronts_of es
+fronts_of (NewFront f ∷ es) = f ∷ fronts_of es
+fronts_of (NewCall c ∷ es) = fronts_of es
 
 -- what a reply depends on: the network, the clones with their lists, the front, and how many calls there were
 pub record Situation : Type 0 where
@@ -63,15 +63,15 @@ if_accepted refusal new old = old
 abbrev pub clones_after_reply : Net → List Clone → Decision → Reply → List Clone
 clones_after_reply net clones d reply = if_accepted reply (clones_after net clones d) clones
 
--- how things stand after one event more
+-- the situation after one event more
 abbrev pub after_event : Situation → Event → Situation
-after_event s (raised f) = record s { front = f }
-after_event s (asked call) = record s {
+after_event s (NewFront f) = record s { front = f }
+after_event s (NewCall call) = record s {
   clones = clones_after_reply s.net s.clones call.decision call.reply;
   calls = s.calls + 1;
 }
 
--- how things stand after a journal
+-- the situation after a journal
 abbrev pub after : Net → List Event → Situation
 after net events = fold after_event (outset net) events
 
@@ -83,7 +83,7 @@ call_of caller events d reply =
 -- the journal after a decision was asked and had this reply: Full leaves it as it was
 abbrev pub with_reply : List Event → ℕ → Decision → Reply → List Event
 with_reply events caller d Full = events
-with_reply events caller d reply = events ++ asked (call_of caller events d reply) ∷ []
+with_reply events caller d reply = events ++ NewCall (call_of caller events d reply) ∷ []
 
 -- whether it is the reply of a full journal
 abbrev pub is_full : Reply → Bool

@@ -10,7 +10,7 @@ use Rattle.decision_book.specs.declared.call.Call.{Call}
 use Rattle.decision_book.specs.declared.call.Reply.TheVariants.{Accepted}
 use Rattle.decision_script.specs.Alone.{alone, alone_of, decisions}
 use Rattle.decision_script.specs.Stating.{ScriptView}
-use Rattle.decision_book.specs.Journal.{Event, asked, outset, clones_after, after, calls_of, fronts_of}
+use Rattle.decision_book.specs.Journal.{Event, NewCall, outset, clones_after, after, calls_of, fronts_of}
 use Rattle.decision_book.specs.Plans.{ArePlanned}
 use Rattle.decision_book.specs.Replies.{reply}
 use Rattle.decision_book.specs.Right.{journal_with, IsRight}
@@ -41,7 +41,7 @@ abbrev pub AskingIsNext : Net → Type 0
 AskingIsNext net = (events : List Event) (caller : ℕ) (d : Decision)
     → after net (journal_with net events caller d) ≡ next (after net events) d
 
--- after the journal of a script, things stand where its decisions lead
+-- the situation after the journal of a script is the one that its decisions lead to
 abbrev pub SituationOfScript : Net → Type 0
 SituationOfScript net = (questions : List Question)
     → after net (journal_of_script net questions) ≡ after_all (outset net) (map (λ q. q.decision) questions)
@@ -110,5 +110,5 @@ JournalIsScript net = (events : List Event) → IsRight net events → 0 < net.h
 -- calls at the horizon leave the clones as they are
 abbrev pub ClosedChangesNothing : Net → Type 0
 ClosedChangesNothing net = (before : List Event) (calls : List Call) → (after net before).front ≡ net.horizon
-    → IsRight net (before ++ map asked calls)
-    → (after net (before ++ map asked calls)).clones ≡ (after net before).clones
+    → IsRight net (before ++ map NewCall calls)
+    → (after net (before ++ map NewCall calls)).clones ≡ (after net before).clones

@@ -4,7 +4,7 @@ use Rattle.sim_base.specs.declared.decision.Decision.{Decision}
 use Rattle.net_model.specs.Net.{Net}
 use Rattle.decision_book.specs.declared.call.Call.{Call}
 use Rattle.decision_book.specs.declared.call.Reply.TheVariants.{Full}
-use Rattle.decision_book.specs.Journal.{Event, raised, asked, fronts_of, after, with_reply}
+use Rattle.decision_book.specs.Journal.{Event, NewFront, NewCall, fronts_of, after, with_reply}
 use Rattle.decision_book.specs.Replies.{reply}
 
 -- what a journal becomes when a decision is asked: its reply is the one of the table
@@ -12,15 +12,15 @@ abbrev pub journal_with : Net → List Event → ℕ → Decision → List Event
 journal_with net events caller d = with_reply events caller d (reply (after net events) d)
 
 -- a call that says how many fronts stood before it, and has the reply of the table, which is not Full
-pub record IsAnswered (net : Net) (before : List Event) (call : Call) : Type 0 where
+pub record IsRightCall (net : Net) (before : List Event) (call : Call) : Type 0 where
   pub fronts : call.fronts ≡ length (fronts_of before)
   pub answer : call.reply ≡ reply (after net before) call.decision
   pub not_full : call.reply ≢ Full
 
 -- an event that may follow these: a higher front, at most the horizon, or a call with the right reply
 abbrev pub MayFollow : Net → List Event → Event → Type 0
-MayFollow net before (raised f) = ((after net before).front < f) × (f ≤ net.horizon)
-MayFollow net before (asked call) = IsAnswered net before call
+MayFollow net before (NewFront f) = ((after net before).front < f) × (f ≤ net.horizon)
+MayFollow net before (NewCall call) = IsRightCall net before call
 
 -- each event of a journal is so, with those before it; these come before all
 abbrev pub EachAfter : (List Event → Event → Type 0) → List Event → List Event → Type 0

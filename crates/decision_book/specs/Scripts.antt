@@ -24,14 +24,14 @@ abbrev pub calls_after : Reply → ℕ → ℕ
 calls_after Full calls = calls
 calls_after _ calls = calls + 1
 
--- how things stand after a decision; who asked makes no difference
+-- the situation after a decision; who asked makes no difference
 abbrev pub next : Situation → Decision → Situation
 next s d = record s {
   clones = clones_after_reply s.net s.clones d (reply s d);
   calls = calls_after (reply s d) s.calls;
 }
 
--- how things stand after these decisions
+-- the situation after these decisions
 abbrev pub after_all : Situation → List Decision → Situation
 after_all s ds = fold next s ds
 

@@ -42,7 +42,7 @@ impl Book {
     ghost use Rattle.std.specs.Prelude.{◌≡◌, ◌≢◌, ◌↔◌, ◌≤◌, ◌<◌, ◌++◌, ◌∷◌, [], length, OnOk, OnErr, IfOk};
     ghost use Rattle.decision_book.specs.declared.call.Reply.TheVariants.{Full};
     ghost use Rattle.decision_book.specs.declared.call.TheConstants.{MOST_CALLS};
-    ghost use Rattle.decision_book.specs.Journal.{after, asked, call_of, calls_of, fronts_of, raised};
+    ghost use Rattle.decision_book.specs.Journal.{after, NewCall, call_of, calls_of, fronts_of, NewFront};
     ghost use Rattle.decision_book.specs.Books.{journal_of, IsCallUnlessFull};
     ghost use Rattle.decision_book.specs.Replies.{reply};
     ghost use Rattle.decision_book.specs.Right.{journal_with, IsRight};
@@ -83,7 +83,7 @@ impl Book {
         ensures full { (result ≡ Full) ↔ (MOST_CALLS ≤ length (calls_of self.old.events)) }
         // and else the call is the last entry
         ensures entry { result ≢ Full →
-            self.new.events ≡ self.old.events ++ asked (call_of caller self.old.events d result) ∷ [] }
+            self.new.events ≡ self.old.events ++ NewCall (call_of caller self.old.events d result) ∷ [] }
     {
         let calls = self.calls.len();
         let reply = decide_by_table(&self.model, &mut self.lists, self.front, calls, &d);
@@ -127,7 +127,7 @@ impl Book {
         requires above { (after self.old.net self.old.events).front < front }
         requires within { front ≤ self.old.net.horizon }
         ensures ok { OnOk result (
-            self.new ≡ record self.old { events = self.old.events ++ raised front ∷ [] }) }
+            self.new ≡ record self.old { events = self.old.events ++ NewFront front ∷ [] }) }
         ensures err { OnErr result (self.new ≡ self.old) }
     {
         self.fronts.push(front)?;

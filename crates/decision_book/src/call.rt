@@ -23,7 +23,7 @@ pub enum Reply {
     Ended { at: u64 },
     /// A fork's new name is that of a clone.
     NameTaken,
-    /// A fork, and there are as many clones as there may be, 256.
+    /// A fork, and there are as many clones as there may be, [`MOST_CLONES`](sim_base::MOST_CLONES).
     TooManyClones,
     /// A set, and the station is not there.
     UnknownStation,
@@ -31,7 +31,8 @@ pub enum Reply {
     WrongParameter,
     /// A set, and a value is out of the parameter's range.
     OutOfRange,
-    /// A set, and the clone's list holds as many decisions as it may, 256.
+    /// A set, and the clone's list holds as many decisions as it may,
+    /// [`MOST_DECISIONS`](sim_base::MOST_DECISIONS).
     ListFull,
     /// The time of a set or an end is the horizon or later.
     PastHorizon,

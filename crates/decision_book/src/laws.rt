@@ -6,9 +6,9 @@ ghost use Rattle.decision_book.specs.Laws.{SituationOfJournal, PlansAreForStatio
 ghost use Rattle.decision_book.specs.Laws.{ScriptIsRight, AcceptedAdds, RefusedFirst, AcceptedGoesOn, RefusedIsFirst};
 ghost use Rattle.decision_book.specs.Laws.{AloneSuffices, OwnScriptSuffices, JournalIsScript, ClosedChangesNothing};
 
-/// How things stand after a journal, and how a decision changes that.
-#[tactic(auto, using(crate::proofs::Scripts::journal_stands, crate::proofs::Scripts::asking_is_next))]
-pub fn journals_stand()
+/// The situation after a journal, and how a decision changes it.
+#[tactic(auto, using(crate::proofs::Scripts::situation_of_journal, crate::proofs::Scripts::asking_is_next))]
+pub fn situations_of_journals()
     ensures situation { (net : Net) → SituationOfJournal net }
     ensures journal_with { (net : Net) → AskingIsNext net }
 {}
@@ -19,8 +19,7 @@ pub fn plans_are_for_stations()
     ensures { (net : Net) → PlansAreForStations net }
 {}
 
-/// Where things stand after the decisions of a script, made in order at front 0.
-#[tactic(auto, using(crate::proofs::Scripts::script_stands, crate::proofs::Scripts::script_is_right, crate::proofs::Scripts::accepted_adds, crate::proofs::Scripts::refused_first, crate::proofs::Scripts::accepted_goes_on, crate::proofs::Scripts::refused_is_first))]
+/// The situation after the decisions of a script, made in order at front 0.
 pub fn scripts_are_decided()
     ensures situation { (net : Net) → SituationOfScript net }
     ensures right { (net : Net) → ScriptIsRight net }
@@ -43,7 +42,6 @@ pub fn own_script_suffices()
 
 /// The accepted decisions of a right journal are a script that leaves the same clones, and calls at
 /// the horizon leave the clones as they are.
-#[tactic(auto, using(crate::proofs::JournalScripts::journal_is_script, crate::proofs::JournalScripts::closed_changes_nothing))]
 pub fn journals_are_scripts()
     ensures script { (net : Net) → JournalIsScript net }
     ensures closed { (net : Net) → ClosedChangesNothing net }

@@ -1,13 +1,14 @@
 -- How a pass and the helm come to their turns, and that a pass has a free place for its call's receipt.
 use Rattle.std.proofs.Common.{◌≡◌, ◌≢◌, ⊎_elim, ℕ, ◌+◌, ◌<◌, ◌≤◌, Bool, true, false}
-use Rattle.std.proofs.Common.{List, [], ◌∷◌, ◌++◌, length, Some, None, sym, refl, ap}
-use Rattle.std.proofs.Common.{◌∙◌, subst, arith, map, true≢false, is_some, if◌then◌else◌, nat_eq, suc}
+use Rattle.std.proofs.Common.{List, [], ◌∷◌, ◌++◌, length, Some, None, sym, ap}
+use Rattle.std.proofs.Common.{◌∙◌, subst, arith, true≢false, is_some, if◌then◌else◌, nat_eq, suc}
+use Rattle.std.proofs.lemmas.List.{length-map}
 use Rattle.atomic_table.specs.Table.{Me}
 use Rattle.sim_base.specs.declared.decision.Decision.{Decision}
 use Rattle.decision_book.specs.declared.call.Call.{Call}
 use Rattle.decision_book.specs.declared.call.TheConstants.{MOST_CALLS}
 use Rattle.decision_book.specs.declared.call.Reply.TheVariants.{Full}
-use Rattle.decision_book.specs.Journal.{call_of, Event, asked, calls_of}
+use Rattle.decision_book.specs.Journal.{call_of, Event, NewCall, calls_of}
 use Rattle.decision_desk.specs.declared.view.View.{View}
 use Rattle.decision_desk.specs.declared.pass.Receipt.{Receipt}
 use Rattle.sim_base.specs.Reserved.{ReservedView}
@@ -15,8 +16,10 @@ use Rattle.atomic_table.specs.Seated.{TableId}
 use Rattle.decision_desk.specs.Accounts.{Account, AreAccounts, Begins, OnlyCalls, front_of, calls_from, calls_by}
 use Rattle.decision_desk.specs.Turns.{Slot, IsWaiting, book_of, view_with_turn, pass_view, helm_view}
 use Rattle.decision_desk.specs.Turns.{with_call, full_account}
-use Rattle.decision_desk.specs.Passes.{first_account, turn_view, IsHelmAtRest, HelmHasTurn, HasTurn, IsTurn}
+use Rattle.decision_desk.specs.Passes.{first_account, turn_view, IsHelmAtRest, HelmHasTurn, PassHasTurn, IsPassTurn}
 use Rattle.decision_desk.specs.Passes.{IsPass, receipt_of}
+
+-- ---- PassHasTurn
 
 -- what a seat has: its view, and the slots that are out with it
 abbrev Hand : Type 0
@@ -29,7 +32,7 @@ pub waits_with_ticket : (m m1 : Hand) (a : Account) (t : ℕ) → m ≡ (pass_vi
 waits_with_ticket m m1 a t rest drew = drew ∙ ap (λ (x : Hand). (view_with_turn x.0 true t false x.0.seen, x.1)) rest
 
 -- once it is served, it has the turn, sees the journal as it then stands, and carries the book
-pub comes_to_turn : (m m1 m2 : Hand) (a : Account) (t : ℕ) (j : List Event) → m ≡ (pass_view m.0.net m.0.seen a, [])
+comes_to_turn : (m m1 m2 : Hand) (a : Account) (t : ℕ) (j : List Event) → m ≡ (pass_view m.0.net m.0.seen a, [])
     → m1 ≡ (view_with_turn m.0 true t false m.0.seen, m.1)
     → m2 ≡ (view_with_turn m1.0 true m1.0.ticket true j, (0, book_of m1.0.net j) ∷ m1.1)
     → m2 ≡ (turn_view m.0.net j a t, (0, book_of m.0.net j) ∷ [])
@@ -42,7 +45,7 @@ pub has_turn : (m m1 m2 : Hand) (a : Account) (t : ℕ) (j : List Event) → m �
     → m1 ≡ (view_with_turn m.0 true t false m.0.seen, m.1)
     → Begins m1.0.seen j → length (calls_of j) ≤ MOST_CALLS → AreAccounts j m1.0.accounts
     → m2 ≡ (view_with_turn m1.0 true m1.0.ticket true j, (0, book_of m1.0.net j) ∷ m1.1)
-    → front_of m1.0.seen ≤ front_of j → HasTurn m.0.net m.0.seen a m2 j
+    → front_of m1.0.seen ≤ front_of j → PassHasTurn m.0.net m.0.seen a m2 j
 has_turn m m1 m2 a t j rest drew begins few right turn rises =
     let e = waits_with_ticket m m1 a t rest drew in
     record {
@@ -54,13 +57,16 @@ has_turn m m1 m2 a t j rest drew begins few right turn rises =
       is = comes_to_turn m m1 m2 a t j rest drew turn;
     }
 
+-- ---- IsPass
+
+-- a list that may have a call more is at most one longer
 short_or : (b : Bool) (n : ℕ) (c : Call) (xs : List (ℕ × Call)) (k : ℕ) → length xs ≤ k
     → length (if b then (n, c) ∷ xs else xs) ≤ k + 1
 short_or true n c xs k h = omega (arith, h)
 short_or false n c xs k h = omega (arith, h)
 
 -- a caller has no more calls than there are
-pub by_short : (x n : ℕ) (cs : List Call) → length (calls_from x n cs) ≤ length cs
+by_short : (x n : ℕ) (cs : List Call) → length (calls_from x n cs) ≤ length cs
 by_short x n [] = omega arith
 by_short x n (c ∷ cs) =
     let h = short_or (nat_eq c.caller x) n c (calls_from x (n + 1) cs) (length cs) (by_short x (n + 1) cs) in
@@ -68,30 +74,28 @@ by_short x n (c ∷ cs) =
     subst (λ k. length (if nat_eq c.caller x then (n, c) ∷ calls_from x (n + 1) cs else calls_from x (n + 1) cs) ≤ k)
     e h
 
-map_length : (ps : List (ℕ × Call)) → length (map receipt_of ps) ≡ length ps
-map_length [] = refl
-map_length (p ∷ ps) = ap suc (map_length ps)
-
 -- a pass has a free place for the receipt of a call that is in the journal
 pub places_left : (caller : ℕ) (receipts : ReservedView Receipt) (desk : TableId) (m new : Hand) (d : Decision)
     (receipt : Receipt) (j : List Event)
-    → IsPass caller receipts desk m → IsTurn m.0.net m.0.seen (first_account m.0.accounts) d receipt new j
+    → IsPass caller receipts desk m → IsPassTurn m.0.net m.0.seen (first_account m.0.accounts) d receipt new j
     → is_some receipt.entry ≡ true → length receipts.items < receipts.reserved
 places_left caller receipts desk m new d receipt j p t some_entry = ⊎_elim
     (λ (h : (receipt.reply ≢ Full) × (receipt.entry ≡ Some (length (calls_of j))) × (length (calls_of j) < MOST_CALLS)
     × (new ≡ (
-      pass_view m.0.net (j ++ asked (call_of (first_account m.0.accounts).caller j d receipt.reply) ∷ [])
+      pass_view m.0.net (j ++ NewCall (call_of (first_account m.0.accounts).caller j d receipt.reply) ∷ [])
           (with_call (first_account m.0.accounts) j (call_of (first_account m.0.accounts).caller j d receipt.reply)),
       [],
     ))).
     let a = first_account m.0.accounts in
-    let items : length receipts.items ≡ length a.calls = ap length p.receipts_are ∙ map_length a.calls in
+    let items : length receipts.items ≡ length a.calls = ap length p.receipts_are ∙ length-map a.calls receipt_of in
     let own : length a.calls ≡ length (calls_by a.caller j) = ap length t.right.0.calls in
     omega (arith, items, own, by_short a.caller 0 (calls_of j), h.2, p.reserved))
     (λ (h : (receipt.reply ≡ Full) × (receipt.entry ≡ None) × (length (calls_of j) ≡ MOST_CALLS)
     × (new ≡ (pass_view m.0.net j (full_account (first_account m.0.accounts)), []))).
     absurd (true≢false (sym some_entry ∙ ap is_some h.1)))
     t.outcome
+
+-- ---- HelmHasTurn
 
 -- a helm at rest that has drawn a ticket waits with it, without the turn
 helm_waits_with_ticket : (m m1 : Hand) (t : ℕ)

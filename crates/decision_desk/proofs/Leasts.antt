@@ -1,9 +1,11 @@
 -- The least times that are due in the clones, after accepted calls.
 use Rattle.std.proofs.Common.{◌≡◌, ⊎_elim, ℕ, zero, suc, ◌+◌, ◌<◌, ◌≤◌, min, Bool, true, false, cond, List, [], ◌∷◌}
-use Rattle.std.proofs.Common.{◌++◌, map, length, Option, Some, None, Result, Ok, Err, option_map, is_none, unwrap_or}
+use Rattle.std.proofs.Common.{◌++◌, map, length, Option, Some, None, option_map, is_none, unwrap_or}
 use Rattle.std.proofs.Common.{slice_get, slice_set, nat_lt, nat_le, refl, sym, ap, ◌∙◌, subst, arith, fold, take, drop}
 use Rattle.std.proofs.Common.{◌-◌, length-append}
-use Rattle.std.proofs.lemmas.List.{map_push, map-set}
+use Rattle.std.proofs.Math.Seq.{drop-append_seam, take-append_seam}
+use Rattle.std.proofs.lemmas.List.{length-map, map_push, map-set}
+use Rattle.std.proofs.lemmas.List.Sums.{fold-append}
 use Rattle.std.proofs.lemmas.Option.{slice_get-map, slice_get-get_or, unwrap_or-slice_get}
 use Rattle.std.specs.Str.{bytes_eq}
 use Rattle.sim_base.specs.declared.decision.Decision.{Decision}
@@ -12,10 +14,7 @@ use Rattle.sim_base.specs.Clones.{Clone, clone_at, place_of, nobody, fork_of, wi
 use Rattle.sim_base.specs.Decisions.{subject}
 use Rattle.sim_base.specs.declared.message.Change.{Change}
 use Rattle.sim_base.specs.declared.lists.TheConstants.{MOST_DECISIONS}
-use Rattle.stations.specs.declared.change.ChangeFault.{ChangeFault}
-use Rattle.stations.specs.declared.change.ChangeFault.TheVariants as refused
-use Rattle.stations.specs.Changes.{accepts}
-use Rattle.net_model.specs.Net.{Net, station_named, site_of}
+use Rattle.net_model.specs.Net.{Net, station_named}
 use Rattle.net_model.specs.Rules.{IsNet}
 use Rattle.run_laws.specs.Fronts.{earlier, least_of, least, window_end, next_front}
 use Rattle.run_laws.specs.Runs.{end_of}
@@ -24,26 +23,27 @@ use Rattle.run_laws.proofs.NextFronts.{next_front-rises, window_end-within}
 use Rattle.stations.specs.Runs.{simulation}
 use Rattle.stations.proofs.GoodLaws.{lawful-stations}
 use Rattle.decision_book.specs.declared.call.Call.{Call}
-use Rattle.decision_book.specs.declared.call.Reply.{Reply}
-use Rattle.decision_book.specs.declared.call.Reply.TheVariants.{Accepted, PastHorizon, Late, UnknownStation, ListFull}
-use Rattle.decision_book.specs.Journal.{Event, Situation, asked, raised, after, after_event}
+use Rattle.decision_book.specs.declared.call.Reply.TheVariants.{Accepted, UnknownStation, ListFull}
+use Rattle.decision_book.specs.Journal.{Event, Situation, NewCall, NewFront, after, after_event}
 use Rattle.decision_book.specs.Journal.{outset, clones_after, if_accepted, clone_place, plan_of_set, calls_of}
-use Rattle.decision_book.specs.Replies.{row, first_row, rows, reply, time_rows, fault_row, change_row}
+use Rattle.decision_book.specs.Replies.{row, first_row, rows, reply, time_rows, change_row}
 use Rattle.decision_book.specs.Right.{IsRight, MayFollow, EachAfter}
 use Rattle.decision_book.specs.Scripts.{accepted_onto, accepted_of}
-use Rattle.decision_book.proofs.AloneLaw.{opened, IsOpen}
-use Rattle.decision_book.proofs.ClonesByName.{place_of-cons}
-use Rattle.decision_book.proofs.JournalScripts.{Passes, kind_of, fold_append, each_later, net_stays}
+use Rattle.decision_book.proofs.ClonesByName.{place_of-bounds, place_of-cons}
+use Rattle.decision_book.proofs.Growing.{calls_of-push_calls}
+use Rattle.decision_book.proofs.JournalScripts.{ChangesNothing, accepted_or_refused, each_later, net_stays}
+use Rattle.decision_book.proofs.Rows.{IsOpen, IsOpen-accepted, first_row-Accepted, first_row-change, first_row-times}
 use Rattle.decision_desk.specs.Accounts.{front_of, front_from}
 use Rattle.decision_desk.specs.Leasts.{leasts_of, earliest, leasts_with, leasts_with_at, leasts_with_calls}
 use Rattle.decision_desk.specs.Leasts.{helm_at, calls_at}
-use Rattle.decision_desk.specs.Passes.{IsSince, IsTurnAhead, IsGoneOn}
+use Rattle.decision_desk.specs.Passes.{IsSince, IsTurnAhead, IsHelmTurn}
 use Rattle.decision_desk.specs.declared.helm.Turn.{Turn}
 use Rattle.decision_desk.proofs.Journals.{front_calls}
 use Rattle.decision_book.specs.Books.{BookView}
 
--- ---- places
+-- ---- place_of
 
+-- a place stays behind the first where it stays among the others
 found_on : (b : Bool) (o p : Option ℕ) (i : ℕ) → ((k : ℕ) → o ≡ Some k → p ≡ Some k)
     → cond b (Some 0) (option_map (λ n. suc n) o) ≡ Some i → cond b (Some 0) (option_map (λ n. suc n) p) ≡ Some i
 found_on true o p i f e = e
@@ -77,81 +77,49 @@ place_of-decided net m cs (End who at) i e = place_of-set m cs (clone_place who 
 
 -- so do calls
 place_of-calls : (m : List ℕ) (s : Situation) (calls : List Call) (i : ℕ) → place_of m s.clones ≡ Some i
-    → place_of m (fold after_event s (map asked calls)).clones ≡ Some i
+    → place_of m (fold after_event s (map NewCall calls)).clones ≡ Some i
 place_of-calls m s [] i e = e
-place_of-calls m s (c ∷ cs) i e = place_of-calls m (after_event s (asked c)) cs i (⊎_elim
+place_of-calls m s (c ∷ cs) i e = place_of-calls m (after_event s (NewCall c)) cs i (⊎_elim
     (λ (h : c.reply ≡ Accepted). ap
     (λ r. place_of m (if_accepted r (clones_after s.net s.clones c.decision) s.clones)) h
     ∙ place_of-decided s.net m s.clones c.decision i e)
-    (λ (h : Passes c.reply). ap (place_of m) (h.1 (clones_after s.net s.clones c.decision) s.clones) ∙ e)
-    (kind_of c.reply))
+    (λ (h : ChangesNothing c.reply). ap (place_of m) (h.1 (clones_after s.net s.clones c.decision) s.clones) ∙ e)
+    (accepted_or_refused c.reply))
 
--- ---- one decision
+-- ---- first_row
 
 -- the time of an accepted set or end
 abbrev IsTimely : Situation → ℕ → Type 0
 IsTimely s at = (s.front ≤ at) × (at < s.net.horizon)
 
-timely : (s : Situation) (at : ℕ) → first_row (time_rows s.net s.front at) ≡ Accepted → IsTimely s at
-timely s at h = by (nat_le s.net.horizon at) (nat_lt at s.front) refl refl h
-  where
-    by : (b c : Bool) → b ≡ nat_le s.net.horizon at → c ≡ nat_lt at s.front
-        → first_row (row b PastHorizon ∷ row c (Late s.front) ∷ []) ≡ Accepted → IsTimely s at
-    by true c e d h = absurd cc
-    by false true e d h = absurd cc
-    by false false e d h = (grind (arith, d), grind (arith, e))
-
-skip_row : (b : Bool) (r : Reply) (more : List (Option Reply)) → (r ≡ Accepted → ⊥)
-    → first_row (row b r ∷ more) ≡ Accepted → first_row more ≡ Accepted
-skip_row true r more other h = absurd (other h)
-skip_row false r more other h = h
-
-skip_fault : (f : Result (Unit {0}) ChangeFault) (more : List (Option Reply))
-    → first_row (fault_row f ∷ more) ≡ Accepted → first_row more ≡ Accepted
-skip_fault (Ok u) more h = h
-skip_fault (Err refused.WrongParameter) more h = absurd cc
-skip_fault (Err refused.OutOfRange) more h = absurd cc
-
-skip_change : (net : Net) (o : Option ℕ) (change : Change) (more : List (Option Reply))
-    → first_row (change_row net o change ∷ more) ≡ Accepted → first_row more ≡ Accepted
-skip_change net None change more h = h
-skip_change net (Some s) change more h = skip_fault (accepts (site_of net s) change) more h
-
+-- the time of a set that is accepted
 timely_set : (s : Situation) (clone : ℕ) (who : List ℕ) (at : ℕ) (station : List ℕ) (change : Change)
     → first_row (rows s clone (Set who at station change)) ≡ Accepted → IsTimely s at
 timely_set s clone who at station change h =
     let full = row (nat_le MOST_DECISIONS (length (clone_at s.clones clone).plans)) ListFull in
     let times = time_rows s.net s.front at in
-    let one = skip_row (is_none (station_named station s.net)) UnknownStation
+    let one = first_row-Accepted (is_none (station_named station s.net)) UnknownStation
     (change_row s.net (station_named station s.net) change ∷ full ∷ times) (λ e. cc) h in
-    let two = skip_change s.net (station_named station s.net) change (full ∷ times) one in
-    timely s at (skip_row (nat_le MOST_DECISIONS (length (clone_at s.clones clone).plans)) ListFull times (λ e. cc) two)
+    let two = first_row-change s.net (station_named station s.net) change (full ∷ times) one.1 in
+    let three = first_row-Accepted (nat_le MOST_DECISIONS (length (clone_at s.clones clone).plans)) ListFull times
+    (λ e. cc) two in
+    first_row-times s.net s.front at three.1
 
-some_is : (a b : ℕ) → Some a ≡ Some b → a ≡ b
-some_is a b e = ap {B = ℕ} (λ o. unwrap_or o 0) e
+-- ---- leasts_with
 
--- a clone that has a place is there
-inside : (m : List ℕ) (cs : List Clone) (i : ℕ) → place_of m cs ≡ Some i → i < length cs
-inside m [] i e = absurd cc
-inside m (c ∷ cs) i e = by (bytes_eq c.name m) (place_of m cs) (λ k h. inside m cs k h) (sym (place_of-cons m c cs) ∙ e)
-  where
-    by : (b : Bool) (o : Option ℕ) → ((k : ℕ) → o ≡ Some k → k < length cs)
-        → cond b (Some 0) (option_map (λ n. suc n) o) ≡ Some i → i < length (c ∷ cs)
-    by true o f e = omega (arith, some_is 0 i e)
-    by false None f e = absurd cc
-    by false (Some k) f e = omega (arith, some_is (suc k) i e, f k refl)
-
+-- the least time of the clone at a place
 least_at : (net : Net) (front : ℕ) (cs : List Clone) (i : ℕ) → i < length cs
     → slice_get (leasts_of net cs front) i ≡ Some (least_of (simulation net) (clone_at cs i) front)
 least_at net front cs i lt = slice_get-map (λ c. least_of (simulation net) c front) cs i
     ∙ ap (option_map (λ c. least_of (simulation net) c front)) (slice_get-get_or cs i nobody lt
     ∙ ap (λ (k : Clone). Some k) (sym (unwrap_or-slice_get cs i nobody)))
 
--- an accepted decision changes the least times so
+-- the least times become those of the clones that a decision leaves
 abbrev Changes : Situation → ℕ → Decision → Type 0
 Changes s p d = leasts_with_at p (Some (least_of (simulation s.net) (clone_at s.clones p) s.front))
     (leasts_of s.net s.clones s.front) d ≡ leasts_of s.net (clones_after s.net s.clones d) s.front
 
+-- a fork begins with the least time of its origin
 changes_fork : (s : Situation) (p : ℕ) (new old : List ℕ) → clone_place old s.clones ≡ p
     → (clone_at s.clones p).end ≡ None → Changes s p (Fork new old)
 changes_fork s p new old place going =
@@ -161,6 +129,7 @@ changes_fork s p new old place going =
     ∙ ap (λ t. map L s.clones ++ t ∷ [])
     (ap (λ i. L (k i)) place ∙ least_of-fork (simulation s.net) (clone_at s.clones p) new s.front going))
 
+-- a set makes it the lesser of it and its own time
 changes_set : (s : Situation) (p : ℕ) (who : List ℕ) (at : ℕ) (station : List ℕ) (change : Change) → IsNet s.net
     → clone_place who s.clones ≡ p → (clone_at s.clones p).end ≡ None → IsTimely s at
     → Changes s p (Set who at station change)
@@ -178,6 +147,7 @@ changes_set s p who at station change valid place going time =
     sym (ap (λ i. map L (slice_set s.clones i (with_plan (clone_at s.clones i) plan))) place
     ∙ (map-set L s.clones p (with_plan k plan) ∙ ap (λ t. slice_set (map L s.clones) p t) new))
 
+-- an end drops it where it is not below the end
 changes_end : (s : Situation) (p : ℕ) (who : List ℕ) (at : ℕ) → IsNet s.net → clone_place who s.clones ≡ p
     → (clone_at s.clones p).end ≡ None → IsTimely s at → Changes s p (End who at)
 changes_end s p who at valid place going time =
@@ -190,78 +160,85 @@ changes_end s p who at valid place going time =
     ∙ (map-set L s.clones p (with_end k at) ∙ ap (λ t. slice_set (map L s.clones) p t)
     (least_of-with_end (lawful-stations s.net valid) k at s.front time.0 within)))
 
+-- an accepted decision changes the least times so
 changes : (s : Situation) (d : Decision) → IsNet s.net → (o : IsOpen s d) → Changes s o.clone d
 changes s (Fork new old) valid o = changes_fork s o.clone new old (ap (λ q. unwrap_or q 0) o.place) o.going
 changes s (Set who at station change) valid o =
     changes_set s o.clone who at station change valid (ap (λ q. unwrap_or q 0) o.place) o.going
     (timely_set s o.clone who at station change o.rest)
 changes s (End who at) valid o = changes_end s o.clone who at valid (ap (λ q. unwrap_or q 0) o.place) o.going
-    (timely s at o.rest)
+    (first_row-times s.net s.front at o.rest)
 
--- ---- calls
+-- ---- leasts_with_calls
 
 -- the least times after calls, where the clones are these at last
 leasts_with_calls-accepted : (net : Net) (before : List Event) (cs : List Call) (s : Situation) (all : List Clone)
-    → IsNet s.net → after net before ≡ s → EachAfter (MayFollow net) before (map asked cs)
-    → all ≡ (fold after_event s (map asked cs)).clones
+    → IsNet s.net → after net before ≡ s → EachAfter (MayFollow net) before (map NewCall cs)
+    → all ≡ (fold after_event s (map NewCall cs)).clones
     → leasts_with_calls all (leasts_of s.net s.clones s.front) (accepted_of cs) ≡ leasts_of s.net all s.front
 leasts_with_calls-accepted net before [] s all valid is right end = ap (λ cl. leasts_of s.net cl s.front) (sym end)
 leasts_with_calls-accepted net before (c ∷ cs) s all valid is right end =
     let d = c.decision in
     let ts = leasts_of s.net s.clones s.front in
-    let then = fold_append (outset net) before (asked c ∷ []) ∙ ap (λ (x : Situation). after_event x (asked c)) is in
+    let then = fold-append after_event (outset net) before (NewCall c ∷ [])
+    ∙ ap (λ (x : Situation). after_event x (NewCall c)) is in
     let answer : c.reply ≡ reply s d = right.0.answer ∙ ap (λ (x : Situation). reply x d) is in
-    let more = leasts_with_calls-accepted net (before ++ asked c ∷ []) cs (after_event s (asked c)) all valid then
+    let more = leasts_with_calls-accepted net (before ++ NewCall c ∷ []) cs (after_event s (NewCall c)) all valid then
     right.1 end in
     ⊎_elim
     (λ (h : c.reply ≡ Accepted).
-    let o = opened s d (sym answer ∙ h) in
+    let o = IsOpen-accepted s d (sym answer ∙ h) in
     let place : place_of (subject d) all ≡ Some o.clone = ap (place_of (subject d)) end
     ∙ place_of-calls (subject d) s (c ∷ cs) o.clone o.place in
     let one : leasts_with (place_of (subject d) all) ts d ≡ leasts_of s.net (clones_after s.net s.clones d) s.front =
     ap (λ q. leasts_with q ts d) place
     ∙ (ap (λ t. leasts_with_at o.clone t ts d)
-    (least_at s.net s.front s.clones o.clone (inside (subject d) s.clones o.clone o.place))
+    (least_at s.net s.front s.clones o.clone (place_of-bounds (subject d) s.clones o.clone o.place))
     ∙ changes s d valid o) in
     ap (λ r. leasts_with_calls all ts (accepted_onto r c (accepted_of cs))) h
     ∙ (ap (λ us. leasts_with_calls all us (accepted_of cs))
     (one ∙ sym (ap (λ r. leasts_of s.net (if_accepted r (clones_after s.net s.clones d) s.clones) s.front) h))
     ∙ more))
-    (λ (h : Passes c.reply).
+    (λ (h : ChangesNothing c.reply).
     ap (leasts_with_calls all ts) (h.0 c (accepted_of cs))
     ∙ (ap (λ cl. leasts_with_calls all (leasts_of s.net cl s.front) (accepted_of cs))
     (sym (h.1 (clones_after s.net s.clones d) s.clones)) ∙ more))
-    (kind_of c.reply)
+    (accepted_or_refused c.reply)
+
+-- ---- front_of
 
 -- the front after events is the last that was raised in them, or the one before them
 front-fold : (s : Situation) (es : List Event) → (fold after_event s es).front ≡ front_from s.front es
 front-fold s [] = refl
-front-fold s (raised f ∷ es) = front-fold (after_event s (raised f)) es
-front-fold s (asked c ∷ es) = front-fold (after_event s (asked c)) es
+front-fold s (NewFront f ∷ es) = front-fold (after_event s (NewFront f)) es
+front-fold s (NewCall c ∷ es) = front-fold (after_event s (NewCall c)) es
 
 -- the front after a journal is the last that was raised in it, or 0
 pub front_is : (net : Net) (es : List Event) → (after net es).front ≡ front_of es
 front_is net es = front-fold (outset net) es
 
+-- ---- leasts_with_calls, behind a journal
+
 -- the least times after the calls since the helm's last turn
-pub leasts_after : (net : Net) (helm : List Event) (cs : List Call) → IsNet net → IsRight net (helm ++ map asked cs)
-    → leasts_with_calls (after net (helm ++ map asked cs)).clones
+leasts_after : (net : Net) (helm : List Event) (cs : List Call) → IsNet net → IsRight net (helm ++ map NewCall cs)
+    → leasts_with_calls (after net (helm ++ map NewCall cs)).clones
     (leasts_of net (after net helm).clones (front_of helm)) (accepted_of cs)
-    ≡ leasts_of net (after net (helm ++ map asked cs)).clones (front_of helm)
+    ≡ leasts_of net (after net (helm ++ map NewCall cs)).clones (front_of helm)
 leasts_after net helm cs valid right =
     let s = after net helm in
-    let all = (after net (helm ++ map asked cs)).clones in
+    let all = (after net (helm ++ map NewCall cs)).clones in
     let same : s.net ≡ net = net_stays (outset net) helm in
     let l = leasts_with_calls-accepted net helm cs s all (subst (λ n. IsNet n) (sym same) valid) refl
-    (each_later (MayFollow net) [] helm (map asked cs) right)
-    (ap (λ (x : Situation). x.clones) (fold_append (outset net) helm (map asked cs))) in
+    (each_later (MayFollow net) [] helm (map NewCall cs) right)
+    (ap (λ (x : Situation). x.clones) (fold-append after_event (outset net) helm (map NewCall cs))) in
     subst (λ f. leasts_with_calls all (leasts_of net s.clones f) (accepted_of cs) ≡ leasts_of net all f)
     (front_is net helm)
     (subst (λ n. leasts_with_calls all (leasts_of n s.clones s.front) (accepted_of cs) ≡ leasts_of n all s.front)
     same l)
 
--- ---- the earliest of all
+-- ---- earliest
 
+-- the least time of all clones is the earliest of theirs
 least-earliest : (net : Net) (cs : List Clone) (front : ℕ)
     → least (simulation net) cs front ≡ earliest (leasts_of net cs front)
 least-earliest net [] front = refl
@@ -279,61 +256,49 @@ pub earlier_none : (a : Option ℕ) → earlier a None ≡ a
 earlier_none None = refl
 earlier_none (Some a) = refl
 
+-- ---- next_front
+
 -- the front that ends the window of these least times
-pub next_is : (net : Net) (helm : List Event) (cs : List Call) → IsNet net → IsRight net (helm ++ map asked cs)
+next_is : (net : Net) (helm : List Event) (cs : List Call) → IsNet net → IsRight net (helm ++ map NewCall cs)
     → window_end (simulation net) (earliest
-    (leasts_with_calls (after net (helm ++ map asked cs)).clones (leasts_of net (after net helm).clones (front_of helm))
-    (accepted_of cs)))
-    ≡ next_front (simulation net) (after net (helm ++ map asked cs)).clones (front_of helm)
+    (leasts_with_calls (after net (helm ++ map NewCall cs)).clones
+    (leasts_of net (after net helm).clones (front_of helm)) (accepted_of cs)))
+    ≡ next_front (simulation net) (after net (helm ++ map NewCall cs)).clones (front_of helm)
 next_is net helm cs valid right = ap (λ t. window_end (simulation net) t)
     (ap earliest (leasts_after net helm cs valid right)
-    ∙ sym (least-earliest net (after net (helm ++ map asked cs)).clones (front_of helm)))
+    ∙ sym (least-earliest net (after net (helm ++ map NewCall cs)).clones (front_of helm)))
 
 -- it is later than a front below the horizon
-pub next_is-later : (net : Net) (cs : List Clone) (front : ℕ) → IsNet net → front < net.horizon
+next_is-later : (net : Net) (cs : List Clone) (front : ℕ) → IsNet net → front < net.horizon
     → front < next_front (simulation net) cs front
 next_is-later net cs front valid below = next_front-rises (lawful-stations net valid) cs front valid.ahead below
 
 -- and it is not past the horizon
-pub next_is-within : (net : Net) (cs : List Clone) (front : ℕ) → next_front (simulation net) cs front ≤ net.horizon
+next_is-within : (net : Net) (cs : List Clone) (front : ℕ) → next_front (simulation net) cs front ≤ net.horizon
 next_is-within net cs front = window_end-within (simulation net) (least (simulation net) cs front)
 
--- the calls since the helm's last turn
-pub calls_since : (helm : List Event) (cs : List Call) → calls_of (helm ++ map asked cs) ≡ calls_of helm ++ cs
-calls_since [] [] = refl
-calls_since [] (c ∷ cs) = ap (λ l. c ∷ l) (calls_since [] cs)
-calls_since (raised f ∷ es) cs = calls_since es cs
-calls_since (asked c ∷ es) cs = ap (λ l. c ∷ l) (calls_since es cs)
+-- ---- helm_at, calls_at
 
 -- the journal as it stood when so many calls were known is the one that only calls follow
-pub helm_and_calls_at : (es helm : List Event) (cs : List Call) (known : ℕ) → es ≡ helm ++ map asked cs
+helm_and_calls_at : (es helm : List Event) (cs : List Call) (known : ℕ) → es ≡ helm ++ map NewCall cs
     → known ≡ length (calls_of helm) → (helm_at known es ≡ helm) × (calls_at known es ≡ cs)
 helm_and_calls_at es helm cs known is count =
-    let calls : calls_of es ≡ calls_of helm ++ cs = ap calls_of is ∙ calls_since helm cs in
+    let calls : calls_of es ≡ calls_of helm ++ cs = ap calls_of is ∙ calls_of-push_calls helm cs in
     let longer : length (calls_of es) ≡ length (calls_of helm) + length cs =
     ap length calls ∙ length-append (calls_of helm) cs in
     let all : length es ≡ length helm + length cs =
-    ap length is ∙ (length-append helm (map asked cs) ∙ ap (λ n. length helm + n) (as_many cs)) in
+    ap length is ∙ (length-append helm (map NewCall cs) ∙ ap (λ n. length helm + n) (length-map cs NewCall)) in
     let n : length es - (length (calls_of es) - known) ≡ length helm = omega (arith, longer, all, count) in (
-      ap (λ k. take k es) n ∙ (ap (take (length helm)) is ∙ take_first helm (map asked cs)),
-      ap (λ k. drop k (calls_of es)) count ∙ (ap (drop (length (calls_of helm))) calls ∙ drop_first (calls_of helm) cs),
+      ap (λ k. take k es) n ∙ (ap (take (length helm)) is ∙ take-append_seam helm (map NewCall cs)),
+      ap (λ k. drop k (calls_of es)) count
+          ∙ (ap (drop (length (calls_of helm))) calls ∙ drop-append_seam (calls_of helm) cs),
     )
-  where
-    as_many : (cs : List Call) → length (map {B = Event} (λ c. asked c) cs) ≡ length cs
-    as_many [] = refl
-    as_many (c ∷ cs) = ap (λ n. suc n) (as_many cs)
 
-    take_first : {X : Type 0} (xs ys : List X) → take (length xs) (xs ++ ys) ≡ xs
-    take_first [] ys = refl
-    take_first (x ∷ xs) ys = ap (λ l. x ∷ l) (take_first xs ys)
-
-    drop_first : {X : Type 0} (xs ys : List X) → drop (length xs) (xs ++ ys) ≡ ys
-    drop_first [] ys = refl
-    drop_first (x ∷ xs) ys = drop_first xs ys
+-- ---- IsTurnAhead
 
 -- what the helm's next turn will give, behind a journal that is only calls behind another
 turn_ahead : (b : BookView) (helm : List Event) (cs fresh : List Call) (known front : ℕ) (least ts : List (Option ℕ))
-    (all : List Clone) → b.events ≡ helm ++ map asked cs → known ≡ length (calls_of helm)
+    (all : List Clone) → b.events ≡ helm ++ map NewCall cs → known ≡ length (calls_of helm)
     → front_of helm < b.net.horizon → least ≡ leasts_of b.net (after b.net helm).clones (front_of helm) → IsNet b.net
     → IsRight b.net b.events
     → fresh ≡ accepted_of (drop known (calls_of b.events)) → all ≡ (after b.net b.events).clones
@@ -390,16 +355,18 @@ pub known_calls : (b : BookView) (known : ℕ) (least : List (Option ℕ)) → I
 known_calls b known least s = omega (
   arith,
   s.known_is,
-  ap length (ap calls_of s.events ∙ calls_since s.helm s.calls)
+  ap length (ap calls_of s.events ∙ calls_of-push_calls s.helm s.calls)
       ∙ length-append (calls_of s.helm) s.calls,
 )
 
+-- ---- IsHelmTurn
+
 -- the book after a turn of the helm
-pub is_gone_on : (old new : BookView) (known : ℕ) (turn : Turn) (helm : List Event) (cs : List Call)
-    → old.events ≡ helm ++ map asked cs → known ≡ length (calls_of helm)
+pub is_helm_turn : (old new : BookView) (known : ℕ) (turn : Turn) (helm : List Event) (cs : List Call)
+    → old.events ≡ helm ++ map NewCall cs → known ≡ length (calls_of helm)
     → IsTurnAhead old (helm_at known old.events) (calls_at known old.events) turn.fresh.items turn.front
-    → new ≡ record old { events = old.events ++ raised turn.front ∷ [] } → IsGoneOn old helm cs turn new
-is_gone_on old new known turn helm cs is count a then =
+    → new ≡ record old { events = old.events ++ NewFront turn.front ∷ [] } → IsHelmTurn old helm cs turn new
+is_helm_turn old new known turn helm cs is count a then =
     let p = helm_and_calls_at old.events helm cs known is count in
     record {
       fresh = a.fresh_is ∙ ap accepted_of p.1;

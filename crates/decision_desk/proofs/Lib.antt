@@ -4,3 +4,4 @@ pub mod Restings
 pub mod Legals
 pub mod Comings
 pub mod Leasts
+pub mod NewPasses

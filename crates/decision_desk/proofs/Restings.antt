@@ -2,9 +2,9 @@
 use Rattle.std.proofs.Common.{◌≡◌, ◌≢◌, ℕ, zero, suc, ◌+◌, ◌-◌, ◌%◌, ◌^◌, ◌<◌, ◌≤◌, true}
 use Rattle.std.proofs.Common.{false, true≢false, List, [], ◌∷◌, ◌++◌, length, set, sym, refl, ap, ◌∙◌}
 use Rattle.std.proofs.Common.{subst, ⊎_elim, inl, inr, arith, slice_index, slice_set, Some}
-use Rattle.std.specs.Prelude.{None}
 use Rattle.std.proofs.Math.Nat.{mod-add-mod}
 use Rattle.std.proofs.lemmas.Bool.{cases_eq}
+use Rattle.std.proofs.lemmas.Option.{same_Some}
 use mathlib.Core.Option.{Option, some, none, some-ne-none, some-injective}
 use lib.ListN.{get_elem?}
 use Rattle.atomic_table.specs.Table.{Me, Allows, carried_after, Splits, Joins, opening, Final, Seen, rest, keeps, gives}
@@ -16,19 +16,21 @@ use Rattle.decision_desk.specs.declared.desk.TheConstants.{ALL_PARTS}
 use Rattle.decision_desk.specs.declared.view.View.{View}
 use Rattle.atomic_table.specs.Seated.{TableId}
 use Rattle.decision_book.specs.Books.{BookView}
-use Rattle.decision_desk.specs.Passes.{HelmView, view_of_helm, IsClosed}
+use Rattle.decision_desk.specs.Passes.{HelmView, view_of_helm, IsFinalBook}
 use Rattle.decision_desk.specs.Accounts.{Account, AreAccounts, IsAccount, accounts_of}
 use Rattle.decision_desk.specs.Accounts.{calls_by, front_of, Begins, OnlyCalls}
 use Rattle.decision_desk.specs.Turns.{Slot, book_of, total, ticket_count, has_ticket, has_caller, Fits}
 use Rattle.decision_desk.specs.Turns.{EachFits, NoTurn, BookIsHomeOrInTurn, OneHelm, IsDesk, view_with_turn}
 use Rattle.decision_desk.specs.Turns.{new_account, pass_view, helm_view, spent_view, view_after_look, full_account}
 use Rattle.decision_desk.specs.Turns.{HasSeenFront, HasEndedFullTurn}
-use Rattle.decision_desk.proofs.Journals.{begins_refl, seen_front}
-use Rattle.decision_desk.proofs.Journals.{account_looked, account_full, accounts_append, counted_append}
-use Rattle.decision_desk.proofs.Turnings.{Becomes, Alike, heads_same, total_set, two_below, each_set, no_turn_set}
+use Rattle.decision_desk.proofs.Journals.{begins_refl, front_of-begins}
+use Rattle.decision_desk.proofs.Journals.{account_looked, account_full, accounts_append, accounts_of-append}
+use Rattle.decision_desk.proofs.Turnings.{Becomes, Alike, only_same, total_set, two_below, each_set, no_turn_set}
 use Rattle.decision_desk.proofs.Turnings.{parts_stay, once_stays, unmade_stays, one_helm_stays, others_stay, rest_home}
 use Rattle.decision_desk.proofs.Turnings.{others_idle, ticket_in_line, in_turn, fits_served, once_less}
 use Rattle.decision_desk.proofs.Turnings.{none_waiting, no_tickets, one_waiting, only_ticket}
+
+-- ---- Fits
 
 -- a change of a seat's knowledge while it is at rest
 at_rest : (net : Net) (serve : ℕ) (j : List Event) (v w : View) → w.waits ≡ false → w.turn ≡ false → w.parts ≡ v.parts
@@ -44,12 +46,14 @@ at_rest net serve j v w idle still parts about seen helm unowned accounts f = re
   accounts = accounts;
 }
 
+-- ---- Allows: a look at the front
+
 -- a pass at rest may read the front: it sees the journal up to there, and its account notes the front
-pub looks : (slots id : ℕ) (m : Me Slot View) → m.0.waits ≡ false → m.0.turn ≡ false → 0 < m.0.parts
+Allows-front : (slots id : ℕ) (m : Me Slot View) → m.0.waits ≡ false → m.0.turn ≡ false → 0 < m.0.parts
     → m.0.steers ≡ false → (a : Account) → m.0.accounts ≡ a ∷ []
     → Allows IsDesk slots id m 0 (λ n. n) (λ n m'. (j : List Event) × Begins m.0.seen j × (n ≡ front_of j)
     × (m' ≡ (view_after_look m.0 a j, m.1)) × (front_of m.0.seen ≤ n))
-looks slots id m idle still some_part plain a mine s k one at small =
+Allows-front slots id m idle still some_part plain a mine s k one at small =
     let v : View = m.0 in
     let w : View = view_after_look v a k.journal in
     let f = k.fits id v at in
@@ -91,16 +95,37 @@ looks slots id m idle still some_part plain a mine s k one at small =
         refl,
         let e : slice_index s.words 0
             ≡ front_of k.journal = ap (λ ws. slice_index ws 0) k.words in
-            omega (arith, e, seen_front v.seen k.journal f.seen k.rising),
+            omega (arith, e, front_of-begins v.seen k.journal f.seen k.rising),
       ),
     )
 
+-- and becomes what HasSeenFront tells of each account that it has
+pub Allows-look : (slots id : ℕ) (m : Me Slot View) → m.0.waits ≡ false → m.0.turn ≡ false → 0 < m.0.parts
+    → m.0.steers ≡ false → (a : Account) → m.0.accounts ≡ a ∷ [] → Allows IsDesk slots id m 0 (λ n. n) (HasSeenFront m)
+Allows-look slots id m idle still some_part plain a mine s k one at small =
+    let r = Allows-front slots id m idle still some_part plain a mine s k one at small in (
+      r.0,
+      r.1,
+      r.2,
+      r.3,
+      λ b too. (
+        r.4.0,
+        r.4.1,
+        r.4.2,
+        subst (λ (e : Account). Becomes (r.0, carried_after m.1 r.1) (view_after_look m.0 e r.4.0, m.1))
+            (only_same a b m.0.accounts mine too) r.4.3,
+        r.4.4,
+      ),
+    )
+
+-- ---- Allows: the turn of a caller that was answered Full ends
+
 -- a pass may end its turn with its account marked Full, where the journal is full
-pub leaves_full : (slots id : ℕ) (v : View) → 0 < v.parts → v.turn ≡ true → (a : Account) → v.accounts ≡ a ∷ []
+Allows-full : (slots id : ℕ) (v : View) → 0 < v.parts → v.turn ≡ true → (a : Account) → v.accounts ≡ a ∷ []
     → length (calls_of v.seen) ≡ MOST_CALLS
     → Allows IsDesk slots id (v, (0, book_of v.net v.seen) ∷ []) 2 (λ n. (n + 1) % 2 ^ 64)
     (λ _ m'. m' ≡ (record (view_with_turn v false 0 false v.seen) { accounts = full_account a ∷ [] }, []))
-leaves_full slots id v some_part turn a mine whole s k one at small =
+Allows-full slots id v some_part turn a mine whole s k one at small =
     let w : View = record (view_with_turn v false 0 false v.seen) { accounts = full_account a ∷ [] } in
     let f = k.fits id v at in
     let t = f.turn turn in
@@ -165,15 +190,37 @@ leaves_full slots id v some_part turn a mine whole s k one at small =
       refl,
     )
 
+-- and becomes what HasEndedFullTurn tells of each such account
+pub Allows-leave_full : (slots id : ℕ) (v : View) → 0 < v.parts → v.turn ≡ true → (a : Account) → v.accounts ≡ a ∷ []
+    → length (calls_of v.seen) ≡ MOST_CALLS
+    → Allows IsDesk slots id (v, (0, book_of v.net v.seen) ∷ []) 2 (λ n. (n + 1) % 2 ^ 64)
+    (HasEndedFullTurn (v, (0, book_of v.net v.seen) ∷ []))
+Allows-leave_full slots id v some_part turn a mine whole s k one at small =
+    let c : List (ℕ × Slot) = (0, book_of v.net v.seen) ∷ [] in
+    let r = Allows-full slots id v some_part turn a mine whole s k one at small in (
+      r.0,
+      r.1,
+      r.2,
+      r.3,
+      λ b too. subst (λ (e : Account). Becomes (r.0, carried_after c r.1)
+          (record (view_with_turn v false 0 false v.seen) { accounts = full_account e ∷ [] }, []))
+          (only_same a b v.accounts mine too) r.4,
+    )
+
+-- ---- total, EachFits, BookIsHomeOrInTurn: a seat more
+
+-- a seat more adds what it has to the total
 total_more : (f : View → ℕ) (views : List View) (w : View) → total f (views ++ w ∷ []) ≡ total f views + f w
 total_more f [] w = omega arith
 total_more f (u ∷ us) w = omega (arith, total_more f us w)
 
+-- where all seats fit, and one more that fits, all fit still
 each_more : (net : Net) (serve : ℕ) (j : List Event) (views : List View) (w : View) → Fits net serve j w
     → EachFits net serve j views → EachFits net serve j (views ++ w ∷ [])
 each_more net serve j views w mine others i u e =
     ⊎_elim (λ x. others i u x) (λ (x : w ≡ u). subst (λ (y : View). Fits net serve j y) x mine) (at_snoc views w u i e)
 
+-- the book is still at home or with the turn beside a seat more without the turn
 more_home : (net : Net) (j : List Event) (homes : List (Option Slot)) (views : List View) (w : View) → w.turn ≡ false
     → BookIsHomeOrInTurn net j homes views → BookIsHomeOrInTurn net j homes (views ++ w ∷ [])
 more_home net j homes views w still home = ⊎_elim
@@ -186,11 +233,13 @@ more_home net j homes views w still home = ⊎_elim
     inr (h.0, (h.1.0, h.1.1, at_longer views (w ∷ []) h.1.0 h.1.1 h.1.2, h.1.3)))
     home
 
+-- ---- Splits
+
 -- a seat of the list after a split: the helm, one that was there, or the new pass
-pub splits : (id : ℕ) (v : View) → v.waits ≡ false → v.turn ≡ false → v.steers ≡ true → 1 < v.parts
+pub Splits-pass : (id : ℕ) (v : View) → v.waits ≡ false → v.turn ≡ false → v.steers ≡ true → 1 < v.parts
     → Splits IsDesk id v (record v { parts = v.parts - 1; made = v.made + 1 })
     (pass_view v.net v.seen (new_account (v.made + 1)))
-splits id v idle still steers two s k at =
+Splits-pass id v idle still steers two s k at =
     let l : View = record v { parts = v.parts - 1; made = v.made + 1 } in
     let a : Account = new_account (v.made + 1) in
     let r : View = pass_view v.net v.seen a in
@@ -278,11 +327,13 @@ splits id v idle still steers two s k at =
       one_helm = λ i j u w e d mine other. (alone i u e mine).0 ∙ sym (alone j w d other).0;
     }
 
+-- ---- Joins
+
 -- a seat at rest may take the parts and accounts of another at rest that does not steer, and leave it spent
-pub joins : (id : ℕ) (v : View) (other : ℕ) (u : View) → v.waits ≡ false → v.turn ≡ false → 0 < v.parts
+pub Joins-pass : (id : ℕ) (v : View) (other : ℕ) (u : View) → v.waits ≡ false → v.turn ≡ false → 0 < v.parts
     → u.waits ≡ false → u.turn ≡ false → u.steers ≡ false
     → Joins IsDesk id v other u (record v { parts = v.parts + u.parts; accounts = v.accounts ++ u.accounts }) spent_view
-joins id v other u idle still some_part idle' still' plain s k at apart at' =
+Joins-pass id v other u idle still some_part idle' still' plain s k at apart at' =
     let b : View = record v { parts = v.parts + u.parts; accounts = v.accounts ++ u.accounts } in
     let e : View = spent_view in
     let vs : List View = set s.views id b in
@@ -295,7 +346,7 @@ joins id v other u idle still some_part idle' still' plain s k at apart at' =
       arith,
       total_set (has_caller x) s.views id v b at,
       total_set (has_caller x) vs other u e at',
-      counted_append x v.accounts u.accounts,
+      accounts_of-append x v.accounts u.accounts,
     ) in
     let before : (i : ℕ) (w : View) → get_elem? ws i ≡ some w → w.steers ≡ true
     → (z : View) × (get_elem? s.views i ≡ some z) × (z.steers ≡ true) × (z.made ≡ w.made) = λ i w d mine. ⊎_elim
@@ -371,9 +422,12 @@ joins id v other u idle still some_part idle' still' plain s k at apart at' =
           k.one_helm i j p.0 q.0 p.1 q.1 p.2 q.2;
     }
 
+-- ---- IsDesk
+
 -- a new desk keeps the rule: the journal is empty, the book at home, and the helm alone has all parts
-pub begins : (net : Net) → IsDesk (opening (0 ∷ 0 ∷ 0 ∷ 0 ∷ []) (book_of net [] ∷ []) (helm_view net ALL_PARTS [] [] 0 []))
-begins net = record {
+pub IsDesk-opening : (net : Net)
+    → IsDesk (opening (0 ∷ 0 ∷ 0 ∷ 0 ∷ []) (book_of net [] ∷ []) (helm_view net ALL_PARTS [] [] 0 []))
+IsDesk-opening net = record {
   net = net;
   journal = [];
   next = 0;
@@ -420,6 +474,9 @@ begins net = record {
     one zero (suc j) u v e d a b = absurd (some-ne-none v (sym d))
     one (suc i) j u v e d a b = absurd (some-ne-none u (sym e))
 
+-- ---- HasEnded, IsFinalBook
+
+-- where no seat has any, the total is 0
 all_zero : (f : View → ℕ) (views : List View) → ((i : ℕ) (u : View) → get_elem? views i ≡ some u → f u ≡ 0)
     → total f views ≡ 0
 all_zero f [] each = refl
@@ -435,9 +492,9 @@ pub record HasEnded (v : View) (slots : List Slot) : Type 0 where
   pub others : (x : ℕ) → accounts_of x v.accounts ≡ 0 → calls_by x journal ≡ []
 
 -- this is so of a seat without the turn that has all parts, when the desk ends
-pub ends : (id : ℕ) (v : View) (ws : List ℕ) (xs : List Slot) → v.parts ≡ ALL_PARTS → v.turn ≡ false
+pub HasEnded-final : (id : ℕ) (v : View) (ws : List ℕ) (xs : List Slot) → v.parts ≡ ALL_PARTS → v.turn ≡ false
     → Final (Seen IsDesk id v) ws xs → HasEnded v xs
-ends id v ws xs whole still final =
+HasEnded-final id v ws xs whole still final =
     let s = final.0 in
     let k : IsDesk s = final.1.0 in
     let at : get_elem? s.views id ≡ some v = final.1.1 in
@@ -476,55 +533,12 @@ ends id v ws xs whole still final =
 pub only_one : (xs : List (ℕ × Slot)) (y : Slot) → xs ≡ (0, y) ∷ [] → xs ≡ (0, y) ∷ rest xs
 only_one xs y e = e ∙ ap (λ (r : List (ℕ × Slot)). (0, y) ∷ r) (sym (ap rest e))
 
--- a pass at rest may read the front, and becomes what HasSeenFront tells of each account that it has
-pub looks_said : (slots id : ℕ) (m : Me Slot View) → m.0.waits ≡ false → m.0.turn ≡ false → 0 < m.0.parts
-    → m.0.steers ≡ false → (a : Account) → m.0.accounts ≡ a ∷ [] → Allows IsDesk slots id m 0 (λ n. n) (HasSeenFront m)
-looks_said slots id m idle still some_part plain a mine s k one at small =
-    let r = looks slots id m idle still some_part plain a mine s k one at small in (
-      r.0,
-      r.1,
-      r.2,
-      r.3,
-      λ b too. (
-        r.4.0,
-        r.4.1,
-        r.4.2,
-        subst (λ (e : Account). Becomes (r.0, carried_after m.1 r.1) (view_after_look m.0 e r.4.0, m.1))
-            (heads_same a b m.0.accounts mine too) r.4.3,
-        r.4.4,
-      ),
-    )
-
--- and it may end its turn over a full journal, and becomes what HasEndedFullTurn tells of each such account
-pub leaves_full_said : (slots id : ℕ) (v : View) → 0 < v.parts → v.turn ≡ true → (a : Account) → v.accounts ≡ a ∷ []
-    → length (calls_of v.seen) ≡ MOST_CALLS
-    → Allows IsDesk slots id (v, (0, book_of v.net v.seen) ∷ []) 2 (λ n. (n + 1) % 2 ^ 64)
-    (HasEndedFullTurn (v, (0, book_of v.net v.seen) ∷ []))
-leaves_full_said slots id v some_part turn a mine whole s k one at small =
-    let c : List (ℕ × Slot) = (0, book_of v.net v.seen) ∷ [] in
-    let r = leaves_full slots id v some_part turn a mine whole s k one at small in (
-      r.0,
-      r.1,
-      r.2,
-      r.3,
-      λ b too. subst (λ (e : Account). Becomes (r.0, carried_after c r.1)
-          (record (view_with_turn v false 0 false v.seen) { accounts = full_account e ∷ [] }, []))
-          (heads_same a b v.accounts mine too) r.4,
-    )
-
-some_book : (a b : BookView) → Some a ≡ Some b → a ≡ b
-some_book a b e = ap {B = BookView} inside e
-  where
-    inside : Slot → BookView
-    inside (Some x) = x
-    inside None = a
-
 -- the book that comes out of the slot at the end
-pub is_closed : (h : HelmView) (t : TableId) (v : View) (xs : List Slot) (o : Slot) (b : BookView)
-    → view_of_helm t v ≡ h → v.steers ≡ true → HasEnded v xs → get_elem? xs 0 ≡ some o → o ≡ Some b → IsClosed h b
-is_closed h t v xs o b is steers e at out =
+pub is_final_book : (h : HelmView) (t : TableId) (v : View) (xs : List Slot) (o : Slot) (b : BookView)
+    → view_of_helm t v ≡ h → v.steers ≡ true → HasEnded v xs → get_elem? xs 0 ≡ some o → o ≡ Some b → IsFinalBook h b
+is_final_book h t v xs o b is steers e at out =
     let same : b ≡ record { net = v.net; events = e.journal } =
-    some_book b (record { net = v.net; events = e.journal })
+    same_Some {A = BookView} b (record { net = v.net; events = e.journal })
     (sym out ∙ some-injective o (book_of v.net e.journal) (sym at ∙ e.book)) in
-    subst (λ (k : HelmView). IsClosed k b) is (subst (λ (x : BookView). IsClosed (view_of_helm t v) x) (sym same)
+    subst (λ (k : HelmView). IsFinalBook k b) is (subst (λ (x : BookView). IsFinalBook (view_of_helm t v) x) (sym same)
     (record { net = refl; seen = e.seen; only_calls = e.helm steers; accounts = e.accounts; others = e.others }))

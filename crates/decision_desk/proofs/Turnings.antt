@@ -1,8 +1,10 @@
 -- Each step of a seat keeps the rule of the desk.
 use Rattle.std.proofs.Common.{◌≡◌, ◌≢◌, ℕ, zero, suc, ◌+◌, ◌%◌, ◌^◌, ◌<◌, ◌≤◌, Bool}
 use Rattle.std.proofs.Common.{true, false, true≢false, List, [], ◌∷◌, ◌++◌, length, set, sym, refl}
-use Rattle.std.proofs.Common.{ap, ◌∙◌, subst, ⊎_elim, inl, inr, arith, nat_eq, if◌then◌else◌, slice_index, slice_set}
+use Rattle.std.proofs.Common.{ap, ◌∙◌, subst, ⊎_elim, inl, inr, arith, nat_eq, if◌then◌else◌, get_or, slice_index}
+use Rattle.std.proofs.Common.{slice_set}
 use Rattle.std.proofs.Math.Nat.{mod-add-mod, mod-eq_of_lt}
+use Rattle.std.proofs.lemmas.Bool.{false_from_ne_true}
 use mathlib.Core.Option.{Option, some, none, some-ne-none, some-injective}
 use lib.ListN.{get_elem?}
 use Rattle.atomic_table.specs.Table.{State, Me, Allows, Act, Valid, stepped, carried_after, keeps, takes, gives}
@@ -10,7 +12,8 @@ use Rattle.atomic_table.proofs.Lists.{at_set, set_else, set_here, set_again, one
 use Rattle.net_model.specs.Net.{Net}
 use Rattle.decision_book.specs.declared.call.Call.{Call}
 use Rattle.decision_book.specs.declared.call.TheConstants.{MOST_CALLS}
-use Rattle.decision_book.specs.Journal.{Event, raised, asked, calls_of}
+use Rattle.decision_book.specs.Journal.{Event, NewFront, NewCall, calls_of}
+use Rattle.decision_book.proofs.Growing.{calls_of-push_front, calls_of-push_length}
 use Rattle.decision_desk.specs.declared.desk.TheConstants.{ALL_PARTS}
 use Rattle.decision_desk.specs.declared.view.View.{View}
 use Rattle.decision_desk.specs.Accounts.{Account, AreAccounts, IsAccount, accounts_of}
@@ -19,10 +22,12 @@ use Rattle.decision_desk.specs.Turns.{Slot, book_of, total, ticket_count, has_ti
 use Rattle.decision_desk.specs.Turns.{EachFits, NoTurn, BookIsHomeOrInTurn, NoAccountAboveMade, OneHelm, IsDesk}
 use Rattle.decision_desk.specs.Turns.{view_with_turn, view_after_call, view_after_front, HasDrawnTicket, HasTurnIf}
 use Rattle.decision_desk.specs.Turns.{HasTurnIfServed, HasAddedCall, HasEndedTurn}
-use Rattle.decision_desk.proofs.Journals.{calls_raised, front_asked, front_raised, calls_longer, by_other}
-use Rattle.decision_desk.proofs.Journals.{by_raised, begins_refl, begins_more, only_calls_refl, only_calls_more}
-use Rattle.decision_desk.proofs.Journals.{account_called, accounts_raised, accounts_other, one_account, rises_asked}
-use Rattle.decision_desk.proofs.Journals.{rises_raised, seen_front}
+use Rattle.decision_desk.proofs.Journals.{front_asked, front_raised, calls_by-other}
+use Rattle.decision_desk.proofs.Journals.{calls_by-NewFront, begins_refl, begins_more, only_calls_refl, only_calls_more}
+use Rattle.decision_desk.proofs.Journals.{account_called, accounts_raised, accounts_other, accounts_of-one, rises_asked}
+use Rattle.decision_desk.proofs.Journals.{rises_raised, front_of-begins}
+
+-- ---- total
 
 -- where one seat changes, the total loses what this seat had and gains what it has
 pub total_set : (f : View → ℕ) (views : List View) (id : ℕ) (v w : View) → get_elem? views id ≡ some v
@@ -32,22 +37,23 @@ total_set f (u ∷ us) zero v w e = let d' : f u ≡ f v = ap f (some-injective 
 total_set f (u ∷ us) (suc id) v w e = omega (arith, total_set f us id v w e)
 
 -- one seat has no more than the total
-pub below_total : (f : View → ℕ) (views : List View) (id : ℕ) (v : View) → get_elem? views id ≡ some v
+below_total : (f : View → ℕ) (views : List View) (id : ℕ) (v : View) → get_elem? views id ≡ some v
     → f v ≤ total f views
 below_total f [] id v e = absurd (some-ne-none v (sym e))
 below_total f (u ∷ us) zero v e = let d : f u ≡ f v = ap f (some-injective u v e) in omega arith
 below_total f (u ∷ us) (suc id) v e = omega (arith, below_total f us id v e)
 
+-- where each seat has no more of one number than of another, so has the total
 total_le : (f h : View → ℕ) (views : List View) → ((id : ℕ) (v : View) → get_elem? views id ≡ some v → f v ≤ h v)
     → total f views ≤ total h views
 total_le f h [] each = omega arith
 total_le f h (u ∷ us) each = omega (arith, each 0 u refl, total_le f h us (λ i v e. each (suc i) v e))
 
 -- the place of a seat is below the number of seats
-pub at_below : (views : List View) (id : ℕ) (v : View) → get_elem? views id ≡ some v → id < length views
-at_below [] id v e = absurd (some-ne-none v (sym e))
-at_below (u ∷ us) zero v e = omega arith
-at_below (u ∷ us) (suc id) v e = omega (arith, at_below us id v e)
+get_elem-bounds : (views : List View) (id : ℕ) (v : View) → get_elem? views id ≡ some v → id < length views
+get_elem-bounds [] id v e = absurd (some-ne-none v (sym e))
+get_elem-bounds (u ∷ us) zero v e = omega arith
+get_elem-bounds (u ∷ us) (suc id) v e = omega (arith, get_elem-bounds us id v e)
 
 -- two seats are no more than the total
 pub two_below : (f : View → ℕ) (views : List View) (id j : ℕ) (v u : View) → j ≢ id → get_elem? views id ≡ some v
@@ -60,10 +66,9 @@ two_below f (x ∷ xs) (suc id) zero v u n e d = let s : f x ≡ f u = ap f (som
     omega (arith, s, below_total f xs id v e)
 two_below f (x ∷ xs) (suc id) (suc j) v u n e d = omega (arith, two_below f xs id j v u (λ s. n (ap suc s)) e d)
 
-not_true : (b : Bool) → ¬ (b ≡ true) → b ≡ false
-not_true true h = absurd (h refl)
-not_true false h = refl
+-- ---- ticket_count, has_ticket, in_line
 
+-- a seat that waits with a ticket has it
 ticket_here : (v : View) (x : ℕ) → v.waits ≡ true → v.ticket ≡ x → has_ticket x v ≡ 1
 ticket_here v x w e = ap (λ b. if b then (if nat_eq v.ticket x then 1 else 0) else 0) w ∙ grind (arith, e)
 
@@ -85,11 +90,24 @@ pub only_ticket : (x y : ℕ) (v : View) → v.waits ≡ true → v.ticket ≡ x
 only_ticket x y v waits is = ap (λ b. if b then (if nat_eq v.ticket y then 1 else 0) else 0) waits
     ∙ ap (λ z. if nat_eq z y then 1 else 0) is
 
+-- a ticket is in line once at most
 one_line : (x from to : ℕ) → in_line x from to ≤ 1
 one_line x from to = grind arith
 
+-- a ticket in line is one of those from the first number on, and before the second
 in_line_in : (x from to : ℕ) → 1 ≤ in_line x from to → (from ≤ x) × (x < to)
 in_line_in x from to h = (grind (arith, h), grind (arith, h))
+
+-- a line that ends one later has gained the ticket at its end, and no other
+once_more : (x from to : ℕ) → from ≤ to → in_line x from (to + 1) ≡ in_line x from to + (if nat_eq to x then 1 else 0)
+once_more x from to h = grind (arith, h)
+
+-- a line that begins one later has lost the first ticket, and no other
+pub once_less : (x from to : ℕ) → from < to
+    → in_line x from to ≡ in_line x (from + 1) to + (if nat_eq from x then 1 else 0)
+once_less x from to h = grind (arith, h)
+
+-- ---- EachFits, NoTurn
 
 -- where all seats fit, and one changes to a seat that fits, all fit still
 pub each_set : (net : Net) (serve : ℕ) (j : List Event) (views : List View) (id : ℕ) (w : View) → Fits net serve j w
@@ -105,6 +123,8 @@ no_turn_set views id w mine others j u e =
     ⊎_elim (λ (x : (j ≡ id) × (w ≡ u)). subst (λ (y : View). y.turn ≡ false) x.1 mine)
     (λ (x : (j ≢ id) × (get_elem? views j ≡ some u)). others j u x.0 x.1) (at_set views id j w u e)
 
+-- ---- Alike
+
 -- a seat that keeps its parts, its callers and its place at the helm
 pub record Alike (v w : View) : Type 0 where
   pub parts : w.parts ≡ v.parts
@@ -113,7 +133,7 @@ pub record Alike (v w : View) : Type 0 where
   pub made : w.made ≡ v.made
 
 -- two seats are so where their parts, accounts, steering and number of passes made are equal
-pub alike_refl : (v w : View) → w.parts ≡ v.parts → w.accounts ≡ v.accounts → w.steers ≡ v.steers → w.made ≡ v.made
+alike_refl : (v w : View) → w.parts ≡ v.parts → w.accounts ≡ v.accounts → w.steers ≡ v.steers → w.made ≡ v.made
     → Alike v w
 alike_refl v w p a s m = record { parts = p; callers = λ x. ap (accounts_of x) a; steers = s; made = m }
 
@@ -161,6 +181,8 @@ module _ (s : State Slot View) (k : IsDesk s) (id : ℕ) (v w : View) (at : get_
   pub others_stay : (x : ℕ) → total (has_caller x) (set s.views id w) ≡ 0 → calls_by x k.journal ≡ []
   others_stay x nobody = k.others x (omega (arith, nobody, callers_stay x))
 
+-- ---- each_once: the seat with the turn, and the others
+
 -- beside a seat that waits with the ticket that is served, no other has the turn
 module _ (s : State Slot View) (k : IsDesk s) (id : ℕ) (v : View) (at : get_elem? s.views id ≡ some v)
     (waits : v.waits ≡ true) where
@@ -176,7 +198,7 @@ module _ (s : State Slot View) (k : IsDesk s) (id : ℕ) (v : View) (at : get_el
 
   -- and where it is the one that is served, no other seat has the turn
   pub others_idle : v.ticket ≡ k.serve → (j : ℕ) (u : View) → j ≢ id → get_elem? s.views j ≡ some u → u.turn ≡ false
-  others_idle mine j u n e = not_true u.turn (λ turn. let t = (k.fits j u e).turn turn in
+  others_idle mine j u n e = false_from_ne_true u.turn (λ turn. let t = (k.fits j u e).turn turn in
       omega (
         arith,
         k.each_once k.serve,
@@ -186,13 +208,7 @@ module _ (s : State Slot View) (k : IsDesk s) (id : ℕ) (v : View) (at : get_el
         ticket_here u k.serve t.0 t.1,
       ))
 
-once_more : (x from to : ℕ) → from ≤ to → in_line x from (to + 1) ≡ in_line x from to + (if nat_eq to x then 1 else 0)
-once_more x from to h = grind (arith, h)
-
--- a line that begins one later has lost the first ticket, and no other
-pub once_less : (x from to : ℕ) → from < to
-    → in_line x from to ≡ in_line x (from + 1) to + (if nat_eq from x then 1 else 0)
-once_less x from to h = grind (arith, h)
+-- ---- BookIsHomeOrInTurn
 
 -- the book is still at home or with the turn, where a seat changes that neither had nor gets the turn
 pub rest_home : (net : Net) (j : List Event) (homes : List (Option Slot)) (views : List View) (id : ℕ) (v w : View)
@@ -216,10 +232,12 @@ rest_home net j homes views id v w at still still' home = ⊎_elim
     ))
     home
 
+-- ---- Allows: a ticket is drawn, and served
+
 -- a seat at rest that has a part may draw the next ticket
-pub draws : (slots id : ℕ) (m : Me Slot View) → m.0.waits ≡ false → m.0.turn ≡ false → 0 < m.0.parts
+pub Allows-draw : (slots id : ℕ) (m : Me Slot View) → m.0.waits ≡ false → m.0.turn ≡ false → 0 < m.0.parts
     → Allows IsDesk slots id m 1 (λ n. (n + 1) % 2 ^ 64) (HasDrawnTicket m)
-draws slots id m idle still some_part s k one at small =
+Allows-draw slots id m idle still some_part s k one at small =
     let v : View = m.0 in
     let w : View = view_with_turn v true k.next false v.seen in
     let f = k.fits id v at in
@@ -267,7 +285,8 @@ draws slots id m idle still some_part s k one at small =
     )
 
 -- a remainder that two numbers in line share
-same_place : (from x to n : ℕ) → from ≤ x → x < to → to ≤ from + ALL_PARTS → n ≡ from % 2 ^ 64 → n ≡ x % 2 ^ 64 → x ≡ from
+same_place : (from x to n : ℕ) → from ≤ x → x < to → to ≤ from + ALL_PARTS → n ≡ from % 2 ^ 64 → n ≡ x % 2 ^ 64
+    → x ≡ from
 same_place from x to n low high near a b =
     sym (one_turn from x (2 ^ 64) low (omega (arith, low, high, near)) (sym a ∙ b))
 
@@ -275,6 +294,7 @@ same_place from x to n low high near a b =
 near : (s : State Slot View) (k : IsDesk s) → k.next ≤ k.serve + ALL_PARTS
 near s k = omega (arith, k.line, k.parts, total_le ticket_count (λ u. u.parts) s.views (λ i u e. (k.fits i u e).part))
 
+-- the look at who is served, whether it is the ticket of this seat or not
 serves_at : (id : ℕ) (m : Me Slot View) → 0 < m.0.parts → m.0.waits ≡ true → m.0.turn ≡ false
     → (s : State Slot View) (k : IsDesk s) → get_elem? s.views id ≡ some m.0
     → (b : Bool) → nat_eq (slice_index s.words 2) (m.0.ticket % 2 ^ 64) ≡ b
@@ -352,20 +372,25 @@ serves_at id m some_part waits still s k at true is =
               accounts = f.accounts;
             })
             k.fits;
-        home = inr (ap (λ h. slice_set h 0 none) free, (id, w, set_here s.views id w (at_below s.views id v at), refl));
+        home = inr (
+          ap (λ h. slice_set h 0 none) free,
+          (id, w, set_here s.views id w (get_elem-bounds s.views id v at), refl),
+        );
         once = once_stays s k id v w at same;
         others = others_stay s k id v w at same;
         unmade = unmade_stays s k id v w at same;
         one_helm = one_helm_stays s k id v w at same;
       },
-      (k.journal, f.seen, k.few, f.helm, f.accounts, refl, seen_front v.seen k.journal f.seen k.rising),
+      (k.journal, f.seen, k.few, f.helm, f.accounts, refl, front_of-begins v.seen k.journal f.seen k.rising),
     )
 
 -- a seat that waits may look who is served, and has the turn and the book where it is its own ticket
-pub serves : (slots id : ℕ) (m : Me Slot View) → 0 < m.0.parts → m.0.waits ≡ true → m.0.turn ≡ false
+pub Allows-serve : (slots id : ℕ) (m : Me Slot View) → 0 < m.0.parts → m.0.waits ≡ true → m.0.turn ≡ false
     → Allows IsDesk slots id m 2 (λ n. n) (HasTurnIfServed m)
-serves slots id m some_part waits still s k one at small =
+Allows-serve slots id m some_part waits still s k one at small =
     serves_at id m some_part waits still s k at (nat_eq (slice_index s.words 2) (m.0.ticket % 2 ^ 64)) refl
+
+-- ---- Fits: in a turn
 
 -- in its turn a seat knows the journal, and the slot is out
 pub in_turn : (s : State Slot View) (k : IsDesk s) (id : ℕ) (v : View) → get_elem? s.views id ≡ some v → v.turn ≡ true
@@ -378,24 +403,25 @@ in_turn s k id v at turn = ⊎_elim (λ (h : (s.homes ≡ some (book_of k.net k.
 -- another seat's facts where the journal has one call more, of a caller whose account it hasn't
 fits_called : (net : Net) (serve : ℕ) (j : List Event) (c : Call) (u : View) → u.turn ≡ false
     → accounts_of c.caller u.accounts ≡ 0 → length (calls_of j) < MOST_CALLS → Fits net serve j u
-    → Fits net serve (j ++ asked c ∷ []) u
+    → Fits net serve (j ++ NewCall c ∷ []) u
 fits_called net serve j c u still nobody free f = record {
   part = f.part;
   idle = f.idle;
   about = f.about;
-  seen = begins_more u.seen j (asked c) f.seen;
+  seen = begins_more u.seen j (NewCall c) f.seen;
   turn = λ turn. absurd (true≢false (sym turn ∙ still));
   helm = λ steers. only_calls_more u.helm j c (f.helm steers);
   accounts = accounts_other j c u.accounts nobody free f.accounts;
 }
 
+-- another seat's facts where the journal has one front more
 fits_raised : (net : Net) (serve : ℕ) (j : List Event) (f : ℕ) (u : View) → u.turn ≡ false → ¬ (u.steers ≡ true)
-    → Fits net serve j u → Fits net serve (j ++ raised f ∷ []) u
+    → Fits net serve j u → Fits net serve (j ++ NewFront f ∷ []) u
 fits_raised net serve j g u still other f = record {
   part = f.part;
   idle = f.idle;
   about = f.about;
-  seen = begins_more u.seen j (raised g) f.seen;
+  seen = begins_more u.seen j (NewFront g) f.seen;
   turn = λ turn. absurd (true≢false (sym turn ∙ still));
   helm = λ steers. absurd (other steers);
   accounts = accounts_raised j g u.accounts f.accounts;
@@ -414,12 +440,14 @@ fits_served net serve j u still f = record {
   accounts = f.accounts;
 }
 
+-- ---- Allows: a call is added, and the front raised
+
 -- a pass in its turn may add a call of its caller to the journal and its account, where the journal is not full
-pub calls : (said : List Call) (a : Account) (c : Call) (slots id : ℕ) (m : Me Slot View) → said ≡ c ∷ []
+Allows-call : (said : List Call) (a : Account) (c : Call) (slots id : ℕ) (m : Me Slot View) → said ≡ c ∷ []
     → m.0.accounts ≡ a ∷ [] → c.caller ≡ a.caller → m.0.turn ≡ true → length (calls_of m.0.seen) < MOST_CALLS
     → Allows IsDesk slots id m 3 (λ n. (n + 1) % 2 ^ 64) (λ n m'. (n ≡ length (calls_of m.0.seen))
     × (m' ≡ (view_after_call m.0 a c, m.1)))
-calls said a c slots id m is_said mine by turn free s k one at small =
+Allows-call said a c slots id m is_said mine by turn free s k one at small =
     let v : View = m.0 in
     let w : View = view_after_call v a c in
     let f = k.fits id v at in
@@ -431,15 +459,16 @@ calls said a c slots id m is_said mine by turn free s k one at small =
     (subst (λ (l : List Event). AreAccounts l v.accounts) (sym is) f.accounts)).0 in
     let callers : (x : ℕ) → has_caller x w ≡ has_caller x v = λ x. sym (ap (accounts_of x) mine) in
     let same : Alike v w = record { parts = refl; callers = callers; steers = refl; made = refl } in
-    let here : has_caller c.caller v ≡ 1 = ap (accounts_of c.caller) mine ∙ one_account a c.caller (sym by) in
+    let here : has_caller c.caller v ≡ 1 = ap (accounts_of c.caller) mine ∙ accounts_of-one a c.caller (sym by) in
     let nobody : (i : ℕ) (u : View) → i ≢ id → get_elem? s.views i ≡ some u → accounts_of c.caller u.accounts ≡ 0 =
     λ i u n e.
     omega (arith, k.once c.caller, two_below (has_caller c.caller) s.views id i v u n at e, here) in
     let as_before : (y : ℕ) → has_ticket y v ≡ has_ticket y w = λ y. refl in
     let was_waiting : ticket_count v ≡ 1 = one_waiting v t.0 in
-    let longer : (length (calls_of k.journal) + 1) % 2 ^ 64 ≡ length (calls_of (j ++ asked c ∷ [])) =
-    mod-eq_of_lt (omega (arith, k.few)) ∙ (ap (λ l. length (calls_of l) + 1) (sym is) ∙ sym (calls_longer j c)) in
-    let front : front_of k.journal ≡ front_of (j ++ asked c ∷ []) = ap front_of (sym is) ∙ sym (front_asked j c) in
+    let longer : (length (calls_of k.journal) + 1) % 2 ^ 64 ≡ length (calls_of (j ++ NewCall c ∷ [])) =
+    mod-eq_of_lt (omega (arith, k.few)) ∙ (ap (λ l. length (calls_of l) + 1) (sym is)
+    ∙ sym (calls_of-push_length j c)) in
+    let front : front_of k.journal ≡ front_of (j ++ NewCall c ∷ []) = ap front_of (sym is) ∙ sym (front_asked j c) in
     let fits_j : EachFits k.net k.serve j s.views = subst (λ (l : List Event). EachFits k.net k.serve l s.views)
     (sym is) k.fits in (
       w,
@@ -447,32 +476,32 @@ calls said a c slots id m is_said mine by turn free s k one at small =
       tt,
       record {
         net = k.net;
-        journal = j ++ asked c ∷ [];
+        journal = j ++ NewCall c ∷ [];
         next = k.next;
         serve = k.serve;
         words = ap (λ ws. slice_set ws 3 ((slice_index ws 3 + 1) % 2 ^ 64)) k.words
             ∙ (ap (λ (z : ℕ). front_of k.journal ∷ k.next % 2 ^ 64 ∷ k.serve % 2 ^ 64 ∷ z ∷ []) longer
-            ∙ ap (λ (z : ℕ). z ∷ k.next % 2 ^ 64 ∷ k.serve % 2 ^ 64 ∷ length (calls_of (j ++ asked c ∷ [])) ∷ [])
+            ∙ ap (λ (z : ℕ). z ∷ k.next % 2 ^ 64 ∷ k.serve % 2 ^ 64 ∷ length (calls_of (j ++ NewCall c ∷ [])) ∷ [])
             front);
-        few = omega (arith, calls_longer j c, free);
+        few = omega (arith, calls_of-push_length j c, free);
         rising = rises_asked j c (subst (RisesFrom 0) (sym is) k.rising);
         parts = parts_stay s k id v w at same;
         line = omega (arith, total_set ticket_count s.views id v w at, k.line);
         each_once = λ y. omega (arith, total_set (has_ticket y) s.views id v w at, k.each_once y, as_before y);
         fits = λ i u e. ⊎_elim
-            (λ (x : (i ≡ id) × (w ≡ u)). subst (λ (y : View). Fits k.net k.serve (j ++ asked c ∷ []) y) x.1
+            (λ (x : (i ≡ id) × (w ≡ u)). subst (λ (y : View). Fits k.net k.serve (j ++ NewCall c ∷ []) y) x.1
             (record {
               part = f.part;
               idle = λ no. absurd (omega (arith, no, f.part, was_waiting));
               about = f.about;
-              seen = begins_refl (j ++ asked c ∷ []);
+              seen = begins_refl (j ++ NewCall c ∷ []);
               turn = λ _. (t.0, t.1, refl);
               helm = λ steers. only_calls_more v.helm j c (subst (OnlyCalls v.helm) (sym is) (f.helm steers));
               accounts = (account_called j c a by free right, tt);
             }))
             (λ (x : (i ≢ id) × (get_elem? s.views i ≡ some u)). fits_called k.net k.serve j c u (idle i u x.0 x.1)
             (nobody i u x.0 x.1) free (fits_j i u x.1)) (at_set s.views id i w u e);
-        home = inr (in_turn s k id v at turn, (id, w, set_here s.views id w (at_below s.views id v at), turn));
+        home = inr (in_turn s k id v at turn, (id, w, set_here s.views id w (get_elem-bounds s.views id v at), turn));
         once = once_stays s k id v w at same;
         others = λ x no.
             let no' : total (has_caller x) s.views ≡ 0 = omega (arith, no, callers_stay s k id v w at same x) in
@@ -484,7 +513,7 @@ calls said a c slots id m is_said mine by turn free s k one at small =
               ap (λ (y : ℕ). has_caller y v) (sym e),
               here,
             )) in
-            by_other x j c other ∙ (ap (calls_by x) is ∙ k.others x no');
+            calls_by-other x j c other ∙ (ap (calls_by x) is ∙ k.others x no');
         unmade = unmade_stays s k id v w at same;
         one_helm = one_helm_stays s k id v w at same;
       },
@@ -492,9 +521,10 @@ calls said a c slots id m is_said mine by turn free s k one at small =
     )
 
 -- the helm in its turn may raise the front to one above the last
-pub raises : (f slots id : ℕ) (m : Me Slot View) → m.0.turn ≡ true → m.0.steers ≡ true → front_of m.0.seen < f
+pub Allows-raise_front : (f slots id : ℕ) (m : Me Slot View) → m.0.turn ≡ true → m.0.steers ≡ true
+    → front_of m.0.seen < f
     → Allows IsDesk slots id m 0 (λ _. f) (λ _ m'. m' ≡ (view_after_front m.0 f, m.1))
-raises g slots id m turn steers above s k one at small =
+Allows-raise_front g slots id m turn steers above s k one at small =
     let v : View = m.0 in
     let w : View = view_after_front v g in
     let f = k.fits id v at in
@@ -503,8 +533,8 @@ raises g slots id m turn steers above s k one at small =
     let j = v.seen in
     let idle = others_idle s k id v at t.0 t.1 in
     let same : Alike v w = alike_refl v w refl refl refl refl in
-    let calls_same : length (calls_of k.journal) ≡ length (calls_of (j ++ raised g ∷ [])) =
-    ap (λ l. length (calls_of l)) (sym is) ∙ ap length (sym (calls_raised j g)) in
+    let calls_same : length (calls_of k.journal) ≡ length (calls_of (j ++ NewFront g ∷ [])) =
+    ap (λ l. length (calls_of l)) (sym is) ∙ ap length (sym (calls_of-push_front j g)) in
     let fits_j : EachFits k.net k.serve j s.views = subst (λ (l : List Event). EachFits k.net k.serve l s.views)
     (sym is) k.fits in (
       w,
@@ -512,12 +542,12 @@ raises g slots id m turn steers above s k one at small =
       tt,
       record {
         net = k.net;
-        journal = j ++ raised g ∷ [];
+        journal = j ++ NewFront g ∷ [];
         next = k.next;
         serve = k.serve;
         words = ap (λ ws. slice_set ws 0 g) k.words
             ∙ (ap (λ (z : ℕ). g ∷ k.next % 2 ^ 64 ∷ k.serve % 2 ^ 64 ∷ z ∷ []) calls_same
-            ∙ ap (λ (z : ℕ). z ∷ k.next % 2 ^ 64 ∷ k.serve % 2 ^ 64 ∷ length (calls_of (j ++ raised g ∷ [])) ∷ [])
+            ∙ ap (λ (z : ℕ). z ∷ k.next % 2 ^ 64 ∷ k.serve % 2 ^ 64 ∷ length (calls_of (j ++ NewFront g ∷ [])) ∷ [])
             (sym (front_raised j g)));
         few = omega (arith, k.few, calls_same);
         rising = rises_raised j g (subst (RisesFrom 0) (sym is) k.rising) above;
@@ -525,21 +555,21 @@ raises g slots id m turn steers above s k one at small =
         line = omega (arith, total_set ticket_count s.views id v w at, k.line);
         each_once = λ y. omega (arith, total_set (has_ticket y) s.views id v w at, k.each_once y);
         fits = λ i u e. ⊎_elim
-            (λ (x : (i ≡ id) × (w ≡ u)). subst (λ (y : View). Fits k.net k.serve (j ++ raised g ∷ []) y) x.1
+            (λ (x : (i ≡ id) × (w ≡ u)). subst (λ (y : View). Fits k.net k.serve (j ++ NewFront g ∷ []) y) x.1
             (record {
               part = f.part;
               idle = f.idle;
               about = f.about;
-              seen = begins_refl (j ++ raised g ∷ []);
+              seen = begins_refl (j ++ NewFront g ∷ []);
               turn = λ _. (t.0, t.1, refl);
-              helm = λ _. only_calls_refl (j ++ raised g ∷ []);
+              helm = λ _. only_calls_refl (j ++ NewFront g ∷ []);
               accounts = accounts_raised j g v.accounts (fits_j id v at).accounts;
             }))
             (λ (x : (i ≢ id) × (get_elem? s.views i ≡ some u)). fits_raised k.net k.serve j g u (idle i u x.0 x.1)
             (λ other. x.0 (k.one_helm i id u v x.1 at other steers)) (fits_j i u x.1)) (at_set s.views id i w u e);
-        home = inr (in_turn s k id v at turn, (id, w, set_here s.views id w (at_below s.views id v at), turn));
+        home = inr (in_turn s k id v at turn, (id, w, set_here s.views id w (get_elem-bounds s.views id v at), turn));
         once = once_stays s k id v w at same;
-        others = λ x no. by_raised x j g
+        others = λ x no. calls_by-NewFront x j g
             ∙ (ap (calls_by x) is ∙ k.others x (omega (arith, no, callers_stay s k id v w at same x)));
         unmade = unmade_stays s k id v w at same;
         one_helm = one_helm_stays s k id v w at same;
@@ -547,11 +577,13 @@ raises g slots id m turn steers above s k one at small =
       refl,
     )
 
+-- ---- Allows: the turn ends
+
 -- a seat may end its turn and give back the book, and the next ticket is served
-pub leaves : (slots id : ℕ) (v : View) → 0 < v.parts → v.turn ≡ true
+pub Allows-leave : (slots id : ℕ) (v : View) → 0 < v.parts → v.turn ≡ true
     → Allows IsDesk slots id (v, (0, book_of v.net v.seen) ∷ []) 2 (λ n. (n + 1) % 2 ^ 64)
     (HasEndedTurn (v, (0, book_of v.net v.seen) ∷ []))
-leaves slots id v some_part turn s k one at small =
+Allows-leave slots id v some_part turn s k one at small =
     let w : View = view_with_turn v false 0 false v.seen in
     let f = k.fits id v at in
     let t = f.turn turn in
@@ -609,31 +641,22 @@ leaves slots id v some_part turn s k one at small =
       refl,
     )
 
--- two accounts, each of which is all that one list has, are the same
-pub heads_same : (a b : Account) (as' : List Account) → as' ≡ a ∷ [] → as' ≡ b ∷ [] → a ≡ b
-heads_same a b as' e d = ap first (sym e ∙ d)
-  where
-    first : List Account → Account
-    first [] = a
-    first (x ∷ xs) = x
+-- ---- Allows: any account and any call
 
-said_same : (c d : Call) (cs : List Call) → cs ≡ c ∷ [] → cs ≡ d ∷ [] → c ≡ d
-said_same c d cs e f = ap first (sym e ∙ f)
-  where
-    first : List Call → Call
-    first [] = c
-    first (x ∷ xs) = x
+-- two accounts or two calls, each of which is all that one list has, are the same
+pub only_same : {A : Type 0} (a b : A) (xs : List A) → xs ≡ a ∷ [] → xs ≡ b ∷ [] → a ≡ b
+only_same a b xs e d = ap (λ l. get_or l 0 a) (sym e ∙ d)
 
 -- the one seat, with what it carries, is the other
 abbrev pub Becomes : Me Slot View → Me Slot View → Type 0
 Becomes m n = m ≡ n
 
 -- a pass in its turn may add a call, and becomes what HasAddedCall tells of each such account and call
-pub calls_said : (said : List Call) (a : Account) (c : Call) (slots id : ℕ) (m : Me Slot View) → said ≡ c ∷ []
+pub Allows-raise_count : (said : List Call) (a : Account) (c : Call) (slots id : ℕ) (m : Me Slot View) → said ≡ c ∷ []
     → m.0.accounts ≡ a ∷ [] → c.caller ≡ a.caller → m.0.turn ≡ true → length (calls_of m.0.seen) < MOST_CALLS
     → Allows IsDesk slots id m 3 (λ n. (n + 1) % 2 ^ 64) (HasAddedCall said m)
-calls_said said a c slots id m is_said mine by turn free s k one at small =
-    let r = calls said a c slots id m is_said mine by turn free s k one at small in (
+Allows-raise_count said a c slots id m is_said mine by turn free s k one at small =
+    let r = Allows-call said a c slots id m is_said mine by turn free s k one at small in (
       r.0,
       r.1,
       r.2,
@@ -641,8 +664,8 @@ calls_said said a c slots id m is_said mine by turn free s k one at small =
       λ b d said_too mine_too. (
         r.4.0,
         subst (λ (e : Call). Becomes (r.0, carried_after m.1 r.1) (view_after_call m.0 b e, m.1))
-            (said_same c d said is_said said_too)
+            (only_same c d said is_said said_too)
             (subst (λ (e : Account). Becomes (r.0, carried_after m.1 r.1) (view_after_call m.0 e c, m.1))
-            (heads_same a b m.0.accounts mine mine_too) r.4.1),
+            (only_same a b m.0.accounts mine mine_too) r.4.1),
       ),
     )

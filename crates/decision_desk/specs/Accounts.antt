@@ -2,7 +2,7 @@
 use Rattle.std.specs.Prelude.{◌≡◌, ℕ, ◌+◌, ◌<◌, Bool, true, List, [], ◌∷◌, ◌++◌, length, map, nat_eq, if◌then◌else◌}
 use Rattle.decision_book.specs.declared.call.Call.{Call}
 use Rattle.decision_book.specs.declared.call.TheConstants.{MOST_CALLS}
-use Rattle.decision_book.specs.Journal.{Event, raised, asked, calls_of}
+use Rattle.decision_book.specs.Journal.{Event, NewFront, NewCall, calls_of}
 
 -- a caller: its calls, each with its place in the journal, the fronts that it saw, and whether it was answered Full
 pub record Account : Type 0 where
@@ -23,8 +23,8 @@ calls_by x events = calls_from x 0 (calls_of events)
 -- the last front of a journal, or this one where it has none
 abbrev pub front_from : ℕ → List Event → ℕ
 front_from f [] = f
-front_from f (raised g ∷ es) = front_from g es
-front_from f (asked c ∷ es) = front_from f es
+front_from f (NewFront g ∷ es) = front_from g es
+front_from f (NewCall c ∷ es) = front_from f es
 
 -- the last front of a journal, or 0 where it has none
 abbrev pub front_of : List Event → ℕ
@@ -33,8 +33,8 @@ front_of events = front_from 0 events
 -- the fronts of a journal rise, above this one
 abbrev pub RisesFrom : ℕ → List Event → Type 0
 RisesFrom f [] = Unit {0}
-RisesFrom f (raised g ∷ es) = (f < g) × RisesFrom g es
-RisesFrom f (asked c ∷ es) = RisesFrom f es
+RisesFrom f (NewFront g ∷ es) = (f < g) × RisesFrom g es
+RisesFrom f (NewCall c ∷ es) = RisesFrom f es
 
 -- it begins with these
 abbrev pub Begins : List Event → List Event → Type 0
@@ -42,7 +42,7 @@ Begins before events = (more : List Event) × (events ≡ before ++ more)
 
 -- it is these, followed by calls alone
 abbrev pub OnlyCalls : List Event → List Event → Type 0
-OnlyCalls before events = (cs : List Call) × (events ≡ before ++ map asked cs)
+OnlyCalls before events = (cs : List Call) × (events ≡ before ++ map NewCall cs)
 
 -- 0, or a front of the journal
 abbrev pub IsFrontOf : List Event → ℕ → Type 0

@@ -2,17 +2,17 @@
 use Rattle.std.specs.Prelude.{◌≡◌, List, []}
 use Rattle.net_model.specs.Net.{Net}
 use Rattle.stations.specs.Runs.{next_front}
-use Rattle.decision_book.specs.Journal.{Event, raised, asked, after}
+use Rattle.decision_book.specs.Journal.{Event, NewFront, NewCall, after}
 use Rattle.decision_book.specs.Right.{IsRight, EachAfter}
 
 -- a front is the next front of the lists as they stand before it
-abbrev pub IsNext : Net → List Event → Event → Type 0
-IsNext net before (raised f) = f ≡ next_front net (after net before).clones (after net before).front
-IsNext net before (asked call) = Unit {0}
+abbrev pub IsNextFront : Net → List Event → Event → Type 0
+IsNextFront net before (NewFront f) = f ≡ next_front net (after net before).clones (after net before).front
+IsNextFront net before (NewCall call) = Unit {0}
 
 -- each front is the next one
 abbrev pub GoesOn : Net → List Event → Type 0
-GoesOn net events = EachAfter (IsNext net) [] events
+GoesOn net events = EachAfter (IsNextFront net) [] events
 
 -- a journal that is right, and whose fronts are the next ones
 pub record IsLegal (net : Net) (events : List Event) : Type 0 where

@@ -1,4 +1,4 @@
--- What contracts see of a pass, and what a turn of a pass does.
+-- What contracts see of a pass and of the helm, and what their turns do.
 use Rattle.std.specs.Prelude.{◌≡◌, ◌≢◌, ◌⊎◌, ℕ, zero, suc, ◌+◌, ◌-◌, ◌<◌, ◌≤◌, List, []}
 use Rattle.std.specs.Prelude.{◌∷◌, ◌++◌, length, map, true, Some, None, Option, MatchOption, nat_lt, if◌then◌else◌}
 use Rattle.atomic_table.specs.Table.{Me}
@@ -10,7 +10,7 @@ use Rattle.decision_book.specs.declared.call.Call.{Call}
 use Rattle.decision_book.specs.declared.call.TheConstants.{MOST_CALLS}
 use Rattle.decision_book.specs.declared.call.Reply.{Reply}
 use Rattle.decision_book.specs.declared.call.Reply.TheVariants.{Full}
-use Rattle.decision_book.specs.Journal.{Event, asked, raised, call_of, calls_of, after}
+use Rattle.decision_book.specs.Journal.{Event, NewCall, NewFront, call_of, calls_of, after}
 use Rattle.decision_book.specs.Books.{BookView}
 use Rattle.decision_book.specs.Replies.{reply}
 use Rattle.decision_book.specs.Scripts.{accepted_of}
@@ -18,7 +18,7 @@ use Rattle.decision_book.specs.Right.{IsRight}
 use Rattle.decision_desk.specs.declared.desk.TheConstants.{ALL_PARTS}
 use Rattle.decision_desk.specs.Accounts.{Account, AreAccounts, accounts_of, calls_by, Begins, OnlyCalls, front_of}
 use Rattle.decision_desk.specs.Leasts.{leasts_of}
-use Rattle.decision_desk.specs.Turns.{Slot, book_of, view_with_turn, pass_view}
+use Rattle.decision_desk.specs.Turns.{Slot, IsDeskTable, book_of, view_with_turn, pass_view}
 use Rattle.decision_desk.specs.Turns.{helm_view, new_account, with_call, full_account}
 use Rattle.decision_desk.specs.declared.view.View.{View}
 use Rattle.stations.specs.Runs.{next_front}
@@ -60,8 +60,7 @@ receipt_of p = record { entry = Some p.0; reply = p.1.reply }
 -- a pass at rest: one part of the desk, its account, the receipts of its calls, and memory reserved for as many as a
 -- journal may hold
 pub record IsPass (caller : ℕ) (receipts : ReservedView Receipt) (desk : TableId) (me : Me Slot View) : Type 0 where
-  pub words : desk.words ≡ 4
-  pub slots : desk.slots ≡ 1
+  pub sized : IsDeskTable desk
   pub rest : IsPassAtRest me
   pub caller_is : (first_account me.0.accounts).caller ≡ caller
   pub receipts_are : receipts.items ≡ map receipt_of (first_account me.0.accounts).calls
@@ -71,7 +70,7 @@ pub record IsPass (caller : ℕ) (receipts : ReservedView Receipt) (desk : Table
 pub record IsLastEntry (old : BookView) (caller : ℕ) (d : Decision) (answer : Reply) (call : Call) (new : BookView) :
     Type 0 where
   pub is : call ≡ call_of caller old.events d answer
-  pub new_is : new ≡ record old { events = old.events ++ asked call ∷ [] }
+  pub new_is : new ≡ record old { events = old.events ++ NewCall call ∷ [] }
   pub free : length (calls_of old.events) < MOST_CALLS
   pub not_full : answer ≢ Full
 
@@ -82,8 +81,8 @@ HasAnswered old caller d answer told new = (answer ≡ reply (after old.net old.
     × MatchOption told ((answer ≡ Full) × (MOST_CALLS ≤ length (calls_of old.events)) × (new ≡ old))
     (λ call. IsLastEntry old caller d answer call new)
 
--- a seat that came to its turn, behind the events j
-pub record HasTurn (net : Net) (seen : List Event) (a : Account) (me : Me Slot View) (j : List Event) : Type 0 where
+-- a pass that came to its turn, behind the events j
+pub record PassHasTurn (net : Net) (seen : List Event) (a : Account) (me : Me Slot View) (j : List Event) : Type 0 where
   pub ticket : ℕ
   pub begins : Begins seen j
   pub rises : front_of seen ≤ front_of j
@@ -92,7 +91,7 @@ pub record HasTurn (net : Net) (seen : List Event) (a : Account) (me : Me Slot V
   pub is : me ≡ (turn_view net j a ticket, (0, book_of net j) ∷ [])
 
 -- the result of a pass's turn, behind the events j: the call is in the journal, or the reply was Full
-pub record IsTurn (net : Net) (seen : List Event) (a : Account) (d : Decision) (receipt : Receipt)
+pub record IsPassTurn (net : Net) (seen : List Event) (a : Account) (d : Decision) (receipt : Receipt)
     (new : Me Slot View) (j : List Event) : Type 0 where
   pub begins : Begins seen j
   pub rises : front_of seen ≤ front_of j
@@ -102,7 +101,7 @@ pub record IsTurn (net : Net) (seen : List Event) (a : Account) (d : Decision) (
   pub outcome :
       ((receipt.reply ≢ Full) × (receipt.entry ≡ Some (length (calls_of j))) × (length (calls_of j) < MOST_CALLS)
       × (new ≡ (
-        pass_view net (j ++ asked (call_of a.caller j d receipt.reply) ∷ [])
+        pass_view net (j ++ NewCall (call_of a.caller j d receipt.reply) ∷ [])
             (with_call a j (call_of a.caller j d receipt.reply)),
         [],
       )))
@@ -119,7 +118,7 @@ pub record IsAsked (old : PassView) (d : Decision) (receipt : Receipt) (new : Pa
   pub outcome :
       ((receipt.reply ≢ Full) × (receipt.entry ≡ Some (length (calls_of j)))
       × (new ≡ record old {
-        seen = j ++ asked (call_of old.account.caller j d receipt.reply) ∷ [];
+        seen = j ++ NewCall (call_of old.account.caller j d receipt.reply) ∷ [];
         account = with_call old.account j (call_of old.account.caller j d receipt.reply);
       }))
       ⊎ ((receipt.reply ≡ Full) × (receipt.entry ≡ None) × (length (calls_of j) ≡ MOST_CALLS)
@@ -153,21 +152,20 @@ abbrev pub IsHelmAtRest : Me Slot View → Type 0
 IsHelmAtRest me = me ≡ (helm_view me.0.net me.0.parts me.0.seen me.0.helm me.0.made me.0.accounts, [])
 
 -- the view of the helm in its turn
-abbrev pub helm_turn : Net → ℕ → List Event → List Event → ℕ → List Account → ℕ → View
-helm_turn net parts j helm made accounts ticket =
+abbrev pub helm_turn_view : Net → ℕ → List Event → List Event → ℕ → List Account → ℕ → View
+helm_turn_view net parts j helm made accounts ticket =
     view_with_turn (helm_view net parts j helm made accounts) true ticket true j
 
 -- the helm in its turn, while the book is out of the slot
 abbrev pub IsHelmInTurn : Me Slot View → Type 0
 IsHelmInTurn me = me ≡ (
-  helm_turn me.0.net me.0.parts me.0.seen me.0.helm me.0.made me.0.accounts me.0.ticket,
+  helm_turn_view me.0.net me.0.parts me.0.seen me.0.helm me.0.made me.0.accounts me.0.ticket,
   (0, None) ∷ [],
 )
 
 -- a helm at rest: some parts of the desk, the number of passes made, and what it knew at its last turn
 pub record IsHelm (made known front : ℕ) (desk : TableId) (me : Me Slot View) : Type 0 where
-  pub words : desk.words ≡ 4
-  pub slots : desk.slots ≡ 1
+  pub sized : IsDeskTable desk
   pub rest : IsHelmAtRest me
   pub some_part : 0 < me.0.parts
   pub made_is : me.0.made ≡ made
@@ -187,7 +185,15 @@ new_passes desk net (suc n) = new_passes desk net n ++ new_pass desk net (n + 1)
 
 -- the helm, once so many passes were made
 abbrev pub new_helm : TableId → Net → ℕ → HelmView
-new_helm desk net n = record { desk = desk; net = net; parts = ALL_PARTS - n; seen = []; helm = []; made = n; accounts = [] }
+new_helm desk net n = record {
+  desk = desk;
+  net = net;
+  parts = ALL_PARTS - n;
+  seen = [];
+  helm = [];
+  made = n;
+  accounts = [];
+}
 
 -- the front was seen, behind the events j
 abbrev pub pass_after_look : PassView → List Event → PassView
@@ -198,7 +204,7 @@ abbrev pub late_front : ℕ → ℕ → Option ℕ
 late_front front time = if nat_lt time front then Some front else None
 
 -- what the book is that a desk leaves
-pub record IsClosed (helm : HelmView) (book : BookView) : Type 0 where
+pub record IsFinalBook (helm : HelmView) (book : BookView) : Type 0 where
   pub net : book.net ≡ helm.net
   pub seen : Begins helm.seen book.events
   pub only_calls : OnlyCalls helm.helm book.events
@@ -211,13 +217,13 @@ pub record IsClosed (helm : HelmView) (book : BookView) : Type 0 where
 pub record HelmHasTurn (old : View) (me : Me Slot View) (j : List Event) : Type 0 where
   pub ticket : ℕ
   pub only_calls : OnlyCalls old.helm j
-  pub is : me ≡ (helm_turn old.net old.parts j old.helm old.made old.accounts ticket, (0, book_of old.net j) ∷ [])
+  pub is : me ≡ (helm_turn_view old.net old.parts j old.helm old.made old.accounts ticket, (0, book_of old.net j) ∷ [])
 
 -- only calls were made since so many were known; these are the least times as the clones stood then, below the horizon
 pub record IsSince (book : BookView) (known : ℕ) (least : List (Option ℕ)) : Type 0 where
   pub helm : List Event
   pub calls : List Call
-  pub events : book.events ≡ helm ++ map asked calls
+  pub events : book.events ≡ helm ++ map NewCall calls
   pub known_is : known ≡ length (calls_of helm)
   pub below : front_of helm < book.net.horizon
   pub least_is : least ≡ leasts_of book.net (after book.net helm).clones (front_of helm)
@@ -234,27 +240,28 @@ pub record IsTurnAhead (book : BookView) (helm : List Event) (cs fresh : List Ca
   pub right : IsRight book.net book.events
 
 -- a turn of the helm over the book
-pub record IsGoneOn (old : BookView) (helm : List Event) (cs : List Call) (turn : Turn) (new : BookView) : Type 0 where
+pub record IsHelmTurn (old : BookView) (helm : List Event) (cs : List Call) (turn : Turn) (new : BookView) :
+    Type 0 where
   pub fresh : turn.fresh.items ≡ accepted_of cs
   pub front : turn.front ≡ next_front old.net (after old.net old.events).clones (front_of helm)
   pub above : front_of old.events < turn.front
   pub within : turn.front ≤ old.net.horizon
   pub right : IsRight old.net old.events
-  pub new_is : new ≡ record old { events = old.events ++ raised turn.front ∷ [] }
+  pub new_is : new ≡ record old { events = old.events ++ NewFront turn.front ∷ [] }
 
 -- a turn of the helm, behind the events j: only calls were made since its last, and the front is the next one
 pub record IsNextTurn (old : HelmView) (turn : Turn) (new : HelmView) (cs : List Call) : Type 0 where
   pub fresh : turn.fresh.items ≡ accepted_of cs
-  pub front : turn.front ≡ next_front old.net (after old.net (old.helm ++ map asked cs)).clones (front_of old.helm)
-  pub above : front_of (old.helm ++ map asked cs) < turn.front
+  pub front : turn.front ≡ next_front old.net (after old.net (old.helm ++ map NewCall cs)).clones (front_of old.helm)
+  pub above : front_of (old.helm ++ map NewCall cs) < turn.front
   pub within : turn.front ≤ old.net.horizon
   -- so each accepted set or end has a time at least the front
-  pub right : IsRight old.net (old.helm ++ map asked cs)
+  pub right : IsRight old.net (old.helm ++ map NewCall cs)
   pub new_is : new ≡ record old {
-    seen = (old.helm ++ map asked cs) ++ raised turn.front ∷ [];
-    helm = (old.helm ++ map asked cs) ++ raised turn.front ∷ [];
+    seen = (old.helm ++ map NewCall cs) ++ NewFront turn.front ∷ [];
+    helm = (old.helm ++ map NewCall cs) ++ NewFront turn.front ∷ [];
   }
 
 -- a turn that found no memory
-abbrev pub IsMissed : HelmView → HelmView → Type 0
-IsMissed old new = (j : List Event) × OnlyCalls old.helm j × (new ≡ record old { seen = j })
+abbrev pub IsMissedTurn : HelmView → HelmView → Type 0
+IsMissedTurn old new = (j : List Event) × OnlyCalls old.helm j × (new ≡ record old { seen = j })

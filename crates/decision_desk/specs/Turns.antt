@@ -9,18 +9,22 @@ use Rattle.atomic_table.specs.Seated.{TableId}
 use Rattle.net_model.specs.Net.{Net}
 use Rattle.decision_book.specs.declared.call.Call.{Call}
 use Rattle.decision_book.specs.declared.call.TheConstants.{MOST_CALLS}
-use Rattle.decision_book.specs.Journal.{Event, raised, asked, calls_of}
+use Rattle.decision_book.specs.Journal.{Event, NewFront, NewCall, calls_of}
 use Rattle.decision_book.specs.Books.{BookView}
 use Rattle.decision_desk.specs.declared.desk.TheConstants.{ALL_PARTS}
 use Rattle.decision_desk.specs.Accounts.{Account, AreAccounts, accounts_of, calls_by}
 use Rattle.decision_desk.specs.Accounts.{front_of, RisesFrom, Begins, OnlyCalls}
 use Rattle.decision_desk.specs.declared.view.View.{View}
 
--- the seat is at this board, which has four words, front, ticket, serving and count, and the slot of the book
+-- a desk's table: it has four words, front, ticket, serving and count, and the slot of the book
+pub record IsDeskTable (table : TableId) : Type 0 where
+  pub words : table.words ≡ 4
+  pub slots : table.slots ≡ 1
+
+-- the seat is at this board, which is a desk's
 pub record IsSeatOf (board seat : TableId) : Type 0 where
   pub table : seat ≡ board
-  pub words : board.words ≡ 4
-  pub slots : board.slots ≡ 1
+  pub sized : IsDeskTable board
 
 -- what lies in the slot
 abbrev pub Slot : Type 0
@@ -141,18 +145,18 @@ with_call a journal c = record a {
   fronts = a.fronts ++ front_of journal ∷ [];
 }
 
--- and the journal that its seat sees
+-- and what its seat knows then: the call is the last of the journal
 abbrev pub view_after_call : View → Account → Call → View
-view_after_call v a c = record v { seen = v.seen ++ asked c ∷ []; accounts = with_call a v.seen c ∷ [] }
+view_after_call v a c = record v { seen = v.seen ++ NewCall c ∷ []; accounts = with_call a v.seen c ∷ [] }
 
 -- the step that adds a call tells the call's place, and the seat has it in its journal and account
 abbrev pub HasAddedCall : List Call → Me Slot View → ℕ → Me Slot View → Type 0
 HasAddedCall calls m n m' = (a : Account) (c : Call) → calls ≡ c ∷ [] → m.0.accounts ≡ a ∷ []
     → (n ≡ length (calls_of m.0.seen)) × (m' ≡ (view_after_call m.0 a c, m.1))
 
--- the front joins the journal
+-- what a seat knows that raised the front: it is the last of the journal
 abbrev pub view_after_front : View → ℕ → View
-view_after_front v f = record v { seen = v.seen ++ raised f ∷ []; helm = v.seen ++ raised f ∷ [] }
+view_after_front v f = record v { seen = v.seen ++ NewFront f ∷ []; helm = v.seen ++ NewFront f ∷ [] }
 
 -- a seat that raised the front has it in its journal
 abbrev pub HasRaisedFront : Me Slot View → ℕ → Me Slot View → Type 0
@@ -225,11 +229,11 @@ abbrev pub HasSeenFront : Me Slot View → ℕ → Me Slot View → Type 0
 HasSeenFront m n m' = (a : Account) → m.0.accounts ≡ a ∷ [] → (j : List Event) × Begins m.0.seen j × (n ≡ front_of j)
     × (m' ≡ (view_after_look m.0 a j, m.1)) × (front_of m.0.seen ≤ n)
 
--- the turn ends, and the caller was answered Full
+-- the account of a caller that was answered Full
 abbrev pub full_account : Account → Account
 full_account a = record a { full = true }
 
--- a seat that left its turn so is at rest with this account, and carries nothing
+-- a seat that was answered Full and left its turn is at rest with this account, and carries nothing
 abbrev pub HasEndedFullTurn : Me Slot View → ℕ → Me Slot View → Type 0
 HasEndedFullTurn m n m' = (a : Account) → m.0.accounts ≡ a ∷ []
     → m' ≡ (record (view_with_turn m.0 false 0 false m.0.seen) { accounts = full_account a ∷ [] }, [])

@@ -4,8 +4,8 @@ ghost use Rattle.std.specs.Prelude.{List, All, Some, length, map, IfOk, OnOk, On
 ghost use Rattle.decision_book.specs.Journal.{Event};
 ghost use Rattle.decision_desk.specs.declared.desk.TheConstants.{ALL_PARTS, MOST_PASSES};
 ghost use Rattle.decision_desk.specs.Accounts.{Begins, front_of};
-ghost use Rattle.decision_desk.specs.Turns.{new_account};
-ghost use Rattle.decision_desk.specs.Passes.{IsAsked, IsClosed, late_front, pass_after_look, new_passes, new_helm};
+ghost use Rattle.decision_desk.specs.Turns.{IsDeskTable, new_account};
+ghost use Rattle.decision_desk.specs.Passes.{IsAsked, IsFinalBook, late_front, pass_after_look, new_passes, new_helm};
 
 use crate::helm::Helm;
 use crate::legal::LegalBook;
@@ -23,14 +23,14 @@ use std::sync::{Arc, Wait};
 pub const MOST_PASSES: u32 = 16;
 
 /// The parts of a desk, with all of which the helm begins: one for each pass, and its own.
-pub const ALL_PARTS: u32 = 17;
+pub const ALL_PARTS: u32 = MOST_PASSES + 1;
 
 /// The book between threads.
 #[derive(Drop)]
 pub struct Desk {
     /// The words of the turns, and the slot of the book.
     pub(crate) table: Table<Option<LegalBook>, View, Model, DeskRule, Global>,
-    pub ghost sized: { (table.shared.table_id.words ≡ 4) × (table.shared.table_id.slots ≡ 1) },
+    pub ghost sized: { IsDeskTable table.shared.table_id },
 }
 
 impl Desk {
@@ -181,7 +181,7 @@ impl Desk {
         requires desk { helm.desk ≡ self.table.shared.table_id }
         requires passes { All (λ p. p.desk ≡ self.table.shared.table_id) passes.items }
         requires whole { helm.parts + length passes.items ≡ ALL_PARTS }
-        ensures closed { IsClosed (record helm {
+        ensures closed { IsFinalBook (record helm {
           parts = ALL_PARTS;
           accounts = helm.accounts ++ map (λ p. p.account) passes.items;
         }) result }
@@ -195,7 +195,7 @@ impl Desk {
     fn take_book(self, helm: Helm) -> LegalBook
         requires desk { helm.desk ≡ self.table.shared.table_id }
         requires whole { helm.parts ≡ ALL_PARTS }
-        ensures closed { IsClosed helm result }
+        ensures closed { IsFinalBook helm result }
     {
         let Desk { table } = self;
         let Helm { seat, .. } = helm;

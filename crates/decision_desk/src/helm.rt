@@ -1,10 +1,10 @@
 //! The helm, the engine's seat: its turns raise the front, the boundary of the next window.
 ghost use Rattle.std.specs.Prelude.{◌≡◌, ◌<◌, ◌++◌, ◌∷◌, [], List, MatchResult};
-ghost use Rattle.decision_book.specs.Journal.{Event, raised, after};
+ghost use Rattle.decision_book.specs.Journal.{Event, NewFront, after};
 ghost use Rattle.decision_book.specs.declared.call.Call.{Call};
 ghost use Rattle.decision_desk.specs.Accounts.{front_of};
 ghost use Rattle.decision_desk.specs.Turns.{IsSeatOf, seen_book, helm_view};
-ghost use Rattle.decision_desk.specs.Passes.{IsHelmAtRest, IsHelmInTurn, HelmHasTurn, IsNextTurn, IsMissed};
+ghost use Rattle.decision_desk.specs.Passes.{IsHelmAtRest, IsHelmInTurn, HelmHasTurn, IsNextTurn, IsMissedTurn};
 ghost use Rattle.decision_desk.specs.Leasts.{leasts_of};
 
 use crate::desk::Desk;
@@ -62,15 +62,18 @@ fn come_to_helm_turn<R: Wait>(rt: &R, board: &Board, seat: &mut Chair)
 
 /// Tells of a front, and ends the turn.
 fn raise_and_leave(board: &Board, seat: &mut Chair, book: LegalBook, front: u64)
+    // the helm has the turn, and the book has the front behind all that was seen
     requires table { IsSeatOf board.now.table_id seat.old.table_id }
     requires turn { IsHelmInTurn seat.old.me }
     requires part { 0 < seat.old.me.0.parts }
     requires above { front_of seat.old.me.0.seen < front }
-    requires book { book ≡ record { net = seat.old.me.0.net; events = seat.old.me.0.seen ++ raised front ∷ [] } }
+    requires book { book ≡ record { net = seat.old.me.0.net; events = seat.old.me.0.seen ++ NewFront front ∷ [] } }
+    // what is kept: the table of the seat
     ensures table { seat.new.table_id ≡ seat.old.table_id }
+    // what it gives: the helm at rest, with the front in its journal
     ensures rest { seat.new.me ≡ (
       helm_view seat.old.me.0.net seat.old.me.0.parts
-          (seat.old.me.0.seen ++ raised front ∷ []) (seat.old.me.0.seen ++ raised front ∷ []) seat.old.me.0.made
+          (seat.old.me.0.seen ++ NewFront front ∷ []) (seat.old.me.0.seen ++ NewFront front ∷ []) seat.old.me.0.made
           seat.old.me.0.accounts,
       [],
     ) }
@@ -120,7 +123,7 @@ impl Helm {
             (front_of self.old.helm) }
         ensures turn { MatchResult result
             (λ turn. (cs : List Call) × IsNextTurn self.old turn self.new cs)
-            (λ _. IsMissed self.old self.new) }
+            (λ _. IsMissedTurn self.old self.new) }
     {
         let board = &desk.table.shared;
         let seat = &mut self.seat;

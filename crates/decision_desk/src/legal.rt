@@ -1,7 +1,7 @@
 //! A book whose journal is legal: each front in it is the next one of the lists before it.
 ghost use Rattle.std.specs.Prelude.{◌≡◌, ◌<◌, ◌≤◌, ◌++◌, ◌∷◌, [], OnOk, OnErr, IfOk};
 ghost use Rattle.stations.specs.Runs.{next_front};
-ghost use Rattle.decision_book.specs.Journal.{after, raised};
+ghost use Rattle.decision_book.specs.Journal.{after, NewFront};
 ghost use Rattle.decision_desk.specs.Legal.{GoesOn};
 ghost use Rattle.decision_desk.specs.Passes.{HasAnswered};
 
@@ -44,7 +44,7 @@ impl LegalBook {
         requires next { front ≡ next_front self.old.net (after self.old.net self.old.events).clones
             (after self.old.net self.old.events).front }
         ensures ok { OnOk result (
-            self.new ≡ record self.old { events = self.old.events ++ raised front ∷ [] }) }
+            self.new ≡ record self.old { events = self.old.events ++ NewFront front ∷ [] }) }
         ensures err { OnErr result (self.new ≡ self.old) }
     {
         self.book.advance(front)

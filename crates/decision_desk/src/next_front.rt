@@ -5,10 +5,10 @@ ghost use Rattle.net_model.specs.Rules.{IsNet};
 ghost use Rattle.run_laws.specs.Fronts.{window_end};
 ghost use Rattle.run_laws.specs.FrontLaws.{time_before as time_before'};
 ghost use Rattle.stations.specs.Runs.{simulation};
-ghost use Rattle.decision_book.specs.Journal.{Event, asked, calls_of};
+ghost use Rattle.decision_book.specs.Journal.{Event, NewCall, calls_of};
 ghost use Rattle.decision_book.specs.Scripts.{accepted_onto, accepted_of};
 ghost use Rattle.decision_book.specs.declared.call.Call.{Call};
-ghost use Rattle.decision_desk.specs.Passes.{IsGoneOn, IsTurnAhead, IsSince};
+ghost use Rattle.decision_desk.specs.Passes.{IsHelmTurn, IsTurnAhead, IsSince};
 ghost use Rattle.decision_desk.specs.Leasts.{earliest as earliest', leasts_with, leasts_with_calls, helm_at, calls_at};
 
 use crate::helm::Turn;
@@ -60,8 +60,12 @@ fn accepted_calls_from(alloc: Global, calls: &[Call], known: usize) -> Result<Ve
     accepted_calls(alloc, &calls[known..])
 }
 
-// The least times after an accepted decision on the clone at this place.
-fn change(times: &mut Vec<Option<u64>>, place: Option<u32>, d: &Decision) -> Result<(), NoMemory>
+// Takes an accepted decision on the clone at this place into the least times.
+fn take_decision(
+    times: &mut Vec<Option<u64>>,
+    place: Option<u32>,
+    d: &Decision,
+) -> Result<(), NoMemory>
     ensures ok { OnOk result (times.new.items ≡ leasts_with place times.old.items d.now) }
 {
     let Some(place) = place else {
@@ -80,12 +84,12 @@ fn change(times: &mut Vec<Option<u64>>, place: Option<u32>, d: &Decision) -> Res
     Ok(())
 }
 
-// The least times after these accepted calls.
-fn change_all(times: &mut Vec<Option<u64>>, lists: &Lists, fresh: &[Call]) -> Result<(), NoMemory>
+// Takes these accepted calls into the least times.
+fn take_calls(times: &mut Vec<Option<u64>>, lists: &Lists, fresh: &[Call]) -> Result<(), NoMemory>
     ensures ok { OnOk result (times.new.items ≡ leasts_with_calls lists.now.clones times.old.items fresh.now) }
 {
     for call in fresh {
-        change(times, lists.find(&call.decision.subject()), &call.decision)?;
+        take_decision(times, lists.find(&call.decision.subject()), &call.decision)?;
     }
     Ok(())
 }
@@ -132,7 +136,7 @@ impl LegalBook {
         let fresh = accepted_calls_from(alloc, book.calls(), known)?;
         let mut times = Vec::new(alloc);
         times.extend_from_slice(least)?;
-        change_all(&mut times, book.lists(), fresh.as_slice())?;
+        take_calls(&mut times, book.lists(), fresh.as_slice())?;
         let front = end_of_window(book.model(), earliest(times.as_slice()));
         Ok(Turn { front, fresh })
     }
@@ -147,8 +151,8 @@ impl LegalBook {
     ) -> Result<Turn, NoMemory>
         requires since { IsSince self.old known least.now }
         ensures turn { (helm : List Event) (cs : List Call) →
-            self.old.events ≡ helm ++ map asked cs → known ≡ length (calls_of helm) → MatchResult result
-            (λ turn. IsGoneOn self.old helm cs turn self.new)
+            self.old.events ≡ helm ++ map NewCall cs → known ≡ length (calls_of helm) → MatchResult result
+            (λ turn. IsHelmTurn self.old helm cs turn self.new)
             (λ _. self.new ≡ self.old) }
     {
         let turn = self.look_ahead(alloc, known, least)?;

@@ -1,9 +1,9 @@
 //! Passes: what an analyst asks the desk with.
 ghost use Rattle.std.specs.Prelude.{◌≡◌, ◌++◌, ◌∷◌, [], List, ◌<◌, length, None};
 ghost use Rattle.decision_book.specs.declared.call.TheConstants.{MOST_CALLS};
-ghost use Rattle.decision_book.specs.Journal.{Event, asked, calls_of};
+ghost use Rattle.decision_book.specs.Journal.{Event, NewCall, calls_of};
 ghost use Rattle.decision_desk.specs.Turns.{IsSeatOf, book_of, seen_book, pass_view, with_call, full_account};
-ghost use Rattle.decision_desk.specs.Passes.{IsPassAtRest, IsPassInTurn, HasTurn, IsTurn, first_account};
+ghost use Rattle.decision_desk.specs.Passes.{IsPassAtRest, IsPassInTurn, PassHasTurn, IsPassTurn, first_account};
 
 use crate::legal::LegalBook;
 use crate::turns::{Board, Chair, draw_ticket, end_full_turn, end_turn, raise_count, wait_turn};
@@ -69,7 +69,7 @@ pub(crate) fn come_to_turn<R: Wait>(rt: &R, board: &Board, seat: &mut Chair)
     requires table { IsSeatOf board.now.table_id seat.old.table_id }
     requires rest { IsPassAtRest seat.old.me }
     ensures table { seat.new.table_id ≡ seat.old.table_id }
-    ensures turn { (j : List Event) × HasTurn seat.old.me.0.net seat.old.me.0.seen
+    ensures turn { (j : List Event) × PassHasTurn seat.old.me.0.net seat.old.me.0.seen
         (first_account seat.old.me.0.accounts) seat.new.me j }
 {
     let ticket = draw_ticket(board, seat);
@@ -78,15 +78,18 @@ pub(crate) fn come_to_turn<R: Wait>(rt: &R, board: &Board, seat: &mut Chair)
 
 /// Counts a call, puts the book back and ends the turn; gives the call's place in the journal.
 pub(crate) fn tell_and_leave(board: &Board, seat: &mut Chair, book: LegalBook, call: &Call) -> u64
+    // the pass has the turn, and the book has the call behind all that was seen
     requires table { IsSeatOf board.now.table_id seat.old.table_id }
     requires turn { IsPassInTurn seat.old.me }
     requires free { length (calls_of seat.old.me.0.seen) < MOST_CALLS }
     requires caller { call.now.caller ≡ (first_account seat.old.me.0.accounts).caller }
-    requires book { book ≡ record { net = seat.old.me.0.net; events = seat.old.me.0.seen ++ asked call.now ∷ [] } }
+    requires book { book ≡ record { net = seat.old.me.0.net; events = seat.old.me.0.seen ++ NewCall call.now ∷ [] } }
+    // what is kept: the table of the seat
     ensures table { seat.new.table_id ≡ seat.old.table_id }
+    // what it gives: the call's place, and the pass at rest, with the call in its journal and account
     ensures entry { result ≡ length (calls_of seat.old.me.0.seen) }
     ensures rest { seat.new.me ≡ (
-      pass_view seat.old.me.0.net (seat.old.me.0.seen ++ asked call.now ∷ [])
+      pass_view seat.old.me.0.net (seat.old.me.0.seen ++ NewCall call.now ∷ [])
           (with_call (first_account seat.old.me.0.accounts) seat.old.me.0.seen call.now),
       [],
     ) }
@@ -126,7 +129,7 @@ pub(crate) fn take_turn<R: Wait>(
     requires rest { IsPassAtRest seat.old.me }
     requires caller { (first_account seat.old.me.0.accounts).caller ≡ caller }
     ensures table { seat.new.table_id ≡ seat.old.table_id }
-    ensures turn { (j : List Event) × IsTurn seat.old.me.0.net seat.old.me.0.seen
+    ensures turn { (j : List Event) × IsPassTurn seat.old.me.0.net seat.old.me.0.seen
         (first_account seat.old.me.0.accounts) d.now result seat.new.me j }
 {
     come_to_turn(rt, board, seat);

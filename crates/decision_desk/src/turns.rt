@@ -174,11 +174,14 @@ pub fn wait_turn<R: Wait>(rt: &R, board: &Board, seat: &mut Chair, ticket: u64)
 
 /// Counts a call, and gives its place in the journal.
 pub fn raise_count<E: AddedCall>(board: &Board, seat: &mut Chair, call: &Call) -> u64
+    // the seat has the turn, the journal has a free place for a call, and the one account is the caller's
     requires table { IsSeatOf board.now.table_id seat.old.table_id }
     requires calls { E.calls ≡ call.now ∷ [] }
     requires turn { (seat.old.me.0.turn ≡ true) × (length (calls_of seat.old.me.0.seen) < MOST_CALLS) }
     requires account { (a : Account) × (seat.old.me.0.accounts ≡ a ∷ []) × (call.now.caller ≡ a.caller) }
+    // what is kept: the table of the seat
     ensures table { seat.new.table_id ≡ seat.old.table_id }
+    // what it gives: the call's place in the journal, and what the seat sees with the call
     ensures count { result ≡ length (calls_of seat.old.me.0.seen) }
     ensures call { (a : Account) → seat.old.me.0.accounts ≡ a ∷ []
         → seat.new.me ≡ (view_after_call seat.old.me.0 a call.now, seat.old.me.1) }
@@ -210,12 +213,15 @@ pub fn end_turn(board: &Board, seat: &mut Chair)
 
 /// Ends the turn of a caller that was answered Full.
 pub fn end_full_turn(board: &Board, seat: &mut Chair)
+    // the seat has the turn, and the book is back; the journal has all calls that it may have
     requires table { IsSeatOf board.now.table_id seat.old.table_id }
     requires turn { (seat.old.me.0.turn ≡ true) × (0 < seat.old.me.0.parts) }
     requires home { seat.old.me.1 ≡ (0, book_of seat.old.me.0.net seat.old.me.0.seen) ∷ [] }
     requires full { length (calls_of seat.old.me.0.seen) ≡ MOST_CALLS }
     requires account { (a : Account) × (seat.old.me.0.accounts ≡ a ∷ []) }
+    // what is kept: the table of the seat
     ensures table { seat.new.table_id ≡ seat.old.table_id }
+    // what it gives: a seat at rest, whose account was answered Full
     ensures rest { (a : Account) → seat.old.me.0.accounts ≡ a ∷ []
         → seat.new.me ≡ (
           record (view_with_turn seat.old.me.0 false 0 false seat.old.me.0.seen)

@@ -12,6 +12,7 @@ use Rattle.decision_script.specs.declared.item.Item.{Item}
 use Rattle.sim_base.specs.Chain.{◌>>=◌}
 use Rattle.decision_script.specs.Sentences.{saying}
 use Rattle.decision_script.specs.Stating.{IsNamed, IsAct, IsItem, analyst_name}
+use Rattle.decision_script.specs.declared.script.TheConstants.{MOST_ANALYSTS, MOST_ITEMS}
 use Rattle.decision_script.specs.Reading.{ReaderView, after_line, after_lines, after_saying}
 use Rattle.decision_script.specs.Reading.{at_line, analyst_place, in_section, new_reader}
 use Rattle.decision_script.specs.Printing.{words_of_act, words_of_section, item_lines, canonical_text}
@@ -26,42 +27,45 @@ AreNew before [] = Unit {0}
 AreNew before (name ∷ more) = IsNamed name × (analyst_place name before ≡ None) × AreNew (before ++ name ∷ []) more
 
 -- ---- after_line
--- a line that is written of words
+
+-- a line that is written of words gives what the words say
 after_words : (line : ℕ) (r : ReaderView) (ws : List (List ℕ)) → AllByRecursion IsWord ws
     → after_line line r (join_with_byte 32 ws) ≡ (at_line line (saying ws) >>= after_saying line r)
 unfolding after_line
 after_words line r ws h = ap (λ x. at_line line x >>= after_saying line r) (line_saying-join ws h)
 
--- the line of an act
-pub after_act : (line : ℕ) (r : ReaderView) (act : Act) → IsAct act → length r.items < 4096
+-- the line of an act adds it as an item
+pub after_act : (line : ℕ) (r : ReaderView) (act : Act) → IsAct act → length r.items < MOST_ITEMS
     → after_line line r (join_with_byte 32 (words_of_act act))
     ≡ Ok (record r { items = r.items ++ (record { line = line; analyst = r.current; act = act }) ∷ [] })
 after_act line r act h few =
-    let lt : nat_lt (length r.items) 4096 ≡ true = grind (arith, nat_tests) in
+    let lt : nat_lt (length r.items) MOST_ITEMS ≡ true = grind (arith, nat_tests) in
     after_words line r (words_of_act act) (act_words act h) ∙ ap (λ x. at_line line x >>= after_saying line r)
     (saying-act act h) ∙ rw lt refl
 
--- the line of a section
+-- the line of a section begins it
 pub after_section : (line : ℕ) (r : ReaderView) (name : List ℕ) → IsNamed name
     → after_line line r (join_with_byte 32 (words_of_section name))
     ≡ in_section line r name (analyst_place name r.analysts)
 after_section line r name h = after_words line r (words_of_section name) (section_words name h)
     ∙ ap (λ x. at_line line x >>= after_saying line r) (saying-section name h)
 
--- a new name
+-- a new name makes the next analyst
 after_new : (line : ℕ) (r : ReaderView) (name : List ℕ) → IsNamed name → analyst_place name r.analysts ≡ None
-    → length r.analysts < 16
+    → length r.analysts < MOST_ANALYSTS
     → after_line line r (join_with_byte 32 (words_of_section name))
     ≡ Ok (record { analysts = r.analysts ++ name ∷ []; current = length r.analysts + 1; items = r.items })
 after_new line r name h new few =
-    let lt : nat_lt (length r.analysts) 16 ≡ true = grind (arith, nat_tests) in
+    let lt : nat_lt (length r.analysts) MOST_ANALYSTS ≡ true = grind (arith, nat_tests) in
     after_section line r name h ∙ ap (in_section line r name) new ∙ rw lt refl
 
--- a known one
+-- a known one is in force again
 after_known : (line : ℕ) (r : ReaderView) (name : List ℕ) (i : ℕ) → IsNamed name
     → analyst_place name r.analysts ≡ Some i
     → after_line line r (join_with_byte 32 (words_of_section name)) ≡ Ok (record r { current = i + 1 })
 after_known line r name i h known = after_section line r name h ∙ ap (in_section line r name) known
+
+-- ---- after_lines
 
 -- a line that is read, and the lines after it
 pub after_lines-Ok : (line : ℕ) (r next : ReaderView) (l : List ℕ) (ls : List (List ℕ)) → after_line line r l ≡ Ok next
@@ -69,9 +73,9 @@ pub after_lines-Ok : (line : ℕ) (r next : ReaderView) (l : List ℕ) (ls : Lis
 unfolding after_lines
 after_lines-Ok line r next l ls one = ap (λ x. x >>= λ next. after_lines (line + 1) next ls) one
 
--- the sections at the top
+-- the sections at the top add their analysts
 headers_read : (line c : ℕ) (before more : List (List ℕ)) (items : List Item) (rest : List (List ℕ))
-    → c ≡ length before → AreNew before more → length before + length more ≤ 16
+    → c ≡ length before → AreNew before more → length before + length more ≤ MOST_ANALYSTS
     → (end : ℕ) × (after_lines line (record { analysts = before; current = c; items = items })
     (map (join_with_byte 32) (map words_of_section more) ++ rest)
     ≡ after_lines end (record { analysts = before ++ more; current = length (before ++ more); items = items }) rest)
@@ -87,31 +91,32 @@ headers_read line c before (name ∷ more) items rest e h few =
     (omega (arith, length-append before (name ∷ []))) in
     (end, after_lines-Ok line _ _ _ _ new ∙ rw append_assoc at again)
 
--- the result of reading these items
-pub record Read (before : ReaderView) (given : Result ReaderView ScriptFault) (more : List Item) : Type 0 where
+-- these items are read, and the analysts stay
+pub record AreRead (before : ReaderView) (given : Result ReaderView ScriptFault) (more : List Item) : Type 0 where
   pub after : ReaderView
   pub read : given ≡ Ok after
   pub analysts : after.analysts ≡ before.analysts
   pub items : map without_line after.items ≡ map without_line before.items ++ map without_line more
 
--- each is the first of its name
+-- each analyst is the first of its name
 pub record AreKnown (analysts : List (List ℕ)) : Type 0 where
   pub known : (a : ℕ) → 1 ≤ a → a ≤ length analysts → analyst_place (analyst_name analysts a) analysts ≡ Some (a - 1)
   pub named : (a : ℕ) → 1 ≤ a → a ≤ length analysts → IsNamed (analyst_name analysts a)
 
+-- the line of an item is read, where its analyst is in force, and then those of the others
 act_read : (line : ℕ) (r : ReaderView) (item : Item) (more : List Item) (rest : List (List ℕ)) → IsAct item.act
-    → length r.items < 4096 → r.current ≡ item.analyst
-    → Read (record r { items = r.items ++ (record { line = line; analyst = r.current; act = item.act }) ∷ [] })
+    → length r.items < MOST_ITEMS → r.current ≡ item.analyst
+    → AreRead (record r { items = r.items ++ (record { line = line; analyst = r.current; act = item.act }) ∷ [] })
     (after_lines (line + 1) (record r {
       items = r.items
           ++ (record { line = line; analyst = r.current; act = item.act }) ∷ [];
     }) rest) more
-    → Read r (after_lines line r (join_with_byte 32 (words_of_act item.act) ∷ rest)) (item ∷ more)
+    → AreRead r (after_lines line r (join_with_byte 32 (words_of_act item.act) ∷ rest)) (item ∷ more)
 act_read line r item more rest h few same read = record {
   after = read.after;
   read = after_lines-Ok line _ _ _ _ (after_act line r item.act h few) ∙ read.read;
   analysts = read.analysts;
-  items = read.items ∙ ap (λ front. front ++ map without_line more)
+  items = read.items ∙ ap (λ before. before ++ map without_line more)
       (map-append without_line r.items (record { line = line; analyst = r.current; act = item.act } ∷ []))
       ∙ append_assoc (map without_line r.items) ((r.current, item.act) ∷ []) (map without_line more)
       ∙ ap (λ a. map without_line r.items ++ ((a, item.act) ∷ map without_line more)) same;
@@ -119,13 +124,13 @@ act_read line r item more rest h few same read = record {
 
 -- the lines of one item, where the analyst in force is its own or not
 item_read : (line force : ℕ) (r : ReaderView) (item : Item) (more : List Item) (rest : List (List (List ℕ)))
-    → AreKnown r.analysts → r.current ≡ force → IsItem (length r.analysts) item → length r.items < 4096
+    → AreKnown r.analysts → r.current ≡ force → IsItem (length r.analysts) item → length r.items < MOST_ITEMS
     → ((n c : ℕ) → c ≡ item.analyst
-    → Read (record r { current = c })
+    → AreRead (record r { current = c })
     (after_lines n (record r { current = c }) (map (join_with_byte 32) (words_of_act item.act ∷ rest)
     ++ ([] ∷ []))) (item ∷ more))
     → (b : Bool) → (item.analyst == force) ≡ b
-    → Read r (after_lines line r (map (join_with_byte 32)
+    → AreRead r (after_lines line r (map (join_with_byte 32)
     (cond b [] (words_of_section (analyst_name r.analysts item.analyst) ∷ []) ++ (words_of_act item.act ∷ rest))
     ++ ([] ∷ []))) (item ∷ more)
 item_read line force r item more rest known e h few go true same = go line r.current (grind (arith, nat_tests))
@@ -142,9 +147,9 @@ item_read line force r item more rest known e h few go false other =
     }
 
 -- the lines that are written of items are read as these items, but for the numbers of the lines
-pub items_read : (line force : ℕ) (r : ReaderView) (items : List Item) → AreKnown r.analysts → r.current ≡ force
-    → AllByRecursion (IsItem (length r.analysts)) items → length r.items + length items ≤ 4096
-    → Read r (after_lines line r (map (join_with_byte 32) (item_lines r.analysts force items) ++ ([] ∷ []))) items
+items_read : (line force : ℕ) (r : ReaderView) (items : List Item) → AreKnown r.analysts → r.current ≡ force
+    → AllByRecursion (IsItem (length r.analysts)) items → length r.items + length items ≤ MOST_ITEMS
+    → AreRead r (after_lines line r (map (join_with_byte 32) (item_lines r.analysts force items) ++ ([] ∷ []))) items
 unfolding after_lines after_line
 items_read line force r [] known e h few =
     record { after = r; read = refl; analysts = refl; items = sym (append-nil (map without_line r.items)) }
@@ -161,11 +166,15 @@ items_read line force r (item ∷ items) known e h few =
     (omega (arith, length_push r.items (record { line = n; analyst = c; act = item.act })))))
     (item.analyst == force) refl
 
+-- ---- what is written is all words
+
+-- each section at the top
 header_words : (before more : List (List ℕ)) → AreNew before more
     → AllByRecursion (AllByRecursion IsWord) (map words_of_section more)
 header_words before [] h = tt
 header_words before (name ∷ more) h = (section_words name h.0, header_words (before ++ name ∷ []) more h.2)
 
+-- an item, with the section before it, if there is one
 one_item_words : (analysts : List (List ℕ)) (item : Item) (rest : List (List (List ℕ))) → AreKnown analysts
     → IsItem (length analysts) item → AllByRecursion (AllByRecursion IsWord) rest
     → (b : Bool) → AllByRecursion (AllByRecursion IsWord)
@@ -176,6 +185,7 @@ one_item_words analysts item rest known h all false = (
   (act_words item.act h.act, all),
 )
 
+-- and all items
 item_words : (analysts : List (List ℕ)) (force : ℕ) (items : List Item) → AreKnown analysts
     → AllByRecursion (IsItem (length analysts)) items
     → AllByRecursion (AllByRecursion IsWord) (item_lines analysts force items)
@@ -184,9 +194,11 @@ item_words analysts force (item ∷ items) known h =
     one_item_words analysts item (item_lines analysts item.analyst items) known h.0
     (item_words analysts item.analyst items known h.1) (item.analyst == force)
 
+-- ---- canonical_text
+
 -- the canonical text is read as the script, but for the numbers of the lines
 pub text_read : (more : List (List ℕ)) (items : List Item) → AreNew (codes "main" ∷ []) more
-    → AreKnown (codes "main" ∷ more) → length more ≤ 15 → length items ≤ 4096
+    → AreKnown (codes "main" ∷ more) → length (codes "main" ∷ more) ≤ MOST_ANALYSTS → length items ≤ MOST_ITEMS
     → AllByRecursion (IsItem (length (codes "main" ∷ more))) items
     → (t : ReaderView) × (after_lines 1 new_reader
     (lines (canonical_text (record { analysts = codes "main" ∷ more; items = items }))) ≡ Ok t)

@@ -4,6 +4,7 @@ use Rattle.std.proofs.Common.{List, [], ◌∷◌, ◌++◌, length, map, arith,
 use Rattle.std.specs.List.{AllByRecursion, flat_map, join_with_byte}
 use Rattle.std.proofs.lemmas.Bool.Decides.{nat_tests}
 use Rattle.std.proofs.lemmas.List.Concat.{flat_map-append}
+use Rattle.sim_base.specs.declared.name.TheConstants.{LONGEST_NAME}
 use Rattle.sim_base.specs.declared.decision.Decision.TheVariants.{Fork, Set, End}
 use Rattle.sim_base.specs.declared.message.Param.{Param}
 use Rattle.sim_base.specs.declared.message.Param.TheVariants.{Every, Service, Hold, Servers, Room, Weight}
@@ -17,17 +18,23 @@ use Rattle.decision_script.proofs.Again.{AreKnown, AreNew}
 use Rattle.decision_script.proofs.Saying.{act_words, section_words}
 use Rattle.decision_script.proofs.Words.{IsWord}
 
--- words of at most 16 bytes, and a byte behind each
+-- ---- join_with_byte and line_text
+
+-- words of at most `LONGEST_NAME` bytes, and a byte behind each
 joined_length : (ws : List (List ℕ)) → AllByRecursion IsWord ws → length (join_with_byte 32 ws) ≤ 17 * length ws
 joined_length [] h = omega arith
 joined_length (w ∷ []) h = let short = h.0.short in grind (arith, nat_tests)
 joined_length (w ∷ v ∷ ws) h =
-    let short : length w ≤ 16 = (let s = h.0.short in grind (arith, nat_tests)) in
+    let short : length w ≤ LONGEST_NAME = (let s = h.0.short in grind (arith, nat_tests)) in
     omega (arith, length-append w (32 ∷ join_with_byte 32 (v ∷ ws)), joined_length (v ∷ ws) h.1)
 
+-- and the line feed
 line_length : (ws : List (List ℕ)) → AllByRecursion IsWord ws → length (line_text ws) ≤ 17 * length ws + 1
 line_length ws h = omega (arith, length-append (join_with_byte 32 ws) (10 ∷ []), joined_length ws h)
 
+-- ---- the words of acts and of sections
+
+-- a change is at most three words
 few_change_words : (param : Param) (a b : ℕ) → length (words_of_change param a b) ≤ 3
 few_change_words Every a b = omega arith
 few_change_words Service a b = omega arith
@@ -36,19 +43,24 @@ few_change_words Servers a b = omega arith
 few_change_words Room a b = omega arith
 few_change_words Weight a b = omega arith
 
+-- an act is at most eight
 few_words : (act : Act) → length (words_of_act act) ≤ 8
 few_words (Look who station) = omega arith
 few_words (Decide (Fork new old)) = omega arith
 few_words (Decide (Set who at station change)) = omega (arith, few_change_words change.param change.a change.b)
 few_words (Decide (End who at)) = omega arith
 
-section_length : (name : List ℕ) → IsNamed name → length (line_text (words_of_section name)) ≤ 35
+-- a section line is two words, and has at most 35 bytes
+pub section_length : (name : List ℕ) → IsNamed name → length (line_text (words_of_section name)) ≤ 35
 section_length name h = omega (arith, line_length (words_of_section name) (section_words name h))
 
+-- and that of an act at most 137
 act_length : (act : Act) → IsAct act → length (line_text (words_of_act act)) ≤ 137
 act_length act h = omega (arith, line_length (words_of_act act) (act_words act h), few_words act)
 
--- the sections at the top
+-- ---- the parts of a canonical text
+
+-- each section at the top has at most 35 bytes
 pub sections_length : (before more : List (List ℕ)) → AreNew before more
     → length (flat_map line_text (map words_of_section more)) ≤ 35 * length more
 sections_length before [] h = omega arith
@@ -60,6 +72,7 @@ sections_length before (name ∷ more) h =
       sections_length (before ++ name ∷ []) more h.2,
     )
 
+-- so has the one before an item, if there is one
 section_before_length : (analysts : List (List ℕ)) (item : Item) → AreKnown analysts → IsItem (length analysts) item
     → (b : Bool)
     → length (flat_map line_text (cond b [] (words_of_section (analyst_name analysts item.analyst) ∷ []))) ≤ 35
@@ -71,7 +84,7 @@ section_before_length analysts item known h false =
       section_length (analyst_name analysts item.analyst) (known.named item.analyst h.low h.high),
     )
 
--- the lines of the items
+-- and the lines of each item have at most 172, with its section
 pub items_length : (analysts : List (List ℕ)) (force : ℕ) (items : List Item) → AreKnown analysts
     → AllByRecursion (IsItem (length analysts)) items
     → length (flat_map line_text (item_lines analysts force items)) ≤ 172 * length items

@@ -14,13 +14,16 @@ use Rattle.decision_script.specs.Stating.{IsNamed, analyst_name}
 use Rattle.decision_script.specs.Reading.{analyst_place}
 use Rattle.decision_script.proofs.Again.{AreNew, AreKnown}
 
+-- no two of the names are equal
 abbrev AreDistinct : List (List ℕ) → Type 0
 AreDistinct names = AllPairs (λ a b. bytes_eq a b ≡ false) names
 
+-- ---- analyst_place
+
 -- a name behind others has no place among them
-unplaced : (before : List (List ℕ)) (name : List ℕ) (more : List (List ℕ)) → AreDistinct (before ++ name ∷ more)
-    → analyst_place name before ≡ None
-unplaced before name more h =
+analyst_place-None : (before : List (List ℕ)) (name : List ℕ) (more : List (List ℕ))
+    → AreDistinct (before ++ name ∷ more) → analyst_place name before ≡ None
+analyst_place-None before name more h =
     let p : List ℕ → Bool = λ x. bytes_eq x name in
     let long = length-append before (name ∷ more) in
     let none : position_or_len p before ≡ length before = position_or_len_is p before (length before) [] (omega arith)
@@ -30,12 +33,14 @@ unplaced before name more h =
     (λ within. absurd (omega arith)) in
     grind (arith, common_steps)
 
+-- ---- AreNew and AreKnown
+
 -- where all names are distinct, none of the later ones is named before itself
 pub are_new : (before more : List (List ℕ)) → AreDistinct (before ++ more) → All IsNamed more → AreNew before more
 are_new before [] h named = tt
 are_new before (name ∷ more) h named = (
   All-head IsNamed name more named,
-  unplaced before name more h,
+  analyst_place-None before name more h,
   are_new (before ++ name ∷ []) more (rw append_assoc h) (All-tail IsNamed name more named),
 )
 

@@ -8,16 +8,19 @@ use Rattle.decision_script.specs.Lines.{lines, is_newline}
 use Rattle.sim_base.specs.Chain.{◌>>=◌}
 use Rattle.decision_script.specs.Reading.{ReaderView, after_line, after_lines}
 
+-- ---- after_lines
+
 -- the part at n of the text is this one
 pub record IsPart (text : List ℕ) (n : ℕ) (part : List ℕ) : Type 0 where
   pub within : n < length (slice_split is_newline text)
   pub at : part ≡ get_or (slice_split is_newline text) n part
 
-turn : (text : List ℕ) (n : ℕ) (part : List ℕ) → IsPart text n part → (r : ReaderView)
+-- what the lines from a part on give is what those after it give from where its line leads
+after_lines-drop : (text : List ℕ) (n : ℕ) (part : List ℕ) → IsPart text n part → (r : ReaderView)
     → after_lines (n + 1) r (drop n (lines text)) ≡ (after_line (n + 1) r (strip_carriage_return part) >>= λ next.
     after_lines (n + 1 + 1) next (drop (n + 1) (lines text)))
 unfolding after_lines
-turn text n part h r =
+after_lines-drop text n part h r =
     let within : n < length (lines text) = rw length-map h.within in
     let at : get_or (lines text) n (strip_carriage_return part) ≡ strip_carriage_return part =
     get_or-map strip_carriage_return (slice_split is_newline text) n part (strip_carriage_return part) h.within
@@ -32,14 +35,14 @@ pub line_read : (text : List ℕ) (n : ℕ) (part : List ℕ) → IsPart text n 
     → after_lines (n + 1 + 1) next (drop (n + 1) (lines text)) ≡ all
 line_read text n part h r next all same read =
     ap (λ x. x >>= λ next. after_lines (n + 1 + 1) next (drop (n + 1) (lines text))) (sym read)
-    ∙ sym (turn text n part h r) ∙ same
+    ∙ sym (after_lines-drop text n part h r) ∙ same
 
 -- where a line is refused, all lines from it on give this refusal
 pub line_refused : (text : List ℕ) (n : ℕ) (part : List ℕ) → IsPart text n part
     → (r : ReaderView) (e : ScriptFault) (all : Result ReaderView ScriptFault)
     → after_lines (n + 1) r (drop n (lines text)) ≡ all → after_line (n + 1) r (strip_carriage_return part) ≡ Err e
     → all ≡ Err e
-line_refused text n part h r e all same refused = sym same ∙ turn text n part h r
+line_refused text n part h r e all same refused = sym same ∙ after_lines-drop text n part h r
     ∙ ap (λ x. x >>= λ next. after_lines (n + 1 + 1) next (drop (n + 1) (lines text))) refused
 
 -- where no line is left, the rest gives the reading as it is

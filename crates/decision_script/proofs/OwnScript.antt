@@ -12,6 +12,8 @@ use Rattle.decision_script.specs.declared.item.Item.{Item}
 use Rattle.decision_script.specs.Stating.{ScriptView, IsItem, IsScript}
 use Rattle.decision_script.specs.Alone.{object, history_if, act_history, item_history, alone_of}
 
+-- ---- item_history, item after item
+
 -- one item more, before those that were taken
 pub history_more : (items : List Item) (who : List ℕ) (n : ℕ) (item : Item) (history : List ℕ × List Item)
     → n < length (reverse items) → item ≡ get_or (reverse items) n item
@@ -32,38 +34,44 @@ history_all items who n history end same =
     same ∙ ap (λ xs. item_history who (reverse xs)) (take_all n (reverse items) (omega arith))
     ∙ ap (item_history who) (reverse-reverse items)
 
--- no more items than before, each of which was one
-record IsPart (P : Item → Type 0) (items own : List Item) : Type 0 where
+-- ---- what is left of the items
+
+-- they are no more than all, and P holds of each
+record AreLeft (P : Item → Type 0) (items own : List Item) : Type 0 where
   pub fewer : length own ≤ length items
   pub all : All P own
 
-part_if : (P : Item → Type 0) (b : Bool) (item : Item) (target : List ℕ) (items : List Item)
-    (later : List ℕ × List Item) → P item → IsPart P items later.1
-    → IsPart P (item ∷ items) (history_if b item target later).1
-part_if P true item target items later is h =
+-- where P holds of an item and of what is left of those after it, so it is with that item or without
+history_if-left : (P : Item → Type 0) (b : Bool) (item : Item) (target : List ℕ) (items : List Item)
+    (later : List ℕ × List Item) → P item → AreLeft P items later.1
+    → AreLeft P (item ∷ items) (history_if b item target later).1
+history_if-left P true item target items later is h =
     record { fewer = omega (arith, h.fewer); all = All-cons P item later.1 is h.all }
-part_if P false item target items later is h = record { fewer = omega (arith, h.fewer); all = h.all }
+history_if-left P false item target items later is h = record { fewer = omega (arith, h.fewer); all = h.all }
 
-part_act : (P : Item → Type 0) (item : Item) (act : Act) (items : List Item) (later : List ℕ × List Item) → P item
-    → IsPart P items later.1 → IsPart P (item ∷ items) (act_history item act later).1
-part_act P item (Decide d) items later is h = part_if P (bytes_eq (object d) later.0) item (subject d) items later is h
-part_act P item (Look who station) items later is h = record { fewer = omega (arith, h.fewer); all = h.all }
+-- and by what its analyst does
+act_history-left : (P : Item → Type 0) (item : Item) (act : Act) (items : List Item) (later : List ℕ × List Item)
+    → P item → AreLeft P items later.1 → AreLeft P (item ∷ items) (act_history item act later).1
+act_history-left P item (Decide d) items later is h =
+    history_if-left P (bytes_eq (object d) later.0) item (subject d) items later is h
+act_history-left P item (Look who station) items later is h = record { fewer = omega (arith, h.fewer); all = h.all }
 
-history_part : (P : Item → Type 0) (who : List ℕ) (items : List Item) → All P items
-    → IsPart P items (item_history who items).1
-history_part P who [] h = record { fewer = omega arith; all = All-nil P }
-history_part P who (i ∷ is) h = part_act P i i.act is (item_history who is) (All-head P i is h)
-    (history_part P who is (All-tail P i is h))
+-- so it is with all items
+item_history-left : (P : Item → Type 0) (who : List ℕ) (items : List Item) → All P items
+    → AreLeft P items (item_history who items).1
+item_history-left P who [] h = record { fewer = omega arith; all = All-nil P }
+item_history-left P who (i ∷ is) h = act_history-left P i i.act is (item_history who is) (All-head P i is h)
+    (item_history-left P who is (All-tail P i is h))
 
--- a clone's own script is one
+-- a clone's own script is a script
 pub alone_is_script : (s : ScriptView) (who : List ℕ) → IsScript s → IsScript (alone_of s who)
 alone_is_script s who h =
-    let part = history_part (IsItem (length s.analysts)) who s.items h.valid in
+    let left = item_history-left (IsItem (length s.analysts)) who s.items h.valid in
     record {
       first = h.first;
       named = h.named;
       distinct = h.distinct;
       few_analysts = h.few_analysts;
-      few_items = omega (arith, part.fewer, h.few_items);
-      valid = part.all;
+      few_items = omega (arith, left.fewer, h.few_items);
+      valid = left.all;
     }

@@ -1,5 +1,5 @@
 -- The words of an act say that act.
-use Rattle.std.proofs.Common.{◌≡◌, ℕ, ◌<◌, ◌^◌, ◌&&◌, true, nat_lt, List, [], ◌∷◌, length, refl, arith, Ok}
+use Rattle.std.proofs.Common.{◌≡◌, ℕ, ◌&&◌, true, nat_lt, List, [], ◌∷◌, length, refl, arith, Ok}
 use Rattle.std.specs.List.{list_all, AllByRecursion}
 use Rattle.std.proofs.lemmas.Bool.{and_parts}
 use Rattle.std.proofs.lemmas.Bool.Decides.{nat_tests}
@@ -10,34 +10,40 @@ use Rattle.sim_base.specs.declared.message.Param.{Param}
 use Rattle.sim_base.specs.declared.message.Param.TheVariants.{Every, Service, Hold, Servers, Room, Weight}
 use Rattle.decision_script.specs.declared.item.Act.{Act}
 use Rattle.decision_script.specs.declared.item.Act.TheVariants.{Decide, Look}
-use Rattle.decision_script.specs.declared.line.Said.TheVariants.{Says, Section}
+use Rattle.decision_script.specs.declared.line.Meaning.TheVariants.{Says, Section}
 use Rattle.decision_script.specs.Sentences.{saying, section, look, fork, end, set, one_value, two_values}
-use Rattle.decision_script.specs.Stating.{IsNamed, IsChange, IsAct}
+use Rattle.decision_script.specs.Stating.{Fits32, IsNamed, IsChange, IsAct}
 use Rattle.decision_script.specs.Printing.{words_of_act, words_of_change, words_of_section}
 use Rattle.decision_script.proofs.Numbers.{word_number-decimal, decimal_is_word}
-use Rattle.decision_script.proofs.Words.{is_letter, IsWord}
+use Rattle.decision_script.proofs.Words.{is_letter, IsWord, list_all-weaker}
+
+-- ---- saying
 
 -- the words of a section line say the section of that name
 pub saying-section : (name : List ℕ) → IsNamed name → saying (words_of_section name) ≡ Ok (Section name)
 unfolding section
 saying-section name h = rw h refl
 
+-- the words of a fork say that fork
 saying-fork : (new old : List ℕ) → IsNamed new → IsNamed old
     → saying (words_of_act (Decide (Fork new old))) ≡ Ok (Says (Decide (Fork new old)))
 unfolding fork
 saying-fork new old n o = rw (n, o) refl
 
+-- of a look that look
 saying-look : (who station : List ℕ) → IsNamed who → IsNamed station
     → saying (words_of_act (Look who station)) ≡ Ok (Says (Look who station))
 unfolding look
 saying-look who station w s = rw (w, s) refl
 
-saying-end : (who : List ℕ) (at : ℕ) → IsNamed who → at < 2 ^ 32
+-- of an end that end
+saying-end : (who : List ℕ) (at : ℕ) → IsNamed who → Fits32 at
     → saying (words_of_act (Decide (End who at))) ≡ Ok (Says (Decide (End who at)))
 unfolding end
 saying-end who at w h = rw (w, word_number-decimal at h) refl
 
-saying-set : (who station : List ℕ) (at a b : ℕ) (param : Param) → IsNamed who → at < 2 ^ 32 → IsNamed station
+-- and of a set that set
+saying-set : (who station : List ℕ) (at a b : ℕ) (param : Param) → IsNamed who → Fits32 at → IsNamed station
     → IsChange param a b
     → saying (words_of_act (Decide (Set who at station (record { param = param; a = a; b = b }))))
     ≡ Ok (Says (Decide (Set who at station (record { param = param; a = a; b = b }))))
@@ -61,15 +67,14 @@ saying-act (Decide (Set who at station change)) h =
     saying-set who station at change.a change.b change.param h.0 h.1 h.2 h.3
 saying-act (Decide (End who at)) h = saying-end who at h.0 h.1
 
-letters_of_name : (bs : List ℕ) → list_all is_name_byte bs ≡ true → list_all is_letter bs ≡ true
-letters_of_name [] h = refl
-letters_of_name (b ∷ bs) h =
-    let (byte, rest) = and_parts (is_name_byte b) (list_all is_name_byte bs) h in
-    let letter : is_letter b ≡ true = grind (arith, nat_tests) in
-    rw (letter, letters_of_name bs rest) refl
+-- ---- IsWord
+
+-- a byte of a name is a letter
+name_byte_is_letter : (b : ℕ) → is_name_byte b ≡ true → is_letter b ≡ true
+name_byte_is_letter b h = grind (arith, nat_tests)
 
 -- a name is a word
-pub name_is_word : (name : List ℕ) → IsNamed name → IsWord name
+name_is_word : (name : List ℕ) → IsNamed name → IsWord name
 name_is_word [] h = absurd (cc)
 name_is_word (b ∷ bs) h =
     let (named, short) = and_parts (is_lower b && list_all is_name_byte bs) (nat_lt (length bs) LONGEST_NAME) h in
@@ -77,10 +82,11 @@ name_is_word (b ∷ bs) h =
     let letter : is_letter b ≡ true = grind (arith, nat_tests) in
     record {
       some = grind (arith, nat_tests);
-      letters = rw (letter, letters_of_name bs rest) refl;
+      letters = rw (letter, list_all-weaker is_name_byte is_letter name_byte_is_letter bs rest) refl;
       short = grind (arith, nat_tests);
     }
 
+-- what is written of a change is all words
 change_words : (param : Param) (a b : ℕ) → IsChange param a b → AllByRecursion IsWord (words_of_change param a b)
 change_words Every a b h = (
   record { some = refl; letters = refl; short = refl },
@@ -104,7 +110,7 @@ change_words Weight a b h = (
   (decimal_is_word a (omega arith), (decimal_is_word b (omega arith), tt)),
 )
 
--- what is written of an act is all words
+-- so is what is written of an act
 pub act_words : (act : Act) → IsAct act → AllByRecursion IsWord (words_of_act act)
 act_words (Look who station) h =
     (record { some = refl; letters = refl; short = refl }, (name_is_word who h.0, (name_is_word station h.1, tt)))
@@ -133,6 +139,6 @@ act_words (Decide (End who at)) h = (
   ),
 )
 
--- and so is what is written of a section
+-- and of a section
 pub section_words : (name : List ℕ) → IsNamed name → AllByRecursion IsWord (words_of_section name)
 section_words name h = (record { some = refl; letters = refl; short = refl }, (name_is_word name h, tt))

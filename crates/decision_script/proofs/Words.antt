@@ -8,9 +8,12 @@ use Rattle.std.specs.Str.Lines.{strip_carriage_return}
 use Rattle.std.proofs.lemmas.List.Splits.{slice_split-cons_yes, slice_split-cons_no}
 use Rattle.std.proofs.lemmas.Bool.{and_parts}
 use Rattle.std.proofs.lemmas.Bool.Decides.{nat_tests}
+use Rattle.sim_base.specs.declared.name.TheConstants.{LONGEST_NAME}
 use Rattle.decision_script.specs.Lines.{is_blank, is_newline, has_bytes, words, lines, is_ascii}
 use Rattle.decision_script.specs.Sentences.{saying, line_saying}
 use Rattle.decision_script.specs.Printing.{line_text}
+
+-- ---- words and bytes
 
 -- ASCII above the space
 abbrev pub is_letter : ℕ → Bool
@@ -20,7 +23,7 @@ is_letter b = nat_le 33 b && nat_le b 126
 pub record IsWord (word : List ℕ) : Type 0 where
   pub some : has_bytes word ≡ true
   pub letters : list_all is_letter word ≡ true
-  pub short : nat_le (length word) 16 ≡ true
+  pub short : nat_le (length word) LONGEST_NAME ≡ true
 
 -- a letter or a space
 abbrev pub is_printed : ℕ → Bool
@@ -29,6 +32,8 @@ is_printed b = nat_le 32 b && nat_le b 126
 -- where q holds, p does not
 abbrev pub Excludes : (ℕ → Bool) → (ℕ → Bool) → Type 0
 Excludes q p = (b : ℕ) → q b ≡ true → p b ≡ false
+
+-- ---- slice_split
 
 -- a split cuts off the bytes before the first separator as a part, and goes on behind it
 pub split_at : (q p : ℕ → Bool) (word rest : List ℕ) (y : ℕ) → Excludes q p → list_all q word ≡ true → p y ≡ true
@@ -40,7 +45,7 @@ split_at q p (b ∷ bs) rest y passes h stop =
     ∙ ap (onto_first b) (split_at q p bs rest y passes letters stop)
 
 -- and bytes without a separator are the only part
-pub split_none : (q p : ℕ → Bool) (word : List ℕ) → Excludes q p → list_all q word ≡ true
+split_none : (q p : ℕ → Bool) (word : List ℕ) → Excludes q p → list_all q word ≡ true
     → slice_split p word ≡ word ∷ []
 split_none q p [] passes h = refl
 split_none q p (b ∷ bs) passes h =
@@ -48,20 +53,22 @@ split_none q p (b ∷ bs) passes h =
     slice_split-cons_no p b bs (passes b letter) ∙ ap (onto_first b) (split_none q p bs passes letters)
 
 -- a letter is no blank
-pub blank_passes : Excludes is_letter is_blank
+blank_passes : Excludes is_letter is_blank
 blank_passes b h = grind (arith, nat_tests)
 
 -- and a letter or a space is no line feed
 pub newline_passes : Excludes is_printed is_newline
 newline_passes b h = grind (arith, nat_tests)
 
+-- ---- words
+
 -- a part with bytes in it stays when the empty ones are left out
-pub filter_yes : (word : List ℕ) (rest : List (List ℕ)) → has_bytes word ≡ true
+filter_yes : (word : List ℕ) (rest : List (List ℕ)) → has_bytes word ≡ true
     → filter has_bytes (word ∷ rest) ≡ word ∷ filter has_bytes rest
 filter_yes word rest h = ap (λ b. cond b (word ∷ filter has_bytes rest) (filter has_bytes rest)) h
 
 -- words that are joined by spaces are these words again
-pub words-join : (ws : List (List ℕ)) → AllByRecursion IsWord ws → words (join_with_byte 32 ws) ≡ ws
+words-join : (ws : List (List ℕ)) → AllByRecursion IsWord ws → words (join_with_byte 32 ws) ≡ ws
 words-join [] h = refl
 words-join (w ∷ []) h = ap (filter has_bytes) (split_none is_letter is_blank w blank_passes h.0.letters)
     ∙ filter_yes w [] h.0.some
@@ -70,12 +77,23 @@ words-join (w ∷ v ∷ ws) h =
     ∙ filter_yes w (slice_split is_blank (join_with_byte 32 (v ∷ ws))) h.0.some
     ∙ ap (λ rest. w ∷ rest) (words-join (v ∷ ws) h.1)
 
+-- ---- list_all
+
+-- where one test passes only what another passes, so it is with all elements
+pub list_all-weaker : {X : Type 0} (p q : X → Bool) → ((x : X) → p x ≡ true → q x ≡ true) → (xs : List X)
+    → list_all p xs ≡ true → list_all q xs ≡ true
+list_all-weaker p q passes [] h = refl
+list_all-weaker p q passes (x ∷ xs) h =
+    let (first, rest) = and_parts (p x) (list_all p xs) h in
+    rw (passes x first, list_all-weaker p q passes xs rest) refl
+
+-- a letter is a letter or a space
+letter_is_printed : (b : ℕ) → is_letter b ≡ true → is_printed b ≡ true
+letter_is_printed b h = grind (arith, nat_tests)
+
+-- so are the letters of a word
 printed : (bs : List ℕ) → list_all is_letter bs ≡ true → list_all is_printed bs ≡ true
-printed [] h = refl
-printed (b ∷ bs) h =
-    let (letter, letters) = and_parts (is_letter b) (list_all is_letter bs) h in
-    let here : is_printed b ≡ true = grind (arith, nat_tests) in
-    rw (here, printed bs letters) refl
+printed bs h = list_all-weaker is_letter is_printed letter_is_printed bs h
 
 -- words that are joined by spaces are letters and spaces
 pub printed_join : (ws : List (List ℕ)) → AllByRecursion IsWord ws → list_all is_printed (join_with_byte 32 ws) ≡ true
@@ -84,14 +102,17 @@ printed_join (w ∷ []) h = printed w h.0.letters
 printed_join (w ∷ v ∷ ws) h = list_all-append is_printed w (32 ∷ join_with_byte 32 (v ∷ ws))
     ∙ rw (printed w h.0.letters, printed_join (v ∷ ws) h.1) refl
 
--- letters and spaces are ASCII
-pub printed_is_ascii : (bs : List ℕ) → list_all is_printed bs ≡ true → is_ascii bs ≡ true
-printed_is_ascii [] h = refl
-printed_is_ascii (b ∷ bs) h =
-    let (here, rest) = and_parts (is_printed b) (list_all is_printed bs) h in
-    let ascii : nat_lt b 128 ≡ true = grind (arith, nat_tests) in
-    rw (ascii, printed_is_ascii bs rest) refl
+-- a letter or a space is ASCII
+printed_below : (b : ℕ) → is_printed b ≡ true → nat_lt b 128 ≡ true
+printed_below b h = grind (arith, nat_tests)
 
+-- so are letters and spaces
+printed_is_ascii : (bs : List ℕ) → list_all is_printed bs ≡ true → is_ascii bs ≡ true
+printed_is_ascii bs h = list_all-weaker is_printed (λ b. nat_lt b 128) printed_below bs h
+
+-- ---- strip_carriage_return
+
+-- no letter or space is a carriage return
 printed_at : (bs : List ℕ) (i : ℕ) → list_all is_printed bs ≡ true → nat_eq (slice_index bs i) 13 ≡ false
 printed_at [] i h = refl
 printed_at (b ∷ bs) zero h =
@@ -100,8 +121,10 @@ printed_at (b ∷ bs) zero h =
 printed_at (b ∷ bs) (suc i) h = printed_at bs i (and_parts (is_printed b) (list_all is_printed bs) h).1
 
 -- and no carriage return is taken off their end
-pub strip-printed : (bs : List ℕ) → list_all is_printed bs ≡ true → strip_carriage_return bs ≡ bs
+strip-printed : (bs : List ℕ) → list_all is_printed bs ≡ true → strip_carriage_return bs ≡ bs
 strip-printed bs h = rw (printed_at bs (length bs - 1) h) refl
+
+-- ---- line_saying and lines
 
 -- a line of words that are joined by spaces says what the words say
 pub line_saying-join : (ws : List (List ℕ)) → AllByRecursion IsWord ws → line_saying (join_with_byte 32 ws) ≡ saying ws

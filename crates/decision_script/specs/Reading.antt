@@ -4,8 +4,8 @@ use Rattle.std.specs.Prelude.{length, position, Option, Some, None, Result, Ok, 
 use Rattle.std.specs.Str.{bytes_eq}
 use Rattle.decision_script.specs.declared.item.Act.{Act}
 use Rattle.decision_script.specs.declared.item.Item.{Item}
-use Rattle.decision_script.specs.declared.line.Said.{Said}
-use Rattle.decision_script.specs.declared.line.Said.TheVariants.{Nothing, Section, Says}
+use Rattle.decision_script.specs.declared.line.Meaning.{Meaning}
+use Rattle.decision_script.specs.declared.line.Meaning.TheVariants.{Nothing, Section, Says}
 use Rattle.decision_script.specs.declared.fault.LineFault.{LineFault}
 use Rattle.decision_script.specs.declared.fault.LineFault.TheVariants as broken
 use Rattle.decision_script.specs.declared.fault.ScriptFault.{ScriptFault}
@@ -31,7 +31,7 @@ fault_at line broken.BadNumber = BadNumber line
 fault_at line broken.NoMemory = NoMemory
 
 -- what a line says, or its fault with the line's number
-abbrev pub at_line : ℕ → Result Said LineFault → Result Said ScriptFault
+abbrev pub at_line : ℕ → Result Meaning LineFault → Result Meaning ScriptFault
 at_line line (Ok said) = Ok said
 at_line line (Err broken) = Err (fault_at line broken)
 
@@ -53,7 +53,7 @@ with_act line r act = if nat_lt (length r.items) MOST_ITEMS
     else Err (TooManyLines line)
 
 -- after the line of this number, by what it says
-abbrev pub after_saying : ℕ → ReaderView → Said → Result ReaderView ScriptFault
+abbrev pub after_saying : ℕ → ReaderView → Meaning → Result ReaderView ScriptFault
 after_saying line r Nothing = Ok r
 after_saying line r (Section name) = in_section line r name (analyst_place name r.analysts)
 after_saying line r (Says act) = with_act line r act

@@ -10,8 +10,8 @@ use Rattle.sim_base.specs.declared.decision.Decision.TheVariants.{Fork, Set, End
 use Rattle.sim_base.specs.declared.message.Change.{Change}
 use Rattle.sim_base.specs.declared.message.Param.{Param}
 use Rattle.decision_script.specs.declared.item.Act.TheVariants.{Decide, Look}
-use Rattle.decision_script.specs.declared.line.Said.{Said}
-use Rattle.decision_script.specs.declared.line.Said.TheVariants.{Nothing, Section, Says}
+use Rattle.decision_script.specs.declared.line.Meaning.{Meaning}
+use Rattle.decision_script.specs.declared.line.Meaning.TheVariants.{Nothing, Section, Says}
 use Rattle.decision_script.specs.declared.fault.LineFault.{LineFault}
 use Rattle.decision_script.specs.declared.fault.LineFault.TheVariants.{NotAscii, BadLine, BadNumber}
 use Rattle.decision_script.specs.Lines.{number, words, is_ascii}
@@ -54,26 +54,26 @@ change_of param (a ∷ b ∷ []) = two_values param a b
 change_of param _ = Err BadLine
 
 -- analyst NAME
-unfoldable pub section : List ℕ → Result Said LineFault
+unfoldable pub section : List ℕ → Result Meaning LineFault
 section name = where_form (is_name name) (Ok (Section name))
 
 -- look CLONE STATION
-unfoldable pub look : List ℕ → List ℕ → Result Said LineFault
+unfoldable pub look : List ℕ → List ℕ → Result Meaning LineFault
 look who station = where_form (is_name who && is_name station) (Ok (Says (Look who station)))
 
 -- fork NEW from OLD
-unfoldable pub fork : List ℕ → List ℕ → List ℕ → Result Said LineFault
+unfoldable pub fork : List ℕ → List ℕ → List ℕ → Result Meaning LineFault
 fork new link old =
     where_form ((bytes_eq link (codes "from") && is_name new) && is_name old) (Ok (Says (Decide (Fork new old))))
 
 -- end CLONE at TIME
-unfoldable pub end : List ℕ → List ℕ → List ℕ → Result Said LineFault
+unfoldable pub end : List ℕ → List ℕ → List ℕ → Result Meaning LineFault
 end who link time = where_form (bytes_eq link (codes "at") && is_name who) (do
   at ← word_number time
   Ok (Says (Decide (End who at))))
 
 -- set CLONE at TIME STATION PARAMETER VALUES
-unfoldable pub set : List ℕ → List ℕ → List ℕ → List ℕ → List ℕ → List (List ℕ) → Result Said LineFault
+unfoldable pub set : List ℕ → List ℕ → List ℕ → List ℕ → List ℕ → List (List ℕ) → Result Meaning LineFault
 set who link time station word values = where_form ((bytes_eq link (codes "at") && is_name who) && is_name station) (do
   param ← param_of word (length values)
   at ← word_number time
@@ -81,32 +81,32 @@ set who link time station word values = where_form ((bytes_eq link (codes "at") 
   Ok (Says (Decide (Set who at station change))))
 
 -- what follows each first word; analyst: a name
-abbrev pub after_analyst : List (List ℕ) → Result Said LineFault
+abbrev pub after_analyst : List (List ℕ) → Result Meaning LineFault
 after_analyst (name ∷ []) = section name
 after_analyst _ = Err BadLine
 
 -- look: a clone and a station
-abbrev pub after_look : List (List ℕ) → Result Said LineFault
+abbrev pub after_look : List (List ℕ) → Result Meaning LineFault
 after_look (who ∷ station ∷ []) = look who station
 after_look _ = Err BadLine
 
 -- fork: a new name, a link word, and an old name
-abbrev pub after_fork : List (List ℕ) → Result Said LineFault
+abbrev pub after_fork : List (List ℕ) → Result Meaning LineFault
 after_fork (new ∷ link ∷ old ∷ []) = fork new link old
 after_fork _ = Err BadLine
 
 -- end: a clone, a link word, and a time
-abbrev pub after_end : List (List ℕ) → Result Said LineFault
+abbrev pub after_end : List (List ℕ) → Result Meaning LineFault
 after_end (who ∷ link ∷ time ∷ []) = end who link time
 after_end _ = Err BadLine
 
 -- set: a clone, a link word, a time, a station, a parameter, and its values
-abbrev pub after_set : List (List ℕ) → Result Said LineFault
+abbrev pub after_set : List (List ℕ) → Result Meaning LineFault
 after_set (who ∷ link ∷ time ∷ station ∷ word ∷ values) = set who link time station word values
 after_set _ = Err BadLine
 
 -- by the first word, what the others say
-abbrev pub sentence : List ℕ → List (List ℕ) → Result Said LineFault
+abbrev pub sentence : List ℕ → List (List ℕ) → Result Meaning LineFault
 sentence verb rest = if bytes_eq verb (codes "analyst") then after_analyst rest
     else (if bytes_eq verb (codes "fork") then after_fork rest
     else (if bytes_eq verb (codes "set") then after_set rest
@@ -120,10 +120,10 @@ begins_comment [] = false
 begins_comment (b ∷ bs) = b == 35
 
 -- no words and a comment say nothing
-abbrev pub saying : List (List ℕ) → Result Said LineFault
+abbrev pub saying : List (List ℕ) → Result Meaning LineFault
 saying [] = Ok Nothing
 saying (w ∷ ws) = if begins_comment w then Ok Nothing else sentence w ws
 
 -- what a line says, or the first rule that it breaks
-abbrev pub line_saying : List ℕ → Result Said LineFault
+abbrev pub line_saying : List ℕ → Result Meaning LineFault
 line_saying line = if is_ascii line then saying (words line) else Err NotAscii

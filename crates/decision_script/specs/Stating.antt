@@ -26,16 +26,20 @@ analyst_name analysts a = unwrap_or (slice_get analysts (a - 1)) []
 abbrev pub IsNamed : List ℕ → Type 0
 IsNamed name = is_name name ≡ true
 
+-- a number fits 32 bits
+abbrev pub Fits32 : ℕ → Type 0
+Fits32 n = n < 2 ^ 32
+
 -- values of a parameter that fit 32 bits; the second value of a parameter with one is 0
 abbrev pub IsChange : Param → ℕ → ℕ → Type 0
-IsChange param a b = (a < 2 ^ 32) × MatchBool (param_values param == 1) (b ≡ 0) (b < 2 ^ 32)
+IsChange param a b = Fits32 a × MatchBool (param_values param == 1) (b ≡ 0) (Fits32 b)
 
 -- names are names, and numbers fit 32 bits
 abbrev pub IsDecision : Decision → Type 0
 IsDecision (Fork new old) = IsNamed new × IsNamed old
-IsDecision (Set who at station change) = IsNamed who × (at < 2 ^ 32) × IsNamed station
+IsDecision (Set who at station change) = IsNamed who × Fits32 at × IsNamed station
     × IsChange change.param change.a change.b
-IsDecision (End who at) = IsNamed who × (at < 2 ^ 32)
+IsDecision (End who at) = IsNamed who × Fits32 at
 
 -- the same of an act: a decision that is so, or a look with two names
 abbrev pub IsAct : Act → Type 0

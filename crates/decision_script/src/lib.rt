@@ -22,7 +22,7 @@
 //! ```
 //!
 //! Reading, printing and `alone` are each one walk over the text or the items; an item takes about 100 bytes, and a
-//! script has 4,096 at most.
+//! script has `MOST_ITEMS` at most.
 //!
 //! The definitions in `specs/` are the grammar, and `read_script` keeps them: it gives what the text states, or
 //! the first line with a fault and the first fault of that line. Two promises rest here: the canonical text of
@@ -44,6 +44,6 @@ pub mod script;
 pub use fault::ScriptFault;
 pub use item::{Act, Item};
 pub use one_clone::alone;
-pub use print::print_script;
+pub use print::{print_script, push_decision};
 pub use read::read_script;
 pub use script::{MOST_ANALYSTS, MOST_BYTES, MOST_ITEMS, Script};

@@ -12,9 +12,9 @@ use crate::number::number_of;
 use sim_base::{Change, Decision, Name, Param};
 use std::alloc::{AllocError, Global};
 
-/// What a line says.
+/// The meaning of a line: what it says.
 #[derive(Clone, Copy, Debug, PartialEq, Eq)]
-pub(crate) enum Said {
+pub(crate) enum Meaning {
     /// It is empty, or a comment.
     Nothing,
     /// The lines from here on are those of the analyst of this name.
@@ -69,23 +69,23 @@ fn change(param: Param, values: &[&[u8]]) -> Result<Change, LineFault>
 }
 
 #[tactic(auto, unfolding(crate::specs::Sentences::section))]
-fn section_line(word: &[u8]) -> Result<Said, LineFault>
+fn section_line(word: &[u8]) -> Result<Meaning, LineFault>
     ensures value { result ≡ section word.now }
 {
-    Ok(Said::Section(name(word)?))
+    Ok(Meaning::Section(name(word)?))
 }
 
 #[tactic(auto, unfolding(crate::specs::Sentences::look))]
-fn look_line(who: &[u8], station: &[u8]) -> Result<Said, LineFault>
+fn look_line(who: &[u8], station: &[u8]) -> Result<Meaning, LineFault>
     ensures value { result ≡ look who.now station.now }
 {
     let who = name(who)?;
     let station = name(station)?;
-    Ok(Said::Says(Act::Look { who, station }))
+    Ok(Meaning::Says(Act::Look { who, station }))
 }
 
 #[tactic(auto, unfolding(crate::specs::Sentences::fork))]
-fn fork_line(new: &[u8], link: &[u8], old: &[u8]) -> Result<Said, LineFault>
+fn fork_line(new: &[u8], link: &[u8], old: &[u8]) -> Result<Meaning, LineFault>
     ensures value { result ≡ fork new.now link.now old.now }
 {
     if link != b"from".as_slice() {
@@ -93,11 +93,11 @@ fn fork_line(new: &[u8], link: &[u8], old: &[u8]) -> Result<Said, LineFault>
     }
     let new = name(new)?;
     let old = name(old)?;
-    Ok(Said::Says(Act::Decide(Decision::Fork { new, old })))
+    Ok(Meaning::Says(Act::Decide(Decision::Fork { new, old })))
 }
 
 #[tactic(auto, unfolding(crate::specs::Sentences::end))]
-fn end_line(who: &[u8], link: &[u8], time: &[u8]) -> Result<Said, LineFault>
+fn end_line(who: &[u8], link: &[u8], time: &[u8]) -> Result<Meaning, LineFault>
     ensures value { result ≡ end who.now link.now time.now }
 {
     if link != b"at".as_slice() {
@@ -105,7 +105,7 @@ fn end_line(who: &[u8], link: &[u8], time: &[u8]) -> Result<Said, LineFault>
     }
     let who = name(who)?;
     let at = number_of(time)?;
-    Ok(Said::Says(Act::Decide(Decision::End { who, at })))
+    Ok(Meaning::Says(Act::Decide(Decision::End { who, at })))
 }
 
 #[tactic(auto, unfolding(crate::specs::Sentences::set))]
@@ -116,7 +116,7 @@ fn set_line(
     station: &[u8],
     word: &[u8],
     values: &[&[u8]],
-) -> Result<Said, LineFault>
+) -> Result<Meaning, LineFault>
     ensures value { result ≡ set who.now link.now time.now station.now word.now (map (λ w. w.now) values.now) }
 {
     if link != b"at".as_slice() {
@@ -127,7 +127,7 @@ fn set_line(
     let param = param(word, values.len())?;
     let at = number_of(time)?;
     let change = change(param, values)?;
-    Ok(Said::Says(Act::Decide(Decision::Set {
+    Ok(Meaning::Says(Act::Decide(Decision::Set {
         who,
         at,
         station,
@@ -135,7 +135,7 @@ fn set_line(
     })))
 }
 
-fn analyst_words(words: &[&[u8]]) -> Result<Said, LineFault>
+fn analyst_words(words: &[&[u8]]) -> Result<Meaning, LineFault>
     ensures value { result ≡ after_analyst (map (λ w. w.now) words.now) }
 {
     match words {
@@ -144,7 +144,7 @@ fn analyst_words(words: &[&[u8]]) -> Result<Said, LineFault>
     }
 }
 
-fn look_words(words: &[&[u8]]) -> Result<Said, LineFault>
+fn look_words(words: &[&[u8]]) -> Result<Meaning, LineFault>
     ensures value { result ≡ after_look (map (λ w. w.now) words.now) }
 {
     match words {
@@ -153,7 +153,7 @@ fn look_words(words: &[&[u8]]) -> Result<Said, LineFault>
     }
 }
 
-fn fork_words(words: &[&[u8]]) -> Result<Said, LineFault>
+fn fork_words(words: &[&[u8]]) -> Result<Meaning, LineFault>
     ensures value { result ≡ after_fork (map (λ w. w.now) words.now) }
 {
     match words {
@@ -162,7 +162,7 @@ fn fork_words(words: &[&[u8]]) -> Result<Said, LineFault>
     }
 }
 
-fn end_words(words: &[&[u8]]) -> Result<Said, LineFault>
+fn end_words(words: &[&[u8]]) -> Result<Meaning, LineFault>
     ensures value { result ≡ after_end (map (λ w. w.now) words.now) }
 {
     match words {
@@ -171,7 +171,7 @@ fn end_words(words: &[&[u8]]) -> Result<Said, LineFault>
     }
 }
 
-fn set_words(words: &[&[u8]]) -> Result<Said, LineFault>
+fn set_words(words: &[&[u8]]) -> Result<Meaning, LineFault>
     ensures value { result ≡ after_set (map (λ w. w.now) words.now) }
 {
     match words {
@@ -182,7 +182,7 @@ fn set_words(words: &[&[u8]]) -> Result<Said, LineFault>
     }
 }
 
-fn sentence_of(verb: &[u8], rest: &[&[u8]]) -> Result<Said, LineFault>
+fn sentence_of(verb: &[u8], rest: &[&[u8]]) -> Result<Meaning, LineFault>
     ensures value { result ≡ sentence verb.now (map (λ w. w.now) rest.now) }
 {
     if verb == b"analyst".as_slice() {
@@ -209,14 +209,14 @@ fn is_comment(word: &[u8]) -> bool
     }
 }
 
-fn saying_of_words(words: &[&[u8]]) -> Result<Said, LineFault>
+fn saying_of_words(words: &[&[u8]]) -> Result<Meaning, LineFault>
     ensures value { result ≡ saying (map (λ w. w.now) words.now) }
 {
     match words {
-        [] => Ok(Said::Nothing),
+        [] => Ok(Meaning::Nothing),
         [verb, rest @ ..] => {
             if is_comment(verb) {
-                Ok(Said::Nothing)
+                Ok(Meaning::Nothing)
             } else {
                 sentence_of(verb, rest)
             }
@@ -245,7 +245,7 @@ fn words_of(alloc: Global, line: &[u8]) -> Result<Vec<&[u8]>, AllocError>
 }
 
 /// What a line says.
-pub(crate) fn saying_of_line(alloc: Global, line: &[u8]) -> Result<Said, LineFault>
+pub(crate) fn saying_of_line(alloc: Global, line: &[u8]) -> Result<Meaning, LineFault>
     ensures value { MatchResult result (λ s. line_saying line.now ≡ Ok s)
         (λ e. e ≢ LineFault.NoMemory → line_saying line.now ≡ Err e) }
 {

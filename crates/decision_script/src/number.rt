@@ -1,4 +1,4 @@
-//! The numbers of a script: one to ten digits without a leading zero, at most 4,294,967,295.
+//! The numbers of a script: one to ten digits without a leading zero, at most `MOST_NUMBER`.
 ghost use Rattle.std.specs.Prelude.{◌≡◌};
 ghost use Rattle.decision_script.specs.Lines.{has_number_form};
 ghost use Rattle.decision_script.specs.Sentences.{word_number};
@@ -6,7 +6,8 @@ ghost use Rattle.decision_script.specs.Sentences.{word_number};
 use crate::fault::LineFault;
 use sim_base::number::{MOST_DIGITS, are_digits, is_digit_byte, may_lead, value};
 
-const GREATEST: u64 = 4_294_967_295;
+// The greatest number of a script, the last of 32 bits.
+pub(crate) const MOST_NUMBER: u64 = 4_294_967_295;
 
 fn may_be_number(word: &[u8]) -> bool
     ensures value { result ≡ has_number_form word.now }
@@ -26,7 +27,7 @@ pub(crate) fn number_of(word: &[u8]) -> Result<u64, LineFault>
         return Err(LineFault::BadNumber);
     }
     let number = value(word);
-    if number > GREATEST {
+    if number > MOST_NUMBER {
         return Err(LineFault::BadNumber);
     }
     Ok(number)

@@ -2,7 +2,7 @@
 ghost use Rattle.std.specs.Prelude.{◌≡◌, ◌++◌, ◌∷◌, [], ◌≤◌, drop, length, map, OnOk, IfOk, decimal, codes};
 ghost use Rattle.std.specs.List.{All, flat_map, join_with_byte};
 ghost use Rattle.decision_script.specs.Printing.{canonical_text, item_lines, line_text, section_before};
-ghost use Rattle.decision_script.specs.Printing.{words_of_act, words_of_change, words_of_section};
+ghost use Rattle.decision_script.specs.Printing.{words_of_act, words_of_change, words_of_decision, words_of_section};
 ghost use Rattle.decision_script.specs.declared.script.TheConstants.{MOST_ANALYSTS};
 
 use crate::item::{Act, Item};
@@ -39,14 +39,12 @@ fn push_section(out: &mut Vec<u8>, name: &Name) -> Result<(), NoMemory>
 
 fn push_fork(out: &mut Vec<u8>, new: &Name, old: &Name) -> Result<(), NoMemory>
     ensures value { OnOk result (out.new.items ≡
-        out.old.items ++ line_text (codes "fork" ∷ new.now ∷ codes "from" ∷ old.now ∷ [])) }
+        out.old.items ++ join_with_byte 32 (codes "fork" ∷ new.now ∷ codes "from" ∷ old.now ∷ [])) }
 {
     out.extend_from_slice(b"fork")?;
     push_name(out, new)?;
     out.extend_from_slice(b" from")?;
-    push_name(out, old)?;
-    out.extend_from_slice(b"\n")?;
-    Ok(())
+    push_name(out, old)
 }
 
 fn push_change(out: &mut Vec<u8>, change: &Change) -> Result<(), NoMemory>
@@ -70,7 +68,7 @@ fn push_set(
     change: &Change,
 ) -> Result<(), NoMemory>
     ensures value { OnOk result (out.new.items ≡ out.old.items
-        ++ line_text (codes "set" ∷ who.now ∷ codes "at" ∷ decimal at ∷ station.now
+        ++ join_with_byte 32 (codes "set" ∷ who.now ∷ codes "at" ∷ decimal at ∷ station.now
         ∷ words_of_change change.now.param change.now.a change.now.b)) }
 {
     out.extend_from_slice(b"set")?;
@@ -78,19 +76,40 @@ fn push_set(
     out.extend_from_slice(b" at")?;
     push_number(out, at)?;
     push_name(out, station)?;
-    push_change(out, change)?;
-    out.extend_from_slice(b"\n")?;
-    Ok(())
+    push_change(out, change)
 }
 
 fn push_end(out: &mut Vec<u8>, who: &Name, at: u64) -> Result<(), NoMemory>
     ensures value { OnOk result (out.new.items ≡
-        out.old.items ++ line_text (codes "end" ∷ who.now ∷ codes "at" ∷ decimal at ∷ [])) }
+        out.old.items ++ join_with_byte 32 (codes "end" ∷ who.now ∷ codes "at" ∷ decimal at ∷ [])) }
 {
     out.extend_from_slice(b"end")?;
     push_name(out, who)?;
     out.extend_from_slice(b" at")?;
-    push_number(out, at)?;
+    push_number(out, at)
+}
+
+/// Appends a decision, without the line feed.
+pub fn push_decision(out: &mut Vec<u8>, decision: &Decision) -> Result<(), NoMemory>
+    ensures value { OnOk result (out.new.items ≡
+        out.old.items ++ join_with_byte 32 (words_of_decision decision.now)) }
+{
+    match decision {
+        Decision::Fork { new, old } => push_fork(out, new, old),
+        Decision::Set {
+            who,
+            at,
+            station,
+            change,
+        } => push_set(out, who, *at, station, change),
+        Decision::End { who, at } => push_end(out, who, *at),
+    }
+}
+
+fn push_decision_line(out: &mut Vec<u8>, decision: &Decision) -> Result<(), NoMemory>
+    ensures value { OnOk result (out.new.items ≡ out.old.items ++ line_text (words_of_decision decision.now)) }
+{
+    push_decision(out, decision)?;
     out.extend_from_slice(b"\n")?;
     Ok(())
 }
@@ -110,16 +129,7 @@ fn push_act(out: &mut Vec<u8>, act: &Act) -> Result<(), NoMemory>
     ensures value { OnOk result (out.new.items ≡ out.old.items ++ line_text (words_of_act act.now)) }
 {
     match act {
-        Act::Decide(Decision::Fork { new, old }) => push_fork(out, new, old),
-        Act::Decide(
-            Decision::Set {
-                who,
-                at,
-                station,
-                change,
-            },
-        ) => push_set(out, who, *at, station, change),
-        Act::Decide(Decision::End { who, at }) => push_end(out, who, *at),
+        Act::Decide(decision) => push_decision_line(out, decision),
         Act::Look { who, station } => push_look(out, who, station),
     }
 }

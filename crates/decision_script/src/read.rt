@@ -6,7 +6,7 @@ ghost use Rattle.decision_script.specs.Reading.{after_lines, fault_at, script, n
 
 use crate::fault::{LineFault, ScriptFault};
 use crate::item::{Act, Item, push_item};
-use crate::line::{Said, saying_of_line};
+use crate::line::{Meaning, saying_of_line};
 use crate::script::{MOST_ANALYSTS, MOST_BYTES, MOST_ITEMS, Script};
 use sim_base::Name;
 use std::alloc::Global;
@@ -89,14 +89,14 @@ impl Reader {
         Ok(())
     }
 
-    fn take(&mut self, line: u32, said: Said) -> Result<(), ScriptFault>
+    fn take(&mut self, line: u32, said: Meaning) -> Result<(), ScriptFault>
         ensures ok { OnOk result (after_saying line self.old said ≡ Ok self.new) }
         ensures refused { IfErr result (λ e. e ≢ ScriptFault.NoMemory → after_saying line self.old said ≡ Err e) }
     {
         match said {
-            Said::Nothing => Ok(()),
-            Said::Section(name) => self.begin_section(line, name),
-            Said::Says(act) => self.add_act(line, act),
+            Meaning::Nothing => Ok(()),
+            Meaning::Section(name) => self.begin_section(line, name),
+            Meaning::Says(act) => self.add_act(line, act),
         }
     }
 

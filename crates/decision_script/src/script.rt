@@ -5,11 +5,11 @@ ghost use Rattle.std.specs.Prelude.{◌≡◌, ◌<◌, ◌≤◌, [], length, s
 ghost use Rattle.decision_script.specs.Stating.{analyst_name};
 
 use crate::item::Item;
-use sim_base::Name;
+use sim_base::{MOST_FILE_BYTES, Name};
 use std::marker::Model;
 
 /// How many bytes a text may have.
-pub const MOST_BYTES: usize = 1_048_576;
+pub const MOST_BYTES: usize = MOST_FILE_BYTES;
 /// How many analysts may act in a script, `main` among them.
 pub const MOST_ANALYSTS: usize = 16;
 /// How many decisions and looks a script may have.

@@ -7,7 +7,7 @@ use Rattle.decision_book.specs.Journal.{Situation, after, clones_after}
 use Rattle.decision_book.specs.Replies.{reply}
 use Rattle.decision_book.specs.Scripts.{next}
 use Rattle.decision_book.specs.declared.call.Reply.TheVariants.{Accepted}
-use Rattle.decision_book.proofs.Scripts.{journal_stands, next_accepted}
+use Rattle.decision_book.proofs.Scripts.{situation_of_journal, next_accepted}
 use Rattle.world_core.specs.Taking.{IsAccepted}
 use Rattle.world_core.proofs.Accepted.{accepted_at}
 use Rattle.world_core.specs.Worlds.{WorldView}
@@ -15,7 +15,7 @@ use Rattle.engine_tests.specs.Abreast.{AreAbreast}
 
 -- what a book's events leave is of the book's network
 net_of_events : (book : BookView) → (after book.net book.events).net ≡ book.net
-net_of_events book = ap (λ (s : Situation). s.net) (journal_stands book.net book.events)
+net_of_events book = ap (λ (s : Situation). s.net) (situation_of_journal book.net book.events)
 
 -- the world takes what the book accepts
 pub world_accepts : (book : BookView) (world : WorldView) (d : Decision) → AreAbreast book world

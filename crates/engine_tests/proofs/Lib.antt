@@ -1,4 +1,3 @@
 pub mod Deciding
-pub mod NewPasses
 pub mod Opening
 pub mod Seen

@@ -7,12 +7,14 @@ use Rattle.phys_proc.specs.Racks.{RackView}
 use Rattle.shelf.specs.Racks.{HasRack, MayOpen, or_this}
 use Rattle.engine_tests.specs.Seen.{AreSeenUpTo}
 
+-- ---- slice_get
 -- what holds of one rack at its place
 at_one : (P : ℕ → RackView → Type 0) (a : RackView) → P 0 a
     → (i : ℕ) (r : RackView) → slice_get (a ∷ []) i ≡ Some r → P i r
 at_one P a x zero r e = let h : a ≡ r = cc in subst (P 0) h x
 at_one P a x (suc i) r e = absurd (cc)
 
+-- ---- MayOpen, AreSeenUpTo, HasRack
 -- a rack of the station, of the network, at the front
 pub record IsAt (n : Net) (f s : ℕ) (r : RackView) : Type 0 where
   pub station : r.station ≡ s

@@ -1,16 +1,10 @@
 -- Racks that were seen up to a front, and one rack more.
 use Rattle.std.proofs.Common.{◌≡◌, ℕ, ◌<◌, ◌≤◌, List, [], ◌∷◌, ◌++◌, sym, ◌∙◌, arith}
-use Rattle.std.specs.List.{AllByRecursion}
+use Rattle.sim_base.proofs.ListLaws.{all_push}
 use Rattle.net_model.specs.Net.{Net}
 use Rattle.phys_proc.specs.Racks.{RackView}
 use Rattle.shelf.specs.Racks.{MayFollow}
 use Rattle.engine_tests.specs.Seen.{AreSeenUpTo}
-
--- what holds of a list and of one more holds of both together
-all_with : {A : Type 0} (P : A → Type 0) (xs : List A) (y : A) → AllByRecursion P xs → P y
-    → AllByRecursion P (xs ++ y ∷ [])
-all_with P [] y h p = (p, tt)
-all_with P (x ∷ xs) y h p = (h.0, all_with P xs y h.1 p)
 
 -- a rack of a later front may follow
 pub seen_follows : (net : Net) (front : ℕ) (racks : List RackView) (r : RackView) → AreSeenUpTo net front racks
@@ -25,7 +19,7 @@ seen_follows net front (q ∷ racks) r seen e l =
 pub seen_with : (net : Net) (front : ℕ) (racks : List RackView) (r : RackView) → AreSeenUpTo net front racks
     → r.net ≡ net → front ≤ r.front
     → AreSeenUpTo net r.front (racks ++ r ∷ [])
-seen_with net front racks r seen e l = all_with (λ (q : RackView). (q.net ≡ net) × (q.front ≤ r.front)) racks r
+seen_with net front racks r seen e l = all_push (λ (q : RackView). (q.net ≡ net) × (q.front ≤ r.front)) racks r
     (later racks seen) (e, omega arith)
   where
     later : (racks : List RackView) → AreSeenUpTo net front racks → AreSeenUpTo net r.front racks

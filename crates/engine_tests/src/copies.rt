@@ -1,12 +1,13 @@
 //! Messages delivered by hand to a desk, for two clones and for many.
 ghost use Rattle.std.specs.Prelude.{◌≡◌, ◌≤◌, ◌<◌, length, IfSome};
+ghost use Rattle.sim_base.specs.declared.lists.TheConstants.{MOST_CLONES};
 ghost use Rattle.phys_proc.specs.Procs.{IsProc};
 
 use clone_sets::CloneSet;
 use net_model::{Model, read_model};
 use phys_proc::{CloneEnds, Gain, Proc};
 use sample_models::ONE_DESK;
-use sim_base::{Change, Job, Key, Msg, Param, Payload, Steps};
+use sim_base::{Change, Job, Key, MOST_CLONES, Msg, Param, Payload, Steps};
 use std::alloc::Global;
 use std::marker::Brand;
 use std::sync::ledger::{Blank, Ledger};
@@ -49,7 +50,7 @@ fn both() -> CloneSet {
 
 /// The clones from `first` to the one before `end`.
 fn clones_from(first: u32, end: u32) -> CloneSet
-    requires end { end ≤ 256 }
+    requires end { end ≤ MOST_CLONES }
 {
     let mut all = CloneSet::empty();
     for c in first..end {
@@ -61,7 +62,7 @@ fn clones_from(first: u32, end: u32) -> CloneSet
 /// The desk for so many clones, which are alike.
 fn clones_alike(alloc: Global, model: &Model, clones: u32) -> Option<Proc>
     requires desk { 2 ≤ length model.now.sites }
-    requires clones { clones ≤ 256 }
+    requires clones { clones ≤ MOST_CLONES }
     ensures proc { IfSome result (λ p. IsProc model.now p) }
 {
     let mut proc = Proc::new(alloc, model, DESK).ok()?;
@@ -76,7 +77,7 @@ fn clones_alike(alloc: Global, model: &Model, clones: u32) -> Option<Proc>
 }
 
 /// The desk with these messages besides.
-fn given(proc: Proc, model: &Model, msgs: &[(Msg, CloneSet)]) -> Option<Proc>
+fn deliver_all(proc: Proc, model: &Model, msgs: &[(Msg, CloneSet)]) -> Option<Proc>
     requires proc { IsProc model.now proc }
     ensures proc { IfSome result (λ p. IsProc model.now p) }
 {
@@ -92,15 +93,15 @@ fn given(proc: Proc, model: &Model, msgs: &[(Msg, CloneSet)]) -> Option<Proc>
 }
 
 /// The desk for so many clones, with these messages besides.
-fn opened(alloc: Global, model: &Model, clones: u32, msgs: &[(Msg, CloneSet)]) -> Option<Proc>
-    requires clones { clones ≤ 256 }
+fn open_desk(alloc: Global, model: &Model, clones: u32, msgs: &[(Msg, CloneSet)]) -> Option<Proc>
+    requires clones { clones ≤ MOST_CLONES }
     ensures proc { IfSome result (λ p. IsProc model.now p) }
 {
     if model.len() < DESK {
         return None;
     }
     let proc = clones_alike(alloc, model, clones)?;
-    given(proc, model, msgs)
+    deliver_all(proc, model, msgs)
 }
 
 /// A desk that was stepped, and what that gave.
@@ -152,23 +153,23 @@ fn step_to(alloc: Global, proc: Proc, model: &Model, ends: &CloneEnds, bound: u6
 }
 
 /// The flow of a desk with these messages at the horizon, for so many clones.
-fn stepped(
+fn step_desk(
     alloc: Global,
     text: &str,
     clones: u32,
     msgs: &[(Msg, CloneSet)],
     ends: &CloneEnds,
 ) -> Option<Flow>
-    requires clones { clones ≤ 256 }
+    requires clones { clones ≤ MOST_CLONES }
 {
     let model = read_model(alloc, text.as_bytes()).ok()?;
-    let proc = opened(alloc, &model, clones, msgs)?;
+    let proc = open_desk(alloc, &model, clones, msgs)?;
     step_to(alloc, proc, &model, ends, model.horizon())
 }
 
 /// The ends of clones, where this one alone has one.
 fn end_of(alloc: Global, clone: u32, at: u64) -> Option<CloneEnds>
-    requires clone { clone < 256 }
+    requires clone { clone < MOST_CLONES }
 {
     let mut ends = CloneEnds::none(alloc);
     ends.end(clone, at).ok()?;
@@ -176,11 +177,11 @@ fn end_of(alloc: Global, clone: u32, at: u64) -> Option<CloneEnds>
 }
 
 /// The flow where no clone has an end.
-fn stepped_to_end(alloc: Global, clones: u32, msgs: &[(Msg, CloneSet)]) -> Option<Flow>
-    requires clones { clones ≤ 256 }
+fn step_desk_to_end(alloc: Global, clones: u32, msgs: &[(Msg, CloneSet)]) -> Option<Flow>
+    requires clones { clones ≤ MOST_CLONES }
 {
     let ends = CloneEnds::none(alloc);
-    stepped(alloc, ONE_DESK, clones, msgs, &ends)
+    step_desk(alloc, ONE_DESK, clones, msgs, &ends)
 }
 
 /// A clone, how long its log is, and how many clones share it.
@@ -190,7 +191,7 @@ type Share = (u32, u64, u32);
 fn has_log(proc: &Proc, share: Share) -> bool {
     let (clone, len, clones) = share;
     for copy in proc.copies() {
-        if clone < 256 && copy.set().has(clone) {
+        if clone < MOST_CLONES && copy.set().has(clone) {
             return copy.log().len() == len && copy.set().len() == clones;
         }
     }
@@ -216,7 +217,7 @@ fn jobs() -> [(Msg, CloneSet); 3] {
 
 /// A set for one of the clones parts them: 4 messages and 5, of which the first is handled once.
 fn desks_part(alloc: Global) -> Option<bool> {
-    let flow = stepped_to_end(alloc, 2, &jobs())?;
+    let flow = step_desk_to_end(alloc, 2, &jobs())?;
     let parts = comes_to(&flow, 8, 2, (0, 4, 1), (1, 5, 1));
     Some(parts && flow.over.is_empty() && flow.sent.len() == 4)
 }
@@ -224,22 +225,22 @@ fn desks_part(alloc: Global) -> Option<bool> {
 /// The messages of a clone are passed over from its end on.
 fn ended_clone_is_passed_over(alloc: Global) -> Option<bool> {
     let ends = end_of(alloc, 1, 8)?;
-    let flow = stepped(alloc, ONE_DESK, 2, &jobs(), &ends)?;
+    let flow = step_desk(alloc, ONE_DESK, 2, &jobs(), &ends)?;
     Some(comes_to(&flow, 4, 2, (0, 4, 1), (1, 1, 1)))
 }
 
 /// The flow where a station may handle three messages, and clone 0 ends at 8.
-fn limited(alloc: Global) -> Option<Flow> {
+fn limited_flow(alloc: Global) -> Option<Flow> {
     let text = ONE_DESK
         .replacen(alloc, "horizon = 20", "horizon = 20\nlimit = 3", 1)
         .ok()?;
     let ends = end_of(alloc, 0, 8)?;
-    stepped(alloc, text.as_str(), 2, &jobs(), &ends)
+    step_desk(alloc, text.as_str(), 2, &jobs(), &ends)
 }
 
 /// Clone 1 goes over then, and clone 0 does not.
 fn one_copy_meets_the_limit(alloc: Global) -> Option<bool> {
-    let flow = limited(alloc)?;
+    let flow = limited_flow(alloc)?;
     Some(flow.over.first() == Some(1) && flow.over.len() == 1 && flow.handled == 3)
 }
 
@@ -247,7 +248,7 @@ fn one_copy_meets_the_limit(alloc: Global) -> Option<bool> {
 fn all_clones_handle_once(alloc: Global) -> Option<bool> {
     let all = clones_from(0, 256);
     let msgs = [(job(5, 1, 0, 3), all), (job(8, 3, 1, 6), all)];
-    let flow = stepped_to_end(alloc, 256, &msgs)?;
+    let flow = step_desk_to_end(alloc, 256, &msgs)?;
     let once = comes_to(&flow, 4, 1, (0, 4, 256), (255, 4, 256));
     Some(once && flow.sent.len() == 2)
 }
@@ -262,7 +263,7 @@ fn three_clones(alloc: Global, model: &Model) -> Option<Proc>
         (job(8, 3, 1, 6), all),
         (faster(8), CloneSet::one(1)),
     ];
-    opened(alloc, model, 3, &msgs)
+    open_desk(alloc, model, 3, &msgs)
 }
 
 /// They handle the first job together up to 8.

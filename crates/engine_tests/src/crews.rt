@@ -15,7 +15,9 @@ use std::thread::Threads;
 /// Each task puts its number behind its item, in place, but that one task is out of memory.
 #[derive(Drop)]
 pub(crate) struct Appends {
+    /// The task that is out of memory, if there is one.
     pub refused: Option<u32>,
+    /// Whether the work says that it is small.
     pub small: bool,
 }
 

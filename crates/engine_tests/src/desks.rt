@@ -4,6 +4,7 @@ ghost use Rattle.sim_base.specs.Clones.{base};
 ghost use Rattle.run_laws.specs.Fronts.{least_of};
 ghost use Rattle.stations.specs.Runs.{simulation};
 ghost use Rattle.decision_desk.specs.Passes.{new_passes, new_helm};
+ghost use Rattle.decision_desk.specs.declared.desk.TheConstants.{MOST_PASSES};
 
 use decision_book::{Call, Reply};
 use decision_desk::{Desk, Helm, Pass, Receipt};
@@ -53,10 +54,13 @@ fn first_due(alloc: Global, model: Arc<Model>) -> Result<Option<u64>, NoMemory>
     Ok(world.least_of(0))
 }
 
-/// A desk of so many analysts, from 1 to 16, with the first time that is due in its network.
-fn begun(alloc: Global, analysts: u32) -> Result<(Desk, Vec<Pass>, Helm, Option<u64>), NoMemory>
+/// A desk of so many analysts, with the first time that is due in its network.
+fn begin_desk(
+    alloc: Global,
+    analysts: u32,
+) -> Result<(Desk, Vec<Pass>, Helm, Option<u64>), NoMemory>
     requires some { 1 ≤ analysts }
-    requires few { analysts ≤ 16 }
+    requires few { analysts ≤ MOST_PASSES }
     ensures passes { IfOk result (λ r. r.1.items ≡ new_passes r.0.table.shared.table_id r.2.net analysts) }
     ensures helm { IfOk result (λ r. r.2 ≡ new_helm r.0.table.shared.table_id r.2.net analysts) }
     ensures least { IfOk result (λ r. r.3 ≡ least_of (simulation r.2.net) base 0) }
@@ -72,13 +76,13 @@ fn begun(alloc: Global, analysts: u32) -> Result<(Desk, Vec<Pass>, Helm, Option<
 }
 
 /// A desk of one analyst.
-fn begun_alone(alloc: Global) -> Result<(Desk, Pass, Helm, Option<u64>), NoMemory>
+fn begin_desk_alone(alloc: Global) -> Result<(Desk, Pass, Helm, Option<u64>), NoMemory>
     ensures pass { IfOk result (λ r. r.1.desk ≡ r.0.table.shared.table_id) }
     ensures helm { IfOk result (λ r. r.2 ≡ new_helm r.0.table.shared.table_id r.2.net 1) }
     ensures least { IfOk result (λ r. r.3 ≡ least_of (simulation r.2.net) base 0) }
     ensures horizon { IfOk result (λ r. 0 < r.2.net.horizon) }
 {
-    let (desk, mut passes, helm, least) = begun(alloc, 1)?;
+    let (desk, mut passes, helm, least) = begin_desk(alloc, 1)?;
     let Some(pass) = passes.pop() else {
         return Err(NoMemory);
     };
@@ -153,7 +157,7 @@ fn fills<R: Wait + Abort>(rt: &R, desk: &Desk, pass: &mut Pass) -> bool
 
 /// The same of a desk that begins.
 fn fills_at_last<R: Wait + Abort>(rt: &R, alloc: Global) -> Result<bool, NoMemory> {
-    let (desk, mut pass, _helm, _least) = begun_alone(alloc)?;
+    let (desk, mut pass, _helm, _least) = begin_desk_alone(alloc)?;
     Ok(fills(rt, &desk, &mut pass))
 }
 
@@ -213,7 +217,7 @@ fn is_late_by_another<R: Threads + Wait + Abort + Sync>(
     rt: &R,
     alloc: Global,
 ) -> Result<bool, NoMemory> {
-    let (desk, pass, helm, least) = begun_alone(alloc)?;
+    let (desk, pass, helm, least) = begin_desk_alone(alloc)?;
     let x = fork(rt, b"x", b"base");
     let (front, mut pass) = turn_beside(rt, alloc, &desk, pass, helm, least, &x);
     Ok(front == Some(5) && is_late_by_a_hair(rt, &desk, &mut pass))
@@ -250,12 +254,12 @@ fn accepted_of(calls: &[Call]) -> u32 {
 }
 
 /// Whether sixteen callers who fork to one name make a journal of all their calls, and one of them is accepted.
-#[tactic(auto, using(crate::proofs::NewPasses::new_count, crate::proofs::NewPasses::new_desks))]
+#[tactic(auto, using(decision_desk::proofs::NewPasses::new_passes_count, decision_desk::proofs::NewPasses::new_passes_desks))]
 fn one_of_sixteen_forks<R: Threads + Wait + Abort + Sync>(
     rt: &R,
     alloc: Global,
 ) -> Result<bool, NoMemory> {
-    let (desk, mut passes, helm, _least) = begun(alloc, 16)?;
+    let (desk, mut passes, helm, _least) = begin_desk(alloc, 16)?;
     ask_all(rt, &desk, &mut passes, &fork(rt, b"x", b"base"));
     let closed = desk.close(passes, helm);
     let calls = closed.book().calls();

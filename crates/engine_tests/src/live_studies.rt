@@ -39,16 +39,27 @@ fn run_counted<C: Crew + Sync, L: Ledger, R: Threads + Wait + Sync>(
     live_study(rt, alloc, crew, &NoGate, &model, &script, &mut steps).ok()
 }
 
+/// The place behind an analyst's looks, which begin at this place, where each saw a station or none, as it should.
+fn behind_looks(live: &LiveRun, analyst: usize, stations: &[bool], first: usize) -> Option<usize> {
+    let own = live.looks.as_slice().get(analyst)?;
+    let mut next = first;
+    for look in own.as_slice() {
+        if next >= stations.len() || stations[next] != look.glance.is_some() {
+            return None;
+        }
+        next = next.saturating_add(1);
+    }
+    Some(next)
+}
+
 /// Whether so many looks were made, and each of them saw a station or none, as it should.
 fn have_seen(live: &LiveRun, stations: &[bool]) -> bool {
     let mut next = 0usize;
-    for own in live.looks.as_slice() {
-        for look in own.as_slice() {
-            if next >= stations.len() || stations[next] != look.glance.is_some() {
-                return false;
-            }
-            next = next.saturating_add(1);
-        }
+    for analyst in 0..live.looks.len() {
+        let Some(place) = behind_looks(live, analyst, stations, next) else {
+            return false;
+        };
+        next = place;
     }
     next == stations.len()
 }

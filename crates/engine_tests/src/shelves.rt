@@ -1,5 +1,6 @@
 //! A run that publishes the gate's rack after each window, and readers beside it.
 ghost use Rattle.std.specs.Prelude.{◌≡◌, ◌<◌, ◌≤◌, length, All, IfOk, IfSome};
+ghost use Rattle.net_model.specs.declared.limits.TheConstants.{MOST_STATIONS};
 ghost use Rattle.shelf.specs.Racks.{HasRack, MayOpen};
 ghost use Rattle.engine_tests.specs.Seen.{AreSeenUpTo};
 
@@ -7,7 +8,7 @@ use crate::worlds::window;
 use crew_pool::{NoGate, Serial};
 use net_model::read_model;
 use phys_proc::Rack;
-use shelf::{Naming, Opened, Seat, Stocker, Told, begin};
+use shelf::{Naming, NewHistory, Seat, Stocker, Told, begin};
 use sim_base::{Name, NoMemory};
 use std::alloc::Global;
 use std::marker::Brand;
@@ -56,7 +57,7 @@ fn first(alloc: Global) -> Result<World, NoMemory>
 /// That world, and the gate's rack.
 fn opening(alloc: Global) -> Result<(World, Vec<Rack>), NoMemory>
     ensures opening { IfOk result (λ p. MayOpen p.1.items) }
-    ensures few { IfOk result (λ p. length p.1.items ≤ 64) }
+    ensures few { IfOk result (λ p. length p.1.items ≤ MOST_STATIONS) }
     ensures seen { IfOk result (λ p. AreSeenUpTo p.0.net p.0.front p.1.items) }
     ensures there { IfOk result (λ p. HasRack 1 p.1.items) }
 {
@@ -67,10 +68,10 @@ fn opening(alloc: Global) -> Result<(World, Vec<Rack>), NoMemory>
 }
 
 /// A shelf of a run that begins, with two seats.
-fn begun<J: Naming, W: Wait + Drop>(
+fn begin_shelf<J: Naming, W: Wait + Drop>(
     waits: W,
     alloc: Global,
-    opened: Opened,
+    opened: NewHistory,
 ) -> Result<(World, Stocker<J, W>, Vec<Seat<J>>), NoMemory>
     requires name { opened.seen.book ≡ J.book }
     ensures seen { IfOk result (λ r. AreSeenUpTo r.0.net r.0.front r.1.published) }
@@ -83,7 +84,7 @@ fn begun<J: Naming, W: Wait + Drop>(
 }
 
 /// Takes a seat.
-fn taken<J: Naming>(seats: &mut Vec<Seat<J>>) -> Result<Seat<J>, NoMemory>
+fn take_seat<J: Naming>(seats: &mut Vec<Seat<J>>) -> Result<Seat<J>, NoMemory>
     requires there { All (λ s. HasRack 1 s) seats.old.items }
     ensures there { All (λ s. HasRack 1 s) seats.new.items }
     ensures seat { IfOk result (λ s. HasRack 1 s) }
@@ -101,13 +102,17 @@ fn two_of<J: Naming>(seats: Vec<Seat<J>>) -> Result<(Seat<J>, Seat<J>), NoMemory
     ensures two { IfOk result (λ p. HasRack 1 p.1) }
 {
     let mut seats = seats;
-    let one = taken(&mut seats)?;
-    let two = taken(&mut seats)?;
+    let one = take_seat(&mut seats)?;
+    let two = take_seat(&mut seats)?;
     Ok((one, two))
 }
 
 /// A window, and a rack of the gate after it.
-fn stepped<R: Threads + Wait + Sync>(rt: &R, alloc: Global, world: World) -> Option<(World, Rack)>
+fn step_window<R: Threads + Wait + Sync>(
+    rt: &R,
+    alloc: Global,
+    world: World,
+) -> Option<(World, Rack)>
     ensures net { IfSome result (λ p. (p.0.net ≡ world.net) × (p.1.net ≡ world.net)) }
     ensures later { IfSome result (λ p. (world.front < p.1.front) × (p.0.front ≡ p.1.front)) }
     ensures gate { IfSome result (λ p. p.1.station ≡ 1) }
@@ -127,7 +132,7 @@ fn stepped<R: Threads + Wait + Sync>(rt: &R, alloc: Global, world: World) -> Opt
 
 /// A window, and the gate's rack after it is published.
 #[tactic(auto, using(crate::proofs::Seen::seen_follows, crate::proofs::Seen::seen_with))]
-fn published<J: Naming, W: Wait + Drop, R: Threads + Wait + Sync>(
+fn publish_window<J: Naming, W: Wait + Drop, R: Threads + Wait + Sync>(
     rt: &R,
     alloc: Global,
     world: World,
@@ -138,7 +143,7 @@ fn published<J: Naming, W: Wait + Drop, R: Threads + Wait + Sync>(
     ensures seen { IfOk result (λ w. AreSeenUpTo w.net w.front stocker.new.published) }
     ensures there { IfOk result (λ w. HasRack 1 stocker.new.published) }
 {
-    let Some((world, rack)) = stepped(rt, alloc, world) else {
+    let Some((world, rack)) = step_window(rt, alloc, world) else {
         return Err(NoMemory);
     };
     stocker.publish(alloc, rack)?;
@@ -160,13 +165,12 @@ fn publish_all<J: Naming, W: Wait + Drop, R: Threads + Wait + Sync>(
         if world.front() == HORIZON {
             break;
         }
-        world = published(rt, alloc, world, stocker)?;
+        world = publish_window(rt, alloc, world, stocker)?;
     }
     Ok(())
 }
 
 /// Looks at the gate; the front.
-#[tactic(auto, using(shelf::proofs::Legals::has_later))]
 fn look_once<J: Naming>(seat: &mut Seat<J>, who: &Name) -> u64
     requires there { HasRack 1 seat.old }
     ensures there { HasRack 1 seat.new }
@@ -326,12 +330,12 @@ fn beside<J: Naming + Send + Sync, W: Wait + Drop + Send, R: Threads + Wait + Sy
     rt: &R,
     waits: W,
     alloc: Global,
-    opened: Opened,
+    opened: NewHistory,
     who: &Name,
 ) -> Result<bool, NoMemory>
     requires name { opened.seen.book ≡ J.book }
 {
-    let (world, stocker, seats) = begun::<J, W>(waits, alloc, opened)?;
+    let (world, stocker, seats) = begin_shelf::<J, W>(waits, alloc, opened)?;
     let (one, two) = two_of(seats)?;
     let (stocker, (one, two)) = run_beside(rt, alloc, world, stocker, one, two, who);
     Ok(saw_all(stocker, one, two, who))
@@ -357,11 +361,11 @@ fn looks_are_right<J: Naming, W: Wait + Drop, R: Threads + Wait + Sync>(
     let mut one = one;
     let mut two = two;
     let opens = look_once(&mut one, who) == 0;
-    let world = published(rt, alloc, world, &mut stocker)?;
+    let world = publish_window(rt, alloc, world, &mut stocker)?;
     let front = world.front();
     let shown = look_once(&mut two, who) == front;
     let told = tells_each(&mut stocker, one, two, who, front);
-    let goes_on = published(rt, alloc, world, &mut stocker).is_ok();
+    let goes_on = publish_window(rt, alloc, world, &mut stocker).is_ok();
     Ok(opens && 0 < front && shown && told && goes_on)
 }
 
@@ -370,12 +374,12 @@ fn one_by_one<J: Naming, W: Wait + Drop, R: Threads + Wait + Sync>(
     rt: &R,
     waits: W,
     alloc: Global,
-    opened: Opened,
+    opened: NewHistory,
     who: &Name,
 ) -> Result<bool, NoMemory>
     requires name { opened.seen.book ≡ J.book }
 {
-    let (world, stocker, seats) = begun::<J, W>(waits, alloc, opened)?;
+    let (world, stocker, seats) = begin_shelf::<J, W>(waits, alloc, opened)?;
     let (one, two) = two_of(seats)?;
     looks_are_right(rt, alloc, world, stocker, one, two, who)
 }
@@ -388,7 +392,13 @@ fn base<R: Abort>(rt: &R) -> Name {
 #[test]
 fn readers_beside_a_run(rt: HostRuntime) {
     let who = base(&rt);
-    let saw = beside::<Brand, &HostRuntime, HostRuntime>(&rt, &rt, rt.alloc(), Opened::new(), &who);
+    let saw = beside::<Brand, &HostRuntime, HostRuntime>(
+        &rt,
+        &rt,
+        rt.alloc(),
+        NewHistory::new(),
+        &who,
+    );
     assert!(rt; saw == Ok(true));
 }
 
@@ -399,7 +409,7 @@ fn looks_one_by_one(rt: HostRuntime) {
         &rt,
         &rt,
         rt.alloc(),
-        Opened::new(),
+        NewHistory::new(),
         &who,
     );
     assert!(rt; saw == Ok(true));

@@ -54,7 +54,7 @@ fn call<G: Gate, R: Threads + Wait + Sync>(
 }
 
 /// The team after a call of so many tasks, where they have the answers that they should.
-fn answered<G: Gate, R: Threads + Wait + Sync>(
+fn call_once<G: Gate, R: Threads + Wait + Sync>(
     rt: &R,
     alloc: Global,
     gate: &G,
@@ -72,16 +72,16 @@ fn answered<G: Gate, R: Threads + Wait + Sync>(
 }
 
 /// The team after calls of no task, of one, of five and of the most, one after the other.
-fn all_answered<G: Gate, R: Threads + Wait + Sync>(
+fn call_all_sizes<G: Gate, R: Threads + Wait + Sync>(
     rt: &R,
     alloc: Global,
     gate: &G,
     team: Team<Appends>,
 ) -> Option<Team<Appends>> {
-    let team = answered(rt, alloc, gate, team, 0)?;
-    let team = answered(rt, alloc, gate, team, 1)?;
-    let team = answered(rt, alloc, gate, team, 5)?;
-    answered(rt, alloc, gate, team, 64)
+    let team = call_once(rt, alloc, gate, team, 0)?;
+    let team = call_once(rt, alloc, gate, team, 1)?;
+    let team = call_once(rt, alloc, gate, team, 5)?;
+    call_once(rt, alloc, gate, team, 64)
 }
 
 /// Whether these calls have their answers, and then one in which a task is refused memory has none.
@@ -91,7 +91,7 @@ fn all_sizes<G: Gate, R: Threads + Wait + Sync>(
     gate: &G,
     team: Team<Appends>,
 ) -> bool {
-    match all_answered(rt, alloc, gate, team) {
+    match call_all_sizes(rt, alloc, gate, team) {
         Some(team) => call(rt, alloc, gate, team, Some(2), 5).is_err(),
         None => false,
     }
@@ -128,7 +128,7 @@ fn lead_beside<G: Gate, R: Threads + Wait + Sync>(
 }
 
 /// A team of so many.
-fn gathered(alloc: Global, count: u32) -> Option<(Team<Appends>, Vec<Member<Appends>>)> {
+fn gather(alloc: Global, count: u32) -> Option<(Team<Appends>, Vec<Member<Appends>>)> {
     let workers = Workers::new(count)?;
     let (team, members) = Team::<Appends>::begin(alloc, workers).ok()?;
     if members.len() + 1 == count as usize {
@@ -145,7 +145,7 @@ fn all_sizes_beside<G: Gate, R: Threads + Wait + Sync>(
     gate: &G,
     count: u32,
 ) -> Option<bool> {
-    let (team, members) = gathered(alloc, count)?;
+    let (team, members) = gather(alloc, count)?;
     let bell = team.bell().ok()?;
     Some(lead_beside(rt, alloc, gate, team, members, &bell))
 }

@@ -9,7 +9,7 @@ use crew_pool::{Crew, Forked, Gate, NoGate, Serial, Stealing, Workers};
 use decision_book::{Book, Call, Reply};
 use net_model::{Model, read_model};
 use phys_proc::{Found, Glance};
-use sample_models::ONE_DESK;
+use sample_models::{BUSY, ONE_DESK};
 use sim_base::{Change, Decision, Entry, Figures, Name, Param, Steps};
 use standing_crew::{Bell, Member, Team, serve_all};
 use std::alloc::Global;
@@ -66,7 +66,7 @@ fn model_of(alloc: Global, text: &str) -> Option<Arc<Model>> {
 }
 
 /// The world of a model, before anything is handled.
-fn begun(alloc: Global, model: &Arc<Model>) -> Option<World>
+fn begin_world(alloc: Global, model: &Arc<Model>) -> Option<World>
     ensures net { IfSome result (λ w. w.net ≡ model.now.value) }
     ensures alone { IfSome result (λ w. w.clones ≡ base ∷ []) }
 {
@@ -91,7 +91,7 @@ fn book_at(alloc: Global, model: &Arc<Model>, front: u64) -> Option<Book>
 }
 
 /// The world with a decision more, where the book accepts it.
-fn taken(alloc: Global, book: &mut Book, world: World, decision: &Decision) -> Option<World>
+fn take_decision(alloc: Global, book: &mut Book, world: World, decision: &Decision) -> Option<World>
     requires abreast { AreAbreast book.old world }
     ensures abreast { IfSome result (λ w. AreAbreast book.new w) }
 {
@@ -111,14 +111,19 @@ fn taken(alloc: Global, book: &mut Book, world: World, decision: &Decision) -> O
 }
 
 /// The world with these decisions, where a book accepts each of them at its front.
-fn decided(alloc: Global, model: &Arc<Model>, world: World, decisions: &[Decision]) -> Option<World>
+fn take_decisions(
+    alloc: Global,
+    model: &Arc<Model>,
+    world: World,
+    decisions: &[Decision],
+) -> Option<World>
     requires net { world.net ≡ model.now.value }
     requires alone { world.clones ≡ base ∷ [] }
 {
     let mut book = book_at(alloc, model, world.front())?;
     let mut world = world;
     for i in 0..decisions.len() {
-        world = taken(alloc, &mut book, world, &decisions[i])?;
+        world = take_decision(alloc, &mut book, world, &decisions[i])?;
     }
     Some(world)
 }
@@ -153,15 +158,15 @@ fn end(at: u64) -> Option<Decision> {
 }
 
 /// The world of a model's text with these decisions, before anything is handled.
-fn opened(alloc: Global, text: &str, decisions: &[Decision]) -> Option<World> {
+fn begin_with(alloc: Global, text: &str, decisions: &[Decision]) -> Option<World> {
     let model = model_of(alloc, text)?;
-    let world = begun(alloc, &model)?;
-    decided(alloc, &model, world, decisions)
+    let world = begin_world(alloc, &model)?;
+    take_decisions(alloc, &model, world, decisions)
 }
 
 /// The two clones of the worked example.
 fn two_clones(alloc: Global, text: &str) -> Option<World> {
-    opened(alloc, text, &[fork("fast")?, faster(8)?])
+    begin_with(alloc, text, &[fork("fast")?, faster(8)?])
 }
 
 /// A window to the bound, or to the next front where that is less, on the counter that the blank makes.
@@ -334,21 +339,6 @@ impl Gate for Counts {
     fn before_call<R: Wait>(&self, _rt: &R, _analyst: u32, _k: u32) {}
 }
 
-/// A source whose windows have 9,000 messages, and a sink.
-const BUSY: &str = r#"lookahead = 9000
-horizon = 36000
-limit = 65536
-[[station]]
-name = "gate"
-kind = "source"
-every = [1, 1]
-jobs = 36000
-link = [{ to = "out", delay = 9000 }]
-[[station]]
-name = "out"
-kind = "sink"
-"#;
-
 /// Which workers ran a task, a bit for each.
 #[derive(Drop)]
 struct Ran {
@@ -363,10 +353,11 @@ impl Gate for Ran {
     fn before_call<R: Wait>(&self, _rt: &R, _analyst: u32, _k: u32) {}
 }
 
-/// The world of that model, before anything is handled.
+/// The world of a busy model of 36,000 jobs, before anything is handled.
 fn busy(alloc: Global) -> Option<World> {
-    let model = model_of(alloc, BUSY)?;
-    begun(alloc, &model)
+    let text = BUSY.replacen(alloc, "27000", "36000", 2).ok()?;
+    let model = model_of(alloc, &text)?;
+    begin_world(alloc, &model)
 }
 
 /// Three windows of a world by two workers, each with some of the tasks.
@@ -488,7 +479,7 @@ fn run_of<R: Threads + Wait + Sync>(
     text: &str,
     decisions: &[Decision],
 ) -> Option<World> {
-    let world = opened(alloc, text, decisions)?;
+    let world = begin_with(alloc, text, decisions)?;
     run_all(rt, alloc, world, 20)
 }
 
@@ -598,7 +589,7 @@ fn at_ten<R: Threads + Wait + Sync>(rt: &R, alloc: Global, model: &Arc<Model>) -
     ensures net { IfSome result (λ w. w.net ≡ model.now.value) }
     ensures alone { IfSome result (λ w. w.clones ≡ base ∷ []) }
 {
-    let mut world = begun(alloc, model)?;
+    let mut world = begin_world(alloc, model)?;
     for _ in 0..3 {
         world = window(rt, alloc, &Serial, &NoGate, world, 20).ok()?;
     }
@@ -610,23 +601,23 @@ fn at_ten<R: Threads + Wait + Sync>(rt: &R, alloc: Global, model: &Arc<Model>) -
 }
 
 /// The same, with `fast`, which is forked there and served faster from then on.
-fn forked_at_ten<R: Threads + Wait + Sync>(rt: &R, alloc: Global) -> Option<World> {
+fn fork_at_ten<R: Threads + Wait + Sync>(rt: &R, alloc: Global) -> Option<World> {
     let decisions = [fork("fast")?, faster(10)?];
     let model = model_of(alloc, ONE_DESK)?;
     let world = at_ten(rt, alloc, &model)?;
-    decided(alloc, &model, world, &decisions)
+    take_decisions(alloc, &model, world, &decisions)
 }
 
 /// Whether the front after such a fork is 12, and what the desks have handled there.
 fn forks_late<R: Threads + Wait + Sync>(rt: &R, alloc: Global) -> Option<bool> {
-    let world = forked_at_ten(rt, alloc)?;
+    let world = fork_at_ten(rt, alloc)?;
     let next = world.bound();
     let world = window(rt, alloc, &Serial, &NoGate, world, 20).ok()?;
     Some(next == 12 && has_figures(&world, 2, [2, 4, 7]))
 }
 
 /// The two clones at 7, where a station may handle three messages.
-fn limited<R: Threads + Wait + Sync>(rt: &R, alloc: Global) -> Option<World> {
+fn limited_clones<R: Threads + Wait + Sync>(rt: &R, alloc: Global) -> Option<World> {
     let text = ONE_DESK
         .replacen(alloc, "horizon = 20", "horizon = 20\nlimit = 3", 1)
         .ok()?;
@@ -639,7 +630,7 @@ fn limited<R: Threads + Wait + Sync>(rt: &R, alloc: Global) -> Option<World> {
 
 /// Whether `fast` is over the limit at the desk then, in the window to 10.
 fn limit_is_met<R: Threads + Wait + Sync>(rt: &R, alloc: Global) -> Option<bool> {
-    let world = limited(rt, alloc)?;
+    let world = limited_clones(rt, alloc)?;
     match window(rt, alloc, &Serial, &NoGate, world, 20) {
         Err(WorldFault::EventLimit { station, who, kept }) => Some(
             station == 2 && who == 1 && kept == 3,

@@ -19,7 +19,7 @@ use traces::{
 };
 
 /// A clone without a decision, or with one, that stands before anything is handled.
-fn begun(alloc: Global, model: &Model, plan: Option<Planned>) -> Option<Solo>
+fn begin_solo(alloc: Global, model: &Model, plan: Option<Planned>) -> Option<Solo>
     ensures { IfSome result (λ solo. IsSolo model.now solo) }
 {
     match plan {
@@ -55,7 +55,7 @@ fn comes_to<L: Ledger>(
     let Ok(model) = read_model(alloc, text.as_bytes()) else {
         return false;
     };
-    let Some(solo) = begun(alloc, &model, plan) else {
+    let Some(solo) = begin_solo(alloc, &model, plan) else {
         return false;
     };
     let horizon = model.horizon();

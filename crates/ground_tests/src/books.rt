@@ -13,7 +13,7 @@ use std::test::Fail;
 type Row = (&'static str, Reply);
 
 /// A book of one desk, with no call.
-fn begun(alloc: Global) -> Option<Book> {
+fn begin_book(alloc: Global) -> Option<Book> {
     let model = read_model(alloc, ONE_DESK.as_bytes()).ok()?;
     let model = Arc::new(alloc, model).ok()?;
     Book::begin(alloc, model).ok()
@@ -66,7 +66,7 @@ const AT_TEN: &[Row] = &[
 
 #[test]
 fn decisions_during_a_run(rt: HostRuntime) -> Result<(), Fail> {
-    let mut book = begun(rt.alloc()).ok_or(NoMemory)?;
+    let mut book = begin_book(rt.alloc()).ok_or(NoMemory)?;
     assert!(rt; raise_all(&mut book, &[5, 7, 10]));
     assert!(rt; first_wrong(rt.alloc(), &mut book, AT_TEN) == AT_TEN.len());
     assert!(rt; raise_all(&mut book, &[13, 15, 17, 20]));
@@ -87,7 +87,7 @@ fn is_closed(book: &mut Book, decision: &Decision) -> bool {
 #[test]
 fn a_book_at_the_horizon_is_closed(rt: HostRuntime) -> Result<(), Fail> {
     let fork = decision(rt.alloc(), "fork x from base").expect(&rt, "a decision");
-    let mut book = begun(rt.alloc()).ok_or(NoMemory)?;
+    let mut book = begin_book(rt.alloc()).ok_or(NoMemory)?;
     assert!(rt; raise_all(&mut book, &[5, 20]) && is_closed(&mut book, &fork));
     Ok(())
 }
@@ -97,7 +97,7 @@ fn digit(d: u32) -> u8 {
 }
 
 /// A fork of the base under a name of four bytes, another for each number below 1,000.
-fn numbered(n: u32) -> Option<Decision> {
+fn fork_of_number(n: u32) -> Option<Decision> {
     let new = Name::read(&[b'c', digit(n / 100), digit(n / 10), digit(n)])?;
     let old = Name::read(b"base")?;
     Some(Decision::Fork { new, old })
@@ -106,7 +106,7 @@ fn numbered(n: u32) -> Option<Decision> {
 /// Forks the base so often.
 fn forks(book: &mut Book, count: u32) -> bool {
     for n in 0..count {
-        let Some(fork) = numbered(n) else {
+        let Some(fork) = fork_of_number(n) else {
             return false;
         };
         if book.decide(2, fork) != Reply::Accepted {
@@ -194,7 +194,7 @@ fn first_clone(book: &Book) -> (u32, usize, Option<u64>) {
 #[test]
 fn refusals_in_their_order(rt: HostRuntime) -> Result<(), Fail> {
     assert!(rt; have_numbers(REFUSED, NUMBERS));
-    let mut book = begun(rt.alloc()).ok_or(NoMemory)?;
+    let mut book = begin_book(rt.alloc()).ok_or(NoMemory)?;
     assert!(rt; crowd(rt.alloc(), &mut book) && raise(&mut book, 10));
     assert_eq!(rt; first_wrong(rt.alloc(), &mut book, REFUSED), REFUSED.len());
     assert!(rt; first_clone(&book) == (256, 256, None));
@@ -216,7 +216,7 @@ fn is_full(book: &mut Book, decision: &Decision) -> bool {
 #[test]
 fn a_full_book(rt: HostRuntime) -> Result<(), Fail> {
     let fork = decision(rt.alloc(), "fork fresh from nobody").expect(&rt, "a decision");
-    let mut book = begun(rt.alloc()).ok_or(NoMemory)?;
+    let mut book = begin_book(rt.alloc()).ok_or(NoMemory)?;
     assert!(rt; raise(&mut book, 20) && repeat(&mut book, &fork, 4096, Reply::Closed));
     assert!(rt; is_full(&mut book, &fork));
     Ok(())

@@ -126,7 +126,7 @@ fn add_keys(found: &mut Vec<(Key, u32)>, log: &Log) -> Result<(), NoMemory> {
 }
 
 /// The keys of all logs by a sort, each with the place of its log.
-fn sorted(alloc: Global, logs: &[Log]) -> Result<Vec<(Key, u32)>, NoMemory> {
+fn sort_keys(alloc: Global, logs: &[Log]) -> Result<Vec<(Key, u32)>, NoMemory> {
     let mut found = Vec::new(alloc);
     for log in logs {
         add_keys(&mut found, log)?;
@@ -152,7 +152,7 @@ fn merges(alloc: Global, logs: &[Log]) -> Result<bool, NoMemory> {
     if logs.len() > 64 {
         return Ok(false);
     }
-    let want = sorted(alloc, logs)?;
+    let want = sort_keys(alloc, logs)?;
     let mut cursor = Cursor::new(alloc, logs.len().max(1))?;
     Ok(gives_again(&mut cursor, logs, want.as_slice()))
 }

@@ -22,7 +22,7 @@ use std::sync::ledger::{Blank, Ledger};
 use std::test::Fail;
 
 /// The station of this number, before it has handled anything.
-fn opened(alloc: Global, model: &Model, station: u32) -> Option<State>
+fn open_station(alloc: Global, model: &Model, station: u32) -> Option<State>
     ensures { IfSome result (λ state. IsStateOf model.now station state) }
 {
     if station < 1 || station > model.len() {
@@ -96,7 +96,7 @@ fn begins<L: Ledger>(
     rows: &[Row],
     steps: &mut Steps<L>,
 ) -> bool {
-    match opened(alloc, model, station) {
+    match open_station(alloc, model, station) {
         Some(mut state) => answers(&mut state, model, station, rows, steps),
         None => false,
     }
@@ -147,7 +147,7 @@ fn original_and_copy<L: Ledger>(alloc: Global, blank: Blank) -> bool
     let Ok(model) = read_model(alloc, FIVE_KINDS.as_bytes()) else {
         return false;
     };
-    match opened(alloc, &model, 2) {
+    match open_station(alloc, &model, 2) {
         Some(mut state) => copy_goes_its_way(alloc, &model, &mut state, &mut steps),
         None => false,
     }

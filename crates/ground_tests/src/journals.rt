@@ -126,7 +126,7 @@ fn fronts_stand_alone(rt: HostRuntime) {
     assert!(rt; writes(rt.alloc(), b"", &[], &fronts, &[], QUIET_JOURNAL));
 }
 
-fn looked<R: Abort>(
+fn look_at<R: Abort>(
     rt: &R,
     analyst: u32,
     who: &str,
@@ -157,9 +157,9 @@ fn three_looks<R: Abort>(rt: &R) -> [Looked; 3] {
         found: None,
     };
     [
-        looked(rt, 2, "base", "desk", Some(handled)),
-        looked(rt, 1, "fast", "desk", Some(absent)),
-        looked(rt, 2, "base", "till", None),
+        look_at(rt, 2, "base", "desk", Some(handled)),
+        look_at(rt, 1, "fast", "desk", Some(absent)),
+        look_at(rt, 2, "base", "till", None),
     ]
 }
 

@@ -75,7 +75,7 @@ fn walks_from(log: &Log, at: u64, count: u64) -> bool {
 }
 
 /// A log of the first entry.
-fn begun(alloc: Global) -> Result<Log, NoMemory> {
+fn begin_log(alloc: Global) -> Result<Log, NoMemory> {
     let mut log = Log::new(alloc);
     log.push(entry(0))?;
     Ok(log)
@@ -88,7 +88,7 @@ fn goes_on_with(log: &Log, number: u64) -> bool {
 
 #[test]
 fn shared_logs_grow_apart(rt: HostRuntime) -> Result<(), Fail> {
-    let mut first = begun(rt.alloc())?;
+    let mut first = begin_log(rt.alloc())?;
     let mut second = first.share(rt.alloc())?;
     assert!(rt; first.segments() == 1 && second.segments() == 1);
     assert!(rt; first.push(entry(1)).is_ok() && second.push(entry(9)).is_ok());
@@ -99,7 +99,7 @@ fn shared_logs_grow_apart(rt: HostRuntime) -> Result<(), Fail> {
 
 #[test]
 fn a_copied_log_grows_apart(rt: HostRuntime) -> Result<(), Fail> {
-    let first = begun(rt.alloc())?;
+    let first = begin_log(rt.alloc())?;
     let mut second = first.copy(rt.alloc())?;
     assert!(rt; second.push(entry(2)).is_ok() && goes_on_with(&second, 2));
     assert!(rt; first.len() == 1 && first.get(0) == entry(0));
@@ -119,12 +119,20 @@ fn grows(log: &mut Log, alloc: Global, number: u64) -> bool {
     log.push(entry(number)).is_ok() && (number % 40 != 39 || shares(log, alloc))
 }
 
+/// Whether a log grows so by 65,536 entries.
+fn grows_long(log: &mut Log, alloc: Global) -> bool {
+    for number in 0..65_536 {
+        if !grows(log, alloc, number) {
+            return false;
+        }
+    }
+    true
+}
+
 #[test]
 fn a_long_log_has_few_segments(rt: HostRuntime) {
     let mut log = Log::new(rt.alloc());
-    for number in 0..65_536 {
-        assert!(rt; grows(&mut log, rt.alloc(), number), "at {number}");
-    }
+    assert!(rt; grows_long(&mut log, rt.alloc()));
     assert!(rt; log.len() == 65_536 && log.is_packed());
     for hundred in 0..656 {
         assert!(rt;
@@ -134,13 +142,20 @@ fn a_long_log_has_few_segments(rt: HostRuntime) {
     }
 }
 
+/// Pushes a thousand entries.
+fn push_thousand(log: &mut Log) -> bool {
+    for number in 0..1_000 {
+        if log.push(entry(number)).is_err() {
+            return false;
+        }
+    }
+    true
+}
+
 #[test]
 fn a_long_tail_is_walked(rt: HostRuntime) {
     let mut log = Log::new(rt.alloc());
-    for number in 0..1_000 {
-        assert!(rt; log.push(entry(number)).is_ok());
-    }
-    assert!(rt; log.segments() == 0);
+    assert!(rt; push_thousand(&mut log) && log.segments() == 0);
     for at in [0, 63, 64, 65, 128, 959, 960, 999, 1_000] {
         assert!(rt; walks_from(&log, at, 1_000), "from {at}");
     }

@@ -13,9 +13,10 @@ struct Bits {
 }
 
 impl Marks for Bits {
-    ghost joined = { λ a b. record { bits = bit_or a.bits b.bits } };
+    ghost union = { λ a b. record { bits = bit_or a.bits b.bits } };
 
-    ghost met = { λ a b. if bit_and a.bits b.bits == 0 then None else Some (record { bits = bit_and a.bits b.bits }) };
+    ghost common = { λ a b. if bit_and a.bits b.bits == 0 then None
+        else Some (record { bits = bit_and a.bits b.bits }) };
 
     fn join(self, other: Bits) -> Bits {
         Bits {
@@ -117,16 +118,31 @@ fn puts(pending: &mut Pending<Bits>, time: u64, marks: u8) -> bool {
     pending.insert(message(time, 1, 0), set(marks)).is_ok()
 }
 
-/// 60,000 messages with times from 0 on, put in in scrambled order, and each third of them twice.
+/// Puts in 60,000 messages with times from 0 on, in scrambled order.
+fn puts_scrambled(pending: &mut Pending<Bits>) -> bool {
+    for i in 0..60_000_u64 {
+        if !puts(pending, i * 7_919 % 60_000, 0b01) {
+            return false;
+        }
+    }
+    true
+}
+
+/// Puts in each third of them once more, with another mark.
+fn puts_each_third(pending: &mut Pending<Bits>) -> bool {
+    for i in 0..20_000_u64 {
+        if !puts(pending, i * 3, 0b10) {
+            return false;
+        }
+    }
+    true
+}
+
+/// 60,000 messages, each third of them twice, are taken out in order of time, each once with the marks of both.
 #[test]
 fn sixty_thousand_messages_wait_in_one_list(rt: HostRuntime) {
     let mut pending = Pending::new(rt.alloc());
-    for i in 0..60_000_u64 {
-        assert!(rt; puts(&mut pending, i * 7_919 % 60_000, 0b01));
-    }
-    for i in 0..20_000_u64 {
-        assert!(rt; puts(&mut pending, i * 3, 0b10));
-    }
+    assert!(rt; puts_scrambled(&mut pending) && puts_each_third(&mut pending));
     for time in 0..60_000_u64 {
         let marks = if time % 3 == 0 { 0b11 } else { 0b01 };
         assert!(rt; takes(&mut pending, message(time, 1, 0), marks));

@@ -1,5 +1,6 @@
 //! Messages that are joined, and what each receiver gets.
 ghost use Rattle.std.specs.Prelude.{◌<◌};
+ghost use Rattle.sim_base.specs.declared.lists.TheConstants.{MOST_CLONES};
 
 use clone_sets::CloneSet;
 use msg_route::{Part, cut, group};
@@ -19,7 +20,7 @@ fn message(time: u64, to: u32) -> Msg {
 }
 
 fn pair(c: u32, d: u32) -> CloneSet
-    requires { (c < 256) × (d < 256) }
+    requires { (c < MOST_CLONES) × (d < MOST_CLONES) }
 {
     CloneSet::one(c).with(d)
 }

@@ -16,15 +16,17 @@ fn fault_of(alloc: Global, text: &[u8]) -> (u32, u32) {
     }
 }
 
+/// Whether a text is refused as its row says.
 fn is_refused_so(alloc: Global, refused: &Refused) -> bool {
-    let (text, number, line) = *refused;
+    let (_, text, number, line) = *refused;
     fault_of(alloc, text) == (number, line)
 }
 
 #[test]
 fn faults_are_named_with_their_lines(rt: HostRuntime) {
-    for (i, refused) in FAULTS.iter().enumerate() {
-        assert!(rt; is_refused_so(rt.alloc(), refused), "row {i}");
+    for refused in FAULTS {
+        let (shows, _, _, _) = *refused;
+        assert!(rt; is_refused_so(rt.alloc(), refused), "{}", shows);
     }
 }
 
@@ -96,12 +98,12 @@ fn is_own(alloc: Global, own: &Own) -> bool {
 #[test]
 fn own_scripts_are_printed(rt: HostRuntime) {
     for own in OWN_SCRIPTS {
-        assert!(rt; is_own(rt.alloc(), own), "{}", own.canonical);
+        assert!(rt; is_own(rt.alloc(), own), "{}", own.shows);
     }
 }
 
 /// The canonical text of a text of so many items.
-fn printed(alloc: Global, text: &[u8], items: u32) -> Option<Vec<u8>> {
+fn read_and_print(alloc: Global, text: &[u8], items: u32) -> Option<Vec<u8>> {
     let script = read_script(alloc, text).ok()?;
     if script.len() != items {
         return None;
@@ -111,10 +113,10 @@ fn printed(alloc: Global, text: &[u8], items: u32) -> Option<Vec<u8>> {
 
 /// Whether the canonical text of a text of so many items is that of itself.
 fn is_read_again(alloc: Global, text: &[u8], items: u32) -> bool {
-    let Some(once) = printed(alloc, text, items) else {
+    let Some(once) = read_and_print(alloc, text, items) else {
         return false;
     };
-    match printed(alloc, once.as_slice(), items) {
+    match read_and_print(alloc, once.as_slice(), items) {
         Some(again) => again.as_slice() == once.as_slice(),
         None => false,
     }

@@ -8,6 +8,7 @@ use Rattle.decision_script.specs.declared.fault.ScriptFault.{ScriptFault}
 use Rattle.decision_script.specs.declared.item.Act.{Act}
 use Rattle.decision_script.specs.declared.item.Act.TheVariants.{Decide}
 use Rattle.decision_script.specs.declared.item.Item.{Item}
+use Rattle.decision_script.specs.declared.script.TheConstants.{MOST_ANALYSTS, MOST_ITEMS}
 use Rattle.decision_script.specs.Stating.{IsDecision, IsNamed, analyst_name}
 use Rattle.decision_script.specs.Reading.{ReaderView, after_line, after_lines}
 use Rattle.decision_script.specs.Printing.{words_of_decision, words_of_section}
@@ -17,11 +18,11 @@ use Rattle.decision_script.proofs.Saying.{act_words, section_words}
 use Rattle.decision_script.proofs.Words.{IsWord}
 use Rattle.decision_book.specs.declared.call.Call.{Call}
 use Rattle.decision_book.specs.declared.call.Reply.TheVariants.{Accepted}
-use Rattle.decision_book.specs.Journal.{Event, raised, asked, calls_of}
+use Rattle.decision_book.specs.Journal.{Event, NewFront, NewCall, calls_of}
 use Rattle.decision_book.specs.Scripts.{accepted_of, accepted_onto}
 use Rattle.journal_text.specs.Laws.{who_does, who_decided}
-use Rattle.journal_text.proofs.Lines.{IsRefused, kind_of, if_decided, said_lines, not_decided}
-use Rattle.journal_text.proofs.Sections.{IsInForce, missing, name_kept, section_read}
+use Rattle.journal_text.proofs.Lines.{IsRefused, accepted_or_refused, said_onto, joined, said_lines, said_onto-refused}
+use Rattle.journal_text.proofs.Sections.{IsInForce, missing, analyst_name-append, section_read}
 
 -- ---- after_lines
 -- the result of reading: analysts and items behind those of before, the items being these calls
@@ -36,11 +37,11 @@ pub record ReadOn (analysts : List (List ℕ)) (r : ReaderView) (given : Result 
   pub said : map (who_does after.analysts) new ≡ map (who_decided analysts) calls
 
 -- behind a section
-over_section : (analysts : List (List ℕ)) (line : ℕ) (r : ReaderView) (name l : List ℕ) (rest : List (List ℕ))
+ReadOn-section : (analysts : List (List ℕ)) (line : ℕ) (r : ReaderView) (name l : List ℕ) (rest : List (List ℕ))
     (calls : List Call) → (s : IsInForce analysts r name (after_line line r l))
     → ReadOn analysts s.next (after_lines (line + 1) s.next rest) calls
     → ReadOn analysts r (after_lines line r (l ∷ rest)) calls
-over_section analysts line r name l rest calls s m = record {
+ReadOn-section analysts line r name l rest calls s m = record {
   after = m.after;
   names = s.names ++ m.names;
   new = m.new;
@@ -55,17 +56,17 @@ abbrev with_item : ℕ → ReaderView → Act → ReaderView
 with_item line r act = record r { items = r.items ++ (record { line = line; analyst = r.current; act = act }) ∷ [] }
 
 -- behind a decision
-over_decision : (analysts : List (List ℕ)) (line : ℕ) (r : ReaderView) (c : Call) (rest : List (List ℕ))
-    (calls : List Call) → IsDecision c.decision → length r.items < 4096
+ReadOn-decision : (analysts : List (List ℕ)) (line : ℕ) (r : ReaderView) (c : Call) (rest : List (List ℕ))
+    (calls : List Call) → IsDecision c.decision → length r.items < MOST_ITEMS
     → 1 ≤ r.current → r.current ≤ length r.analysts → analyst_name r.analysts r.current ≡ analyst_name analysts c.caller
     → ReadOn analysts (with_item line r (Decide c.decision))
     (after_lines (line + 1) (with_item line r (Decide c.decision)) rest) calls
     → ReadOn analysts r (after_lines line r (join_with_byte 32 (words_of_decision c.decision) ∷ rest)) (c ∷ calls)
-over_decision analysts line r c rest calls h few low high name m =
+ReadOn-decision analysts line r c rest calls h few low high name m =
     let item : Item = record { line = line; analyst = r.current; act = Decide c.decision } in
     let same : analyst_name m.after.analysts r.current ≡ analyst_name analysts c.caller =
-    ap (λ names. analyst_name names r.current) m.analysts_are ∙ name_kept r.analysts m.names r.current low high
-    ∙ name in
+    ap (λ names. analyst_name names r.current) m.analysts_are
+    ∙ analyst_name-append r.analysts m.names r.current low high ∙ name in
     record {
       after = m.after;
       names = m.names;
@@ -85,13 +86,10 @@ pub record IsCallBy (analysts : List (List ℕ)) (c : Call) : Type 0 where
   pub named : IsNamed (analyst_name analysts c.caller)
   pub decision : IsDecision c.decision
 
-abbrev joined : List (List (List ℕ)) → List (List ℕ)
-joined ls = map (join_with_byte 32) ls ++ ([] ∷ [])
-
 -- the lines of events, up to the end of the text
-pub events_read : (analysts : List (List ℕ)) (line : ℕ) (r : ReaderView) (es : List Event) → length analysts ≤ 16
-    → length r.analysts + missing r.analysts analysts ≤ length analysts
-    → AllByRecursion (IsCallBy analysts) (calls_of es) → length r.items + length (calls_of es) ≤ 4096
+pub events_read : (analysts : List (List ℕ)) (line : ℕ) (r : ReaderView) (es : List Event)
+    → length analysts ≤ MOST_ANALYSTS → length r.analysts + missing r.analysts analysts ≤ length analysts
+    → AllByRecursion (IsCallBy analysts) (calls_of es) → length r.items + length (calls_of es) ≤ MOST_ITEMS
     → ReadOn analysts r (after_lines line r (joined (said_lines analysts es))) (accepted_of (calls_of es))
 unfolding after_lines after_line
 events_read analysts line r [] most fits h few =
@@ -104,13 +102,13 @@ events_read analysts line r [] most fits h few =
       items_are = sym (append-nil r.items);
       said = refl;
     }
-events_read analysts line r (raised f ∷ es) most fits h few = events_read analysts line r es most fits h few
-events_read analysts line r (asked c ∷ es) most fits h few =
+events_read analysts line r (NewFront f ∷ es) most fits h few = events_read analysts line r es most fits h few
+events_read analysts line r (NewCall c ∷ es) most fits h few =
     let s = section_read analysts line r c.caller h.0.low h.0.high h.0.named most fits in
     let len : length s.next.items ≡ length r.items = ap length s.items in
-    over_section analysts line r (analyst_name analysts c.caller)
+    ReadOn-section analysts line r (analyst_name analysts c.caller)
     (join_with_byte 32 (words_of_section (analyst_name analysts c.caller)))
-    (joined (if_decided c.reply c.decision (said_lines analysts es)))
+    (joined (said_onto c.reply c.decision (said_lines analysts es)))
     (accepted_onto c.reply c (accepted_of (calls_of es))) s
     (⊎_elim
     (λ (e : c.reply ≡ Accepted).
@@ -119,53 +117,57 @@ events_read analysts line r (asked c ∷ es) most fits h few =
     (record { line = line + 1; analyst = s.next.current; act = Decide c.decision }) in
     let more = events_read analysts (line + 1 + 1) next es most s.fits h.1 (omega (arith, longer, len, few)) in
     subst (λ x. ReadOn analysts s.next
-    (after_lines (line + 1) s.next (joined (if_decided x c.decision (said_lines analysts es))))
+    (after_lines (line + 1) s.next (joined (said_onto x c.decision (said_lines analysts es))))
     (accepted_onto x c (accepted_of (calls_of es)))) (sym e)
-    (over_decision analysts (line + 1) s.next c (joined (said_lines analysts es))
+    (ReadOn-decision analysts (line + 1) s.next c (joined (said_lines analysts es))
     (accepted_of (calls_of es)) h.0.decision (omega (arith, len, few)) s.low s.high s.name_is more))
     (λ (e : IsRefused c.reply).
     let more = events_read analysts (line + 1) s.next es most s.fits h.1 (omega (arith, len, few)) in
     subst (λ ls. ReadOn analysts s.next (after_lines (line + 1) s.next (joined ls))
     (accepted_onto c.reply c (accepted_of (calls_of es))))
-    (sym (not_decided c.reply e c.decision (said_lines analysts es)))
+    (sym (said_onto-refused c.reply e c.decision (said_lines analysts es)))
     (subst (λ cs. ReadOn analysts s.next (after_lines (line + 1) s.next (joined (said_lines analysts es))) cs)
     (sym (e.taken c (accepted_of (calls_of es)))) more))
-    (kind_of c.reply))
+    (accepted_or_refused c.reply))
 
 -- the words of these lines are words
 pub said_words : (analysts : List (List ℕ)) (es : List Event) → AllByRecursion (IsCallBy analysts) (calls_of es)
     → AllByRecursion (AllByRecursion IsWord) (said_lines analysts es)
 said_words analysts [] h = tt
-said_words analysts (raised f ∷ es) h = said_words analysts es h
-said_words analysts (asked c ∷ es) h = (
+said_words analysts (NewFront f ∷ es) h = said_words analysts es h
+said_words analysts (NewCall c ∷ es) h = (
   section_words (analyst_name analysts c.caller) h.0.named,
   ⊎_elim
       (λ (e : c.reply ≡ Accepted). subst (λ x. AllByRecursion (AllByRecursion IsWord)
-      (if_decided x c.decision (said_lines analysts es))) (sym e) (
+      (said_onto x c.decision (said_lines analysts es))) (sym e) (
         act_words (Decide c.decision) h.0.decision,
         said_words analysts es h.1,
       ))
       (λ (e : IsRefused c.reply). subst (λ ls. AllByRecursion (AllByRecursion IsWord) ls)
-      (sym (not_decided c.reply e c.decision (said_lines analysts es))) (said_words analysts es h.1))
-      (kind_of c.reply),
+      (sym (said_onto-refused c.reply e c.decision (said_lines analysts es))) (said_words analysts es h.1))
+      (accepted_or_refused c.reply),
 )
 
 -- ---- decisions
+-- the decisions of items or calls, by who asked for what
 abbrev decisions_said : List (List ℕ × Act) → List Decision
 decisions_said [] = []
 decisions_said (p ∷ ps) = decisions_onto p.1 (decisions_said ps)
 
-of_items : (analysts : List (List ℕ)) (items : List Item)
+-- those of items
+decisions-who_does : (analysts : List (List ℕ)) (items : List Item)
     → decisions items ≡ decisions_said (map (who_does analysts) items)
-of_items analysts [] = refl
-of_items analysts (i ∷ items) = ap (decisions_onto i.act) (of_items analysts items)
+decisions-who_does analysts [] = refl
+decisions-who_does analysts (i ∷ items) = ap (decisions_onto i.act) (decisions-who_does analysts items)
 
-of_calls : (analysts : List (List ℕ)) (cs : List Call)
+-- those of calls
+decisions_said-who_decided : (analysts : List (List ℕ)) (cs : List Call)
     → decisions_said (map (who_decided analysts) cs) ≡ map (λ c. c.decision) cs
-of_calls analysts [] = refl
-of_calls analysts (c ∷ cs) = ap (λ ds. c.decision ∷ ds) (of_calls analysts cs)
+decisions_said-who_decided analysts [] = refl
+decisions_said-who_decided analysts (c ∷ cs) = ap (λ ds. c.decision ∷ ds) (decisions_said-who_decided analysts cs)
 
 -- items that are these calls have their decisions
 pub same_decisions : (names analysts : List (List ℕ)) (items : List Item) (cs : List Call)
     → map (who_does names) items ≡ map (who_decided analysts) cs → decisions items ≡ map (λ c. c.decision) cs
-same_decisions names analysts items cs h = of_items names items ∙ ap decisions_said h ∙ of_calls analysts cs
+same_decisions names analysts items cs h =
+    decisions-who_does names items ∙ ap decisions_said h ∙ decisions_said-who_decided analysts cs

@@ -13,12 +13,15 @@ use Rattle.std.proofs.lemmas.Option.{unwrap_or-slice_get}
 use Rattle.std.proofs.lemmas.Slice.Eq.{bytes_eq-Decides}
 use Rattle.sim_base.proofs.ListLaws.{none_passes}
 use Rattle.decision_script.specs.declared.fault.ScriptFault.{ScriptFault}
+use Rattle.decision_script.specs.declared.script.TheConstants.{MOST_ANALYSTS}
 use Rattle.decision_script.specs.Stating.{IsNamed, analyst_name}
 use Rattle.decision_script.specs.Reading.{ReaderView, after_line, in_section, analyst_place}
 use Rattle.decision_script.specs.Printing.{words_of_section}
 use Rattle.decision_script.proofs.Again.{after_section}
+use Rattle.decision_book.proofs.ClonesByName.{name_itself}
 
 -- ---- missing
+-- the name is one of these
 abbrev is_among : List ℕ → List (List ℕ) → Bool
 is_among name names = list_any (λ other. bytes_eq other name) names
 
@@ -32,7 +35,7 @@ missing names [] = 0
 missing names (a ∷ more) = lack (is_among a names) + missing names more
 
 -- there are no more analysts without a section than analysts
-pub few_missing : (names analysts : List (List ℕ)) → missing names analysts ≤ length analysts
+few_missing : (names analysts : List (List ℕ)) → missing names analysts ≤ length analysts
 few_missing names [] = omega arith
 few_missing names (a ∷ more) = let one = at_most (is_among a names) in omega (arith, one, few_missing names more)
   where
@@ -40,57 +43,60 @@ few_missing names (a ∷ more) = let one = at_most (is_among a names) in omega (
     at_most true = omega arith
     at_most false = omega arith
 
-less : (b c : Bool) → lack (b || c) ≤ lack b
-less true c = omega arith
-less false true = omega arith
-less false false = omega arith
+-- one of two tests leaves no more missing than the first
+lack-or : (b c : Bool) → lack (b || c) ≤ lack b
+lack-or true c = omega arith
+lack-or false true = omega arith
+lack-or false false = omega arith
 
 -- a name more: no other is missing for that
-one_less : (names : List (List ℕ)) (name a : List ℕ) → lack (is_among a (names ++ name ∷ [])) ≤ lack (is_among a names)
-one_less names name a = rw (list_any-append (λ other. bytes_eq other a) names (name ∷ []))
-    (less (is_among a names) (bytes_eq name a || false))
+lack-push : (names : List (List ℕ)) (name a : List ℕ) → lack (is_among a (names ++ name ∷ [])) ≤ lack (is_among a names)
+lack-push names name a = rw (list_any-append (λ other. bytes_eq other a) names (name ∷ []))
+    (lack-or (is_among a names) (bytes_eq name a || false))
 
-no_more_missing : (names : List (List ℕ)) (name : List ℕ) (analysts : List (List ℕ))
+-- nor are more analysts
+missing-push : (names : List (List ℕ)) (name : List ℕ) (analysts : List (List ℕ))
     → missing (names ++ name ∷ []) analysts ≤ missing names analysts
-no_more_missing names name [] = omega arith
-no_more_missing names name (a ∷ more) = omega (arith, one_less names name a, no_more_missing names name more)
+missing-push names name [] = omega arith
+missing-push names name (a ∷ more) = omega (arith, lack-push names name a, missing-push names name more)
 
-same_bytes : (name : List ℕ) → bytes_eq name name ≡ true
-same_bytes name = (bytes_eq-Decides name name).1 refl
-
-now_among : (names : List (List ℕ)) (name : List ℕ) → is_among name names ≡ false
+-- a name is among the names with it
+is_among-push : (names : List (List ℕ)) (name : List ℕ) → is_among name names ≡ false
     → is_among name (names ++ name ∷ []) ≡ true
-now_among names name h = list_any-append (λ other. bytes_eq other name) names (name ∷ []) ∙ rw (h, same_bytes name) refl
+is_among-push names name h = list_any-append (λ other. bytes_eq other name) names (name ∷ [])
+    ∙ rw (h, name_itself name) refl
 
 -- a new name that is an analyst's: there is one less
-pub one_less_missing : (names : List (List ℕ)) (name : List ℕ) (analysts : List (List ℕ)) (i : ℕ)
+missing-push_new : (names : List (List ℕ)) (name : List ℕ) (analysts : List (List ℕ)) (i : ℕ)
     → i < length analysts → get_or analysts i [] ≡ name → is_among name names ≡ false
     → missing (names ++ name ∷ []) analysts + 1 ≤ missing names analysts
-one_less_missing names name [] i lt is new = absurd (omega arith)
-one_less_missing names name (a ∷ more) zero lt is new =
+missing-push_new names name [] i lt is new = absurd (omega arith)
+missing-push_new names name (a ∷ more) zero lt is new =
     let gone : lack (is_among a (names ++ name ∷ [])) ≡ 0 = ap (λ x. lack (is_among x (names ++ name ∷ []))) is
-    ∙ ap lack (now_among names name new) in
+    ∙ ap lack (is_among-push names name new) in
     let was : lack (is_among a names) ≡ 1 = ap (λ x. lack (is_among x names)) is ∙ ap lack new in
-    omega (arith, gone, was, no_more_missing names name more)
-one_less_missing names name (a ∷ more) (suc i) lt is new =
-    omega (arith, one_less names name a, one_less_missing names name more i (omega arith) is new)
+    omega (arith, gone, was, missing-push names name more)
+missing-push_new names name (a ∷ more) (suc i) lt is new =
+    omega (arith, lack-push names name a, missing-push_new names name more i (omega arith) is new)
 
 -- a name without a place is not among them
-pub not_among : (name : List ℕ) (names : List (List ℕ)) → analyst_place name names ≡ None → is_among name names ≡ false
-not_among name names none = list_any_none (λ other. bytes_eq other name) names
+is_among-none : (name : List ℕ) (names : List (List ℕ)) → analyst_place name names ≡ None
+    → is_among name names ≡ false
+is_among-none name names none = list_any_none (λ other. bytes_eq other name) names
     (none_passes (λ other. bytes_eq other name) names none)
 
 -- main is not missing
 pub main_is_there : (main : List ℕ) (more : List (List ℕ))
     → 1 + missing (main ∷ []) (main ∷ more) ≤ length (main ∷ more)
 main_is_there main more =
-    let there : lack (is_among main (main ∷ [])) ≡ 0 = rw (same_bytes main) refl in
+    let there : lack (is_among main (main ∷ [])) ≡ 0 = rw (name_itself main) refl in
     omega (arith, there, few_missing (main ∷ []) more)
 
 -- ---- analyst_name
-pub name_kept : (names more : List (List ℕ)) (a : ℕ) → 1 ≤ a → a ≤ length names
+-- with more names behind them, the first have the numbers that they had
+pub analyst_name-append : (names more : List (List ℕ)) (a : ℕ) → 1 ≤ a → a ≤ length names
     → analyst_name (names ++ more) a ≡ analyst_name names a
-name_kept names more a low high =
+analyst_name-append names more a low high =
     unwrap_or-slice_get (names ++ more) (a - 1) [] ∙ get_or_append_left names more [] (a - 1) (omega arith)
     ∙ sym (unwrap_or-slice_get names (a - 1) [])
 
@@ -108,12 +114,13 @@ pub record IsInForce (analysts : List (List ℕ)) (r : ReaderView) (name : List 
   pub name_is : analyst_name next.analysts next.current ≡ name
   pub fits : length next.analysts + missing next.analysts analysts ≤ length analysts
 
-of_place : (analysts : List (List ℕ)) (line : ℕ) (r : ReaderView) (name : List ℕ) (i : ℕ) → IsNamed name
-    → i < length analysts → get_or analysts i [] ≡ name → length analysts ≤ 16
+-- the section of an analyst who has a place already, or has none yet
+IsInForce-place : (analysts : List (List ℕ)) (line : ℕ) (r : ReaderView) (name : List ℕ) (i : ℕ) → IsNamed name
+    → i < length analysts → get_or analysts i [] ≡ name → length analysts ≤ MOST_ANALYSTS
     → length r.analysts + missing r.analysts analysts ≤ length analysts
     → (o : Option ℕ) → analyst_place name r.analysts ≡ o
     → IsInForce analysts r name (after_line line r (join_with_byte 32 (words_of_section name)))
-of_place analysts line r name i named lt is few fits (Some k) at =
+IsInForce-place analysts line r name i named lt is few fits (Some k) at =
     let (within, same, first) = position-Some (λ other. bytes_eq other name) r.analysts k [] at in
     let back : k + 1 - 1 ≡ k = omega arith in
     record {
@@ -128,16 +135,16 @@ of_place analysts line r name i named lt is few fits (Some k) at =
           ∙ (bytes_eq-Decides (get_or r.analysts k []) name).0 same;
       fits = fits;
     }
-of_place analysts line r name i named lt is few fits None at =
-    let gone = one_less_missing r.analysts name analysts i lt is (not_among name r.analysts at) in
+IsInForce-place analysts line r name i named lt is few fits None at =
+    let gone = missing-push_new r.analysts name analysts i lt is (is_among-none name r.analysts at) in
     let longer = length-append r.analysts (name ∷ []) in
-    let room : nat_lt (length r.analysts) 16 ≡ true =
-    (let below : length r.analysts < 16 = omega (arith, gone, fits, few) in grind (arith, nat_tests)) in
+    let free : nat_lt (length r.analysts) MOST_ANALYSTS ≡ true =
+    (let below : length r.analysts < MOST_ANALYSTS = omega (arith, gone, fits, few) in grind (arith, nat_tests)) in
     let back : length r.analysts + 1 - 1 ≡ length r.analysts = omega arith in
     record {
       next = record { analysts = r.analysts ++ name ∷ []; current = length r.analysts + 1; items = r.items };
       names = name ∷ [];
-      read = after_section line r name named ∙ ap (in_section line r name) at ∙ rw room refl;
+      read = after_section line r name named ∙ ap (in_section line r name) at ∙ rw free refl;
       analysts_are = refl;
       items = refl;
       low = omega arith;
@@ -149,10 +156,10 @@ of_place analysts line r name i named lt is few fits None at =
 
 -- the section of an analyst is read
 pub section_read : (analysts : List (List ℕ)) (line : ℕ) (r : ReaderView) (a : ℕ) → 1 ≤ a → a ≤ length analysts
-    → IsNamed (analyst_name analysts a) → length analysts ≤ 16
+    → IsNamed (analyst_name analysts a) → length analysts ≤ MOST_ANALYSTS
     → length r.analysts + missing r.analysts analysts ≤ length analysts
     → IsInForce analysts r (analyst_name analysts a)
     (after_line line r (join_with_byte 32 (words_of_section (analyst_name analysts a))))
 section_read analysts line r a low high named few fits =
-    of_place analysts line r (analyst_name analysts a) (a - 1) named (omega arith)
+    IsInForce-place analysts line r (analyst_name analysts a) (a - 1) named (omega arith)
     (sym (unwrap_or-slice_get analysts (a - 1) [])) few fits (analyst_place (analyst_name analysts a) r.analysts) refl

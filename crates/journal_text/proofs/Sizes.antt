@@ -5,23 +5,15 @@ use Rattle.std.specs.List.{AllByRecursion, flat_map}
 use Rattle.std.proofs.lemmas.Bool.Decides.{nat_tests}
 use Rattle.decision_script.specs.declared.item.Act.TheVariants.{Decide}
 use Rattle.decision_script.specs.declared.item.Item.{Item}
-use Rattle.decision_script.specs.Stating.{IsItem, IsNamed, analyst_name}
+use Rattle.decision_script.specs.Stating.{IsItem, analyst_name}
 use Rattle.decision_script.specs.Printing.{item_lines, line_text, words_of_decision, words_of_section}
 use Rattle.decision_script.proofs.Again.{AreKnown}
-use Rattle.decision_script.proofs.Lengths.{items_length, sections_length}
+use Rattle.decision_script.proofs.Lengths.{items_length, section_length}
 use Rattle.decision_book.specs.declared.call.Call.{Call}
 use Rattle.decision_book.specs.declared.call.Reply.TheVariants.{Accepted}
-use Rattle.decision_book.specs.Journal.{Event, raised, asked, calls_of}
-use Rattle.journal_text.proofs.Lines.{IsRefused, kind_of, if_decided, said_lines, not_decided}
+use Rattle.decision_book.specs.Journal.{Event, NewFront, NewCall, calls_of}
+use Rattle.journal_text.proofs.Lines.{IsRefused, accepted_or_refused, said_onto, said_lines, said_onto-refused}
 use Rattle.journal_text.proofs.Reading.{IsCallBy}
-
--- a section by itself
-section_length : (name : List ℕ) → IsNamed name → length (line_text (words_of_section name)) ≤ 35
-section_length name h =
-    let all = sections_length [] (name ∷ []) (h, refl, tt) in
-    let one : length (line_text (words_of_section name) ++ []) ≡ length (line_text (words_of_section name)) =
-    ap length (append-nil (line_text (words_of_section name))) in
-    omega (arith, all, one)
 
 -- a decision behind its section
 decided_length : (analysts : List (List ℕ)) (c : Call) → AreKnown analysts → IsCallBy analysts c
@@ -53,16 +45,16 @@ pub said_length : (analysts : List (List ℕ)) (es : List Event) → AreKnown an
     → AllByRecursion (IsCallBy analysts) (calls_of es)
     → length (flat_map line_text (said_lines analysts es)) ≤ 172 * length (calls_of es)
 said_length analysts [] known h = omega arith
-said_length analysts (raised f ∷ es) known h = said_length analysts es known h
-said_length analysts (asked c ∷ es) known h =
+said_length analysts (NewFront f ∷ es) known h = said_length analysts es known h
+said_length analysts (NewCall c ∷ es) known h =
     let section = line_text (words_of_section (analyst_name analysts c.caller)) in
     let decision = line_text (words_of_decision c.decision) in
     let rest = flat_map line_text (said_lines analysts es) in
     let more = said_length analysts es known h.1 in
     ⊎_elim
     (λ (e : c.reply ≡ Accepted).
-    subst (λ x. length (section ++ flat_map line_text (if_decided x c.decision (said_lines analysts es))) ≤ 172 *
-    length (calls_of (asked c ∷ es))) (sym e)
+    subst (λ x. length (section ++ flat_map line_text (said_onto x c.decision (said_lines analysts es))) ≤ 172 *
+    length (calls_of (NewCall c ∷ es))) (sym e)
     (omega (
       arith,
       more,
@@ -71,7 +63,7 @@ said_length analysts (asked c ∷ es) known h =
       length-append decision rest,
     )))
     (λ (e : IsRefused c.reply).
-    subst (λ ls. length (section ++ flat_map line_text ls) ≤ 172 * length (calls_of (asked c ∷ es)))
-    (sym (not_decided c.reply e c.decision (said_lines analysts es)))
+    subst (λ ls. length (section ++ flat_map line_text ls) ≤ 172 * length (calls_of (NewCall c ∷ es)))
+    (sym (said_onto-refused c.reply e c.decision (said_lines analysts es)))
     (omega (arith, more, section_length (analyst_name analysts c.caller) h.0.named, length-append section rest)))
-    (kind_of c.reply)
+    (accepted_or_refused c.reply)

@@ -1,18 +1,18 @@
 -- Worked examples: the text of a journal as people read it, and the script that it is.
 use Rattle.std.specs.Prelude.{ℕ, List, [], ◌∷◌, ◌++◌, codes, Some, None}
 use Rattle.decision_book.specs.declared.call.Reply.TheVariants.{Accepted, Closed, Late}
-use Rattle.decision_book.specs.Journal.{Event, raised}
+use Rattle.decision_book.specs.Journal.{Event, NewFront}
 use Rattle.decision_book.specs.Examples.{branch, faster, call}
 use Rattle.journal_text.specs.declared.looked.Looked.{Looked}
 
 -- four calls of one analyst, three at front 10 and one at the horizon
 abbrev pub four_calls : List Event
 four_calls =
-    raised 5 ∷ raised 7 ∷ raised 10
+    NewFront 5 ∷ NewFront 7 ∷ NewFront 10
     ∷ call 1 3 (branch (codes "fast")) Accepted
     ∷ call 1 3 (faster (codes "fast") 10) Accepted
     ∷ call 1 3 (faster (codes "fast") 9) (Late 10)
-    ∷ raised 12 ∷ raised 15 ∷ raised 17 ∷ raised 20
+    ∷ NewFront 12 ∷ NewFront 15 ∷ NewFront 17 ∷ NewFront 20
     ∷ call 1 7 (branch (codes "x")) Closed ∷ []
 
 -- the text of the journal of these calls, without looks

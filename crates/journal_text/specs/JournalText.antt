@@ -9,7 +9,7 @@ use Rattle.decision_script.specs.Stating.{analyst_name}
 use Rattle.decision_book.specs.declared.call.Reply.{Reply}
 use Rattle.decision_book.specs.declared.call.Reply.TheVariants.{Accepted, Late}
 use Rattle.decision_book.specs.Numbers.{reply_number}
-use Rattle.decision_book.specs.Journal.{Event, raised, asked, calls_of, fronts_of}
+use Rattle.decision_book.specs.Journal.{Event, NewFront, NewCall, calls_of, fronts_of}
 use Rattle.journal_text.specs.declared.looked.Looked.{Looked}
 
 -- the number is that of one of so many analysts
@@ -32,8 +32,8 @@ call_line reply d = codes "# refused " ++ refusal_text reply ++ codes ": " ++ de
 
 -- a front, or who asked, and the call
 abbrev pub event_text : List (List ℕ) → Event → List ℕ
-event_text analysts (raised front) = codes "# front " ++ decimal front ++ codes "\n"
-event_text analysts (asked call) =
+event_text analysts (NewFront front) = codes "# front " ++ decimal front ++ codes "\n"
+event_text analysts (NewCall call) =
     codes "analyst " ++ analyst_name analysts call.caller ++ codes "\n" ++ call_line call.reply call.decision
     ++ codes "\n"
 

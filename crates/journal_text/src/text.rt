@@ -1,22 +1,22 @@
 //! The text of a journal.
 ghost use Rattle.std.specs.Prelude.{◌≡◌, ◌++◌, [], length, map, OnOk, IfOk};
 ghost use Rattle.std.specs.List.{All, flat_map};
-ghost use Rattle.decision_book.specs.Journal.{raised, asked};
+ghost use Rattle.decision_book.specs.Journal.{NewFront, NewCall};
 ghost use Rattle.decision_book.specs.Books.{journal_from, journal_of};
 ghost use Rattle.journal_text.specs.JournalText.{IsAnalyst, call_line, event_text, events_text, found_text};
 ghost use Rattle.journal_text.specs.JournalText.{glance_text, head_of, look_line, looks_text, refusal_text};
 ghost use Rattle.journal_text.specs.JournalText.{journal_text as text_of};
 
 use crate::looked::Looked;
-use crate::pieces::{push, push_count, push_decision, push_name, push_number};
+use crate::pieces::{push, push_count, push_name, push_number};
 use decision_book::{Call, Reply};
-use decision_script::Script;
+use decision_script::{Script, push_decision};
 use phys_proc::{Found, Glance};
 use sim_base::{Decision, NoMemory};
 use std::alloc::Global;
 
 fn push_front(out: &mut Vec<u8>, front: u64) -> Result<(), NoMemory>
-    ensures value { OnOk result (out.new.items ≡ out.old.items ++ event_text [] (raised front)) }
+    ensures value { OnOk result (out.new.items ≡ out.old.items ++ event_text [] (NewFront front)) }
 {
     push_count(out, b"# front ", front)?;
     push(out, b"\n")
@@ -24,7 +24,7 @@ fn push_front(out: &mut Vec<u8>, front: u64) -> Result<(), NoMemory>
 
 fn push_fronts(out: &mut Vec<u8>, script: &Script, fronts: &[u64]) -> Result<(), NoMemory>
     ensures value { OnOk result (out.new.items ≡
-        out.old.items ++ events_text script.now.analysts (map raised fronts.now)) }
+        out.old.items ++ events_text script.now.analysts (map NewFront fronts.now)) }
 {
     'fronts: for front in fronts {
         push_front(out, *front)?;
@@ -57,7 +57,7 @@ fn push_call_line(out: &mut Vec<u8>, reply: &Reply, decision: &Decision) -> Resu
 
 fn push_call(out: &mut Vec<u8>, script: &Script, call: &Call) -> Result<(), NoMemory>
     requires caller { IsAnalyst (length script.now.analysts) call.now.caller }
-    ensures value { OnOk result (out.new.items ≡ out.old.items ++ event_text script.now.analysts (asked call.now)) }
+    ensures value { OnOk result (out.new.items ≡ out.old.items ++ event_text script.now.analysts (NewCall call.now)) }
 {
     push(out, b"analyst ")?;
     push_name(out, &script.analyst(call.caller))?;

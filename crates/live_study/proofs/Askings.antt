@@ -3,18 +3,23 @@ use Rattle.std.proofs.Common.{◌≡◌, ◌≢◌, ⊎_elim, ℕ, List, [], ◌
 use Rattle.std.proofs.Common.{refl, sym, ap, ◌∙◌, subst, arith, length-append, Some, None}
 use Rattle.sim_base.specs.declared.decision.Decision.{Decision}
 use Rattle.decision_book.specs.declared.call.Call.{Call}
+use Rattle.decision_book.specs.declared.call.TheConstants.{MOST_CALLS}
 use Rattle.decision_book.specs.declared.call.Reply.TheVariants.{Full}
-use Rattle.decision_book.specs.Journal.{Event, asked, call_of, calls_of}
+use Rattle.decision_book.specs.Journal.{Event, NewCall, call_of, calls_of}
 use Rattle.decision_desk.specs.declared.pass.Receipt.{Receipt}
 use Rattle.decision_desk.specs.Accounts.{Account}
 use Rattle.decision_desk.specs.Turns.{with_call, full_account}
 use Rattle.decision_desk.specs.Passes.{PassView, IsAsked}
 use Rattle.live_study.specs.Asking.{decisions_in, AreAsked}
 
+-- ---- decisions_in
+-- the decisions of calls with one call more
 in_append : (ps : List (ℕ × Call)) (p : ℕ × Call) → decisions_in (ps ++ p ∷ []) ≡ decisions_in ps ++ p.1.decision ∷ []
 in_append [] p = refl
 in_append (q ∷ ps) p = ap (λ l. q.1.decision ∷ l) (in_append ps p)
 
+-- ---- with_call, full_account
+-- an account with one call more has asked the decision of that call too
 with_one : (ds : List Decision) (a : Account) (j : List Event) (c : Call) → AreAsked ds a
     → AreAsked (ds ++ c.decision ∷ []) (with_call a j c)
 with_one ds a j c s = record {
@@ -28,6 +33,7 @@ with_one ds a j c s = record {
   );
 }
 
+-- an account whose decision was answered Full has asked it too, and has no call more
 with_full : (ds : List Decision) (a : Account) (d : Decision) → AreAsked ds a → AreAsked (ds ++ d ∷ []) (full_account a)
 with_full ds a d s = record {
   all = λ e. absurd (true≢false e);
@@ -35,6 +41,7 @@ with_full ds a d s = record {
   fewer = λ e. omega (arith, length-append ds (d ∷ []), s.few);
 }
 
+-- ---- IsAsked
 -- a pass that asks one decision more has asked that too, at the same desk and for the same caller
 pub asked_more : (ds : List Decision) (old new : PassView) (d : Decision) (receipt : Receipt) (j : List Event)
     → AreAsked ds old.account → IsAsked old d receipt new j
@@ -42,13 +49,13 @@ pub asked_more : (ds : List Decision) (old new : PassView) (d : Decision) (recei
 asked_more ds old new d receipt j s a = ⊎_elim
     (λ (h : (receipt.reply ≢ Full) × (receipt.entry ≡ Some (length (calls_of j)))
     × (new ≡ record old {
-      seen = j ++ asked (call_of old.account.caller j d receipt.reply) ∷ [];
+      seen = j ++ NewCall (call_of old.account.caller j d receipt.reply) ∷ [];
       account = with_call old.account j (call_of old.account.caller j d receipt.reply);
     })).
     subst (λ (n : PassView). AreAsked (ds ++ d ∷ []) n.account × (n.desk ≡ old.desk)
     × (n.account.caller ≡ old.account.caller)) (sym h.2)
     (with_one ds old.account j (call_of old.account.caller j d receipt.reply) s, refl, refl))
-    (λ (h : (receipt.reply ≡ Full) × (receipt.entry ≡ None) × (length (calls_of j) ≡ 4096)
+    (λ (h : (receipt.reply ≡ Full) × (receipt.entry ≡ None) × (length (calls_of j) ≡ MOST_CALLS)
     × (new ≡ record old { seen = j; account = full_account old.account })).
     subst (λ (n : PassView). AreAsked (ds ++ d ∷ []) n.account × (n.desk ≡ old.desk)
     × (n.account.caller ≡ old.account.caller)) (sym h.3) (with_full ds old.account d s, refl, refl))

@@ -1,11 +1,11 @@
 -- The analysts of a script, what they have to do, and what is shown to them first.
 use Rattle.std.proofs.Common.{◌≡◌, ℕ, zero, suc, ◌+◌, ◌<◌, ◌≤◌, Bool, true, false, List, [], ◌∷◌, ◌++◌, length, map}
-use Rattle.std.proofs.Common.{take, get_or, nat_eq, if◌then◌else◌, Some, unwrap_or, slice_get, refl}
+use Rattle.std.proofs.Common.{take, get_or, nat_eq, if◌then◌else◌, Some, slice_get, refl}
 use Rattle.std.proofs.Common.{sym, ap, ap₂, ◌∙◌, subst, arith, length-append, append-nil, add-one}
 use Rattle.std.specs.List.{AllByRecursion}
-use Rattle.std.proofs.lemmas.List.{map-append, take_more}
+use Rattle.std.proofs.lemmas.List.{map-append}
 use Rattle.std.proofs.lemmas.List.Concat.{flat_map-append}
-use Rattle.std.proofs.lemmas.Option.{unwrap_or-slice_get}
+use Rattle.sim_base.proofs.Elements.{take_next}
 use Rattle.sim_base.proofs.ListLaws.{all_push}
 use Rattle.decision_script.specs.declared.item.Act.{Act}
 use Rattle.decision_script.specs.declared.item.Item.{Item}
@@ -15,24 +15,22 @@ use Rattle.live_study.specs.Asking.{SeatedAnalyst}
 use Rattle.live_study.specs.Opening.{IsFresh, AreOpeningRacks, IsRackNow, numbers_to}
 use Rattle.live_study.specs.Scripts.{acts_by, each_acts, own_act}
 
--- an item that stands at a place is the one that is read there
-pub at_item : (items : List Item) (i : ℕ) (item : Item) → slice_get items i ≡ Some item → get_or items i item ≡ item
-at_item items i item is = sym (unwrap_or-slice_get items i item) ∙ ap (λ o. unwrap_or o item) is
-
+-- ---- acts_by
 -- one item more
 pub one_more : (a : ℕ) (items : List Item) (i : ℕ) (item : Item) (own : List Act) → i < length items
     → get_or items i item ≡ item → own ≡ acts_by a (take i items)
     → own ++ own_act a item ≡ acts_by a (take (i + 1) items)
 one_more a items i item own less is before =
-    let whole : take (i + 1) items ≡ take i items ++ item ∷ [] = take_more items i item less
-    ∙ ap (λ x. take i items ++ x ∷ []) is in
+    let whole : take (i + 1) items ≡ take i items ++ item ∷ [] = take_next items i item less (sym is) in
     ap₂ (λ xs ys. xs ++ ys) before (sym (append-nil (own_act a item)))
     ∙ sym (flat_map-append (own_act a) (take i items) (item ∷ [])) ∙ ap (acts_by a) (sym whole)
 
+-- ---- own_act
 -- 1 where it is
 abbrev pub one_if : Bool → ℕ
 one_if b = if b then 1 else 0
 
+-- an act where something is so, and else none: no more acts than that counts
 own_length : (b : Bool) (act : Act) → length (if b then act ∷ [] else []) ≤ one_if b
 own_length true act = omega arith
 own_length false act = omega arith
@@ -46,6 +44,7 @@ pub at_most_one : (b : Bool) → one_if b ≤ 1
 at_most_one true = omega arith
 at_most_one false = omega arith
 
+-- ---- acts_by, how many
 -- an analyst has no more acts than there are items
 pub few_by : (a : ℕ) (items : List Item) → length (acts_by a items) ≤ length items
 few_by a [] = omega arith
@@ -58,6 +57,7 @@ few_by a (i ∷ is) = omega (
 )
 
 -- ---- numbers_to, each_acts
+-- there are n numbers up to n
 pub length-numbers_to : (n : ℕ) → length (numbers_to n) ≡ n
 length-numbers_to zero = refl
 length-numbers_to (suc n) = omega (arith, length-append (numbers_to n) ((n + 1) ∷ []), length-numbers_to n)
@@ -78,6 +78,7 @@ pub acts_next : (items : List Item) (n : ℕ)
 acts_next items n = ap (each_acts items) (add-one n)
 
 -- ---- one analyst more
+-- the images of a list with one element more
 pub mapped_more : {A B : Type 0} (f : A → B) (xs zs : List A) (x : A) (ys : List B) → zs ≡ xs ++ x ∷ []
     → map f xs ≡ ys → map f zs ≡ ys ++ f x ∷ []
 mapped_more f xs zs x ys e h = ap (map f) e ∙ map-append f xs (x ∷ []) ∙ ap (λ l. l ++ f x ∷ []) h
@@ -89,6 +90,7 @@ fresh_more opening xs zs x e all own =
     subst (AllByRecursion (IsFresh opening)) (sym e) (all_push (IsFresh opening) xs x all own)
 
 -- ---- one rack more
+-- racks of the stations behind the n-th, one of each in order, with the rack of the next
 one_each-with : (n : ℕ) (racks : List RackView) (r : RackView)
     → ((i : ℕ) (q : RackView) → slice_get racks i ≡ Some q → q.station ≡ n + i + 1)
     → r.station ≡ n + length racks + 1 → (i : ℕ) (q : RackView) → slice_get (racks ++ r ∷ []) i ≡ Some q

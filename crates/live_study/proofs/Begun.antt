@@ -7,16 +7,18 @@ use Rattle.std.proofs.Math.Seq.{get_or-append_seam}
 use Rattle.std.proofs.lemmas.Bool.{cases_lt}
 use Rattle.std.proofs.lemmas.Bool.Decides.{nat_tests}
 use Rattle.atomic_table.specs.Seated.{TableId}
-use Rattle.sim_base.specs.Clones.{base}
 use Rattle.decision_script.specs.declared.item.Act.{Act}
 use Rattle.net_model.specs.Net.{Net}
 use Rattle.decision_script.specs.declared.item.Item.{Item}
+use Rattle.decision_script.specs.declared.script.TheConstants.{MOST_ITEMS}
 use Rattle.decision_script.specs.Stating.{ScriptView}
 use Rattle.decision_book.specs.Books.{BookView}
 use Rattle.decision_book.specs.Journal.{Event}
-use Rattle.decision_desk.specs.Accounts.{Account, accounts_of, calls_by}
+use Rattle.decision_desk.specs.Accounts.{accounts_of, calls_by}
 use Rattle.decision_desk.specs.Passes.{HelmView, PassView, new_helm, new_pass, new_passes}
-use Rattle.world_core.specs.Worlds.{WorldView}
+use Rattle.decision_desk.proofs.Journals.{accounts_of-append}
+use Rattle.decision_desk.proofs.NewPasses.{new_passes_count}
+use Rattle.world_core.specs.Worlds.{WorldView, opening_world}
 use Rattle.live_study.specs.Asking.{AllAsked, AreAsked, IsReady, SeatedAnalyst}
 use Rattle.live_study.specs.Asking.{decisions_asked, decisions_in, total_todo}
 use Rattle.live_study.specs.Engines.{InStep}
@@ -26,16 +28,12 @@ use Rattle.live_study.proofs.Beginning.{at_most_one, length-each_acts, one_if, o
 use Rattle.live_study.proofs.Counting.{accounts_are}
 
 -- ---- new_passes, each_acts
-pub length-new_passes : (desk : TableId) (net : Net) (n : ℕ) → length (new_passes desk net n) ≡ n
-length-new_passes desk net zero = refl
-length-new_passes desk net (suc n) =
-    omega (arith, length-append (new_passes desk net n) (new_pass desk net (n + 1) ∷ []), length-new_passes desk net n)
-
+-- the pass at a place is that of the analyst whose number is the next
 new_passes-at : (desk : TableId) (net : Net) (n i : ℕ) (d : PassView) → i < n
     → get_or (new_passes desk net n) i d ≡ new_pass desk net (i + 1)
 new_passes-at desk net zero i d less = absurd (omega (arith, less))
 new_passes-at desk net (suc n) i d less =
-    let len = length-new_passes desk net n in
+    let len = new_passes_count desk net n in
     ⊎_elim
     (λ (h : i < n). get_or_append_left (new_passes desk net n) (new_pass desk net (n + 1) ∷ []) d i
     (omega (arith, h, len)) ∙ new_passes-at desk net n i d h)
@@ -47,6 +45,7 @@ new_passes-at desk net (suc n) i d less =
     ∙ ap (λ k. new_pass desk net (k + 1)) same)
     (cases_lt i n)
 
+-- and so are the acts at a place
 each_acts-at : (items : List Item) (n i : ℕ) (d : List Act) → i < n
     → get_or (each_acts items n) i d ≡ acts_by (i + 1) items
 each_acts-at items zero i d less = absurd (omega (arith, less))
@@ -63,36 +62,43 @@ each_acts-at items (suc n) i d less =
     (cases_lt i n)
 
 -- ---- total_todo
+-- how many acts these lists have in all
 abbrev total_of : List (List Act) → ℕ
 total_of [] = 0
 total_of (ds ∷ more) = length ds + total_of more
 
+-- with one list more there are as many more as it has
 total_of-push : (xs : List (List Act)) (ds : List Act) → total_of (xs ++ ds ∷ []) ≡ total_of xs + length ds
 total_of-push [] ds = omega arith
 total_of-push (x ∷ xs) ds = omega (arith, total_of-push xs ds)
 
+-- the acts of analysts in all, by the lists of their acts
 total_is : (analysts : List SeatedAnalyst)
     → total_todo analysts ≡ total_of (map (λ (a : SeatedAnalyst). a.0.todo.items) analysts)
 total_is [] = refl
 total_is (a ∷ more) = omega (arith, total_is more)
 
-either_of : (b c d : Bool) → (b ≡ true → d ≡ true) → (c ≡ true → d ≡ true) → (b ≡ true → c ≡ true → ⊥)
+-- two things that are not so at once, and each of which implies a third, count no more than the third
+one_if-apart : (b c d : Bool) → (b ≡ true → d ≡ true) → (c ≡ true → d ≡ true) → (b ≡ true → c ≡ true → ⊥)
     → one_if b + one_if c ≤ one_if d
-either_of true true d h k not = absurd (not refl refl)
-either_of true false true h k not = omega arith
-either_of true false false h k not = absurd (let bad = h refl in cc)
-either_of false true true h k not = omega arith
-either_of false true false h k not = absurd (let bad = k refl in cc)
-either_of false false d h k not = omega arith
+one_if-apart true true d h k not = absurd (not refl refl)
+one_if-apart true false true h k not = omega arith
+one_if-apart true false false h k not = absurd (let bad = h refl in cc)
+one_if-apart false true true h k not = omega arith
+one_if-apart false true false h k not = absurd (let bad = k refl in cc)
+one_if-apart false false d h k not = omega arith
 
+-- a number that is at most n, or the next one, is at most n + 1
 up_to_next : (k n : ℕ) → one_if (nat_le k n) + one_if (nat_eq k (n + 1)) ≤ one_if (nat_le k (n + 1))
-up_to_next k n = either_of (nat_le k n) (nat_eq k (n + 1)) (nat_le k (n + 1)) (λ h. grind (arith, nat_tests, h))
+up_to_next k n = one_if-apart (nat_le k n) (nat_eq k (n + 1)) (nat_le k (n + 1)) (λ h. grind (arith, nat_tests, h))
     (λ h. grind (arith, nat_tests, h)) (λ h e. absurd (grind (arith, nat_tests, h, e)))
 
+-- where there are no items, nobody has an act
 total_of-no_items : (n : ℕ) → total_of (each_acts [] n) ≡ 0
 total_of-no_items zero = refl
 total_of-no_items (suc n) = omega (arith, total_of-push (each_acts [] n) [], total_of-no_items n)
 
+-- one item more is one act more at most, and none where its analyst is not among the first n
 total_of-item : (i : Item) (is : List Item) (n : ℕ)
     → total_of (each_acts (i ∷ is) n) ≤ total_of (each_acts is n) + one_if (nat_le i.analyst n)
 total_of-item i is zero = omega arith
@@ -112,23 +118,26 @@ total_of-item i is (suc n) =
       total_of-push (each_acts is n) (acts_by (n + 1) is),
     ))
 
+-- so there are no more acts in all than items
 total_of-items : (items : List Item) (n : ℕ) → total_of (each_acts items n) ≤ length items
 total_of-items [] n = omega (arith, total_of-no_items n)
 total_of-items (i ∷ is) n = omega (arith, total_of-item i is n, at_most_one (nat_le i.analyst n), total_of-items is n)
 
 -- all together ask no more than the script has items
 pub few_todo : (items : List Item) (analysts : List SeatedAnalyst) (n : ℕ)
-    → map (λ (a : SeatedAnalyst). a.0.todo.items) analysts ≡ each_acts items n → length items ≤ 4096
-    → total_todo analysts ≤ 4096
+    → map (λ (a : SeatedAnalyst). a.0.todo.items) analysts ≡ each_acts items n → length items ≤ MOST_ITEMS
+    → total_todo analysts ≤ MOST_ITEMS
 few_todo items analysts n are few = let same = ap total_of are in
     omega (arith, total_is analysts, same, total_of-items items n, few)
 
 -- ---- what a run begins with
+-- there are as many analysts as new passes
 pub many_analysts : (desk : TableId) (net : Net) (n : ℕ) (passes : List PassView) (analysts : List SeatedAnalyst)
     → map (λ (a : SeatedAnalyst). a.0.pass) analysts ≡ passes → passes ≡ new_passes desk net n → length analysts ≡ n
 many_analysts desk net n passes analysts are new = sym (length-map analysts (λ (a : SeatedAnalyst). a.0.pass))
-    ∙ ap length (are ∙ new) ∙ length-new_passes desk net n
+    ∙ ap length (are ∙ new) ∙ new_passes_count desk net n
 
+-- a new pass is of its desk, and nothing was asked with it
 ready_new : (desk : TableId) (net : Net) (x : ℕ) (p : PassView) → p ≡ new_pass desk net x
     → (p.desk ≡ desk) × AreAsked [] p.account
 ready_new desk net x p is = subst (λ (q : PassView). (q.desk ≡ desk) × AreAsked [] q.account) (sym is)
@@ -147,15 +156,16 @@ all_ready desk net n passes analysts are new k d less =
     let r = ready_new desk net (k + 1) (get_or analysts k d).0.pass own in
     record { desk_is = r.0; all = r.1 }
 
--- a new helm and a world of the base clone at front 0 are in step
+-- a new helm and a world as it opens are in step
 pub begins_in_step : (desk : TableId) (net : Net) (n : ℕ) (h : HelmView) (w : WorldView) → h ≡ new_helm desk net n
-    → w ≡ record { net = net; clones = base ∷ []; front = 0 } → InStep h w
+    → w ≡ opening_world net → InStep h w
 begins_in_step desk net n h w is begins =
     subst (λ (x : HelmView). InStep x w) (sym is)
     (subst (λ (x : WorldView). InStep (new_helm desk net n) x) (sym begins)
     (record { net = refl; clones = refl; front = refl }))
 
 -- ---- what the journal says of the script
+-- the calls of the analyst at a place are the decisions among its acts
 asked_at : (events : List Event) (analysts : List SeatedAnalyst) → AllAsked events analysts
     → (k : ℕ) (p : PassView) (t : List Act) → k < length analysts
     → decisions_in (calls_by (get_or (map (λ (a : SeatedAnalyst). a.0.pass) analysts) k p).account.caller events)
@@ -164,14 +174,12 @@ asked_at events [] all k p t less = absurd (omega (arith, less))
 asked_at events (a ∷ more) all zero p t less = all.0
 asked_at events (a ∷ more) all (suc k) p t less = asked_at events more all.1 k p t (omega (arith, less))
 
-accounts_of-append : (x : ℕ) (xs ys : List Account) → accounts_of x (xs ++ ys) ≡ accounts_of x xs + accounts_of x ys
-accounts_of-append x [] ys = omega arith
-accounts_of-append x (a ∷ xs) ys = omega (arith, accounts_of-append x xs ys)
-
+-- what is not so counts 0
 not_one : (b : Bool) → (b ≡ true → ⊥) → one_if b ≡ 0
 not_one true h = absurd (h refl)
 not_one false h = refl
 
+-- 0, and a number that is beyond those of new passes, has no account among theirs
 no_account : (desk : TableId) (net : Net) (n x : ℕ) → (x ≡ 0) ⊎ (n < x)
     → accounts_of x (map (λ p. p.account) (new_passes desk net n)) ≡ 0
 no_account desk net zero x h = refl

@@ -1,17 +1,16 @@
 -- What one act more does to what was asked and looked at.
 use Rattle.std.proofs.Common.{◌≡◌, ℕ, ◌+◌, ◌<◌, ◌≤◌, List, [], ◌∷◌, ◌++◌, length, map, Option, Some}
-use Rattle.std.proofs.Common.{None, IfSome, option_map, position, take, get_or, sym, ap, ap₂, ◌∙◌, subst, arith}
+use Rattle.std.proofs.Common.{None, IfSome, sym, ap, ap₂, ◌∙◌, subst, arith}
 use Rattle.std.proofs.Common.{length-append, append-nil}
 use Rattle.std.specs.List.{AllByRecursion}
-use Rattle.std.proofs.lemmas.List.{length-map, map-append, take_more}
+use Rattle.std.proofs.lemmas.List.{length-map, map-append}
 use Rattle.std.proofs.lemmas.List.Concat.{flat_map-append}
+use Rattle.std.proofs.lemmas.Option.{same_Some}
 use mathlib.Core.List.{IsPrefix}
 use Rattle.atomic_table.specs.Seated.{TableId}
-use Rattle.sim_base.proofs.ListLaws.{all_push}
-use Rattle.sim_base.proofs.Placing.{all_weaker}
+use Rattle.sim_base.proofs.ListLaws.{all_push, all_weaker}
 use Rattle.sim_base.specs.declared.decision.Decision.{Decision}
-use Rattle.std.specs.Str.{bytes_eq}
-use Rattle.net_model.specs.Net.{Net, Site, station_named}
+use Rattle.net_model.specs.Net.{Net, station_named}
 use Rattle.decision_script.specs.declared.item.Act.{Act}
 use Rattle.decision_script.specs.declared.item.Act.TheVariants.{Decide, Look}
 use Rattle.decision_script.specs.Alone.{decisions_onto}
@@ -21,7 +20,7 @@ use Rattle.decision_desk.specs.Passes.{PassView, IsAsked}
 use Rattle.phys_proc.specs.Racks.{RackView}
 use Rattle.phys_proc.specs.declared.rack.Glance.{Glance}
 use Rattle.shelf.specs.Racks.{AreLegal, IsGlance, latest}
-use Rattle.shelf.proofs.Legals.{front-later, has_later}
+use Rattle.shelf.proofs.Legals.{front-later, HasRack-later}
 use Rattle.shelf.proofs.Prefixes.{prefix_trans}
 use Rattle.journal_text.specs.declared.looked.Looked.{Looked}
 use Rattle.live_study.specs.declared.analyst.Analyst.{Analyst}
@@ -31,22 +30,20 @@ use Rattle.live_study.specs.Scripts.{look_onto, looks_in}
 use Rattle.live_study.specs.Showing.{HasLooked}
 use Rattle.live_study.proofs.Askings.{asked_more}
 
--- the acts so far, with the next
-pub acts_more : (acts : List Act) (k : ℕ) (act : Act) → k < length acts → act ≡ get_or acts k act
-    → take (k + 1) acts ≡ take k acts ++ act ∷ []
-acts_more acts k act less is = take_more acts k act less ∙ ap (λ a. take k acts ++ a ∷ []) (sym is)
-
+-- the decisions among acts with one act more
 decisions_asked-push : (acts : List Act) (act : Act)
     → decisions_asked (acts ++ act ∷ []) ≡ decisions_asked acts ++ decisions_onto act []
 decisions_asked-push acts act =
     flat_map-append (λ a. decisions_onto a []) acts (act ∷ [])
     ∙ ap (λ xs. decisions_asked acts ++ xs) (append-nil (decisions_onto act []))
 
+-- the looks among acts with one act more
 looks_more : (x : ℕ) (acts : List Act) (act : Act) → looks_in x (acts ++ act ∷ []) ≡ looks_in x acts ++ look_onto x act
 looks_more x acts act =
     flat_map-append (look_onto x) acts (act ∷ []) ∙ ap (λ xs. looks_in x acts ++ xs) (append-nil (look_onto x act))
 
 -- ---- decisions
+-- an analyst that asks a decision has asked one decision more
 pub asked_next : (desk : TableId) (acts : List Act) (d : Decision) (old new : Analyst) (receipt : Receipt)
     (j : List Event) → HasAsked desk acts old → IsAsked old.pass d receipt new.pass j
     → HasAsked desk (acts ++ Decide d ∷ []) new
@@ -70,6 +67,7 @@ asked_over desk acts who station old new h e =
     }
 
 -- ---- looks
+-- what was read in a beginning of a list was read in the list
 known_later : (n : Option ℕ) (most : ℕ) (who : List ℕ) (xs ys : List RackView) (o : Option Glance) → IsPrefix xs ys
     → IfSome o (λ g. (s : ℕ) × (n ≡ Some s) × (s ≤ most) × WasRead xs s who g)
     → IfSome o (λ g. (s : ℕ) × (n ≡ Some s) × (s ≤ most) × WasRead ys s who g)
@@ -88,7 +86,7 @@ known_later n most who xs ys (Some g) p h = (
 )
 
 -- what was read before is read later
-pub read_later : (net : Net) (xs ys : List RackView) (l : Looked) → IsPrefix xs ys → IsRead net xs l → IsRead net ys l
+read_later : (net : Net) (xs ys : List RackView) (l : Looked) → IsPrefix xs ys → IsRead net xs l → IsRead net ys l
 read_later net xs ys l p r = record {
   unknown = r.unknown;
   known = known_later (station_named l.station net) (length net.sites) l.who xs ys l.glance p r.known;
@@ -101,6 +99,7 @@ never_fall-with [] l rise later = (tt, tt)
 never_fall-with (k ∷ ls) l rise later =
     (all_push (IsNoEarlier k) ls l rise.0 later.0, never_fall-with ls l rise.1 later.1)
 
+-- what was looked at, by its three parts
 asked_is : (l : Looked) (x : ℕ) (who station : List ℕ) → l.analyst ≡ x → l.who ≡ who → l.station ≡ station
     → look_of l ≡ (x, who, station)
 asked_is l x who station e f g = λ i. (e i, f i, g i)
@@ -128,6 +127,7 @@ few_onto : (x : ℕ) (act : Act) → length (look_onto x act) ≤ 1
 few_onto x (Decide d) = omega arith
 few_onto x (Look who station) = omega arith
 
+-- so there are no more looks than acts
 few_looks : (x : ℕ) (acts : List Act) → length (looks_in x acts) ≤ length acts
 few_looks x [] = omega arith
 few_looks x (act ∷ acts) = omega (
@@ -162,6 +162,7 @@ free_for_one net acts a read most h less enough =
     omega (arith, many, few_looks a.number acts, less, enough)
 
 -- ---- what stays
+-- an analyst that stays the same, and then once more, stays the same
 pub same_on : (a b c : Analyst) → IsSameAnalyst a b → IsSameAnalyst b c → IsSameAnalyst a c
 same_on a b c s t = record {
   todo = t.todo ∙ s.todo;
@@ -171,19 +172,12 @@ same_on a b c s t = record {
 }
 
 -- ---- one look
--- stations are numbered from 1
-pub number_low : (name : List ℕ) (net : Net) (s : ℕ) → station_named name net ≡ Some s → 1 ≤ s
-number_low name net s e = of_place (position (λ (site : Site). bytes_eq site.name name) net.sites) e
-  where
-    of_place : (o : Option ℕ) → option_map (λ i. i + 1) o ≡ Some s → 1 ≤ s
-    of_place None e = absurd (cc)
-    of_place (Some i) e = let h : i + 1 ≡ s = cc in omega (arith, h)
-
 -- where each station has a rack in a beginning of a list, each has one in the list
 pub racks_later : (net : Net) (xs ys : List RackView) → IsPrefix xs ys → HasRacks net xs → HasRacks net ys
-racks_later net xs ys p h = λ s low high. has_later s xs ys p (h s low high)
+racks_later net xs ys p h = λ s low high. HasRack-later s xs ys p (h s low high)
 
 -- ---- a look and those before it
+-- a look at which nothing was seen is no earlier than any
 pub none_later : (k l : Looked) → l.glance ≡ None → IsNoEarlier k l
 none_later k l e = λ a s f g ef eg. absurd (cc)
 
@@ -194,27 +188,21 @@ known_earlier : (n : Option ℕ) (most : ℕ) (who : List ℕ) (ys : List RackVi
 known_earlier n most who ys None f s r legal known e at last = absurd (cc)
 known_earlier n most who ys (Some g) f s r legal known e at last =
     let same : g ≡ f = cc in
-    let own : known.0 ≡ s = some_same known.0 s (sym known.1 ∙ at) in
+    let own : known.0 ≡ s = same_Some known.0 s (sym known.1 ∙ at) in
     let was = known.3 in
     let below : was.rack.front ≤ r.front =
     front-later known.0 was.before ys was.rack r legal was.begins was.last
     (subst (λ t. latest t ys ≡ Some r) (sym own) last) in
     omega (arith, below, was.glance.front, ap (λ (x : Glance). x.front) same)
-  where
-    some_same : (x y : ℕ) → Some x ≡ Some y → x ≡ y
-    some_same x y e = cc
 
 -- a glance of the last rack is at no earlier front than what was read of the station before
 pub seen_later : (net : Net) (xs ys : List RackView) (k l : Looked) (g : Glance) (s : ℕ) (r : RackView)
     → IsPrefix xs ys → AreLegal ys → IsRead net xs k → l.glance ≡ Some g → station_named l.station net ≡ Some s
     → latest s ys ≡ Some r → IsGlance r l.who g → IsNoEarlier k l
 seen_later net xs ys k l g s r p legal read e n last is = λ a own f h ef eh.
-    let same : h ≡ g = some_same h g (sym eh ∙ e) in
+    let same : h ≡ g = same_Some h g (sym eh ∙ e) in
     let at : station_named k.station net ≡ Some s = ap (λ name. station_named name net) (sym own) ∙ n in
     let early : f.front ≤ r.front =
     known_earlier (station_named k.station net) (length net.sites) k.who ys k.glance f s r legal
     (read_later net xs ys k p read).known ef at last in
     omega (arith, early, is.front, ap (λ (x : Glance). x.front) same)
-  where
-    some_same : (x y : Glance) → Some x ≡ Some y → x ≡ y
-    some_same x y e = cc

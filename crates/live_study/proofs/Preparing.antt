@@ -4,18 +4,20 @@ use Rattle.std.proofs.Common.{inl, sym, ap, ◌∙◌, arith, subst}
 use Rattle.std.specs.List.{AllByRecursion}
 use Rattle.std.proofs.lemmas.Option.{get_or_from_slice_get, slice_get-get_or, slice_get_within}
 use Rattle.sim_base.specs.Reserved.{ReservedView}
-use Rattle.sim_base.proofs.Placing.{all_at, all_weaker}
+use Rattle.sim_base.proofs.ListLaws.{all_at, all_weaker}
 use Rattle.net_model.specs.Net.{Net}
 use Rattle.decision_script.specs.Stating.{ScriptView}
 use Rattle.decision_book.specs.Books.{BookView}
 use Rattle.decision_book.specs.Journal.{Event}
+use Rattle.decision_book.specs.declared.call.TheConstants.{MOST_CALLS}
 use Rattle.decision_desk.specs.Passes.{HelmView}
+use Rattle.decision_desk.proofs.NewPasses.{new_passes_count}
 use Rattle.phys_proc.specs.Racks.{RackView}
 use Rattle.shelf.specs.Racks.{HasRack, MayOpen, latest}
-use Rattle.shelf.proofs.Legals.{latest-all, opens}
+use Rattle.shelf.proofs.Legals.{latest-all, AreShown-opening}
 use Rattle.journal_text.specs.declared.looked.Looked.{Looked}
 use Rattle.world_core.specs.Worlds.{WorldView}
-use Rattle.decision_script.specs.declared.script.TheConstants.{MOST_ANALYSTS}
+use Rattle.decision_script.specs.declared.script.TheConstants.{MOST_ANALYSTS, MOST_ITEMS}
 use Rattle.decision_desk.specs.declared.desk.TheConstants.{ALL_PARTS}
 use Rattle.live_study.specs.declared.prepared.Prepared.{Prepared}
 use Rattle.live_study.specs.Asking.{SeatedAnalyst, total_todo}
@@ -24,7 +26,7 @@ use Rattle.live_study.specs.Looks.{AreLooks, HasMadeLooks, HasRacks, IsRackOf, I
 use Rattle.live_study.specs.Opening.{AreOpeningRacks, HasReservedFor, IsFresh, IsPrepared, IsRackNow, numbers_to}
 use Rattle.live_study.specs.Scripts.{IsJournalOf, each_acts}
 use Rattle.live_study.specs.Showing.{AreShownOf, HasLooked, HasReserved, MayAct, looks_to_make}
-use Rattle.live_study.proofs.Begun.{all_ready, few_todo, journal_of_script, length-new_passes, many_analysts}
+use Rattle.live_study.proofs.Begun.{all_ready, few_todo, journal_of_script, many_analysts}
 use Rattle.live_study.proofs.Looking.{looks_of_script, made_of_script}
 
 -- ---- the opening racks
@@ -35,7 +37,7 @@ now_at w many racks i r h e = subst (IsRackNow w) (get_or_from_slice_get racks i
     (all_at (IsRackNow w) racks i r h.now (slice_get_within racks i r e))
 
 -- the opening racks of a world are such as a shelf may open with
-pub racks_may_open : (w : WorldView) (many : ℕ) (racks : List RackView) → AreOpeningRacks w many racks → MayOpen racks
+racks_may_open : (w : WorldView) (many : ℕ) (racks : List RackView) → AreOpeningRacks w many racks → MayOpen racks
 racks_may_open w many racks h = record {
   each = h.each;
   net = λ i j q r e f. (now_at w many racks j r h f).net ∙ sym (now_at w many racks i q h e).net;
@@ -50,7 +52,7 @@ each_has_rack w many racks h s low high =
     let first = slice_get_some racks (s - 1) less in (
       first.0,
       subst (λ n. latest n racks ≡ Some first.0) back
-          (sym ((opens racks h.each).each (s - 1) less) ∙ first.1),
+          (sym ((AreShown-opening racks h.each).each (s - 1) less) ∙ first.1),
     )
   where
     slice_get_some : (racks : List RackView) (i : ℕ) → i < length racks
@@ -60,6 +62,7 @@ each_has_rack w many racks h s low high =
         (get_or (r ∷ racks) i r, slice_get-get_or (r ∷ racks) i r less)
 
 -- ---- the network, the world and the helm of what was prepared
+-- the world that was prepared is of this network
 world_net : (net : Net) (many : ℕ) (p : Prepared) → IsPrepared net many p → p.world.net ≡ net
 world_net net many p h = ap (λ (w : WorldView). w.net) h.world
 
@@ -71,12 +74,13 @@ helm_net net many p h = ap (λ (x : HelmView). x.net) h.helm
 pub may_begin : (net : Net) (many : ℕ) (p : Prepared) → IsPrepared net many p → MayOpen p.racks.items
 may_begin net many p h = racks_may_open p.world (length net.sites) p.racks.items h.racks
 
+-- each station of the network has one of the racks that were prepared
 has_racks : (net : Net) (many : ℕ) (p : Prepared) → IsPrepared net many p → HasRacks net p.racks.items
 has_racks net many p h s low high = each_has_rack p.world (length net.sites) p.racks.items h.racks s low high
 
 -- a pass for each analyst
 pub many_passes : (net : Net) (many : ℕ) (p : Prepared) → IsPrepared net many p → length p.passes.items ≡ many
-many_passes net many p h = ap length h.passes ∙ length-new_passes p.desk.table.shared.table_id net many
+many_passes net many p h = ap length h.passes ∙ new_passes_count p.desk.table.shared.table_id net many
 
 -- the opening racks are what is published first
 pub shown_first : (net : Net) (many : ℕ) (p : Prepared) (published : List RackView) → IsPrepared net many p
@@ -99,7 +103,9 @@ shown_first net many p published h e = subst (AreShownOf p.helm p.world) (sym e)
 })
 
 -- ---- the analysts
-pub all_parts : (net : Net) (many : ℕ) (p : Prepared) (seated : List SeatedAnalyst) → IsPrepared net many p → many ≤ MOST_ANALYSTS
+-- the helm and the analysts' passes have all parts of the desk
+pub all_parts : (net : Net) (many : ℕ) (p : Prepared) (seated : List SeatedAnalyst) → IsPrepared net many p
+    → many ≤ MOST_ANALYSTS
     → map (λ (a : SeatedAnalyst). a.0.pass) seated ≡ p.passes.items → p.helm.parts + length seated ≡ ALL_PARTS
 all_parts net many p seated h few are =
     let len = many_analysts p.desk.table.shared.table_id net many p.passes.items seated are h.passes in
@@ -138,11 +144,11 @@ own_todo : (net : Net) (s : ScriptView) (p : Prepared) (seated : List SeatedAnal
     → map (λ (a : SeatedAnalyst). a.0.todo.items) seated ≡ each_acts s.items (length s.analysts)
 own_todo net s p seated h todo = todo ∙ ap (each_acts s.items) (many_passes net (length s.analysts) p h)
 
--- analysts of a script of at most 4096 items have at most 4096 acts together
+-- analysts of a script have no more acts together than a journal holds calls
 pub little_todo : (net : Net) (s : ScriptView) (p : Prepared) (seated : List SeatedAnalyst)
-    → IsPrepared net (length s.analysts) p → length s.items ≤ 4096
+    → IsPrepared net (length s.analysts) p → length s.items ≤ MOST_ITEMS
     → map (λ (a : SeatedAnalyst). a.0.todo.items) seated ≡ each_acts s.items (length p.passes.items)
-    → total_todo seated ≤ 4096
+    → total_todo seated ≤ MOST_CALLS
 little_todo net s p seated h few todo =
     few_todo s.items seated (length s.analysts) (own_todo net s p seated h todo) few
 
@@ -154,6 +160,7 @@ enough_reserved net many p seated h are =
     subst (λ n. HasReservedFor n p.reserve) (sym len) h.reserve
 
 -- ---- the journal
+-- where analysts with the passes that were prepared have asked all, the journal is one of the script
 pub journal_is : (net : Net) (s : ScriptView) (p : Prepared) (seated : List SeatedAnalyst) (book : BookView)
     → IsPrepared net (length s.analysts) p → map (λ (a : SeatedAnalyst). a.0.pass) seated ≡ p.passes.items
     → map (λ (a : SeatedAnalyst). a.0.todo.items) seated ≡ each_acts s.items (length p.passes.items)
@@ -164,6 +171,7 @@ journal_is net s p seated book h are todo asked =
     (subst (λ (n : Net). IsAllAsked n seated book) (helm_net net (length s.analysts) p h) asked)
 
 -- ---- the looks
+-- where they have made the looks that they had to make, these are all looks of the script
 pub made_are : (net : Net) (s : ScriptView) (p : Prepared) (seated : List SeatedAnalyst)
     (looks : List (ReservedView Looked)) → IsPrepared net (length s.analysts) p
     → map (λ (a : SeatedAnalyst). a.0.number) seated ≡ numbers_to (length p.passes.items)

@@ -6,15 +6,15 @@ use Rattle.std.specs.List.{AllByRecursion}
 use Rattle.std.proofs.lemmas.Bool.{cases_lt}
 use Rattle.std.proofs.lemmas.Bool.Decides.{nat_tests}
 use Rattle.sim_base.specs.Clones.{Clone, base}
-use Rattle.sim_base.proofs.ListLaws.{all_push}
-use Rattle.sim_base.proofs.Placing.{all_weaker}
+use Rattle.sim_base.proofs.ListLaws.{all_push, all_weaker}
 use Rattle.net_model.specs.Net.{Net}
-use Rattle.decision_book.specs.Journal.{Event, raised, asked, after}
+use Rattle.decision_book.specs.Journal.{Event, NewFront, NewCall, after}
 use Rattle.decision_desk.specs.Accounts.{Begins}
 use Rattle.decision_desk.specs.Passes.{HelmView}
+use Rattle.decision_desk.proofs.Journals.{begins_on}
 use Rattle.phys_proc.specs.Racks.{RackView}
 use Rattle.shelf.specs.Racks.{HasRack, MayFollow, if_this, latest}
-use Rattle.shelf.proofs.Legals.{has_with, latest-with}
+use Rattle.shelf.proofs.Legals.{HasRack-push, latest-with}
 use Rattle.world_core.specs.Worlds.{WorldView}
 use Rattle.live_study.specs.Engines.{InStep}
 use Rattle.live_study.specs.Looks.{AreAtFront, HasRacks, IsRackOf}
@@ -22,16 +22,13 @@ use Rattle.live_study.specs.Showing.{AreShownOf, AreShownTo, Raises}
 use Rattle.live_study.proofs.Stepping.{front_after}
 
 -- ---- journals that go on
-pub begins_on : (xs ys zs : List Event) → Begins xs ys → Begins ys zs → Begins xs zs
-begins_on xs ys zs p q = (p.0 ++ q.0, q.1 ∙ ap (λ l. l ++ q.0) p.1 ∙ append_assoc xs p.0 q.0)
-
 -- the clones at a front of a journal are those at that front of a journal that goes on from it
-pub at_later : (net : Net) (es fs : List Event) (front : ℕ) (clones : List Clone) → Begins es fs
+at_later : (net : Net) (es fs : List Event) (front : ℕ) (clones : List Clone) → Begins es fs
     → AreAtFront net es front clones → AreAtFront net fs front clones
 at_later net es fs front clones p h = ⊎_elim
     (λ (z : (front ≡ 0) × (clones ≡ base ∷ [])). inl z)
-    (λ (z : (before : List Event) × Begins (before ++ raised front ∷ []) es × (clones ≡ (after net before).clones)).
-    inr (z.0, begins_on (z.0 ++ raised front ∷ []) es fs z.1 p, z.2))
+    (λ (z : (before : List Event) × Begins (before ++ NewFront front ∷ []) es × (clones ≡ (after net before).clones)).
+    inr (z.0, begins_on (z.0 ++ NewFront front ∷ []) es fs z.1 p, z.2))
     h
 
 -- a rack of a journal is one of a journal that goes on from it
@@ -39,20 +36,23 @@ pub rack_later : (net : Net) (es fs : List Event) (r : RackView) → Begins es f
 rack_later net es fs r p h = record { net_is = h.net_is; at = at_later net es fs r.front r.clones p h.at }
 
 -- the journal of a helm that raised its front goes on from the one that it had
-pub raises_begin : (old new : HelmView) (front : ℕ) → Raises old new front → Begins old.helm new.helm
-raises_begin old new front r =
-    (map asked r.calls ++ raised front ∷ [], r.helm ∙ append_assoc old.helm (map asked r.calls) (raised front ∷ []))
+raises_begin : (old new : HelmView) (front : ℕ) → Raises old new front → Begins old.helm new.helm
+raises_begin old new front r = (
+  map NewCall r.calls ++ NewFront front ∷ [],
+  r.helm ∙ append_assoc old.helm (map NewCall r.calls) (NewFront front ∷ []),
+)
 
 -- the world stands at the front that the helm has raised
 pub at_raised : (old new : HelmView) (w : WorldView) → Raises old new w.front → InStep new w
     → AreAtFront new.net new.helm w.front w.clones
 at_raised old new w r i =
-    let before : List Event = old.helm ++ map asked r.calls in
+    let before : List Event = old.helm ++ map NewCall r.calls in
     let clones : w.clones ≡ (after new.net before).clones =
     i.clones ∙ ap (λ es. (after new.net es).clones) r.helm ∙ front_after new.net before w.front in
-    inr (before, ([], r.helm ∙ sym (append-nil (before ++ raised w.front ∷ []))), clones)
+    inr (before, ([], r.helm ∙ sym (append-nil (before ++ NewFront w.front ∷ []))), clones)
 
 -- ---- a round of racks
+-- where the front was raised, no station had its turn yet
 pub round_begins : (old new : HelmView) (w v : WorldView) (published : List RackView) → AreShownOf old w published
     → new.net ≡ old.net → Raises old new v.front → v.net ≡ w.net → w.front < v.front → AreShownTo new v 0 published
 round_begins old new w v published h net r same rises = record {
@@ -68,6 +68,7 @@ round_begins old new w v published h net r same rises = record {
   last = λ e s low high. absurd (omega (arith, low, high));
 }
 
+-- a rack of the next station at the front of the world may follow those that are published
 follows : (h : HelmView) (w : WorldView) (done : ℕ) (r : RackView) (published : List RackView)
     → AllByRecursion (IsRackOf h.net h.helm) published
     → AllByRecursion (λ (q : RackView). done < q.station → q.front < w.front) published
@@ -82,17 +83,18 @@ follows h w done r (q ∷ published) racks below net station front = (
 )
 
 -- the rack of the next station may be published
-pub may_publish : (h : HelmView) (w : WorldView) (done : ℕ) (r : RackView) (published : List RackView)
+may_publish : (h : HelmView) (w : WorldView) (done : ℕ) (r : RackView) (published : List RackView)
     → AreShownTo h w done published → r.net ≡ h.net → r.station ≡ done + 1 → r.front ≡ w.front → MayFollow published r
 may_publish h w done r published shown net station front =
     follows h w done r published shown.racks shown.below net station front
 
+-- the last rack of a station, with one rack more, by whether that is of the station
 is_last : (s : ℕ) (racks : List RackView) (r : RackView) (b : Bool) → (r.station == s) ≡ b
     → latest s (racks ++ r ∷ []) ≡ if_this b r (latest s racks)
 is_last s racks r b e = latest-with s racks r ∙ ap (λ c. if_this c r (latest s racks)) e
 
 -- with the rack of the next station published, one station more had its turn
-pub round_goes_on : (h : HelmView) (w : WorldView) (done : ℕ) (r : RackView) (published : List RackView)
+round_goes_on : (h : HelmView) (w : WorldView) (done : ℕ) (r : RackView) (published : List RackView)
     → AreShownTo h w done published → AreAtFront h.net h.helm w.front w.clones → r.net ≡ h.net → r.clones ≡ w.clones
     → r.station ≡ done + 1 → r.front ≡ w.front → AreShownTo h w (done + 1) (published ++ r ∷ [])
 round_goes_on h w done r published shown at net clones station front = record {
@@ -107,7 +109,7 @@ round_goes_on h w done r published shown at net clones station front = record {
       (λ (q : RackView). done + 1 < q.station → q.front < w.front) published
       (λ q k s. k (omega (arith, s))) shown.below)
       (λ s. absurd (omega (arith, s, station)));
-  there = λ s low high. has_with s published r (shown.there s low high);
+  there = λ s low high. HasRack-push s published r (shown.there s low high);
   last = λ e s low high. ⊎_elim
       (λ (k : s < done + 1).
       let b = shown.last e s low (omega (arith, k)) in
@@ -132,7 +134,7 @@ round_skips h w done published shown not = record {
   last = λ e. absurd (not e);
 }
 
--- ---- the same, at the number of the station whose turn it is
+-- ---- AreShownTo, at a station: all before it are done
 -- its rack may be published
 pub may_show : (h : HelmView) (w : WorldView) (station : ℕ) (r : RackView) (published : List RackView) → 1 ≤ station
     → station ≤ length w.net.sites → AreShownTo h w (station - 1) published → w.net ≡ h.net → r.net ≡ w.net
@@ -144,7 +146,7 @@ may_show h w station r published low high shown of net own front =
     )
 
 -- and then it is shown
-pub shows_more : (h : HelmView) (w : WorldView) (station : ℕ) (r : RackView) (published : List RackView) → 1 ≤ station
+shows_more : (h : HelmView) (w : WorldView) (station : ℕ) (r : RackView) (published : List RackView) → 1 ≤ station
     → AreShownTo h w (station - 1) published → AreAtFront h.net h.helm w.front w.clones → w.net ≡ h.net
     → r.net ≡ w.net → r.clones ≡ w.clones → r.station ≡ station → r.front ≡ w.front
     → AreShownTo h w station (published ++ r ∷ [])

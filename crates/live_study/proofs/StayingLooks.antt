@@ -8,13 +8,15 @@ use Rattle.sim_base.proofs.ListLaws.{position-map}
 use Rattle.net_model.specs.Net.{Net}
 use Rattle.net_model.specs.Rules.{IsNet}
 use Rattle.stations.specs.Runs.{log_at}
-use Rattle.phys_proc.specs.Racks.{IsSeen}
+use Rattle.phys_proc.specs.Racks.{IsFoundOf, IsSeen}
 use Rattle.phys_proc.specs.declared.rack.Found.{Found}
 use Rattle.decision_book.specs.Journal.{after}
 use Rattle.live_study.specs.Laws.{KeepLogs, LooksStayTrue}
-use Rattle.live_study.proofs.Staying.{inside, logs_stay}
+use Rattle.decision_book.proofs.ClonesByName.{place_of-bounds}
+use Rattle.live_study.proofs.Staying.{logs_stay}
 
 -- ---- the first of some clones
+-- a clone at a place below n is the one there among the first n
 clone_at-take : (n : ℕ) (clones : List Clone) (c : ℕ) → c < n → clone_at (take n clones) c ≡ clone_at clones c
 clone_at-take zero clones c l = absurd (omega (arith, l))
 clone_at-take (suc n) [] c l = refl
@@ -43,13 +45,16 @@ module _ (net : Net) (front : ℕ) (old new : List Clone) (keep : KeepLogs net f
   abbrev first : List Clone
   first = take (length old) new
 
+  -- there are as many as there were
   first_many : length first ≡ length old
   first_many = length-take-le (length old) new keep.many
 
+  -- each name has the place that it had
   first_place : (name : List ℕ) → place_of name first ≡ place_of name old
   first_place name = same_place name old first (same_names old first first_many
       (λ c l. ap (λ (k : Clone). k.name) (clone_at-take (length old) new c l) ∙ keep.names c l))
 
+  -- at the front each has the log that it had
   first_log : (c s : ℕ) → c < length old → log_at net (clone_at first c) s front ≡ log_at net (clone_at old c) s front
   first_log c s l = ap (λ (k : Clone). log_at net k s front) (clone_at-take (length old) new c l) ∙ keep.logs c s l
 
@@ -70,19 +75,17 @@ module _ (net : Net) (front : ℕ) (old new : List Clone) (keep : KeepLogs net f
     size = seen.size;
   }
 
-  -- what a glance has found of these
-  abbrev FoundIn : List Clone → ℕ → List ℕ → Found → Type 0
-  FoundIn clones s who f = (c : ℕ) × (place_of who clones ≡ Some c) × IsSeen net clones s front c f.handled f.shared
-
-  first_found : (s : ℕ) (who : List ℕ) (o : Option Found) → IfSome o (FoundIn old s who)
-      → IfSome o (FoundIn first s who)
+  -- what a glance has found of them it finds of the first of the others
+  first_found : (s : ℕ) (who : List ℕ) (o : Option Found) → IfSome o (λ f. IsFoundOf net old s front who f)
+      → IfSome o (λ f. IsFoundOf net first s front who f)
   first_found s who None h = tt
   first_found s who (Some f) h = (
     h.0,
     first_place who ∙ h.1,
-    first_seen s h.0 f.handled f.shared (inside who old h.0 h.1) h.2,
+    first_seen s h.0 f.handled f.shared (place_of-bounds who old h.0 h.1) h.2,
   )
 
+  -- and a name that it did not find is not there
   first_unknown : (who : List ℕ) (o : Option Found) → IfNone o (place_of who old ≡ None)
       → IfNone o (place_of who first ≡ None)
   first_unknown who None h = first_place who ∙ h
@@ -98,7 +101,6 @@ looks_stay_true net valid events s who g right t =
       few = omega (arith, keep.many, many);
       unknown = subst (λ (n : ℕ). IfNone g.found (place_of who (take n final) ≡ None)) many
           (first_unknown net g.front t.clones final keep who g.found t.unknown);
-      found = subst (λ (n : ℕ). IfSome g.found (λ f. (c : ℕ) × (place_of who (take n final) ≡ Some c)
-          × IsSeen net (take n final) s g.front c f.handled f.shared)) many
+      found = subst (λ (n : ℕ). IfSome g.found (λ f. IsFoundOf net (take n final) s g.front who f)) many
           (first_found net g.front t.clones final keep s who g.found t.found);
     }

@@ -1,8 +1,7 @@
 -- The world goes on as the helm's journal does.
-use Rattle.std.proofs.Common.{◌≡◌, ◌⊎◌, inl, inr, ⊎_elim, ℕ, ◌<◌, ◌≤◌, Bool, not, List, [], ◌∷◌, ◌++◌, length, map}
-use Rattle.std.proofs.Common.{nat_lt, refl, sym, ap, ◌∙◌, subst, fold, arith}
-use Rattle.std.specs.List.{filter}
-use Rattle.std.proofs.lemmas.List.Filters.{length-filter_both}
+use Rattle.std.proofs.Common.{◌≡◌, ◌⊎◌, inl, inr, ⊎_elim, ℕ, ◌<◌, ◌≤◌, List, [], ◌∷◌, ◌++◌, length, map}
+use Rattle.std.proofs.Common.{nat_lt, sym, ap, ◌∙◌, subst, arith}
+use Rattle.std.proofs.lemmas.List.Sums.{count_by-le-length, fold-append, length-filter}
 use Rattle.sim_base.specs.Clones.{Clone, clone_at}
 use Rattle.net_model.specs.Net.{Net}
 use Rattle.net_model.specs.Rules.{IsNet}
@@ -11,14 +10,14 @@ use Rattle.run_laws.proofs.Fronts.{log_at_front}
 use Rattle.stations.specs.Runs.{log_at, next_front}
 use Rattle.stations.proofs.GoodLaws.{lawful-stations}
 use Rattle.decision_book.specs.declared.call.Call.{Call}
-use Rattle.decision_book.specs.Journal.{Event, Situation, raised, asked, after, after_event, fronts_of, outset}
+use Rattle.decision_book.specs.Journal.{Event, Situation, NewFront, NewCall, after, after_event, fronts_of, outset}
 use Rattle.decision_book.specs.Right.{EachAfter, IsRight, MayFollow}
 use Rattle.decision_book.specs.Scripts.{accepted_of}
-use Rattle.decision_book.proofs.JournalScripts.{fold_append, net_stays}
+use Rattle.decision_book.proofs.JournalScripts.{net_stays}
 use Rattle.decision_desk.specs.declared.helm.Turn.{Turn}
 use Rattle.decision_desk.specs.Accounts.{RisesFrom, front_from, front_of}
 use Rattle.decision_desk.specs.Passes.{HelmView, IsNextTurn}
-use Rattle.decision_desk.proofs.Journals.{front_asked, front_raised}
+use Rattle.decision_desk.proofs.Journals.{front_asked, front_calls, front_from-above, front_raised}
 use Rattle.decision_desk.proofs.Leasts.{front_is}
 use Rattle.world_core.specs.Overs.{NoneBeyond}
 use Rattle.world_core.specs.Taking.{AreAccepted, clones_after_calls}
@@ -27,96 +26,82 @@ use Rattle.live_study.specs.Engines.{InStep, IsAhead}
 use Rattle.live_study.specs.Showing.{Raises}
 use Rattle.live_study.proofs.Taking.{taken_behind}
 
+-- events leave the network as it is
 net_of : (net : Net) (es : List Event) → (after net es).net ≡ net
 net_of net es = net_stays (outset net) es
 
 -- to raise a front changes no clones
-pub front_after : (net : Net) (j : List Event) (f : ℕ) → (after net (j ++ raised f ∷ [])).clones ≡ (after net j).clones
-front_after net j f = ap (λ (s : Situation). s.clones) (fold_append (outset net) j (raised f ∷ []))
-
-front_stays : (s : Situation) (cs : List Call) → (fold after_event s (map asked cs)).front ≡ s.front
-front_stays s [] = refl
-front_stays s (c ∷ cs) = front_stays (after_event s (asked c)) cs
-
--- calls raise no front
-pub front_calls : (net : Net) (h : List Event) (cs : List Call) → front_of (h ++ map asked cs) ≡ front_of h
-front_calls net h cs =
-    sym (front_is net (h ++ map asked cs))
-    ∙ ap (λ (s : Situation). s.front) (fold_append (outset net) h (map asked cs))
-    ∙ front_stays (after net h) cs ∙ front_is net h
+pub front_after : (net : Net) (j : List Event) (f : ℕ)
+    → (after net (j ++ NewFront f ∷ [])).clones ≡ (after net j).clones
+front_after net j f = ap (λ (s : Situation). s.clones) (fold-append after_event (outset net) j (NewFront f ∷ []))
 
 -- ---- the fronts of a journal
 -- those of a right journal rise
 rises_behind : (net : Net) (before es : List Event) → EachAfter (MayFollow net) before es
     → RisesFrom (front_of before) es
 rises_behind net before [] right = tt
-rises_behind net before (raised f ∷ es) right =
+rises_behind net before (NewFront f ∷ es) right =
     let at = front_is net before in
     let less = right.0.0 in (
       omega (arith, less, at),
-      subst (λ g. RisesFrom g es) (front_raised before f) (rises_behind net (before ++ raised f ∷ []) es right.1),
+      subst (λ g. RisesFrom g es) (front_raised before f) (rises_behind net (before ++ NewFront f ∷ []) es right.1),
     )
-rises_behind net before (asked c ∷ es) right =
-    subst (λ g. RisesFrom g es) (front_asked before c) (rises_behind net (before ++ asked c ∷ []) es right.1)
+rises_behind net before (NewCall c ∷ es) right =
+    subst (λ g. RisesFrom g es) (front_asked before c) (rises_behind net (before ++ NewCall c ∷ []) es right.1)
 
 -- the fronts of a right journal rise, all of them above 0
 pub rises : (net : Net) (es : List Event) → IsRight net es → RisesFrom 0 es
 rises net es right = rises_behind net [] es right
 
-last_from : (g : ℕ) (es : List Event) → RisesFrom g es → g ≤ front_from g es
-last_from g [] r = omega arith
-last_from g (raised f ∷ es) r = omega (arith, r.0, last_from f es r.1)
-last_from g (asked c ∷ es) r = last_from g es r
-
--- so none is later than the last
-pub no_later_from : (g : ℕ) (es : List Event) (f : ℕ) → RisesFrom g es → In f (fronts_of es) → f ≤ front_from g es
+-- none of rising fronts is later than the last
+no_later_from : (g : ℕ) (es : List Event) (f : ℕ) → RisesFrom g es → In f (fronts_of es) → f ≤ front_from g es
 no_later_from g [] f r there = absurd there
-no_later_from g (raised h ∷ es) f r there = ⊎_elim
-    (λ (e : f ≡ h). omega (arith, e, last_from h es r.1))
+no_later_from g (NewFront h ∷ es) f r there = ⊎_elim
+    (λ (e : f ≡ h). omega (arith, e, front_from-above h es r.1))
     (λ (more : In f (fronts_of es)). no_later_from h es f r.1 more)
     there
-no_later_from g (asked c ∷ es) f r there = no_later_from g es f r there
+no_later_from g (NewCall c ∷ es) f r there = no_later_from g es f r there
 
 -- with one more, each is one of those before or this one
-front_in : (es : List Event) (last f : ℕ) → In f (fronts_of (es ++ raised last ∷ [])) → In f (fronts_of es) ⊎ (f ≡ last)
+front_in : (es : List Event) (last f : ℕ) → In f (fronts_of (es ++ NewFront last ∷ []))
+    → In f (fronts_of es) ⊎ (f ≡ last)
 front_in [] last f there = ⊎_elim (λ (e : f ≡ last). inr e) (λ (none : In f []). absurd none) there
-front_in (raised h ∷ es) last f there = ⊎_elim
+front_in (NewFront h ∷ es) last f there = ⊎_elim
     (λ (e : f ≡ h). inl (inl e))
-    (λ (more : In f (fronts_of (es ++ raised last ∷ []))). ⊎_elim
+    (λ (more : In f (fronts_of (es ++ NewFront last ∷ []))). ⊎_elim
     (λ (k : In f (fronts_of es)). inl (inr k))
     (λ (k : f ≡ last). inr k)
     (front_in es last f more))
     there
-front_in (asked c ∷ es) last f there = front_in es last f there
+front_in (NewCall c ∷ es) last f there = front_in es last f there
 
 -- those before the last one are no later than the one before it
 pub before_last : (net : Net) (es : List Event) (last f : ℕ) → IsRight net es
-    → In f (fronts_of (es ++ raised last ∷ [])) → f < last → f ≤ front_of es
+    → In f (fronts_of (es ++ NewFront last ∷ [])) → f < last → f ≤ front_of es
 before_last net es last f right there less = ⊎_elim
     (λ (k : In f (fronts_of es)). no_later_from 0 es f (rises net es right) k)
     (λ (k : f ≡ last). absurd (omega (arith, k, less)))
     (front_in es last f there)
 
 -- ---- the limit
-few_filtered : {A : Type 0} (p : A → Bool) (xs : List A) → length (filter p xs) ≤ length xs
-few_filtered p xs = let both = length-filter_both p (λ x. not (p x)) (λ x. refl) xs in omega (arith, both)
-
 -- where no log is beyond the limit, none was at an earlier front
-pub none_earlier : (net : Net) (cs : List Clone) (f front : ℕ) → IsNet net → f ≤ front → NoneBeyond net cs front
+none_earlier : (net : Net) (cs : List Clone) (f front : ℕ) → IsNet net → f ≤ front → NoneBeyond net cs front
     → NoneBeyond net cs f
 none_earlier net cs f front valid early none s c low high there beyond =
     let log = log_at net (clone_at cs c) s front in
     let same = ap length (log_at_front (lawful-stations net valid) (clone_at cs c) s f front early) in
-    let few = few_filtered (λ e. nat_lt e.msg.key.time f) log in
-    none s c low high there (omega (arith, beyond, same, few))
+    let passed = length-filter (λ e. nat_lt e.msg.key.time f) log in
+    let few = count_by-le-length (λ e. nat_lt e.msg.key.time f) log in
+    none s c low high there (omega (arith, beyond, same, passed, few))
 
 -- ---- a turn
 -- what the world takes in a turn, as the helm's journal tells it
 pub record Takes (h : HelmView) (cs : List Call) : Type 0 where
   pub accepted : AreAccepted h.net (after h.net h.helm).clones (front_of h.helm) (accepted_of cs)
-  pub clones : (after h.net (h.helm ++ map asked cs)).clones ≡ clones_after_calls h.net (after h.net h.helm).clones
+  pub clones : (after h.net (h.helm ++ map NewCall cs)).clones ≡ clones_after_calls h.net (after h.net h.helm).clones
       (accepted_of cs)
 
+-- the calls of a turn are such
 takes_turn : (h : HelmView) (turn : Turn) (new : HelmView) (cs : List Call) → IsNextTurn h turn new cs → Takes h cs
 takes_turn h turn new cs t =
     let s : Situation = after h.net h.helm in
@@ -125,7 +110,8 @@ takes_turn h turn new cs t =
     record {
       accepted = subst (λ f. AreAccepted h.net s.clones f (accepted_of cs)) (front_is h.net h.helm)
           (subst (λ (n : Net). AreAccepted n s.clones s.front (accepted_of cs)) net taken.accepted);
-      clones = ap (λ (x : Situation). x.clones) (fold_append (outset h.net) h.helm (map asked cs)) ∙ taken.clones
+      clones = ap (λ (x : Situation). x.clones) (fold-append after_event (outset h.net) h.helm (map NewCall cs))
+          ∙ taken.clones
           ∙ ap (λ (n : Net). clones_after_calls n s.clones (accepted_of cs)) net;
     }
 
@@ -147,7 +133,7 @@ pub goes_ahead : (h : HelmView) (w : WorldView) (turn : Turn) (new : HelmView) (
     → w2.net ≡ w.net → w2.front ≡ w.front → w2.clones ≡ clones_after_calls w.net w.clones fresh
     → IsNet w2.net → NoneBeyond w2.net w2.clones w2.front → IsAhead new w2 turn.front
 goes_ahead h w turn new cs fresh w2 i t e net front clones valid none =
-    let j : List Event = h.helm ++ map asked cs in
+    let j : List Event = h.helm ++ map NewCall cs in
     let of_net : w2.net ≡ h.net = net ∙ i.net in
     let of_front : w2.front ≡ front_of h.helm = front ∙ i.front in
     let of_clones : w2.clones ≡ (after h.net j).clones =
@@ -158,7 +144,7 @@ goes_ahead h w turn new cs fresh w2 i t e net front clones valid none =
     t.front ∙ ap (λ l. next_front h.net l (front_of h.helm)) (sym of_clones)
     ∙ ap (λ (n : Net). next_front n w2.clones (front_of h.helm)) (sym of_net)
     ∙ ap (next_front w2.net w2.clones) (sym of_front) in
-    let calls = front_calls h.net h.helm cs in
+    let calls = front_calls h.helm cs in
     let above = t.above in
     let within = t.within in
     let horizon : w2.net.horizon ≡ h.net.horizon = ap (λ (n : Net). n.horizon) of_net in

@@ -1,5 +1,5 @@
 -- Who calls and looks in a live study: analysts of its script.
-use Rattle.std.proofs.Common.{◌≡◌, ◌⊎◌, inl, inr, ℕ, zero, suc, ◌+◌, ◌<◌, ◌≤◌, Bool, true, false, nat_eq, if◌then◌else◌}
+use Rattle.std.proofs.Common.{◌≡◌, ◌⊎◌, inl, inr, ℕ, zero, suc, ◌+◌, ◌<◌, ◌≤◌, nat_eq}
 use Rattle.std.proofs.Common.{List, [], ◌∷◌, length, map, sym, subst, arith}
 use Rattle.std.specs.List.{All, AllByRecursion}
 use Rattle.std.proofs.lemmas.List.Elements.{All-from_recursion}
@@ -12,21 +12,15 @@ use Rattle.decision_book.specs.declared.call.Call.{Call}
 use Rattle.decision_desk.specs.Accounts.{calls_from}
 use Rattle.journal_text.specs.declared.looked.Looked.{Looked}
 use Rattle.live_study.specs.Looks.{HasMadeLooks, look_of}
-use Rattle.live_study.specs.Scripts.{acts_by, each_looks, looks_in}
+use Rattle.live_study.specs.Scripts.{AskedLook, acts_by, each_looks, looks_in}
+use Rattle.live_study.proofs.Counting.{not_empty, rest_empty}
 
 -- ---- callers
--- a caller has the calls that it made
-not_none : (b : Bool) (p : ℕ × Call) (ps : List (ℕ × Call)) → b ≡ true → (if b then p ∷ ps else ps) ≡ [] → ⊥
-not_none true p ps t e = absurd cc
-not_none false p ps t e = absurd cc
-
-rest_none : (b : Bool) (p : ℕ × Call) (ps : List (ℕ × Call)) → (if b then p ∷ ps else ps) ≡ [] → ps ≡ []
-rest_none true p ps e = absurd cc
-rest_none false p ps e = e
-
+-- a number that is not 0 is at least 1
 from_one : (x : ℕ) → (x ≡ 0 → ⊥) → 1 ≤ x
 from_one x h = omega arith
 
+-- a number that is not beyond another is at most that
 up_to : (x many : ℕ) → (many < x → ⊥) → x ≤ many
 up_to x many h = omega arith
 
@@ -36,11 +30,11 @@ callers_from : (many n : ℕ) (calls : List Call) → ((x : ℕ) → (x ≡ 0) �
 callers_from many n [] others = tt
 callers_from many n (c ∷ cs) others =
     let own : (c.caller ≡ 0) ⊎ (many < c.caller) → ⊥ =
-    λ h. not_none (nat_eq c.caller c.caller) (n, c) (calls_from c.caller (n + 1) cs) (grind arith)
+    λ h. not_empty (nat_eq c.caller c.caller) (n, c) (calls_from c.caller (n + 1) cs) (grind arith)
     (others c.caller h) in (
       (from_one c.caller (λ h. own (inl h)), up_to c.caller many (λ h. own (inr h))),
       callers_from many (n + 1) cs
-          (λ x h. rest_none (nat_eq c.caller x) (n, c) (calls_from x (n + 1) cs) (others x h)),
+          (λ x h. rest_empty (nat_eq c.caller x) (n, c) (calls_from x (n + 1) cs) (others x h)),
     )
 
 -- so where none but those from 1 to so many have calls, each call is of one of these
@@ -50,17 +44,17 @@ callers_within many calls others =
     All-from_recursion (λ (c : Call). (1 ≤ c.caller) × (c.caller ≤ many)) calls (callers_from many 0 calls others)
 
 -- ---- lookers
-abbrev Asked : Type 0
-Asked = ℕ × List ℕ × List ℕ
-
-abbrev IsWithin : ℕ → Asked → Type 0
+-- a look by one of so many analysts
+abbrev IsWithin : ℕ → AskedLook → Type 0
 IsWithin many t = (1 ≤ t.0) × (t.0 ≤ many)
 
+-- the looks of an analyst who is one of so many
 looks_within : (many a : ℕ) (acts : List Act) → 1 ≤ a → a ≤ many → AllByRecursion (IsWithin many) (looks_in a acts)
 looks_within many a [] low high = tt
 looks_within many a (Decide d ∷ acts) low high = looks_within many a acts low high
 looks_within many a (Look who station ∷ acts) low high = ((low, high), looks_within many a acts low high)
 
+-- the looks of the first n analysts, where n is at most so many
 each_within : (many : ℕ) (items : List Item) (n : ℕ) → n ≤ many → AllByRecursion (IsWithin many) (each_looks items n)
 each_within many items zero high = tt
 each_within many items (suc n) high =
@@ -68,6 +62,7 @@ each_within many items (suc n) high =
     (each_within many items n (omega (arith, high)))
     (looks_within many (n + 1) (acts_by (n + 1) items) (omega arith) (omega (arith, high)))
 
+-- what holds of each image holds so of each element
 of_images : {A B : Type 0} (f : A → B) (P : B → Type 0) (xs : List A) → AllByRecursion P (map f xs)
     → AllByRecursion (λ x. P (f x)) xs
 of_images f P [] all = tt

@@ -3,23 +3,25 @@ use Rattle.std.proofs.Common.{◌≡◌, ℕ, suc, ◌<◌, Bool, true, List, []
 use Rattle.std.proofs.Common.{Result, Ok, Err, IfOk, refl, sym, ap, ap₂, ◌∙◌, subst, arith, slice_index_or}
 use Rattle.std.specs.List.{AllByRecursion}
 use Rattle.sim_base.specs.Reserved.{ReservedView}
-use Rattle.sim_base.proofs.ListLaws.{all_append}
-use Rattle.sim_base.proofs.Placing.{all_weaker}
+use Rattle.sim_base.proofs.ListLaws.{all_append, all_weaker}
 use Rattle.net_model.specs.Net.{Net}
-use Rattle.decision_book.specs.Journal.{Event, asked}
+use Rattle.decision_book.specs.Journal.{Event, NewCall}
 use Rattle.decision_desk.specs.Accounts.{Begins, OnlyCalls}
 use Rattle.decision_desk.specs.Passes.{HelmView}
 use Rattle.phys_proc.specs.Racks.{RackView}
 use Rattle.journal_text.specs.declared.looked.Looked.{Looked}
 use Rattle.world_core.specs.Worlds.{WorldView}
 use Rattle.study_run.specs.declared.fault.StudyFault.{StudyFault}
-use Rattle.live_study.specs.Asking.{IsSameAnalyst, SeatedAnalyst}
+use Rattle.live_study.specs.Asking.{SeatedAnalyst}
 use Rattle.live_study.specs.Engines.{InStep}
 use Rattle.live_study.specs.Lives.{AreTrueLooks, all_looks, looks_made}
 use Rattle.live_study.specs.Looks.{IsRead, IsTrueLook, NeverFall}
 use Rattle.live_study.specs.Scripts.{looks_in}
 use Rattle.live_study.specs.Showing.{AllCaughtUp, AreShownOf, HasLooked, looks_to_make}
+use Rattle.live_study.proofs.Counting.{SameAt}
 use Rattle.live_study.proofs.Truth.{true_look}
+
+-- ---- looks_of, AllLooked
 
 -- the looks that each analyst has made
 abbrev pub looks_of : List SeatedAnalyst → List (ReservedView Looked)
@@ -37,6 +39,8 @@ all_looked net [] each = tt
 all_looked net (a ∷ more) each =
     (each 0 a (omega arith), all_looked net more (λ i d less. each (suc i) d (omega (arith, less))))
 
+-- ---- looks_to_make
+
 -- in order, what they were to look at
 asked_in_order : (net : Net) (seated : List SeatedAnalyst) → AllLooked net seated
     → looks_made (looks_of seated) ≡ looks_to_make seated
@@ -44,9 +48,7 @@ asked_in_order net [] all = refl
 asked_in_order net (a ∷ more) all = ap₂ (λ u us. u ∷ us) all.0.asked (asked_in_order net more all.1)
 
 -- what they had to look at before the run
-asked_before : (old new : List SeatedAnalyst) → length new ≡ length old
-    → ((i : ℕ) (d : SeatedAnalyst) → i < length old
-    → IsSameAnalyst (slice_index_or old i d).0 (slice_index_or new i d).0)
+asked_before : (old new : List SeatedAnalyst) → length new ≡ length old → SameAt old new
     → looks_to_make new ≡ looks_to_make old
 asked_before [] [] len same = refl
 asked_before [] (b ∷ new) len same = absurd (omega (arith, len))
@@ -55,6 +57,15 @@ asked_before (a ∷ old) (b ∷ new) len same =
     let s = same 0 a (omega arith) in
     ap₂ (λ u us. u ∷ us) (ap₂ looks_in s.number s.todo)
     (asked_before old new (omega (arith, len)) (λ i d less. same (suc i) d (omega (arith, less))))
+
+-- all looks that they had to make were made
+pub made_all : (net : Net) (old new : List SeatedAnalyst) (looks : List (ReservedView Looked)) → AllLooked net new
+    → length new ≡ length old → SameAt old new
+    → looks ≡ looks_of new → looks_made looks ≡ looks_to_make old
+made_all net old new looks all len same are =
+    ap looks_made are ∙ asked_in_order net new all ∙ asked_before old new len same
+
+-- ---- AreTrueLooks
 
 -- all that they saw is true
 true_looks : (net : Net) (h : HelmView) (w : WorldView) (events : List Event) (published : List RackView)
@@ -67,15 +78,6 @@ true_looks net h w events published (a ∷ more) of world last begins shown up a
     (all_weaker (IsRead net a.1) (IsTrueLook net events) a.0.looks.items
     (λ l r. true_look net h w events published a.1 l of world last begins shown up.0 r) all.0.read)
     (true_looks net h w events published more of world last begins shown up.1 all.1)
-
--- all looks that they had to make were made
-pub made_all : (net : Net) (old new : List SeatedAnalyst) (looks : List (ReservedView Looked)) → AllLooked net new
-    → length new ≡ length old
-    → ((i : ℕ) (d : SeatedAnalyst) → i < length old
-    → IsSameAnalyst (slice_index_or old i d).0 (slice_index_or new i d).0)
-    → looks ≡ looks_of new → looks_made looks ≡ looks_to_make old
-made_all net old new looks all len same are =
-    ap looks_made are ∙ asked_in_order net new all ∙ asked_before old new len same
 
 -- no front of one of them falls
 none_falls : (net : Net) (seated : List SeatedAnalyst) → AllLooked net seated
@@ -90,7 +92,8 @@ told_at_horizon : (net : Net) (h : HelmView) (w : WorldView) (events : List Even
     → AllCaughtUp net published seated → AllLooked net seated → looks ≡ looks_of seated → AreTrueLooks net events looks
 told_at_horizon net h w events published seated looks of in_step last calls shown up all are = record {
   true_ones = subst (λ ls. AllByRecursion (IsTrueLook net events) (all_looks ls)) (sym are)
-      (true_looks net h w events published seated of (in_step.net ∙ of) last (map asked calls.0, calls.1) shown up all);
+      (true_looks net h w events published seated of (in_step.net ∙ of) last (map NewCall calls.0, calls.1) shown up
+      all);
   rise = subst (λ ls. AllByRecursion (λ (r : ReservedView Looked). NeverFall r.items) ls) (sym are)
       (none_falls net seated all);
 }

@@ -6,13 +6,14 @@ use Rattle.std.specs.List.{AllByRecursion}
 use Rattle.std.proofs.lemmas.Bool.{cases_lt}
 use Rattle.std.proofs.lemmas.Bool.Decides.{nat_tests}
 use mathlib.Core.List.{IsPrefix}
-use Rattle.sim_base.specs.Clones.{Clone, place_of}
-use Rattle.sim_base.proofs.Placing.{all_left, all_right, all_weaker}
+use Rattle.sim_base.specs.Clones.{Clone}
+use Rattle.sim_base.proofs.ListLaws.{all_left, all_right, all_weaker}
 use Rattle.net_model.specs.Net.{Net, station_named}
 use Rattle.decision_book.specs.Journal.{Event}
+use Rattle.decision_book.proofs.Planned.{station_named-low}
 use Rattle.decision_desk.specs.Accounts.{Begins}
 use Rattle.decision_desk.specs.Passes.{HelmView}
-use Rattle.phys_proc.specs.Racks.{RackView, IsSeen}
+use Rattle.phys_proc.specs.Racks.{RackView, IsFoundOf}
 use Rattle.phys_proc.specs.declared.rack.Glance.{Glance}
 use Rattle.phys_proc.specs.declared.rack.Found.{Found}
 use Rattle.shelf.specs.Racks.{AreLegal, IsGlance, MayComeAfter, latest, or_this}
@@ -23,10 +24,10 @@ use Rattle.world_core.specs.Worlds.{WorldView}
 use Rattle.live_study.specs.Looks.{AreAtFront, AreCaughtUp, IsAt, IsCaughtUp, IsRackOf}
 use Rattle.live_study.specs.Looks.{IsRead, IsTrueGlance, IsTrueLook, WasRead}
 use Rattle.live_study.specs.Showing.{AreShownOf}
-use Rattle.live_study.proofs.Doing.{number_low}
 use Rattle.live_study.proofs.Publishing.{rack_later}
 
 -- ---- legal lists, in parts
+-- the first part of a legal list is legal
 legal_left : (xs ys : List RackView) → AreLegal (xs ++ ys) → AreLegal xs
 legal_left [] ys legal = tt
 legal_left (x ∷ xs) ys legal = (all_left (λ (r : RackView). MayComeAfter r x) xs ys legal.0, legal_left xs ys legal.1)
@@ -80,6 +81,7 @@ latest_in s (x ∷ xs) ys r e =
     by_rest more None g false is e = absurd (cc)
 
 -- ---- what was read was published
+-- this holds of a rack, and it is one of the station
 abbrev Holds : (RackView → Type 0) → RackView → ℕ → Type 0
 Holds P r s = P r × (r.station ≡ s)
 
@@ -108,8 +110,7 @@ read_is_published P front s published read before r up at all begins e =
 -- ---- true looks
 -- what a glance has found of a clone
 abbrev SeenSo : Net → List Clone → ℕ → ℕ → List ℕ → Option Found → Type 0
-SeenSo n cs t f name o = IfSome o (λ x. (c : ℕ) × (place_of name cs ≡ Some c)
-    × IsSeen n cs t f c x.handled x.shared)
+SeenSo n cs t f name o = IfSome o (λ x. IsFoundOf n cs t f name x)
 
 -- a glance of a rack of the journal is true
 true_glance : (net : Net) (events : List Event) (s : ℕ) (who : List ℕ) (r : RackView) (g : Glance)
@@ -144,7 +145,7 @@ true_look net h w events published read l of world last begins shown up r = reco
     known_true None k = tt
     known_true (Some g) k =
         let s : ℕ = k.0 in
-        let low : 1 ≤ s = number_low l.station net s k.1 in
+        let low : 1 ≤ s = station_named-low l.station net s k.1 in
         let at = shown.last last s low (subst (λ (n : Net). s ≤ length n.sites) (sym world) k.2) in
         let front : w.front ≡ net.horizon = last ∙ ap (λ (n : Net). n.horizon) world in
         let at_end : IsAt net.horizon published s = (at.0, at.1, at.2 ∙ front) in

@@ -25,7 +25,7 @@ pub record MayTurn (table : TableId) (h : HelmView) (w : WorldView) : Type 0 whe
   pub in_step : InStep h w
   pub below : w.front < w.net.horizon
 
--- the racks of the world may be shown: it is at a front of the helm's journal, and so many stations had their turn
+-- the racks of the world may be shown: it is at a front of the helm's journal, and so many stations are done
 pub record MayShow (h : HelmView) (w : WorldView) (done : ℕ) (published : List RackView) : Type 0 where
   pub net : w.net ≡ h.net
   pub at : AreAtFront h.net h.helm w.front w.clones

@@ -13,6 +13,7 @@ use Rattle.study_run.specs.declared.fault.StudyFault.{StudyFault}
 use Rattle.live_study.specs.Asking.{AllAsked, SeatedAnalyst, accounts_in}
 use Rattle.live_study.specs.Engines.{StopsAt}
 use Rattle.live_study.specs.Looks.{IsTrueLook, NeverFall, look_of}
+use Rattle.live_study.specs.Scripts.{AskedLook}
 
 -- a journal in which all was asked: it is legal, each analyst's calls in it are its decisions, in order, and nobody
 -- else has calls
@@ -23,7 +24,7 @@ pub record IsAllAsked (net : Net) (seated : List SeatedAnalyst) (book : BookView
   pub others : (x : ℕ) → accounts_of x (accounts_in seated) ≡ 0 → calls_by x book.events ≡ []
 
 -- what each analyst has looked at, in order
-abbrev pub looks_made : List (ReservedView Looked) → List (List (ℕ × List ℕ × List ℕ))
+abbrev pub looks_made : List (ReservedView Looked) → List (List AskedLook)
 looks_made looks = map (λ r. map look_of r.items) looks
 
 -- the looks of all analysts, one after the other

@@ -5,16 +5,16 @@ use mathlib.Core.List.{IsPrefix}
 use Rattle.sim_base.specs.Clones.{Clone, base, place_of}
 use Rattle.net_model.specs.Net.{Net, station_named}
 use Rattle.decision_script.specs.Stating.{ScriptView}
-use Rattle.decision_book.specs.Journal.{Event, raised, after}
+use Rattle.decision_book.specs.Journal.{Event, NewFront, after}
 use Rattle.decision_desk.specs.Accounts.{Begins}
-use Rattle.phys_proc.specs.Racks.{RackView, IsSeen}
+use Rattle.phys_proc.specs.Racks.{RackView, IsFoundOf}
 use Rattle.phys_proc.specs.declared.rack.Glance.{Glance}
 use Rattle.shelf.specs.Racks.{AreLegal, HasRack, IsGlance, latest}
 use Rattle.journal_text.specs.declared.looked.Looked.{Looked}
-use Rattle.live_study.specs.Scripts.{each_looks}
+use Rattle.live_study.specs.Scripts.{AskedLook, each_looks}
 
 -- what was looked at
-abbrev pub look_of : Looked → ℕ × List ℕ × List ℕ
+abbrev pub look_of : Looked → AskedLook
 look_of l = (l.analyst, l.who, l.station)
 
 -- ---- what a look is true of
@@ -23,7 +23,7 @@ look_of l = (l.analyst, l.who, l.station)
 -- before the journal's line of that front
 abbrev pub AreAtFront : Net → List Event → ℕ → List Clone → Type 0
 AreAtFront net events front clones = ((front ≡ 0) × (clones ≡ base ∷ []))
-    ⊎ ((before : List Event) × Begins (before ++ raised front ∷ []) events × (clones ≡ (after net before).clones))
+    ⊎ ((before : List Event) × Begins (before ++ NewFront front ∷ []) events × (clones ≡ (after net before).clones))
 
 -- a glance at a station is true: at its front of the journal there are so many clones; it finds the clone of the name
 -- exactly where there is one, and tells how many messages are in its log before the front, and of how many clones the
@@ -33,8 +33,7 @@ pub record IsTrueGlance (net : Net) (events : List Event) (s : ℕ) (who : List 
   pub at : AreAtFront net events g.front clones
   pub many : g.clones ≡ length clones
   pub unknown : IfNone g.found (place_of who clones ≡ None)
-  pub found : IfSome g.found (λ f. (c : ℕ) × (place_of who clones ≡ Some c) ×
-      IsSeen net clones s g.front c f.handled f.shared)
+  pub found : IfSome g.found (λ f. IsFoundOf net clones s g.front who f)
 
 -- what was seen at a look: nothing exactly where the network has no such station, and else a true glance
 pub record IsTrueLook (net : Net) (events : List Event) (l : Looked) : Type 0 where
@@ -48,8 +47,7 @@ pub record IsTrueLook (net : Net) (events : List Event) (l : Looked) : Type 0 wh
 pub record IsTrueOf (net : Net) (clones : List Clone) (s : ℕ) (who : List ℕ) (g : Glance) : Type 0 where
   pub few : g.clones ≤ length clones
   pub unknown : IfNone g.found (place_of who (take g.clones clones) ≡ None)
-  pub found : IfSome g.found (λ f. (c : ℕ) × (place_of who (take g.clones clones) ≡ Some c) ×
-      IsSeen net (take g.clones clones) s g.front c f.handled f.shared)
+  pub found : IfSome g.found (λ f. IsFoundOf net (take g.clones clones) s g.front who f)
 
 -- a later look of the same analyst at the same station is at no earlier front
 abbrev pub IsNoEarlier : Looked → Looked → Type 0

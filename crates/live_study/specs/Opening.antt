@@ -2,12 +2,11 @@
 use Rattle.std.specs.Prelude.{◌≡◌, ℕ, zero, suc, ◌+◌, ◌≤◌, List, [], ◌∷◌, ◌++◌, length, vec_capacity}
 use Rattle.std.specs.List.{All, AllByRecursion}
 use Rattle.atomic_table.specs.Seated.{TableId}
-use Rattle.sim_base.specs.Clones.{base}
 use Rattle.net_model.specs.Net.{Net}
 use Rattle.decision_desk.specs.Passes.{new_helm, new_passes}
 use Rattle.phys_proc.specs.Racks.{RackView}
 use Rattle.shelf.specs.Racks.{OneEach}
-use Rattle.world_core.specs.Worlds.{WorldView}
+use Rattle.world_core.specs.Worlds.{WorldView, opening_world}
 use Rattle.live_study.specs.declared.prepared.Prepared.{Prepared}
 use Rattle.live_study.specs.declared.reserve.Reserve.{Reserve}
 use Rattle.live_study.specs.Asking.{SeatedAnalyst}
@@ -49,7 +48,7 @@ pub record HasReservedFor (many : ℕ) (reserve : Reserve) : Type 0 where
 
 -- all that so many analysts begin with over a network
 pub record IsPrepared (net : Net) (many : ℕ) (p : Prepared) : Type 0 where
-  pub world : p.world ≡ record { net = net; clones = base ∷ []; front = 0 }
+  pub world : p.world ≡ opening_world net
   pub racks : AreOpeningRacks p.world (length net.sites) p.racks.items
   pub passes : p.passes.items ≡ new_passes p.desk.table.shared.table_id net many
   pub helm : p.helm ≡ new_helm p.desk.table.shared.table_id net many

@@ -29,17 +29,21 @@ each_acts items (suc n) = each_acts items n ++ acts_by (n + 1) items ∷ []
 abbrev pub decisions_by : ℕ → List Item → List Decision
 decisions_by a items = decisions_asked (acts_by a items)
 
--- a look that an act asks for: the number of the analyst, the clone and the station
-abbrev pub look_onto : ℕ → Act → List (ℕ × List ℕ × List ℕ)
+-- a look that is asked for: the number of the analyst, the clone and the station
+abbrev pub AskedLook : Type 0
+AskedLook = ℕ × List ℕ × List ℕ
+
+-- the look that an act asks for, if any
+abbrev pub look_onto : ℕ → Act → List AskedLook
 look_onto a (Decide d) = []
 look_onto a (Look who station) = (a, who, station) ∷ []
 
 -- those of an analyst's acts, in order
-abbrev pub looks_in : ℕ → List Act → List (ℕ × List ℕ × List ℕ)
+abbrev pub looks_in : ℕ → List Act → List AskedLook
 looks_in a acts = flat_map (look_onto a) acts
 
 -- those of the analysts from 1 to n: by analyst, and then in the analyst's order
-abbrev pub each_looks : List Item → ℕ → List (ℕ × List ℕ × List ℕ)
+abbrev pub each_looks : List Item → ℕ → List AskedLook
 each_looks items zero = []
 each_looks items (suc n) = each_looks items n ++ looks_in (n + 1) (acts_by (n + 1) items)
 

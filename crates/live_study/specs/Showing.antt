@@ -5,14 +5,14 @@ use Rattle.atomic_table.specs.Seated.{TableId}
 use Rattle.net_model.specs.Net.{Net}
 use Rattle.decision_script.specs.declared.item.Act.{Act}
 use Rattle.decision_book.specs.declared.call.Call.{Call}
-use Rattle.decision_book.specs.Journal.{raised, asked}
+use Rattle.decision_book.specs.Journal.{NewFront, NewCall}
 use Rattle.decision_desk.specs.Passes.{HelmView}
 use Rattle.phys_proc.specs.Racks.{RackView}
 use Rattle.world_core.specs.Worlds.{WorldView}
 use Rattle.live_study.specs.declared.analyst.Analyst.{Analyst}
 use Rattle.live_study.specs.Asking.{IsDone, IsReady, IsSameAnalyst, SeatedAnalyst}
 use Rattle.live_study.specs.Looks.{AreAllAt, AreCaughtUp, HasRacks, IsAt, IsRackOf, IsRead, NeverFall, look_of}
-use Rattle.live_study.specs.Scripts.{looks_in}
+use Rattle.live_study.specs.Scripts.{AskedLook, looks_in}
 
 -- an analyst that has made the looks of these acts, each of them at a beginning of what its seat has read, and none at
 -- an earlier front than one of the same station before it
@@ -50,7 +50,7 @@ pub record AreShownOf (h : HelmView) (w : WorldView) (published : List RackView)
   pub there : HasRacks w.net published
   pub last : w.front ≡ w.net.horizon → AreAllAt w.net w.front published
 
--- the same while the racks of a front are published: so many stations had their turn
+-- the same while the racks of a front are published: so many stations are done
 pub record AreShownTo (h : HelmView) (w : WorldView) (done : ℕ) (published : List RackView) : Type 0 where
   pub racks : AllByRecursion (IsRackOf h.net h.helm) published
   pub early : AllByRecursion (λ q. q.front ≤ w.front) published
@@ -61,10 +61,10 @@ pub record AreShownTo (h : HelmView) (w : WorldView) (done : ℕ) (published : L
 -- a helm that raised its front to this one behind calls
 pub record Raises (old new : HelmView) (front : ℕ) : Type 0 where
   pub calls : List Call
-  pub helm : new.helm ≡ (old.helm ++ map asked calls) ++ raised front ∷ []
+  pub helm : new.helm ≡ (old.helm ++ map NewCall calls) ++ NewFront front ∷ []
 
 -- what each of them has to look at, in order
-abbrev pub looks_to_make : List SeatedAnalyst → List (List (ℕ × List ℕ × List ℕ))
+abbrev pub looks_to_make : List SeatedAnalyst → List (List AskedLook)
 looks_to_make as' = map (λ a. looks_in a.0.number a.0.todo.items) as'
 
 -- all of them came to the horizon with what was published

@@ -3,10 +3,10 @@ ghost use Rattle.std.specs.Prelude.{◌≡◌, ◌++◌, ◌∷◌, ◌<◌, [],
 ghost use mathlib.Core.List.{IsPrefix};
 ghost use Rattle.decision_script.specs.declared.item.Act.{Act as OfAct};
 ghost use Rattle.decision_script.specs.declared.item.Act.TheVariants.{Decide, Look};
-ghost use Rattle.live_study.specs.Asking.{HasAsked, IsReady, IsSameAnalyst};
+ghost use Rattle.live_study.specs.Asking.{HasAsked, IsSameAnalyst};
 ghost use Rattle.live_study.specs.Looks.{HasRacks, IsNoEarlier, IsRead};
 ghost use Rattle.live_study.specs.Opening.{AreReadyAll};
-ghost use Rattle.live_study.specs.Showing.{HasActed, HasLooked, HasReserved, HaveActed, MayAct};
+ghost use Rattle.live_study.specs.Showing.{HasActed, HasLooked, HaveActed, MayAct};
 
 use crate::analyst::Analyst;
 use crew_pool::Gate;
@@ -115,9 +115,7 @@ pub(crate) fn act_all<J: Naming, G: Gate, R: Wait>(
     analyst: &mut Analyst,
     seat: &mut Seat<J>,
 )
-    requires ready { IsReady desk.now.table.shared.table_id analyst.old }
-    requires none { HasLooked model.now [] (analyst.old, seat.old) }
-    requires reserved { HasReserved analyst.old }
+    requires may_act { MayAct desk.now.table.shared.table_id model.now (analyst.old, seat.old) }
     ensures acted { HasActed desk.now.table.shared.table_id model.now (analyst.old, seat.old) (analyst.new, seat.new) }
 {
     for k in 0..analyst.todo.len() {

@@ -88,7 +88,7 @@ pub(crate) fn opening_racks(alloc: Global, world: &mut World) -> Result<Vec<Rack
 }
 
 // Marks the station of an act, where it is a look at one.
-fn mark(watched: &mut Vec<bool>, model: &Model, act: &Act) {
+fn mark_looked_at(watched: &mut Vec<bool>, model: &Model, act: &Act) {
     let Act::Look { who: _, station } = act else {
         return;
     };
@@ -117,7 +117,7 @@ pub(crate) fn watched_in(
 ) -> Result<Vec<bool>, NoMemory> {
     let mut watched = no_marks(alloc, model.len())?;
     for i in 0..script.len() {
-        mark(&mut watched, model, &script.item(i).act);
+        mark_looked_at(&mut watched, model, &script.item(i).act);
     }
     Ok(watched)
 }

@@ -144,10 +144,13 @@ fn go_on<C: Crew, G: Gate, J: Naming, L: Ledger, W: Wait + Drop, R: Threads + Wa
 ) -> Result<World, StudyFault>
     requires may_turn { MayTurn desk.now.table.shared.table_id helm.old world }
     requires shown { AreShownOf helm.old world stocker.old.published }
+    // what is kept of the helm in any case
     ensures steers { Steers helm.old helm.new }
+    // what it gives: a world further on, in step with the helm, and racks of it for readers
     ensures in_step { IfOk result (λ w. InStep helm.new w) }
     ensures rises { IfOk result (λ w. world.front < w.front) }
     ensures shown { IfOk result (λ w. AreShownOf helm.new w stocker.new.published) }
+    // or why the engine stops, over the journal of the helm
     ensures stops { IfErr result (λ e. StopsAt helm.new.net helm.new.helm e) }
 {
     let mut world = take_window(rt, alloc, crew, gate, desk, helm, world, steps)?;

@@ -187,6 +187,7 @@ pub(crate) fn run_live<
     seated: Vec<(Analyst, Seat<J>)>,
     reserve: Reserve,
 ) -> LiveRun
+    // helm, world and stocker are in step, the analysts are ready, and there are places for what they leave
     requires may_drive { MayDrive desk.table.shared.table_id helm world stocker.published }
     requires net { helm.net ≡ model.now }
     requires parts { helm.parts + length seated.items ≡ ALL_PARTS }
@@ -194,10 +195,13 @@ pub(crate) fn run_live<
     requires ready { AreReadyAll desk.table.shared.table_id model.now seated.items }
     requires few { total_todo seated.items ≤ MOST_CALLS }
     requires reserve { HasReservedFor (length seated.items) reserve }
+    // however it ends: each analyst has asked all its decisions and made all its looks
     ensures asked { IsAllAsked helm.net seated.items result.book }
     ensures made { looks_made result.looks.items ≡ looks_to_make seated.items }
+    // at the horizon: the looks are true of the journal, and the world has the clones that it leaves
     ensures looked { IfOk result.run (λ w. AreTrueLooks helm.net result.book.events result.looks.items) }
     ensures finished { IfOk result.run (λ w. IsAtHorizon helm.net result.book w) }
+    // or why the engine stopped, over the journal
     ensures stopped { IfErr result.run (λ e. IsStopped helm.net result.book e) }
 {
     let ((helm, mut stocker, run), seated) = side_by_side(

@@ -1,11 +1,10 @@
 //! The live study of a model and a script: an interactive simulation, with one journal of what its users decided.
-ghost use Rattle.std.specs.Prelude.{◌≡◌, ◌+◌, ◌∷◌, ◌≤◌, [], length, map, IfOk, IfErr, OnErr};
+ghost use Rattle.std.specs.Prelude.{◌≡◌, ◌+◌, ◌≤◌, length, map, IfOk, IfErr, OnErr};
 ghost use Rattle.std.specs.List.{AllByRecursion};
-ghost use Rattle.sim_base.specs.Clones.{base};
 ghost use Rattle.net_model.specs.declared.limits.TheConstants.{MOST_STATIONS};
 ghost use Rattle.decision_desk.specs.Passes.{new_helm, new_passes};
 ghost use Rattle.shelf.specs.Racks.{MayOpen};
-ghost use Rattle.world_core.specs.Worlds.{total_handled};
+ghost use Rattle.world_core.specs.Worlds.{opening_world, total_handled};
 ghost use Rattle.live_study.specs.Lives.{IsAtHorizon, IsStopped, all_looks};
 ghost use Rattle.live_study.specs.Looks.{AreLooks, HasMadeLooks};
 ghost use Rattle.live_study.specs.Opening.{AreOpeningRacks, HasReservedFor, IsFresh, IsPrepared, numbers_to};
@@ -23,7 +22,7 @@ use decision_desk::{Desk, Helm, Pass};
 use decision_script::Script;
 use net_model::Model;
 use phys_proc::Rack;
-use shelf::{Naming, Opened, Seat, Stocker, begin};
+use shelf::{Naming, NewHistory, Seat, Stocker, begin};
 use sim_base::{NoMemory, Steps};
 use std::alloc::Global;
 use std::marker::Brand;
@@ -34,7 +33,7 @@ use world_core::World;
 
 // The world as it opens, and a rack of each of its stations.
 fn open_world(alloc: Global, model: &Arc<Model>) -> Result<(World, Vec<Rack>), NoMemory>
-    ensures world { IfOk result (λ r. r.0 ≡ record { net = model.now.value; clones = base ∷ []; front = 0 }) }
+    ensures world { IfOk result (λ r. r.0 ≡ opening_world model.now.value) }
     ensures racks { IfOk result (λ r. AreOpeningRacks r.0 (length model.now.value.sites) r.1.items) }
 {
     let mut world = World::new(alloc, Arc::try_clone(model)?)?;
@@ -91,7 +90,7 @@ fn take_seats<J: Naming, W: Wait + Drop>(
     waits: W,
     alloc: Global,
     script: &Script,
-    opened: Opened,
+    opened: NewHistory,
     racks: Vec<Rack>,
     passes: Vec<Pass>,
 ) -> Result<(Stocker<J, W>, Vec<(Analyst, Seat<J>)>), NoMemory>
@@ -99,7 +98,9 @@ fn take_seats<J: Naming, W: Wait + Drop>(
     requires opening { MayOpen racks.items }
     requires few { length racks.items ≤ MOST_STATIONS }
     requires many { length passes.items ≡ length script.now.analysts }
+    // what it gives: a stocker that has published these racks
     ensures published { IfOk result (λ r. r.0.published ≡ racks.items) }
+    // and an analyst for each pass, with its number and its acts, who has looked at nothing yet
     ensures passes { IfOk result (λ r. map (λ a. a.0.pass) r.1.items ≡ passes.items) }
     ensures numbers { IfOk result (λ r. map (λ a. a.0.number) r.1.items ≡ numbers_to (length passes.items)) }
     ensures todo { IfOk result (λ r.
@@ -127,15 +128,18 @@ fn run_prepared<
     model: &Model,
     script: &Script,
     prepared: Prepared,
-    opened: Opened,
+    opened: NewHistory,
 ) -> Result<LiveRun, NoMemory>
     requires name { opened.seen.book ≡ J.book }
     requires prepared { IsPrepared model.now (length script.now.analysts) prepared }
+    // however the run ends: a journal of the script, and each of the looks made
     ensures journal { IfOk result (λ r. IsJournalOf model.now script.now r.book) }
     ensures made { IfOk result (λ r. HasMadeLooks script.now (all_looks r.looks.items)) }
+    // at the horizon: the looks are true of the journal, and the world has the clones that it leaves
     ensures looks { IfOk result (λ r. IfOk r.run (λ w.
         AreLooks model.now script.now r.book.events (all_looks r.looks.items))) }
     ensures finished { IfOk result (λ r. IfOk r.run (λ w. IsAtHorizon model.now r.book w)) }
+    // or why the engine stopped, over the journal
     ensures stopped { IfOk result (λ r. IfErr r.run (λ e. IsStopped model.now r.book e)) }
 {
     let Prepared {
@@ -194,7 +198,7 @@ pub fn live_study<C: Crew + Sync, G: Gate, L: Ledger, R: Threads + Wait + Sync>(
     ensures unchanged { OnErr result (steps.new ≡ steps.old) }
 {
     let prepared = prepare(alloc, model, script)?;
-    let opened = Opened::new();
+    let opened = NewHistory::new();
     let live = run_prepared::<C, G, Brand, &R, R>(
         rt, rt, alloc, crew, gate, model, script, prepared, opened,
     )?;

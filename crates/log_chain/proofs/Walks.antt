@@ -8,58 +8,67 @@ use Rattle.log_chain.specs.Segments.{entries_of_segment, entries_in}
 use Rattle.sim_base.specs.declared.entry.Entry.{Entry}
 use Rattle.sim_base.specs.declared.entry.Line.{Line}
 use Rattle.sim_base.specs.declared.message.Msg.{Msg}
-use Rattle.log_chain.specs.Blocks.{all_of, AreBlocks}
+use Rattle.sim_base.specs.Blocks.{of_blocks}
+use Rattle.log_chain.specs.Blocks.{AreBlocks}
 use Rattle.log_chain.specs.Packing.{entry_of, entries_of}
-use Rattle.log_chain.specs.declared.packed.Packed.{Packed}
-use Rattle.log_chain.proofs.Chains.{take_rest, entries_in_three}
-use Rattle.log_chain.proofs.Tails.{from_place}
+use Rattle.log_chain.specs.declared.packed.PackedEntry.{PackedEntry}
+use Rattle.log_chain.specs.declared.blocks.TheConstants.{BLOCK}
+use Rattle.log_chain.proofs.Chains.{take-rest, entries_in-around}
+use Rattle.log_chain.proofs.Tails.{all_of-drop}
+
+-- ---- drop
 
 module _ {X Z : Type 0} where
   -- the entries from a place in a segment on
-  pub from_segment_place : (segments : List (Arc (List X) Z)) (i at left : ℕ) (s : Arc (List X) Z) (rest : List X)
+  entries_in-drop : (segments : List (Arc (List X) Z)) (i at left : ℕ) (s : Arc (List X) Z) (rest : List X)
       → i < length segments → s ≡ get_or segments i s → at ≡ length (entries_in (take i segments)) + left
       → left ≤ length (entries_of_segment s)
       → drop at (entries_in segments ++ rest) ≡ drop left (entries_of_segment s)
       ++ (entries_in (drop (suc i) segments) ++ rest)
-  from_segment_place segments i at left s rest there here place within =
+  entries_in-drop segments i at left s rest there here place within =
       let before = entries_in (take i segments) in
       let behind = entries_in (drop (suc i) segments) in
       ap (λ n. drop n (entries_in segments ++ rest)) place
-      ∙ (ap (λ l. drop (length before + left) (l ++ rest)) (entries_in_three segments i s there here)
+      ∙ (ap (λ l. drop (length before + left) (l ++ rest)) (entries_in-around segments i s there here)
       ∙ (ap (λ l. drop (length before + left) l) (append_assoc before (entries_of_segment s ++ behind) rest)
       ∙ (drop-append-add before ((entries_of_segment s ++ behind) ++ rest) left
       ∙ (ap (λ l. drop left l) (append_assoc (entries_of_segment s) behind rest)
       ∙ drop-append-le left (entries_of_segment s) (behind ++ rest) within))))
 
 -- the elements behind a first list
-pub drop_behind : {A : Type 0} (xs ys : List A) (at n : ℕ) → at ≡ length xs + n → drop at (xs ++ ys) ≡ drop n ys
-drop_behind xs ys at n place = ap (λ k. drop k (xs ++ ys)) place ∙ drop-append-add xs ys n
+pub drop-behind : {A : Type 0} (xs ys : List A) (at n : ℕ) → at ≡ length xs + n → drop at (xs ++ ys) ≡ drop n ys
+drop-behind xs ys at n place = ap (λ k. drop k (xs ++ ys)) place ∙ drop-append-add xs ys n
 
 -- what is left of packed entries
-left_of : (wide : List (Entry Msg Line)) (ps : List Packed) (es : List (Entry Msg Line)) (left : ℕ)
+entries_of-drop : (wide : List (Entry Msg Line)) (ps : List PackedEntry) (es : List (Entry Msg Line)) (left : ℕ)
     → entries_of wide ps ≡ es → entries_of wide (take (length ps - left) (drop left ps)) ≡ drop left es
-left_of wide ps es left is = ap (entries_of wide) (take_rest ps left)
+entries_of-drop wide ps es left is = ap (entries_of wide) (take-rest ps left)
     ∙ (sym (drop-map (entry_of wide) left ps) ∙ ap (drop left) is)
 
+-- ---- entries_of
+
 -- as many entries as packed ones
-pub as_many : (wide : List (Entry Msg Line)) (ps : List Packed) (es : List (Entry Msg Line)) → entries_of wide ps ≡ es
-    → length ps ≡ length es
-as_many wide ps es is = sym (length-map ps (entry_of wide)) ∙ ap length is
+pub length-entries_of : (wide : List (Entry Msg Line)) (ps : List PackedEntry) (es : List (Entry Msg Line))
+    → entries_of wide ps ≡ es → length ps ≡ length es
+length-entries_of wide ps es is = sym (length-map ps (entry_of wide)) ∙ ap length is
 
--- a walk that begins in a block
-pub walk_from_block : (wide : List (Entry Msg Line)) (ps : List Packed) (bs : List (List (Entry Msg Line)))
+-- ---- a walk that begins in a part
+
+-- in a block
+pub walk_from_block : (wide : List (Entry Msg Line)) (ps : List PackedEntry) (bs : List (List (Entry Msg Line)))
     (b : List (Entry Msg Line)) (i left at : ℕ)
-    → AreBlocks bs → i < length bs → b ≡ get_or bs i b → entries_of wide ps ≡ b → left ≤ length ps → at ≡ 64 * i + left
+    → AreBlocks bs → i < length bs → b ≡ get_or bs i b → entries_of wide ps ≡ b → left ≤ length ps
+    → at ≡ BLOCK * i + left
     → entries_of wide (take (length ps - left) (drop left ps))
-    ++ all_of (take (length bs - (i + 1)) (drop (i + 1) bs)) ≡ drop at (all_of bs)
+    ++ of_blocks (take (length bs - (i + 1)) (drop (i + 1) bs)) ≡ drop at (of_blocks bs)
 walk_from_block wide ps bs b i left at h there here is within place =
-    ap₂ (λ xs ys. xs ++ ys) (left_of wide ps b left is)
-    (ap all_of (take_rest bs (i + 1) ∙ ap (λ n. drop n bs) (add-one i)))
-    ∙ (sym (from_place bs i left b h there here (omega (arith, within, as_many wide ps b is)))
-    ∙ ap (λ n. drop n (all_of bs)) (sym place))
+    ap₂ (λ xs ys. xs ++ ys) (entries_of-drop wide ps b left is)
+    (ap of_blocks (take-rest bs (i + 1) ∙ ap (λ n. drop n bs) (add-one i)))
+    ∙ (sym (all_of-drop bs i left b h there here (omega (arith, within, length-entries_of wide ps b is)))
+    ∙ ap (λ n. drop n (of_blocks bs)) (sym place))
 
--- a walk that begins in a segment
-pub walk_from_segment : {Z : Type 0} (wide : List (Entry Msg Line)) (ps : List Packed)
+-- in a segment
+pub walk_from_segment : {Z : Type 0} (wide : List (Entry Msg Line)) (ps : List PackedEntry)
     (segments : List (Arc (List (Entry Msg Line)) Z)) (s : Arc (List (Entry Msg Line)) Z)
     (rest : List (Entry Msg Line)) (i left at : ℕ)
     → i < length segments → s ≡ get_or segments i s → entries_of wide ps ≡ entries_of_segment s → left ≤ length ps
@@ -68,7 +77,7 @@ pub walk_from_segment : {Z : Type 0} (wide : List (Entry Msg Line)) (ps : List P
     ++ (entries_in (take (length segments - (i + 1)) (drop (i + 1) segments)) ++ rest)
     ≡ drop at (entries_in segments ++ rest)
 walk_from_segment wide ps segments s rest i left at there here is within place =
-    ap₂ (λ xs ys. xs ++ (ys ++ rest)) (left_of wide ps (entries_of_segment s) left is)
-    (ap entries_in (take_rest segments (i + 1) ∙ ap (λ n. drop n segments) (add-one i)))
-    ∙ sym (from_segment_place segments i at left s rest there here place
-    (omega (arith, within, as_many wide ps (entries_of_segment s) is)))
+    ap₂ (λ xs ys. xs ++ (ys ++ rest)) (entries_of-drop wide ps (entries_of_segment s) left is)
+    (ap entries_in (take-rest segments (i + 1) ∙ ap (λ n. drop n segments) (add-one i)))
+    ∙ sym (entries_in-drop segments i at left s rest there here place
+    (omega (arith, within, length-entries_of wide ps (entries_of_segment s) is)))

@@ -16,7 +16,7 @@ use Rattle.log_chain.specs.declared.packed.Kind.{Kind}
 use Rattle.log_chain.specs.declared.packed.Kind.TheVariants as kind
 use Rattle.log_chain.specs.declared.packed.LineKind.{LineKind}
 use Rattle.log_chain.specs.declared.packed.LineKind.TheVariants as line
-use Rattle.log_chain.specs.declared.packed.Packed.{Packed}
+use Rattle.log_chain.specs.declared.packed.PackedEntry.{PackedEntry}
 use Rattle.log_chain.specs.declared.packed.PackedMsg.{PackedMsg}
 use Rattle.log_chain.specs.declared.packed.PackedLine.{PackedLine}
 
@@ -60,9 +60,9 @@ counts_of line.Sink l = Sink l.first (l.third * 2 ^ 32 + l.second)
 abbrev pub line_of : PackedLine → Line
 line_of l = counts_of l.kind l
 
--- the entry that a packed one of its own numbers stands for
-abbrev pub packed_entry : Packed → Entry Msg Line
-packed_entry p = record { msg = msg_of p.msg; line = line_of p.line }
+-- the entry that a packed one has in its own numbers
+abbrev pub unpacked_entry : PackedEntry → Entry Msg Line
+unpacked_entry p = record { msg = msg_of p.msg; line = line_of p.line }
 
 -- whether the entry did not fit
 abbrev pub is_wide : Kind → Bool
@@ -70,11 +70,11 @@ is_wide kind.Wide = true
 is_wide _ = false
 
 -- the entry, which is in the side list where it did not fit
-abbrev pub entry_of : List (Entry Msg Line) → Packed → Entry Msg Line
-entry_of wide p = if is_wide p.msg.kind then slice_index_or wide p.msg.count (packed_entry p) else packed_entry p
+abbrev pub entry_of : List (Entry Msg Line) → PackedEntry → Entry Msg Line
+entry_of wide p = if is_wide p.msg.kind then slice_index_or wide p.msg.count (unpacked_entry p) else unpacked_entry p
 
 -- the entries, one after another
-abbrev pub entries_of : List (Entry Msg Line) → List Packed → List (Entry Msg Line)
+abbrev pub entries_of : List (Entry Msg Line) → List PackedEntry → List (Entry Msg Line)
 entries_of wide ps = map (entry_of wide) ps
 
 -- a message that fits, and its key fits one word
@@ -83,12 +83,12 @@ pub record IsNarrow (m : PackedMsg) : Type 0 where
   pub word : FitsWord (key_of m)
 
 -- the entry fits, or the side list of n entries has it
-pub record IsPlaced (n : ℕ) (p : Packed) : Type 0 where
+pub record IsPlaced (n : ℕ) (p : PackedEntry) : Type 0 where
   pub wide : is_wide p.msg.kind ≡ true → p.msg.count < n
   pub narrow : is_wide p.msg.kind ≡ false → FitsWord (key_of p.msg)
 
 -- each of them does
-abbrev pub ArePlaced : ℕ → List Packed → Type 0
+abbrev pub ArePlaced : ℕ → List PackedEntry → Type 0
 ArePlaced n ps = AllByRecursion (IsPlaced n) ps
 
 -- each entry's key fits one word

@@ -1,8 +1,10 @@
 -- How a log is stored: segments that other logs may share, and a tail of its own.
-use Rattle.std.specs.Prelude.{◌≡◌, ℕ, ◌+◌, ◌*◌, ◌-◌, ◌^◌, ◌<◌, ◌≤◌, List, [], ◌∷◌, length, map, flat_map, slice_index}
+use Rattle.std.specs.Prelude.{◌≡◌, ℕ, ◌+◌, ◌*◌, ◌-◌, ◌<◌, ◌≤◌, List, [], ◌∷◌, length, map, flat_map, slice_index}
 use Rattle.std.specs.Arc.{arc_value}
 use Rattle.std.specs.declared.sync.Arc.{Arc}
-use Rattle.log_chain.specs.Blocks.{all_of, AreBlocks}
+use Rattle.sim_base.specs.Blocks.{of_blocks}
+use Rattle.log_chain.specs.Blocks.{AreBlocks}
+use Rattle.log_chain.specs.declared.log.TheConstants.{MOST_ENTRIES}
 
 module _ {X Z : Type 0} where
   -- the entries of a segment
@@ -22,7 +24,7 @@ abbrev pub IsHalving : List ℕ → Type 0
 IsHalving [] = Unit {0}
 IsHalving (n ∷ ns) = (2 * slice_index ns 0 < n) × IsHalving ns
 
--- a segment of this size may stand behind the first k
+-- a segment of this size may follow the first k
 abbrev pub IsFit : List ℕ → ℕ → ℕ → Type 0
 IsFit ns k size = 0 < k → 2 * size < slice_index ns (k - 1)
 
@@ -32,5 +34,5 @@ pub record IsChain {X Z : Type 0} (segments : List (Arc (List X) Z)) (shared : �
   pub halving : IsHalving (lengths segments)
   pub count : shared ≡ length (entries_in segments)
   pub blocks_fit : AreBlocks blocks
-  pub tail : more ≡ length (all_of blocks)
-  pub most : shared + more ≤ 2 ^ 58
+  pub tail : more ≡ length (of_blocks blocks)
+  pub most : shared + more ≤ MOST_ENTRIES

@@ -1,4 +1,4 @@
--- Where a walk along a log stands.
+-- What is left of the log to a walk.
 use Rattle.std.specs.Prelude.{◌≡◌, List, [], length}
 
 -- the part where the walk is has an entry, or no part is left

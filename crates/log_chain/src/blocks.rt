@@ -1,6 +1,7 @@
 //! The tail of a log: blocks that it does not share, so that a push moves no entry.
 ghost use Rattle.std.specs.Prelude.{◌≡◌, ◌++◌, ◌∷◌, [], OnOk, OnErr, IfOk, IsTrue};
-ghost use Rattle.log_chain.specs.Blocks.{all_of, AreBlocks};
+ghost use Rattle.sim_base.specs.Blocks.{of_blocks};
+ghost use Rattle.log_chain.specs.Blocks.{AreBlocks};
 ghost use Rattle.log_chain.specs.Packing.{FitWords};
 
 use crate::entry_list::EntryList;
@@ -14,8 +15,8 @@ pub const BLOCK: usize = 64;
 pub fn push(blocks: &mut Vec<EntryList>, entry: &Entry) -> Result<(), NoMemory>
     requires blocks { AreBlocks blocks.old.items }
     ensures blocks { AreBlocks blocks.new.items }
-    ensures ok { OnOk result (all_of blocks.new.items ≡ all_of blocks.old.items ++ entry.now ∷ []) }
-    ensures err { OnErr result (all_of blocks.new.items ≡ all_of blocks.old.items) }
+    ensures ok { OnOk result (of_blocks blocks.new.items ≡ of_blocks blocks.old.items ++ entry.now ∷ []) }
+    ensures err { OnErr result (of_blocks blocks.new.items ≡ of_blocks blocks.old.items) }
 {
     let count = blocks.len();
     if count > 0 && blocks[count - 1].len() < BLOCK {
@@ -40,7 +41,7 @@ pub fn copy_blocks(alloc: Global, blocks: &[EntryList]) -> Result<Vec<EntryList>
 
 /// Whether all their entries are packed.
 pub fn are_packed(blocks: &[EntryList]) -> bool
-    ensures words { IsTrue result → FitWords (all_of blocks.now) }
+    ensures words { IsTrue result → FitWords (of_blocks blocks.now) }
 {
     for block in blocks {
         if !block.is_packed() {

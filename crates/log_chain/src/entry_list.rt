@@ -2,7 +2,7 @@
 ghost use Rattle.std.specs.Prelude.{◌≡◌, ◌++◌, ◌∷◌, [], length, OnOk, OnErr, IfOk, IsTrue};
 ghost use Rattle.log_chain.specs.Packing.{entries_of, FitWords};
 
-use crate::packed::{Packed, in_side_list, pack};
+use crate::packed::{PackedEntry, pack, pack_place};
 use crate::stored::StoredEntry;
 use sim_base::{Entry, NoMemory};
 use std::alloc::Global;
@@ -11,7 +11,7 @@ use std::marker::Model;
 /// Entries in 32 bytes each, and a side list of those that do not fit.
 #[derive(Drop)]
 pub struct EntryList {
-    packed: Vec<Packed>,
+    packed: Vec<PackedEntry>,
     wide: Vec<Entry>,
 }
 
@@ -64,7 +64,7 @@ impl EntryList {
             return Err(NoMemory);
         }
         self.wide.push(*entry)?;
-        self.packed.push(in_side_list(place as u32))?;
+        self.packed.push(pack_place(place as u32))?;
         Ok(())
     }
 
@@ -100,7 +100,7 @@ impl EntryList {
     }
 
     /// The entries as they lie in memory, and the side list.
-    pub fn entries(&self) -> (&[Packed], &[Entry])
+    pub fn entries(&self) -> (&[PackedEntry], &[Entry])
         ensures value { entries_of result.1.now result.0.now ≡ self.now }
     {
         (self.packed.as_slice(), self.wide.as_slice())

@@ -3,17 +3,26 @@ ghost use Rattle.std.specs.Prelude.{◌≡◌, ◌++◌, ◌∷◌, [], ◌+◌,
 ghost use Rattle.std.specs.Prelude.{drop, OnOk, OnErr, IfOk, IsTrue, ◌↔◌, slice_index, slice_index_or};
 ghost use Rattle.log_chain.specs.Packing.{FitWords};
 ghost use Rattle.log_chain.specs.Times.{RiseByTime, from_time, times_of};
+ghost use Rattle.log_chain.specs.declared.log.TheConstants.{MOST_OF_RUN, MOST_SEGMENTS};
 
 use crate::blocks;
 use crate::entry_list::EntryList;
-use crate::segments::{Segment, are_packed, joined, place_behind, put_behind, shared};
+use crate::segments::{
+    Segment, are_packed, join_segments, place_behind, put_behind, share_segments,
+};
 use crate::walk::{Walk, from_block, from_segment};
 use sim_base::{Entry, NoMemory};
 use std::alloc::Global;
 use std::marker::Model;
 
-// The most entries of a log: 2^58 entries of 32 bytes are 2^63 bytes, and no list has more.
-const MOST: u64 = 1 << 58;
+/// The most entries of a log: so many of 32 bytes are 2^63 bytes, and no list has more.
+pub const MOST_ENTRIES: u64 = 1 << 58;
+
+/// The most entries that a run within the model's limits gives a log.
+pub const MOST_OF_RUN: u64 = 65_536;
+
+/// The most segments of a log of so many entries.
+pub const MOST_SEGMENTS: u32 = 16;
 
 /// What a station has handled, in order: a list of entries. Logs may share what they have in common, and each grows by
 /// itself.
@@ -32,12 +41,12 @@ impl Model for Log {
     ghost use Rattle.sim_base.specs.declared.entry.Entry.{Entry};
     ghost use Rattle.sim_base.specs.declared.entry.Line.{Line};
     ghost use Rattle.sim_base.specs.declared.message.Msg.{Msg};
-    ghost use Rattle.log_chain.specs.Blocks.{all_of};
+    ghost use Rattle.sim_base.specs.Blocks.{of_blocks};
     ghost use Rattle.log_chain.specs.Segments.{entries_in, IsChain};
 
     ghost Value = { List (Entry Msg Line) };
 
-    ghost view = { λ l. entries_in l.segments.items ++ all_of l.blocks.items };
+    ghost view = { λ l. entries_in l.segments.items ++ of_blocks l.blocks.items };
 
     ghost invariant = { λ l. IsChain l.segments.items l.shared l.blocks.items l.more };
 }
@@ -60,7 +69,7 @@ impl Log {
         ensures ok { OnOk result (self.new ≡ self.old ++ entry ∷ []) }
         ensures err { OnErr result (self.new ≡ self.old) }
     {
-        if self.shared + self.more as u64 == MOST {
+        if self.shared + self.more as u64 == MOST_ENTRIES {
             return Err(NoMemory);
         }
         blocks::push(&mut self.blocks, &entry)?;
@@ -77,7 +86,7 @@ impl Log {
             return Ok(());
         }
         let (before, size) = place_behind(self.segments.as_slice(), self.more);
-        let segment = joined(
+        let segment = join_segments(
             alloc,
             size,
             &self.segments.as_slice()[before..],
@@ -104,7 +113,7 @@ impl Log {
         ensures value { IfOk result (λ log. log ≡ self.now) }
     {
         Ok(Log {
-            segments: shared(alloc, self.segments.as_slice())?,
+            segments: share_segments(alloc, self.segments.as_slice())?,
             shared: self.shared,
             blocks: blocks::copy_blocks(alloc, self.blocks.as_slice())?,
             more: self.more,
@@ -176,6 +185,7 @@ impl Log {
         low
     }
 
+    // The time of the entry at a place.
     fn time_at(&self, i: u64) -> u64
         requires there { i < length self.now }
         ensures value { result ≡ slice_index (times_of self.now) i }
@@ -196,7 +206,7 @@ impl Log {
     /// How many segments it has. It takes no memory.
     pub fn segments(&self) -> u32
         ensures many { 2 ^ result ≤ length self.now + 1 }
-        ensures few { length self.now ≤ 65536 → result ≤ 16 }
+        ensures few { length self.now ≤ MOST_OF_RUN → result ≤ MOST_SEGMENTS }
     {
         self.segments.len() as u32
     }

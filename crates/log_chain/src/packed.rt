@@ -2,11 +2,11 @@
 ghost use Rattle.std.specs.Prelude.{◌≡◌, true, false, IfSome};
 ghost use Rattle.sim_base.specs.declared.message.Job.{Job as JobOf};
 ghost use Rattle.log_chain.specs.Packing.{set_of, payload_of, key_of, msg_of, line_of};
-ghost use Rattle.log_chain.specs.Packing.{packed_entry, is_wide, IsNarrow};
+ghost use Rattle.log_chain.specs.Packing.{is_wide, unpacked_entry, IsNarrow};
 
 use sim_base::{Change, Entry, Job, Key, Line, Msg, Param, Payload};
 
-/// What a packed message tells, or that the entry does not fit and stands in the side list.
+/// What a packed message tells, or that the entry does not fit and is in the side list.
 #[derive(Clone, Copy)]
 pub enum Kind {
     Wide,
@@ -56,20 +56,20 @@ pub struct PackedLine {
 
 /// An entry in 32 bytes, or its place in the side list.
 #[derive(Clone, Copy)]
-pub struct Packed {
+pub struct PackedEntry {
     pub msg: PackedMsg,
     pub line: PackedLine,
 }
 
-const _: () = prove!(size_of::<Packed>() == 32);
+const _: () = prove!(size_of::<PackedEntry>() == 32);
 
-impl Packed {
-    ghost use Rattle.log_chain.specs.Packing.{packed_entry};
+impl PackedEntry {
+    ghost use Rattle.log_chain.specs.Packing.{unpacked_entry};
 
     /// The key of its message.
     #[inline(always)]
     pub fn key(&self) -> Key
-        ensures value { result ≡ (packed_entry self.now).msg.key }
+        ensures value { result ≡ (unpacked_entry self.now).msg.key }
     {
         unpack_key(&self.msg)
     }
@@ -77,7 +77,7 @@ impl Packed {
     /// The receiver of its message.
     #[inline(always)]
     pub fn to(&self) -> u32
-        ensures value { result ≡ (packed_entry self.now).msg.to }
+        ensures value { result ≡ (unpacked_entry self.now).msg.to }
     {
         u32::from(self.msg.to)
     }
@@ -85,7 +85,7 @@ impl Packed {
     /// What its message tells.
     #[inline(always)]
     pub fn payload(&self) -> Payload
-        ensures value { result ≡ (packed_entry self.now).msg.payload }
+        ensures value { result ≡ (unpacked_entry self.now).msg.payload }
     {
         unpack_payload(&self.msg)
     }
@@ -93,7 +93,7 @@ impl Packed {
     /// The counts of its station after it.
     #[inline(always)]
     pub fn counts(&self) -> Line
-        ensures value { result ≡ (packed_entry self.now).line }
+        ensures value { result ≡ (unpacked_entry self.now).line }
     {
         unpack_line(&self.line)
     }
@@ -101,7 +101,7 @@ impl Packed {
     /// The entry.
     #[inline(always)]
     pub fn entry(&self) -> Entry
-        ensures value { result ≡ packed_entry self.now }
+        ensures value { result ≡ unpacked_entry self.now }
     {
         Entry {
             msg: unpack_msg(&self.msg),
@@ -111,21 +111,21 @@ impl Packed {
 }
 
 /// The entry in 32 bytes, or None where a number of it is too large.
-pub fn pack(entry: &Entry) -> Option<Packed>
-    ensures value { IfSome result (λ p. packed_entry p ≡ entry.now) }
+pub fn pack(entry: &Entry) -> Option<PackedEntry>
+    ensures value { IfSome result (λ p. unpacked_entry p ≡ entry.now) }
     ensures narrow { IfSome result (λ p. IsNarrow p.msg) }
 {
     let msg = pack_msg(&entry.msg)?;
     let line = pack_line(&entry.line)?;
-    Some(Packed { msg, line })
+    Some(PackedEntry { msg, line })
 }
 
 /// The packed form of the entry at a place of the side list.
-pub fn in_side_list(place: u32) -> Packed
+pub fn pack_place(place: u32) -> PackedEntry
     ensures wide { is_wide result.msg.kind ≡ true }
     ensures place { result.msg.count ≡ place }
 {
-    Packed {
+    PackedEntry {
         msg: PackedMsg {
             time: 0,
             number: 0,
@@ -146,7 +146,7 @@ pub fn in_side_list(place: u32) -> Packed
     }
 }
 
-/// Whether the entry did not fit and stands in the side list.
+/// Whether the entry did not fit and is in the side list.
 #[inline(always)]
 pub fn is_wide(msg: &PackedMsg) -> bool
     ensures value { result ≡ is_wide msg.now.kind }
@@ -157,6 +157,7 @@ pub fn is_wide(msg: &PackedMsg) -> bool
     }
 }
 
+// The message in 20 bytes, or None where a number of it is too large.
 fn pack_msg(msg: &Msg) -> Option<PackedMsg>
     ensures value { IfSome result (λ m. msg_of m ≡ msg.now) }
     ensures narrow { IfSome result (λ m. IsNarrow m) }
@@ -176,6 +177,7 @@ fn pack_msg(msg: &Msg) -> Option<PackedMsg>
     }
 }
 
+// The message with this kind and job, or None where a number is too large.
 fn with_payload(msg: &Msg, kind: Kind, job: Job) -> Option<PackedMsg>
     requires narrow { is_wide kind ≡ false }
     ensures value { IfSome result (λ m. msg_of m ≡ record msg.now { payload = payload_of kind job }) }
@@ -203,6 +205,7 @@ fn with_payload(msg: &Msg, kind: Kind, job: Job) -> Option<PackedMsg>
     }
 }
 
+// The kind of a message that sets the parameter.
 fn kind_of(param: Param) -> Kind
     ensures narrow { is_wide result ≡ false }
     ensures value { (j : JobOf) → payload_of result j ≡ set_of param j }
@@ -217,6 +220,7 @@ fn kind_of(param: Param) -> Kind
     }
 }
 
+// The counts in 12 bytes, or None where one is too large.
 fn pack_line(line: &Line) -> Option<PackedLine>
     ensures value { IfSome result (λ l. line_of l ≡ line.now) }
 {
@@ -239,6 +243,7 @@ fn pack_line(line: &Line) -> Option<PackedLine>
     }
 }
 
+// A line of this kind with these counts, or None where one is too large.
 fn with_counts(kind: LineKind, first: u64, second: u64, third: u64, busy: u64) -> Option<PackedLine>
     ensures value { IfSome result (λ l. l ≡ record {
       first = first;
@@ -261,6 +266,7 @@ fn with_counts(kind: LineKind, first: u64, second: u64, third: u64, busy: u64) -
     }
 }
 
+// The key of a packed message.
 #[inline(always)]
 fn unpack_key(msg: &PackedMsg) -> Key
     ensures value { result ≡ key_of msg.now }
@@ -272,6 +278,7 @@ fn unpack_key(msg: &PackedMsg) -> Key
     }
 }
 
+// A packed message.
 #[inline(always)]
 fn unpack_msg(msg: &PackedMsg) -> Msg
     ensures value { result ≡ msg_of msg.now }
@@ -283,6 +290,7 @@ fn unpack_msg(msg: &PackedMsg) -> Msg
     }
 }
 
+// What a packed message tells.
 #[inline(always)]
 fn unpack_payload(msg: &PackedMsg) -> Payload
     ensures value { result ≡ (msg_of msg.now).payload }
@@ -305,6 +313,7 @@ fn unpack_payload(msg: &PackedMsg) -> Payload
     }
 }
 
+// A set of the parameter: its two values stand where a job has its count and its time of making.
 #[inline(always)]
 fn set(param: Param, values: &Job) -> Payload
     ensures value { result ≡ set_of param values.now }
@@ -316,6 +325,7 @@ fn set(param: Param, values: &Job) -> Payload
     })
 }
 
+// The counts of a packed line.
 #[inline(always)]
 fn unpack_line(line: &PackedLine) -> Line
     ensures value { result ≡ line_of line.now }

@@ -1,9 +1,10 @@
 //! Segments: entries that several logs may share.
-ghost use Rattle.std.specs.Prelude.{◌≡◌, ◌++◌, ◌∷◌, [], ◌+◌, ◌*◌, ◌^◌, ◌<◌};
+ghost use Rattle.std.specs.Prelude.{◌≡◌, ◌++◌, ◌∷◌, [], ◌+◌, ◌*◌, ◌<◌};
 ghost use Rattle.std.specs.Prelude.{◌≤◌, length, take, drop, OnOk, OnErr, IfOk, IsTrue};
 ghost use Rattle.log_chain.specs.Segments.{entries_of_segment, entries_in, lengths, IsFit};
-ghost use Rattle.log_chain.specs.Blocks.{all_of};
+ghost use Rattle.sim_base.specs.Blocks.{of_blocks};
 ghost use Rattle.log_chain.specs.Packing.{FitWords};
+ghost use Rattle.log_chain.specs.declared.log.TheConstants.{MOST_ENTRIES};
 
 use crate::entry_list::EntryList;
 use sim_base::NoMemory;
@@ -14,7 +15,7 @@ use std::sync::Arc;
 pub type Segment = Arc<EntryList>;
 
 /// The same segments, shared with another log.
-pub fn shared(alloc: Global, segments: &[Segment]) -> Result<Vec<Segment>, NoMemory>
+pub fn share_segments(alloc: Global, segments: &[Segment]) -> Result<Vec<Segment>, NoMemory>
     ensures entries { IfOk result (λ v. entries_in v.items ≡ entries_in segments.now) }
     ensures lengths { IfOk result (λ v. lengths v.items ≡ lengths segments.now) }
 {
@@ -28,7 +29,7 @@ pub fn shared(alloc: Global, segments: &[Segment]) -> Result<Vec<Segment>, NoMem
 /// How many segments stay as they are when `size` entries come behind them, and how long the segment after those is,
 /// which takes in the others.
 pub fn place_behind(segments: &[Segment], size: usize) -> (usize, usize)
-    requires most { length (entries_in segments.now) + size ≤ 2 ^ 58 }
+    requires most { length (entries_in segments.now) + size ≤ MOST_ENTRIES }
     ensures within { result.0 ≤ length segments.now }
     ensures size { result.1 ≡ length (entries_in (drop result.0 segments.now)) + size }
     ensures fit { IsFit (lengths segments.now) result.0 result.1 }
@@ -43,13 +44,13 @@ pub fn place_behind(segments: &[Segment], size: usize) -> (usize, usize)
 }
 
 /// A new segment: the entries of the segments and then those of the blocks, `size` entries together.
-pub fn joined(
+pub fn join_segments(
     alloc: Global,
     size: usize,
     segments: &[Segment],
     blocks: &[EntryList],
 ) -> Result<Segment, NoMemory>
-    ensures value { IfOk result (λ s. entries_of_segment s ≡ entries_in segments.now ++ all_of blocks.now) }
+    ensures value { IfOk result (λ s. entries_of_segment s ≡ entries_in segments.now ++ of_blocks blocks.now) }
 {
     let mut list = EntryList::with_capacity(alloc, size)?;
     for segment in segments {

@@ -1,14 +1,16 @@
 //! One entry as a log stores it.
 ghost use Rattle.std.specs.Prelude.{◌≡◌};
 
-use crate::packed::{Packed, is_wide};
+use crate::packed::{PackedEntry, is_wide};
 use sim_base::{Entry, Key};
 
 /// An entry of a log as the log stores it: packed in 32 bytes, or whole where a number of it is too large. What writes
 /// a packed entry somewhere else reads it part by part, and never has the whole entry in memory.
 #[derive(Clone, Copy)]
 pub enum StoredEntry<'a> {
-    Packed(&'a Packed),
+    /// In 32 bytes.
+    Packed(&'a PackedEntry),
+    /// In the side list.
     Whole(&'a Entry),
 }
 
@@ -18,7 +20,7 @@ impl<'a> StoredEntry<'a> {
 
     /// The entry of a packed one; `wide` is the side list.
     #[inline(always)]
-    pub(crate) fn new(packed: &'a Packed, wide: &'a [Entry]) -> StoredEntry<'a>
+    pub(crate) fn new(packed: &'a PackedEntry, wide: &'a [Entry]) -> StoredEntry<'a>
         ensures value { entry_in result ≡ entry_of wide.now packed.now }
     {
         if is_wide(&packed.msg) && (packed.msg.count as usize) < wide.len() {

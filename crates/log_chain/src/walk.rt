@@ -1,12 +1,13 @@
 //! Walks along a log.
 ghost use Rattle.std.specs.Prelude.{◌≡◌, ◌++◌, ◌∷◌, [], ◌<◌, ◌≤◌, length, drop, IfSome, IfNone, option_map, slice_get};
-ghost use Rattle.log_chain.specs.Blocks.{all_of, AreBlocks};
+ghost use Rattle.sim_base.specs.Blocks.{of_blocks};
+ghost use Rattle.log_chain.specs.Blocks.{AreBlocks};
 ghost use Rattle.log_chain.specs.Segments.{entries_in};
 ghost use Rattle.log_chain.specs.Stored.{entry_in};
 
 use crate::blocks::BLOCK;
 use crate::entry_list::EntryList;
-use crate::packed::Packed;
+use crate::packed::PackedEntry;
 use crate::segments::Segment;
 use crate::stored::StoredEntry;
 use sim_base::{Entry, Key};
@@ -16,7 +17,7 @@ use std::marker::Model;
 #[derive(Drop)]
 pub struct Walk<'a> {
     // what is left of the part where the walk is
-    packed: &'a [Packed],
+    packed: &'a [PackedEntry],
     wide: &'a [Entry],
     // the parts after it
     segments: &'a [Segment],
@@ -31,13 +32,13 @@ impl<'a> Model for Walk<'a> {
     ghost use Rattle.sim_base.specs.declared.entry.Line.{Line};
     ghost use Rattle.sim_base.specs.declared.message.Msg.{Msg};
     ghost use Rattle.log_chain.specs.Packing.{entries_of};
-    ghost use Rattle.log_chain.specs.Blocks.{all_of};
+    ghost use Rattle.sim_base.specs.Blocks.{of_blocks};
     ghost use Rattle.log_chain.specs.Segments.{entries_in};
     ghost use Rattle.log_chain.specs.Walking.{HasEntryOrEnds};
 
     ghost Value = { List (Entry Msg Line) };
 
-    ghost view = { λ w. entries_of w.wide.now w.packed.now ++ (entries_in w.segments.now ++ all_of w.blocks.now) };
+    ghost view = { λ w. entries_of w.wide.now w.packed.now ++ (entries_in w.segments.now ++ of_blocks w.blocks.now) };
 
     ghost invariant = { λ w. HasEntryOrEnds w.packed.now w.segments.now w.blocks.now };
 }
@@ -70,7 +71,7 @@ impl<'a> Walk<'a> {
             self.ahead = bytes_ahead(rest);
         }
         if rest.is_empty() {
-            *self = along(self.segments, self.blocks);
+            *self = walk_along(self.segments, self.blocks);
         } else {
             self.packed = rest;
         }
@@ -89,7 +90,7 @@ impl<'a> Walk<'a> {
 
 // A byte of every second entry, eight to fourteen places on: two entries share a line of the processor's memory.
 #[inline(always)]
-fn bytes_ahead(rest: &[Packed]) -> u8 {
+fn bytes_ahead(rest: &[PackedEntry]) -> u8 {
     if rest.len() <= 14 {
         return 0;
     }
@@ -97,8 +98,8 @@ fn bytes_ahead(rest: &[Packed]) -> u8 {
 }
 
 /// A walk along all of the segments and blocks.
-pub fn along<'a>(segments: &'a [Segment], blocks: &'a [EntryList]) -> Walk<'a>
-    ensures value { result ≡ entries_in segments.now ++ all_of blocks.now }
+pub fn walk_along<'a>(segments: &'a [Segment], blocks: &'a [EntryList]) -> Walk<'a>
+    ensures value { result ≡ entries_in segments.now ++ of_blocks blocks.now }
 {
     for (i, segment) in segments.iter().enumerate() {
         let (packed, wide) = segment.entries();
@@ -112,11 +113,12 @@ pub fn along<'a>(segments: &'a [Segment], blocks: &'a [EntryList]) -> Walk<'a>
             };
         }
     }
-    along_blocks(blocks)
+    walk_along_blocks(blocks)
 }
 
-fn along_blocks<'a>(blocks: &'a [EntryList]) -> Walk<'a>
-    ensures value { result ≡ all_of blocks.now }
+// A walk along all of the blocks.
+fn walk_along_blocks<'a>(blocks: &'a [EntryList]) -> Walk<'a>
+    ensures value { result ≡ of_blocks blocks.now }
 {
     for (i, block) in blocks.iter().enumerate() {
         let (packed, wide) = block.entries();
@@ -136,7 +138,7 @@ fn along_blocks<'a>(blocks: &'a [EntryList]) -> Walk<'a>
 /// A walk from a place among the segments' entries on.
 pub fn from_segment<'a>(segments: &'a [Segment], blocks: &'a [EntryList], at: usize) -> Walk<'a>
     requires there { at < length (entries_in segments.now) }
-    ensures value { result ≡ drop at (entries_in segments.now ++ all_of blocks.now) }
+    ensures value { result ≡ drop at (entries_in segments.now ++ of_blocks blocks.now) }
 {
     let mut left = at;
     for (i, segment) in segments.iter().enumerate() {
@@ -158,7 +160,7 @@ pub fn from_segment<'a>(segments: &'a [Segment], blocks: &'a [EntryList], at: us
 /// A walk from a place among the blocks' entries on.
 pub fn from_block<'a>(blocks: &'a [EntryList], at: usize) -> Walk<'a>
     requires sizes { AreBlocks blocks.now }
-    ensures value { result ≡ drop at (all_of blocks.now) }
+    ensures value { result ≡ drop at (of_blocks blocks.now) }
 {
     let i = at / BLOCK;
     if i >= blocks.len() {
@@ -178,6 +180,7 @@ pub fn from_block<'a>(blocks: &'a [EntryList], at: usize) -> Walk<'a>
     }
 }
 
+// A walk at its end.
 fn at_end<'a>() -> Walk<'a>
     ensures value { result ≡ [] }
 {

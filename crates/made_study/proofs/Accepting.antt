@@ -20,23 +20,28 @@ use Rattle.sim_base.specs.Clones.{Clone, clones_with_plan, clone_at, place_of}
 use Rattle.decision_book.specs.declared.call.TheConstants.{MOST_CALLS}
 use Rattle.made_study.specs.Branches.{clones_of_plans, last_decisions, own_decision}
 use Rattle.made_study.specs.Nets.{made_net, made_sites, net_with, ward}
-use Rattle.made_study.specs.Numbers.{PLANS, wards, ward_name}
+use Rattle.made_study.specs.Numbers.{MOST_WARDS, PLANS, wards, ward_name}
 use Rattle.made_study.specs.Scripts.{fork_of_plan, made_script, plan_name, set_of_plan}
 
--- how things stand with these clones after so many calls, at a network with so many wards beside the first
-abbrev pub with_clones : ℕ → ℕ → List Clone → ℕ → Situation
-with_clones n others clones calls = record { net = net_with n (suc others); clones = clones; front = 0; calls = calls }
+-- ---- the situations between the plans
 
--- and after so many plans
-abbrev pub after_plans : ℕ → ℕ → ℕ → Situation
-after_plans n others count = with_clones n others (clones_of_plans count) (2 * count)
+-- the situation with these clones after so many calls, at a network with so many wards beside the first
+abbrev situation_with : ℕ → ℕ → List Clone → ℕ → Situation
+situation_with n others clones calls =
+    record { net = net_with n (suc others); clones = clones; front = 0; calls = calls }
 
--- both decisions of the next plan are accepted, and lead to how things stand after it
+-- the situation after so many plans
+abbrev situation_after : ℕ → ℕ → ℕ → Situation
+situation_after n others count = situation_with n others (clones_of_plans count) (2 * count)
+
+-- both decisions of the next plan are accepted, and lead to the situation after it
 record IsNextPlan (n others count : ℕ) : Type 0 where
-  fork : reply (after_plans n others count) (fork_of_plan (count + 1)) ≡ Accepted
-  set : reply (next (after_plans n others count) (fork_of_plan (count + 1))) (set_of_plan (count + 1)) ≡ Accepted
-  leads : next (next (after_plans n others count) (fork_of_plan (count + 1))) (set_of_plan (count + 1))
-      ≡ after_plans n others (count + 1)
+  fork : reply (situation_after n others count) (fork_of_plan (count + 1)) ≡ Accepted
+  set : reply (next (situation_after n others count) (fork_of_plan (count + 1))) (set_of_plan (count + 1)) ≡ Accepted
+  leads : next (next (situation_after n others count) (fork_of_plan (count + 1))) (set_of_plan (count + 1))
+      ≡ situation_after n others (count + 1)
+
+-- ---- reply and next
 
 -- the first ward is the third station
 first_ward : (n others : ℕ) → station_named (ward_name 1) (net_with n (suc others)) ≡ Some 3
@@ -58,8 +63,8 @@ set_accepted : (net : Net) (clones : List Clone) (calls c at : ℕ) (who station
     → nat_le net.horizon at ≡ false
     → nat_lt at 0 ≡ false
     → reply (record { net = net; clones = clones; front = 0; calls = calls }) (Set who at station change) ≡ Accepted
-set_accepted net clones calls c at who station change room begun there going found takes free early late =
-    rw (room, begun, there, going, found, takes, free, early, late) refl
+set_accepted net clones calls c at who station change left begun there going found takes free early late =
+    rw (left, begun, there, going, found, takes, free, early, late) refl
 
 -- no time is before 0
 not_late : (at : ℕ) → nat_lt at 0 ≡ false
@@ -80,31 +85,33 @@ set_leads : (net : Net) (clones : List Clone) (calls c at : ℕ) (who station : 
 set_leads net clones calls c at who station change accepted there found = rw (accepted, there, found) refl
 
 -- the clones between the two decisions of the next plan: it has what the plan has that it is a fork of
-abbrev pub clones_between : ℕ → List Clone
+abbrev clones_between : ℕ → List Clone
 clones_between count =
     clones_of_plans count
     ++ record { name = plan_name (count + 1); plans = last_decisions count ((count + 1) / 2); end = None } ∷ []
 
--- and how things stand there, after one call more
-abbrev pub between : ℕ → ℕ → ℕ → Situation
-between n others count = with_clones n others (clones_between count) (2 * count + 1)
+-- the situation with them, after one call more
+abbrev situation_between : ℕ → ℕ → ℕ → Situation
+situation_between n others count = situation_with n others (clones_between count) (2 * count + 1)
 
 -- the clones after both
-abbrev pub clones_after_set : ℕ → List Clone
+abbrev clones_after_set : ℕ → List Clone
 clones_after_set count = clones_with_plan (clones_between count) (count + 1) (own_decision (count + 1))
 
+-- ---- the next plan
+
 -- what is computed of the next plan: the fork is accepted and leads there, and the set meets no row of the table
-abbrev pub Facts : ℕ → ℕ → ℕ → Type 0
+abbrev Facts : ℕ → ℕ → ℕ → Type 0
 Facts n others count =
-    (reply (after_plans n others count) (fork_of_plan (count + 1)) ≡ Accepted)
-    × (next (after_plans n others count) (fork_of_plan (count + 1)) ≡ between n others count)
+    (reply (situation_after n others count) (fork_of_plan (count + 1)) ≡ Accepted)
+    × (next (situation_after n others count) (fork_of_plan (count + 1)) ≡ situation_between n others count)
     × (nat_le MOST_CALLS (2 * count + 1) ≡ false)
     × (place_of (plan_name (count + 1)) (clones_between count) ≡ Some (count + 1))
     × ((clone_at (clones_between count) (count + 1)).end ≡ None)
     × (accepts (ward (suc others) 1) (own_decision (count + 1)).change ≡ Ok tt)
     × (nat_le MOST_DECISIONS (length (clone_at (clones_between count) (count + 1)).plans) ≡ false)
     × (nat_le 5000 (100 * (count + 1)) ≡ false)
-    × (with_clones n others (clones_after_set count) (2 * count + 1 + 1) ≡ after_plans n others (count + 1))
+    × (situation_with n others (clones_after_set count) (2 * count + 1 + 1) ≡ situation_after n others (count + 1))
 
 -- they hold of each plan, whatever the number and however many wards there are
 facts : (n others : ℕ) → AllByRecursion (Facts n others) (range_with_len 0 PLANS)
@@ -161,7 +168,7 @@ facts n others = (
 
 -- so both decisions of the next plan are accepted
 is_next : (n others count : ℕ) → Facts n others count → IsNextPlan n others count
-is_next n others count (fork, forks, room, there, going, takes, free, early, adds) =
+is_next n others count (fork, forks, left, there, going, takes, free, early, adds) =
     let net = net_with n (suc others) in
     let clones = clones_between count in
     let who = plan_name (count + 1) in
@@ -170,10 +177,11 @@ is_next n others count (fork, forks, room, there, going, takes, free, early, add
     let calls = 2 * count + 1 in
     let found = first_ward n others in
     let late = not_late at in
-    let set : reply (between n others count) (set_of_plan (count + 1)) ≡ Accepted =
-    set_accepted net clones calls (count + 1) at who (ward_name 1) change room refl there going found takes free early
+    let set : reply (situation_between n others count) (set_of_plan (count + 1)) ≡ Accepted =
+    set_accepted net clones calls (count + 1) at who (ward_name 1) change left refl there going found takes free early
     late in
-    let leads : next (between n others count) (set_of_plan (count + 1)) ≡ after_plans n others (count + 1) =
+    let leads : next (situation_between n others count) (set_of_plan (count + 1))
+    ≡ situation_after n others (count + 1) =
     set_leads net clones calls (count + 1) at who (ward_name 1) change set there found ∙ adds in
     record {
       fork = fork;
@@ -181,8 +189,10 @@ is_next n others count (fork, forks, room, there, going, takes, free, early, add
       leads = ap (λ s. next s (set_of_plan (count + 1))) forks ∙ leads;
     }
 
+-- ---- first_refusal and after_all
+
 -- the decisions of so many plans, from one on
-abbrev pub decisions_of_plans : ℕ → ℕ → List Decision
+abbrev decisions_of_plans : ℕ → ℕ → List Decision
 decisions_of_plans first count = flat_map (λ j. fork_of_plan j ∷ set_of_plan j ∷ []) (range_with_len first count)
 
 -- two decisions that are accepted are no refusals
@@ -196,41 +206,43 @@ first_refusal_from-Accepted s place d e ds first second =
 
 -- so none of the plans from here on is refused
 none_refused : (n others before count place : ℕ) → AllByRecursion (Facts n others) (range_with_len before count)
-    → first_refusal_from (after_plans n others before) place (decisions_of_plans (before + 1) count) ≡ None
+    → first_refusal_from (situation_after n others before) place (decisions_of_plans (before + 1) count) ≡ None
 none_refused n others before zero place plans = refl
 none_refused n others before (suc count) place (made, plans) =
     let plan = is_next n others before made in
     let further = decisions_of_plans (before + 1 + 1) count in
-    first_refusal_from-Accepted (after_plans n others before) place (fork_of_plan (before + 1))
+    first_refusal_from-Accepted (situation_after n others before) place (fork_of_plan (before + 1))
     (set_of_plan (before + 1)) further plan.fork plan.set
     ∙ ap (λ s. first_refusal_from s (place + 1 + 1) further) plan.leads
     ∙ none_refused n others (before + 1) count (place + 1 + 1) plans
 
 -- and they leave the clones of all plans
 all_lead : (n others before count : ℕ) → AllByRecursion (Facts n others) (range_with_len before count)
-    → after_all (after_plans n others before) (decisions_of_plans (before + 1) count) ≡ after_plans n others
+    → after_all (situation_after n others before) (decisions_of_plans (before + 1) count) ≡ situation_after n others
     (before + count)
-all_lead n others before zero plans = ap (after_plans n others) (omega arith)
+all_lead n others before zero plans = ap (situation_after n others) (omega arith)
 all_lead n others before (suc count) (made, plans) =
     let plan = is_next n others before made in
     let further = decisions_of_plans (before + 1 + 1) count in
     let e : before + 1 + count ≡ before + suc count = omega arith in
     ap (λ s. after_all s further) plan.leads
     ∙ all_lead n others (before + 1) count plans
-    ∙ ap (after_plans n others) e
+    ∙ ap (situation_after n others) e
 
--- the number of wards is at least one
-wards_of : (n : ℕ) → suc (n % 8) ≡ wards n
+-- ---- the made networks
+
+-- the number of wards is 1 or more
+wards_of : (n : ℕ) → suc (n % MOST_WARDS) ≡ wards n
 wards_of n = omega arith
 
 -- no decision of the made script is refused
 pub all_accepted : (n : ℕ) → first_refusal (made_net n) (decisions made_script.items) ≡ None
 all_accepted n =
     subst (λ count. first_refusal (net_with n count) (decisions made_script.items) ≡ None) (wards_of n)
-    (none_refused n (n % 8) 0 PLANS 0 (facts n (n % 8)))
+    (none_refused n (n % MOST_WARDS) 0 PLANS 0 (facts n (n % MOST_WARDS)))
 
 -- and it leaves a clone for each plan
 pub clones_left : (n : ℕ) → lists_of (made_net n) (decisions made_script.items) ≡ clones_of_plans PLANS
 clones_left n =
     subst (λ count. lists_of (net_with n count) (decisions made_script.items) ≡ clones_of_plans PLANS) (wards_of n)
-    (ap (λ s. s.clones) (all_lead n (n % 8) 0 PLANS (facts n (n % 8))))
+    (ap (λ s. s.clones) (all_lead n (n % MOST_WARDS) 0 PLANS (facts n (n % MOST_WARDS))))

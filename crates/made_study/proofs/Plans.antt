@@ -6,6 +6,8 @@ use Rattle.decision_script.specs.Printing.{canonical_text, line_text, words_of_d
 use Rattle.made_study.specs.Numbers.{PLANS}
 use Rattle.made_study.specs.Scripts.{fork_of_plan, made_script, set_of_plan}
 
+-- ---- canonical_text
+
 -- a one as it is written
 decimal_one : decimal 1 ≡ codes "1"
 unfolding digits
@@ -20,8 +22,10 @@ pub plans_are_canonical : flat_map plan_text (range_with_len 1 PLANS) ≡ canoni
 unfolding canonical_text digits
 plans_are_canonical = refl
 
+-- ---- line_text
+
 -- the words of a set, where its numbers are written as a, b, c, d and e
-abbrev pub words_of_set : List ℕ → List ℕ → List ℕ → List ℕ → List ℕ → List (List ℕ)
+abbrev words_of_set : List ℕ → List ℕ → List ℕ → List ℕ → List ℕ → List (List ℕ)
 words_of_set a b c d e =
     codes "set" ∷ (codes "plan" ++ a) ∷ codes "at" ∷ b ∷ (codes "ward" ++ c) ∷ codes "service" ∷ d ∷ e ∷ []
 

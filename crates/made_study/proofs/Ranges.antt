@@ -4,6 +4,8 @@ use Rattle.std.specs.List.{flat_map, join_by, range_with_len}
 use Rattle.std.proofs.lemmas.Grind.{flat_map-append}
 
 -- ---- range_with_len
+
+-- one number more comes last
 range-more : (a k : ℕ) → range_with_len a (suc k) ≡ range_with_len a k ++ (a + k) ∷ []
 range-more a zero = ap (λ x. x ∷ []) (omega arith)
 range-more a (suc k) =
@@ -11,6 +13,8 @@ range-more a (suc k) =
     ap (λ xs. a ∷ xs) (range-more (a + 1) k ∙ ap (λ x. range_with_len (a + 1) k ++ x ∷ []) e)
 
 -- ---- flat_map
+
+-- and so does its text
 flat_map-more : {A : Type 0} (f : ℕ → List A) (a k : ℕ)
     → flat_map f (range_with_len a (suc k)) ≡ flat_map f (range_with_len a k) ++ f (a + k)
 flat_map-more f a k =
@@ -30,6 +34,7 @@ texts-more f a i l =
     ∙ ap (λ x. flat_map f (range_with_len a (i - a)) ++ f x) last
 
 -- ---- join_by
+
 -- the first of some texts, and then each further one after what separates them
 pub join_by-range : {A : Type 0} (f : ℕ → List A) (between : List A) (n : ℕ)
     → 1 ≤ n

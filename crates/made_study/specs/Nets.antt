@@ -2,6 +2,7 @@
 use Rattle.std.specs.Prelude.{ℕ, ◌+◌, List, [], ◌∷◌, ◌++◌, codes, map, false}
 use Rattle.std.specs.List.{range_with_len}
 use Rattle.net_model.specs.declared.station.Kind.TheVariants.{Source, Server, Delay, Router, Sink}
+use Rattle.net_model.specs.declared.limits.TheConstants.{USUAL_LIMIT}
 use Rattle.net_model.specs.declared.station.Link.{Link}
 use Rattle.net_model.specs.Net.{Net, Site}
 use Rattle.made_study.specs.Numbers.{longest_gap, longest_service, ward_name, ward_servers, wards}
@@ -56,7 +57,7 @@ net_with n count = record {
   lookahead = 2;
   horizon = 5000;
   seed = n;
-  limit = 16384;
+  limit = USUAL_LIMIT;
   sites = made_sites n count;
 }
 

@@ -9,9 +9,13 @@ PLANS = 16
 abbrev pub longest_gap : ℕ → ℕ
 longest_gap n = 1 + n % 5
 
+-- how many wards there are at most
+abbrev pub MOST_WARDS : ℕ
+MOST_WARDS = 8
+
 -- how many wards there are
 abbrev pub wards : ℕ → ℕ
-wards n = 1 + n % 8
+wards n = 1 + n % MOST_WARDS
 
 -- how many jobs the ward of this number serves at a time
 abbrev pub ward_servers : ℕ → ℕ

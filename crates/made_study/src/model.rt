@@ -9,13 +9,16 @@ use sim_base::NoMemory;
 use std::alloc::Global;
 use std::fmt::Write;
 
+// How many wards a made model has at most.
+const MOST_WARDS: u32 = 8;
+
 // How many wards there are.
 fn ward_count(n: u32) -> u32
     ensures value { result ≡ wards n }
     ensures some { 1 ≤ result }
-    ensures few { result ≤ 8 }
+    ensures few { result ≤ MOST_WARDS }
 {
-    1 + n % 8
+    1 + n % MOST_WARDS
 }
 
 fn write_top(text: &mut String, n: u32) -> Result<(), NoMemory>
@@ -46,7 +49,7 @@ fn write_way(text: &mut String, i: u32) -> Result<(), NoMemory>
 // The ways to all wards.
 fn write_ways(text: &mut String, wards: u32) -> Result<(), NoMemory>
     requires some { 1 ≤ wards }
-    requires few { wards ≤ 8 }
+    requires few { wards ≤ MOST_WARDS }
     ensures value { OnOk result (string_bytes text.new ≡
         string_bytes text.old ++ join_by way_text (codes ", ") (range_with_len 1 wards)) }
 {
@@ -60,7 +63,7 @@ fn write_ways(text: &mut String, wards: u32) -> Result<(), NoMemory>
 
 fn write_triage(text: &mut String, wards: u32) -> Result<(), NoMemory>
     requires some { 1 ≤ wards }
-    requires few { wards ≤ 8 }
+    requires few { wards ≤ MOST_WARDS }
     ensures value { OnOk result (string_bytes text.new ≡ string_bytes text.old ++ triage_text wards) }
 {
     text.push_str("[[station]]\nname = \"triage\"\nkind = \"router\"\nby = \"weights\"\nlink = [")?;
@@ -70,7 +73,7 @@ fn write_triage(text: &mut String, wards: u32) -> Result<(), NoMemory>
 }
 
 fn write_ward(text: &mut String, i: u32) -> Result<(), NoMemory>
-    requires few { i ≤ 8 }
+    requires few { i ≤ MOST_WARDS }
     ensures value { OnOk result (string_bytes text.new ≡ string_bytes text.old ++ ward_text i) }
 {
     let servers = 1 + i % 3;
@@ -85,7 +88,7 @@ fn write_ward(text: &mut String, i: u32) -> Result<(), NoMemory>
 }
 
 fn write_wards(text: &mut String, wards: u32) -> Result<(), NoMemory>
-    requires few { wards ≤ 8 }
+    requires few { wards ≤ MOST_WARDS }
     ensures value { OnOk result (string_bytes text.new ≡
         string_bytes text.old ++ flat_map ward_text (range_with_len 1 wards)) }
 {

@@ -7,6 +7,7 @@ use sim_base::NoMemory;
 use std::alloc::Global;
 use std::fmt::Write;
 
+// How many plans every made script has.
 const PLANS: u32 = 16;
 
 // What a plan is a fork of.
@@ -33,7 +34,7 @@ fn write_fork(text: &mut String, j: u32) -> Result<(), NoMemory>
 }
 
 fn write_set(text: &mut String, j: u32) -> Result<(), NoMemory>
-    requires few { j ≤ 16 }
+    requires few { j ≤ PLANS }
     ensures value { OnOk result (string_bytes text.new ≡
         string_bytes text.old ++ line_text (words_of_decision (set_of_plan j))) }
 {

@@ -8,6 +8,8 @@ use Rattle.mailbox.specs.declared.mail.MailView.TheVariants.{Holding, Sent, Idle
 use Rattle.mailbox.specs.Mail.{Slot, Hand, letter_of, HasUndone, HasCollected, HasTaken}
 
 module _ {T A : Type 0} where
+  -- ---- the slot
+
   -- a seat with the slot, once it has exchanged what lies there
   pub put_in : (m m' : Hand T A) (v : MailView T) (x y : Slot T A) → m ≡ (v, (0, x) ∷ [])
       → m' ≡ (m.0, (0, y) ∷ rest m.1) → m' ≡ (v, (0, y) ∷ [])
@@ -17,6 +19,8 @@ module _ {T A : Type 0} where
   pub has_slot : (m : Hand T A) (v : MailView T) (x : Slot T A) → m ≡ (v, (0, x) ∷ [])
       → (y : Slot T A) × (m.1 ≡ (0, y) ∷ rest m.1)
   has_slot m v x is = (x, subst (λ (h : Hand T A). h.1 ≡ (0, x) ∷ rest h.1) (sym is) refl)
+
+  -- ---- HasUndone, HasTaken, HasCollected
 
   -- where the step found that the task waited still, the caller has its letter back
   pub HasUndone-hit : (m m' : Hand T A) (n : ℕ) (x : T) → m ≡ (Sent x, []) → HasUndone m n m' → n ≡ WAITS

@@ -8,6 +8,8 @@ use Rattle.std.proofs.lemmas.List.Elements.{All-from_recursion, All-weaker}
 use Rattle.std.proofs.lemmas.Bool.{ne_eqb, eqb-false}
 use Rattle.std.proofs.lemmas.Map.Keys.{IsStrictlyIncreasing-from_sorted}
 use Rattle.std.specs.Cmp.{nat_cmp_is}
+use Rattle.sim_base.proofs.Elements.{contains_tail}
+use Rattle.sim_base.proofs.ListLaws.{all_weaker}
 use Rattle.clone_sets.specs.Sets.{empty, meet}
 use Rattle.msg_route.specs.Routing.{part_for, parts_of, meet_at, IsShared, IsCut}
 use Rattle.msg_route.specs.declared.parts.Part.{Part}
@@ -17,7 +19,7 @@ module _ (s : ℕ) where
   abbrev parts_from : ℕ → List ℕ → List Part
   parts_from n rs = filter_map (part_for s) (enumerate_from n rs)
 
-  -- a part at the front, unless the meet is empty
+  -- a part at the head, unless the meet is empty
   abbrev part_before : Bool → ℕ → ℕ → List Part → List Part
   part_before none n set parts =
       cons_option (option_map (λ k. record { receiver = n; set = k }) (if none then None else Some set)) parts
@@ -30,20 +32,18 @@ module _ (s : ℕ) where
     set : p.set ≡ meet_at s rs i
     some : p.set ≢ empty
 
+  -- ---- Among
+
   -- a part of later receivers is one of all
   among_later : (n r : ℕ) (rs : List ℕ) (parts : List Part)
       → AllByRecursion (Among (n + 1) rs) parts → AllByRecursion (Among n (r ∷ rs)) parts
-  among_later n r rs [] h = tt
-  among_later n r rs (p ∷ ps) h = (
-    record {
-      i = suc h.0.i;
-      there = omega (arith, h.0.there);
-      number = omega (arith, h.0.number);
-      set = h.0.set;
-      some = h.0.some;
-    },
-    among_later n r rs ps h.1,
-  )
+  among_later n r rs parts h = all_weaker (Among (n + 1) rs) (Among n (r ∷ rs)) parts (λ p f. record {
+    i = suc f.i;
+    there = omega (arith, f.there);
+    number = omega (arith, f.number);
+    set = f.set;
+    some = f.some;
+  }) h
 
   -- a part that is not empty is that of the first receiver
   among_before : (b : Bool) (n r : ℕ) (rs : List ℕ) (parts : List Part)
@@ -60,15 +60,13 @@ module _ (s : ℕ) where
       among_before (meet s r == empty) n r rs (parts_from (n + 1) rs) (eqb-false (meet s r) empty)
       (among_later n r rs (parts_from (n + 1) rs) (among_parts (n + 1) rs))
 
-  -- what a list has, a longer one has
-  contains_later : (p q : Part) (ps : List Part) → Contains ps p → Contains (q ∷ ps) p
-  contains_later p q ps h = (suc h.0, omega (arith, h.1), h.2)
+  -- ---- Contains
 
-  -- also where the longer one may be the same
+  -- what a list has, it has with a part before it that may be none
   contains_before : (b : Bool) (n set : ℕ) (p : Part) (ps : List Part) → Contains ps p
       → Contains (part_before b n set ps) p
   contains_before true n set p ps h = h
-  contains_before false n set p ps h = contains_later p _ ps h
+  contains_before false n set p ps h = contains_tail _ p ps h
 
   -- the first part is there unless it is empty
   contains_first : (b : Bool) (n set : ℕ) (ps : List Part)
@@ -90,6 +88,8 @@ module _ (s : ℕ) where
       subst (λ k. Contains (parts_from n (r ∷ rs)) (record { receiver = k; set = meet_at s rs i })) e
       (contains_before (meet s r == empty) n (meet s r) _ (parts_from (n + 1) rs)
       (contains_part (n + 1) rs i (omega arith) some))
+
+  -- ---- IsStrictlySortedBy
 
   -- the numbers of the parts' receivers
   abbrev numbers : List Part → List ℕ
@@ -120,6 +120,8 @@ module _ (s : ℕ) where
   rising_parts n (r ∷ rs) =
       rising_before (meet s r == empty) n (meet s r) (parts_from (n + 1) rs)
       (above_later n rs (parts_from (n + 1) rs) (among_parts (n + 1) rs)) (rising_parts (n + 1) rs)
+
+  -- ---- IsCut
 
   -- a part of the receiver at a place is what they share
   shared_from : (rs : List ℕ) (p : Part) → Among 0 rs p → IsShared s rs p

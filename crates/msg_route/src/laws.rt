@@ -2,7 +2,7 @@
 ghost use Rattle.msg_route.specs.Laws.{TakenAreForClone, GroupIsTaken, PartsAreElements};
 
 /// What a clone takes of marked messages, said by this crate's words and by those of the laws of runs.
-pub fn taking()
+pub fn clones_take_their_messages()
     ensures taken { TakenAreForClone }
     ensures grouped { GroupIsTaken }
     ensures parts { PartsAreElements }

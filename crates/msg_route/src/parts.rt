@@ -11,6 +11,7 @@ use std::alloc::Global;
 pub struct Part {
     /// Its place among the receiver's copies.
     pub receiver: u32,
+    /// The clones that it shares with the senders.
     pub set: CloneSet,
 }
 

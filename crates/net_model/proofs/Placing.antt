@@ -1,13 +1,14 @@
 -- Stations by their numbers and names, in the model and in the network that it is.
 use Rattle.std.proofs.Common.{◌≡◌, ℕ, zero, suc, ◌+◌, ◌-◌, ◌≤◌, List, map}
-use Rattle.std.proofs.Common.{Some, slice_get, option_map, position, not, refl, ap, ◌∙◌, arith}
+use Rattle.std.proofs.Common.{Some, slice_get, option_map, position, ap, ◌∙◌, arith}
 use Rattle.std.specs.Str.{bytes_eq}
-use Rattle.std.proofs.lemmas.List.{length-map}
 use Rattle.std.proofs.lemmas.Option.{slice_get-map}
-use Rattle.sim_base.proofs.ListLaws.{prefix_len-map}
+use Rattle.sim_base.proofs.ListLaws.{position-map}
 use Rattle.net_model.specs.declared.station.Station.{Station}
 use Rattle.net_model.specs.Net.{Net, site_at, station_named}
 use Rattle.net_model.specs.Sites.{as_site}
+
+-- ---- site_at
 
 module _ (net : Net) (stations : List Station) (seen : net.sites ≡ map as_site stations) where
   -- the station of a number is the model's station before it, counted from 0
@@ -19,13 +20,15 @@ module _ (net : Net) (stations : List Station) (seen : net.sites ≡ map as_site
       ap (λ sites. slice_get sites i) seen
       ∙ (slice_get-map as_site stations i ∙ ap (option_map as_site) (rw same at is))
 
--- the first station of a name
-pub seen_place : (name : List ℕ) (stations : List Station)
+-- ---- station_named
+
+-- the first station of a name has the same place in the model and in the network
+seen_place : (name : List ℕ) (stations : List Station)
     → position (λ site. bytes_eq site.name name) (map as_site stations) ≡ position
     (λ station. bytes_eq station.name name) stations
-seen_place name stations = rw (length-map, prefix_len-map (λ site. not (bytes_eq site.name name)) as_site stations) refl
+seen_place name stations = position-map (λ site. bytes_eq site.name name) as_site stations
 
--- its number
+-- and so its number is that place, counted from 1
 pub seen_number : (net : Net) (stations : List Station) (name : List ℕ) → net.sites ≡ map as_site stations
     → station_named name net ≡ option_map (λ i. i + 1) (position (λ station. bytes_eq station.name name) stations)
 seen_number net stations name seen =

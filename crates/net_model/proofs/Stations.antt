@@ -3,7 +3,7 @@ use Rattle.std.proofs.Common.{◌≡◌, ◌≢◌, refl, ap, sym, ◌∙◌, su
 use Rattle.std.proofs.Common.{codes, if◌then◌else◌, List, [], ◌∷◌, ◌++◌, length, map, Option, Some, None, Ok, arith}
 use Rattle.std.specs.List.{AllByRecursion, IsDistinct}
 use Rattle.std.specs.Str.{bytes_eq}
-use Rattle.std.proofs.lemmas.Bool.{false≢true, or_parts}
+use Rattle.std.proofs.lemmas.Bool.{false≢true, or_parts, ltb-false}
 use Rattle.std.proofs.lemmas.List.Folds.{list_any-append}
 use Rattle.std.proofs.lemmas.Map.Keys.{IsDistinct-cons}
 use Rattle.std.proofs.lemmas.Slice.Eq.{bytes_eq-Decides}
@@ -28,52 +28,57 @@ use Rattle.net_model.specs.Kinds.{known_word, order_at, router_of, server_of, so
 use Rattle.net_model.specs.NamedLinks.{few_enough, each_link, link_of, link_tables, links_of}
 use Rattle.net_model.specs.Reading.{integer_at, name_at, span_at, tables_of, text_at}
 use Rattle.net_model.specs.Net.{is_sink}
-use Rattle.net_model.specs.Rules.{IsKind, IsOfFormat1}
-use Rattle.net_model.proofs.Bounds.{le_of_not, name_is, if-Err, required_bounds}
-use Rattle.net_model.proofs.Bounds.{Ok-injective, span_bounds, usual_bounds}
+use Rattle.net_model.specs.Rules.{IsKind, IsOfFormat1, IsWeight}
+use Rattle.net_model.proofs.Bounds.{if-Err, Ok-injective, integer_at-required, integer_at-usual}
+use Rattle.net_model.proofs.Bounds.{name_at-is_name, span_at-IsRange}
 use Rattle.sim_base.proofs.Chain.{bind-Ok}
 use Rattle.net_model.specs.declared.limits.TheConstants.{MOST_CLASS, MOST_JOBS, MOST_LINKS, MOST_ROOM}
 use Rattle.net_model.specs.declared.limits.TheConstants.{MOST_SEED, MOST_SERVERS, MOST_TIME, MOST_WEIGHT}
 
--- classes and orders
-class_cases : (place : ℕ) (d : Data) (n : ℕ) (b : Bool)
-    → (if b then Ok 1 else integer_at place Class 1 MOST_CLASS (Some 1) d) ≡ Ok n
-    → (1 ≤ n) × (n ≤ 4) × (b ≡ true → n ≡ 1)
-class_cases place d n true h = let same = Ok-injective 1 n h in
+-- ---- kind_of
+
+-- a class that is read is in its range, and 1 in format 1, by the test of the format
+class_at-cases : (station : ℕ) (d : Data) (n : ℕ) (b : Bool)
+    → (if b then Ok 1 else integer_at station Class 1 MOST_CLASS (Some 1) d) ≡ Ok n
+    → (1 ≤ n) × (n ≤ MOST_CLASS) × (b ≡ true → n ≡ 1)
+class_at-cases station d n true h = let same = Ok-injective 1 n h in
     (omega (arith, same), omega (arith, same), λ _. sym same)
-class_cases place d n false h =
-    let (low, high) = usual_bounds place Class 1 MOST_CLASS 1 d n (omega arith) (omega arith) h in
+class_at-cases station d n false h =
+    let (low, high) = integer_at-usual station Class 1 MOST_CLASS 1 d n (omega arith) (omega arith) h in
     (low, high, λ e. absurd (false≢true e))
 
-order_cases : (place : ℕ) (d : Data) (x : Bool) (b : Bool)
-    → (if b then Ok false else found_order place (get (key_of Order) d)) ≡ Ok x → b ≡ true → x ≡ false
-order_cases place d x true h e = sym (Ok-injective false x h)
-order_cases place d x false h e = absurd (false≢true e)
+-- and an order that is read is by arrival in format 1
+order_at-cases : (station : ℕ) (d : Data) (x : Bool) (b : Bool)
+    → (if b then Ok false else found_order station (get (key_of Order) d)) ≡ Ok x → b ≡ true → x ≡ false
+order_at-cases station d x true h e = sym (Ok-injective false x h)
+order_at-cases station d x false h e = absurd (false≢true e)
 
+-- the word of a sink
 abbrev is_sink_word : KindWord → Bool
 is_sink_word SinkWord = true
 is_sink_word _ = false
 
--- what a station does
+-- what a station does keeps to the rules, and is a sink's or not
 abbrev KindHolds : ℕ → Bool → Kind → Type 0
 KindHolds format sink kind = IsKind kind × (format ≡ 1 → IsOfFormat1 kind) × (is_sink kind ≡ sink)
 
-source_holds : (format place : ℕ) (d : Data) (kind : Kind) → source_of format place d ≡ Ok kind
+-- so does a source that is read
+source_of-holds : (format station : ℕ) (d : Data) (kind : Kind) → source_of format station d ≡ Ok kind
     → KindHolds format false kind
-source_holds format place d kind h =
-    let (every, e1, h1) = bind-Ok (span_at place Every 1 d)
-    (λ every. integer_at place Jobs 0 MOST_JOBS None d >>=
-    (λ jobs. class_at format place d >>= (λ class. Ok (Source every.lo every.hi jobs class)))) kind h in
-    let (jobs, e2, h2) = bind-Ok (integer_at place Jobs 0 MOST_JOBS None d)
-    (λ jobs. class_at format place d >>= (λ class. Ok (Source every.lo every.hi jobs class))) kind h1 in
-    let (class, e3, h3) = bind-Ok (class_at format place d) (λ class. Ok (Source every.lo every.hi jobs class)) kind
+source_of-holds format station d kind h =
+    let (every, e1, h1) = bind-Ok (span_at station Every 1 d)
+    (λ every. integer_at station Jobs 0 MOST_JOBS None d >>=
+    (λ jobs. class_at format station d >>= (λ class. Ok (Source every.lo every.hi jobs class)))) kind h in
+    let (jobs, e2, h2) = bind-Ok (integer_at station Jobs 0 MOST_JOBS None d)
+    (λ jobs. class_at format station d >>= (λ class. Ok (Source every.lo every.hi jobs class))) kind h1 in
+    let (class, e3, h3) = bind-Ok (class_at format station d) (λ class. Ok (Source every.lo every.hi jobs class)) kind
     h2 in
-    let bounds = class_cases place d class (format == 1) e3 in
+    let bounds = class_at-cases station d class (format == 1) e3 in
     let does : Kind = Source every.lo every.hi jobs class in
     subst (λ (k : Kind). KindHolds format false k) {x = does} (Ok-injective does kind h3) (
       record {
-        every = span_bounds place Every 1 d every e1;
-        few = (required_bounds place Jobs 0 MOST_JOBS d jobs e2).1;
+        every = span_at-IsRange station Every 1 d every e1;
+        few = (integer_at-required station Jobs 0 MOST_JOBS d jobs e2).1;
         first = bounds.0;
         last = bounds.1;
       },
@@ -81,126 +86,144 @@ source_holds format place d kind h =
       refl {a = false},
     )
 
-server_holds : (format place : ℕ) (d : Data) (kind : Kind) → server_of format place d ≡ Ok kind
+-- a server
+server_of-holds : (format station : ℕ) (d : Data) (kind : Kind) → server_of format station d ≡ Ok kind
     → KindHolds format false kind
-server_holds format place d kind h =
-    let (servers, e1, h1) = bind-Ok (integer_at place Servers 1 MOST_SERVERS None d)
-    (λ servers. integer_at place Room 0 MOST_ROOM None d >>=
-    (λ room. span_at place Service 1 d >>=
-    (λ service. order_at format place d >>=
+server_of-holds format station d kind h =
+    let (servers, e1, h1) = bind-Ok (integer_at station Servers 1 MOST_SERVERS None d)
+    (λ servers. integer_at station Room 0 MOST_ROOM None d >>=
+    (λ room. span_at station Service 1 d >>=
+    (λ service. order_at format station d >>=
     (λ by_class. Ok (Server servers room service.lo service.hi by_class))))) kind h in
-    let (room, e2, h2) = bind-Ok (integer_at place Room 0 MOST_ROOM None d)
-    (λ room. span_at place Service 1 d >>=
-    (λ service. order_at format place d >>=
+    let (room, e2, h2) = bind-Ok (integer_at station Room 0 MOST_ROOM None d)
+    (λ room. span_at station Service 1 d >>=
+    (λ service. order_at format station d >>=
     (λ by_class. Ok (Server servers room service.lo service.hi by_class)))) kind h1 in
-    let (service, e3, h3) = bind-Ok (span_at place Service 1 d)
-    (λ service. order_at format place d >>= (λ by_class. Ok (Server servers room service.lo service.hi by_class)))
+    let (service, e3, h3) = bind-Ok (span_at station Service 1 d)
+    (λ service. order_at format station d >>= (λ by_class. Ok (Server servers room service.lo service.hi by_class)))
     kind h2 in
-    let (by_class, e4, h4) = bind-Ok (order_at format place d)
+    let (by_class, e4, h4) = bind-Ok (order_at format station d)
     (λ by_class. Ok (Server servers room service.lo service.hi by_class)) kind h3 in
-    let bounds = required_bounds place Servers 1 MOST_SERVERS d servers e1 in
+    let bounds = integer_at-required station Servers 1 MOST_SERVERS d servers e1 in
     let does : Kind = Server servers room service.lo service.hi by_class in
     subst (λ (k : Kind). KindHolds format false k) {x = does} (Ok-injective does kind h4) (
       record {
         some = bounds.0;
         few = bounds.1;
-        small = (required_bounds place Room 0 MOST_ROOM d room e2).1;
-        service = span_bounds place Service 1 d service e3;
+        small = (integer_at-required station Room 0 MOST_ROOM d room e2).1;
+        service = span_at-IsRange station Service 1 d service e3;
       },
-      λ one. order_cases place d by_class (format == 1) e4 (eq-eqb format 1 one),
+      λ one. order_at-cases station d by_class (format == 1) e4 (eq-eqb format 1 one),
       refl {a = false},
     )
 
-delay_holds : (format place : ℕ) (d : Data) (kind : Kind) → delay_of place d ≡ Ok kind → KindHolds format false kind
-delay_holds format place d kind h =
-    let (hold, e1, h1) = bind-Ok (span_at place Hold 0 d) (λ hold. Ok (Delay hold.lo hold.hi)) kind h in
+-- a delay
+delay_of-holds : (format station : ℕ) (d : Data) (kind : Kind) → delay_of station d ≡ Ok kind
+    → KindHolds format false kind
+delay_of-holds format station d kind h =
+    let (hold, e1, h1) = bind-Ok (span_at station Hold 0 d) (λ hold. Ok (Delay hold.lo hold.hi)) kind h in
     let does : Kind = Delay hold.lo hold.hi in
     subst (λ (k : Kind). KindHolds format false k) {x = does} (Ok-injective does kind h1)
-    (span_bounds place Hold 0 d hold e1, λ _. tt, refl {a = false})
+    (span_at-IsRange station Hold 0 d hold e1, λ _. tt, refl {a = false})
 
-router_holds : (format place : ℕ) (d : Data) (kind : Kind) → router_of place d ≡ Ok kind → KindHolds format false kind
-router_holds format place d kind h =
-    let (text, e1, h1) = bind-Ok (text_at place By d)
-    (λ text. known_word place By (by_word text) >>= (λ turn. Ok (Router turn))) kind h in
-    let (turn, e2, h2) = bind-Ok (known_word place By (by_word text)) (λ turn. Ok (Router turn)) kind h1 in
+-- a router
+router_of-holds : (format station : ℕ) (d : Data) (kind : Kind) → router_of station d ≡ Ok kind
+    → KindHolds format false kind
+router_of-holds format station d kind h =
+    let (text, e1, h1) = bind-Ok (text_at station By d)
+    (λ text. known_word station By (by_word text) >>= (λ turn. Ok (Router turn))) kind h in
+    let (turn, e2, h2) = bind-Ok (known_word station By (by_word text)) (λ turn. Ok (Router turn)) kind h1 in
     let does : Kind = Router turn in
     subst (λ (k : Kind). KindHolds format false k) {x = does} (Ok-injective does kind h2)
     (tt, λ _. tt, refl {a = false})
 
-kind_holds : (format place : ℕ) (word : KindWord) (d : Data) (kind : Kind) → kind_of format place word d ≡ Ok kind
-    → KindHolds format (is_sink_word word) kind
-kind_holds format place SourceWord d kind h = source_holds format place d kind h
-kind_holds format place ServerWord d kind h = server_holds format place d kind h
-kind_holds format place DelayWord d kind h = delay_holds format place d kind h
-kind_holds format place RouterWord d kind h = router_holds format place d kind h
-kind_holds format place SinkWord d kind h = subst (λ (k : Kind). KindHolds format true k) (Ok-injective Sink kind h)
-    (tt, λ _. tt, refl)
+-- a station of any kind
+kind_of-holds : (format station : ℕ) (word : KindWord) (d : Data) (kind : Kind)
+    → kind_of format station word d ≡ Ok kind → KindHolds format (is_sink_word word) kind
+kind_of-holds format station SourceWord d kind h = source_of-holds format station d kind h
+kind_of-holds format station ServerWord d kind h = server_of-holds format station d kind h
+kind_of-holds format station DelayWord d kind h = delay_of-holds format station d kind h
+kind_of-holds format station RouterWord d kind h = router_of-holds format station d kind h
+kind_of-holds format station SinkWord d kind h =
+    subst (λ (k : Kind). KindHolds format true k) (Ok-injective Sink kind h) (tt, λ _. tt, refl)
 
--- a link that is read
+-- ---- link_of, each_link, links_of
+
+-- a link as it is named keeps its bounds
 pub record IsNamedLink (link : NamedLink) : Type 0 where
   pub small : link.delay ≤ MOST_TIME
-  pub heavy : 1 ≤ link.weight
-  pub light : link.weight ≤ MOST_WEIGHT
+  pub weight : IsWeight link.weight
 
-link_holds : (place : ℕ) (d : Data) (link : NamedLink) → link_of place d ≡ Ok link → IsNamedLink link
-link_holds place d link h =
-    let (known, e1, h1) = bind-Ok (only_known place link_keys d)
-    (λ _. name_at place To d >>= (λ to. integer_at place DelayField 1 MOST_TIME None d >>=
-    (λ delay. integer_at place Weight 1 MOST_WEIGHT (Some 1) d >>=
+-- so does a link that is read
+link_of-holds : (station : ℕ) (d : Data) (link : NamedLink) → link_of station d ≡ Ok link → IsNamedLink link
+link_of-holds station d link h =
+    let (known, e1, h1) = bind-Ok (only_known station link_keys d)
+    (λ _. name_at station To d >>= (λ to. integer_at station DelayField 1 MOST_TIME None d >>=
+    (λ delay. integer_at station Weight 1 MOST_WEIGHT (Some 1) d >>=
     (λ weight. Ok (record { to = to; delay = delay; weight = weight }))))) link h in
-    let (to, e2, h2) = bind-Ok (name_at place To d)
-    (λ to. integer_at place DelayField 1 MOST_TIME None d >>=
-    (λ delay. integer_at place Weight 1 MOST_WEIGHT (Some 1) d >>=
+    let (to, e2, h2) = bind-Ok (name_at station To d)
+    (λ to. integer_at station DelayField 1 MOST_TIME None d >>=
+    (λ delay. integer_at station Weight 1 MOST_WEIGHT (Some 1) d >>=
     (λ weight. Ok (record { to = to; delay = delay; weight = weight })))) link h1 in
-    let (delay, e3, h3) = bind-Ok (integer_at place DelayField 1 MOST_TIME None d)
-    (λ delay. integer_at place Weight 1 MOST_WEIGHT (Some 1) d >>=
+    let (delay, e3, h3) = bind-Ok (integer_at station DelayField 1 MOST_TIME None d)
+    (λ delay. integer_at station Weight 1 MOST_WEIGHT (Some 1) d >>=
     (λ weight. Ok (record { to = to; delay = delay; weight = weight }))) link h2 in
-    let (weight, e4, h4) = bind-Ok (integer_at place Weight 1 MOST_WEIGHT (Some 1) d)
+    let (weight, e4, h4) = bind-Ok (integer_at station Weight 1 MOST_WEIGHT (Some 1) d)
     (λ weight. Ok (record { to = to; delay = delay; weight = weight })) link h3 in
-    let bounds = usual_bounds place Weight 1 MOST_WEIGHT 1 d weight (omega arith) (omega arith) e4 in
+    let bounds = integer_at-usual station Weight 1 MOST_WEIGHT 1 d weight (omega arith) (omega arith) e4 in
     let made : NamedLink = record { to = to; delay = delay; weight = weight } in
     subst (λ (l : NamedLink). IsNamedLink l) {x = made} (Ok-injective made link h4)
-    (record { small = (required_bounds place DelayField 1 MOST_TIME d delay e3).1; heavy = bounds.0; light = bounds.1 })
+    (record {
+      small = (integer_at-required station DelayField 1 MOST_TIME d delay e3).1;
+      weight = record { heavy = bounds.0; light = bounds.1 };
+    })
 
-each_holds : (place : ℕ) (ds : List Data) (links : List NamedLink) → each_link place ds ≡ Ok links
+-- so does each, and they are as many as their tables
+each_link-holds : (station : ℕ) (ds : List Data) (links : List NamedLink) → each_link station ds ≡ Ok links
     → AllByRecursion IsNamedLink links × (length links ≡ length ds)
-each_holds place [] links h = subst (λ (ls : List NamedLink). AllByRecursion IsNamedLink ls × (length ls ≡ 0))
+each_link-holds station [] links h = subst (λ (ls : List NamedLink). AllByRecursion IsNamedLink ls × (length ls ≡ 0))
     (Ok-injective [] links h) (tt, refl)
-each_holds place (d ∷ ds) links h =
-    let (link, e1, h1) = bind-Ok (link_of place d) (λ link. each_link place ds >>= (λ links. Ok (link ∷ links))) links
-    h in
-    let (others, e2, h2) = bind-Ok (each_link place ds) (λ links. Ok (link ∷ links)) links h1 in
-    let (all, count) = each_holds place ds others e2 in
+each_link-holds station (d ∷ ds) links h =
+    let (link, e1, h1) = bind-Ok (link_of station d) (λ link. each_link station ds >>= (λ links. Ok (link ∷ links)))
+    links h in
+    let (others, e2, h2) = bind-Ok (each_link station ds) (λ links. Ok (link ∷ links)) links h1 in
+    let (all, count) = each_link-holds station ds others e2 in
     subst (λ (ls : List NamedLink). AllByRecursion IsNamedLink ls × (length ls ≡ length (d ∷ ds)))
-    (Ok-injective (link ∷ others) links h2) ((link_holds place d link e1, all), omega (arith, count))
+    (Ok-injective (link ∷ others) links h2) ((link_of-holds station d link e1, all), omega (arith, count))
 
-few_tables : (place : ℕ) (found : Option Data) (ds : List Data) → link_tables place found ≡ Ok ds
+-- these are not too many
+link_tables-few : (station : ℕ) (found : Option Data) (ds : List Data) → link_tables station found ≡ Ok ds
     → length ds ≤ MOST_LINKS
-few_tables place None ds h = let same = ap length (Ok-injective [] ds h) in omega (arith, same)
-few_tables place (Some d) ds h =
-    let (read, e1, h1) = bind-Ok (tables_of place Link d) (few_enough place) ds h in
-    let (few, same) = if-Err (nat_lt MOST_LINKS (length read)) (Ok read) ds (TooMany place) h1 in
+link_tables-few station None ds h = let same = ap length (Ok-injective [] ds h) in omega (arith, same)
+link_tables-few station (Some d) ds h =
+    let (read, e1, h1) = bind-Ok (tables_of station Link d) (few_enough station) ds h in
+    let (few, same) = if-Err (nat_lt MOST_LINKS (length read)) (Ok read) ds (TooMany station) h1 in
     let size = ap length (Ok-injective read ds same) in
-    omega (arith, size, le_of_not MOST_LINKS (length read) few)
+    omega (arith, size, ltb-false MOST_LINKS (length read) few)
 
+-- the links of a station, which is a sink or not
 abbrev LinksHold : Bool → List NamedLink → Type 0
 LinksHold sink links = AllByRecursion IsNamedLink links × (length links ≤ MOST_LINKS) × (sink ≡ true → length links ≡ 0)
 
-open_holds : (place : ℕ) (d : Data) (links : List NamedLink)
-    → (link_tables place (get (key_of Link) d) >>= each_link place) ≡ Ok links → LinksHold false links
-open_holds place d links h =
-    let (ds, e1, h1) = bind-Ok (link_tables place (get (key_of Link) d)) (each_link place) links h in
-    let (all, count) = each_holds place ds links h1 in
-    (all, omega (arith, count, few_tables place (get (key_of Link) d) ds e1), λ e. absurd (false≢true e))
+-- a station that is no sink
+links_of-open : (station : ℕ) (d : Data) (links : List NamedLink)
+    → (link_tables station (get (key_of Link) d) >>= each_link station) ≡ Ok links → LinksHold false links
+links_of-open station d links h =
+    let (ds, e1, h1) = bind-Ok (link_tables station (get (key_of Link) d)) (each_link station) links h in
+    let (all, count) = each_link-holds station ds links h1 in
+    (all, omega (arith, count, link_tables-few station (get (key_of Link) d) ds e1), λ e. absurd (false≢true e))
 
-links_hold : (place : ℕ) (word : KindWord) (d : Data) (links : List NamedLink) → links_of place word d ≡ Ok links
-    → LinksHold (is_sink_word word) links
-links_hold place SourceWord d links h = open_holds place d links h
-links_hold place ServerWord d links h = open_holds place d links h
-links_hold place DelayWord d links h = open_holds place d links h
-links_hold place RouterWord d links h = open_holds place d links h
-links_hold place SinkWord d links h = subst (λ (ls : List NamedLink). LinksHold true ls) (Ok-injective [] links h)
+-- and one of any kind
+links_of-holds : (station : ℕ) (word : KindWord) (d : Data) (links : List NamedLink)
+    → links_of station word d ≡ Ok links → LinksHold (is_sink_word word) links
+links_of-holds station SourceWord d links h = links_of-open station d links h
+links_of-holds station ServerWord d links h = links_of-open station d links h
+links_of-holds station DelayWord d links h = links_of-open station d links h
+links_of-holds station RouterWord d links h = links_of-open station d links h
+links_of-holds station SinkWord d links h = subst (λ (ls : List NamedLink). LinksHold true ls) (Ok-injective [] links h)
     (tt, omega arith, λ _. refl)
+
+-- ---- draft_of
 
 -- a station that is read
 pub record IsDraft (format : ℕ) (draft : DraftSite) : Type 0 where
@@ -213,61 +236,67 @@ pub record IsDraft (format : ℕ) (draft : DraftSite) : Type 0 where
   pub links : AllByRecursion IsNamedLink draft.links
   pub closed : is_sink draft.kind ≡ true → length draft.links ≡ 0
 
+-- a name of a station is a name, not `analyst`, and new
 abbrev NameHolds : List DraftSite → List ℕ → Type 0
 NameHolds earlier name = (is_name name ≡ true) × (name ≢ codes "analyst") × (has_name name earlier ≡ false)
 
-differs : (name : List ℕ) → bytes_eq name (codes "analyst") ≡ false → name ≢ codes "analyst"
-differs name h same = false≢true (sym h ∙ (bytes_eq-Decides name (codes "analyst")).1 same)
+-- a name that is not found to be `analyst` is another
+bytes_eq-differs : (name : List ℕ) → bytes_eq name (codes "analyst") ≡ false → name ≢ codes "analyst"
+bytes_eq-differs name h same = false≢true (sym h ∙ (bytes_eq-Decides name (codes "analyst")).1 same)
 
-name_holds : (place : ℕ) (earlier : List DraftSite) (d : Data) (name : List ℕ)
-    → station_name_at place earlier d ≡ Ok name → NameHolds earlier name
-name_holds place earlier d name h =
-    let (second, e1, h1) = bind-Ok (name_at place Name d >>= no_analyst place) (new_name place earlier) name h in
-    let (first, e2, h2) = bind-Ok (name_at place Name d) (no_analyst place) second e1 in
-    let (other, same) = if-Err (bytes_eq first (codes "analyst")) (Ok first) second (BadName place) h2 in
-    let (free, same_2) = if-Err (has_name second earlier) (Ok second) name (NameTwice place) h1 in
+-- so is the name that is read
+station_name_at-holds : (station : ℕ) (earlier : List DraftSite) (d : Data) (name : List ℕ)
+    → station_name_at station earlier d ≡ Ok name → NameHolds earlier name
+station_name_at-holds station earlier d name h =
+    let (second, e1, h1) = bind-Ok (name_at station Name d >>= no_analyst station) (new_name station earlier) name h in
+    let (first, e2, h2) = bind-Ok (name_at station Name d) (no_analyst station) second e1 in
+    let (other, same) = if-Err (bytes_eq first (codes "analyst")) (Ok first) second (BadName station) h2 in
+    let (free, same_2) = if-Err (has_name second earlier) (Ok second) name (NameTwice station) h1 in
     let start : (is_name second ≡ true) × (second ≢ codes "analyst") =
     subst (λ (n : List ℕ). (is_name n ≡ true) × (n ≢ codes "analyst")) (Ok-injective first second same)
-    (name_is place Name d first e2, differs first other) in
+    (name_at-is_name station Name d first e2, bytes_eq-differs first other) in
     subst (λ (n : List ℕ). NameHolds earlier n) (Ok-injective second name same_2) (start.0, start.1, free)
 
-moved : (a b : Bool) (n : ℕ) → a ≡ b → (b ≡ true → n ≡ 0) → a ≡ true → n ≡ 0
-moved a b n same f e = f (sym same ∙ e)
+-- what a test tells of links, the same test tells
+links-same_test : (a b : Bool) (n : ℕ) → a ≡ b → (b ≡ true → n ≡ 0) → a ≡ true → n ≡ 0
+links-same_test a b n same f e = f (sym same ∙ e)
 
-draft_holds : (format : ℕ) (earlier : List DraftSite) (place : ℕ) (d : Data) (draft : DraftSite) → place ≤ 1000
-    → draft_of format earlier place d ≡ Ok draft → IsDraft format draft × (has_name draft.name earlier ≡ false)
-draft_holds format earlier place d draft near h =
-    let (name, e1, h1) = bind-Ok (station_name_at place earlier d)
-    (λ name. kind_word_at place d >>=
-    (λ word. only_known place (station_keys format word) d >>=
-    (λ _. integer_at place Stream 0 MOST_SEED (Some place) d >>=
-    (λ stream. kind_of format place word d >>=
-    (λ kind. links_of place word d >>=
+-- a station that is read keeps to the rules, with a new name
+draft_of-holds : (format : ℕ) (earlier : List DraftSite) (station : ℕ) (d : Data) (draft : DraftSite)
+    → station ≤ MOST_SEED → draft_of format earlier station d ≡ Ok draft
+    → IsDraft format draft × (has_name draft.name earlier ≡ false)
+draft_of-holds format earlier station d draft near h =
+    let (name, e1, h1) = bind-Ok (station_name_at station earlier d)
+    (λ name. kind_word_at station d >>=
+    (λ word. only_known station (station_keys format word) d >>=
+    (λ _. integer_at station Stream 0 MOST_SEED (Some station) d >>=
+    (λ stream. kind_of format station word d >>=
+    (λ kind. links_of station word d >>=
     (λ links. Ok (record { name = name; kind = kind; stream = stream; links = links }))))))) draft h in
-    let (word, e2, h2) = bind-Ok (kind_word_at place d)
-    (λ word. only_known place (station_keys format word) d >>=
-    (λ _. integer_at place Stream 0 MOST_SEED (Some place) d >>=
-    (λ stream. kind_of format place word d >>=
-    (λ kind. links_of place word d >>=
+    let (word, e2, h2) = bind-Ok (kind_word_at station d)
+    (λ word. only_known station (station_keys format word) d >>=
+    (λ _. integer_at station Stream 0 MOST_SEED (Some station) d >>=
+    (λ stream. kind_of format station word d >>=
+    (λ kind. links_of station word d >>=
     (λ links. Ok (record { name = name; kind = kind; stream = stream; links = links })))))) draft h1 in
-    let (known, e3, h3) = bind-Ok (only_known place (station_keys format word) d)
-    (λ _. integer_at place Stream 0 MOST_SEED (Some place) d >>=
-    (λ stream. kind_of format place word d >>=
-    (λ kind. links_of place word d >>=
+    let (known, e3, h3) = bind-Ok (only_known station (station_keys format word) d)
+    (λ _. integer_at station Stream 0 MOST_SEED (Some station) d >>=
+    (λ stream. kind_of format station word d >>=
+    (λ kind. links_of station word d >>=
     (λ links. Ok (record { name = name; kind = kind; stream = stream; links = links }))))) draft h2 in
-    let (stream, e4, h4) = bind-Ok (integer_at place Stream 0 MOST_SEED (Some place) d)
-    (λ stream. kind_of format place word d >>=
-    (λ kind. links_of place word d >>=
+    let (stream, e4, h4) = bind-Ok (integer_at station Stream 0 MOST_SEED (Some station) d)
+    (λ stream. kind_of format station word d >>=
+    (λ kind. links_of station word d >>=
     (λ links. Ok (record { name = name; kind = kind; stream = stream; links = links })))) draft h3 in
-    let (kind, e5, h5) = bind-Ok (kind_of format place word d)
-    (λ kind. links_of place word d >>=
+    let (kind, e5, h5) = bind-Ok (kind_of format station word d)
+    (λ kind. links_of station word d >>=
     (λ links. Ok (record { name = name; kind = kind; stream = stream; links = links }))) draft h4 in
-    let (links, e6, h6) = bind-Ok (links_of place word d)
+    let (links, e6, h6) = bind-Ok (links_of station word d)
     (λ links. Ok (record { name = name; kind = kind; stream = stream; links = links })) draft h5 in
-    let named = name_holds place earlier d name e1 in
-    let does = kind_holds format place word d kind e5 in
-    let leads = links_hold place word d links e6 in
-    let drawn = usual_bounds place Stream 0 MOST_SEED place d stream (omega arith) (omega arith) e4 in
+    let named = station_name_at-holds station earlier d name e1 in
+    let does = kind_of-holds format station word d kind e5 in
+    let leads = links_of-holds station word d links e6 in
+    let drawn = integer_at-usual station Stream 0 MOST_SEED station d stream (omega arith) (omega arith) e4 in
     let made : DraftSite = record { name = name; kind = kind; stream = stream; links = links } in
     subst (λ (x : DraftSite). IsDraft format x × (has_name x.name earlier ≡ false)) {x = made}
     (Ok-injective made draft h6) (
@@ -279,22 +308,24 @@ draft_holds format earlier place d draft near h =
         of_format = does.1;
         few = leads.1;
         links = leads.0;
-        closed = moved (is_sink kind) (is_sink_word word) (length links) does.2 leads.2;
+        closed = links-same_test (is_sink kind) (is_sink_word word) (length links) does.2 leads.2;
       },
       named.2,
     )
 
+-- ---- drafts_of
+
 -- names that are new behind one more station are new without it, and others than its own
-split_new : (earlier : List DraftSite) (draft : DraftSite) (rest : List DraftSite)
+has_name-append : (earlier : List DraftSite) (draft : DraftSite) (rest : List DraftSite)
     → AllByRecursion (λ x. has_name x.name (earlier ++ draft ∷ []) ≡ false) rest
     → AllByRecursion (λ x. has_name x.name earlier ≡ false) rest × AllByRecursion (λ y. bytes_eq draft.name y ≡ false)
     (map (λ x. x.name) rest)
-split_new earlier draft [] h = (tt, tt)
-split_new earlier draft (x ∷ rest) h =
+has_name-append earlier draft [] h = (tt, tt)
+has_name-append earlier draft (x ∷ rest) h =
     let (old, own) = or_parts (has_name x.name earlier) (has_name x.name (draft ∷ []))
     (sym (list_any-append (λ y. bytes_eq y.name x.name) earlier (draft ∷ [])) ∙ h.0) in
     let (other, none) = or_parts (bytes_eq draft.name x.name) false own in
-    let (olds, others) = split_new earlier draft rest h.1 in
+    let (olds, others) = has_name-append earlier draft rest h.1 in
     ((old, olds), (other, others))
 
 -- the stations that are read
@@ -304,26 +335,27 @@ pub record AreDrafts (format : ℕ) (earlier drafts : List DraftSite) (n : ℕ) 
   pub distinct : IsDistinct bytes_eq (map (λ x. x.name) drafts)
   pub count : length drafts ≡ n
 
-no_names : IsDistinct bytes_eq []
+-- an empty list of names has no two that are equal
+IsDistinct-empty : IsDistinct bytes_eq []
 unfolding IsDistinct
-no_names = tt
+IsDistinct-empty = tt
 
--- stations below number 1000 that are read keep to the rules, have new and distinct names, one for each table
-pub drafts_hold : (format : ℕ) (earlier : List DraftSite) (place : ℕ) (ds : List Data) (drafts : List DraftSite)
-    → place + length ds ≤ 1000 → drafts_of format earlier place ds ≡ Ok drafts
+-- stations whose numbers may be those of their streams keep to the rules and have new and distinct names, one a table
+pub drafts_of-holds : (format : ℕ) (earlier : List DraftSite) (station : ℕ) (ds : List Data) (drafts : List DraftSite)
+    → station + length ds ≤ MOST_SEED → drafts_of format earlier station ds ≡ Ok drafts
     → AreDrafts format earlier drafts (length ds)
-drafts_hold format earlier place [] drafts near h =
+drafts_of-holds format earlier station [] drafts near h =
     subst (λ (xs : List DraftSite). AreDrafts format earlier xs 0) (Ok-injective [] drafts h)
-    (record { all = tt; new = tt; distinct = no_names; count = refl })
-drafts_hold format earlier place (d ∷ ds) drafts near h =
-    let (draft, e1, h1) = bind-Ok (draft_of format earlier place d)
-    (λ draft. drafts_of format (earlier ++ draft ∷ []) (place + 1) ds >>= (λ drafts. Ok (draft ∷ drafts))) drafts
+    (record { all = tt; new = tt; distinct = IsDistinct-empty; count = refl })
+drafts_of-holds format earlier station (d ∷ ds) drafts near h =
+    let (draft, e1, h1) = bind-Ok (draft_of format earlier station d)
+    (λ draft. drafts_of format (earlier ++ draft ∷ []) (station + 1) ds >>= (λ drafts. Ok (draft ∷ drafts))) drafts
     h in
-    let (rest, e2, h2) = bind-Ok (drafts_of format (earlier ++ draft ∷ []) (place + 1) ds)
+    let (rest, e2, h2) = bind-Ok (drafts_of format (earlier ++ draft ∷ []) (station + 1) ds)
     (λ drafts. Ok (draft ∷ drafts)) drafts h1 in
-    let first = draft_holds format earlier place d draft (omega arith) e1 in
-    let others = drafts_hold format (earlier ++ draft ∷ []) (place + 1) ds rest (omega arith) e2 in
-    let (olds, own) = split_new earlier draft rest others.new in
+    let first = draft_of-holds format earlier station d draft (omega arith) e1 in
+    let others = drafts_of-holds format (earlier ++ draft ∷ []) (station + 1) ds rest (omega arith) e2 in
+    let (olds, own) = has_name-append earlier draft rest others.new in
     subst (λ (xs : List DraftSite). AreDrafts format earlier xs (length (d ∷ ds)))
     (Ok-injective (draft ∷ rest) drafts h2)
     (record {

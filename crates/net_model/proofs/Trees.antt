@@ -17,48 +17,54 @@ use Rattle.net_model.specs.declared.field.Field.{Field}
 use Rattle.net_model.specs.Reading.{list_of, all_tables, tables_of}
 use Rattle.net_model.specs.Text.{tree}
 
+-- ---- tree
+
 -- the tree of a UTF-8 text is what the parser finds
-pub tree_of_parsed : (text : List ℕ) (ms : Members) → IsUtf8 text → parse_document text ≡ Some ms → tree text ≡ Some ms
-tree_of_parsed text ms u p = rw (is_utf8-from_IsUtf8 text u) p
+pub tree-Some : (text : List ℕ) (ms : Members) → IsUtf8 text → parse_document text ≡ Some ms → tree text ≡ Some ms
+tree-Some text ms u p = rw (is_utf8-from_IsUtf8 text u) p
 
 -- a text in which the parser finds nothing where it is UTF-8 has no tree
-pub no_tree : (text : List ℕ) → (IsUtf8 text → parse_document text ≡ None) → tree text ≡ None
-no_tree text p =
+pub tree-None : (text : List ℕ) → (IsUtf8 text → parse_document text ≡ None) → tree text ≡ None
+tree-None text p =
     elim (cases_Bool (is_utf8 text)) [
       | inl is ↦ rw is (p (IsUtf8-from_is_utf8 text is))
       | inr is ↦ rw is
     ]
 
+-- ---- list_of, as_array
+
 -- the items of an array are the views of its values, in order
-pub listed : (vs : List Value) → list_of (items_view vs) ≡ map view vs
-listed [] = refl
-listed (v ∷ vs) = ap (λ ds. view v ∷ ds) (listed vs)
+list_of-items_view : (vs : List Value) → list_of (items_view vs) ≡ map view vs
+list_of-items_view [] = refl
+list_of-items_view (v ∷ vs) = ap (λ ds. view v ∷ ds) (list_of-items_view vs)
 
 -- the value of an array, by what `as_array` gives
-pub array_of : (d : Data) (ds : Items) → Some ds ≡ as_array d → d ≡ array ds
-array_of (array es) ds h = ap array (same_Some _ _ (sym h))
-array_of (string s) ds h = absurd (cc)
-array_of (integer z) ds h = absurd (cc)
-array_of (float x) ds h = absurd (cc)
-array_of (boolean b) ds h = absurd (cc)
-array_of (datetime t) ds h = absurd (cc)
-array_of (table ms) ds h = absurd (cc)
+as_array-Some : (d : Data) (ds : Items) → Some ds ≡ as_array d → d ≡ array ds
+as_array-Some (array es) ds h = ap array (same_Some _ _ (sym h))
+as_array-Some (string s) ds h = absurd (cc)
+as_array-Some (integer z) ds h = absurd (cc)
+as_array-Some (float x) ds h = absurd (cc)
+as_array-Some (boolean b) ds h = absurd (cc)
+as_array-Some (datetime t) ds h = absurd (cc)
+as_array-Some (table ms) ds h = absurd (cc)
+
+-- ---- tables_of
 
 -- the elements of an array are read where all of them are tables, and else its type is wrong
-pub tables_listed : (place : ℕ) (field : Field) (d : Data) (vs : List Value) → Some (items_view vs) ≡ as_array d
-    → tables_of place field d ≡ (if list_all (λ v. is_some (as_table (view v))) vs then Ok (map view vs) else Err
-    (WrongType place field))
-tables_listed place field d vs h =
-    ap (tables_of place field) (array_of d (items_view vs) h)
-    ∙ (ap (all_tables place field) (listed vs)
+tables_of-array : (station : ℕ) (field : Field) (d : Data) (vs : List Value) → Some (items_view vs) ≡ as_array d
+    → tables_of station field d ≡ (if list_all (λ v. is_some (as_table (view v))) vs then Ok (map view vs) else Err
+    (WrongType station field))
+tables_of-array station field d vs h =
+    ap (tables_of station field) (as_array-Some d (items_view vs) h)
+    ∙ (ap (all_tables station field) (list_of-items_view vs)
     ∙ rw (list_all-map (λ d. is_some (as_table d)) view vs) refl)
 
 -- where all elements of an array are tables, they are read
-pub tables_there : (place : ℕ) (field : Field) (d : Data) (vs : List Value) → Some (items_view vs) ≡ as_array d
-    → list_all (λ v. is_some (as_table (view v))) vs ≡ true → Ok (map view vs) ≡ tables_of place field d
-tables_there place field d vs h all = sym (tables_listed place field d vs h ∙ rw all refl)
+pub tables_of-Ok : (station : ℕ) (field : Field) (d : Data) (vs : List Value) → Some (items_view vs) ≡ as_array d
+    → list_all (λ v. is_some (as_table (view v))) vs ≡ true → Ok (map view vs) ≡ tables_of station field d
+tables_of-Ok station field d vs h all = sym (tables_of-array station field d vs h ∙ rw all refl)
 
 -- where one of them is no table, the array has the wrong type
-pub tables_refused : (place : ℕ) (field : Field) (d : Data) (vs : List Value) → Some (items_view vs) ≡ as_array d
-    → list_all (λ v. is_some (as_table (view v))) vs ≡ false → Err (WrongType place field) ≡ tables_of place field d
-tables_refused place field d vs h all = sym (tables_listed place field d vs h ∙ rw all refl)
+pub tables_of-Err : (station : ℕ) (field : Field) (d : Data) (vs : List Value) → Some (items_view vs) ≡ as_array d
+    → list_all (λ v. is_some (as_table (view v))) vs ≡ false → Err (WrongType station field) ≡ tables_of station field d
+tables_of-Err station field d vs h all = sym (tables_of-array station field d vs h ∙ rw all refl)

@@ -29,7 +29,7 @@ as_draft d = record { name = d.name; kind = d.kind; stream = d.stream; links = d
 
 -- the analyst is no station
 abbrev pub no_analyst : ℕ → List ℕ → Result (List ℕ) ModelFault
-no_analyst place name = if bytes_eq name (codes "analyst") then Err (BadName place) else Ok name
+no_analyst station name = if bytes_eq name (codes "analyst") then Err (BadName station) else Ok name
 
 -- one of these stations has the name
 abbrev pub has_name : List ℕ → List DraftSite → Bool
@@ -37,27 +37,27 @@ has_name name drafts = list_any (λ draft. bytes_eq draft.name name) drafts
 
 -- no earlier station has the name
 abbrev pub new_name : ℕ → List DraftSite → List ℕ → Result (List ℕ) ModelFault
-new_name place earlier name = if has_name name earlier then Err (NameTwice place) else Ok name
+new_name station earlier name = if has_name name earlier then Err (NameTwice station) else Ok name
 
 -- the name that a station states, which is neither `analyst` nor that of an earlier station
 abbrev pub station_name_at : ℕ → List DraftSite → Data → Result (List ℕ) ModelFault
-station_name_at place earlier d = name_at place Name d >>= no_analyst place >>= new_name place earlier
+station_name_at station earlier d = name_at station Name d >>= no_analyst station >>= new_name station earlier
 
 -- a station: its name, its kind, its keys, and last its links; its stream is its number where it states none
 abbrev pub draft_of : ℕ → List DraftSite → ℕ → Data → Result DraftSite ModelFault
-draft_of format earlier place d =
-    station_name_at place earlier d >>= (λ name.
-    kind_word_at place d >>= (λ word.
-    only_known place (station_keys format word) d >>= (λ _.
-    integer_at place Stream 0 MOST_SEED (Some place) d >>= (λ stream.
-    kind_of format place word d >>= (λ kind.
-    links_of place word d >>= (λ links.
+draft_of format earlier station d =
+    station_name_at station earlier d >>= (λ name.
+    kind_word_at station d >>= (λ word.
+    only_known station (station_keys format word) d >>= (λ _.
+    integer_at station Stream 0 MOST_SEED (Some station) d >>= (λ stream.
+    kind_of format station word d >>= (λ kind.
+    links_of station word d >>= (λ links.
     Ok (record { name = name; kind = kind; stream = stream; links = links })))))))
 
--- each station in turn, with the earlier ones and its number
+-- the stations one after the other, each with the earlier ones and its number
 abbrev pub drafts_of : ℕ → List DraftSite → ℕ → List Data → Result (List DraftSite) ModelFault
-drafts_of format earlier place [] = Ok []
-drafts_of format earlier place (d ∷ ds) =
-    draft_of format earlier place d >>= (λ draft.
-    drafts_of format (earlier ++ draft ∷ []) (place + 1) ds >>= (λ drafts.
+drafts_of format earlier station [] = Ok []
+drafts_of format earlier station (d ∷ ds) =
+    draft_of format earlier station d >>= (λ draft.
+    drafts_of format (earlier ++ draft ∷ []) (station + 1) ds >>= (λ drafts.
     Ok (draft ∷ drafts)))

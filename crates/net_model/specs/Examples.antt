@@ -1,6 +1,7 @@
 -- A small model and its text: a source `gate`, a server `desk` and a sink `out`, one after the other.
 use Rattle.std.specs.Prelude.{ℕ, zero, suc, List, [], ◌∷◌, ◌++◌, codes, decimal, false}
 use Rattle.net_model.specs.declared.station.Kind.TheVariants.{Source, Server, Sink}
+use Rattle.net_model.specs.declared.limits.TheConstants.{USUAL_LIMIT}
 use Rattle.net_model.specs.Net.{Net}
 
 -- the top, with the lookahead and the horizon given as they are written
@@ -83,7 +84,7 @@ small = record {
   lookahead = 2;
   horizon = 20;
   seed = 0;
-  limit = 16384;
+  limit = USUAL_LIMIT;
   sites =
       record {
         name = codes "gate";

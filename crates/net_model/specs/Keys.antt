@@ -35,13 +35,13 @@ least_unknown fields (member key d ms) = if is_known fields key then least_unkno
 
 -- no unknown key was found; one that was found is refused
 abbrev pub none_unknown : ℕ → Option (List ℕ) → Result (Unit {0}) ModelFault
-none_unknown place None = Ok tt
-none_unknown place (Some key) = Err (UnknownKey place (key_text key))
+none_unknown station None = Ok tt
+none_unknown station (Some key) = Err (UnknownKey station (key_text key))
 
 -- no key of a table is unknown
 abbrev pub only_known : ℕ → List Field → Data → Result (Unit {0}) ModelFault
-only_known place fields (table ms) = none_unknown place (least_unknown fields ms)
-only_known place fields _ = Ok tt
+only_known station fields (table ms) = none_unknown station (least_unknown fields ms)
+only_known station fields _ = Ok tt
 
 -- the keys of the top
 abbrev pub top_keys : List Field

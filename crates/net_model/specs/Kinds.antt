@@ -21,8 +21,8 @@ use Rattle.net_model.specs.declared.limits.TheConstants.{MOST_CLASS, MOST_JOBS, 
 
 -- a word that a key knows
 abbrev pub known_word : {A : Type 0} → ℕ → Field → Option A → Result A ModelFault
-known_word place field (Some word) = Ok word
-known_word place field None = Err (OutOfRange place field)
+known_word station field (Some word) = Ok word
+known_word station field None = Err (OutOfRange station field)
 
 -- the kind that a word names, None where it names none
 abbrev pub kind_word : List ℕ → Option KindWord
@@ -35,11 +35,11 @@ kind_word text =
 
 -- the word for its kind that a station states
 abbrev pub kind_word_at : ℕ → Data → Result KindWord ModelFault
-kind_word_at place d = text_at place KindField d >>= (λ text. known_word place KindField (kind_word text))
+kind_word_at station d = text_at station KindField d >>= (λ text. known_word station KindField (kind_word text))
 
 -- 1 in format 1, which knows no classes
 abbrev pub class_at : ℕ → ℕ → Data → Result ℕ ModelFault
-class_at format place d = if format == 1 then Ok 1 else integer_at place Class 1 MOST_CLASS (Some 1) d
+class_at format station d = if format == 1 then Ok 1 else integer_at station Class 1 MOST_CLASS (Some 1) d
 
 -- whether the order is by class
 abbrev pub order_word : List ℕ → Option Bool
@@ -48,12 +48,12 @@ order_word text = if bytes_eq text (codes "arrival") then Some false else
 
 -- the order that a value states where one is found; by arrival where none is
 abbrev pub found_order : ℕ → Option Data → Result Bool ModelFault
-found_order place None = Ok false
-found_order place (Some d) = text_of place Order d >>= (λ text. known_word place Order (order_word text))
+found_order station None = Ok false
+found_order station (Some d) = text_of station Order d >>= (λ text. known_word station Order (order_word text))
 
 -- the order that a server states; by arrival in format 1
 abbrev pub order_at : ℕ → ℕ → Data → Result Bool ModelFault
-order_at format place d = if format == 1 then Ok false else found_order place (get (key_of Order) d)
+order_at format station d = if format == 1 then Ok false else found_order station (get (key_of Order) d)
 
 -- whether a router goes by turn
 abbrev pub by_word : List ℕ → Option Bool
@@ -62,33 +62,36 @@ by_word text = if bytes_eq text (codes "weights") then Some false else
 
 -- a source: the range of its intervals, how many jobs it makes, and their class
 abbrev pub source_of : ℕ → ℕ → Data → Result Kind ModelFault
-source_of format place d =
-    span_at place Every 1 d >>= (λ every.
-    integer_at place Jobs 0 MOST_JOBS None d >>= (λ jobs.
-    class_at format place d >>= (λ class.
+source_of format station d =
+    span_at station Every 1 d >>= (λ every.
+    integer_at station Jobs 0 MOST_JOBS None d >>= (λ jobs.
+    class_at format station d >>= (λ class.
     Ok (Source every.lo every.hi jobs class))))
 
 -- a server: its servers, its room, the range of its services, and its order
 abbrev pub server_of : ℕ → ℕ → Data → Result Kind ModelFault
-server_of format place d =
-    integer_at place Servers 1 MOST_SERVERS None d >>= (λ servers.
-    integer_at place Room 0 MOST_ROOM None d >>= (λ room.
-    span_at place Service 1 d >>= (λ service.
-    order_at format place d >>= (λ by_class.
+server_of format station d =
+    integer_at station Servers 1 MOST_SERVERS None d >>= (λ servers.
+    integer_at station Room 0 MOST_ROOM None d >>= (λ room.
+    span_at station Service 1 d >>= (λ service.
+    order_at format station d >>= (λ by_class.
     Ok (Server servers room service.lo service.hi by_class)))))
 
 -- a delay: the range of its times
 abbrev pub delay_of : ℕ → Data → Result Kind ModelFault
-delay_of place d = span_at place Hold 0 d >>= (λ hold. Ok (Delay hold.lo hold.hi))
+delay_of station d = span_at station Hold 0 d >>= (λ hold. Ok (Delay hold.lo hold.hi))
 
 -- a router: whether it goes by turn
 abbrev pub router_of : ℕ → Data → Result Kind ModelFault
-router_of place d = text_at place By d >>= (λ text. known_word place By (by_word text) >>= (λ turn. Ok (Router turn)))
+router_of station d =
+    text_at station By d >>= (λ text.
+    known_word station By (by_word text) >>= (λ turn.
+    Ok (Router turn)))
 
 -- a station of the kind that its word names, with what its kind states
 abbrev pub kind_of : ℕ → ℕ → KindWord → Data → Result Kind ModelFault
-kind_of format place SourceWord d = source_of format place d
-kind_of format place ServerWord d = server_of format place d
-kind_of format place DelayWord d = delay_of place d
-kind_of format place RouterWord d = router_of place d
-kind_of format place SinkWord d = Ok Sink
+kind_of format station SourceWord d = source_of format station d
+kind_of format station ServerWord d = server_of format station d
+kind_of format station DelayWord d = delay_of station d
+kind_of format station RouterWord d = router_of station d
+kind_of format station SinkWord d = Ok Sink

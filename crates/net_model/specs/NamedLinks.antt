@@ -15,28 +15,28 @@ use Rattle.net_model.specs.declared.limits.TheConstants.{MOST_TIME, MOST_WEIGHT,
 
 -- a link: the name of its receiver, its delay, and its weight, 1 where it states none
 abbrev pub link_of : ℕ → Data → Result NamedLink ModelFault
-link_of place d =
-    only_known place link_keys d >>= (λ _.
-    name_at place To d >>= (λ to.
-    integer_at place Delay 1 MOST_TIME None d >>= (λ delay.
-    integer_at place Weight 1 MOST_WEIGHT (Some 1) d >>= (λ weight.
+link_of station d =
+    only_known station link_keys d >>= (λ _.
+    name_at station To d >>= (λ to.
+    integer_at station Delay 1 MOST_TIME None d >>= (λ delay.
+    integer_at station Weight 1 MOST_WEIGHT (Some 1) d >>= (λ weight.
     Ok (record { to = to; delay = delay; weight = weight })))))
 
--- each link in turn
+-- the links one after the other
 abbrev pub each_link : ℕ → List Data → Result (List NamedLink) ModelFault
-each_link place [] = Ok []
-each_link place (d ∷ ds) = link_of place d >>= (λ link. each_link place ds >>= (λ links. Ok (link ∷ links)))
+each_link station [] = Ok []
+each_link station (d ∷ ds) = link_of station d >>= (λ link. each_link station ds >>= (λ links. Ok (link ∷ links)))
 
 -- no more links than a station may have
 abbrev pub few_enough : ℕ → List Data → Result (List Data) ModelFault
-few_enough place ds = if nat_lt MOST_LINKS (length ds) then Err (TooMany place) else Ok ds
+few_enough station ds = if nat_lt MOST_LINKS (length ds) then Err (TooMany station) else Ok ds
 
 -- no key, no links
 abbrev pub link_tables : ℕ → Option Data → Result (List Data) ModelFault
-link_tables place None = Ok []
-link_tables place (Some d) = tables_of place Link d >>= few_enough place
+link_tables station None = Ok []
+link_tables station (Some d) = tables_of station Link d >>= few_enough station
 
 -- a sink has no links, nor a key for them
 abbrev pub links_of : ℕ → KindWord → Data → Result (List NamedLink) ModelFault
-links_of place SinkWord d = Ok []
-links_of place _ d = link_tables place (get (key_of Link) d) >>= each_link place
+links_of station SinkWord d = Ok []
+links_of station _ d = link_tables station (get (key_of Link) d) >>= each_link station

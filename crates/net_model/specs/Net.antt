@@ -27,11 +27,11 @@ abbrev pub site_at : Net → ℕ → Option Site
 site_at net zero = None
 site_at net (suc i) = slice_get net.sites i
 
--- what stands for a station that is not there: it takes jobs, and sends nothing
+-- a station for the numbers that no station has: it takes jobs, and sends nothing
 abbrev pub no_site : Site
 no_site = record { name = []; kind = Sink; stream = 0; links = [] }
 
--- the station of a number, or what stands for it where it is not there
+-- the station of a number, or that one where no station has it
 abbrev pub site_of : Net → ℕ → Site
 site_of net s = unwrap_or (site_at net s) no_site
 

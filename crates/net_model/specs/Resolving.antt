@@ -18,43 +18,43 @@ kind_after i drafts = unwrap_or (option_map (λ draft. draft.kind) (slice_get dr
 
 -- a link to the station after i others, of a kind
 abbrev pub link_to : ℕ → ℕ → NamedLink → ℕ → Kind → Result Link ModelFault
-link_to lookahead place link i kind =
-    if is_source kind then Err (IntoSource place)
-    else (if nat_lt link.delay lookahead then Err (ShortDelay place)
+link_to lookahead station link i kind =
+    if is_source kind then Err (IntoSource station)
+    else (if nat_lt link.delay lookahead then Err (ShortDelay station)
     else Ok (record { to = i + 1; delay = link.delay; weight = link.weight }))
 
 -- a link to the station at the place that was found, refused where none was
 abbrev pub link_along : ℕ → List DraftSite → ℕ → NamedLink → Option ℕ → Result Link ModelFault
-link_along lookahead drafts place link None = Err (UnknownStation place)
-link_along lookahead drafts place link (Some i) = link_to lookahead place link i (kind_after i drafts)
+link_along lookahead drafts station link None = Err (UnknownStation station)
+link_along lookahead drafts station link (Some i) = link_to lookahead station link i (kind_after i drafts)
 
 -- a link to the first station that has the name of its receiver
 abbrev pub link_of_named : ℕ → List DraftSite → ℕ → NamedLink → Result Link ModelFault
-link_of_named lookahead drafts place link =
-    link_along lookahead drafts place link (position (λ draft. bytes_eq draft.name link.to) drafts)
+link_of_named lookahead drafts station link =
+    link_along lookahead drafts station link (position (λ draft. bytes_eq draft.name link.to) drafts)
 
--- each link of a station in turn
+-- the links of a station one after the other
 abbrev pub links_of_named : ℕ → List DraftSite → ℕ → List NamedLink → Result (List Link) ModelFault
-links_of_named lookahead drafts place [] = Ok []
-links_of_named lookahead drafts place (link ∷ links) =
-    link_of_named lookahead drafts place link >>= (λ first.
-    links_of_named lookahead drafts place links >>= (λ others.
+links_of_named lookahead drafts station [] = Ok []
+links_of_named lookahead drafts station (link ∷ links) =
+    link_of_named lookahead drafts station link >>= (λ first.
+    links_of_named lookahead drafts station links >>= (λ others.
     Ok (first ∷ others)))
 
 -- jobs have to leave a station that is no sink
 abbrev pub with_way_out : ℕ → Kind → List Link → Result (List Link) ModelFault
-with_way_out place kind links = if is_sink kind || not (length links == 0) then Ok links else Err (NoWayOut place)
+with_way_out station kind links = if is_sink kind || not (length links == 0) then Ok links else Err (NoWayOut station)
 
 -- a station with its links resolved, of which one is needed unless it is a sink
 abbrev pub site_of_draft : ℕ → List DraftSite → ℕ → DraftSite → Result Site ModelFault
-site_of_draft lookahead drafts place draft =
-    links_of_named lookahead drafts place draft.links >>= with_way_out place draft.kind >>= (λ links.
+site_of_draft lookahead drafts station draft =
+    links_of_named lookahead drafts station draft.links >>= with_way_out station draft.kind >>= (λ links.
     Ok (record { name = draft.name; kind = draft.kind; stream = draft.stream; links = links }))
 
--- each station in turn, among all of them
+-- the stations one after the other, each among all of them
 abbrev pub sites_of : ℕ → List DraftSite → ℕ → List DraftSite → Result (List Site) ModelFault
-sites_of lookahead drafts place [] = Ok []
-sites_of lookahead drafts place (draft ∷ others) =
-    site_of_draft lookahead drafts place draft >>= (λ site.
-    sites_of lookahead drafts (place + 1) others >>= (λ sites.
+sites_of lookahead drafts station [] = Ok []
+sites_of lookahead drafts station (draft ∷ others) =
+    site_of_draft lookahead drafts station draft >>= (λ site.
+    sites_of lookahead drafts (station + 1) others >>= (λ sites.
     Ok (site ∷ sites)))

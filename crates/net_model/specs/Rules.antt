@@ -53,6 +53,11 @@ IsOfFormat1 (Source lo hi jobs class) = class ≡ 1
 IsOfFormat1 (Server servers room lo hi by_class) = by_class ≡ false
 IsOfFormat1 _ = Unit {0}
 
+-- a weight is from 1 to the most
+pub record IsWeight (weight : ℕ) : Type 0 where
+  pub heavy : 1 ≤ weight
+  pub light : weight ≤ MOST_WEIGHT
+
 -- a link leads to a station that takes jobs, and is no faster than the lookahead
 pub record IsLink (net : Net) (link : Link) : Type 0 where
   pub first : 1 ≤ link.to
@@ -60,8 +65,7 @@ pub record IsLink (net : Net) (link : Link) : Type 0 where
   pub receives : is_source (site_of net link.to).kind ≡ false
   pub slow : net.lookahead ≤ link.delay
   pub small : link.delay ≤ MOST_TIME
-  pub heavy : 1 ≤ link.weight
-  pub light : link.weight ≤ MOST_WEIGHT
+  pub weight : IsWeight link.weight
 
 -- jobs leave every station but a sink, where they leave the network
 abbrev pub HasWayOut : Kind → List Link → Type 0

@@ -11,6 +11,7 @@ use Rattle.net_model.specs.Drafts.{drafts_of}
 use Rattle.net_model.specs.Keys.{only_known, top_keys}
 use Rattle.net_model.specs.Net.{Net, Site}
 use Rattle.net_model.specs.Resolving.{sites_of}
+use Rattle.net_model.specs.Sites.{with_sites}
 use Rattle.net_model.specs.Top.{stations_at, top_of}
 use Rattle.net_model.specs.declared.limits.TheConstants.{MOST_BYTES}
 
@@ -21,17 +22,6 @@ tree text = if is_utf8 text then parse_document text else None
 -- the stations that some tables state
 abbrev pub sites_of_tables : Top → List Data → Result (List Site) ModelFault
 sites_of_tables top ds = drafts_of top.format [] 1 ds >>= (λ drafts. sites_of top.lookahead drafts 1 drafts)
-
--- the network of a top and its stations
-abbrev pub with_sites : Top → List Site → Net
-with_sites top sites = record {
-  format = top.format;
-  lookahead = top.lookahead;
-  horizon = top.horizon;
-  seed = top.seed;
-  limit = top.limit;
-  sites = sites;
-}
 
 -- the model that a tree states
 unfoldable pub model_of : Data → Result Net ModelFault

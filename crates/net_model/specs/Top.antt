@@ -20,7 +20,7 @@ top_of root =
     integer_at 0 Limit 1 MOST_LIMIT (Some USUAL_LIMIT) root >>= (λ limit.
     Ok (record { format = format; lookahead = lookahead; horizon = horizon; seed = seed; limit = limit }))))))
 
--- 1 to 64 stations
+-- 1 to MOST_STATIONS stations
 abbrev pub in_number : List Data → Result (List Data) ModelFault
 in_number ds = if length ds == 0 then Err (OutOfRange 0 Station) else
     (if nat_lt MOST_STATIONS (length ds) then Err (TooMany 0) else Ok ds)

@@ -1,10 +1,11 @@
 //! Reads the stations, before their links are resolved.
-ghost use Rattle.std.specs.Prelude.{◌≡◌, ◌≢◌, ◌<◌, ◌^◌, [], IfErr, IfOk, length, map, Ok, Err};
+ghost use Rattle.std.specs.Prelude.{◌≡◌, ◌≢◌, ◌≤◌, [], IfErr, IfOk, length, map, Ok, Err};
 ghost use Rattle.std.specs.List.{list_any};
 ghost use Rattle.std.specs.Result.{result_map_both};
 ghost use Rattle.std.specs.Str.{bytes_eq};
 ghost use Rattle.toml.specs.View.{view};
 ghost use Rattle.net_model.specs.Drafts.{as_draft, draft_of, drafts_of, station_name_at};
+ghost use Rattle.net_model.specs.declared.limits.TheConstants.{MOST_STATIONS};
 
 use crate::fault::ModelFault;
 use crate::field::Field;
@@ -12,7 +13,7 @@ use crate::keys::{only_fields, station_fields};
 use crate::kinds::{kind_key, read_kind};
 use crate::limits::{MOST_LINKS, MOST_SEED};
 use crate::links::{NamedLink, read_links};
-use crate::reading::{Spot, integer_key, name_key};
+use crate::reading::{integer_key, name_key, spot_at};
 use crate::station::Kind;
 use arrayvec::ArrayVec;
 use sim_base::Name;
@@ -37,21 +38,15 @@ fn is_taken(name: &Name, earlier: &[Draft]) -> bool
 }
 
 #[tactic(auto, using(crate::proofs::ElementByElement::has_name_drafts))]
-fn station_name(place: u32, earlier: &[Draft], table: &Value) -> Result<Name, ModelFault>
-    ensures { result ≡ station_name_at place (map as_draft earlier.now) (view table.now) }
+fn station_name(station: u32, earlier: &[Draft], table: &Value) -> Result<Name, ModelFault>
+    ensures { result ≡ station_name_at station (map as_draft earlier.now) (view table.now) }
 {
-    let name = name_key(
-        Spot {
-            place,
-            field: Field::Name,
-        },
-        table,
-    )?;
+    let name = name_key(spot_at(station, Field::Name), table)?;
     if name.text() == "analyst" {
-        return Err(ModelFault::BadName { place });
+        return Err(ModelFault::BadName { place: station });
     }
     if is_taken(&name, earlier) {
-        return Err(ModelFault::NameTwice { place });
+        return Err(ModelFault::NameTwice { place: station });
     }
     Ok(name)
 }
@@ -59,22 +54,19 @@ fn station_name(place: u32, earlier: &[Draft], table: &Value) -> Result<Name, Mo
 fn read_draft(
     format: u32,
     earlier: &[Draft],
-    place: u32,
+    station: u32,
     table: &Value,
 ) -> Result<Draft, ModelFault>
-    ensures { result_map_both as_draft (λ e. e) result ≡ draft_of format (map as_draft earlier.now) place
+    ensures { result_map_both as_draft (λ e. e) result ≡ draft_of format (map as_draft earlier.now) station
         (view table.now) }
 {
-    let name = station_name(place, earlier, table)?;
-    let word = kind_key(place, table)?;
-    only_fields(place, station_fields(format, word), table)?;
-    let spot = Spot {
-        place,
-        field: Field::Stream,
-    };
-    let stream = integer_key(spot, 0, MOST_SEED, Some(u64::from(place)), table)?;
-    let kind = read_kind(format, place, word, table)?;
-    let links = read_links(place, word, table)?;
+    let name = station_name(station, earlier, table)?;
+    let word = kind_key(station, table)?;
+    only_fields(station, station_fields(format, word), table)?;
+    let key = spot_at(station, Field::Stream);
+    let stream = integer_key(key, 0, MOST_SEED, Some(u64::from(station)), table)?;
+    let kind = read_kind(format, station, word, table)?;
+    let links = read_links(station, word, table)?;
     Ok(Draft {
         name,
         kind,
@@ -85,7 +77,7 @@ fn read_draft(
 
 /// The stations that the tables state, in order.
 pub fn read_drafts(alloc: Global, format: u32, tables: &[Value]) -> Result<Vec<Draft>, ModelFault>
-    requires { length tables.now < 2 ^ 31 }
+    requires { length tables.now ≤ MOST_STATIONS }
     ensures count { IfOk result (λ v. length v.items ≡ length tables.now) }
     ensures ok { IfOk result (λ v. drafts_of format [] 1 (map view tables.now) ≡ Ok (map as_draft v.items)) }
     ensures refused { IfErr result (λ e. e ≢ ModelFault.NoMemory

@@ -7,6 +7,7 @@ ghost use Rattle.net_model.specs.Text.{model};
 ghost use Rattle.net_model.specs.Examples.{cut_text, linked_desk, linked_out, named_desk, sinks, small};
 ghost use Rattle.net_model.specs.Examples.{small_text, timed_desk, top_text, top_with, with_top, without_link};
 ghost use Rattle.net_model.specs.declared.field.Field.TheVariants.{Lookahead, Horizon, Service};
+ghost use Rattle.net_model.specs.declared.key_text.TheConstants.{LONGEST_KEY_TEXT};
 ghost use Rattle.net_model.specs.declared.limits.TheConstants.{MOST_BYTES, MOST_CLASS, MOST_HORIZON, MOST_JOBS};
 ghost use Rattle.net_model.specs.declared.limits.TheConstants.{MOST_LIMIT, MOST_LINKS, MOST_ROOM, MOST_SEED};
 ghost use Rattle.net_model.specs.declared.limits.TheConstants.{MOST_SERVERS, MOST_STATIONS, MOST_TIME, MOST_WEIGHT};
@@ -62,4 +63,5 @@ pub fn limits_in_numbers()
     ensures servers { MOST_SERVERS ≡ 16 }
     ensures room { MOST_ROOM ≡ 4096 }
     ensures weight { MOST_WEIGHT ≡ 1000 }
+    ensures key_text { LONGEST_KEY_TEXT ≡ 32 }
 {}

@@ -1,6 +1,7 @@
 //! Why a model text is refused.
 ghost use Rattle.std.specs.Prelude.{◌≡◌, ◌≤◌, IfSome, length, option_copied};
 ghost use Rattle.net_model.specs.Faults.{fault_key, fault_number, fault_place};
+ghost use Rattle.net_model.specs.declared.key_text.TheConstants.{LONGEST_KEY_TEXT};
 
 use crate::field::Field;
 use crate::key_text::KeyText;
@@ -10,7 +11,7 @@ use std::alloc::{AllocError, AllocFailed};
 /// that breaks it, or 0 for the top of the file.
 #[derive(Clone, Copy, Debug, PartialEq, Eq)]
 pub enum ModelFault {
-    /// More than 1,048,576 bytes.
+    /// More bytes than [`MOST_BYTES`](crate::limits::MOST_BYTES).
     TooLong,
     /// No TOML text.
     NotToml,
@@ -32,7 +33,8 @@ pub enum ModelFault {
     ShortDelay { place: u32 },
     /// A station that is no sink has no link.
     NoWayOut { place: u32 },
-    /// More than 64 stations, or more than 16 links of a station.
+    /// More stations than [`MOST_STATIONS`](crate::limits::MOST_STATIONS), or more links of a station than
+    /// [`MOST_LINKS`](crate::limits::MOST_LINKS).
     TooMany { place: u32 },
     /// Memory was refused.
     NoMemory,
@@ -86,7 +88,7 @@ impl ModelFault {
     /// The key that it names, None where it names none. Of an unknown key its text.
     pub fn key(&self) -> Option<&str>
         ensures value { option_copied result ≡ fault_key self.now }
-        ensures short { IfSome result (λ key. length key.now ≤ 32) }
+        ensures short { IfSome result (λ key. length key.now ≤ LONGEST_KEY_TEXT) }
     {
         match self {
             ModelFault::Missing { field, .. }

@@ -1,6 +1,9 @@
 //! The keys of a model file.
 ghost use Rattle.std.specs.Prelude.{◌≡◌, ◌≤◌, length};
 ghost use Rattle.net_model.specs.Fields.{key_of};
+ghost use Rattle.net_model.specs.declared.key_text.TheConstants.{LONGEST_KEY_TEXT};
+
+use sim_base::Param;
 
 /// A key that a model file may have.
 #[derive(Clone, Copy, Debug, PartialEq, Eq)]
@@ -55,7 +58,7 @@ impl Field {
     /// The key as it stands in a file.
     pub fn key(&self) -> &'static str
         ensures value { result.now ≡ key_of self.now }
-        ensures short { length result.now ≤ 32 }
+        ensures short { length result.now ≤ LONGEST_KEY_TEXT }
     {
         match self {
             Field::Format => "format",
@@ -67,19 +70,19 @@ impl Field {
             Field::Name => "name",
             Field::Kind => "kind",
             Field::Stream => "stream",
-            Field::Every => "every",
+            Field::Every => Param::Every.word(),
             Field::Jobs => "jobs",
             Field::Class => "class",
-            Field::Servers => "servers",
-            Field::Room => "room",
-            Field::Service => "service",
+            Field::Servers => Param::Servers.word(),
+            Field::Room => Param::Room.word(),
+            Field::Service => Param::Service.word(),
             Field::Order => "order",
-            Field::Hold => "hold",
+            Field::Hold => Param::Hold.word(),
             Field::By => "by",
             Field::Link => "link",
             Field::To => "to",
             Field::Delay => "delay",
-            Field::Weight => "weight",
+            Field::Weight => Param::Weight.word(),
         }
     }
 }

@@ -2,20 +2,25 @@
 ghost use Rattle.std.specs.Prelude.{◌≡◌, ◌≤◌, length, map, take, true};
 ghost use Rattle.std.specs.List.{list_all};
 ghost use Rattle.net_model.specs.KeyTexts.{display_byte, is_shown, key_text};
+ghost use Rattle.net_model.specs.declared.key_text.TheConstants.{LONGEST_KEY_TEXT};
 
 use std::marker::Model;
 use std::str;
 
-/// At most 32 bytes of `a-z`, `0-9`, `_` and `?`.
+/// The most bytes of a key that are shown.
+pub const LONGEST_KEY_TEXT: usize = 32;
+
+/// At most [`LONGEST_KEY_TEXT`] bytes of `a-z`, `0-9`, `_` and `?`.
 #[derive(Clone, Copy, Debug, PartialEq, Eq)]
 pub struct KeyText {
-    bytes: [u8; 32],
+    bytes: [u8; LONGEST_KEY_TEXT],
     len: usize,
 }
 
 impl Model for KeyText {
     ghost use Rattle.std.specs.Prelude.{◌≡◌, ℕ, ◌-◌, ◌++◌, List, length, take, replicate};
     ghost use Rattle.net_model.specs.KeyTexts.{IsKeyText, key_text_back};
+    ghost use Rattle.net_model.specs.declared.key_text.TheConstants.{LONGEST_KEY_TEXT};
 
     ghost Value = { List ℕ };
 
@@ -23,7 +28,7 @@ impl Model for KeyText {
 
     ghost invariant = { λ k. IsKeyText k.bytes k.len };
 
-    ghost inverse = { λ xs. record { bytes = xs ++ replicate (32 - length xs) 0; len = length xs } };
+    ghost inverse = { λ xs. record { bytes = xs ++ replicate (LONGEST_KEY_TEXT - length xs) 0; len = length xs } };
 
     ghost inverse_ok = { λ k h i. record {
       bytes = (key_text_back k.bytes k.len h).0 i;
@@ -49,13 +54,13 @@ fn show(bytes: &mut [u8])
 }
 
 impl KeyText {
-    /// The first 32 bytes of a key, with `?` for each byte other than `a-z`, `0-9` and `_`.
+    /// The first bytes of a key, with `?` for each byte other than `a-z`, `0-9` and `_`.
     pub fn of(key: &str) -> KeyText
         ensures { result ≡ key_text key.now }
     {
         let text = key.as_bytes();
-        let len = text.len().min(32);
-        let mut bytes = [0u8; 32];
+        let len = text.len().min(LONGEST_KEY_TEXT);
+        let mut bytes = [0u8; LONGEST_KEY_TEXT];
         bytes[..len].copy_from_slice(&text[..len]);
         show(&mut bytes[..len]);
         KeyText { bytes, len }
@@ -64,16 +69,16 @@ impl KeyText {
     fn as_bytes(&self) -> &[u8]
         ensures value { result.now ≡ self.now }
         ensures shown { list_all is_shown result.now ≡ true }
-        ensures short { length result.now ≤ 32 }
+        ensures short { length result.now ≤ LONGEST_KEY_TEXT }
     {
         &self.bytes[..self.len]
     }
 
-    /// Its text, of at most 32 bytes.
+    /// Its text.
     pub fn text(&self) -> &str
         ensures value { result.now ≡ self.now }
         ensures shown { list_all is_shown result.now ≡ true }
-        ensures short { length result.now ≤ 32 }
+        ensures short { length result.now ≤ LONGEST_KEY_TEXT }
     {
         match str::from_utf8(self.as_bytes()) {
             Ok(text) => text,

@@ -127,23 +127,23 @@ fn is_field(fields: &[Field], key: &str) -> bool
 }
 
 /// Refuses a table with a key that is none of the fields, and names the least such key.
-pub fn only_fields(place: u32, fields: &[Field], value: &Value) -> Result<(), ModelFault>
-    ensures { result ≡ only_known place fields.now (view value.now) }
+pub fn only_fields(station: u32, fields: &[Field], value: &Value) -> Result<(), ModelFault>
+    ensures { result ≡ only_known station fields.now (view value.now) }
 {
     match value.as_table() {
-        Some(table) => only_members(place, fields, table),
+        Some(table) => only_members(station, fields, table),
         None => Ok(()),
     }
 }
 
 // The keys of a table rise, so the first unknown one is the least.
-fn only_members(place: u32, fields: &[Field], table: &Table) -> Result<(), ModelFault>
-    ensures { result ≡ none_unknown place (least_unknown fields.now (table_view table.now)) }
+fn only_members(station: u32, fields: &[Field], table: &Table) -> Result<(), ModelFault>
+    ensures { result ≡ none_unknown station (least_unknown fields.now (table_view table.now)) }
 {
     'keys: for (key, _) in table.iter() {
         if !is_field(fields, key.as_str()) {
             return Err(ModelFault::UnknownKey {
-                place,
+                place: station,
                 key: KeyText::of(key.as_str()),
             });
         }

@@ -9,7 +9,7 @@ use crate::fault::ModelFault;
 use crate::field::Field;
 use crate::keys::KindWord;
 use crate::limits::{MOST_CLASS, MOST_JOBS, MOST_ROOM, MOST_SERVERS};
-use crate::reading::{Spot, integer_key, out_of_range, read_text, span_key, text_key};
+use crate::reading::{integer_key, out_of_range, read_text, span_key, spot_at, text_key};
 use crate::station::Kind;
 use toml::Value;
 
@@ -35,34 +35,28 @@ fn kind_named(text: &str) -> Option<KindWord>
 }
 
 /// The word that names a station's kind.
-pub fn kind_key(place: u32, table: &Value) -> Result<KindWord, ModelFault>
-    ensures { result ≡ kind_word_at place (view table.now) }
+pub fn kind_key(station: u32, table: &Value) -> Result<KindWord, ModelFault>
+    ensures { result ≡ kind_word_at station (view table.now) }
 {
-    let spot = Spot {
-        place,
-        field: Field::Kind,
-    };
-    match text_key(spot, table) {
+    let key = spot_at(station, Field::Kind);
+    match text_key(key, table) {
         Ok(text) => match kind_named(text) {
             Some(word) => Ok(word),
-            None => Err(out_of_range(spot)),
+            None => Err(out_of_range(key)),
         },
         Err(fault) => Err(fault),
     }
 }
 
-fn read_class(format: u32, place: u32, table: &Value) -> Result<u64, ModelFault>
-    ensures value { result ≡ class_at format place (view table.now) }
+fn read_class(format: u32, station: u32, table: &Value) -> Result<u64, ModelFault>
+    ensures value { result ≡ class_at format station (view table.now) }
     ensures small { IfOk result (λ n. n ≤ MOST_CLASS) }
 {
     if format == 1 {
         return Ok(1);
     }
-    let spot = Spot {
-        place,
-        field: Field::Class,
-    };
-    integer_key(spot, 1, MOST_CLASS, Some(1), table)
+    let key = spot_at(station, Field::Class);
+    integer_key(key, 1, MOST_CLASS, Some(1), table)
 }
 
 fn order_named(text: &str) -> Option<bool>
@@ -77,23 +71,20 @@ fn order_named(text: &str) -> Option<bool>
     None
 }
 
-fn read_order(format: u32, place: u32, table: &Value) -> Result<bool, ModelFault>
-    ensures { result ≡ order_at format place (view table.now) }
+fn read_order(format: u32, station: u32, table: &Value) -> Result<bool, ModelFault>
+    ensures { result ≡ order_at format station (view table.now) }
 {
     if format == 1 {
         return Ok(false);
     }
-    let spot = Spot {
-        place,
-        field: Field::Order,
-    };
-    let Some(value) = table.get(spot.field.key()) else {
+    let key = spot_at(station, Field::Order);
+    let Some(value) = table.get(key.field.key()) else {
         return Ok(false);
     };
-    match read_text(spot, value) {
+    match read_text(key, value) {
         Ok(text) => match order_named(text) {
             Some(by_class) => Ok(by_class),
-            None => Err(out_of_range(spot)),
+            None => Err(out_of_range(key)),
         },
         Err(fault) => Err(fault),
     }
@@ -111,28 +102,12 @@ fn way_named(text: &str) -> Option<bool>
     None
 }
 
-fn read_source(format: u32, place: u32, table: &Value) -> Result<Kind, ModelFault>
-    ensures { result ≡ source_of format place (view table.now) }
+fn read_source(format: u32, station: u32, table: &Value) -> Result<Kind, ModelFault>
+    ensures { result ≡ source_of format station (view table.now) }
 {
-    let every = span_key(
-        Spot {
-            place,
-            field: Field::Every,
-        },
-        1,
-        table,
-    )?;
-    let jobs = integer_key(
-        Spot {
-            place,
-            field: Field::Jobs,
-        },
-        0,
-        MOST_JOBS,
-        None,
-        table,
-    )?;
-    let class = read_class(format, place, table)? as u32;
+    let every = span_key(spot_at(station, Field::Every), 1, table)?;
+    let jobs = integer_key(spot_at(station, Field::Jobs), 0, MOST_JOBS, None, table)?;
+    let class = read_class(format, station, table)? as u32;
     Ok(Kind::Source {
         lo: every.lo,
         hi: every.hi,
@@ -141,38 +116,19 @@ fn read_source(format: u32, place: u32, table: &Value) -> Result<Kind, ModelFaul
     })
 }
 
-fn read_server(format: u32, place: u32, table: &Value) -> Result<Kind, ModelFault>
-    ensures { result ≡ server_of format place (view table.now) }
+fn read_server(format: u32, station: u32, table: &Value) -> Result<Kind, ModelFault>
+    ensures { result ≡ server_of format station (view table.now) }
 {
     let servers = integer_key(
-        Spot {
-            place,
-            field: Field::Servers,
-        },
+        spot_at(station, Field::Servers),
         1,
         MOST_SERVERS,
         None,
         table,
     )? as u32;
-    let room = integer_key(
-        Spot {
-            place,
-            field: Field::Room,
-        },
-        0,
-        MOST_ROOM,
-        None,
-        table,
-    )? as u32;
-    let service = span_key(
-        Spot {
-            place,
-            field: Field::Service,
-        },
-        1,
-        table,
-    )?;
-    let by_class = read_order(format, place, table)?;
+    let room = integer_key(spot_at(station, Field::Room), 0, MOST_ROOM, None, table)? as u32;
+    let service = span_key(spot_at(station, Field::Service), 1, table)?;
+    let by_class = read_order(format, station, table)?;
     Ok(Kind::Server {
         servers,
         room,
@@ -182,48 +138,43 @@ fn read_server(format: u32, place: u32, table: &Value) -> Result<Kind, ModelFaul
     })
 }
 
-fn read_delay(place: u32, table: &Value) -> Result<Kind, ModelFault>
-    ensures { result ≡ delay_of place (view table.now) }
+fn read_delay(station: u32, table: &Value) -> Result<Kind, ModelFault>
+    ensures { result ≡ delay_of station (view table.now) }
 {
-    let hold = span_key(
-        Spot {
-            place,
-            field: Field::Hold,
-        },
-        0,
-        table,
-    )?;
+    let hold = span_key(spot_at(station, Field::Hold), 0, table)?;
     Ok(Kind::Delay {
         lo: hold.lo,
         hi: hold.hi,
     })
 }
 
-fn read_router(place: u32, table: &Value) -> Result<Kind, ModelFault>
-    ensures { result ≡ router_of place (view table.now) }
+fn read_router(station: u32, table: &Value) -> Result<Kind, ModelFault>
+    ensures { result ≡ router_of station (view table.now) }
 {
-    let spot = Spot {
-        place,
-        field: Field::By,
-    };
-    match text_key(spot, table) {
+    let key = spot_at(station, Field::By);
+    match text_key(key, table) {
         Ok(text) => match way_named(text) {
             Some(turn) => Ok(Kind::Router { turn }),
-            None => Err(out_of_range(spot)),
+            None => Err(out_of_range(key)),
         },
         Err(fault) => Err(fault),
     }
 }
 
 /// What a station of a kind does, by that kind's keys.
-pub fn read_kind(format: u32, place: u32, word: KindWord, table: &Value) -> Result<Kind, ModelFault>
-    ensures { result ≡ kind_of format place word (view table.now) }
+pub fn read_kind(
+    format: u32,
+    station: u32,
+    word: KindWord,
+    table: &Value,
+) -> Result<Kind, ModelFault>
+    ensures { result ≡ kind_of format station word (view table.now) }
 {
     match word {
-        KindWord::Source => read_source(format, place, table),
-        KindWord::Server => read_server(format, place, table),
-        KindWord::Delay => read_delay(place, table),
-        KindWord::Router => read_router(place, table),
+        KindWord::Source => read_source(format, station, table),
+        KindWord::Server => read_server(format, station, table),
+        KindWord::Delay => read_delay(station, table),
+        KindWord::Router => read_router(station, table),
         KindWord::Sink => Ok(Kind::Sink),
     }
 }

@@ -1,7 +1,11 @@
-//! The greatest values that a model may state, each named once.
+//! The greatest values that a model may state, each named once, and which times are a range.
+ghost use Rattle.std.specs.Prelude.{◌≡◌};
+ghost use Rattle.net_model.specs.Rules.{is_range as is_range_of};
+
+use sim_base::MOST_FILE_BYTES;
 
 /// Bytes of a model's text.
-pub const MOST_BYTES: usize = 1_048_576;
+pub const MOST_BYTES: usize = MOST_FILE_BYTES;
 /// Stations of a model.
 pub const MOST_STATIONS: usize = 64;
 /// Links of a station.
@@ -18,11 +22,18 @@ pub const MOST_LIMIT: u64 = 65_536;
 pub const USUAL_LIMIT: u64 = 16_384;
 /// Jobs that a source makes.
 pub const MOST_JOBS: u64 = 1_000_000;
-/// The class of a source's jobs; the least is 1.
+/// The class of a source's jobs, which is 1 or more.
 pub const MOST_CLASS: u64 = 4;
 /// Jobs that a server serves at a time.
 pub const MOST_SERVERS: u64 = 16;
 /// Jobs that wait at a server: its queue capacity.
 pub const MOST_ROOM: u64 = 4_096;
-/// The weight of a link; the least is 1.
+/// The weight of a link, which is 1 or more.
 pub const MOST_WEIGHT: u64 = 1_000;
+
+/// Whether the times from `lo` to `hi` are a range: no less than `low`, in order, and no more than [`MOST_TIME`].
+pub fn is_range(low: u64, lo: u64, hi: u64) -> bool
+    ensures { result ≡ is_range_of low lo hi }
+{
+    low <= lo && lo <= hi && hi <= MOST_TIME
+}

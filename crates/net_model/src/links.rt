@@ -10,7 +10,7 @@ use crate::fault::ModelFault;
 use crate::field::Field;
 use crate::keys::{KindWord, link_fields, only_fields};
 use crate::limits::{MOST_LINKS, MOST_TIME, MOST_WEIGHT};
-use crate::reading::{Spot, integer_key, name_key, read_tables};
+use crate::reading::{integer_key, name_key, read_tables, spot_at};
 use arrayvec::ArrayVec;
 use sim_base::Name;
 use toml::Value;
@@ -37,32 +37,14 @@ impl Default for NamedLink {
     }
 }
 
-fn read_link(place: u32, table: &Value) -> Result<NamedLink, ModelFault>
-    ensures { result ≡ link_of place (view table.now) }
+fn read_link(station: u32, table: &Value) -> Result<NamedLink, ModelFault>
+    ensures { result ≡ link_of station (view table.now) }
 {
-    only_fields(place, link_fields(), table)?;
-    let to = name_key(
-        Spot {
-            place,
-            field: Field::To,
-        },
-        table,
-    )?;
-    let delay = integer_key(
-        Spot {
-            place,
-            field: Field::Delay,
-        },
-        1,
-        MOST_TIME,
-        None,
-        table,
-    )?;
+    only_fields(station, link_fields(), table)?;
+    let to = name_key(spot_at(station, Field::To), table)?;
+    let delay = integer_key(spot_at(station, Field::Delay), 1, MOST_TIME, None, table)?;
     let weight = integer_key(
-        Spot {
-            place,
-            field: Field::Weight,
-        },
+        spot_at(station, Field::Weight),
         1,
         MOST_WEIGHT,
         Some(1),
@@ -71,13 +53,13 @@ fn read_link(place: u32, table: &Value) -> Result<NamedLink, ModelFault>
     Ok(NamedLink { to, delay, weight })
 }
 
-fn read_each(place: u32, tables: &[Value]) -> Result<ArrayVec<NamedLink, MOST_LINKS>, ModelFault>
+fn read_each(station: u32, tables: &[Value]) -> Result<ArrayVec<NamedLink, MOST_LINKS>, ModelFault>
     requires { length tables.now ≤ MOST_LINKS }
-    ensures { result_map_both (λ v. v.items) (λ e. e) result ≡ each_link place (map view tables.now) }
+    ensures { result_map_both (λ v. v.items) (λ e. e) result ≡ each_link station (map view tables.now) }
 {
     let mut links = ArrayVec::new();
     'links: for table in tables {
-        match read_link(place, table) {
+        match read_link(station, table) {
             Ok(link) => links.push(link),
             Err(fault) => return Err(fault),
         }
@@ -85,8 +67,8 @@ fn read_each(place: u32, tables: &[Value]) -> Result<ArrayVec<NamedLink, MOST_LI
     Ok(links)
 }
 
-fn link_values(place: u32, table: &Value) -> Result<&[Value], ModelFault>
-    ensures value { result_map_both (λ vs. map view vs.now) (λ e. e) result ≡ link_tables place
+fn link_values(station: u32, table: &Value) -> Result<&[Value], ModelFault>
+    ensures value { result_map_both (λ vs. map view vs.now) (λ e. e) result ≡ link_tables station
         (get (key_of Field.Link) (view table.now)) }
     ensures few { IfOk result (λ vs. length vs.now ≤ MOST_LINKS) }
 {
@@ -94,10 +76,10 @@ fn link_values(place: u32, table: &Value) -> Result<&[Value], ModelFault>
     let Some(value) = table.get(field.key()) else {
         return Ok(&[]);
     };
-    match read_tables(Spot { place, field }, value) {
+    match read_tables(spot_at(station, field), value) {
         Ok(tables) => {
             if tables.len() > MOST_LINKS {
-                return Err(ModelFault::TooMany { place });
+                return Err(ModelFault::TooMany { place: station });
             }
             Ok(tables)
         }
@@ -107,16 +89,16 @@ fn link_values(place: u32, table: &Value) -> Result<&[Value], ModelFault>
 
 /// The links of a station of a kind, in order.
 pub fn read_links(
-    place: u32,
+    station: u32,
     word: KindWord,
     table: &Value,
 ) -> Result<ArrayVec<NamedLink, MOST_LINKS>, ModelFault>
-    ensures { result_map_both (λ v. v.items) (λ e. e) result ≡ links_of place word (view table.now) }
+    ensures { result_map_both (λ v. v.items) (λ e. e) result ≡ links_of station word (view table.now) }
 {
     match word {
         KindWord::Sink => Ok(ArrayVec::new()),
-        _ => match link_values(place, table) {
-            Ok(tables) => read_each(place, tables),
+        _ => match link_values(station, table) {
+            Ok(tables) => read_each(station, tables),
             Err(fault) => Err(fault),
         },
     }

@@ -5,16 +5,13 @@ ghost use Rattle.net_model.specs.Net.{class_from, station_named, site_at};
 ghost use Rattle.net_model.specs.Sites.{as_site};
 
 use crate::station::{Kind, Station};
+use crate::top::Top;
 use sim_base::Name;
 
 /// A model that meets every rule of `specs/Rules.antt`.
 #[derive(Drop)]
 pub struct Model {
-    pub(crate) format: u32,
-    pub(crate) lookahead: u64,
-    pub(crate) horizon: u64,
-    pub(crate) seed: u64,
-    pub(crate) limit: u64,
+    pub(crate) top: Top,
     pub(crate) stations: Vec<Station>,
 }
 
@@ -26,9 +23,9 @@ impl std::marker::Model for Model {
     ghost use Rattle.net_model.specs.Sites.{net_of};
     ghost use Rattle.net_model.specs.Rules.{IsNet};
 
-    ghost view = { λ m. net_of m.format m.lookahead m.horizon m.seed m.limit m.stations.items };
+    ghost view = { λ m. net_of m.top m.stations.items };
 
-    ghost invariant = { λ m. IsNet (net_of m.format m.lookahead m.horizon m.seed m.limit m.stations.items) };
+    ghost invariant = { λ m. IsNet (net_of m.top m.stations.items) };
 }
 
 impl Model {
@@ -80,7 +77,7 @@ impl Model {
     pub fn format(&self) -> u32
         ensures { result ≡ self.now.format }
     {
-        self.format
+        self.top.format
     }
 
     /// No link's delay is less than this; it is at least 1.
@@ -88,7 +85,7 @@ impl Model {
         ensures value { result ≡ self.now.lookahead }
         ensures valid { IsNet self.now }
     {
-        self.lookahead
+        self.top.lookahead
     }
 
     /// Nothing is handled at this time or later.
@@ -96,14 +93,14 @@ impl Model {
         ensures value { result ≡ self.now.horizon }
         ensures valid { IsNet self.now }
     {
-        self.horizon
+        self.top.horizon
     }
 
     /// The seed of all draws.
     pub fn seed(&self) -> u64
         ensures { result ≡ self.now.seed }
     {
-        self.seed
+        self.top.seed
     }
 
     /// How many messages a station may handle in one clone.
@@ -111,7 +108,7 @@ impl Model {
         ensures value { result ≡ self.now.limit }
         ensures valid { IsNet self.now }
     {
-        self.limit
+        self.top.limit
     }
 }
 

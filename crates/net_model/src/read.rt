@@ -67,14 +67,7 @@ fn read_root(alloc: Global, root: &Value) -> Result<Model, ModelFault>
         Err(fault) => return Err(fault),
     };
     match read_stations(alloc, top, tables) {
-        Ok(stations) => Ok(Model {
-            format: top.format,
-            lookahead: top.lookahead,
-            horizon: top.horizon,
-            seed: top.seed,
-            limit: top.limit,
-            stations,
-        }),
+        Ok(stations) => Ok(Model { top, stations }),
         Err(fault) => Err(fault),
     }
 }

@@ -9,15 +9,22 @@ ghost use Rattle.net_model.specs.Reading.{span_of_two, tables_of, text_at, text_
 
 use crate::fault::ModelFault;
 use crate::field::Field;
-use crate::limits::MOST_TIME;
+use crate::limits::is_range;
 use sim_base::Name;
 use toml::Value;
 
 /// Which key of which station is read; the station is 0 for the top of the file.
 #[derive(Clone, Copy, Debug, PartialEq, Eq)]
 pub struct Spot {
-    pub place: u32,
+    pub station: u32,
     pub field: Field,
+}
+
+/// The spot of a key.
+pub(crate) fn spot_at(station: u32, field: Field) -> Spot
+    ensures { result ≡ record { station = station; field = field } }
+{
+    Spot { station, field }
 }
 
 /// A range of times, from `lo` to `hi`.
@@ -28,36 +35,36 @@ pub struct Span {
 }
 
 fn missing(spot: Spot) -> ModelFault
-    ensures { result ≡ ModelFault.Missing spot.place spot.field }
+    ensures { result ≡ ModelFault.Missing spot.station spot.field }
 {
     ModelFault::Missing {
-        place: spot.place,
+        place: spot.station,
         field: spot.field,
     }
 }
 
 fn wrong_type(spot: Spot) -> ModelFault
-    ensures { result ≡ ModelFault.WrongType spot.place spot.field }
+    ensures { result ≡ ModelFault.WrongType spot.station spot.field }
 {
     ModelFault::WrongType {
-        place: spot.place,
+        place: spot.station,
         field: spot.field,
     }
 }
 
 /// The fault of a value that is none of those that the key may have.
 pub(crate) fn out_of_range(spot: Spot) -> ModelFault
-    ensures { result ≡ ModelFault.OutOfRange spot.place spot.field }
+    ensures { result ≡ ModelFault.OutOfRange spot.station spot.field }
 {
     ModelFault::OutOfRange {
-        place: spot.place,
+        place: spot.station,
         field: spot.field,
     }
 }
 
 /// The value of a key that has to be there.
 pub fn value_key<'a>(spot: Spot, table: &'a Value) -> Result<&'a Value, ModelFault>
-    ensures { result_map_both (λ v. view v.now) (λ e. e) result ≡ value_at spot.place spot.field (view table.now) }
+    ensures { result_map_both (λ v. view v.now) (λ e. e) result ≡ value_at spot.station spot.field (view table.now) }
 {
     match table.get(spot.field.key()) {
         Some(value) => Ok(value),
@@ -67,7 +74,7 @@ pub fn value_key<'a>(spot: Spot, table: &'a Value) -> Result<&'a Value, ModelFau
 
 fn read_integer(spot: Spot, low: u64, high: u64, value: &Value) -> Result<u64, ModelFault>
     requires { high < 2 ^ 63 }
-    ensures value { result ≡ integer_of spot.place spot.field low high (view value.now) }
+    ensures value { result ≡ integer_of spot.station spot.field low high (view value.now) }
     ensures small { IfOk result (λ n. n ≤ high) }
 {
     let Some(number) = value.as_integer() else {
@@ -89,7 +96,7 @@ pub fn integer_key(
 ) -> Result<u64, ModelFault>
     requires wide { high < 2 ^ 63 }
     requires usual { IfSome default (λ n. n ≤ high) }
-    ensures value { result ≡ integer_at spot.place spot.field low high default (view table.now) }
+    ensures value { result ≡ integer_at spot.station spot.field low high default (view table.now) }
     ensures small { IfOk result (λ n. n ≤ high) }
 {
     match table.get(spot.field.key()) {
@@ -103,7 +110,7 @@ pub fn integer_key(
 
 /// The text that a value is.
 pub fn read_text<'a>(spot: Spot, value: &'a Value) -> Result<&'a str, ModelFault>
-    ensures { result_map_both (λ s. s.now) (λ e. e) result ≡ text_of spot.place spot.field (view value.now) }
+    ensures { result_map_both (λ s. s.now) (λ e. e) result ≡ text_of spot.station spot.field (view value.now) }
 {
     match value.as_str() {
         Some(text) => Ok(text),
@@ -113,7 +120,7 @@ pub fn read_text<'a>(spot: Spot, value: &'a Value) -> Result<&'a str, ModelFault
 
 /// The text that a key states.
 pub fn text_key<'a>(spot: Spot, table: &'a Value) -> Result<&'a str, ModelFault>
-    ensures { result_map_both (λ s. s.now) (λ e. e) result ≡ text_at spot.place spot.field (view table.now) }
+    ensures { result_map_both (λ s. s.now) (λ e. e) result ≡ text_at spot.station spot.field (view table.now) }
 {
     match value_key(spot, table) {
         Ok(value) => read_text(spot, value),
@@ -123,12 +130,14 @@ pub fn text_key<'a>(spot: Spot, table: &'a Value) -> Result<&'a str, ModelFault>
 
 /// The name that a key states.
 pub fn name_key(spot: Spot, table: &Value) -> Result<Name, ModelFault>
-    ensures { result ≡ name_at spot.place spot.field (view table.now) }
+    ensures { result ≡ name_at spot.station spot.field (view table.now) }
 {
     match text_key(spot, table) {
         Ok(text) => match Name::read(text.as_bytes()) {
             Some(name) => Ok(name),
-            None => Err(ModelFault::BadName { place: spot.place }),
+            None => Err(ModelFault::BadName {
+                place: spot.station,
+            }),
         },
         Err(fault) => Err(fault),
     }
@@ -140,19 +149,19 @@ fn span_of_numbers(
     lo: Option<i64>,
     hi: Option<i64>,
 ) -> Result<Span, ModelFault>
-    ensures { result ≡ span_of_two spot.place spot.field low lo hi }
+    ensures { result ≡ span_of_two spot.station spot.field low lo hi }
 {
     let (Some(lo), Some(hi)) = (lo, hi) else {
         return Err(wrong_type(spot));
     };
     match (u64::try_from(lo), u64::try_from(hi)) {
-        (Ok(lo), Ok(hi)) if low <= lo && lo <= hi && hi <= MOST_TIME => Ok(Span { lo, hi }),
+        (Ok(lo), Ok(hi)) if is_range(low, lo, hi) => Ok(Span { lo, hi }),
         _ => Err(out_of_range(spot)),
     }
 }
 
 fn span_of_values(spot: Spot, low: u64, values: &[Value]) -> Result<Span, ModelFault>
-    ensures { result ≡ span_of_list spot.place spot.field low (map view values.now) }
+    ensures { result ≡ span_of_list spot.station spot.field low (map view values.now) }
 {
     match values {
         [lo, hi] => span_of_numbers(spot, low, lo.as_integer(), hi.as_integer()),
@@ -161,7 +170,7 @@ fn span_of_values(spot: Spot, low: u64, values: &[Value]) -> Result<Span, ModelF
 }
 
 fn read_span(spot: Spot, low: u64, value: &Value) -> Result<Span, ModelFault>
-    ensures { result ≡ span_of_value spot.place spot.field low (view value.now) }
+    ensures { result ≡ span_of_value spot.station spot.field low (view value.now) }
 {
     match value.as_array() {
         Some(values) => span_of_values(spot, low, values.as_slice()),
@@ -171,7 +180,7 @@ fn read_span(spot: Spot, low: u64, value: &Value) -> Result<Span, ModelFault>
 
 /// The range of times that a key states, with `lo` at least `low`.
 pub fn span_key(spot: Spot, low: u64, table: &Value) -> Result<Span, ModelFault>
-    ensures { result ≡ span_at spot.place spot.field low (view table.now) }
+    ensures { result ≡ span_at spot.station spot.field low (view table.now) }
 {
     match value_key(spot, table) {
         Ok(value) => read_span(spot, low, value),
@@ -187,7 +196,7 @@ fn are_tables(values: &[Value]) -> bool
 
 /// The elements of an array of tables.
 pub fn read_tables<'a>(spot: Spot, value: &'a Value) -> Result<&'a [Value], ModelFault>
-    ensures { result_map_both (λ vs. map view vs.now) (λ e. e) result ≡ tables_of spot.place spot.field
+    ensures { result_map_both (λ vs. map view vs.now) (λ e. e) result ≡ tables_of spot.station spot.field
         (view value.now) }
 {
     match value.as_array() {

@@ -1,11 +1,11 @@
 //! Resolves the links of the stations.
-ghost use Rattle.std.specs.Prelude.{◌≡◌, ◌≢◌, ◌≤◌, ◌<◌, ◌^◌, IfErr, IfOk, IfSome, length, map, position, Ok, Err};
+ghost use Rattle.std.specs.Prelude.{◌≡◌, ◌≢◌, ◌≤◌, ◌<◌, IfErr, IfOk, IfSome, length, map, position, Ok, Err};
 ghost use Rattle.std.specs.Result.{result_map_both};
 ghost use Rattle.std.specs.Str.{bytes_eq};
 ghost use Rattle.net_model.specs.Drafts.{as_draft};
 ghost use Rattle.net_model.specs.Resolving.{links_of_named, link_to, link_of_named, site_of_draft, sites_of};
 ghost use Rattle.net_model.specs.Sites.{as_site};
-ghost use Rattle.net_model.specs.declared.limits.TheConstants.{MOST_LINKS};
+ghost use Rattle.net_model.specs.declared.limits.TheConstants.{MOST_LINKS, MOST_STATIONS};
 
 use crate::draft::Draft;
 use crate::fault::ModelFault;
@@ -27,19 +27,19 @@ fn named_draft(drafts: &[Draft], name: &Name) -> Option<usize>
 
 fn link_into(
     lookahead: u64,
-    place: u32,
+    station: u32,
     link: &NamedLink,
     i: usize,
     kind: Kind,
 ) -> Result<Link, ModelFault>
-    requires { i < 2 ^ 31 }
-    ensures { result ≡ link_to lookahead place link.now i kind }
+    requires { i < MOST_STATIONS }
+    ensures { result ≡ link_to lookahead station link.now i kind }
 {
     if kind.is_source() {
-        return Err(ModelFault::IntoSource { place });
+        return Err(ModelFault::IntoSource { place: station });
     }
     if link.delay < lookahead {
-        return Err(ModelFault::ShortDelay { place });
+        return Err(ModelFault::ShortDelay { place: station });
     }
     Ok(Link {
         to: i as u32 + 1,
@@ -51,32 +51,32 @@ fn link_into(
 fn resolve_link(
     lookahead: u64,
     drafts: &[Draft],
-    place: u32,
+    station: u32,
     link: &NamedLink,
 ) -> Result<Link, ModelFault>
-    requires { length drafts.now < 2 ^ 31 }
-    ensures { result ≡ link_of_named lookahead (map as_draft drafts.now) place link.now }
+    requires { length drafts.now ≤ MOST_STATIONS }
+    ensures { result ≡ link_of_named lookahead (map as_draft drafts.now) station link.now }
 {
     match named_draft(drafts, &link.to) {
-        Some(i) => link_into(lookahead, place, link, i, drafts[i].kind),
-        None => Err(ModelFault::UnknownStation { place }),
+        Some(i) => link_into(lookahead, station, link, i, drafts[i].kind),
+        None => Err(ModelFault::UnknownStation { place: station }),
     }
 }
 
 fn resolve_links(
     lookahead: u64,
     drafts: &[Draft],
-    place: u32,
+    station: u32,
     links: &[NamedLink],
 ) -> Result<ArrayVec<Link, MOST_LINKS>, ModelFault>
-    requires some { length drafts.now < 2 ^ 31 }
+    requires some { length drafts.now ≤ MOST_STATIONS }
     requires few { length links.now ≤ MOST_LINKS }
     ensures { result_map_both (λ v. v.items) (λ e. e) result ≡ links_of_named lookahead
-        (map as_draft drafts.now) place links.now }
+        (map as_draft drafts.now) station links.now }
 {
     let mut found = ArrayVec::new();
     'links: for link in links {
-        match resolve_link(lookahead, drafts, place, link) {
+        match resolve_link(lookahead, drafts, station, link) {
             Ok(link) => found.push(link),
             Err(fault) => return Err(fault),
         }
@@ -87,16 +87,16 @@ fn resolve_links(
 fn resolve_station(
     lookahead: u64,
     drafts: &[Draft],
-    place: u32,
+    station: u32,
     draft: &Draft,
 ) -> Result<Station, ModelFault>
-    requires { length drafts.now < 2 ^ 31 }
-    ensures { result_map_both as_site (λ e. e) result ≡ site_of_draft lookahead (map as_draft drafts.now) place
+    requires { length drafts.now ≤ MOST_STATIONS }
+    ensures { result_map_both as_site (λ e. e) result ≡ site_of_draft lookahead (map as_draft drafts.now) station
         (as_draft draft.now) }
 {
-    let links = resolve_links(lookahead, drafts, place, draft.links.as_slice())?;
+    let links = resolve_links(lookahead, drafts, station, draft.links.as_slice())?;
     if !draft.kind.is_sink() && links.is_empty() {
-        return Err(ModelFault::NoWayOut { place });
+        return Err(ModelFault::NoWayOut { place: station });
     }
     Ok(Station {
         name: draft.name,
@@ -112,7 +112,7 @@ pub fn resolve_stations(
     lookahead: u64,
     drafts: &[Draft],
 ) -> Result<Vec<Station>, ModelFault>
-    requires { length drafts.now < 2 ^ 31 }
+    requires { length drafts.now ≤ MOST_STATIONS }
     ensures ok { IfOk result (λ v. sites_of lookahead (map as_draft drafts.now) 1 (map as_draft drafts.now)
         ≡ Ok (map as_site v.items)) }
     ensures refused { IfErr result (λ e. e ≢ ModelFault.NoMemory

@@ -1,4 +1,4 @@
-//! What a model says of a station.
+//! What a model says of a station (a logical process): its name, its kind, its random number stream, and its links.
 ghost use Rattle.std.specs.Prelude.{◌≡◌};
 ghost use Rattle.net_model.specs.Net.{is_source, is_sink, routes_by_turn, serves_by_class};
 

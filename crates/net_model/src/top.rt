@@ -1,4 +1,4 @@
-//! Reads the top of a model file.
+//! Reads the top of a model file: its format, lookahead, horizon (stop time), seed and limit.
 ghost use Rattle.std.specs.Prelude.{◌≡◌, ◌≤◌, IfOk, length, map};
 ghost use Rattle.std.specs.Result.{result_map_both};
 ghost use Rattle.toml.specs.View.{view};
@@ -7,7 +7,7 @@ ghost use Rattle.net_model.specs.Top.{in_number, stations_at, top_of};
 use crate::fault::ModelFault;
 use crate::field::Field;
 use crate::limits::{MOST_HORIZON, MOST_LIMIT, MOST_SEED, MOST_STATIONS, MOST_TIME, USUAL_LIMIT};
-use crate::reading::{Spot, integer_key, out_of_range, read_tables, value_key};
+use crate::reading::{integer_key, out_of_range, read_tables, spot_at, value_key};
 use toml::Value;
 
 /// The numbers of the whole model, with the meaning that they have in a `Model`.
@@ -20,21 +20,21 @@ pub struct Top {
     pub limit: u64,
 }
 
-fn spot(field: Field) -> Spot
-    ensures { result ≡ record { place = 0; field = field } }
-{
-    Spot { place: 0, field }
-}
-
 /// The numbers at the top.
 pub fn top_numbers(root: &Value) -> Result<Top, ModelFault>
     ensures { result ≡ top_of (view root.now) }
 {
-    let format = integer_key(spot(Field::Format), 1, 2, Some(1), root)? as u32;
-    let lookahead = integer_key(spot(Field::Lookahead), 1, MOST_TIME, None, root)?;
-    let horizon = integer_key(spot(Field::Horizon), 1, MOST_HORIZON, None, root)?;
-    let seed = integer_key(spot(Field::Seed), 0, MOST_SEED, Some(0), root)?;
-    let limit = integer_key(spot(Field::Limit), 1, MOST_LIMIT, Some(USUAL_LIMIT), root)?;
+    let format = integer_key(spot_at(0, Field::Format), 1, 2, Some(1), root)? as u32;
+    let lookahead = integer_key(spot_at(0, Field::Lookahead), 1, MOST_TIME, None, root)?;
+    let horizon = integer_key(spot_at(0, Field::Horizon), 1, MOST_HORIZON, None, root)?;
+    let seed = integer_key(spot_at(0, Field::Seed), 0, MOST_SEED, Some(0), root)?;
+    let limit = integer_key(
+        spot_at(0, Field::Limit),
+        1,
+        MOST_LIMIT,
+        Some(USUAL_LIMIT),
+        root,
+    )?;
     Ok(Top {
         format,
         lookahead,
@@ -49,7 +49,7 @@ fn counted_tables(tables: &[Value]) -> Result<&[Value], ModelFault>
     ensures value { result_map_both (λ vs. map view vs.now) (λ e. e) result ≡ in_number (map view tables.now) }
 {
     if tables.is_empty() {
-        return Err(out_of_range(spot(Field::Station)));
+        return Err(out_of_range(spot_at(0, Field::Station)));
     }
     if tables.len() > MOST_STATIONS {
         return Err(ModelFault::TooMany { place: 0 });
@@ -62,8 +62,8 @@ pub fn station_tables(root: &Value) -> Result<&[Value], ModelFault>
     ensures few { IfOk result (λ vs. length vs.now ≤ MOST_STATIONS) }
     ensures value { result_map_both (λ vs. map view vs.now) (λ e. e) result ≡ stations_at (view root.now) }
 {
-    match value_key(spot(Field::Station), root) {
-        Ok(value) => match read_tables(spot(Field::Station), value) {
+    match value_key(spot_at(0, Field::Station), root) {
+        Ok(value) => match read_tables(spot_at(0, Field::Station), value) {
             Ok(tables) => counted_tables(tables),
             Err(fault) => Err(fault),
         },

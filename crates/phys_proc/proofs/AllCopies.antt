@@ -2,12 +2,12 @@
 use Rattle.std.proofs.Common.{◌≡◌, ℕ, ◌+◌, ◌*◌, ◌-◌, ◌≤◌, List, [], ◌∷◌, ◌++◌, inl, inr, refl, sym, ap}
 use Rattle.std.proofs.Common.{◌∙◌, subst, arith, append_assoc, append-nil, length}
 use Rattle.std.specs.List.{AllByRecursion}
-use Rattle.std.proofs.lemmas.Bool.{cases_Bool, false≢true}
+use Rattle.sim_base.proofs.ListLaws.{all_append, all_right}
 use Rattle.std.proofs.Math.Nat.{add-mul, mul-le-mul_left}
 use Rattle.sim_base.specs.declared.message.Msg.{Msg}
 use Rattle.clone_sets.specs.Sets.{has, empty, size}
 use Rattle.clone_sets.specs.declared.set.CloneSet.{CloneSet}
-use Rattle.clone_sets.proofs.SetLaws.{has-empty, empty_from_none}
+use Rattle.clone_sets.proofs.SetLaws.{has-empty}
 use Rattle.net_model.specs.Net.{Net}
 use Rattle.net_model.specs.Rules.{IsNet}
 use Rattle.sim_base.specs.Order.{msg_cmp}
@@ -18,34 +18,31 @@ use Rattle.run_laws.specs.Queue.{In}
 use Rattle.sim_base.specs.Marked.{SortedMarked}
 use Rattle.run_laws.specs.Copies.{Disjoint, Carries, SoFar, IsStepped, AreOver, GainTogether}
 use Rattle.run_laws.proofs.Queue.{all_in}
+use Rattle.run_laws.proofs.Lists.{append_new}
 use Rattle.run_laws.proofs.Parts.{all_part_of}
 use Rattle.run_laws.proofs.Steps.{so_far_none, so_far_more, stepped, are_over}
 use Rattle.run_laws.proofs.Gaining.{gained_alone, together_push}
 use Rattle.phys_proc.specs.Own.{StationCopy, MarkedMessages, IsCopy, IsLate, AreLate}
 use Rattle.phys_proc.specs.Own.{IsAdvance, IsStepResult, takes_at, all_sizes, handled_alone_by}
-use Rattle.phys_proc.proofs.Counting.{all_sizes-append, alone-append}
-use Rattle.phys_proc.proofs.Parted.{same_none}
-use Rattle.phys_proc.proofs.Onward.{sets_join, good_state, all_both, onward_start, answer_rest}
+use Rattle.phys_proc.proofs.Counting.{empty_within, all_sizes-append, alone-append}
+use Rattle.phys_proc.proofs.Halves.{same_none}
+use Rattle.phys_proc.proofs.ComesFrom.{sets_join, good_state, comes_from-start, advance-done}
 
-all_behind : {X : Type 0} (P : X → Type 0) (ys zs : List X) → AllByRecursion P (ys ++ zs) → AllByRecursion P zs
-all_behind P [] zs f = f
-all_behind P (y ∷ ys) zs f = all_behind P ys zs f.1
+-- ---- AllByRecursion and Disjoint
 
--- what holds of all holds of it
+-- what holds of all elements of a list holds of the one between two parts
 pub holds_at : {X : Type 0} (P : X → Type 0) (ys zs : List X) (x : X) → AllByRecursion P (ys ++ x ∷ zs) → P x
-holds_at P ys zs x f = (all_behind P ys (x ∷ zs) f).0
+holds_at P ys zs x f = (all_right P ys (x ∷ zs) f).0
 
-here_in : (ys zs : List StationCopy) (x : StationCopy) → In x (ys ++ x ∷ zs)
-here_in [] zs x = inl refl
-here_in (y ∷ ys) zs x = inr (here_in ys zs x)
+-- of disjoint copies the first ones share no clone with the last
+pub disjoint_apart : (xs ys : List StationCopy) → Disjoint has (xs ++ ys) → (a b : StationCopy) (c : ℕ) → In a xs
+    → In b ys → Carries has a c → Carries has b c → ⊥
+disjoint_apart [] ys d a b c i j k l = absurd i
+disjoint_apart (x ∷ xs) ys d a b c (inl e) j k l = all_in (λ b. (c : ℕ) → Carries has x c → ¬ (Carries has b c))
+    (xs ++ ys) b d.0 (append_new xs ys b j) c (subst (λ u. Carries has u c) e k) l
+disjoint_apart (x ∷ xs) ys d a b c (inr i) j k l = disjoint_apart xs ys d.1 a b c i j k l
 
--- a copy shares no clone with those before it
-apart_from : (ys zs : List StationCopy) (x a : StationCopy) (c : ℕ) → Disjoint has (ys ++ x ∷ zs) → In a ys
-    → Carries has a c → Carries has x c → ⊥
-apart_from [] zs x a c h j u v = absurd j
-apart_from (y ∷ ys) zs x a c h (inl p) u v = all_in (λ b. (c : ℕ) → Carries has y c → ¬ (Carries has b c))
-    (ys ++ x ∷ zs) x h.0 (here_in ys zs x) c (subst (λ t. Carries has t c) p u) v
-apart_from (y ∷ ys) zs x a c h (inr j) u v = apart_from ys zs x a c h.1 j u v
+-- ---- IsStepResult
 
 module _ (net : Net) (valid : IsNet net) (s : ℕ) (ends : ℕ → ℕ) (bound : ℕ) where
   -- before the first copy nothing is done, nothing is sent and no clone is over the limit
@@ -70,7 +67,7 @@ module _ (net : Net) (valid : IsNet net) (s : ℕ) (ends : ℕ → ℕ) (bound :
   stepping_more ys zs x done new sent next over over1 steps0 steps steps1 dis f a =
       let law = lawful-stations net valid in
       let apart : (b : StationCopy) (c : ℕ) → In b ys → Carries has b c → Carries has x c → ⊥ =
-      λ b c k m n. apart_from ys zs x b c dis k m n in
+      λ b c k m n. disjoint_apart ys (x ∷ zs) dis b x c k (inl refl) m n in
       let c0 = f.counted in
       let c1 = a.steps in
       record {
@@ -83,7 +80,7 @@ module _ (net : Net) (valid : IsNet net) (s : ℕ) (ends : ℕ → ℕ) (bound :
             (λ c k. f.far.idle c (λ b j m. apart b c j m k)) a.comes.gained);
         counted = omega (arith, c0, c1);
         fits = subst (AllByRecursion (IsCopy net s)) (sym a.done)
-            (all_both (IsCopy net s) done a.results f.fits a.fits);
+            (all_append (IsCopy net s) done a.results f.fits a.fits);
         few =
             let h = all_sizes-append ys (x ∷ []) in
             let d = add-mul (all_sizes ys) (size x.set) net.limit in
@@ -95,7 +92,7 @@ module _ (net : Net) (valid : IsNet net) (s : ℕ) (ends : ℕ → ℕ) (bound :
             let e1 = ap (λ n. (all_sizes ys + n) * net.limit) z in
             omega (arith, d, e, e1, m, f0, a0);
         shared = λ none.
-            let over_none = none_before none in
+            let over_none = empty_within over over1 a.comes.still_over none in
             let h0 = f.shared over_none in
             let h1 = a.shared none in
             let b = alone-append ys (x ∷ []) in
@@ -107,20 +104,14 @@ module _ (net : Net) (valid : IsNet net) (s : ℕ) (ends : ℕ → ℕ) (bound :
       less : (n l : ℕ) → n - l ≤ n
       less n l = omega arith
 
-      none_before : over1 ≡ empty → over ≡ empty
-      none_before none = empty_from_none over
-          (λ c. elim (cases_Bool (has over c)) [
-            | inl y ↦
-                absurd (false≢true (sym (has-empty c) ∙ (ap (λ k. has k c) (sym none) ∙ a.comes.still_over c y)))
-            | inr n ↦ n
-          ])
+  -- ---- nothing due
 
   -- a copy with nothing due stays
-  pub stays : (x : StationCopy) (done : List StationCopy) (sent : MarkedMessages) (over : CloneSet) (steps : ℕ)
+  advance-idle : (x : StationCopy) (done : List StationCopy) (sent : MarkedMessages) (over : CloneSet) (steps : ℕ)
       → IsCopy net s x → IsLate bound x
       → IsAdvance net s ends bound x done (done ++ x ∷ []) sent sent over over steps steps
-  stays x done sent over steps f late =
-      answer_rest net s ends bound x x x sent sent steps steps (onward_start net s ends bound x sent steps f)
+  advance-idle x done sent over steps f late =
+      advance-done net s ends bound x x x sent sent steps steps (comes_from-start net s ends bound x sent steps f)
       (record {
         same = same_none ends x;
         settled = λ c i. all_part_of (takes_at ends) c
@@ -128,38 +119,42 @@ module _ (net : Net) (valid : IsNet net) (s : ℕ) (ends : ℕ → ℕ) (bound :
       })
       done done (done ++ x ∷ []) over over refl refl refl
 
-  all_stay : (ys zs : List StationCopy) (steps : ℕ) → AllByRecursion (IsCopy net s) zs → AreLate bound zs
+  -- with nothing due in those that are left, they are done as they are
+  stepping_idle : (ys zs : List StationCopy) (steps : ℕ) → AllByRecursion (IsCopy net s) zs → AreLate bound zs
       → Disjoint has (ys ++ zs) → IsStepResult net s ends bound ys ys [] empty steps steps
       → IsStepResult net s ends bound (ys ++ zs) (ys ++ zs) [] empty steps steps
-  all_stay ys [] steps f late dis h = subst (λ u. IsStepResult net s ends bound u u [] empty steps steps)
+  stepping_idle ys [] steps f late dis h = subst (λ u. IsStepResult net s ends bound u u [] empty steps steps)
       (sym (append-nil ys)) h
-  all_stay ys (z ∷ zs) steps f late dis h =
+  stepping_idle ys (z ∷ zs) steps f late dis h =
       let e : (ys ++ z ∷ []) ++ zs ≡ ys ++ z ∷ zs = append_assoc ys (z ∷ []) zs in
       subst (λ u. IsStepResult net s ends bound u u [] empty steps steps) e
-      (all_stay (ys ++ z ∷ []) zs steps f.1 late.1 (subst (Disjoint has) (sym e) dis)
+      (stepping_idle (ys ++ z ∷ []) zs steps f.1 late.1 (subst (Disjoint has) (sym e) dis)
       (stepping_more ys zs z ys (ys ++ z ∷ []) [] [] empty empty steps steps steps dis h
-      (stays z ys [] empty steps f.0 late.0)))
+      (advance-idle z ys [] empty steps f.0 late.0)))
 
   -- where no copy has anything due, all stay
   pub idle : (xs : List StationCopy) (steps : ℕ) → AllByRecursion (IsCopy net s) xs → AreLate bound xs
       → Disjoint has xs → IsStepResult net s ends bound xs xs [] empty steps steps
-  idle xs steps f late dis = all_stay [] xs steps f late dis (stepping_start steps)
+  idle xs steps f late dis = stepping_idle [] xs steps f late dis (stepping_start steps)
+
+  -- ---- all copies
 
   module _ (xs : List StationCopy) (done : List StationCopy) (sent : MarkedMessages) (over : CloneSet)
       (steps0 steps : ℕ)
       (fits : AllByRecursion (IsCopy net s) xs)
       (far : IsStepResult net s ends bound xs done sent over steps0 steps) where
-    fine : (a : StationCopy) → In a xs → IsGood net s a.state × SortedMarked msg_cmp a.pending
-    fine a j = let fa = all_in (IsCopy net s) xs a fits j in (good_state net s a fa, fa.sorted)
+    -- each copy has a good state, and its pending messages in order
+    good_and_sorted : (a : StationCopy) → In a xs → IsGood net s a.state × SortedMarked msg_cmp a.pending
+    good_and_sorted a j = let fa = all_in (IsCopy net s) xs a fits j in (good_state net s a fa, fa.sorted)
 
     -- where no clone is over the limit, each clone has what its own window gives
     pub all_stepped : over ≡ empty → IsStepped (simulation net) has ends s bound xs done sent
-    all_stepped none = stepped (lawful-stations net valid) sets_join ends s bound xs done sent empty over fine
-        (λ c. ap (λ k. has k c) none ∙ has-empty c) far.far
+    all_stepped none = stepped (lawful-stations net valid) sets_join ends s bound xs done sent empty over
+        good_and_sorted (λ c. ap (λ k. has k c) none ∙ has-empty c) far.far
 
     -- those over the limit are the clones whose own windows give logs that are too long
     pub all_over : AreOver (simulation net) has ends s bound xs over
-    all_over = are_over (lawful-stations net valid) sets_join ends s bound xs done sent empty over fine
+    all_over = are_over (lawful-stations net valid) sets_join ends s bound xs done sent empty over good_and_sorted
         (λ c. has-empty c) far.far
 
     -- as many messages were handled as prefixes were gained
@@ -167,7 +162,7 @@ module _ (net : Net) (valid : IsNet net) (s : ℕ) (ends : ℕ → ℕ) (bound :
     all_gained n h = let k = far.counted in let e : far.count ≡ n = omega (arith, h, k) in
         subst (GainTogether (simulation net) has ends s bound xs) e far.gained
 
-    -- and no more than their clones have place for
+    -- and no more than what the limit allows each of their clones
     pub all_few : (n : ℕ) → n + steps0 ≡ steps → n ≤ all_sizes xs * net.limit
     all_few n h = let k = far.counted in let f = far.few in omega (arith, h, k, f)
 

@@ -1,24 +1,37 @@
 -- How many messages copies handle: no more than the logs of their clones may still take, and no more than the
 -- clones would handle each by itself.
-use Rattle.std.proofs.Common.{◌≡◌, ℕ, ◌+◌, ◌*◌, ◌-◌, ◌<◌, ◌≤◌, ◌&&◌, ◌||◌, not, Bool, true, false}
+use Rattle.std.proofs.Common.{◌≡◌, ◌≢◌, ℕ, ◌+◌, ◌*◌, ◌-◌, ◌<◌, ◌≤◌, ◌&&◌, ◌||◌, not, Bool, true, false}
 use Rattle.std.proofs.Common.{List, [], ◌∷◌, ◌++◌, inl, inr, refl, sym, ap, ◌∙◌, subst, arith, length}
 use Rattle.std.specs.List.{AllByRecursion}
 use Rattle.std.proofs.Math.Nat.{add-mul, mul-add, mul-le-mul_left}
 use Rattle.std.proofs.lemmas.Nat.{mul-le}
-use Rattle.std.proofs.lemmas.Bool.{false≢true}
-use Rattle.clone_sets.specs.Sets.{has, union, meet, minus, size}
+use Rattle.std.proofs.lemmas.Bool.{cases_Bool, false≢true, or_left, or_right, or_cases}
+use Rattle.clone_sets.specs.Sets.{has, union, meet, minus, empty, size}
 use Rattle.clone_sets.specs.declared.set.CloneSet.{CloneSet}
-use Rattle.clone_sets.proofs.SetLaws.{has-union, has-meet, has-minus, has-empty, same_members}
+use Rattle.clone_sets.proofs.SetLaws.{has-union, has-meet, has-minus, has-empty, same_members, empty_from_none}
 use Rattle.clone_sets.proofs.SizeLaws.{size_parts, size-empty}
 use Rattle.run_laws.specs.Queue.{In}
 use Rattle.run_laws.specs.Copies.{Carries, Disjoint}
-use Rattle.run_laws.proofs.Bools.{or_cases}
 use Rattle.run_laws.proofs.Queue.{all_in}
 use Rattle.phys_proc.specs.Own.{StationCopy, all_clones, handled_alone_by, all_sizes}
 
--- ---- sizes of sets
+-- ---- empty
 
--- sets that share no clone
+-- a set with a clone is not empty
+pub not_empty : (k : CloneSet) (c : ℕ) → has k c ≡ true → k ≢ empty
+not_empty k c i e = false≢true (sym (has-empty c) ∙ (ap (λ u. has u c) (sym e) ∙ i))
+
+-- a set within an empty one is empty
+pub empty_within : (a b : CloneSet) → ((c : ℕ) → has a c ≡ true → has b c ≡ true) → b ≡ empty → a ≡ empty
+empty_within a b within e = empty_from_none a
+    (λ c. elim (cases_Bool (has a c)) [
+      | inl y ↦ absurd (not_empty b c (within c y) e)
+      | inr n ↦ n
+    ])
+
+-- ---- size and all_clones
+
+-- sets that share no clone have together as many clones as both added up
 pub size_disjoint : (a b : CloneSet) → ((c : ℕ) → has a c ≡ true → has b c ≡ true → ⊥)
     → size (union a b) ≡ size a + size b
 size_disjoint a b apart =
@@ -56,18 +69,10 @@ in_some (x ∷ xs) c h = elim (or_cases (has x.set c) (has (all_clones xs) c) (s
 pub some_in : (xs : List StationCopy) (a : StationCopy) (c : ℕ) → In a xs → Carries has a c
     → has (all_clones xs) c ≡ true
 some_in [] a c i h = absurd i
-some_in (x ∷ xs) a c (inl e) h = has-union x.set (all_clones xs) c ∙ first_true (has x.set c) (has (all_clones xs) c)
+some_in (x ∷ xs) a c (inl e) h = has-union x.set (all_clones xs) c ∙ or_left (has x.set c) (has (all_clones xs) c)
     (subst (λ (u : StationCopy). has u.set c ≡ true) e h)
-  where
-    first_true : (p q : Bool) → p ≡ true → (p || q) ≡ true
-    first_true true q h = refl
-    first_true false q h = absurd (false≢true h)
-some_in (x ∷ xs) a c (inr i) h = has-union x.set (all_clones xs) c ∙ second_true (has x.set c) (has (all_clones xs) c)
+some_in (x ∷ xs) a c (inr i) h = has-union x.set (all_clones xs) c ∙ or_right (has x.set c) (has (all_clones xs) c)
     (some_in xs a c i h)
-  where
-    second_true : (p q : Bool) → q ≡ true → (p || q) ≡ true
-    second_true true q h = refl
-    second_true false q h = h
 
 -- copies that share no clone have together as many as all their clones are
 pub size_all : (xs : List StationCopy) → Disjoint has xs → all_sizes xs ≡ size (all_clones xs)
@@ -83,7 +88,7 @@ pub all_sizes-append : (xs ys : List StationCopy) → all_sizes (xs ++ ys) ≡ a
 all_sizes-append [] ys = omega arith
 all_sizes-append (x ∷ xs) ys = let h = all_sizes-append xs ys in omega (arith, h)
 
--- ---- handled alone
+-- ---- handled_alone_by
 
 -- what two lists of copies would have handled alone is that of both added up
 pub alone-append : (xs ys : List StationCopy) → handled_alone_by (xs ++ ys) ≡ handled_alone_by xs + handled_alone_by ys
@@ -103,7 +108,7 @@ alone_short limit (x ∷ xs) f =
 -- ---- what one copy handles: s clones, a log of l entries, t messages handled, then n entries
 
 module _ (s l n t limit : ℕ) (some : 0 < s) (longer : n ≡ l + t) (short : n ≤ limit) where
-  -- it handles at most as many as its clones have place for
+  -- it handles at most what the limit allows each of its clones
   pub few_more : t ≤ s * (limit - l)
   few_more =
       let r : t ≤ limit - l = omega (arith, longer, short) in

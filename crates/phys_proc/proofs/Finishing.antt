@@ -5,14 +5,14 @@ use Rattle.clone_sets.specs.Sets.{has, minus, union, size}
 use Rattle.clone_sets.specs.declared.set.CloneSet.{CloneSet}
 use Rattle.net_model.specs.Net.{Net}
 use Rattle.run_laws.proofs.Parts.{all_part_of}
-use Rattle.phys_proc.specs.Own.{StationCopy, MarkedMessages, IsCopy, IsAdvance, Onward, NextDue, NothingDue, half}
+use Rattle.phys_proc.specs.Own.{StationCopy, MarkedMessages, IsCopy, IsAdvance, ComesFrom, NextDue, NothingDue, half}
 use Rattle.phys_proc.specs.Own.{IsLate, may_handle, takes_at}
 use Rattle.phys_proc.specs.Stops.{IsFull, IsParting}
-use Rattle.phys_proc.proofs.Parted.{same_none}
-use Rattle.phys_proc.proofs.Onward.{onward_start, answer_rest, answer_over, answer_apart, answer_on}
-use Rattle.phys_proc.proofs.Onward.{first_half, second_half, first_smaller, second_smaller, parts_few}
+use Rattle.phys_proc.proofs.Halves.{same_none}
+use Rattle.phys_proc.proofs.ComesFrom.{comes_from-start, advance-done, advance-over, advance-split, advance-from}
+use Rattle.phys_proc.proofs.ComesFrom.{first_half, second_half, first_smaller, second_smaller, parts_few}
 
--- ---- why it goes no further, said of the copy as it is by then
+-- ---- NothingDue and NextDue, said of the copy as it is by then
 
 module _ (ends : ℕ → ℕ) (bound : ℕ) (a b : StationCopy) where
   -- where nothing of b is due, as what is left of a, nothing of b is due by itself
@@ -41,24 +41,25 @@ module _ (ends : ℕ → ℕ) (bound : ℕ) (a b : StationCopy) where
     some = d.some;
   }
 
--- ---- its end
+-- ---- IsAdvance
 
 module _ (net : Net) (s : ℕ) (ends : ℕ → ℕ) (bound : ℕ) (copy : StationCopy) (sent : MarkedMessages) (steps : ℕ)
     (fits : IsCopy net s copy) where
-  abbrev begun : Onward net s ends bound copy copy sent sent steps steps
-  begun = onward_start net s ends bound copy sent steps fits
+  -- the copy has come as far as itself
+  abbrev begun : ComesFrom net s ends bound copy copy sent sent steps steps
+  begun = comes_from-start net s ends bound copy sent steps fits
 
   -- a copy of which nothing is due is done as it is
-  pub of_settled : (done new : List StationCopy) (over : CloneSet) → NothingDue ends bound copy copy
+  pub advance-settled : (done new : List StationCopy) (over : CloneSet) → NothingDue ends bound copy copy
       → new ≡ done ++ copy ∷ [] → IsAdvance net s ends bound copy done new sent sent over over steps steps
-  of_settled done new over d e = answer_rest net s ends bound copy copy copy sent sent steps steps begun d done done new
-      over over refl refl e
+  advance-settled done new over d e = advance-done net s ends bound copy copy copy sent sent steps steps begun d done
+      done new over over refl refl e
 
   -- of a copy that is full nothing comes, and all its clones go over the limit
-  pub of_full : (done : List StationCopy) (over new : CloneSet) → IsFull net.limit ends bound copy
+  pub advance-full : (done : List StationCopy) (over new : CloneSet) → IsFull net.limit ends bound copy
       → new ≡ union over copy.set → IsAdvance net s ends bound copy done done sent sent over new steps steps
-  of_full done over new x e = answer_over net s ends bound copy copy copy sent sent steps steps begun x.msg x.takers
-      x.due done done over over new refl refl x.all x.full e
+  advance-full done over new x e = advance-over net s ends bound copy copy copy sent sent steps steps begun x.msg
+      x.takers x.due done done over over new refl refl x.all x.full e
 
   module _ (takers : CloneSet) (x : IsParting ends bound copy takers) where
     -- the half for those that take the message is a copy of the station
@@ -98,24 +99,25 @@ module _ (net : Net) (s : ℕ) (ends : ℕ → ℕ) (bound : ℕ) (copy : Statio
         omega (arith, h, k, l)
 
     -- the ends of both halves are together an end of the copy
-    pub of_parts : (a a1 b b1 : StationCopy) (done done1 done2 done3 done4 : List StationCopy)
+    pub advance-parts : (a a1 b b1 : StationCopy) (done done1 done2 done3 done4 : List StationCopy)
         (sent1 sent2 sent3 sent4 : MarkedMessages) (over over1 over2 over3 over4 : CloneSet)
         (steps1 steps2 steps3 steps4 : ℕ)
         → a ≡ half copy takers → b ≡ half copy (minus copy.set takers)
-        → Onward net s ends bound a a1 sent sent1 steps steps1 → done1 ≡ done → over1 ≡ over
+        → ComesFrom net s ends bound a a1 sent sent1 steps steps1 → done1 ≡ done → over1 ≡ over
         → IsAdvance net s ends bound a1 done1 done2 sent1 sent2 over1 over2 steps1 steps2
-        → Onward net s ends bound b b1 sent2 sent3 steps2 steps3 → done3 ≡ done2 → over3 ≡ over2
+        → ComesFrom net s ends bound b b1 sent2 sent3 steps2 steps3 → done3 ≡ done2 → over3 ≡ over2
         → IsAdvance net s ends bound b1 done3 done4 sent3 sent4 over3 over4 steps3 steps4
         → IsAdvance net s ends bound copy done done4 sent sent4 over over4 steps steps4
-    of_parts a a1 b b1 done done1 done2 done3 done4 sent1 sent2 sent3 sent4 over over1 over2 over3 over4 steps1 steps2
-        steps3 steps4 is_a is_b on_a d1 o1 adv_a on_b d3 o3 adv_b =
-        let a_here = answer_on net s ends bound a a1 sent sent1 steps steps1 on_a done done2 sent2 over over2 steps2
+    advance-parts a a1 b b1 done done1 done2 done3 done4 sent1 sent2 sent3 sent4 over over1 over2 over3 over4 steps1
+        steps2 steps3 steps4 is_a is_b on_a d1 o1 adv_a on_b d3 o3 adv_b =
+        let a_here = advance-from net s ends bound a a1 sent sent1 steps steps1 on_a done done2 sent2 over over2 steps2
         (subst (λ k. IsAdvance net s ends bound a1 k done2 sent1 sent2 over over2 steps1 steps2) d1
         (subst (λ k. IsAdvance net s ends bound a1 done1 done2 sent1 sent2 k over2 steps1 steps2) o1 adv_a)) in
-        let b_here = answer_on net s ends bound b b1 sent2 sent3 steps2 steps3 on_b done2 done4 sent4 over2 over4 steps4
+        let b_here = advance-from net s ends bound b b1 sent2 sent3 steps2 steps3 on_b done2 done4 sent4 over2 over4
+        steps4
         (subst (λ k. IsAdvance net s ends bound b1 k done4 sent3 sent4 over2 over4 steps3 steps4) d3
         (subst (λ k. IsAdvance net s ends bound b1 done3 done4 sent3 sent4 k over4 steps3 steps4) o3 adv_b)) in
-        answer_apart net s ends bound copy copy copy sent sent steps steps begun x.msg takers x.due done done done2
+        advance-split net s ends bound copy copy copy sent sent steps steps begun x.msg takers x.due done done done2
         done4 sent2 sent4 over over over2 over4 steps2 steps4 refl refl
         (subst (λ u. IsAdvance net s ends bound u done done2 sent sent2 over over2 steps steps2) is_a a_here)
         (subst (λ u. IsAdvance net s ends bound u done2 done4 sent2 sent4 over2 over4 steps2 steps4) is_b b_here)

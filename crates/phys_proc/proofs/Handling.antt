@@ -6,8 +6,6 @@ use Rattle.sim_base.specs.Order.{msg_cmp}
 use Rattle.sim_base.specs.declared.message.Msg.{Msg}
 use Rattle.sim_base.specs.declared.entry.Line.{Line}
 use Rattle.sim_base.specs.declared.entry.Entry.{Entry}
-use Rattle.sim_base.proofs.OrderLaws.{msg_total}
-use Rattle.sim_base.proofs.OrderEqual.{msg_same}
 use Rattle.clone_sets.specs.Sets.{has, union}
 use Rattle.clone_sets.specs.declared.set.CloneSet.{CloneSet}
 use Rattle.clone_sets.proofs.SetLaws.{has-union}
@@ -24,18 +22,19 @@ use Rattle.run_laws.proofs.Parts.{sorted_insert_marked_all}
 use Rattle.stations.specs.Opening.{setup}
 use Rattle.stations.specs.Runs.{replay}
 use Rattle.run_laws.specs.World as world
+use Rattle.run_laws.proofs.MessageOrder.{messages_ordered}
 use Rattle.phys_proc.specs.Own.{StationCopy, MarkedMessages, AreMarks, IsCopy, IsHandled, pending_after, sent_after}
+use Rattle.phys_proc.proofs.Halves.{tail_of}
 use Rattle.phys_proc.proofs.Sends.{all_inserted_all, marks_inserted_all, marks_join, whole_marks}
+
+-- ---- head_msg
 
 -- the first of some messages, or the one that is given for it where there are none
 abbrev pub head_msg : MarkedMessages → Msg → Msg
 head_msg [] d = d
 head_msg (x ∷ xs) d = x.0
 
--- the messages behind the first
-abbrev pub tail_of : MarkedMessages → MarkedMessages
-tail_of [] = []
-tail_of (x ∷ xs) = xs
+-- ---- IsHandled
 
 module _ (net : Net) (s : ℕ) (a : StationCopy) (m0 : Msg) (k0 : CloneSet) (q0 : MarkedMessages) (st : StateView)
     (line : Line)
@@ -47,6 +46,7 @@ module _ (net : Net) (s : ℕ) (a : StationCopy) (m0 : Msg) (k0 : CloneSet) (q0 
     (log_is : log ≡ a.log ++ record { msg = m0; line = line } ∷ [])
     (pending_is : pending ≡ pending_after s a.set out q0)
     (aside : after ≡ sent_after s a.set out before) where
+  -- what the outcome of its first message makes of the copy
   abbrev made : Outcome StateView Msg Line → Msg → MarkedMessages → StationCopy
   made h m q = record {
     set = a.set;
@@ -55,15 +55,19 @@ module _ (net : Net) (s : ℕ) (a : StationCopy) (m0 : Msg) (k0 : CloneSet) (q0 
     pending = insert_marked_all union msg_cmp (to_it (λ (m : Msg). m.to) s h.sends) a.set q;
   }
 
+  -- the copy with the new state, log and pending messages
   abbrev new : StationCopy
   new = record { set = a.set; state = st; log = log; pending = pending }
 
+  -- without the first, what is pending is in order,
   rest_sorted : SortedMarked msg_cmp q0
   rest_sorted = (subst (SortedMarked msg_cmp) there fits.sorted).1
 
+  -- for this station
   rest_targets : AllByRecursion (λ x. x.0.to ≡ s) q0
   rest_targets = (subst (AllByRecursion (λ x. x.0.to ≡ s)) there fits.targets).1
 
+  -- and marked with clones of the copy
   rest_marks : AllByRecursion (λ x. AreMarks a.set x.1) q0
   rest_marks = (subst (AllByRecursion (λ x. AreMarks a.set x.1)) there fits.marks).1
 
@@ -75,7 +79,7 @@ module _ (net : Net) (s : ℕ) (a : StationCopy) (m0 : Msg) (k0 : CloneSet) (q0 
   replay_more st (x ∷ es) e = replay_more (handle net st x.msg).state es e
 
   -- with the new state, log and pending messages it is a copy of the station
-  pub new_copy : IsCopy net s new
+  new_copy : IsCopy net s new
   new_copy =
       let long : length log ≡ length a.log + 1 =
       ap length log_is ∙ length-append a.log (record { msg = m0; line = line } ∷ []) in
@@ -90,7 +94,7 @@ module _ (net : Net) (s : ℕ) (a : StationCopy) (m0 : Msg) (k0 : CloneSet) (q0 
         short = omega (arith, long, below);
         sorted = subst (SortedMarked msg_cmp) (sym pending_is)
             (sorted_insert_marked_all (λ m k c. has k c) union (λ m x y c. has-union x y c)
-            (record { total = msg_total; same = msg_same }) (to_it (λ (m : Msg). m.to) s out) a.set q0 rest_sorted);
+            messages_ordered (to_it (λ (m : Msg). m.to) s out) a.set q0 rest_sorted);
         targets = subst (AllByRecursion (λ x. x.0.to ≡ s)) (sym pending_is)
             (all_inserted_all (λ m. m.to ≡ s) a.set (to_it (λ (m : Msg). m.to) s out) q0
             (all_from (λ m. m.to ≡ s) (to_it (λ (m : Msg). m.to) s out)

@@ -10,10 +10,12 @@ use Rattle.sim_base.proofs.OrderEqual.{msg-timed}
 use Rattle.clone_sets.specs.Sets.{meet, union, empty}
 use Rattle.clone_sets.specs.declared.set.CloneSet.{CloneSet}
 use Rattle.sim_base.specs.Marked.{SortedMarked}
-use Rattle.sim_base.proofs.Placing.{all_weaker}
+use Rattle.sim_base.proofs.ListLaws.{all_weaker}
 use Rattle.phys_proc.specs.Own.{StationCopy, MarkedMessages, IsLate, AreLate, with_message}
 use Rattle.phys_proc.proofs.Sends.{all_inserted}
-use Rattle.phys_proc.proofs.Onward.{all_both}
+use Rattle.sim_base.proofs.ListLaws.{all_append}
+
+-- ---- IsLate
 
 -- nothing is pending before the time of the least message
 pub from_time : (a : StationCopy) (t : ℕ) → Some t ≡ first_time a.pending → SortedMarked msg_cmp a.pending → IsLate t a
@@ -37,13 +39,15 @@ from_none a t e = of_pending a.pending e
     of_pending [] e = tt
     of_pending (x ∷ xs) e = absurd (cc)
 
--- also at a time before
+-- nothing is pending before an earlier time
 pub late_before : (t u : ℕ) (a : StationCopy) → t ≤ u → IsLate u a → IsLate t a
 late_before t u a l f = all_weaker (λ y. u ≤ y.0.key.time) (λ y. t ≤ y.0.key.time) a.pending
     (λ y h. omega (arith, l, h)) f
 
+-- ---- AreLate
+
 -- and so for a list of copies
-pub are_late_before : (t u : ℕ) (xs : List StationCopy) → t ≤ u → AreLate u xs → AreLate t xs
+are_late_before : (t u : ℕ) (xs : List StationCopy) → t ≤ u → AreLate u xs → AreLate t xs
 are_late_before t u xs l f = all_weaker (IsLate u) (IsLate t) xs (λ a h. late_before t u a l h) f
 
 -- nothing is pending before time 0
@@ -55,19 +59,19 @@ late_zero (x ∷ xs) = (none_before x.pending, late_zero xs)
     none_before [] = tt
     none_before (y ∷ ys) = (omega arith, none_before ys)
 
--- one copy more
+-- a copy more
 pub late_put : (t u w : ℕ) (xs : List StationCopy) (x : StationCopy) → w ≡ min t u → AreLate t xs → IsLate u x
     → AreLate w (xs ++ x ∷ [])
-late_put t u w xs x e f g = all_both (IsLate w) xs (x ∷ []) (are_late_before w t xs (omega (arith, e)) f)
+late_put t u w xs x e f g = all_append (IsLate w) xs (x ∷ []) (are_late_before w t xs (omega (arith, e)) f)
     (late_before w u x (omega (arith, e)) g, tt)
 
 -- two lists in one
 pub late_joined : (t u w : ℕ) (xs ys : List StationCopy) → w ≡ min t u → AreLate u xs → AreLate t ys
     → AreLate w (xs ++ ys)
-late_joined t u w xs ys e f g = all_both (IsLate w) xs ys (are_late_before w u xs (omega (arith, e)) f)
+late_joined t u w xs ys e f g = all_append (IsLate w) xs ys (are_late_before w u xs (omega (arith, e)) f)
     (are_late_before w t ys (omega (arith, e)) g)
 
--- one message more
+-- with a message more, nothing is pending before a time that the message is not before
 late_given : (t : ℕ) (m : Msg) (k : CloneSet) (a : StationCopy) → t ≤ m.key.time → IsLate t a
     → IsLate t (with_message m k a)
 late_given t m k a l f = by_test (meet a.set k == empty)

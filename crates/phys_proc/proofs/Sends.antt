@@ -1,20 +1,23 @@
 -- What a station sends, message by message.
-use Rattle.std.proofs.Common.{◌≡◌, ℕ, ◌||◌, Bool, true, false, List, [], ◌∷◌, inl, inr, refl, sym, ap, ◌∙◌}
+use Rattle.std.proofs.Common.{◌≡◌, ℕ, true, List, [], ◌∷◌, inl, inr, sym, ◌∙◌}
 use Rattle.std.specs.List.{AllByRecursion}
 use Rattle.std.specs.declared.cmp.Ordering.{Ordering}
 use Rattle.std.specs.declared.cmp.Ordering.TheVariants.{Less, Equal, Greater}
-use Rattle.std.proofs.lemmas.Bool.{false≢true}
+use Rattle.std.proofs.lemmas.Bool.{or_left, or_cases}
 use Rattle.sim_base.specs.Order.{msg_cmp}
 use Rattle.sim_base.specs.Pending.{place_marked, insert_marked}
 use Rattle.sim_base.specs.declared.message.Msg.{Msg}
 use Rattle.clone_sets.specs.Sets.{has, union}
-use Rattle.clone_sets.proofs.SetLaws.{has-union, has-empty, empty_from_none}
+use Rattle.clone_sets.proofs.SetLaws.{has-union}
 use Rattle.clone_sets.specs.declared.set.CloneSet.{CloneSet}
 use Rattle.run_laws.specs.Copies.{insert_marked_all}
-use Rattle.run_laws.proofs.Bools.{or_cases}
 use Rattle.phys_proc.specs.Own.{MarkedMessages, AreMarks}
+use Rattle.phys_proc.proofs.Counting.{not_empty, empty_within}
+
+-- ---- insert_marked, of messages
 
 module _ (P : Msg → Type 0) (set : CloneSet) where
+  -- what holds of a message and of those that are there holds of all, wherever it is put
   all_placed : (r : Ordering) (m : Msg) (y : Msg × CloneSet) (ys rest : MarkedMessages) → P m
       → AllByRecursion (λ x. P x.0) (y ∷ ys) → AllByRecursion (λ x. P x.0) rest
       → AllByRecursion (λ x. P x.0) (place_marked union r m set y ys rest)
@@ -36,9 +39,12 @@ module _ (P : Msg → Type 0) (set : CloneSet) where
   all_inserted_all (m ∷ ms) q p f = all_inserted_all ms (insert_marked union msg_cmp m set q) p.1
       (all_inserted m q p.0 f)
 
+-- ---- insert_marked, of marks
+
 -- what holds of the marks that are there and of the new ones, and of marks that are joined
 module _ (P : CloneSet → Type 0) (joined : (a b : CloneSet) → P a → P b → P (union a b)) (set : CloneSet)
     (new : P set) where
+  -- it holds of all marks, wherever the new ones are put
   marks_placed : (r : Ordering) (m : Msg) (y : Msg × CloneSet) (ys rest : MarkedMessages)
       → AllByRecursion (λ x. P x.1) (y ∷ ys) → AllByRecursion (λ x. P x.1) rest
       → AllByRecursion (λ x. P x.1) (place_marked union r m set y ys rest)
@@ -59,24 +65,22 @@ module _ (P : CloneSet → Type 0) (joined : (a b : CloneSet) → P a → P b �
   marks_inserted_all [] q f = f
   marks_inserted_all (m ∷ ms) q f = marks_inserted_all ms (insert_marked union msg_cmp m set q) (marks_inserted m q f)
 
+-- ---- AreMarks
+
 -- marks of a copy that are joined are marks of it
 pub marks_join : (set a b : CloneSet) → AreMarks set a → AreMarks set b → AreMarks set (union a b)
 marks_join set a b f g = record {
-  some = λ e. f.some (empty_from_none a
-      (λ c. or_none (has a c) (has b c) (sym (has-union a b c) ∙ (ap (λ k. has k c) e ∙ has-empty c))));
+  some = λ e. f.some (empty_within a (union a b)
+      (λ c y. has-union a b c ∙ or_left (has a c) (has b c) y) e);
   within = λ c i. elim (or_cases (has a c) (has b c) (sym (has-union a b c) ∙ i)) [
     | inl y ↦ f.within c y
     | inr y ↦ g.within c y
   ];
 }
-  where
-    or_none : (x y : Bool) → (x || y) ≡ false → x ≡ false
-    or_none true y e = e
-    or_none false y e = refl
 
 -- all of its clones, where there are some
 pub whole_marks : (set : CloneSet) (c : ℕ) → has set c ≡ true → AreMarks set set
 whole_marks set c i = record {
-  some = λ e. false≢true (sym (has-empty c) ∙ (ap (λ k. has k c) (sym e) ∙ i));
+  some = not_empty set c i;
   within = λ d j. j;
 }

@@ -1,36 +1,43 @@
 -- Copies that share out the clones.
-use Rattle.std.proofs.Common.{◌≡◌, ◌≢◌, ℕ, zero, suc, ◌+◌, ◌*◌, ◌-◌, ◌^◌, ◌<◌, ◌≤◌, ◌||◌, not, Bool, true, false, List}
-use Rattle.std.proofs.Common.{[], ◌∷◌, ◌++◌, inl, inr, refl, sym, ap, ◌∙◌, subst, arith, length, map, slice_set, get_or}
+use Rattle.std.proofs.Common.{◌≡◌, ◌≢◌, ℕ, ◌+◌, ◌*◌, ◌-◌, ◌≤◌, ◌||◌, not, List}
+use Rattle.std.proofs.Common.{[], ◌∷◌, ◌++◌, inl, inr, refl, sym, ap, ◌∙◌, subst, arith, length, map}
 use Rattle.std.specs.List.{AllByRecursion, range_with_len}
 use Rattle.std.proofs.lemmas.List.Filters.{length-filter_both}
 use Rattle.std.proofs.lemmas.List.FromFn.{length-range_with_len}
+use Rattle.std.proofs.Math.Bool.{or-false}
 use Rattle.std.proofs.Math.Nat.{add-mul, mul-le-mul_left}
 use Rattle.std.proofs.lemmas.Nat.{mul-le}
 use Rattle.std.proofs.lemmas.Bool.{cases_Bool, false≢true}
+use Rattle.sim_base.specs.declared.lists.TheConstants.{MOST_CLONES}
 use Rattle.clone_sets.specs.Sets.{has, union, empty, size, members}
 use Rattle.clone_sets.specs.declared.set.CloneSet.{CloneSet}
 use Rattle.clone_sets.proofs.SetLaws.{has-empty, has-union, same_members}
 use Rattle.net_model.specs.Net.{Net}
+use Rattle.net_model.specs.declared.limits.TheConstants.{MOST_LIMIT}
 use Rattle.stations.specs.Runs.{simulation}
+use Rattle.stations.specs.declared.sender.TheConstants.{ALL_COUNTS}
 use Rattle.run_laws.specs.Copies.{Carries, Disjoint, IsStepped}
 use Rattle.run_laws.proofs.Queue.{all_from}
 use Rattle.phys_proc.specs.Own.{StationCopy, MarkedMessages, IsCopy, all_clones}
 use Rattle.phys_proc.specs.Own.{all_sizes, handled_alone_by, may_handle, but_pending}
 use Rattle.phys_proc.specs.Procs.{AreShared, KeepsShares}
-use Rattle.phys_proc.proofs.Counting.{in_some, some_in, size_all, all_sizes-append, alone_short}
+use Rattle.phys_proc.proofs.Counting.{not_empty, in_some, some_in, size_all, all_sizes-append, alone_short}
 
--- ---- copies that differ in what is pending alone
+-- ---- but_pending: copies that differ in what is pending alone
 
+-- what holds of copies, whatever is pending, holds of them without their pending messages
 all_map : (P : StationCopy → Type 0) → ((a : StationCopy) → P a → P (but_pending a)) → (xs : List StationCopy)
     → AllByRecursion P xs → AllByRecursion P (map but_pending xs)
 all_map P f [] h = tt
 all_map P f (x ∷ xs) h = (f x h.0, all_map P f xs h.1)
 
+-- and the other way round
 all_back : (P : StationCopy → Type 0) → ((a : StationCopy) → P (but_pending a) → P a) → (xs : List StationCopy)
     → AllByRecursion P (map but_pending xs) → AllByRecursion P xs
 all_back P f [] h = tt
 all_back P f (x ∷ xs) h = (f x h.0, all_back P f xs h.1)
 
+-- copies that share no clone share none without their pending messages
 disjoint_map : (xs : List StationCopy) → Disjoint has xs → Disjoint has (map but_pending xs)
 disjoint_map [] d = tt
 disjoint_map (x ∷ xs) d = (
@@ -38,6 +45,7 @@ disjoint_map (x ∷ xs) d = (
   disjoint_map xs d.1,
 )
 
+-- and the other way round
 disjoint_back : (xs : List StationCopy) → Disjoint has (map but_pending xs) → Disjoint has xs
 disjoint_back [] d = tt
 disjoint_back (x ∷ xs) d = (
@@ -45,10 +53,12 @@ disjoint_back (x ∷ xs) d = (
   disjoint_back xs d.1,
 )
 
+-- without them all copies together have the clones that they had
 clones_map : (xs : List StationCopy) → all_clones (map but_pending xs) ≡ all_clones xs
 clones_map [] = refl
 clones_map (x ∷ xs) = ap (λ k. union x.set k) (clones_map xs)
 
+-- and these have handled by themselves what they had
 alone_map : (xs : List StationCopy) → handled_alone_by (map but_pending xs) ≡ handled_alone_by xs
 alone_map [] = refl
 alone_map (x ∷ xs) = ap (λ n. size x.set * length x.log + n) (alone_map xs)
@@ -75,20 +85,11 @@ shares_same s handled living xs ys e k = record {
       omega (arith, a, b, c, h);
 }
 
--- one copy is changed in what is pending alone
-pub same_set : (i : ℕ) (xs : List StationCopy) (y d : StationCopy) → i < length xs
-    → but_pending y ≡ but_pending (get_or xs i d) → map but_pending (slice_set xs i y) ≡ map but_pending xs
-same_set i [] y d l e = absurd (omega arith)
-same_set zero (x ∷ xs) y d l e = ap (λ z. z ∷ map but_pending xs) e
-same_set (suc i) (x ∷ xs) y d l e = ap (λ t. but_pending x ∷ t) (same_set i xs y d (omega arith) e)
-
--- ---- after a step
+-- ---- KeepsShares, after a step
 
 module _ (net : Net) (s : ℕ) (ends : ℕ → ℕ) (bound : ℕ) (old new : List StationCopy) (sent : MarkedMessages)
     (stepped : IsStepped (simulation net) has ends s bound old new sent) where
-  some_clone : (a : StationCopy) (c : ℕ) → Carries has a c → a.set ≢ empty
-  some_clone a c i e = false≢true (sym (has-empty c) ∙ (ap (λ k. has k c) (sym e) ∙ i))
-
+  -- all copies together have the clones that they had
   same_clones : (c : ℕ) → has (all_clones new) c ≡ has (all_clones old) c
   same_clones c = elim (cases_Bool (has (all_clones new) c)) [
     | inl y ↦ let k = in_some new c y in let f = stepped.from k.0 k.1 in y ∙ sym (some_in old f.0 c f.1 (f.2 c k.2))
@@ -105,18 +106,18 @@ module _ (net : Net) (s : ℕ) (ends : ℕ → ℕ) (bound : ℕ) (old new : Lis
       → KeepsShares (record { station = s; living = living; handled = handled + more; copies = new })
   shares_after living handled more e l m = record {
     shares = record {
-      inhabited = all_from (λ a. a.set ≢ empty) new (λ b i. let c = stepped.inhabited b i in some_clone b c.0 c.1);
+      inhabited = all_from (λ a. a.set ≢ empty) new (λ b i. let c = stepped.inhabited b i in not_empty b.set c.0 c.1);
       disjoint = stepped.disjoint;
       together = same_members (all_clones new) (all_clones old) same_clones ∙ e;
     };
     once = omega (arith, l, m);
   }
 
--- ---- few messages
+-- ---- all_sizes, handled_alone_by and may_handle: no more than there may be
 
--- the clones together are at most 256
-pub few_clones : (living : CloneSet) (copies : List StationCopy) → AreShared living copies → size living ≤ 256
-    → all_sizes copies ≤ 256
+-- the clones together are no more than there may be
+pub few_clones : (living : CloneSet) (copies : List StationCopy) → AreShared living copies
+    → size living ≤ MOST_CLONES → all_sizes copies ≤ MOST_CLONES
 few_clones living copies h l = let e = size_all copies h.disjoint in let t = ap size h.together in
     omega (arith, e, t, l)
 
@@ -126,23 +127,24 @@ pub sizes_are : (living : CloneSet) (copies : List StationCopy) → AreShared li
 sizes_are living copies h = size_all copies h.disjoint ∙ ap size h.together
 
 -- what was handled, and what the next copy may handle, do not overflow the counter
-pub few_next : (limit h : ℕ) (ys zs : List StationCopy) (x : StationCopy) → all_sizes (ys ++ x ∷ zs) ≤ 256
-    → limit ≤ 65536 → h ≤ all_sizes ys * limit → h + may_handle limit x ≤ 2 ^ 32
+pub few_next : (limit h : ℕ) (ys zs : List StationCopy) (x : StationCopy) → all_sizes (ys ++ x ∷ zs) ≤ MOST_CLONES
+    → limit ≤ MOST_LIMIT → h ≤ all_sizes ys * limit → h + may_handle limit x ≤ ALL_COUNTS
 few_next limit h ys zs x l k f =
     let e = all_sizes-append ys (x ∷ zs) in
     let d = add-mul (all_sizes ys) (size x.set) limit in
     let n : limit - length x.log ≤ limit = omega arith in
     let m = mul-le-mul_left (size x.set) n in
-    let b : all_sizes ys + size x.set ≤ 256 = omega (arith, e, l) in
-    let c = mul-le (all_sizes ys + size x.set) limit 256 65536 b k in
+    let b : all_sizes ys + size x.set ≤ MOST_CLONES = omega (arith, e, l) in
+    let c = mul-le (all_sizes ys + size x.set) limit MOST_CLONES MOST_LIMIT b k in
     omega (arith, d, m, c, f)
 
--- so much was handled at most
+-- what was handled once does not overflow the counter
 pub few_handled : (net : Net) (s handled : ℕ) (copies : List StationCopy) → AllByRecursion (IsCopy net s) copies
-    → all_sizes copies ≤ 256 → net.limit ≤ 65536 → handled ≤ handled_alone_by copies → handled ≤ 2 ^ 32
+    → all_sizes copies ≤ MOST_CLONES → net.limit ≤ MOST_LIMIT → handled ≤ handled_alone_by copies
+    → handled ≤ ALL_COUNTS
 few_handled net s handled copies f l k h =
     let a = alone_short net.limit copies (all_short copies f) in
-    let c = mul-le (all_sizes copies) net.limit 256 65536 l k in
+    let c = mul-le (all_sizes copies) net.limit MOST_CLONES MOST_LIMIT l k in
     omega (arith, a, c, h)
   where
     all_short : (xs : List StationCopy) → AllByRecursion (IsCopy net s) xs
@@ -151,12 +153,14 @@ few_handled net s handled copies f l k h =
     all_short (x ∷ xs) f = (f.0.short, all_short xs f.1)
 
 -- there are no more clones than numbers
-pub few_members : (k : CloneSet) (n : ℕ) → n ≡ size k → n ≡ length (members k) → size k ≤ 256
+pub few_members : (k : CloneSet) (n : ℕ) → n ≡ size k → n ≡ length (members k) → size k ≤ MOST_CLONES
 unfolding members
 few_members k n e f =
-    let h = length-filter_both (has k) (λ c. not (has k c)) (λ c. refl) (range_with_len 0 256) in
-    let l = length-range_with_len 0 256 in
+    let h = length-filter_both (has k) (λ c. not (has k c)) (λ c. refl) (range_with_len 0 MOST_CLONES) in
+    let l = length-range_with_len 0 MOST_CLONES in
     omega (arith, e, f, h, l)
+
+-- ---- KeepsShares, of one copy
 
 -- one copy shares out its clones
 pub shares_one : (s : ℕ) (living : CloneSet) (a : StationCopy) → a.set ≡ living → living ≢ empty
@@ -167,11 +171,7 @@ shares_one s living a e some = record {
     disjoint = (tt, tt);
     together = same_members (union a.set empty) living
         (λ c. has-union a.set empty c ∙ (ap (λ b. has a.set c || b) (has-empty c)
-        ∙ (or_none (has a.set c) ∙ ap (λ k. has k c) e)));
+        ∙ (or-false (has a.set c) ∙ ap (λ k. has k c) e)));
   };
   once = omega arith;
 }
-  where
-    or_none : (b : Bool) → (b || false) ≡ b
-    or_none true = refl
-    or_none false = refl

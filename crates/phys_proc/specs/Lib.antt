@@ -1,4 +1,4 @@
-pub mod Gone
+pub mod Ends
 pub mod Own
 pub mod Procs
 pub mod Racks

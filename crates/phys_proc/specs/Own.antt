@@ -1,5 +1,5 @@
 -- Copies at the types of the program.
-use Rattle.std.specs.Prelude.{◌≡◌, ◌≢◌, ℕ, ◌+◌, ◌*◌, ◌-◌, ◌<◌, ◌≤◌, ◌==◌, if◌then◌else◌, ◌&&◌, nat_lt}
+use Rattle.std.specs.Prelude.{◌≡◌, ◌≢◌, ℕ, ◌+◌, ◌*◌, ◌-◌, ◌<◌, ◌≤◌, ◌==◌, if◌then◌else◌, ◌&&◌}
 use Rattle.std.specs.Prelude.{List, [], ◌∷◌, ◌++◌, Bool, true, length, map, Option, Some, None}
 use Rattle.std.specs.List.{AllByRecursion}
 use Rattle.sim_base.specs.Order.{msg_cmp}
@@ -128,7 +128,7 @@ IsHandled net s old new before after = (m : Msg) (k : CloneSet) (q : MarkedMessa
     IsCopy net s new
 
 -- the first copy has become this one in so many steps: each end that this one may have is one of the first
-pub record Onward (net : Net) (s : ℕ) (ends : ℕ → ℕ) (bound : ℕ) (first copy : StationCopy)
+pub record ComesFrom (net : Net) (s : ℕ) (ends : ℕ → ℕ) (bound : ℕ) (first copy : StationCopy)
     (start sent : MarkedMessages)
     (steps0 steps : ℕ) : Type 0 where
   pub fits : IsCopy net s copy

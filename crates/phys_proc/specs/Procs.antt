@@ -1,5 +1,5 @@
 -- All copies of a station.
-use Rattle.std.specs.Prelude.{◌≡◌, ◌≢◌, ◌⊎◌, ℕ, ◌≤◌, List, length, Option, Some, None}
+use Rattle.std.specs.Prelude.{◌≡◌, ◌≢◌, ◌⊎◌, ℕ, ◌≤◌, List, length, Option, Some}
 use Rattle.std.specs.List.{AllByRecursion}
 use Rattle.sim_base.specs.declared.message.Msg.{Msg}
 use Rattle.clone_sets.specs.Sets.{has, empty}
@@ -7,6 +7,7 @@ use Rattle.clone_sets.specs.declared.set.CloneSet.{CloneSet}
 use Rattle.net_model.specs.Net.{Net}
 use Rattle.net_model.specs.Rules.{IsNet}
 use Rattle.run_laws.specs.Queue.{In}
+use Rattle.run_laws.specs.FrontLaws as laws
 use Rattle.run_laws.specs.Fronts.{earlier}
 use Rattle.run_laws.specs.Copies.{Carries, Disjoint}
 use Rattle.phys_proc.specs.Own.{StationCopy, IsCopy, IsLate, AreLate, all_clones, handled_alone_by, taken_at}
@@ -46,8 +47,7 @@ pub record IsTakenBy (ends : ℕ → ℕ) (copies : List StationCopy) (c : ℕ) 
 
 -- t is the least time of a message that P holds of, None where it holds of none
 abbrev pub IsLeastTime : (Msg → Type 0) → Option ℕ → Type 0
-IsLeastTime P None = (m : Msg) → ¬ (P m)
-IsLeastTime P (Some t) = ((m : Msg) × P m × (m.key.time ≡ t)) × ((m : Msg) → P m → t ≤ m.key.time)
+IsLeastTime P t = laws.IsLeastTime (λ (m : Msg). m.key.time) P t
 
 -- the least time that clone c takes
 abbrev pub IsLeastOf : (ℕ → ℕ) → List StationCopy → ℕ → Option ℕ → Type 0

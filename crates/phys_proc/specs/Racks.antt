@@ -14,12 +14,12 @@ use Rattle.phys_proc.specs.Own.{StationCopy}
 use Rattle.phys_proc.specs.declared.rack.Found.{Found}
 
 -- a copy as a reader sees it: its clones and its log
-pub record SeenView : Type 0 where
+pub record RackCopyView : Type 0 where
   pub set : CloneSet
   pub log : List (Entry Msg Line)
 
 -- what a reader sees of a copy
-abbrev pub view_of_copy : StationCopy → SeenView
+abbrev pub view_of_copy : StationCopy → RackCopyView
 view_of_copy a = record { set = a.set; log = a.log }
 
 -- a rack: the network, the clones' lists, the station, a front, and the copies at that front
@@ -28,16 +28,16 @@ pub record RackView : Type 0 where
   pub clones : List Clone
   pub station : ℕ
   pub front : ℕ
-  pub copies : List SeenView
+  pub copies : List RackCopyView
 
 -- each clone is in a copy, whose log is that of the clone by itself up to the front; clones with equal logs share one
-pub record ShowsClones (net : Net) (cs : List Clone) (s front : ℕ) (copies : List SeenView) : Type 0 where
+pub record ShowsClones (net : Net) (cs : List Clone) (s front : ℕ) (copies : List RackCopyView) : Type 0 where
   pub few : length cs ≤ MOST_CLONES
   pub early : front ≤ net.horizon
-  pub carried : (c : ℕ) → c < length cs → (h : SeenView) × In h copies × (has h.set c ≡ true)
-  pub living : (h : SeenView) (c : ℕ) → In h copies → has h.set c ≡ true → c < length cs
-  pub log : (h : SeenView) (c : ℕ) → In h copies → has h.set c ≡ true → h.log ≡ log_at net (clone_at cs c) s front
-  pub shared : (h k : SeenView) (c d : ℕ) → In h copies → In k copies → has h.set c ≡ true → has k.set d ≡ true →
+  pub carried : (c : ℕ) → c < length cs → (h : RackCopyView) × In h copies × (has h.set c ≡ true)
+  pub living : (h : RackCopyView) (c : ℕ) → In h copies → has h.set c ≡ true → c < length cs
+  pub log : (h : RackCopyView) (c : ℕ) → In h copies → has h.set c ≡ true → h.log ≡ log_at net (clone_at cs c) s front
+  pub shared : (h k : RackCopyView) (c d : ℕ) → In h copies → In k copies → has h.set c ≡ true → has k.set d ≡ true →
       log_at net (clone_at cs c) s front ≡ log_at net (clone_at cs d) s front → h ≡ k
 
 -- these are the clones whose logs are that of clone c

@@ -1,9 +1,10 @@
 //! One physical process (copy) is advanced to a window boundary.
-ghost use Rattle.std.specs.Prelude.{◌≡◌, [], ◌+◌, ◌^◌, ◌≤◌, OnOk, IfOk};
+ghost use Rattle.std.specs.Prelude.{◌≡◌, [], ◌+◌, ◌≤◌, OnOk, IfOk};
 ghost use Rattle.clone_sets.specs.Sets.{empty};
-ghost use Rattle.phys_proc.specs.Own.{IsCopy, IsAdvance, Onward, may_handle};
+ghost use Rattle.stations.specs.declared.sender.TheConstants.{ALL_COUNTS};
+ghost use Rattle.phys_proc.specs.Own.{IsCopy, IsAdvance, ComesFrom, may_handle};
 ghost use Rattle.phys_proc.specs.Stops.{IsStop};
-ghost use Rattle.phys_proc.specs.Gone.{ends_in};
+ghost use Rattle.phys_proc.specs.Ends.{ends_in};
 
 use crate::clone_ends::CloneEnds;
 use crate::copies::{Copies, earliest};
@@ -76,11 +77,14 @@ pub(crate) fn go_on<L: Ledger>(
 ) -> Result<Stop, NoMemory>
     requires fits { IsCopy model.now station copy.old }
     requires early { bound ≤ model.now.horizon }
-    requires few { stage.old.handled + may_handle model.now.limit copy.old ≤ 2 ^ 32 }
-    ensures onward { OnOk result (Onward model.now station (ends_in model.now.horizon ends.now) bound copy.old copy.new
-        stage.old.sent.items stage.new.sent.items steps.old steps.new) }
+    requires few { stage.old.handled + may_handle model.now.limit copy.old ≤ ALL_COUNTS }
+    // what it gives: the copy further on, what it sent, and a step for each message
+    ensures onward { OnOk result (ComesFrom model.now station (ends_in model.now.horizon ends.now) bound copy.old
+        copy.new stage.old.sent.items stage.new.sent.items steps.old steps.new) }
+    // why it goes no further: nothing is due, the limit is met, or its clones part
     ensures stop { IfOk result (λ stop. IsStop model.now.limit (ends_in model.now.horizon ends.now) bound copy.new
         stage.new.takers stop) }
+    // what is kept of the stage: the copies that are done, and the clones over the limit; messages are counted
     ensures done { OnOk result (stage.new.done ≡ stage.old.done) }
     ensures over { OnOk result (stage.new.over ≡ stage.old.over) }
     ensures handled { OnOk result (stage.new.handled + steps.old ≡ stage.old.handled + steps.new) }
@@ -119,7 +123,7 @@ pub(crate) fn finish<L: Ledger>(
     requires fits { IsCopy model.now station copy }
     requires stop { IsStop model.now.limit (ends_in model.now.horizon ends.now) bound copy stage.old.takers stop }
     requires early { bound ≤ model.now.horizon }
-    requires few { stage.old.handled + may_handle model.now.limit copy ≤ 2 ^ 32 }
+    requires few { stage.old.handled + may_handle model.now.limit copy ≤ ALL_COUNTS }
     ensures comes { OnOk result (IsAdvance model.now station (ends_in model.now.horizon ends.now) bound copy
         stage.old.done stage.new.done stage.old.sent.items stage.new.sent.items stage.old.over stage.new.over
         steps.old steps.new) }

@@ -4,7 +4,7 @@
 ghost use Rattle.std.specs.Prelude.{◌≡◌, ℕ, ◌<◌, ◌==◌, ◌∷◌, ◌++◌, [], min, if◌then◌else◌, OnOk, OnErr};
 ghost use Rattle.sim_base.specs.declared.lists.TheConstants.{MOST_CLONES};
 ghost use Rattle.clone_sets.specs.Sets.{has};
-ghost use Rattle.phys_proc.specs.Gone.{ends_in, is_gone};
+ghost use Rattle.phys_proc.specs.Ends.{ends_in, has_ended};
 
 use clone_sets::CloneSet;
 use sim_base::NoMemory;
@@ -19,7 +19,7 @@ pub struct CloneEnds {
 
 impl Model for CloneEnds {
     ghost use Rattle.std.specs.Prelude.{List, ℕ};
-    ghost use Rattle.phys_proc.specs.Gone.{AreClones};
+    ghost use Rattle.phys_proc.specs.Ends.{AreClones};
 
     ghost Value = { List (ℕ × ℕ) };
 
@@ -67,16 +67,16 @@ impl CloneEnds {
     }
 
     /// The clones that have ended at this time.
-    pub fn gone(&self, time: u64) -> CloneSet
-        ensures gone { (c : ℕ) → has result c ≡ is_gone time self.now c }
+    pub fn ended_clones(&self, time: u64) -> CloneSet
+        ensures ended { (c : ℕ) → has result c ≡ has_ended time self.now c }
     {
-        let mut gone = CloneSet::empty();
+        let mut clones = CloneSet::empty();
         for i in 0..self.ended.len() {
             let (clone, end) = self.ended[i];
             if end <= time {
-                gone = gone.with(clone);
+                clones = clones.with(clone);
             }
         }
-        gone
+        clones
     }
 }

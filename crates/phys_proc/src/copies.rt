@@ -10,7 +10,7 @@ ghost use Rattle.phys_proc.specs.Racks.{view_of_copy};
 ghost use Rattle.phys_proc.specs.Own.{with_message, copy_after_fork, but_pending, IsLate, AreLate};
 
 use crate::copy::PhysCopy;
-use crate::rack::Seen;
+use crate::rack::RackCopy;
 use clone_sets::CloneSet;
 use sim_base::{Msg, NoMemory};
 use std::alloc::Global;
@@ -141,7 +141,7 @@ fn fork(copies: &mut Vec<PhysCopy>, old: u32, new: u32)
 }
 
 // A second list of the copies, as a reader sees them; the logs are shared.
-fn see_all(alloc: Global, copies: &mut Vec<PhysCopy>) -> Result<Vec<Seen>, NoMemory>
+fn see_all(alloc: Global, copies: &mut Vec<PhysCopy>) -> Result<Vec<RackCopy>, NoMemory>
     ensures seen { IfOk result (λ v. v.items ≡ map view_of_copy copies.old.items) }
     ensures same { copies.new.items ≡ copies.old.items }
 {
@@ -228,7 +228,7 @@ impl Copies {
     }
 
     /// The copies as a reader sees them; the logs are shared.
-    pub fn see_all(&mut self, alloc: Global) -> Result<Vec<Seen>, NoMemory>
+    pub fn see_all(&mut self, alloc: Global) -> Result<Vec<RackCopy>, NoMemory>
         ensures seen { IfOk result (λ v. v.items ≡ map view_of_copy self.old) }
         ensures same { self.new ≡ self.old }
     {

@@ -7,7 +7,7 @@ ghost use Rattle.sim_base.specs.declared.message.Msg.{Msg as Msg'};
 ghost use Rattle.sim_base.specs.Order.{msg_cmp};
 ghost use Rattle.sim_base.specs.Marked.{SortedMarked};
 ghost use Rattle.phys_proc.specs.Own.{IsCopy, NextDue, NothingDue, IsHandled, half, sent_after, pending_after};
-ghost use Rattle.phys_proc.specs.Gone.{ends_in};
+ghost use Rattle.phys_proc.specs.Ends.{ends_in};
 
 use crate::clone_ends::CloneEnds;
 use arrayvec::ArrayVec;
@@ -57,7 +57,7 @@ pub(crate) fn next_due(
         let Some(marks) = copy.pending.least_marks() else {
             unreachable!()
         };
-        let takers = copy.set.meet(marks).minus(ends.gone(time));
+        let takers = copy.set.meet(marks).minus(ends.ended_clones(time));
         if !takers.is_empty() {
             return Some(takers);
         }

@@ -7,7 +7,7 @@ ghost use Rattle.clone_sets.specs.Sets.{has};
 ghost use Rattle.run_laws.specs.Queue.{In};
 ghost use Rattle.phys_proc.specs.Own.{IsLate, taken_at};
 ghost use Rattle.phys_proc.specs.Procs.{IsProc, IsLeastTime, IsLeastOf, IsLeast, IsWithCopy};
-ghost use Rattle.phys_proc.specs.Gone.{ends_in};
+ghost use Rattle.phys_proc.specs.Ends.{ends_in};
 
 use crate::clone_ends::CloneEnds;
 use crate::copy::PhysCopy;
@@ -45,7 +45,7 @@ pub(crate) fn least_of_copy(copy: &PhysCopy, ends: &CloneEnds, horizon: u64) -> 
         if time >= horizon {
             return None;
         }
-        let takers = first.1.minus(ends.gone(time));
+        let takers = first.1.minus(ends.ended_clones(time));
         if !takers.is_empty() {
             return Some(time);
         }

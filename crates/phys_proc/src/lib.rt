@@ -21,9 +21,9 @@
 //! for (msg, set) in sent { /* the receiver's */ proc.deliver(msg, set)?; }
 //! ```
 //!
-//! What it costs: a station with nothing due costs one comparison, a copy is stepped where it stands, and a message
+//! What it costs: a station with nothing due costs one comparison, a copy is stepped in place, and a message
 //! costs what it costs one clone alone. State, log and pending messages are copied at a split only, and of
-//! the log no more than its tail. Where a log would get longer than the limit, its clones are told in `over`.
+//! the log no more than its tail. Where a log would get longer than the limit, its clones are those of `over`.
 //!
 //! It carries the promise that sharing changes no result, and the exact count of what was handled once.
 #![tactic(auto)]

@@ -7,7 +7,7 @@ ghost use Rattle.net_model.specs.Net.{Net};
 ghost use Rattle.stations.specs.Runs.{simulation};
 ghost use Rattle.run_laws.specs.Copies.{first_copy, IsForked, IsStepped, AreOver, GainTogether, Stands};
 ghost use Rattle.phys_proc.specs.Own.{with_message, copy_after_fork, but_pending, pending_of, IsCopy, IsLate, AreLate};
-ghost use Rattle.phys_proc.specs.Gone.{ends_in};
+ghost use Rattle.phys_proc.specs.Ends.{ends_in};
 ghost use Rattle.phys_proc.specs.Procs.{IsProc, AreShared};
 ghost use Rattle.phys_proc.specs.Racks.{view_of_copy};
 
@@ -21,13 +21,16 @@ use arrayvec::ArrayVec;
 use clone_sets::CloneSet;
 use log_chain::Log;
 use net_model::Model;
-use sim_base::{Lists, Msg, NoMemory, Pending, Steps};
+use sim_base::{Lists, MOST_CLONES, Msg, NoMemory, Pending, Steps};
 use stations::MOST_SENDS;
 use stations::state::setup;
 use std::alloc::Global;
 use std::mem;
 use std::sync::Arc;
 use std::sync::ledger::Ledger;
+
+// How many guesses of places a station keeps: one for each clone that there may be.
+const GUESSES: usize = MOST_CLONES as usize;
 
 /// The copies of one station. Each clone that lives is in one of them.
 #[derive(Drop)]
@@ -36,7 +39,7 @@ pub struct Proc {
     living: CloneSet,
     handled: u64,
     copies: Copies,
-    // for each clone a guess where its copy stands, at which a search begins
+    // for each clone a guess of the place of its copy, at which a search begins
     places: Vec<u8>,
     // for what one message sends, from the first step on: an empty one is more than a kilobyte that has to be written
     out: Option<Box<ArrayVec<Msg, MOST_SENDS>>>,
@@ -106,7 +109,7 @@ fn opening(alloc: Global, model: &Model, station: u32) -> Result<Copies, NoMemor
     Ok(copies)
 }
 
-// Where the copy of the first of these clones may stand.
+// A guess of the place of the copy of the first of these clones.
 fn guess_of(places: &[u8], set: CloneSet) -> usize {
     let Some(who) = set.first() else {
         return 0;
@@ -117,11 +120,11 @@ fn guess_of(places: &[u8], set: CloneSet) -> usize {
     }
 }
 
-// Notes where the copy of the first of these clones stands.
+// Notes the place of the copy of the first of these clones.
 fn note_place(places: &mut Vec<u8>, set: CloneSet, place: usize) {
     if let Some(who) = set.first() {
-        if let Some(noted) = places.get_mut(who as usize) {
-            *noted = place.min(255) as u8;
+        if let Some(guess) = places.get_mut(who as usize) {
+            *guess = place.min(GUESSES - 1) as u8;
         }
     }
 }
@@ -142,7 +145,9 @@ impl Proc {
     pub fn new(alloc: Global, model: &Model, station: u32) -> Result<Proc, NoMemory>
         requires low { 1 ≤ station }
         requires high { station ≤ length model.now.sites }
+        // what it gives: the one copy that the station opens with
         ensures first { IfOk result (λ p. p.copies ≡ first_copy (simulation model.now) (one 0) station ∷ []) }
+        // it is a station of the network, in which the first clone alone lives and nothing is handled
         ensures proc { IfOk result (λ p. IsProc model.now p) }
         ensures station { IfOk result (λ p. p.station ≡ station) }
         ensures living { IfOk result (λ p. p.living ≡ one 0) }
@@ -151,7 +156,7 @@ impl Proc {
         // for its clause: the model is a network that keeps the rules
         let _horizon = model.horizon();
         let copies = opening(alloc, model, station)?;
-        let places = Vec::from_array(alloc, [0; 256])?;
+        let places = Vec::from_array(alloc, [0; GUESSES])?;
         Ok(Proc {
             station,
             living: CloneSet::one(0),
@@ -162,7 +167,7 @@ impl Proc {
         })
     }
 
-    /// Steps the copies to the bound where they stand; what they send to other stations is put into `sent`, which
+    /// Steps the copies to the bound, in place; what they send to other stations is put into `sent`, which
     /// is empty before. Out of memory, or where some clone is over the limit, they mean nothing.
     pub fn advance<L: Ledger>(
         &mut self,
@@ -176,15 +181,19 @@ impl Proc {
         requires proc { IsProc model.now self.old }
         requires early { bound ≤ model.now.horizon }
         requires silent { sent.old.items ≡ [] }
+        // what it gives: the copies at the bound and what they sent, where no log is over the limit
         ensures windows { IfOk result (λ g. g.over ≡ empty →
             IsStepped (simulation model.now) has (ends_in model.now.horizon ends.now) self.old.station bound
             self.old.copies self.new.copies sent.new.items) }
+        // or the clones whose logs would get longer than the limit
         ensures over { IfOk result (λ g. AreOver (simulation model.now) has (ends_in model.now.horizon ends.now)
             self.old.station bound self.old.copies g.over) }
+        // what is counted: the messages handled, each once for all clones of a copy
         ensures gained { IfOk result (λ g. GainTogether (simulation model.now) has
             (ends_in model.now.horizon ends.now) self.old.station bound self.old.copies g.handled) }
         ensures counted { IfOk result (λ g. steps.new ≡ steps.old + g.handled) }
         ensures few { IfOk result (λ g. g.handled ≤ size self.old.living * model.now.limit) }
+        // what is kept: a station of the network, its number, and its clones where no log is over the limit
         ensures proc { OnOk result (IsProc model.now self.new) }
         ensures station { self.new.station ≡ self.old.station }
         ensures living { IfOk result (λ g. g.over ≡ empty → self.new.living ≡ self.old.living) }
@@ -247,8 +256,10 @@ impl Proc {
     /// Out of memory, some of the copies may have it; nothing else of them has changed.
     pub fn deliver(&mut self, msg: Msg, set: CloneSet) -> Result<(), NoMemory>
         requires target { msg.to ≡ self.old.station }
+        // what it gives: the message is pending to those of the clones that the station has
         ensures given { OnOk result (self.new.copies ≡ map (with_message msg set) self.old.copies) }
         ensures proc { OnOk result ((net : Net) → IsProc net self.old → IsProc net self.new) }
+        // what is kept, also out of memory: all but what is pending
         ensures same { map but_pending self.new.copies ≡ map but_pending self.old.copies }
         ensures station { self.new.station ≡ self.old.station }
         ensures living { self.new.living ≡ self.old.living }
@@ -265,15 +276,17 @@ impl Proc {
         requires old { has self.old.living old ≡ true }
         requires new { has self.old.living new ≡ false }
         requires below { new < MOST_CLONES }
+        // what it gives: the new clone beside the old one, in its copy and in what is pending
         ensures forked { self.new.copies ≡ map (copy_after_fork old new) self.old.copies }
         ensures each_forked { (net : Net) (ends : ℕ → ℕ) → IsProc net self.old →
             AllZip (IsForked (simulation net) has ends old new) self.old.copies self.new.copies }
+        // what is kept: a station of the network, and what was handled; the new clone lives too
         ensures proc { (net : Net) → IsProc net self.old → IsProc net self.new }
         ensures station { self.new.station ≡ self.old.station }
         ensures living { self.new.living ≡ with self.old.living new }
         ensures handled { self.new.handled ≡ self.old.handled }
     {
-        // for its clause: the number of each living clone is below 256
+        // for its clause: the number of each living clone is one that there may be
         let _clones = self.living.len();
         self.copies.fork(old, new);
         self.living = self.living.with(new);

@@ -1,11 +1,11 @@
 //! Racks: what a reader sees of a station at a window boundary (front).
-ghost use Rattle.std.specs.Prelude.{◌≡◌, ℕ, ◌<◌, IfOk, IfSome, IfNone, length, true, false, None};
+ghost use Rattle.std.specs.Prelude.{◌≡◌, ◌<◌, IfOk, IfSome, IfNone, length, true, false, None};
 ghost use Rattle.std.specs.List.{AllByRecursion};
 ghost use Rattle.sim_base.specs.Clones.{place_of};
 ghost use Rattle.sim_base.specs.declared.lists.TheConstants.{MOST_CLONES};
 ghost use Rattle.clone_sets.specs.Sets.{has, size};
 ghost use Rattle.run_laws.specs.Queue.{In};
-ghost use Rattle.phys_proc.specs.Racks.{SeenView, view_of_copy, IsFoundOf};
+ghost use Rattle.phys_proc.specs.Racks.{RackCopyView, view_of_copy, IsFoundOf};
 
 use crate::copy::PhysCopy;
 use clone_sets::CloneSet;
@@ -17,15 +17,15 @@ use std::sync::Arc;
 
 /// A copy as a reader sees it: its clones, and its log.
 #[derive(Drop)]
-pub struct Seen {
+pub struct RackCopy {
     pub(crate) set: CloneSet,
     pub(crate) log: Log,
 }
 
-impl std::marker::Model for Seen {
-    ghost use Rattle.phys_proc.specs.Racks.{SeenView};
+impl std::marker::Model for RackCopy {
+    ghost use Rattle.phys_proc.specs.Racks.{RackCopyView};
 
-    ghost Value = { SeenView };
+    ghost Value = { RackCopyView };
 
     ghost view = { λ s. record { set = s.set; log = s.log } };
 }
@@ -37,7 +37,7 @@ pub struct Rack {
     pub(crate) lists: Arc<Lists>,
     pub(crate) station: u32,
     pub(crate) front: u64,
-    pub(crate) copies: Vec<Seen>,
+    pub(crate) copies: Vec<RackCopy>,
 }
 
 impl std::marker::Model for Rack {
@@ -77,9 +77,9 @@ pub struct Found {
 }
 
 // The copy that the clone is in.
-pub(crate) fn find_copy(copies: &[Seen], c: u32) -> Option<Found>
+pub(crate) fn find_copy(copies: &[RackCopy], c: u32) -> Option<Found>
     requires clone { c < MOST_CLONES }
-    ensures some { IfSome result (λ f. (h : SeenView) × In h copies.now × (has h.set c ≡ true) ×
+    ensures some { IfSome result (λ f. (h : RackCopyView) × In h copies.now × (has h.set c ≡ true) ×
         (f.handled ≡ length h.log) × (f.shared ≡ size h.set)) }
     ensures none { IfNone result (AllByRecursion (λ h. has h.set c ≡ false) copies.now) }
 {
@@ -149,11 +149,11 @@ impl Rack {
 
 impl PhysCopy {
     /// The copy as a reader sees it; the log is shared.
-    pub(crate) fn see(&mut self, alloc: Global) -> Result<Seen, NoMemory>
+    pub(crate) fn see(&mut self, alloc: Global) -> Result<RackCopy, NoMemory>
         ensures seen { IfOk result (λ s. s ≡ view_of_copy self.old) }
         ensures same { self.new ≡ self.old }
     {
         let log = self.log.share(alloc)?;
-        Ok(Seen { set: self.set, log })
+        Ok(RackCopy { set: self.set, log })
     }
 }

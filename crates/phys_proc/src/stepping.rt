@@ -2,7 +2,7 @@
 ghost use Rattle.std.specs.Prelude.{◌≡◌, ◌+◌, ◌++◌, IfOk, OnOk};
 ghost use Rattle.std.specs.List.{AllZip};
 ghost use Rattle.phys_proc.specs.Own.{IsStepResult, IsLate, AreLate};
-ghost use Rattle.phys_proc.specs.Gone.{ends_in};
+ghost use Rattle.phys_proc.specs.Ends.{ends_in};
 ghost use Rattle.phys_proc.specs.Stages.{MayStepCopies, IsNewStage};
 
 use crate::advancing::{Stage, Stop, finish, go_on};
@@ -16,7 +16,7 @@ use stations::MOST_SENDS;
 use std::alloc::Global;
 use std::sync::ledger::Ledger;
 
-// Steps the copies where they stand, and returns a time that nothing is pending before. Those whose clones part are
+// Steps the copies in place, and returns a time that nothing is pending before. Those whose clones part are
 // taken out, and the copies that they become are put with the others that are done. A copy is looked at only if its
 // time in `leasts` is before the bound.
 fn step_in_place<L: Ledger>(
@@ -34,10 +34,13 @@ fn step_in_place<L: Ledger>(
     requires may_step { MayStepCopies model.now station bound copies.old.items }
     requires each { AllZip IsLate leasts.old.items copies.old.items }
     requires new { IsNewStage stage.old }
+    // what it gives: the copies at the bound, in place or done, what they sent, and the clones over the limit
     ensures stepped { OnOk result (IsStepResult model.now station (ends_in model.now.horizon ends.now) bound
         copies.old.items (copies.new.items ++ stage.new.done) stage.new.sent.items stage.new.over steps.old steps.new) }
+    // times that nothing is pending before: of all copies in place, and of each
     ensures late { IfOk result (λ t. AreLate t copies.new.items) }
     ensures each { OnOk result (AllZip IsLate leasts.new.items copies.new.items) }
+    // what is counted: the messages handled
     ensures handled { OnOk result (stage.new.handled + steps.old ≡ steps.new) }
 {
     let mut least = u64::MAX;

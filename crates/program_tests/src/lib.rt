@@ -5,7 +5,14 @@
 //!
 //! They show what no clause says: that calls find memory, and that clauses mean what they should, by values from
 //! outside. A row has a name, the words and the texts of a run, and its result: the status, and each byte that is
-//! written. Where threads run side by side, what is said of the answer must hold under every schedule.
+//! written:
+//!
+//! ```text
+//! Row { shows: "a branch that ends early", script: "fork brief from base\nend brief at 9\n",
+//!       traces: texts::BRIEF, report: texts::BRIEF_REPORT, ..PLAIN }
+//! ```
+//!
+//! Where threads run side by side, what is said of the answer must hold under every schedule.
 #![tactic(auto)]
 
 #[cfg(test)]

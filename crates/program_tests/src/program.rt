@@ -137,7 +137,7 @@ impl<'a> Row<'a> {
             return false;
         };
         let (words, model, script) = (self.words, model.as_str(), self.script);
-        match ended(rt, alloc, &NoGate, words, model, script, &GOOD) {
+        match run_program(rt, alloc, &NoGate, words, model, script, &GOOD) {
             Ok(ended) => {
                 ended.status == self.status
                     && is_both(ended.output(), self.traces, self.report)
@@ -217,7 +217,7 @@ fn cloner_counted<G: Gate, L: Ledger, R: Threads + Wait + Sync>(
 }
 
 /// How the program ends on a model in the file `m` and a script in the file `s`.
-fn ended<G: Gate, R: Threads + Wait + Sync>(
+fn run_program<G: Gate, R: Threads + Wait + Sync>(
     rt: &R,
     alloc: Global,
     gate: &G,

@@ -3,10 +3,13 @@ use Rattle.std.proofs.Common.{ℕ, ◌+◌, ◌<◌, sym, subst, List, Option, l
 use Rattle.std.specs.List.{flat_map}
 use Rattle.sim_base.specs.Clones.{Clone, clone_at, nobody}
 use Rattle.sim_outer.specs.Bytes.{IsAppended, IsPrefixAppended}
+use Rattle.sim_outer.proofs.Appending.{appended_then, part_then}
 use Rattle.net_model.specs.Net.{Net}
 use Rattle.trace_report.specs.Outputs.{clone_text}
 use Rattle.rolling_text.proofs.Joined.{clone_is}
-use Rattle.rolling_text.proofs.Pieces.{appended_then, part_then, pieces_around, pieces_more}
+use Rattle.rolling_text.proofs.Pieces.{pieces_around, pieces_more}
+
+-- ---- IsAppended, IsPrefixAppended
 
 module _ (net : Net) (cs : List Clone) (c : ℕ) (there : c < length cs) (old mid new : Option (List ℕ))
     (before : IsAppended old (flat_map (clone_text net) (take c cs)) mid) where

@@ -6,6 +6,8 @@ use Rattle.net_model.specs.Net.{Net}
 use Rattle.rolling_text.specs.GivenSpans.{AreInOrder}
 use Rattle.rolling_text.specs.declared.given_spans.GivenSpan.{GivenSpan}
 
+-- ---- AreInOrder
+
 module _ (net : Net) (list : Clone) where
   -- they begin before they end
   pub begins_before : (from : ℕ) (bs : List GivenSpan) (until : ℕ) → AreInOrder net list from bs until → from ≤ until

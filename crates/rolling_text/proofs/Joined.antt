@@ -9,82 +9,97 @@ use Rattle.sim_base.specs.Clones.{Clone, clone_at, nobody}
 use Rattle.net_model.specs.Net.{Net}
 use Rattle.net_model.specs.Rules.{IsNet}
 use Rattle.world_core.specs.Worlds.{AreInNet}
+use Rattle.rolling_text.specs.declared.texts.TheConstants.{MARGIN}
 use Rattle.rolling_text.specs.Texts.{AreLeft, body, body_before, dropped_at, parting_at, rest}
 use Rattle.rolling_text.proofs.Keeping.{IsJoined, dropped_within, joined_at}
 use Rattle.trace_report.specs.Outputs.{clone_text}
 
--- a page with lines of the clone before this one, of which the end is dropped
-module _ (net : Net) (valid : IsNet net) (cs : List Clone) (in_net : AreInNet net cs) (c dropped : ℕ)
-    (there : c < length cs) (old : List ℕ) (margin : 32 ≤ length old)
-    (left : AreLeft net cs c dropped (drop 32 old)) where
-  lengths : length (drop 32 old) + length left.others ≡ length (body_before net cs c)
-  lengths = sym (length-append (drop 32 old) left.others) ∙ ap length left.before
+-- ---- a page with lines of the clone before this one, of which the end is dropped
 
-  -- the page behind the 32 bytes has what is dropped
-  pub can_drop : 32 + dropped ≤ length old
+module _ (net : Net) (valid : IsNet net) (cs : List Clone) (in_net : AreInNet net cs) (c dropped : ℕ)
+    (there : c < length cs) (old : List ℕ) (margin : MARGIN ≤ length old)
+    (left : AreLeft net cs c dropped (drop MARGIN old)) where
+  -- the lines on the page and the others are those of the clone before
+  lengths : length (drop MARGIN old) + length left.others ≡ length (body_before net cs c)
+  lengths = sym (length-append (drop MARGIN old) left.others) ∙ ap length left.before
+
+  -- the page behind the margin has what is dropped
+  pub can_drop : MARGIN + dropped ≤ length old
   can_drop =
       let a = lengths in
-      let b = length-drop 32 old in
+      let b = length-drop MARGIN old in
       let d = left.drops in
       let w = dropped_within net cs valid in_net (dropped_at net cs c) c there refl in
       omega (arith, a, b, d, w, margin)
 
+  -- the time from which on the clone's lines are its own
   abbrev time : ℕ
   time = parting_at net cs c
 
+  -- how many bytes of lines are kept
   abbrev bytes : ℕ
-  bytes = length old - dropped - 32
+  bytes = length old - dropped - MARGIN
 
+  -- these and the clone's own rest are its lines
   joined : IsJoined net cs c bytes time
   joined =
       let a = lengths in
-      let b = length-drop 32 old in
+      let b = length-drop MARGIN old in
       let d = left.drops in
       let w = can_drop in
       joined_at net cs valid in_net (dropped_at net cs c) c bytes time there refl refl (omega (arith, a, b, d, w))
 
   module _ (cut : List ℕ) (is_cut : cut ≡ take (length old - dropped) old) where
+    -- how long the page is when it is cut
     long_cut : length cut ≡ length old - dropped
     long_cut =
         let b = ap length is_cut in
         let h : length (take (length old - dropped) old) ≡ length old - dropped = grind (arith, common_steps) in
         omega (arith, b, h)
 
-    kept_lines : drop 32 cut ≡ take bytes (body_before net cs c)
+    -- behind the margin it has the first lines of the clone before
+    kept_lines : drop MARGIN cut ≡ take bytes (body_before net cs c)
     kept_lines =
         let w = can_drop in
-        let e : length old - dropped ≡ 32 + bytes = omega (arith, w) in
-        let b = length-drop 32 old in
-        ap (drop 32) (is_cut ∙ ap (λ n. take n old) e) ∙ drop-take 32 bytes old
-        ∙ sym (ap (take bytes) (sym left.before) ∙ take-append-le bytes (drop 32 old) left.others (omega (arith, b)))
+        let e : length old - dropped ≡ MARGIN + bytes = omega (arith, w) in
+        let b = length-drop MARGIN old in
+        ap (drop MARGIN) (is_cut ∙ ap (λ n. take n old) e) ∙ drop-take MARGIN bytes old
+        ∙ sym (ap (take bytes) (sym left.before)
+        ∙ take-append-le bytes (drop MARGIN old) left.others (omega (arith, b)))
 
     -- with the clone's own rest they are its lines
-    pub kept_joined : drop 32 cut ++ rest net (clone_at cs c) time ≡ body net (clone_at cs c)
+    pub kept_joined : drop MARGIN cut ++ rest net (clone_at cs c) time ≡ body net (clone_at cs c)
     kept_joined = ap (λ l. l ++ rest net (clone_at cs c) time) kept_lines ∙ sym joined.joins
 
-    -- and there are still 32 bytes or more
-    pub margin_stays : 32 ≤ length cut
+    -- and the margin is still there
+    pub margin_stays : MARGIN ≤ length cut
     margin_stays = let l = long_cut in let w = can_drop in omega (arith, l, w)
 
--- a page with the first lines of a clone still has free bytes for the others
-pub rest_fits : (page rest body : List ℕ) (reserved : ℕ) → 32 ≤ length page → drop 32 page ++ rest ≡ body
-    → 32 + length body ≤ reserved → length page + length rest ≤ reserved
+-- ---- a page with the first lines of a clone
+
+-- it still has free bytes for the others
+pub rest_fits : (page rest body : List ℕ) (reserved : ℕ) → MARGIN ≤ length page → drop MARGIN page ++ rest ≡ body
+    → MARGIN + length body ≤ reserved → length page + length rest ≤ reserved
 rest_fits page rest body reserved margin joined fits =
     let a = ap length joined in
-    let b = length-append (drop 32 page) rest in
-    let d = length-drop 32 page in
+    let b = length-append (drop MARGIN page) rest in
+    let d = length-drop MARGIN page in
     omega (arith, a, b, d, margin, fits)
 
 -- where lines move from what is left to a page, both together stay the lines of the clone
-pub still_joined : (page now rest less body : List ℕ) → 32 ≤ length page → length page ≤ length now
-    → now ++ less ≡ page ++ rest → drop 32 page ++ rest ≡ body → drop 32 now ++ less ≡ body
+pub still_joined : (page now rest less body : List ℕ) → MARGIN ≤ length page → length page ≤ length now
+    → now ++ less ≡ page ++ rest → drop MARGIN page ++ rest ≡ body → drop MARGIN now ++ less ≡ body
 still_joined page now rest less body margin longer moved joined =
-    sym (drop-append-le 32 now less (omega (arith, margin, longer))) ∙ ap (drop 32) moved
-    ∙ drop-append-le 32 page rest margin ∙ joined
+    sym (drop-append-le MARGIN now less (omega (arith, margin, longer))) ∙ ap (drop MARGIN) moved
+    ∙ drop-append-le MARGIN page rest margin ∙ joined
+
+-- ---- body_before
 
 -- the lines before the next clone are this one's
 pub next_before : (net : Net) (cs : List Clone) (c : ℕ) → body_before net cs (c + 1) ≡ body net (clone_at cs c)
 next_before net cs c = let e : c + 1 ≡ suc c = omega arith in ap (body_before net cs) e
+
+-- ---- clone_text
 
 -- a name line and the lines are the text
 pub text_is : (net : Net) (k : Clone) (name piece lines rest : List ℕ)

@@ -27,10 +27,14 @@ use Rattle.rolling_text.specs.Texts.{body, body_before, rest, shared_at, parting
 use Rattle.world_core.specs.Worlds.{AreInNet}
 use Rattle.rolling_text.proofs.SamePlans.{tells_plans}
 
+-- ---- IsJoined
+
 -- so many bytes of the clone before are kept, and then come the lines from a time on
 pub record IsJoined (net : Net) (cs : List Clone) (c bytes time : ℕ) : Type 0 where
   pub within : bytes ≤ length (body_before net cs c)
   pub joins : body net (clone_at cs c) ≡ take bytes (body_before net cs c) ++ rest net (clone_at cs c) time
+
+-- ---- rest
 
 -- all lines come at 0 or later
 pub rest_from_0 : (net : Net) (c : Clone) → rest net c 0 ≡ body net c
@@ -46,24 +50,28 @@ rest_from_0 net c =
 module _ (net : Net) (valid : IsNet net) (c d : Clone)
     (c_ends : end_of (simulation net) c ≤ net.horizon) (d_ends : end_of (simulation net) d ≤ net.horizon)
     (c_there : AreForStations (simulation net) c.plans) (d_there : AreForStations (simulation net) d.plans) where
+  -- what stations do is lawful
   abbrev law : HandlesLawfully (simulation net) (IsGood net)
   law = lawful-stations net valid
 
+  -- they send to stations
   abbrev stations : SendsToStations (simulation net) (IsGood net)
   stations = stations-to_stations net valid
 
+  -- and what they send is new
   abbrev fresh : HandlesFreshly (simulation net) (IsGood net) sender_of number_of next_number
   fresh = fresh-stations net valid
 
+  -- the time before which both have one trace
   abbrev shared : ℕ
   shared = shared_to (simulation net) same_plan c d
 
   -- the lines that they share
-  abbrev kept : List ℕ
-  kept = flat_map (entry_line net) (before (simulation net) shared (trace_of net d))
+  abbrev shared_lines : List ℕ
+  shared_lines = flat_map (entry_line net) (before (simulation net) shared (trace_of net d))
 
   -- the lines of the first are those, and its rest
-  lines_before : body net c ≡ kept ++ rest net c shared
+  lines_before : body net c ≡ shared_lines ++ rest net c shared
   unfolding rest body
   lines_before =
       ap (flat_map (entry_line net)) (trace_split law stations fresh c shared c_there)
@@ -74,26 +82,30 @@ module _ (net : Net) (valid : IsNet net) (c d : Clone)
       (agree_to_parting law same_plan c d (tells_plans net) c_ends d_ends)
 
   -- so many bytes of the first, and the second's rest, are the lines of the second
-  lines_after : body net d ≡ take (length kept) (body net c) ++ rest net d shared
+  lines_after : body net d ≡ take (length shared_lines) (body net c) ++ rest net d shared
   unfolding rest body
   lines_after = lines_agree law stations fresh same_plan c d (entry_line net) (tells_plans net) c_ends d_ends c_there
       d_there
 
   -- where the first's rest is taken off its length, the bytes that both share are left
-  pub kept_bytes : (bytes : ℕ) → bytes + length (rest net c shared) ≡ length (body net c) →
+  shared_bytes : (bytes : ℕ) → bytes + length (rest net c shared) ≡ length (body net c) →
       (bytes ≤ length (body net c)) × (body net d ≡ take bytes (body net c) ++ rest net d shared)
-  kept_bytes bytes e =
+  shared_bytes bytes e =
       let a = ap length lines_before in
-      let b = length-append kept (rest net c shared) in
-      let s : length kept ≡ bytes = omega (arith, a, b, e) in
+      let b = length-append shared_lines (rest net c shared) in
+      let s : length shared_lines ≡ bytes = omega (arith, a, b, e) in
       (omega (arith, e), lines_after ∙ ap (λ n. take n (body net c) ++ rest net d shared) s)
 
   -- the rest is no longer than all
-  pub rest_short : length (rest net c shared) ≤ length (body net c)
-  rest_short = let a = ap length lines_before in let b = length-append kept (rest net c shared) in omega (arith, a, b)
+  rest_short : length (rest net c shared) ≤ length (body net c)
+  rest_short =
+      let a = ap length lines_before in
+      let b = length-append shared_lines (rest net c shared) in
+      omega (arith, a, b)
 
 -- ---- the first clone keeps nothing
 
+-- all of its lines are its rest
 first_joined : (net : Net) (cs : List Clone) → IsJoined net cs 0 0 0
 first_joined net cs = record { within = omega arith; joins = sym (rest_from_0 net (clone_at cs 0)) }
 
@@ -101,15 +113,19 @@ first_joined net cs = record { within = omega arith; joins = sym (rest_from_0 ne
 
 module _ (net : Net) (valid : IsNet net) (cs : List Clone) (in_net : AreInNet net cs) (c : ℕ) (some : 1 ≤ c)
     (there : c < length cs) where
+  -- the clone before it
   abbrev old : Clone
   old = clone_at cs (c - 1)
 
+  -- the time before which the two have one trace
   abbrev time : ℕ
   time = shared_at net cs c
 
+  -- the lines before are those of the clone before it
   before_is : body_before net cs c ≡ body net old
   before_is = let e : c ≡ suc (c - 1) = omega arith in ap (body_before net cs) e
 
+  -- which is there
   there_old : c - 1 < length cs
   there_old = omega (arith, there)
 
@@ -121,10 +137,11 @@ module _ (net : Net) (valid : IsNet net) (cs : List Clone) (in_net : AreInNet ne
       let b = ap length before_is in
       omega (arith, a, b)
 
+  -- where that is taken off, the bytes that are left are kept
   next_joined : (bytes : ℕ) → bytes + length (rest net old time) ≡ length (body_before net cs c)
       → IsJoined net cs c bytes time
   next_joined bytes e =
-      let h = kept_bytes net valid old (clone_at cs c) (in_net.ends (c - 1) there_old) (in_net.ends c there)
+      let h = shared_bytes net valid old (clone_at cs c) (in_net.ends (c - 1) there_old) (in_net.ends c there)
       (in_net.plans (c - 1) there_old) (in_net.plans c there) bytes (e ∙ ap length before_is) in
       let w = h.0 in let l = ap length before_is in
       record {

@@ -1,4 +1,3 @@
-pub mod Over
 pub mod SamePlans
 pub mod Joined
 pub mod Heads

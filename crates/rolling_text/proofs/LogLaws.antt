@@ -7,15 +7,18 @@ use Rattle.std.specs.List.{AllByRecursion, filter, flat_map}
 use Rattle.std.specs.declared.cmp.Ordering.{Ordering}
 use Rattle.std.specs.declared.cmp.Ordering.TheVariants.{Less, Equal, Greater}
 use Rattle.std.proofs.lemmas.Bool.{ltb-true, ltb-false}
+use Rattle.std.proofs.lemmas.List.Elements.{filter-append}
+use Rattle.std.proofs.lemmas.List.Sums.{count_by-le-length, length-filter}
 use Rattle.sim_base.specs.Clones.{Clone, clone_at}
 use Rattle.sim_base.specs.declared.entry.Entry.{Entry}
 use Rattle.sim_base.specs.declared.entry.Line.{Line}
 use Rattle.sim_base.specs.declared.message.Msg.{Msg}
 use Rattle.net_model.specs.Net.{Net}
-use Rattle.run_laws.specs.Merges.{merge, merge_at, pick}
+use Rattle.run_laws.specs.Merges.{merge, merge_at, merge_by}
 use Rattle.run_laws.specs.Simulation.{Simulation}
 use Rattle.run_laws.specs.Laws.{before}
 use Rattle.run_laws.specs.SharedTexts.{from_on, station_sum}
+use Rattle.run_laws.proofs.Lists.{filter_swap}
 use Rattle.run_laws.proofs.Queue.{all_from}
 use Rattle.run_laws.proofs.SharedTextsWeighing.{rest_length, trace_split}
 use Rattle.stations.specs.Good.{sender_of, number_of}
@@ -38,18 +41,15 @@ use Rattle.rolling_text.specs.Lengths.{log_length, first_lengths}
 use Rattle.rolling_text.specs.Texts.{rest}
 use Rattle.rolling_text.specs.WorldTraces.{IsOver, WorldTracesView}
 
+-- ---- from_time
+
 -- a list from a time on is no longer than the list
 pub from_short : (t : ℕ) (es : List (Entry Msg Line)) → length (from_time t es) ≤ length es
-from_short t es = filter_short _ es
-  where
-    filter_short : (keep : Entry Msg Line → Bool) (es : List (Entry Msg Line)) → length (filter keep es) ≤ length es
-    filter_short keep [] = omega arith
-    filter_short keep (e ∷ es) = by (keep e) (filter_short keep es)
-      where
-        by : (b : Bool) → length (filter keep es) ≤ length es
-            → length (if b then e ∷ filter keep es else filter keep es) ≤ suc (length es)
-        by true h = omega (arith, h)
-        by false h = omega (arith, h)
+from_short t es =
+    let late : Entry Msg Line → Bool = λ e. not (nat_lt e.msg.key.time t) in
+    let short : length (filter late es) ≤ length es =
+    omega (arith, length-filter late es, count_by-le-length late es) in
+    short
 
 -- from a later time on, what comes from an earlier one on has all
 pub later_of_rest : (early late : ℕ) (es : List (Entry Msg Line)) → early ≤ late
@@ -73,7 +73,7 @@ later_of_rest early late (e ∷ es) l =
         absurd (omega (arith, l, early_is, late_is))
 
 -- an entry before a time is none of those from it on
-pub early_left : (t : ℕ) (e : Entry Msg Line) (es : List (Entry Msg Line)) → e.msg.key.time < t
+early_left : (t : ℕ) (e : Entry Msg Line) (es : List (Entry Msg Line)) → e.msg.key.time < t
     → from_time t (e ∷ es) ≡ from_time t es
 early_left t e es l = by (nat_lt e.msg.key.time t) refl
   where
@@ -83,7 +83,7 @@ early_left t e es l = by (nat_lt e.msg.key.time t) refl
     by false p = let late = ltb-false e.msg.key.time t p in absurd (omega (arith, l, late))
 
 -- an entry at a time or later is the first of those from it on
-pub late_stays : (t : ℕ) (e : Entry Msg Line) (es : List (Entry Msg Line)) → t ≤ e.msg.key.time
+late_stays : (t : ℕ) (e : Entry Msg Line) (es : List (Entry Msg Line)) → t ≤ e.msg.key.time
     → from_time t (e ∷ es) ≡ e ∷ from_time t es
 late_stays t e es l = by (nat_lt e.msg.key.time t) refl
   where
@@ -99,6 +99,20 @@ all_late t e [] r l = late_stays t e [] l
 all_late t e (f ∷ fs) r l =
     late_stays t e (f ∷ fs) l ∙ ap (λ k. e ∷ k) (all_late t f fs r.1 (let m = r.0.0 in omega (arith, l, m)))
 
+-- of entries before a time none is left from it on
+none_late : (t : ℕ) (es : List (Entry Msg Line)) → AllByRecursion (λ e. e.msg.key.time < t) es → from_time t es ≡ []
+none_late t [] h = refl
+none_late t (e ∷ es) h = early_left t e es h.0 ∙ none_late t es h.1
+
+-- those from a time on of those from a later time on are those
+late_twice : (early late : ℕ) (es : List (Entry Msg Line)) → early ≤ late
+    → from_time early (from_time late es) ≡ from_time late es
+late_twice early late es l =
+    filter_swap (λ (e : Entry Msg Line). not (nat_lt e.msg.key.time early))
+    (λ (e : Entry Msg Line). not (nat_lt e.msg.key.time late)) es ∙ later_of_rest early late es l
+
+-- ---- RiseByTime
+
 -- some of the numbers that a list's times are not below are not below those of some entries
 some_above : (n : ℕ) (keep : Entry Msg Line → Bool) (es : List (Entry Msg Line))
     → AllByRecursion (λ m. n ≤ m) (times_of es) → AllByRecursion (λ m. n ≤ m) (times_of (filter keep es))
@@ -110,6 +124,7 @@ some_above n keep (e ∷ es) h = by (keep e) (some_above n keep es h.1)
     by true k = (h.0, k)
     by false k = k
 
+-- some entries of a rising list rise
 rise_filter : (keep : Entry Msg Line → Bool) (es : List (Entry Msg Line)) → RiseByTime es → RiseByTime (filter keep es)
 rise_filter keep [] h = tt
 rise_filter keep (e ∷ es) h = by (keep e) (rise_filter keep es h.1)
@@ -122,36 +137,7 @@ rise_filter keep (e ∷ es) h = by (keep e) (rise_filter keep es h.1)
 pub rise_from : (t : ℕ) (es : List (Entry Msg Line)) → RiseByTime es → RiseByTime (from_time t es)
 rise_from t es h = rise_filter (λ e. not (nat_lt e.msg.key.time t)) es h
 
--- of entries before a time none is left from it on
-none_late : (t : ℕ) (es : List (Entry Msg Line)) → AllByRecursion (λ e. e.msg.key.time < t) es → from_time t es ≡ []
-none_late t [] h = refl
-none_late t (e ∷ es) h = early_left t e es h.0 ∙ none_late t es h.1
-
--- what is kept of two lists, one behind the other
-filter_both : (keep : Entry Msg Line → Bool) (xs ys : List (Entry Msg Line))
-    → filter keep (xs ++ ys) ≡ filter keep xs ++ filter keep ys
-filter_both keep [] ys = refl
-filter_both keep (x ∷ xs) ys = by (keep x) (filter_both keep xs ys)
-  where
-    by : (b : Bool) → filter keep (xs ++ ys) ≡ filter keep xs ++ filter keep ys
-        → (if b then x ∷ filter keep (xs ++ ys) else filter keep (xs ++ ys))
-        ≡ (if b then x ∷ filter keep xs else filter keep xs) ++ filter keep ys
-    by true h = ap (λ l. x ∷ l) h
-    by false h = h
-
--- those from a time on of those from a later time on are those
-late_twice : (early late : ℕ) (es : List (Entry Msg Line)) → early ≤ late
-    → from_time early (from_time late es) ≡ from_time late es
-late_twice early late [] l = refl
-late_twice early late (e ∷ es) l = by (nat_lt e.msg.key.time late) refl (late_twice early late es l)
-  where
-    by : (b : Bool) → nat_lt e.msg.key.time late ≡ b → from_time early (from_time late es) ≡ from_time late es
-        → from_time early (if not b then e ∷ from_time late es else from_time late es)
-        ≡ (if not b then e ∷ from_time late es else from_time late es)
-    by true p h = h
-    by false p h =
-        let above = ltb-false e.msg.key.time late p in
-        late_stays early e (from_time late es) (omega (arith, l, above)) ∙ ap (λ k. e ∷ k) h
+-- ---- merge
 
 -- two lists in order as one have as many elements as both
 pub merge_length : {X : Type 0} (cmp : X → X → Ordering) (xs ys : List X)
@@ -166,7 +152,7 @@ merge_length {X = X} cmp (x ∷ xs) ys = at x (merge cmp xs) (length xs) (merge_
       where
         by : (r : Ordering) → length (others (z ∷ zs)) ≡ n + length (z ∷ zs)
             → length (merge_at cmp x others zs) ≡ suc n + length zs
-            → length (pick r x z (others (z ∷ zs)) (merge_at cmp x others zs)) ≡ suc n + length (z ∷ zs)
+            → length (merge_by r x z (others (z ∷ zs)) (merge_at cmp x others zs)) ≡ suc n + length (z ∷ zs)
         by Less a b = omega (arith, a)
         by Equal a b = omega (arith, a)
         by Greater a b = omega (arith, b)
@@ -174,15 +160,19 @@ merge_length {X = X} cmp (x ∷ xs) ys = at x (merge cmp xs) (length xs) (merge_
 -- ---- the logs of a clone in a world at the horizon
 
 module _ (world : WorldView) (over : IsOver world) (c : ℕ) (there : c < length world.clones) where
+  -- its network
   abbrev net : Net
   net = world.net
 
+  -- the simulation of that
   abbrev sim : Simulation StateView Msg Line
   sim = simulation net
 
+  -- the clone
   abbrev clone : Clone
   clone = clone_at world.clones c
 
+  -- its decisions and its logs are few enough for numbers that fit words
   counted : IsCounted net clone world.front
   counted = record {
     there = over.in_net.plans c there;
@@ -190,6 +180,7 @@ module _ (world : WorldView) (over : IsOver world) (c : ℕ) (there : c < length
     within = λ s low high. over.within s c low high there;
   }
 
+  -- the keys of its logs fit words
   log_fits : (s : ℕ) → FitWords (log_at net clone s world.front)
   log_fits s = all_from (λ (e : Entry Msg Line). FitsWord e.msg.key) (log_at net clone s world.front) (λ e i.
       let small = log_keys-small net over.valid clone s world.front e counted i in
@@ -299,7 +290,7 @@ module _ (world : WorldView) (over : IsOver world) (c : ℕ) (there : c < length
           ∙ omega (arith, more, here, before)
 
   -- and no lines
-  pub no_rest : (t : ℕ) → net.horizon ≤ t → length (rest net clone t) ≡ 0
+  no_rest : (t : ℕ) → net.horizon ≤ t → length (rest net clone t) ≡ 0
   unfolding first_lengths
   no_rest t late = sym (all_measured (length net.sites) t refl) ∙ none (length net.sites)
     where
@@ -320,7 +311,7 @@ module _ (world : WorldView) (over : IsOver world) (c : ℕ) (there : c < length
         from_on sim early first,
         ap (from_on sim early) (trace_split (lawful-stations net over.valid) (stations-to_stations net over.valid)
             (fresh-stations net over.valid) clone late (over.in_net.plans c there))
-            ∙ filter_both (λ e. not (nat_lt e.msg.key.time early)) first (from_time late trace)
+            ∙ filter-append (λ (e : Entry Msg Line). not (nat_lt e.msg.key.time early)) first (from_time late trace)
             ∙ ap (λ k. from_on sim early first ++ k) (late_twice early late trace l),
       )
 
@@ -364,13 +355,16 @@ lengths_more net c t n =
 
 module _ (world : WorldView) (over : IsOver world) (view : WorldTracesView)
     (seen : record { net = world.net; clones = world.clones } ≡ view) (c : ℕ) (there : c < length view.clones) where
-  there_too : c < length world.clones
+  -- the clone is there in the world too
+  pub there_too : c < length world.clones
   there_too = subst (λ (v : WorldTracesView). c < length v.clones) (sym seen) there
 
   -- nothing is left at the horizon
   pub no_rest_seen : (t : ℕ) → world.net.horizon ≤ t → length (rest view.net (clone_at view.clones c) t) ≡ 0
   no_rest_seen t late = subst (λ (v : WorldTracesView). length (rest v.net (clone_at v.clones c) t) ≡ 0) seen
       (no_rest world over c there_too t late)
+
+-- ---- rest
 
 -- the lines of what a cursor was given are the clone's rest
 pub lines_are : (net model : Net) (c : Clone) (t : ℕ) (left : List (Entry Msg Line)) → model ≡ net

@@ -11,6 +11,8 @@ use Rattle.run_laws.specs.SharedTexts.{parting}
 use Rattle.rolling_text.specs.Sharing.{same_plan}
 use Rattle.rolling_text.proofs.SamePlans.{same_plan-Decides}
 
+-- ---- parting, by any test of two decisions
+
 module _ (same : Planned → Planned → Bool) where
   -- a time taken in at the end may be taken in first
   least_first : (x most : ℕ) (ps qs : List Planned) → min x (parting same most ps qs) ≡ parting same (min most x) ps qs
@@ -26,7 +28,7 @@ module _ (same : Planned → Planned → Bool) where
       by false h = grind (arith, h)
 
   -- one place more of both lists, where they have the same there, leaves the parting as it is
-  pub both_more : (least : ℕ) (ps qs : List Planned) (i : ℕ) (d e : Planned) → i < length ps → i < length qs
+  both_more : (least : ℕ) (ps qs : List Planned) (i : ℕ) (d e : Planned) → i < length ps → i < length qs
       → same (get_or ps i d) (get_or qs i e) ≡ true →
       parting same least (drop i ps) (drop i qs) ≡ parting same least (drop (i + 1) ps) (drop (i + 1) qs)
   both_more least ps qs i d e k l h =
@@ -35,7 +37,7 @@ module _ (same : Planned → Planned → Bool) where
       else min (min (get_or ps i d).at (get_or qs i e).at) (parting same least (drop (i + 1) ps) (drop (i + 1) qs))) h
 
   -- and where they have not, it does so with the lesser of the two times taken in
-  pub other_more : (least : ℕ) (ps qs : List Planned) (i : ℕ) (d e : Planned) → i < length ps → i < length qs
+  other_more : (least : ℕ) (ps qs : List Planned) (i : ℕ) (d e : Planned) → i < length ps → i < length qs
       → same (get_or ps i d) (get_or qs i e) ≡ false →
       parting same least (drop i ps) (drop i qs) ≡ parting same
       (min least (min (get_or ps i d).at (get_or qs i e).at)) (drop (i + 1) ps) (drop (i + 1) qs)
@@ -46,17 +48,18 @@ module _ (same : Planned → Planned → Bool) where
       ∙ least_first (min (get_or ps i d).at (get_or qs i e).at) least (drop (i + 1) ps) (drop (i + 1) qs)
 
   -- of one list alone
-  pub one_more : (least : ℕ) (ps : List Planned) (i : ℕ) (d : Planned) → i < length ps →
+  one_more : (least : ℕ) (ps : List Planned) (i : ℕ) (d : Planned) → i < length ps →
       parting same least (drop i ps) [] ≡ parting same (min least (get_or ps i d).at) (drop (i + 1) ps) []
   one_more least ps i d l = ap (λ xs. parting same least xs []) (drop_more ps i d l)
       ∙ least_first (get_or ps i d).at least (drop (i + 1) ps) []
 
+  -- it is the same whichever list comes first, where the other one is empty
   turned : (least : ℕ) (qs : List Planned) → parting same least [] qs ≡ parting same least qs []
   turned least [] = refl
   turned least (q ∷ qs) = ap (min q.at) (turned least qs)
 
   -- where one list has ended, the other one is left
-  pub tails : (least : ℕ) (ps qs : List Planned) → (ps ≡ []) ⊎ (qs ≡ [])
+  tails : (least : ℕ) (ps qs : List Planned) → (ps ≡ []) ⊎ (qs ≡ [])
       → parting same least ps qs ≡ parting same (parting same least ps []) qs []
   tails least ps qs h = elim h [
     | inl a ↦ ap (λ xs. parting same least xs qs) a ∙ turned least qs
@@ -70,6 +73,7 @@ module _ (least most : ℕ) (ps qs : List Planned) (i : ℕ) (d e : Planned) (in
     (in_qs : i < length qs) (r : Bool)
     (decides : Decides r (get_or ps i d ≡ get_or qs i e))
     (so_far : parting same_plan least (drop i ps) (drop i qs) ≡ parting same_plan most ps qs) where
+  -- what tells equal decisions tells what is the same
   told_apart : r ≡ same_plan (get_or ps i d) (get_or qs i e)
   told_apart = same_from_decides r (same_plan (get_or ps i d) (get_or qs i e)) decides
       (same_plan-Decides (get_or ps i d) (get_or qs i e))

@@ -4,16 +4,18 @@ use Rattle.std.proofs.Common.{append-nil, length, length-append, if◌then◌els
 use Rattle.std.proofs.lemmas.List.{append_assoc}
 use Rattle.sim_outer.specs.Causes.{IsCounted, HasRisen}
 use Rattle.sim_outer.specs.Views.{SinkView}
+use Rattle.sim_outer.proofs.Appending.{appended_nothing, appended_then, part_then}
 use Rattle.rolling_text.specs.Pages.{PageView}
 use Rattle.rolling_text.specs.Puts.{IsTaken, IsPut, IsCutOff, IsPutTo}
-use Rattle.rolling_text.proofs.Pieces.{appended_nothing, appended_then, part_then}
+
+-- ---- IsTaken, IsPut, IsCutOff
 
 -- nothing was taken yet
-pub taken_none : (v : SinkView) → IsTaken [] v v
+taken_none : (v : SinkView) → IsTaken [] v v
 taken_none v = record { bytes = appended_nothing v.bytes; later = omega arith; same = refl }
 
 -- one part was taken, and then another
-pub taken_then : (a b : List ℕ) (old mid new : SinkView) → IsTaken a old mid → IsTaken b mid new
+taken_then : (a b : List ℕ) (old mid new : SinkView) → IsTaken a old mid → IsTaken b mid new
     → IsTaken (a ++ b) old new
 taken_then a b old mid new h k = let x = h.later in let y = k.later in record {
   bytes = appended_then a b old.bytes mid.bytes new.bytes h.bytes k.bytes;
@@ -22,7 +24,7 @@ taken_then a b old mid new h k = let x = h.later in let y = k.later in record {
 }
 
 -- and then the rest, which ends the call
-pub put_then : (a b : List ℕ) (old mid new : SinkView) → IsTaken a old mid → IsPut b mid new → IsPut (a ++ b) old new
+put_then : (a b : List ℕ) (old mid new : SinkView) → IsTaken a old mid → IsPut b mid new → IsPut (a ++ b) old new
 put_then a b old mid new h k = let x = h.later in let y = k.later in record {
   bytes = appended_then a b old.bytes mid.bytes new.bytes h.bytes k.bytes;
   later = omega (arith, x, y);
@@ -48,6 +50,8 @@ pub cut_part : (part others left : List ℕ) (old new : SinkView) → part ++ ot
     → IsCutOff left old new
 cut_part part others left old new e h =
     subst (λ l. IsCutOff l old new) e (cut_then [] part others old old new (taken_none old) h)
+
+-- ---- IsPutTo
 
 module _ (keeps : Bool) where
   -- nothing was put yet
@@ -117,6 +121,7 @@ part_fits part others left text reserved e h =
 -- ---- a text: its head, what is left of it, and the end of the call
 
 module _ (head rest text : List ℕ) (is : head ++ rest ≡ text) (v0 v1 v2 : SinkView) where
+  -- taken whole
   pub text_put : (v3 : SinkView) → IsTaken head v0 v1 → IsTaken rest v1 v2 → IsPut [] v2 v3 → IsPut text v0 v3
   text_put v3 a b c = subst (λ l. IsPut l v0 v3) (append-nil (head ++ rest) ∙ is)
       (put_then (head ++ rest) [] v0 v2 v3 (taken_then head rest v0 v1 v2 a b) c)
@@ -130,6 +135,8 @@ module _ (head rest text : List ℕ) (is : head ++ rest ≡ text) (v0 v1 v2 : Si
   pub end_cut : (v3 : SinkView) → IsTaken head v0 v1 → IsTaken rest v1 v2 → IsCutOff [] v2 v3 → IsCutOff text v0 v3
   end_cut v3 a b c = subst (λ l. IsCutOff l v0 v3) (append-nil (head ++ rest) ∙ is)
       (cut_then (head ++ rest) [] [] v0 v2 v3 (taken_then head rest v0 v1 v2 a b) c)
+
+-- ---- IsPutTo, with a page and then without one
 
 -- some of it is kept, and what comes then is put alone
 pub both_taken : (all left less : List ℕ) (p q r : PageView) (old mid new : SinkView) → less ≡ []

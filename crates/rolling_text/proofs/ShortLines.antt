@@ -36,6 +36,8 @@ use Rattle.rolling_text.proofs.Keeping.{rest_from_0}
 use Rattle.rolling_text.proofs.LogLaws.{all_measured, from_short, log_measured, lengths_more}
 use Rattle.rolling_text.proofs.SamePlans.{tells_plans}
 
+-- ---- HaveShortLines
+
 -- no entries have no lines
 pub short_none : (net : Net) → HaveShortLines net []
 short_none net = record { each = λ e i. absurd i }
@@ -78,14 +80,18 @@ met_more net c i t h k =
     (from_on (simulation net) t (log_at net c (suc i) net.horizon)) h
     (subst (λ n. HaveShortLines net (from_on (simulation net) t (log_at net c n net.horizon))) up k))
 
--- the lines of one log more are within `MOST_LINE` bytes each
+-- ---- the bound of a clone's lines, by its logs
+
 module _ (world : WorldView) (over : IsOver world) (c : ℕ) (there : c < length world.clones) where
+  -- its network
   abbrev net : Net
   net = world.net
 
+  -- the clone
   abbrev clone : Clone
   clone = clone_at world.clones c
 
+  -- the lines of a log are within `MOST_LINE` bytes each
   log_bounded : (s : ℕ) (log : List (Entry Msg Line)) → log ≡ log_at net clone s world.front
       → HaveShortLines net (trace_of net clone) → log_length net clone 0 s ≤ MOST_LINE * length log
   log_bounded s log e h =
@@ -100,6 +106,7 @@ module _ (world : WorldView) (over : IsOver world) (c : ℕ) (there : c < length
       let d = from_short 0 log in
       omega (arith, a, b, d)
 
+  -- so with one log more the bound grows by as many for each entry
   pub bound_more : (i bound new : ℕ) (log : List (Entry Msg Line)) → log ≡ log_at net clone (i + 1) world.front
       → HaveShortLines net (trace_of net clone) → first_lengths net clone 0 i ≤ bound
       → new ≡ bound + MOST_LINE * length log → first_lengths net clone 0 (i + 1) ≤ new
@@ -119,6 +126,7 @@ module _ (world : WorldView) (over : IsOver world) (c : ℕ) (there : c < length
 -- ---- a clone's lines are short where those of the clone before it are, and its own from where it parts from that
 
 module _ (net : Net) (valid : IsNet net) (cs : List Clone) (in_net : AreInNet net cs) where
+  -- every clone but the first has lines of the one before it
   short_next : (c : ℕ) → 1 ≤ c → c < length cs → HaveShortLines net (trace_of net (clone_at cs (c - 1)))
       → HaveShortLines net (from_on (simulation net) (shared_at net cs c) (trace_of net (clone_at cs c)))
       → HaveShortLines net (trace_of net (clone_at cs c))
@@ -148,6 +156,7 @@ module _ (net : Net) (valid : IsNet net) (cs : List Clone) (in_net : AreInNet ne
       (all_from (λ (e : Entry Msg Line). late e ≡ true) (trace_of net (clone_at cs 0))
       (λ e i. ap not (le-ltb e.msg.key.time 0 (omega arith))))) h
 
+  -- so it is of each clone
   pub short_at : (c time : ℕ) → c < length cs → time ≡ parting_at net cs c
       → (1 ≤ c → HaveShortLines net (trace_of net (clone_at cs (c - 1))))
       → HaveShortLines net (from_on (simulation net) time (trace_of net (clone_at cs c)))
@@ -156,6 +165,8 @@ module _ (net : Net) (valid : IsNet net) (cs : List Clone) (in_net : AreInNet ne
       (subst (λ u. HaveShortLines net (from_on (simulation net) u (trace_of net (clone_at cs 0)))) t k)
   short_at (suc c) time there t h k = short_next (suc c) (omega arith) there (h (omega arith))
       (subst (λ u. HaveShortLines net (from_on (simulation net) u (trace_of net (clone_at cs (suc c))))) t k)
+
+-- ---- body
 
 -- a bound for the lines of one clone more
 pub fits_more : (net : Net) (cs : List Clone) (n most here new : ℕ)

@@ -1,4 +1,4 @@
--- A call adds one decision to one list at most.
+-- A call adds one decision to one list at most. Where there is no clone, its list is empty.
 use Rattle.std.proofs.Common.{ℕ, zero, suc, ◌+◌, ◌≤◌, List}
 use Rattle.std.proofs.Common.{[], ◌∷◌, ◌++◌, arith, length, length-append, slice_set, Some, None}
 use Rattle.sim_base.specs.Clones.{Clone, base, clone_at, clones_with_plan, clones_with_end, clones_with_fork, fork_of}
@@ -13,7 +13,9 @@ use Rattle.decision_book.specs.declared.call.Call.{Call}
 use Rattle.world_core.specs.Taking.{clones_after_calls}
 use Rattle.rolling_text.specs.WorldTraces.{AreShort}
 
--- where there is no clone, the list is empty
+-- ---- slice_set, ◌++◌
+
+-- a clone in place of another leaves the lists as short, where its own is
 set_within : (n : ℕ) (cs : List Clone) (c : ℕ) (x : Clone) → ((k : ℕ) → length (clone_at cs k).plans ≤ n)
     → length x.plans ≤ n → (k : ℕ) → length (clone_at (slice_set cs c x) k).plans ≤ n
 set_within n [] c x h l k = h k
@@ -22,6 +24,7 @@ set_within n (y ∷ ys) zero x h l (suc k) = h (suc k)
 set_within n (y ∷ ys) (suc c) x h l zero = h zero
 set_within n (y ∷ ys) (suc c) x h l (suc k) = set_within n ys c x (λ j. h (suc j)) l k
 
+-- and so does one clone more
 push_within : (n : ℕ) (cs : List Clone) (x : Clone) → ((k : ℕ) → length (clone_at cs k).plans ≤ n)
     → length x.plans ≤ n → (k : ℕ) → length (clone_at (cs ++ x ∷ []) k).plans ≤ n
 push_within n [] x h l zero = l
@@ -29,6 +32,9 @@ push_within n [] x h l (suc k) = omega arith
 push_within n (y ∷ ys) x h l zero = h zero
 push_within n (y ∷ ys) x h l (suc k) = push_within n ys x (λ j. h (suc j)) l k
 
+-- ---- clones_with_plan, clones_with_fork, clones_with_end
+
+-- a set makes one list longer by one
 added_within : (n : ℕ) (cs : List Clone) (c : ℕ) (plan : Planned) → ((k : ℕ) → length (clone_at cs k).plans ≤ n)
     → (k : ℕ) → length (clone_at (clones_with_plan cs c plan) k).plans ≤ n + 1
 added_within n cs c plan h = set_within (n + 1) cs c
@@ -36,18 +42,23 @@ added_within n cs c plan h = set_within (n + 1) cs c
     (λ j. let l = h j in omega (arith, l))
     (let l = h c in let e = length-append (clone_at cs c).plans (plan ∷ []) in omega (arith, l, e))
 
+-- a fork copies a list
 forked_within : (n : ℕ) (cs : List Clone) (new : List ℕ) (old : ℕ) → ((k : ℕ) → length (clone_at cs k).plans ≤ n)
     → (k : ℕ) → length (clone_at (clones_with_fork cs new old) k).plans ≤ n + 1
 forked_within n cs new old h k =
     let l = push_within n cs (fork_of (clone_at cs old) new) h (h old) k in
     omega (arith, l)
 
+-- an end leaves the lists as they are
 ended_within : (n : ℕ) (cs : List Clone) (c at : ℕ) → ((k : ℕ) → length (clone_at cs k).plans ≤ n) → (k : ℕ)
     → length (clone_at (clones_with_end cs c at) k).plans ≤ n + 1
 ended_within n cs c at h k =
     let l = set_within n cs c (record (clone_at cs c) { end = Some at }) h (h c) k in
     omega (arith, l)
 
+-- ---- clones_after, clones_after_calls
+
+-- a decision makes lists longer by one at most
 after_within : (net : Net) (n : ℕ) (cs : List Clone) (d : Decision) → ((k : ℕ) → length (clone_at cs k).plans ≤ n)
     → (k : ℕ) → length (clone_at (clones_after net cs d) k).plans ≤ n + 1
 after_within net n cs (Fork new old) h k = forked_within n cs new (clone_place old cs) h k
@@ -55,6 +66,7 @@ after_within net n cs (Set who at station change) h k =
     added_within n cs (clone_place who cs) (plan_of_set net at station change) h k
 after_within net n cs (End who at) h k = ended_within n cs (clone_place who cs) at h k
 
+-- and so many calls by as many
 calls_within : (net : Net) (calls : List Call) (n : ℕ) (cs : List Clone)
     → ((k : ℕ) → length (clone_at cs k).plans ≤ n) → (k : ℕ)
     → length (clone_at (clones_after_calls net cs calls) k).plans ≤ n + length calls
@@ -64,6 +76,9 @@ calls_within net (call ∷ calls) n cs h k =
     k in
     omega (arith, l)
 
+-- ---- AreShort
+
+-- the base clone has no decision
 none_of_base : (k : ℕ) → length (clone_at (base ∷ []) k).plans ≤ 0
 none_of_base zero = omega arith
 none_of_base (suc k) = omega arith

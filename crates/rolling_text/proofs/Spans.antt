@@ -1,6 +1,7 @@
 -- The lines of a span of time.
-use Rattle.std.proofs.Common.{◌≡◌, ℕ, ◌-◌, ◌<◌, ◌≤◌, refl, sym, subst, ap, ◌∙◌, arith, Bool, List, [], ◌∷◌, ◌++◌}
+use Rattle.std.proofs.Common.{◌≡◌, ℕ, ◌-◌, ◌<◌, ◌≤◌, sym, subst, ap, ◌∙◌, arith, Bool, List, [], ◌++◌}
 use Rattle.std.proofs.Common.{length, drop, Result, Ok, Err, OnOk}
+use Rattle.std.proofs.lemmas.List.{nil_from_length}
 use Rattle.std.specs.List.{flat_map}
 use Rattle.sim_base.specs.Clones.{Clone, clone_at}
 use Rattle.sim_base.specs.declared.entry.Entry.{Entry}
@@ -16,21 +17,26 @@ use Rattle.rolling_text.specs.Pages.{PageView}
 use Rattle.rolling_text.specs.Puts.{IsPutTo}
 use Rattle.rolling_text.specs.Texts.{rest}
 use Rattle.rolling_text.specs.WorldTraces.{IsOver, WorldTracesView}
-use Rattle.rolling_text.proofs.LogLaws.{fewer_later, left_later, lines_are, none_over, no_rest_seen}
+use Rattle.rolling_text.proofs.LogLaws.{fewer_later, left_later, lines_are, none_over, no_rest_seen, there_too}
+
+-- ---- OnOk
 
 -- what follows of what is told of a success in two ways
 pub both_ok : {X E : Type 0} (r : Result X E) (A B P : Type 0) → OnOk r A → OnOk r B → (A → B → P) → OnOk r P
 both_ok (Ok x) A B P a b f = f a b
 both_ok (Err e) A B P a b f = tt
 
--- the lines of what a cursor was given, from a time on, and of what it has left, from another time on
+-- ---- the lines of what a cursor was given, from a time on, and of what it has left, from another time on
+
 module _ (net model : Net) (c : Clone) (from until count : ℕ) (left others : List (Entry Msg Line)) (is : model ≡ net)
     (given : left ≡ from_on (simulation net) from (trace_of net c))
     (behind : drop count left ≡ from_on (simulation net) until (trace_of net c))
     (taken : others ≡ drop count left) where
+  -- those that it was given
   lines_from : flat_map (entry_line model) left ≡ rest net c from
   lines_from = lines_are net model c from left is given
 
+  -- those that it has left
   lines_until : flat_map (entry_line model) others ≡ rest net c until
   lines_until = lines_are net model c until others is (taken ∙ behind)
 
@@ -48,15 +54,9 @@ module _ (net model : Net) (c : Clone) (from until count : ℕ) (left others : L
 
 -- ---- a span out of a world's logs
 
-nothing_left : (xs : List ℕ) → length xs ≡ 0 → xs ≡ []
-nothing_left [] e = refl
-nothing_left (x ∷ xs) e = absurd (omega (arith, e))
-
 module _ (world : WorldView) (over : IsOver world) (view : WorldTracesView)
     (seen : record { net = world.net; clones = world.clones } ≡ view) (c : ℕ) (there : c < length view.clones) where
-  there_too : c < length world.clones
-  there_too = subst (λ (v : WorldTracesView). c < length v.clones) (sym seen) there
-
+  -- the entries of the clone from a time on
   abbrev trace_from : ℕ → List (Entry Msg Line)
   trace_from t = from_on (simulation world.net) t (trace_of world.net (clone_at world.clones c))
 
@@ -66,13 +66,14 @@ module _ (world : WorldView) (over : IsOver world) (view : WorldTracesView)
       → (some ≤ all) × (left ≡ from_on (simulation view.net) from (trace_of view.net (clone_at view.clones c)))
       × (drop (all - some) left ≡ from_on (simulation view.net) until (trace_of view.net (clone_at view.clones c)))
   span_seen from until all some left order given count few =
+      let here = there_too world over view seen c there in
       let entries = count ∙ ap length given in
       let as_seen : (t : ℕ) → trace_from t
       ≡ from_on (simulation view.net) t (trace_of view.net (clone_at view.clones c)) =
       λ t. ap (λ (v : WorldTracesView). from_on (simulation v.net) t (trace_of v.net (clone_at v.clones c))) seen in (
-        fewer_later world over c there_too from until all some order entries few,
+        fewer_later world over c here from until all some order entries few,
         given ∙ as_seen from,
-        ap (drop (all - some)) given ∙ left_later world over c there_too from until all some order entries few
+        ap (drop (all - some)) given ∙ left_later world over c here from until all some order entries few
             ∙ as_seen until,
       )
 
@@ -83,10 +84,10 @@ module _ (world : WorldView) (over : IsOver world) (view : WorldTracesView)
       × (drop all left ≡ from_on (simulation view.net) until (trace_of view.net (clone_at view.clones c)))
   span_over from until all left order beyond given count =
       let span = span_seen from until all 0 left order given count
-      (sym (none_over world over c there_too until beyond)) in
+      (sym (none_over world over c (there_too world over view seen c there) until beyond)) in
       let whole : all ≡ all - 0 = omega arith in (span.1, ap (λ n. drop n left) whole ∙ span.2)
 
   -- from there on no line comes
   pub no_rest : (end : ℕ) → world.net.horizon ≤ end → rest view.net (clone_at view.clones c) end ≡ []
-  no_rest end beyond = nothing_left (rest view.net (clone_at view.clones c) end)
+  no_rest end beyond = nil_from_length (rest view.net (clone_at view.clones c) end)
       (no_rest_seen world over view seen c there end beyond)

@@ -25,11 +25,14 @@ fn make_piece(
     requires names { AreNames model.now names.now }
     requires left { left.old ≡ length walk.old }
     requires free { MOST_LINE ≤ length piece.old }
+    // the lines in the piece, and then those of what is left, are all lines of the walk
     ensures text { take result piece.new ++ flat_map (entry_line model.now) walk.new
         ≡ flat_map (entry_line model.now) walk.old }
     ensures within { result ≤ length piece.new }
+    // so many entries are left, fewer than before where there was one
     ensures left { left.new ≡ length walk.new }
     ensures fewer { 1 ≤ left.old → left.new < left.old }
+    // what is kept: how long the piece is
     ensures size { length piece.new ≡ length piece.old }
 {
     let mut at = 0;
@@ -43,8 +46,8 @@ fn make_piece(
 
 // Puts the name line as parts of a text.
 fn put_name_line<O: Sink>(name: &Name, out: &mut O) -> Result<(), PutFailed>
-    ensures ok { OnOk result (IsTaken (codes "clone " ++ name.now ++ codes "\n") (O.seen out.old) (O.seen out.new)) }
-    ensures err { OnErr result (IsCutOff (codes "clone " ++ name.now ++ codes "\n") (O.seen out.old) (O.seen out.new)) }
+    ensures ok { OnOk result (IsTaken (codes "clone " ++ name.now ++ codes "\n") (O.view out.old) (O.view out.new)) }
+    ensures err { OnErr result (IsCutOff (codes "clone " ++ name.now ++ codes "\n") (O.view out.old) (O.view out.new)) }
 {
     match out.put_part(b"clone ") {
         Ok(()) => {}
@@ -62,8 +65,8 @@ fn put_name_line<O: Sink>(name: &Name, out: &mut O) -> Result<(), PutFailed>
 
 // Puts the lines of a log as parts of a text.
 fn put_log<O: Sink>(model: &Model, log: &Log, out: &mut O) -> Result<(), PutFailed>
-    ensures ok { OnOk result (IsTaken (flat_map (entry_line model.now) log.now) (O.seen out.old) (O.seen out.new)) }
-    ensures err { OnErr result (IsCutOff (flat_map (entry_line model.now) log.now) (O.seen out.old) (O.seen out.new)) }
+    ensures ok { OnOk result (IsTaken (flat_map (entry_line model.now) log.now) (O.view out.old) (O.view out.new)) }
+    ensures err { OnErr result (IsCutOff (flat_map (entry_line model.now) log.now) (O.view out.old) (O.view out.new)) }
 {
     let names = Names::of(model);
     let mut piece = [0; PIECE];
@@ -87,8 +90,8 @@ pub fn put_alone<O: Sink>(
     log: &Log,
     out: &mut O,
 ) -> Result<(), PutFailed>
-    ensures ok { OnOk result (IsPut (trace_text model.now name.now log.now) (O.seen out.old) (O.seen out.new)) }
-    ensures err { OnErr result (IsCutOff (trace_text model.now name.now log.now) (O.seen out.old) (O.seen out.new)) }
+    ensures ok { OnOk result (IsPut (trace_text model.now name.now log.now) (O.view out.old) (O.view out.new)) }
+    ensures err { OnErr result (IsCutOff (trace_text model.now name.now log.now) (O.view out.old) (O.view out.new)) }
 {
     match put_name_line(name, out) {
         Ok(()) => {}

@@ -31,8 +31,8 @@ fn put_next<'a, O: Sink>(
     requires next { IsNextSpan (span_of traces.now span) next }
     requires may { MayPut traces.now span texts.old }
     ensures ok { OnOk result (IsSpanPut traces.now span texts.old.page texts.new.page
-        (O.seen out.old) (O.seen out.new)) }
-    ensures err { OnErr result (IsSpanCutOff traces.now span (O.seen out.old) (O.seen out.new)) }
+        (O.view out.old) (O.view out.new)) }
+    ensures err { OnErr result (IsSpanCutOff traces.now span (O.view out.old) (O.view out.new)) }
     ensures can { CanPut traces.now.net texts.new }
 {
     match next {
@@ -58,8 +58,8 @@ fn put_given<'a, O: Sink, R: Wait>(
     requires given { given.old ≡ span_of traces.now span }
     requires may { MayPut traces.now span texts.old }
     ensures ok { OnOk result (IsSpanPut traces.now span texts.old.page texts.new.page
-        (O.seen out.old) (O.seen out.new)) }
-    ensures err { OnErr result (IsSpanCutOff traces.now span (O.seen out.old) (O.seen out.new)) }
+        (O.view out.old) (O.view out.new)) }
+    ensures err { OnErr result (IsSpanCutOff traces.now span (O.view out.old) (O.view out.new)) }
     ensures can { CanPut traces.now.net texts.new }
 {
     let mut made = span.from;
@@ -97,8 +97,8 @@ fn put_beside<'a, O: Sink, R: Threads + Wait + Sync>(
     requires given { given.old ≡ span_of traces.now span }
     requires may { MayPut traces.now span texts.old }
     ensures ok { OnOk result (IsSpanPut traces.now span texts.old.page texts.new.page
-        (O.seen out.old) (O.seen out.new)) }
-    ensures err { OnErr result (IsSpanCutOff traces.now span (O.seen out.old) (O.seen out.new)) }
+        (O.view out.old) (O.view out.new)) }
+    ensures err { OnErr result (IsSpanCutOff traces.now span (O.view out.old) (O.view out.new)) }
     ensures can { CanPut traces.now.net texts.new }
 {
     let ended = AtomicBool::new(false);
@@ -107,8 +107,8 @@ fn put_beside<'a, O: Sink, R: Threads + Wait + Sync>(
     let mut put = || -> Result<(), PutFailed>
         requires { (given.now ≡ span_of traces.now span) × MayPut traces.now span texts.now }
         ensures { OnOk result (IsSpanPut traces.entry.now span texts.entry.now.page texts.exit.now.page
-            (O.seen out.entry.now) (O.seen out.exit.now))
-            × OnErr result (IsSpanCutOff traces.entry.now span (O.seen out.entry.now) (O.seen out.exit.now))
+            (O.view out.entry.now) (O.view out.exit.now))
+            × OnErr result (IsSpanCutOff traces.entry.now span (O.view out.entry.now) (O.view out.exit.now))
             × CanPut traces.entry.now.net texts.exit.now }
     {
         let done = put_given(rt, alloc, traces, given, texts, span, out);
@@ -139,8 +139,8 @@ pub(crate) fn put_lines<'a, O: Sink, R: Threads + Wait + Sync>(
 ) -> Result<(), PutFailed>
     requires may { MayPut traces.now span texts.old }
     ensures ok { OnOk result (IsSpanPut traces.now span texts.old.page texts.new.page
-        (O.seen out.old) (O.seen out.new)) }
-    ensures err { OnErr result (IsSpanCutOff traces.now span (O.seen out.old) (O.seen out.new)) }
+        (O.view out.old) (O.view out.new)) }
+    ensures err { OnErr result (IsSpanCutOff traces.now span (O.view out.old) (O.view out.new)) }
     ensures can { CanPut traces.now.net texts.new }
 {
     if workers <= 1 || is_short(traces, span) {

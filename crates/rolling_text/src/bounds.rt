@@ -10,7 +10,7 @@ ghost use Rattle.run_laws.specs.SharedTexts.{from_on};
 ghost use Rattle.log_chain.specs.Times.{RiseByTime, from_time};
 ghost use Rattle.trace_report.specs.Slots.{AreNames};
 ghost use Rattle.rolling_text.specs.Texts.{HaveShortLines, body, parting_at};
-ghost use Rattle.rolling_text.specs.WorldTraces.{IsOver};
+ghost use Rattle.rolling_text.specs.WorldTraces.{IsOver, MayTrace};
 
 use crate::world_traces::WorldTraces;
 use log_chain::Log;
@@ -32,8 +32,7 @@ fn meet_log(model: &Model, names: &Names, log: &Log, from: u64)
 
 // The same of all that a clone handled from a time on.
 fn meet_rest(world: &World, names: &Names, c: u32, from: u64)
-    requires names { AreNames world.now.net names.now }
-    requires over { IsOver world.now }
+    requires may_trace { MayTrace world.now names.now }
     requires there { c < length world.now.clones }
     ensures short { HaveShortLines world.now.net (from_on (simulation world.now.net) from
         (trace_of world.now.net (clone_at world.now.clones c))) }

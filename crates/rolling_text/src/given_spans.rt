@@ -19,7 +19,9 @@ use std::sync::Wait;
 /// The mailbox of the maker that has a span to make, or none where it is the caller's own to put, and when that ends.
 #[derive(Drop)]
 pub(crate) struct GivenSpan<'a> {
+    /// The caller's end of the maker's mailbox, if it is a maker's.
     pub(crate) mailbox: Option<CallerEnd<'a>>,
+    /// The time behind the last.
     pub(crate) until: u64,
 }
 
@@ -64,8 +66,8 @@ fn add<'a>(spans: &mut VecDeque<GivenSpan<'a>>, one: GivenSpan<'a>) -> Result<()
     Ok(())
 }
 
-// The mailbox of a mailbox, if there is one, that is given an order.
-fn ordered<'a>(mailbox: Option<CallerEnd<'a>>, order: Order<'a>) -> Option<CallerEnd<'a>>
+// A mailbox, if there is one, that is given an order.
+fn with_order<'a>(mailbox: Option<CallerEnd<'a>>, order: Order<'a>) -> Option<CallerEnd<'a>>
     requires idle { IfSome mailbox (λ l. l ≡ None) }
     ensures given { IfSome result (λ l. l ≡ Some order.entry) }
 {
@@ -126,7 +128,7 @@ impl<'a> GivenSpans<'a> {
         let hint = self.cuts.next_end(self.traces, self.c, from, self.until);
         let until = hint.max(from).min(self.until);
         let order = Order::new(self.traces, self.c, from, until);
-        let mailbox = ordered(mailbox, order);
+        let mailbox = with_order(mailbox, order);
         add(&mut self.spans, GivenSpan { mailbox, until })?;
         self.given = until;
         Ok(())

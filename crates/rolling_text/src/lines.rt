@@ -52,9 +52,11 @@ fn make_piece(
     requires names { AreNames model.now names.now }
     requires left { left.old ≤ length cursor.old.left }
     requires free { MOST_LINE ≤ length piece.old }
+    // the lines of what the cursor has less than before
     ensures text { take result piece.new ++ flat_map (entry_line model.now) cursor.new.left
         ≡ flat_map (entry_line model.now) cursor.old.left }
     ensures within { result ≤ length piece.new }
+    // of which there are fewer left, if any were
     ensures left { left.new ≤ length cursor.new.left }
     ensures behind { drop left.new cursor.new.left ≡ drop left.old cursor.old.left }
     ensures fewer { 1 ≤ left.old → left.new < left.old }
@@ -115,11 +117,15 @@ pub(crate) fn put_entries<O: Sink>(
     requires free { MOST_LINE ≤ length piece.old }
     requires fits { keeps ≡ true → length page.old.text + length (flat_map (entry_line model.now) cursor.old.left)
         ≤ page.old.reserved }
+    // the lines are put, and stand on the page where they are kept
     ensures ok { OnOk result (IsPutTo keeps (flat_map (entry_line model.now) cursor.old.left)
-        (flat_map (entry_line model.now) cursor.new.left) page.old page.new (O.seen out.old) (O.seen out.new)) }
+        (flat_map (entry_line model.now) cursor.new.left) page.old page.new (O.view out.old) (O.view out.new)) }
+    // or they are cut off
     ensures err { OnErr result (IsCutOff (flat_map (entry_line model.now) cursor.old.left)
-        (O.seen out.old) (O.seen out.new)) }
+        (O.view out.old) (O.view out.new)) }
+    // where they are put, the cursor is so many entries further on
     ensures left { OnOk result (cursor.new.left ≡ drop count cursor.old.left) }
+    // what is kept: how long the piece is, and how many logs the cursor may have
     ensures size { length piece.new ≡ length piece.old }
     ensures most { cursor.new.most ≡ cursor.old.most }
 {

@@ -83,8 +83,8 @@ impl Page {
         out: &mut O,
     ) -> Result<(), PutFailed>
         requires fits { keeps ≡ true → length self.old.text + length part.now ≤ self.old.reserved }
-        ensures ok { OnOk result (IsPutTo keeps part.now [] self.old self.new (O.seen out.old) (O.seen out.new)) }
-        ensures err { OnErr result (IsCutOff part.now (O.seen out.old) (O.seen out.new)) }
+        ensures ok { OnOk result (IsPutTo keeps part.now [] self.old self.new (O.view out.old) (O.view out.new)) }
+        ensures err { OnErr result (IsCutOff part.now (O.view out.old) (O.view out.new)) }
     {
         self.keep(part, keeps);
         match out.put_part(part) {
@@ -96,8 +96,8 @@ impl Page {
     /// Puts this text from a place on, as a part.
     pub fn put_from<O: Sink>(&self, start: usize, out: &mut O) -> Result<(), PutFailed>
         requires within { start ≤ length self.now.text }
-        ensures ok { OnOk result (IsTaken (drop start self.now.text) (O.seen out.old) (O.seen out.new)) }
-        ensures err { OnErr result (IsCutOff (drop start self.now.text) (O.seen out.old) (O.seen out.new)) }
+        ensures ok { OnOk result (IsTaken (drop start self.now.text) (O.view out.old) (O.view out.new)) }
+        ensures err { OnErr result (IsCutOff (drop start self.now.text) (O.view out.old) (O.view out.new)) }
     {
         match out.put_part(&self.bytes[start..]) {
             Ok(()) => Ok(()),

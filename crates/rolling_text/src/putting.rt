@@ -47,10 +47,13 @@ fn begin_text(traces: &WorldTraces<'_>, c: u32, time: u64, dropped: usize, page:
     requires time { time ≡ parting_at traces.now.net traces.now.clones c }
     requires margin { MARGIN ≤ length page.old.text }
     requires left { AreLeft traces.now.net traces.now.clones c dropped (drop MARGIN page.old.text) }
+    // from what it returns on, the page has the text of the clone up to the time
     ensures text { drop result page.new.text ++ rest traces.now.net (clone_at traces.now.clones c) time
         ≡ clone_text traces.now.net (clone_at traces.now.clones c) }
+    // behind the margin, its lines up to the time
     ensures lines { drop MARGIN page.new.text ++ rest traces.now.net (clone_at traces.now.clones c) time
         ≡ body traces.now.net (clone_at traces.now.clones c) }
+    // what is kept: the margin, and what is reserved
     ensures margin { MARGIN ≤ length page.new.text }
     ensures start { result ≤ MARGIN }
     ensures reserved { page.new.reserved ≡ page.old.reserved }
@@ -79,24 +82,27 @@ fn put_rest<'a, O: Sink, R: Threads + Wait + Sync>(
     requires can { CanPut traces.now.net texts.old }
     requires fits { length texts.old.page.text + length (rest traces.now.net (clone_at traces.now.clones c) time)
         ≤ texts.old.page.reserved }
+    // all of these lines are put
     ensures ok { OnOk result (IsTaken (rest traces.now.net (clone_at traces.now.clones c) time)
-        (O.seen out.old) (O.seen out.new)) }
+        (O.view out.old) (O.view out.new)) }
+    // and the page keeps those before the next one parts
     ensures page { OnOk result (texts.new.page.text ++ rest traces.now.net (clone_at traces.now.clones c) late
         ≡ texts.old.page.text ++ rest traces.now.net (clone_at traces.now.clones c) time) }
     ensures longer { OnOk result (length texts.old.page.text ≤ length texts.new.page.text) }
     ensures reserved { OnOk result (texts.old.page.reserved ≤ texts.new.page.reserved) }
+    // or they are cut off
     ensures err { OnErr result (IsCutOff (rest traces.now.net (clone_at traces.now.clones c) time)
-        (O.seen out.old) (O.seen out.new)) }
+        (O.view out.old) (O.view out.new)) }
     ensures can { CanPut traces.now.net texts.new }
 {
     let end = late.max(traces.world.model().horizon());
-    let kept = TextSpan {
+    let first = TextSpan {
         c,
         from: time,
         until: late,
         keeps: true,
     };
-    match put_lines(rt, alloc, traces, workers, texts, kept, out) {
+    match put_lines(rt, alloc, traces, workers, texts, first, out) {
         Ok(()) => {}
         Err(failed) => return Err(failed),
     }
@@ -130,10 +136,12 @@ fn put_text<'a, O: Sink, R: Threads + Wait + Sync>(
     requires fits { AllFit traces.now.net traces.now.clones texts.old.page.reserved }
     requires margin { MARGIN ≤ length texts.old.page.text }
     requires left { AreLeft traces.now.net traces.now.clones c dropped (drop MARGIN texts.old.page.text) }
+    // the text is put, or cut off
     ensures ok { OnOk result (IsPut (clone_text traces.now.net (clone_at traces.now.clones c))
-        (O.seen out.old) (O.seen out.new)) }
+        (O.view out.old) (O.view out.new)) }
     ensures err { OnErr result (IsCutOff (clone_text traces.now.net (clone_at traces.now.clones c))
-        (O.seen out.old) (O.seen out.new)) }
+        (O.view out.old) (O.view out.new)) }
+    // what the page has of it for the next one
     ensures left { IfOk result (λ n. next ≡ parting_at traces.now.net traces.now.clones (c + 1) →
         AreLeft traces.now.net traces.now.clones (c + 1) n (drop MARGIN texts.new.page.text)) }
     ensures margin { OnOk result (MARGIN ≤ length texts.new.page.text) }
@@ -170,15 +178,17 @@ pub fn put_texts<'a, O: Sink, R: Threads + Wait + Sync>(
     out: &mut O,
 ) -> Result<(), PutFailed>
     requires ready { IsReady traces.now.net traces.now.clones texts }
-    ensures ok { OnOk result (IsAppended (O.seen out.old).bytes (clone_texts traces.now.net traces.now.clones)
-        (O.seen out.new).bytes) }
-    ensures part { OnErr result (IsPrefixAppended (O.seen out.old).bytes (clone_texts traces.now.net traces.now.clones)
-        (O.seen out.new).bytes) }
-    ensures cause { OnErr result (HasRisen (O.seen out.old).faults (O.seen out.new).faults) }
-    ensures later { (O.seen out.old).faults ≤ (O.seen out.new).faults }
-    ensures each { OnOk result (AreCounted (length traces.now.clones) (O.seen out.old).calls (O.seen out.new).calls) }
-    ensures some { OnErr result (AreCountedTo (length traces.now.clones) (O.seen out.old).calls
-        (O.seen out.new).calls) }
+    // all texts, or the beginning of them and a fault
+    ensures ok { OnOk result (IsAppended (O.view out.old).bytes (clone_texts traces.now.net traces.now.clones)
+        (O.view out.new).bytes) }
+    ensures part { OnErr result (IsPrefixAppended (O.view out.old).bytes (clone_texts traces.now.net traces.now.clones)
+        (O.view out.new).bytes) }
+    ensures cause { OnErr result (HasRisen (O.view out.old).faults (O.view out.new).faults) }
+    ensures later { (O.view out.old).faults ≤ (O.view out.new).faults }
+    // a call for each text, or for those up to the one that failed
+    ensures each { OnOk result (AreCounted (length traces.now.clones) (O.view out.old).calls (O.view out.new).calls) }
+    ensures some { OnErr result (AreCountedTo (length traces.now.clones) (O.view out.old).calls
+        (O.view out.new).calls) }
 {
     let clones = traces.len();
     let mut dropped = 0;

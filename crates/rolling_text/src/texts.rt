@@ -19,8 +19,11 @@ pub(crate) const PIECE: usize = 16_384;
 /// All that the texts of clones need: a buffer for what texts have in common, a cursor, and a buffer for some lines.
 #[derive(Drop)]
 pub struct Texts<'a> {
+    /// What texts have in common, with a margin before it.
     pub(crate) page: Page,
+    /// Merges the logs of a clone.
     pub(crate) walk: Cursor<'a>,
+    /// Some lines, as they are made.
     pub(crate) piece: Vec<u8>,
 }
 

@@ -15,7 +15,9 @@ use world_core::World;
 /// The traces of the clones of a world that has come to the horizon.
 #[derive(Drop)]
 pub struct WorldTraces<'a> {
+    /// The world, at the horizon.
     pub(crate) world: &'a World,
+    /// The stations' names.
     pub(crate) names: Names,
 }
 

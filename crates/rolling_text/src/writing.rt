@@ -30,11 +30,14 @@ fn gather_span<'a>(
     requires there { c < length traces.now.clones }
     requires walk { IsWalk traces.now.net walk.old }
     requires order { from ≤ until }
+    // what it gives: in the cursor, what the clone handled from the time on
     ensures left { walk.new.left ≡ from_on (simulation traces.now.net) from
         (trace_of traces.now.net (clone_at traces.now.clones c)) }
+    // behind so many of these entries, what it handled from the other time on
     ensures behind { drop result walk.new.left ≡ from_on (simulation traces.now.net) until
         (trace_of traces.now.net (clone_at traces.now.clones c)) }
     ensures within { result ≤ length walk.new.left }
+    // what is kept: how many logs the cursor may have
     ensures walk { IsWalk traces.now.net walk.new }
 {
     let all = gather(walk, traces.world, c, from);
@@ -77,8 +80,8 @@ pub(crate) fn put_span<'a, O: Sink>(
 ) -> Result<(), PutFailed>
     requires may { MayPut traces.now span texts.old }
     ensures ok { OnOk result (IsSpanPut traces.now span texts.old.page texts.new.page
-        (O.seen out.old) (O.seen out.new)) }
-    ensures err { OnErr result (IsSpanCutOff traces.now span (O.seen out.old) (O.seen out.new)) }
+        (O.view out.old) (O.view out.new)) }
+    ensures err { OnErr result (IsSpanCutOff traces.now span (O.view out.old) (O.view out.new)) }
     ensures can { CanPut traces.now.net texts.new }
 {
     let count = gather_span(traces, &mut texts.walk, span.c, span.from, span.until);

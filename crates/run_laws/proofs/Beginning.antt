@@ -2,23 +2,24 @@
 use Rattle.std.proofs.Common.{◌≡◌, ◌↔◌, ℕ, zero, suc, ◌<◌, ◌≤◌, min, List, [], ◌∷◌, ◌++◌, inl, inr}
 use Rattle.std.proofs.Common.{Option, Some, None, Bool, true, ◌==◌, ◌&&◌, nat_lt, refl, sym, ap, ◌∙◌, subst, arith}
 use Rattle.std.specs.List.{filter}
-use Rattle.std.proofs.lemmas.Bool.{cases_Bool, cases_eq}
+use Rattle.std.proofs.lemmas.Bool.{cases_Bool, cases_eq, and_parts}
 use Rattle.sim_base.specs.Clones.{Clone, base, clone_at}
 use Rattle.run_laws.specs.Queue.{insert_all, In}
 use Rattle.run_laws.specs.Machine.{run_to}
 use Rattle.run_laws.specs.Simulation.{Simulation}
 use Rattle.run_laws.specs.World.{and_first, openings, begin}
 use Rattle.run_laws.specs.Runs.{run, end_of, run_of, log_at, state_at, all_due, due_at}
-use Rattle.run_laws.specs.Handlers.{IsStation, HandlesLawfully, SendsToStations}
+use Rattle.run_laws.specs.Handlers.{IsStation, HandlesLawfully, SendsToStations, IsStationOf}
 use Rattle.sim_base.specs.Marked.{SortedMarked}
 use Rattle.run_laws.specs.Copies.{Copy, Carries, takes, messages_taken, first_pending, first_copy, ends_of, Stands}
-use Rattle.run_laws.proofs.Bools.{and_cases}
 use Rattle.run_laws.proofs.Queue.{in_insert_all, insert_all_new, same_elements}
 use Rattle.run_laws.proofs.Lists.{in_filter, filter_keeps, sorted_filter, in_own}
 use Rattle.run_laws.proofs.Lists.{own_from, in_append, append_old, append_new}
 use Rattle.run_laws.proofs.Worlds.{in_openings}
 use Rattle.run_laws.proofs.Parts.{part_yes, part_no, sorted_part}
 use Rattle.run_laws.proofs.Late.{due_sorted}
+
+-- ---- openings
 
 module _ {S M N : Type 0} (sim : Simulation S M N) where
   -- a station's first message joins the openings
@@ -32,17 +33,23 @@ module _ {S M N : Type 0} (sim : Simulation S M N) where
   first_old ms (Some x) m i = append_old ms (x ∷ []) m i
 
   -- the first message of each station is one of the openings
-  openings_have : (n s : ℕ) (m : M) → 0 < s → s ≤ n → (sim.setup s).first ≡ Some m → In m (openings sim n)
-  openings_have zero s m a b e = absurd (omega arith)
-  openings_have (suc n) s m a b e = elim (cases_eq s (suc n)) [
+  openings_have : (n s : ℕ) (m : M) → IsStationOf n s → (sim.setup s).first ≡ Some m → In m (openings sim n)
+  openings_have zero s m here e = let low : 0 < s = here.0 in let high : s ≤ 0 = here.1 in
+      absurd (omega (arith, low, high))
+  openings_have (suc n) s m here e = elim (cases_eq s (suc n)) [
     | inl p ↦ first_new (openings sim n) (sim.setup (suc n)).first m (ap (λ r. (sim.setup r).first) (sym p) ∙ e)
-    | inr n' ↦ first_old (openings sim n) (sim.setup (suc n)).first m (openings_have n s m a (grind arith) e)
+    | inr n' ↦ first_old (openings sim n) (sim.setup (suc n)).first m (openings_have n s m
+        (here.0, let high : s ≤ suc n = here.1 in let k : s ≤ n = omega (arith, n', high) in k) e)
   ]
+
+  -- ---- run_of
 
   -- before 0 nothing is handled
   pub run_at_0 : (c : Clone) → run_of sim c 0 ≡ begin sim c.plans
   unfolding run_to
   run_at_0 c = let e : min 0 (end_of sim c) ≡ 0 = omega arith in ap (run sim c.plans) e
+
+-- ---- first_pending
 
 module _ {S M N K : Type 0} (sim : Simulation S M N) (has : K → ℕ → Bool) (only : K) (ends : ℕ → ℕ) (c : ℕ) where
   -- what a clone takes of what a station opens with
@@ -68,6 +75,8 @@ module _ {S M N K : Type 0} (sim : Simulation S M N) (has : K → ℕ → Bool) 
   first_sorted None = tt
   first_sorted (Some m) = (tt, tt)
 
+-- ---- Stands
+
 module _ {S M N K : Type 0} {sim : Simulation S M N} {Good : ℕ → S → Type 0} (law : HandlesLawfully sim Good)
     (to_stations : SendsToStations sim Good) (has : K → ℕ → Bool) (only : K)
     (first_alone : (c : ℕ) → (has only c ≡ true) ↔ (c ≡ 0)) (s : ℕ) (here : IsStation sim s) where
@@ -78,18 +87,18 @@ module _ {S M N K : Type 0} {sim : Simulation S M N} {Good : ℕ → S → Type 
       let early : M → Bool = λ m. nat_lt (sim.time m) (end_of sim base) in
       let all : List M = openings sim sim.stations ++ [] in
       let begun : (run_of sim base 0).pending ≡ insert_all sim.order all [] = ap (λ w. w.pending) (run_at_0 sim base) in
-      same_elements law.order.order (messages_taken sim has (ends_of sim (base ∷ [])) 0
+      same_elements law.order.order.total (messages_taken sim has (ends_of sim (base ∷ [])) 0
       (first_pending sim only (sim.setup s).first)) (due_at sim base s 0)
       (sorted_part (takes sim has (ends_of sim (base ∷ []))) sim.order 0 (first_pending sim only (sim.setup s).first)
       (first_sorted sim has only (ends_of sim (base ∷ [])) 0 (sim.setup s).first))
       (sorted_filter sim.order (λ m. sim.to m == s) (all_due sim base 0) (due_sorted law base 0))
       (λ z i. let h = in_first_pending sim has only (ends_of sim (base ∷ [])) 0 (sim.setup s).first z i in
       let t : nat_lt (sim.time z) (end_of sim base) ≡ true =
-      (and_cases (has only 0) (nat_lt (sim.time z) (end_of sim base)) h.1).1 in
+      (and_parts (has only 0) (nat_lt (sim.time z) (end_of sim base)) h.1).1 in
       own_from sim.to s (all_due sim base 0) z
       (filter_keeps early (run_of sim base 0).pending z
       (subst (In z) (sym begun) (insert_all_new law.order.order all [] z
-      (append_old (openings sim sim.stations) [] z (openings_have sim sim.stations s z here.0 here.1 h.0))))
+      (append_old (openings sim sim.stations) [] z (openings_have sim sim.stations s z here h.0))))
       t)
       (to_stations.first s z here h.0))
       (λ z i. let h = in_own sim.to s (all_due sim base 0) z i in

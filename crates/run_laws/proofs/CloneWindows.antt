@@ -13,17 +13,15 @@ use Rattle.run_laws.proofs.Lists.{in_filter, filter_keeps, sorted_filter, in_own
 use Rattle.run_laws.proofs.Worlds.{run_reached, run_fine, run_goes_on}
 use Rattle.run_laws.proofs.Windows.{Opens, Windows, windows_give}
 use Rattle.run_laws.proofs.Late.{due_sorted}
+use Rattle.run_laws.proofs.NextFronts.{window_end-within}
+
+-- ---- window_end
 
 module _ {S M N : Type 0} (sim : Simulation S M N) where
-  -- no window goes past the horizon
-  window_end_horizon : (t : Option ℕ) → window_end sim t ≤ sim.horizon
-  window_end_horizon None = omega arith
-  window_end_horizon (Some t) = omega arith
-
   -- a bound within the lesser of two times is within each
   within_both : (b : ℕ) (t u : Option ℕ) → b ≤ window_end sim (earlier t u) →
       (b ≤ window_end sim t) × (b ≤ window_end sim u)
-  within_both b None u h = let l = window_end_horizon u in (omega arith, h)
+  within_both b None u h = let l = window_end-within sim u in (omega arith, h)
   within_both b (Some t) None h = (h, omega arith)
   within_both b (Some t) (Some u) h = (omega arith, omega arith)
 
@@ -46,6 +44,8 @@ module _ {S M N : Type 0} (sim : Simulation S M N) where
       (within_both b (least_of sim x front) (least sim cs front) h).0
   within_next b (x ∷ cs) c front h (inr j) =
       within_next b cs c front (within_both b (least_of sim x front) (least sim cs front) h).1 j
+
+-- ---- WindowsGive
 
 module _ {S M N : Type 0} {sim : Simulation S M N} {Good : ℕ → S → Type 0} (law : HandlesLawfully sim Good) where
   -- at a front the windows of a clone may open, up to its end

@@ -1,12 +1,12 @@
 -- The results of a copy at a bound: itself where it is settled, one handling for all its clones, or its two halves.
 use Rattle.std.proofs.Common.{◌≡◌, ℕ, ◌+◌, ◌≤◌, ◌<◌, List, [], ◌∷◌, ◌++◌, ◌⊎◌, inl, inr}
-use Rattle.std.proofs.Common.{Bool, true, false, refl, sym, ap, ◌∙◌, subst, arith, nat_lt, length, take}
+use Rattle.std.proofs.Common.{Bool, refl, sym, ap, ◌∙◌, subst, arith, nat_lt, length, take}
 use Rattle.std.specs.List.{AllByRecursion}
 use Rattle.std.specs.declared.cmp.Ordering.TheVariants.{Less}
-use Rattle.std.proofs.lemmas.Bool.{cases_Bool, false≢true}
+use Rattle.std.proofs.lemmas.Bool.{false≢true, or_cases, or_left, or_right, false_from_ne_true}
 use Rattle.sim_base.specs.declared.entry.Entry.{Entry}
 use Rattle.run_laws.specs.Queue.{In}
-use Rattle.run_laws.specs.Machine.{Config, run_to, Next, stay, go}
+use Rattle.run_laws.specs.Machine.{Config, run_to, Next, stay, go, IsSettled}
 use Rattle.run_laws.specs.Simulation.{Simulation}
 use Rattle.run_laws.specs.World.{to_it}
 use Rattle.run_laws.specs.Window.{Part, earlier_than, part_step}
@@ -14,16 +14,17 @@ use Rattle.run_laws.specs.Handlers.{IsLawful, HandlesLawfully}
 use Rattle.run_laws.specs.Prefixes.{IsCount, IsGained}
 use Rattle.sim_base.specs.Marked.{JoinsMarks, SortedMarked}
 use Rattle.run_laws.specs.Copies.{Copy, Carries, Disjoint, handle_until, handled_by, sends_aside, takes}
-use Rattle.run_laws.specs.Copies.{messages_taken, view, IsNarrowed, Turns, IsSettled, IsCutLog, ComesTo}
-use Rattle.run_laws.proofs.Bools.{or_cases, or_first, or_second}
+use Rattle.run_laws.specs.Copies.{messages_taken, view, IsNarrowed, Turns, IsCutLog, ComesTo, AllTake, NoneTakes}
 use Rattle.run_laws.proofs.Queue.{all_in, all_from, not_below_itself}
 use Rattle.run_laws.proofs.Lists.{in_filter, in_own, in_append, append_old, append_new}
-use Rattle.run_laws.proofs.Machine.{reach_first, reach_trans, done_no_next}
+use Rattle.run_laws.proofs.Machine.{reach_first, reach_trans, is_settled-no_next}
 use Rattle.run_laws.proofs.Running.{all_from_zero, run_reach}
 use Rattle.run_laws.proofs.Parts.{all_part_of, part_yes, part_no, above_part, sorted_part}
 use Rattle.run_laws.proofs.Prefixes.{gained_same}
 use Rattle.run_laws.proofs.CopyViews.{logs_part, settled_or_next, handled_view, others_sent}
-use Rattle.run_laws.proofs.Limits.{cut_done, cut_full, goes_over, cut_split, cut_handle}
+use Rattle.run_laws.proofs.Limits.{cut_settled, cut_full, goes_over, cut_split, cut_handle}
+
+-- ---- Disjoint
 
 -- copies that are apart in two lists, and from list to list
 pub disjoint_append : {S M N K : Type 0} (has : K → ℕ → Bool) (xs ys : List (Copy S M N K)) → Disjoint has xs →
@@ -38,9 +39,7 @@ disjoint_append {S} {M} {N} {K} has (x ∷ xs) ys f g h = (
   disjoint_append has xs ys f.1 g (λ a b c i j. h a b c (inr i) j),
 )
 
--- a set that is not found to have a clone has it not
-pub not_has : {K : Type 0} (has : K → ℕ → Bool) (k : K) (c : ℕ) → (has k c ≡ true → ⊥) → has k c ≡ false
-not_has has k c f = elim (cases_Bool (has k c)) [ inl e ↦ absurd (f e) | inr e ↦ e ]
+-- ---- IsLawful
 
 module _ {S M N : Type 0} {sim : Simulation S M N} {Good : ℕ → S → Type 0} (law : HandlesLawfully sim Good)
     (end s : ℕ) where
@@ -67,16 +66,18 @@ module _ {S M N K : Type 0} {sim : Simulation S M N} {Good : ℕ → S → Type 
 
   -- it has nothing left before the bound
   abbrev Settles : Config (Part S M N) M → Type 0
-  Settles = IsSettled sim has ends s bound
+  Settles = IsSettled sim.time bound
 
   -- the logs that the clones come to, cut to the limit
   abbrev Cut : Copy S M N K → List (M × K) → List (Entry M N) → Type 0
   Cut = IsCutLog sim has ends s bound
 
+  -- ---- IsSettled
+
   -- each clone of a copy comes to an end of its turns
-  pub comes_to_end : (r : Copy S M N K) (sent : List (M × K)) (c : ℕ) → Good s r.state →
+  pub turns-settle : (r : Copy S M N K) (sent : List (M × K)) (c : ℕ) → Good s r.state →
       SortedMarked sim.order r.pending → (d : Config (Part S M N) M) × Goes c (seen c r sent) d × Settles d
-  comes_to_end r sent c g sorted =
+  turns-settle r sent c g sorted =
       let h = run_reach law.order (until_lawful law (ends c) s) bound bound (seen c r sent) (omega arith)
       (record {
         good = g;
@@ -89,17 +90,67 @@ module _ {S M N K : Type 0} {sim : Simulation S M N} {Good : ℕ → S → Type 
       )
 
   -- with all that is pending at the bound or later every clone is settled
-  pub settled_if_late : (r : Copy S M N K) (sent : List (M × K)) (c : ℕ) →
+  pub settled-late : (r : Copy S M N K) (sent : List (M × K)) (c : ℕ) →
       AllByRecursion (λ x. bound ≤ sim.time x.0) r.pending → Settles (seen c r sent)
-  settled_if_late r sent c late = all_part_of (takes sim has ends) c (λ m. bound ≤ sim.time m) r.pending late
+  settled-late r sent c late = all_part_of (takes sim has ends) c (λ m. bound ≤ sim.time m) r.pending late
+
+  -- ---- view
+
+  -- some of the clones of a copy see what they saw
+  view-narrowed : (r some : Copy S M N K) (sent : List (M × K)) (c : ℕ) → IsNarrowed sim has ends r some →
+      Carries has some c → seen c some sent ≡ seen c r sent
+  view-narrowed r some sent c n h = let a = n.state in let b = n.log in let d = n.parts c h in cc
+
+  -- with other messages laid aside that it doesn't see, a clone sees the same
+  pub view-moved : (c : ℕ) (b : Copy S M N K) (x y : List (M × K))
+      → messages_taken sim has ends c x ≡ messages_taken sim has ends c y →
+      seen c b x ≡ seen c b y
+  view-moved c b x y e = ap (λ l. record {
+    at = record { state = b.state; log = b.log; aside = l };
+    pending = messages_taken sim has ends c b.pending;
+  }) e
+
+  -- ---- IsCutLog
+
+  -- the cut logs of some clones are cut logs of the copy
+  pub cut_of_some : (r some : Copy S M N K) (sent mid : List (M × K)) → IsNarrowed sim has ends r some →
+      ((c : ℕ) → Carries has some c → messages_taken sim has ends c mid ≡ messages_taken sim has ends c sent)
+      → (l : List (Entry M N)) →
+      Cut some mid l → Cut r sent l
+  cut_of_some r some sent mid n same l g = record {
+    clone = g.clone;
+    is_in = n.within g.clone g.is_in;
+    last = g.last;
+    ran = subst (λ u. Goes g.clone u g.last) (view-moved g.clone some mid sent (same g.clone g.is_in)
+        ∙ view-narrowed r some sent g.clone n g.is_in) g.ran;
+    settled = g.settled;
+    is = g.is;
+  }
+
+  -- and the cut logs of those clones are theirs
+  cut_in_some : (r some : Copy S M N K) (sent mid : List (M × K)) → IsNarrowed sim has ends r some →
+      ((c : ℕ) → Carries has some c → messages_taken sim has ends c mid ≡ messages_taken sim has ends c sent)
+      → (l : List (Entry M N))
+      (g : Cut r sent l) → Carries has some g.clone → Cut some mid l
+  cut_in_some r some sent mid n same l g is_in = record {
+    clone = g.clone;
+    is_in = is_in;
+    last = g.last;
+    ran = subst (λ u. Goes g.clone u g.last)
+        (sym (view-moved g.clone some mid sent (same g.clone is_in) ∙ view-narrowed r some sent g.clone n is_in)) g.ran;
+    settled = g.settled;
+    is = g.is;
+  }
+
+  -- ---- ComesTo
 
   -- a copy whose clones are settled stays
-  pub comes_to-done : (r : Copy S M N K) (sent : List (M × K)) (over : K) → (c : ℕ) × Carries has r c →
+  pub comes_to-settled : (r : Copy S M N K) (sent : List (M × K)) (over : K) → (c : ℕ) × Carries has r c →
       length r.log ≤ sim.limit → ((c : ℕ) → Carries has r c → Settles (seen c r sent)) →
       ComesTo sim has ends s bound r (r ∷ []) sent sent over over 0
-  comes_to-done r sent over any short f = record {
+  comes_to-settled r sent over any short f = record {
     inhabited = λ b i. elim i [ inl e ↦ (any.0, subst (λ x. Carries has x any.0) (sym e) any.1) | inr n ↦ absurd n ];
-    gained = cut_done sim has ends s bound r sent short f;
+    gained = cut_settled sim has ends s bound r sent short f;
     within = λ b c i h. elim i [ inl e ↦ subst (λ x. Carries has x c) e h | inr n ↦ absurd n ];
     ran = λ b c i h. elim i [
       | inl e ↦ subst (λ x. Goes c (seen c r sent) (seen c x sent) × Settles (seen c x sent))
@@ -117,7 +168,7 @@ module _ {S M N K : Type 0} {sim : Simulation S M N} {Good : ℕ → S → Type 
 
   -- a copy at the limit whose clones all take a message before the bound is over it
   pub comes_to-over : (r : Copy S M N K) (m : M) (k : K) (q sent : List (M × K)) (over : K) → length r.log ≡ sim.limit →
-      r.pending ≡ (m, k) ∷ q → ((c : ℕ) → Carries has r c → takes sim has ends m k c ≡ true) → sim.time m < bound →
+      r.pending ≡ (m, k) ∷ q → AllTake sim has ends r m k → sim.time m < bound →
       ComesTo sim has ends s bound r [] sent sent over (join over r.set) 0
   comes_to-over r m k q sent over full p all early = record {
     inhabited = λ b i. absurd i;
@@ -125,7 +176,7 @@ module _ {S M N K : Type 0} {sim : Simulation S M N} {Good : ℕ → S → Type 
     within = λ b c i. absurd i;
     ran = λ b c i. absurd i;
     short = λ b i. absurd i;
-    some = λ c h. inr (j.joined over r.set c ∙ or_second (has over c) (has r.set c) h);
+    some = λ c h. inr (j.joined over r.set c ∙ or_right (has over c) (has r.set c) h);
     too_long = λ c h. elim (or_cases (has over c) (has r.set c) (sym (j.joined over r.set c) ∙ h)) [
       | inl e ↦ inl e
       | inr e ↦ inr (
@@ -134,7 +185,7 @@ module _ {S M N K : Type 0} {sim : Simulation S M N} {Good : ℕ → S → Type 
             (ap (messages_taken sim has ends c) p ∙ part_yes (takes sim has ends) c (m, k) q (all c e)) early,
       )
     ];
-    still_over = λ c h. j.joined over r.set c ∙ or_first (has over c) (has r.set c) h;
+    still_over = λ c h. j.joined over r.set c ∙ or_left (has over c) (has r.set c) h;
     parted = λ a b c d i. absurd i;
     disjoint = tt;
     others = λ c h. refl;
@@ -144,7 +195,7 @@ module _ {S M N K : Type 0} {sim : Simulation S M N} {Good : ℕ → S → Type 
   pub comes_to-handle : (r : Copy S M N K) (m : M) (k : K) (q sent : List (M × K)) (results : List (Copy S M N K))
       (after : List (M × K)) (over over_after : K) (n : ℕ) → (c : ℕ) × Carries has r c →
       Good s r.state → length r.log < sim.limit → r.pending ≡ (m, k) ∷ q → SortedMarked sim.order r.pending →
-      ((c : ℕ) → Carries has r c → takes sim has ends m k c ≡ true) → sim.time m < bound →
+      AllTake sim has ends r m k → sim.time m < bound →
       ComesTo sim has ends s bound (handled_by sim join s r m q) results (sent ++ sends_aside sim s r m) after over
       over_after n →
       ComesTo sim has ends s bound r results sent after over over_after (n + 1)
@@ -155,7 +206,7 @@ module _ {S M N K : Type 0} {sim : Simulation S M N} {Good : ℕ → S → Type 
       → Next sim.order sim.time (part_step sim.to (handle_until sim (ends c)) s) bound (seen c r sent)
       (seen c new out) = λ c i. handled_view sim j ends law.order s bound c r m k q sent p sorted i
       (all c i) early in
-      let first = comes_to_end r sent any.0 good sorted in
+      let first = turns-settle r sent any.0 good sorted in
       record {
         inhabited = h.inhabited;
         gained = cut_handle sim j ends law.order s bound r m k q sent n (
@@ -180,7 +231,7 @@ module _ {S M N K : Type 0} {sim : Simulation S M N} {Good : ℕ → S → Type 
           | inr e ↦ inr (
             e.0,
             λ d t done. elim (reach_first t (next c e.0)) [
-              | inl a ↦ absurd (done_no_next (seen c r sent) (seen c new out) (subst Settles a done) (next c e.0))
+              | inl a ↦ absurd (is_settled-no_next (seen c r sent) (seen c new out) (subst Settles a done) (next c e.0))
               | inr a ↦ e.1 d a done
             ],
           )
@@ -191,55 +242,11 @@ module _ {S M N K : Type 0} {sim : Simulation S M N} {Good : ℕ → S → Type 
         others = λ c g. h.others c g ∙ others_sent sim has ends s c r m sent g;
       }
 
-  -- some of the clones of a copy see what they saw
-  narrowed_view : (r some : Copy S M N K) (sent : List (M × K)) (c : ℕ) → IsNarrowed sim has ends r some →
-      Carries has some c → seen c some sent ≡ seen c r sent
-  narrowed_view r some sent c n h = let a = n.state in let b = n.log in let d = n.parts c h in cc
-
-  -- with other messages laid aside that it doesn't see, a clone sees the same
-  pub moved_view : (c : ℕ) (b : Copy S M N K) (x y : List (M × K))
-      → messages_taken sim has ends c x ≡ messages_taken sim has ends c y →
-      seen c b x ≡ seen c b y
-  moved_view c b x y e = ap (λ l. record {
-    at = record { state = b.state; log = b.log; aside = l };
-    pending = messages_taken sim has ends c b.pending;
-  }) e
-
-  -- the cut logs of some clones are cut logs of the copy
-  pub cut_of_some : (r some : Copy S M N K) (sent mid : List (M × K)) → IsNarrowed sim has ends r some →
-      ((c : ℕ) → Carries has some c → messages_taken sim has ends c mid ≡ messages_taken sim has ends c sent)
-      → (l : List (Entry M N)) →
-      Cut some mid l → Cut r sent l
-  cut_of_some r some sent mid n same l g = record {
-    clone = g.clone;
-    is_in = n.within g.clone g.is_in;
-    last = g.last;
-    ran = subst (λ u. Goes g.clone u g.last) (moved_view g.clone some mid sent (same g.clone g.is_in)
-        ∙ narrowed_view r some sent g.clone n g.is_in) g.ran;
-    settled = g.settled;
-    is = g.is;
-  }
-
-  -- and the cut logs of those clones are theirs
-  cut_in_some : (r some : Copy S M N K) (sent mid : List (M × K)) → IsNarrowed sim has ends r some →
-      ((c : ℕ) → Carries has some c → messages_taken sim has ends c mid ≡ messages_taken sim has ends c sent)
-      → (l : List (Entry M N))
-      (g : Cut r sent l) → Carries has some g.clone → Cut some mid l
-  cut_in_some r some sent mid n same l g is_in = record {
-    clone = g.clone;
-    is_in = is_in;
-    last = g.last;
-    ran = subst (λ u. Goes g.clone u g.last)
-        (sym (moved_view g.clone some mid sent (same g.clone is_in) ∙ narrowed_view r some sent g.clone n is_in)) g.ran;
-    settled = g.settled;
-    is = g.is;
-  }
-
   -- of a message that none of its clones takes, a copy may be rid
-  pub skipped : (r : Copy S M N K) (m : M) (k : K) (q : List (M × K)) → r.pending ≡ (m, k) ∷ q →
-      ((c : ℕ) → Carries has r c → takes sim has ends m k c ≡ false)
+  pub is_narrowed-rest : (r : Copy S M N K) (m : M) (k : K) (q : List (M × K)) → r.pending ≡ (m, k) ∷ q →
+      NoneTakes sim has ends r m k
       → IsNarrowed sim has ends r (record r { pending = q })
-  skipped r m k q p none = record {
+  is_narrowed-rest r m k q p none = record {
     state = refl;
     log = refl;
     within = λ c h. h;
@@ -253,7 +260,7 @@ module _ {S M N K : Type 0} {sim : Simulation S M N} {Good : ℕ → S → Type 
       ComesTo sim has ends s bound r results before after over over_after n
   comes_to-same r some results before after over over_after n nar all h =
       let v : (c : ℕ) → Carries has some c → seen c some before ≡ seen c r before =
-      λ c i. narrowed_view r some before c nar i in
+      λ c i. view-narrowed r some before c nar i in
       record {
         inhabited = h.inhabited;
         gained = gained_same (Cut some before) (Cut r before) r.log n
@@ -272,7 +279,7 @@ module _ {S M N K : Type 0} {sim : Simulation S M N} {Good : ℕ → S → Type 
         still_over = h.still_over;
         parted = h.parted;
         disjoint = h.disjoint;
-        others = λ c g. h.others c (not_has has some.set c (λ i. false≢true (sym g ∙ nar.within c i)));
+        others = λ c g. h.others c (false_from_ne_true (has some.set c) (λ i. false≢true (sym g ∙ nar.within c i)));
       }
 
   -- a copy of which some clones take the least message and some do not comes to what its halves come to
@@ -280,8 +287,7 @@ module _ {S M N K : Type 0} {sim : Simulation S M N} {Good : ℕ → S → Type 
       (e1 e2 : List (Copy S M N K)) (over over1 over2 : K) (x1 x2 : ℕ) →
       length r.log ≤ sim.limit → r.pending ≡ (m, k) ∷ q → SortedMarked sim.order r.pending → sim.time m < bound →
       IsNarrowed sim has ends r r1 → IsNarrowed sim has ends r r2 →
-      ((c : ℕ) → Carries has r1 c → takes sim has ends m k c ≡ true) →
-      ((c : ℕ) → Carries has r2 c → takes sim has ends m k c ≡ false) →
+      AllTake sim has ends r1 m k → NoneTakes sim has ends r2 m k →
       ((c : ℕ) → Carries has r c → Carries has r1 c ⊎ Carries has r2 c) →
       ComesTo sim has ends s bound r1 e1 before mid over over1 x1 →
       ComesTo sim has ends s bound r2 e2 mid after over1 over2 x2 →
@@ -293,17 +299,17 @@ module _ {S M N K : Type 0} {sim : Simulation S M N} {Good : ℕ → S → Type 
       let apart : (c : ℕ) → Carries has r1 c → Carries has r2 c → ⊥ =
       λ c i l. false≢true (sym (out_k c l) ∙ in_k c i) in
       let out1 : (c : ℕ) → Carries has r2 c → messages_taken sim has ends c mid ≡ messages_taken sim has ends c before =
-      λ c l. f.others c (not_has has r1.set c (λ i. apart c i l)) in
+      λ c l. f.others c (false_from_ne_true (has r1.set c) (λ i. apart c i l)) in
       let out2 : (c : ℕ) → Carries has r1 c → messages_taken sim has ends c after ≡ messages_taken sim has ends c mid =
-      λ c i. g.others c (not_has has r2.set c (λ l. apart c i l)) in
+      λ c i. g.others c (false_from_ne_true (has r2.set c) (λ l. apart c i l)) in
       let see1 : (c : ℕ) → Carries has r1 c → seen c r1 before ≡ seen c r before =
-      λ c i. narrowed_view r r1 before c n1 i in
+      λ c i. view-narrowed r r1 before c n1 i in
       let see2 : (c : ℕ) → Carries has r2 c → seen c r2 mid ≡ seen c r before =
-      λ c i. moved_view c r2 mid before (out1 c i) ∙ narrowed_view r r2 before c n2 i in
+      λ c i. view-moved c r2 mid before (out1 c i) ∙ view-narrowed r r2 before c n2 i in
       let ran1 : (b : Copy S M N K) (c : ℕ) → In b e1 → Carries has b c → Goes c (seen c r before) (seen c b after)
       × Settles (seen c b after) = λ b c i h.
       let w = f.within b c i h in let x = f.ran b c i h in
-      let v : seen c b mid ≡ seen c b after = moved_view c b mid after (sym (out2 c w)) in (
+      let v : seen c b mid ≡ seen c b after = view-moved c b mid after (sym (out2 c w)) in (
         subst (λ u. Goes c u (seen c b after)) (see1 c w) (subst (λ u. Goes c (seen c r1 before) u) v x.0),
         subst Settles v x.1,
       ) in
@@ -317,7 +323,7 @@ module _ {S M N K : Type 0} {sim : Simulation S M N} {Good : ℕ → S → Type 
       λ c i. ap (messages_taken sim has ends c) p ∙ part_yes (takes sim has ends) c (m, k) q (in_k c i) in
       let has_no_m : (d : ℕ) → Carries has r2 d → (z : M) → In z (messages_taken sim has ends d r.pending) → z ≡ m → ⊥ =
       λ d i z u v.
-      not_below_itself o.order m (subst (λ t. sim.order m t ≡ Less) v
+      not_below_itself o.order.total m (subst (λ t. sim.order m t ≡ Less) v
       (all_in (λ t. sim.order m t ≡ Less) (messages_taken sim has ends d q) z
       (above_part (takes sim has ends) sim.order d m q sm.0)
       (subst (In z) (ap (messages_taken sim has ends d) p ∙ part_no (takes sim has ends) d (m, k) q (out_k d i)) u))) in
@@ -379,7 +385,7 @@ module _ {S M N K : Type 0} {sim : Simulation S M N} {Good : ℕ → S → Type 
         disjoint = disjoint_append has e1 e2 f.disjoint g.disjoint
             (λ a b c i l h t. apart c (f.within a c i h) (g.within b c l t));
         others = λ c h.
-            let no1 = not_has has r1.set c (λ i. false≢true (sym h ∙ n1.within c i)) in
-            let no2 = not_has has r2.set c (λ i. false≢true (sym h ∙ n2.within c i)) in
+            let no1 = false_from_ne_true (has r1.set c) (λ i. false≢true (sym h ∙ n1.within c i)) in
+            let no2 = false_from_ne_true (has r2.set c) (λ i. false≢true (sym h ∙ n2.within c i)) in
             g.others c no2 ∙ f.others c no1;
       }

@@ -5,9 +5,11 @@ use Rattle.std.proofs.Common.{◌||◌, nat_lt, refl, sym, ap, ◌∙◌, subst,
 use Rattle.std.specs.List.{AllByRecursion, filter}
 use Rattle.std.specs.declared.cmp.Ordering.TheVariants.{Less}
 use Rattle.std.proofs.lemmas.Bool.{cases_lt}
+use Rattle.std.proofs.lemmas.List.{append_cancel_left}
+use Rattle.std.proofs.lemmas.List.Elements.{filter_agree}
 use Rattle.sim_base.specs.declared.entry.Entry.{Entry}
 use Rattle.run_laws.specs.Queue.{insert_all, In, Sorted}
-use Rattle.run_laws.specs.Machine.{Config, after, Next, Reach, stay, go, Done}
+use Rattle.run_laws.specs.Machine.{Config, after, Next, Reach, stay, go, IsSettled}
 use Rattle.run_laws.specs.Simulation.{Simulation}
 use Rattle.run_laws.specs.World.{to_it}
 use Rattle.run_laws.specs.Window.{Part, to_others, earlier_than, part_step}
@@ -16,18 +18,15 @@ use Rattle.sim_base.specs.Marked.{JoinsMarks, SortedMarked}
 use Rattle.run_laws.specs.Copies.{Copy, Carries, insert_marked_all, handle_until, handled_by}
 use Rattle.run_laws.specs.Copies.{sends_aside, takes, messages_taken, view}
 use Rattle.run_laws.proofs.Queue.{all_in, all_from}
-use Rattle.run_laws.proofs.Lists.{filter_swap, filter-congr, filter_none}
-use Rattle.run_laws.proofs.Machine.{reach_first, done_no_next, done_stays}
+use Rattle.run_laws.proofs.Lists.{filter_swap, filter_none}
+use Rattle.run_laws.proofs.Machine.{reach_first, is_settled-no_next, is_settled-stays}
 use Rattle.run_laws.proofs.Parts.{part_yes, part-append, part-map, part-insert_all}
 
--- equal beginnings can be taken off
-pub append_cancel : {X : Type 0} (xs ys zs : List X) → xs ++ ys ≡ xs ++ zs → ys ≡ zs
-append_cancel [] ys zs e = e
-append_cancel (x ∷ xs) ys zs e = let t : xs ++ ys ≡ xs ++ zs = cc in append_cancel xs ys zs t
+-- ---- logs
 
 module _ {S M N : Type 0} (sim : Simulation S M N) (s bound : ℕ) where
   -- the turns of a station whose sends from an end on are dropped
-  abbrev pub TurnsUntil : ℕ → Config (Part S M N) M → Config (Part S M N) M → Type 0
+  abbrev TurnsUntil : ℕ → Config (Part S M N) M → Config (Part S M N) M → Type 0
   TurnsUntil end = Reach sim.order sim.time (part_step sim.to (handle_until sim end) s) bound
 
   -- the entry of a message that is handled in a state
@@ -46,21 +45,21 @@ module _ {S M N : Type 0} (sim : Simulation S M N) (s bound : ℕ) where
   -- where there is a message to handle, what the log gains begins with it
   pub log_begins : (end : ℕ) (c d : Config (Part S M N) M) (m : M) (q : List M) → c.pending ≡ m ∷ q
       → sim.time m < bound →
-      TurnsUntil end c d → Done sim.time bound d →
+      TurnsUntil end c d → IsSettled sim.time bound d →
       (l : List (Entry M N)) × (d.at.log ≡ c.at.log ++ new_entry c.at.state m ∷ l)
   log_begins end c d m q p early r f =
       let e : Config (Part S M N) M = after sim.order (part_step sim.to (handle_until sim end) s) c.at m q in
       let n : Next sim.order sim.time (part_step sim.to (handle_until sim end) s) bound c e =
       record { m = m; q = q; pending = p; early = early; is = refl } in
       elim (reach_first r n) [
-        | inl a ↦ absurd (done_no_next d e f
+        | inl a ↦ absurd (is_settled-no_next d e f
             (subst (λ x. Next sim.order sim.time (part_step sim.to (handle_until sim end) s) bound x e) (sym a) n))
         | inr t ↦ let h = log_grows end t in (h.0, h.1 ∙ append_assoc c.at.log (new_entry c.at.state m ∷ []) h.0)
       ]
 
   -- nothing is left before the bound, or there is a next message
-  abbrev pub SettledOrNext : Config (Part S M N) M → Type 0
-  SettledOrNext d = Done sim.time bound d ⊎ ((y : M) × (ys : List M) × (d.pending ≡ y ∷ ys) × (sim.time y < bound))
+  abbrev SettledOrNext : Config (Part S M N) M → Type 0
+  SettledOrNext d = IsSettled sim.time bound d ⊎ ((y : M) × (ys : List M) × (d.pending ≡ y ∷ ys) × (sim.time y < bound))
 
   -- so it is by the pending messages
   settled_or_next_by : IsTimed sim.order sim.time → (d : Config (Part S M N) M) (q : List M) → d.pending ≡ q →
@@ -84,21 +83,21 @@ module _ {S M N : Type 0} (sim : Simulation S M N) (s bound : ℕ) where
   pub logs_part : (end1 end2 : ℕ) (c d c2 d2 : Config (Part S M N) M) (m : M) (q : List M) → c.at.log ≡ d.at.log →
       c.pending ≡ m ∷ q → sim.time m < bound →
       ((z : M) → In z d.pending → z ≡ m → ⊥) → SettledOrNext d →
-      TurnsUntil end1 c c2 → Done sim.time bound c2 → TurnsUntil end2 d d2 → Done sim.time bound d2 →
+      TurnsUntil end1 c c2 → IsSettled sim.time bound c2 → TurnsUntil end2 d d2 → IsSettled sim.time bound d2 →
       c2.at.log ≡ d2.at.log → ⊥
   logs_part end1 end2 c d c2 d2 m q e p early other w r f t g same =
       let a = log_begins end1 c c2 m q p early r f in
       let x : Entry M N = new_entry c.at.state m in
       elim w [
         | inl done ↦
-            let b : d2 ≡ d = done_stays done t in
-            let k : x ∷ a.0 ≡ [] = append_cancel c.at.log (x ∷ a.0) []
+            let b : d2 ≡ d = is_settled-stays done t in
+            let k : x ∷ a.0 ≡ [] = append_cancel_left c.at.log (x ∷ a.0) []
             (sym a.1 ∙ (same ∙ (ap (λ u. u.at.log) b ∙ (sym e ∙ sym (append-nil c.at.log))))) in
             absurd (cc)
         | inr n ↦
             let b = log_begins end2 d d2 n.0 n.1 n.2 n.3 t g in
             let y : Entry M N = new_entry d.at.state n.0 in
-            let k : x ∷ a.0 ≡ y ∷ b.0 = append_cancel c.at.log (x ∷ a.0) (y ∷ b.0)
+            let k : x ∷ a.0 ≡ y ∷ b.0 = append_cancel_left c.at.log (x ∷ a.0) (y ∷ b.0)
             (sym a.1 ∙ (same ∙ (b.1 ∙ ap (λ l. l ++ y ∷ b.0) (sym e)))) in
             let h : x ≡ y = cc in
             other n.0 (subst (In n.0) (sym n.2) (inl refl)) (sym (ap (λ u. u.msg) h))
@@ -108,26 +107,28 @@ module _ {S M N : Type 0} (sim : Simulation S M N) (s bound : ℕ) where
   pub firsts_part : (end1 end2 : ℕ) (c d c2 d2 : Config (Part S M N) M) (m : M) (q : List M) (e : Entry M N)
       (u v : List (Entry M N)) → c.at.log ≡ d.at.log → c.pending ≡ m ∷ q → sim.time m < bound →
       ((z : M) → In z d.pending → z ≡ m → ⊥) → SettledOrNext d →
-      TurnsUntil end1 c c2 → Done sim.time bound c2 → TurnsUntil end2 d d2 → Done sim.time bound d2 →
+      TurnsUntil end1 c c2 → IsSettled sim.time bound c2 → TurnsUntil end2 d d2 → IsSettled sim.time bound d2 →
       c2.at.log ≡ c.at.log ++ e ∷ u → d2.at.log ≡ d.at.log ++ e ∷ v → ⊥
   firsts_part end1 end2 c d c2 d2 m q e u v eq p early other w r f t g has1 has2 =
       let a = log_begins end1 c c2 m q p early r f in
       let x : Entry M N = new_entry c.at.state m in
-      let k1 : x ∷ a.0 ≡ e ∷ u = append_cancel c.at.log (x ∷ a.0) (e ∷ u) (sym a.1 ∙ has1) in
+      let k1 : x ∷ a.0 ≡ e ∷ u = append_cancel_left c.at.log (x ∷ a.0) (e ∷ u) (sym a.1 ∙ has1) in
       let h1 : x ≡ e = cc in
       elim w [
         | inl done ↦
-            let b : d2 ≡ d = done_stays done t in
-            let k : e ∷ v ≡ [] = append_cancel d.at.log (e ∷ v) []
+            let b : d2 ≡ d = is_settled-stays done t in
+            let k : e ∷ v ≡ [] = append_cancel_left d.at.log (e ∷ v) []
             (sym has2 ∙ (ap (λ u. u.at.log) b ∙ sym (append-nil d.at.log))) in
             absurd (cc)
         | inr n ↦
             let b = log_begins end2 d d2 n.0 n.1 n.2 n.3 t g in
             let y : Entry M N = new_entry d.at.state n.0 in
-            let k2 : y ∷ b.0 ≡ e ∷ v = append_cancel d.at.log (y ∷ b.0) (e ∷ v) (sym b.1 ∙ has2) in
+            let k2 : y ∷ b.0 ≡ e ∷ v = append_cancel_left d.at.log (y ∷ b.0) (e ∷ v) (sym b.1 ∙ has2) in
             let h2 : y ≡ e = cc in
             other n.0 (subst (In n.0) (sym n.2) (inl refl)) (ap (λ u. u.msg) (h2 ∙ sym h1))
       ]
+
+-- ---- messages_taken
 
 -- of two marks and one end
 both_or : (x y e : Bool) → ((x || y) && e) ≡ ((x && e) || (y && e))
@@ -150,13 +151,13 @@ module _ {S M N K : Type 0} (sim : Simulation S M N) {has : K → ℕ → Bool} 
 
 module _ {S M N K : Type 0} (sim : Simulation S M N) (has : K → ℕ → Bool) (ends : ℕ → ℕ) where
   -- of messages for a set that has it, a clone takes those before its end
-  pub taken_within : (k : K) (c : ℕ) (xs : List M) → has k c ≡ true →
+  taken_within : (k : K) (c : ℕ) (xs : List M) → has k c ≡ true →
       filter (λ x. takes sim has ends x k c) xs ≡ earlier_than sim.time (ends c) xs
-  taken_within k c xs e = filter-congr (λ x. takes sim has ends x k c)
-      (λ x. nat_lt (sim.time x) (ends c)) xs (λ x. ap (λ b. b && nat_lt (sim.time x) (ends c)) e)
+  taken_within k c xs e = filter_agree (λ x. takes sim has ends x k c)
+      (λ x. nat_lt (sim.time x) (ends c)) (λ x. ap (λ b. b && nat_lt (sim.time x) (ends c)) e) xs
 
   -- of others it takes none
-  pub taken_without : (k : K) (c : ℕ) (xs : List M) → has k c ≡ false → filter (λ x. takes sim has ends x k c) xs ≡ []
+  taken_without : (k : K) (c : ℕ) (xs : List M) → has k c ≡ false → filter (λ x. takes sim has ends x k c) xs ≡ []
   taken_without k c xs e = filter_none (λ x. takes sim has ends x k c) xs
       (all_from (λ x. takes sim has ends x k c ≡ false) xs (λ x i. ap (λ b. b && nat_lt (sim.time x) (ends c)) e))
 
@@ -182,6 +183,8 @@ module _ {S M N K : Type 0} (sim : Simulation S M N) (has : K → ℕ → Bool) 
       (part-map (takes sim has ends) c k (to_others sim.to s sends)
       ∙ taken_within sim has ends k c (to_others sim.to s sends) e
       ∙ filter_swap (λ m. nat_lt (sim.time m) (ends c)) (λ m. not (sim.to m == s)) sends)
+
+-- ---- view
 
 -- two stations with equal parts are equal
 station_parts : {S M N : Type 0} (st : S) (log : List (Entry M N)) (a b p q : List M) → a ≡ b → p ≡ q →

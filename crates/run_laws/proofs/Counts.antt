@@ -5,14 +5,15 @@ use Rattle.std.specs.Bool.{Decides}
 use Rattle.std.specs.List.{flat_map}
 use Rattle.std.specs.Set.{is_member, unique_keys, distinct_count}
 use Rattle.std.proofs.Math.Nat.{suc-mul}
-use Rattle.std.proofs.lemmas.Bool.{cases_Bool, false≢true}
+use Rattle.std.proofs.lemmas.Bool.{cases_Bool, false≢true, or_cases, or_left, or_right, and_parts, and_from}
 use Rattle.std.proofs.lemmas.List.{take_all, length-take, length-map}
 use Rattle.run_laws.specs.Queue.{In}
 use Rattle.run_laws.specs.Prefixes.{IsCount, IsGained}
 use Rattle.run_laws.specs.Sharing.{prefixes, same_list}
-use Rattle.run_laws.proofs.Bools.{or_cases, or_first, or_second, and_cases, and_both}
 use Rattle.run_laws.proofs.Lists.{in_append, append_old, append_new}
 use Rattle.run_laws.proofs.Prefixes.{count_same}
+
+-- ---- distinct_count, same_list
 
 module _ {X : Type 0} (same : X → X → Bool) (decides : (x y : X) → Decides (same x y) (x ≡ y)) where
   -- a member is an element
@@ -26,8 +27,8 @@ module _ {X : Type 0} (same : X → X → Bool) (decides : (x y : X) → Decides
   -- and an element a member
   member_if_in : (x : X) (ys : List X) → In x ys → is_member same ys x ≡ true
   member_if_in x [] i = absurd i
-  member_if_in x (y ∷ ys) (inl d) = or_first (same x y) (is_member same ys x) ((decides x y).1 d)
-  member_if_in x (y ∷ ys) (inr i) = or_second (same x y) (is_member same ys x) (member_if_in x ys i)
+  member_if_in x (y ∷ ys) (inl d) = or_left (same x y) (is_member same ys x) ((decides x y).1 d)
+  member_if_in x (y ∷ ys) (inr i) = or_right (same x y) (is_member same ys x) (member_if_in x ys i)
 
   -- the number of different elements of a list
   pub distinct_is_count : (xs : List X) → IsCount (λ x. In x xs) (distinct_count same xs)
@@ -58,7 +59,7 @@ module _ {X : Type 0} (same : X → X → Bool) (decides : (x y : X) → Decides
   same_list_true [] (y ∷ ys) e = absurd (false≢true e)
   same_list_true (x ∷ xs) [] e = absurd (false≢true e)
   same_list_true (x ∷ xs) (y ∷ ys) e =
-      let h = and_cases (same x y) (same_list same xs ys) e in
+      let h = and_parts (same x y) (same_list same xs ys) e in
       let a : x ≡ y = (decides x y).0 h.0 in
       let b : xs ≡ ys = same_list_true xs ys h.1 in
       cc
@@ -66,11 +67,13 @@ module _ {X : Type 0} (same : X → X → Bool) (decides : (x y : X) → Decides
   -- a list is the same as itself
   same_list_itself : (xs : List X) → same_list same xs xs ≡ true
   same_list_itself [] = refl
-  same_list_itself (x ∷ xs) = and_both (same x x) (same_list same xs xs) ((decides x x).1 refl) (same_list_itself xs)
+  same_list_itself (x ∷ xs) = and_from (same x x) (same_list same xs xs) ((decides x x).1 refl) (same_list_itself xs)
 
   -- lists are compared element by element
   pub same_list-Decides : (xs ys : List X) → Decides (same_list same xs ys) (xs ≡ ys)
   same_list-Decides xs ys = (same_list_true xs ys, λ e. subst (λ l. same_list same xs l ≡ true) e (same_list_itself xs))
+
+-- ---- map, flat_map
 
 -- what is in a mapped list comes from an element
 pub in_map : {X Y : Type 0} (f : X → Y) (xs : List X) (y : Y) → In y (map f xs) → (x : X) × In x xs × (y ≡ f x)
@@ -100,6 +103,8 @@ flat_map_has f [] x y i l = absurd i
 flat_map_has f (z ∷ xs) x y (inl e) l = append_old (f z) (flat_map f xs) y (subst (λ u. In y (f u)) e l)
 flat_map_has f (z ∷ xs) x y (inr i) l = append_new (f z) (flat_map f xs) y (flat_map_has f xs x y i l)
 
+-- ---- prefixes
+
 module _ {E : Type 0} where
   -- a listed prefix is a nonempty beginning of the list
   in_prefixes : (log p : List E) → In p (prefixes log) →
@@ -118,7 +123,7 @@ module _ {E : Type 0} where
       (prefixes_have m more rest))
 
   -- the prefixes of several logs
-  pub prefix_of_logs : (logs : List (List E)) (p : List E) → In p (flat_map prefixes logs) →
+  prefix_of_logs : (logs : List (List E)) (p : List E) → In p (flat_map prefixes logs) →
       IsGained (λ l. In l logs) [] p
   prefix_of_logs logs p i =
       let h = in_flat_map prefixes logs p i in

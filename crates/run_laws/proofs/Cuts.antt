@@ -3,16 +3,20 @@ use Rattle.std.proofs.Common.{◌≡◌, ℕ, List, [], ◌∷◌, Option, Some,
 use Rattle.std.proofs.Common.{true, false, ◌&&◌, cond, refl, sym, ap, ◌∙◌}
 use Rattle.std.specs.Prelude.{option_map}
 use Rattle.std.specs.List.{AllByRecursion, cons_option}
+use Rattle.std.proofs.lemmas.Bool.{and_parts}
 use Rattle.sim_base.specs.Pending.{cut_by}
 use Rattle.sim_base.specs.Marked.{MeetsMarks}
 use Rattle.run_laws.specs.Copies.{part}
-use Rattle.run_laws.proofs.Bools.{and_cases}
 use Rattle.run_laws.proofs.Parts.{part_no}
+
+-- ---- &&
 
 -- where the second of two passes, both do where the first does
 pub and-second : (a b : Bool) → b ≡ true → (a && b) ≡ a
 and-second true b h = h
 and-second false b h = refl
+
+-- ---- cut_by
 
 module _ {M K : Type 0} {has : K → ℕ → Bool} {meet : K → K → Option K} (meets : MeetsMarks has meet) (by : K) where
   module _ (p : M → ℕ → Bool) (c : ℕ) (here : has by c ≡ true) where
@@ -20,6 +24,7 @@ module _ {M K : Type 0} {has : K → ℕ → Bool} {meet : K → K → Option K}
     abbrev takes_if : M → K → ℕ → Bool
     takes_if m k c = has k c && p m c
 
+    -- by what the marks of the first message share with the set
     cut_one : (r : Option K) (m : M) (k : K) (q : List (M × K)) → meet k by ≡ r →
         part takes_if c (cons_option (option_map (λ u. (m, u)) r) q) ≡ part takes_if c ((m, k) ∷ q)
     cut_one None m k q e = sym (part_no takes_if c (m, k) q
@@ -37,10 +42,11 @@ module _ {M K : Type 0} {has : K → ℕ → Bool} {meet : K → K → Option K}
   abbrev Within : M × K → Type 0
   Within x = (c : ℕ) → has x.1 c ≡ true → has by c ≡ true
 
+  -- so it is with one message more, by what its marks share with the set
   one_within : (r : Option K) (m : M) (k : K) (q : List (M × K)) → meet k by ≡ r → AllByRecursion Within q →
       AllByRecursion Within (cons_option (option_map (λ u. (m, u)) r) q)
   one_within None m k q e f = f
-  one_within (Some u) m k q e f = (λ c h. (and_cases (has k c) (has by c) (sym (meets.some k by u e c) ∙ h)).1, f)
+  one_within (Some u) m k q e f = (λ c h. (and_parts (has k c) (has by c) (sym (meets.some k by u e c) ∙ h)).1, f)
 
   -- and no other clone is in the marks of what was cut
   pub cut_by-within : (q : List (M × K)) → AllByRecursion Within (cut_by meet by q)

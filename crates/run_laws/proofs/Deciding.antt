@@ -1,8 +1,8 @@
 -- Copies stand for the clones after a decision, an end and a fork, where they stood for them before.
 use Rattle.std.proofs.Common.{◌≡◌, ℕ, ◌+◌, ◌≤◌, ◌<◌, List, [], ◌∷◌, ◌++◌, inl, inr, Bool, true, false, cond, ◌==◌, ◌&&◌}
 use Rattle.std.proofs.Common.{nat_lt, min, None, refl, sym, ap, ◌∙◌, subst, arith, length, length-set, eq-eqb}
-use Rattle.std.specs.List.{AllByRecursion, AllZip}
-use Rattle.std.proofs.lemmas.Bool.{cases_Bool, cases_eq, ne_eqb, lt-ltb, ltb-true, false≢true}
+use Rattle.std.specs.List.{AllZip}
+use Rattle.std.proofs.lemmas.Bool.{cases_Bool, cases_eq, ne_eqb, lt-ltb, ltb-true, false≢true, and_right}
 use Rattle.std.proofs.lemmas.List.{length_push}
 use Rattle.sim_base.specs.Clones.{Clone, clone_at, clones_with_plan, clones_with_end, clones_with_fork, fork_of}
 use Rattle.sim_base.specs.Clones.{with_plan, with_end}
@@ -18,11 +18,12 @@ use Rattle.sim_base.specs.Marked.{SortedMarked}
 use Rattle.run_laws.specs.Copies.{Copy, Carries, Disjoint, takes, messages_taken, takes_as}
 use Rattle.run_laws.specs.Copies.{origin_of, IsGiven, IsForked, ends_of, Stands}
 use Rattle.run_laws.proofs.Forks.{end_of-fork}
-use Rattle.run_laws.proofs.Queue.{all_in}
 use Rattle.run_laws.proofs.Parts.{part-congr, part-filter}
 use Rattle.run_laws.proofs.Late.{decision_adds_due, end_drops_due}
 use Rattle.run_laws.proofs.Places.{set_cases, clone_push_same, clone_push_other}
-use Rattle.run_laws.proofs.Delivery.{zip_from, zip_each, one_of, disjoint_given}
+use Rattle.run_laws.proofs.Delivery.{zip_from, zip_each, one_of, disjoint_given, disjoint_zip}
+
+-- ---- messages_taken
 
 module _ {S M N K : Type 0} (sim : Simulation S M N) (has : K → ℕ → Bool) where
   -- what a clone takes depends on its own end alone
@@ -36,18 +37,16 @@ module _ {S M N K : Type 0} (sim : Simulation S M N) (has : K → ℕ → Bool) 
   earlier_test false t at end l = refl
   earlier_test true t at end l = elim (cases_Bool (nat_lt t at)) [
     | inl e ↦ let b : t < at = ltb-true t at e in e ∙ sym (ap (λ x. x && nat_lt t at) (lt-ltb t end (omega arith)) ∙ e)
-    | inr e ↦ e ∙ sym (ap (λ x. nat_lt t end && x) e ∙ and_false (nat_lt t end))
+    | inr e ↦ e ∙ sym (and_right (nat_lt t end) (nat_lt t at) e)
   ]
-    where
-      and_false : (b : Bool) → (b && false) ≡ false
-      and_false true = refl
-      and_false false = refl
 
   -- with an earlier end a clone takes what comes before it
   taken_earlier : (e f : ℕ → ℕ) (c : ℕ) (xs : List (M × K)) → f c ≤ e c →
       messages_taken sim has f c xs ≡ earlier_than sim.time (f c) (messages_taken sim has e c xs)
   taken_earlier e f c xs l = part-filter (takes sim has e) (takes sim has f)
       (λ m. nat_lt (sim.time m) (f c)) c xs (λ m k. earlier_test (has k c) (sim.time m) (f c) (e c) l)
+
+  -- ---- Stands
 
   -- a copy for the changed clones, against what it was
   record Matches (cs : List Clone) (front s : ℕ) (a b : Copy S M N K) : Type 0 where
@@ -87,6 +86,8 @@ module _ {S M N K : Type 0} (sim : Simulation S M N) (has : K → ℕ → Bool) 
         sorted = λ b i. (was b i).2.sorted;
       }
 
+-- ---- clones_with_plan, clones_with_end
+
 -- two tests, the first of which passes
 and_swap : (a b : Bool) → a ≡ true → (b && true) ≡ (a && b)
 and_swap true true e = refl
@@ -124,7 +125,7 @@ module _ {S M N K : Type 0} {sim : Simulation S M N} {Good : ℕ → S → Type 
         (with_plan (clone_at cs who) p) is_there refl (λ c n. refl)
 
     -- a late decision for another station leaves the copies of a station as they are
-    pub stands_other_decision : (copies : List (Copy S M N K)) → (sim.to message ≡ s → ⊥) →
+    stands_other_decision : (copies : List (Copy S M N K)) → (sim.to message ≡ s → ⊥) →
         Stands sim has cs front s copies → Stands sim has (clones_with_plan cs who p) front s copies
     stands_other_decision copies not st =
         stands_matched sim has cs (clones_with_plan cs who p) front s copies copies
@@ -143,20 +144,16 @@ module _ {S M N K : Type 0} {sim : Simulation S M N} {Good : ℕ → S → Type 
                 (with_plan (clone_at cs who) p) is_there
                 (adds.due_here s ∙ ap (λ t. cond t (insert sim.order message (due_at sim (clone_at cs who) s front))
                 (due_at sim (clone_at cs who) s front))
-                (never (nat_lt (sim.time message) (end_of sim (clone_at cs who))) (sim.to message == s)
+                (and_right (nat_lt (sim.time message) (end_of sim (clone_at cs who))) (sim.to message == s)
                 (ne_eqb (sim.to message) s not)))
                 (λ c n. refl) c);
             sorted = st.sorted b i;
           },
         ))
         (λ a i. (a, i, refl)) st.disjoint st
-      where
-        never : (a b : Bool) → b ≡ false → (a && b) ≡ false
-        never true b e = e
-        never false b e = refl
 
     -- a late decision for a station is given to the clone that it is for, and to no other
-    pub stands_decision : (copies done : List (Copy S M N K)) (k : K) → sim.to message ≡ s → has k who ≡ true →
+    stands_decision : (copies done : List (Copy S M N K)) (k : K) → sim.to message ≡ s → has k who ≡ true →
         ((c : ℕ) → (c ≡ who → ⊥) → has k c ≡ false) →
         AllZip (IsGiven sim has (ends_of sim cs) message k) copies done → Stands sim has cs front s copies →
         Stands sim has (clones_with_plan cs who p) front s done
@@ -183,6 +180,7 @@ module _ {S M N K : Type 0} {sim : Simulation S M N} {Good : ℕ → S → Type 
         (λ a i. let y = zip_each (IsGiven sim has (ends_of sim cs) message k) copies done a zip i in
         (y.0, y.1, y.2.set)) apart st
       where
+        -- what is due to each clone then
         given : (c : ℕ) →
             due_at sim (clone_at (clones_with_plan cs who p) c) s front
             ≡ cond (takes sim has (ends_of sim cs) message k c)
@@ -232,30 +230,15 @@ module _ {S M N K : Type 0} {sim : Simulation S M N} {Good : ℕ → S → Type 
       ))
       (λ a i. (a, i, refl)) st.disjoint st
 
+-- ---- clones_with_fork
+
 module _ {S M N K : Type 0} (sim : Simulation S M N) (has : K → ℕ → Bool) (cs : List Clone) (old : ℕ)
     (name : List ℕ) where
   -- forked copies stay apart
   disjoint_forked : (ends : ℕ → ℕ) (new : ℕ) (xs ys : List (Copy S M N K)) →
       AllZip (IsForked sim has ends old new) xs ys → Disjoint has xs → Disjoint has ys
-  disjoint_forked ends new [] [] h d = tt
-  disjoint_forked ends new [] (v ∷ ys) h d = absurd h
-  disjoint_forked ends new (u ∷ xs) [] h d = absurd h
-  disjoint_forked ends new (u ∷ xs)
-      (v ∷ ys) h d = (
-        apart ys (λ b i. zip_from (IsForked sim has ends old new) xs ys b h.1 i),
-        disjoint_forked ends new xs ys h.1 d.1,
-      )
-    where
-      apart : (zs : List (Copy S M N K)) →
-          ((b : Copy S M N K) → In b zs → (x : Copy S M N K) × In x xs × IsForked sim has ends old new x b) →
-          AllByRecursion (λ b. (c : ℕ) → Carries has v c → Carries has b c → ⊥) zs
-      apart [] f = tt
-      apart (b ∷ zs) f = (
-        (λ c i l. let x = f b (inl refl) in
-            all_in (λ b. (c : ℕ) → Carries has u c → Carries has b c → ⊥) xs x.0 d.0 x.1 (origin_of old new c)
-            (sym (h.0.set c) ∙ i) (sym (x.2.set c) ∙ l)),
-        apart zs (λ b i. f b (inr i)),
-      )
+  disjoint_forked ends new xs ys = disjoint_zip has (IsForked sim has ends old new) (origin_of old new)
+      (λ a b c f i. sym (f.set c) ∙ i) xs ys
 
   -- what holds of the new clone, which was the old one, and of the others, holds of each
   fork_cases : (P : Clone → Clone → Type 0) →
@@ -334,9 +317,11 @@ module _ {S M N K : Type 0} (sim : Simulation S M N) (has : K → ℕ → Bool) 
         sorted = λ b i. (was b i).2.sorted;
       }
     where
+      -- a clone that was there before is its own origin
       itself : (c : ℕ) → c < length cs → origin_of old (length cs) c ≡ c
       itself c l = ap (λ b. cond b old c) (ne_eqb c (length cs) (λ e. omega (arith, e, l)))
 
+      -- the origin of each clone was there before
       within : (c : ℕ) → c < length cs + 1 → origin_of old (length cs) c < length cs
       within c k = elim (cases_eq c (length cs)) [
         | inl e ↦ subst (λ b. cond b old c < length cs) (sym (eq-eqb c (length cs) e)) there
@@ -346,6 +331,7 @@ module _ {S M N K : Type 0} (sim : Simulation S M N) (has : K → ℕ → Bool) 
           less : (c ≡ length cs → ⊥) → c < length cs
           less n = grind arith
 
+      -- and each clone whose origin was there before is there now
       back : (c : ℕ) → origin_of old (length cs) c < length cs → c < length cs + 1
       back c k = elim (cases_eq c (length cs)) [
         | inl e ↦ omega (arith, e)
@@ -353,9 +339,11 @@ module _ {S M N K : Type 0} (sim : Simulation S M N) (has : K → ℕ → Bool) 
             omega arith
       ]
 
+-- ---- clones_with_plan, by the message
+
 module _ {S M N K : Type 0} {sim : Simulation S M N} {Good : ℕ → S → Type 0} (law : HandlesLawfully sim Good)
     (has : K → ℕ → Bool) (cs : List Clone) (front s who : ℕ) (p : Planned) (m : M) where
-  -- the same, of a message that is the decision's
+  -- a decision, by the message that it is
   pub stands_after_decision : (k : K) (copies done : List (Copy S M N K)) → who < length cs →
       m ≡ sim.set_message (length (clone_at cs who).plans) p → front ≤ sim.time m → sim.to m ≡ s →
       has k who ≡ true → ((c : ℕ) → (c ≡ who → ⊥) → has k c ≡ false) →

@@ -10,8 +10,11 @@ use Rattle.sim_base.specs.Marked.{SortedMarked}
 use Rattle.run_laws.specs.Copies.{part, Copy, Carries, Disjoint, takes}
 use Rattle.run_laws.specs.Copies.{messages_taken, IsGiven, SoFarGiven, ends_of, IsDelivered}
 use Rattle.run_laws.proofs.Queue.{all_in, in_insert, insert_old, insert_new}
-use Rattle.run_laws.proofs.Lists.{in_cons_if, cons_if_new, in_append, append_old, append_new}
+use Rattle.sim_base.proofs.Elements.{in_cons_if, cons_if_new}
+use Rattle.run_laws.proofs.Lists.{in_append, append_old, append_new}
 use Rattle.run_laws.proofs.Parts.{part-append}
+
+-- ---- part
 
 module _ {M K : Type 0} (takes : M → K → ℕ → Bool) where
   -- what a clone takes of a list with one message more
@@ -35,6 +38,8 @@ module _ {M K : Type 0} (takes : M → K → ℕ → Bool) where
   part_push_new c xs x z t e = subst (In z) (sym (part-append takes c xs (x ∷ [])))
       (append_new (part takes c xs) (part takes c (x ∷ [])) z (cons_if_new (takes x.0 x.1 c) x.0 [] z t e))
 
+-- ---- SoFarGiven
+
 module _ {S M N K : Type 0} (sim : Simulation S M N) (has : K → ℕ → Bool) (ends : ℕ → ℕ) where
   -- with no message the copies stay
   pub given_none : (new : List (Copy S M N K)) → Disjoint has new →
@@ -45,6 +50,8 @@ module _ {S M N K : Type 0} (sim : Simulation S M N) (has : K → ℕ → Bool) 
     disjoint = d;
     sorted = s;
   }
+
+-- ---- AllZip
 
 -- of two lists that match place by place, each element has its match
 pub zip_from : {X Y : Type 0} (R : X → Y → Type 0) (xs : List X) (ys : List Y) (y : Y) → AllZip R xs ys → In y ys →
@@ -64,6 +71,8 @@ zip_each R (u ∷ xs) [] x h i = absurd h
 zip_each R (u ∷ xs) (v ∷ ys) x h (inl e) = (v, inl refl, subst (λ t. R t v) (sym e) h.0)
 zip_each R (u ∷ xs) (v ∷ ys) x h (inr i) = let r = zip_each R xs ys x h.1 i in (r.0, inr r.1, r.2)
 
+-- ---- Disjoint
+
 module _ {S M N K : Type 0} (has : K → ℕ → Bool) where
   -- of disjoint copies one alone carries a clone
   pub one_of : (xs : List (Copy S M N K)) (a b : Copy S M N K) (c : ℕ) → Disjoint has xs → In a xs → In b xs →
@@ -78,29 +87,38 @@ module _ {S M N K : Type 0} (has : K → ℕ → Bool) where
       (subst (λ t. Carries has t c) f k) h)
   one_of (x ∷ xs) a b c d (inr i) (inr l) h k = one_of xs a b c d.1 i l h k
 
-module _ {S M N K : Type 0} (sim : Simulation S M N) (has : K → ℕ → Bool) (ends : ℕ → ℕ) where
-  -- copies that are given a message stay apart
-  pub disjoint_given : (m : M) (k : K) (xs ys : List (Copy S M N K)) → AllZip (IsGiven sim has ends m k) xs ys →
-      Disjoint has xs → Disjoint has ys
-  disjoint_given m k [] [] h d = tt
-  disjoint_given m k [] (v ∷ ys) h d = absurd h
-  disjoint_given m k (u ∷ xs) [] h d = absurd h
-  disjoint_given m k (u ∷ xs)
-      (v ∷ ys) h d = (
-        apart ys (λ b i. zip_from (IsGiven sim has ends m k) xs ys b h.1 i),
-        disjoint_given m k xs ys h.1 d.1,
-      )
+  -- copies that match disjoint ones, and carry a clone only where these carry its origin, are disjoint
+  pub disjoint_zip : (R : Copy S M N K → Copy S M N K → Type 0) (origin : ℕ → ℕ) →
+      ((a b : Copy S M N K) (c : ℕ) → R a b → Carries has b c → Carries has a (origin c)) →
+      (xs ys : List (Copy S M N K)) → AllZip R xs ys → Disjoint has xs → Disjoint has ys
+  disjoint_zip R origin back [] [] h d = tt
+  disjoint_zip R origin back [] (v ∷ ys) h d = absurd h
+  disjoint_zip R origin back (u ∷ xs) [] h d = absurd h
+  disjoint_zip R origin back (u ∷ xs) (v ∷ ys) h d = (
+    apart ys (λ b i. zip_from R xs ys b h.1 i),
+    disjoint_zip R origin back xs ys h.1 d.1,
+  )
     where
+      -- the first copy carries no clone that one of the others carries
       apart : (zs : List (Copy S M N K)) →
-          ((b : Copy S M N K) → In b zs → (x : Copy S M N K) × In x xs × IsGiven sim has ends m k x b) →
+          ((b : Copy S M N K) → In b zs → (x : Copy S M N K) × In x xs × R x b) →
           AllByRecursion (λ b. (c : ℕ) → Carries has v c → Carries has b c → ⊥) zs
       apart [] f = tt
       apart (b ∷ zs) f = (
         (λ c i l. let x = f b (inl refl) in
-            all_in (λ b. (c : ℕ) → Carries has u c → Carries has b c → ⊥) xs x.0 d.0 x.1 c
-            (subst (λ t. has t c ≡ true) h.0.set i) (subst (λ t. has t c ≡ true) x.2.set l)),
+            all_in (λ b. (c : ℕ) → Carries has u c → Carries has b c → ⊥) xs x.0 d.0 x.1 (origin c)
+            (back u v c h.0 i) (back x.0 b c x.2 l)),
         apart zs (λ b i. f b (inr i)),
       )
+
+module _ {S M N K : Type 0} (sim : Simulation S M N) (has : K → ℕ → Bool) (ends : ℕ → ℕ) where
+  -- copies that are given a message stay apart
+  pub disjoint_given : (m : M) (k : K) (xs ys : List (Copy S M N K)) → AllZip (IsGiven sim has ends m k) xs ys →
+      Disjoint has xs → Disjoint has ys
+  disjoint_given m k xs ys = disjoint_zip has (IsGiven sim has ends m k) (λ c. c)
+      (λ a b c g i. subst (λ t. has t c ≡ true) g.set i) xs ys
+
+  -- ---- SoFarGiven, message by message
 
   -- one message more
   pub given_more : IsOrder sim.order → (msgs : List (M × K)) (new done next : List (Copy S M N K)) (m : M) (k : K) →
@@ -156,6 +174,8 @@ module _ {S M N K : Type 0} (sim : Simulation S M N) (has : K → ℕ → Bool) 
     disjoint = disjoint_given m k done next zip h.disjoint;
     sorted = λ a i. (zip_from (IsGiven sim has ends m k) done next a zip i).2.sorted;
   }
+
+-- ---- IsDelivered
 
 -- where the messages are, for each clone, those that the stations sent to s, all is delivered
 pub delivered : {S M N K : Type 0} (sim : Simulation S M N) (has : K → ℕ → Bool) (cs : List Clone) (s : ℕ)

@@ -8,7 +8,8 @@ use Rattle.run_laws.specs.Queue.{insert, In}
 use Rattle.run_laws.specs.Simulation.{Simulation}
 use Rattle.run_laws.specs.Runs.{end_of, all_due, due_at}
 use Rattle.run_laws.specs.Fronts.{earlier, least_time, least_of, least, window_end, next_front}
-use Rattle.run_laws.specs.Handlers.{IsStation, AreForStations, HandlesLawfully, SendsToStations}
+use Rattle.run_laws.specs.Handlers.{IsStation, AreForStations, HandlesLawfully, SendsToStations, IsStationOf}
+use Rattle.run_laws.specs.Handlers.{AllAreForStations}
 use Rattle.run_laws.specs.Copies.{Copy, Stands}
 use Rattle.run_laws.specs.FrontLaws.{time_before, IsLeastTime, least_to, IsTaken}
 use Rattle.run_laws.proofs.Lists.{in_own, own_from, in_append, append_old}
@@ -27,12 +28,14 @@ module _ {S M N : Type 0} (sim : Simulation S M N) where
   DueTo c front zero m = ⊥
   DueTo c front (suc n) m = DueTo c front n m ⊎ In m (due_at sim c (suc n) front)
 
+  -- the least time of the stations 1 to n is that of what is due at one of them
   least_to-is : (c : Clone) (front n : ℕ) → IsLeastTime sim.time (DueTo c front n) (least_to sim c front n)
   least_to-is c front zero = λ m i. i
   least_to-is c front (suc n) = least-either sim.time (DueTo c front n) (λ m. In m (due_at sim c (suc n) front))
       (least_to sim c front n) (least_time sim.time (due_at sim c (suc n) front)) (least_to-is c front n)
       (least_time-is sim.time (due_at sim c (suc n) front))
 
+  -- what is due at one of them is due in the clone
   is_due : (c : Clone) (front n : ℕ) (m : M) → DueTo c front n m → In m (all_due sim c front)
   is_due c front zero m h = absurd h
   is_due c front (suc n) m h = elim h [
@@ -40,11 +43,14 @@ module _ {S M N : Type 0} (sim : Simulation S M N) where
     | inr i ↦ (in_own sim.to (suc n) (all_due sim c front) m i).0
   ]
 
-  due_there : (c : Clone) (front n s : ℕ) (m : M) → 0 < s → s ≤ n → In m (due_at sim c s front) → DueTo c front n m
-  due_there c front zero s m l h i = absurd (omega (arith, l, h))
-  due_there c front (suc n) s m l h i = elim (cases_eq s (suc n)) [
+  -- and what is due at each of them is so
+  due_there : (c : Clone) (front n s : ℕ) (m : M) → IsStationOf n s → In m (due_at sim c s front) → DueTo c front n m
+  due_there c front zero s m here i = let low : 0 < s = here.0 in let high : s ≤ 0 = here.1 in
+      absurd (omega (arith, low, high))
+  due_there c front (suc n) s m here i = elim (cases_eq s (suc n)) [
     | inl e ↦ inr (subst (λ r. In m (due_at sim c r front)) e i)
-    | inr ne ↦ inl (due_there c front n s m l (let k : s ≤ n = omega (arith, ne, h) in k) i)
+    | inr ne ↦ inl (due_there c front n s m
+        (here.0, let high : s ≤ suc n = here.1 in let k : s ≤ n = omega (arith, ne, high) in k) i)
   ]
 
   -- of a fork
@@ -65,6 +71,7 @@ module _ {S M N : Type 0} {sim : Simulation S M N} {Good : ℕ → S → Type 0}
       ∙ by m (all_due sim c front) (nat_lt (sim.time m) (end_of sim c))
       ∙ ap (λ u. cond (nat_lt u (end_of sim c)) (earlier (Some u) (least_of sim c front)) (least_of sim c front)) e
     where
+      -- by whether the decision comes before the end
       by : (m : M) (q : List M) (b : Bool) →
           least_time sim.time (cond b (insert sim.order m q) q)
           ≡ cond b (earlier (Some (sim.time m)) (least_time sim.time q)) (least_time sim.time q)
@@ -85,7 +92,7 @@ module _ {S M N : Type 0} {sim : Simulation S M N} {Good : ℕ → S → Type 0}
   least_of-stations c front there = least-unique sim.time (λ m. In m (all_due sim c front))
       (DueTo sim c front sim.stations) (least_of sim c front) (least_to sim c front sim.stations)
       (λ m i. let h = due_is_for_stations law stations c front m there i in
-      due_there sim c front sim.stations (sim.to m) m h.0 h.1
+      due_there sim c front sim.stations (sim.to m) m h
       (own_from sim.to (sim.to m) (all_due sim c front) m i refl))
       (is_due sim c front sim.stations)
       (least_time-is sim.time (all_due sim c front)) (least_to-is sim c front sim.stations)
@@ -94,7 +101,7 @@ module _ {S M N : Type 0} {sim : Simulation S M N} {Good : ℕ → S → Type 0}
 
 module _ {S M N : Type 0} (sim : Simulation S M N) (front : ℕ) where
   -- due in one of the clones
-  abbrev pub DueIn : List Clone → M → Type 0
+  abbrev DueIn : List Clone → M → Type 0
   DueIn cs m = (c : Clone) × In c cs × In m (all_due sim c front)
 
   -- the least due time of some clones is the least of what is due in one of them
@@ -104,20 +111,23 @@ module _ {S M N : Type 0} (sim : Simulation S M N) (front : ℕ) where
       (least-either sim.time (λ m. In m (all_due sim c front)) (DueIn cs) (least_of sim c front) (least sim cs front)
       (least_time-is sim.time (all_due sim c front)) (least-is cs))
     where
+      -- what is due in the first clone, or in one of the others, is due in one of all
       to : (m : M) → In m (all_due sim c front) ⊎ DueIn cs m → DueIn (c ∷ cs) m
       to m (inl i) = (c, inl refl, i)
       to m (inr h) = (h.0, inr h.1, h.2)
 
+      -- and the other way round
       from : (m : M) → DueIn (c ∷ cs) m → In m (all_due sim c front) ⊎ DueIn cs m
       from m h = elim h.1 [ inl e ↦ inl (subst (λ k. In m (all_due sim k front)) e h.2) | inr i ↦ inr (h.0, i, h.2) ]
 
+      -- so the least time is the same
       least-of_same : (t : Option ℕ) → IsLeastTime sim.time (λ m. In m (all_due sim c front) ⊎ DueIn cs m) t →
           IsLeastTime sim.time (DueIn (c ∷ cs)) t
       least-of_same None a = λ m h. a m (from m h)
       least-of_same (Some t) a = ((a.0.0, to a.0.0 a.0.1, a.0.2), λ m h. a.1 m (from m h))
 
   -- with a fork
-  pub least-forked : (cs : List Clone) (old : ℕ) (name : List ℕ) → old < length cs → (clone_at cs old).end ≡ None →
+  least-forked : (cs : List Clone) (old : ℕ) (name : List ℕ) → old < length cs → (clone_at cs old).end ≡ None →
       least sim (clones_with_fork cs name old) front ≡ least sim cs front
   least-forked cs old name there no_end =
       let k : Clone = fork_of (clone_at cs old) name in
@@ -141,12 +151,14 @@ module _ {S M N : Type 0} (sim : Simulation S M N) (front : ℕ) where
       next_front sim (clones_with_fork cs name old) front ≡ next_front sim cs front
   next_front-forked cs old name there no_end = ap (window_end sim) (least-forked cs old name there no_end)
 
--- by the copies of all stations
+-- ---- least, by the copies of all stations
+
 module _ {S M N K : Type 0} {sim : Simulation S M N} {Good : ℕ → S → Type 0} (law : HandlesLawfully sim Good)
     (to_stations : SendsToStations sim Good) (has : K → ℕ → Bool) (cs : List Clone) (front : ℕ)
     (copies : ℕ → List (Copy S M N K))
-    (there : (c : ℕ) → c < length cs → AreForStations sim (clone_at cs c).plans)
+    (there : AllAreForStations sim cs)
     (stand : (s : ℕ) → IsStation sim s → Stands sim has cs front s (copies s)) where
+  -- what a clone takes of a copy is due in the clone
   due_if_taken : (m : M) → IsTaken K sim has cs copies m → DueIn sim front cs m
   due_if_taken m x =
       let st = stand x.station x.is_station in
@@ -158,6 +170,7 @@ module _ {S M N K : Type 0} {sim : Simulation S M N} {Good : ℕ → S → Type 
         (in_own sim.to x.station (all_due sim (clone_at cs x.clone) front) m d).0,
       )
 
+  -- and what is due in a clone, it takes of its copy
   taken_if_due : (m : M) → DueIn sim front cs m → IsTaken K sim has cs copies m
   taken_if_due m h =
       let p = place_in cs h.0 h.1 in

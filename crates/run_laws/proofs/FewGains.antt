@@ -5,10 +5,11 @@ use Rattle.std.proofs.Common.{refl, sym, ap, ◌∙◌, subst, arith, length, ma
 use Rattle.std.specs.Prelude.{sum_by}
 use Rattle.std.specs.List.{flat_map}
 use Rattle.std.specs.Set.{distinct_count}
-use Rattle.std.proofs.Math.Nat.{add-mul, suc-mul}
+use Rattle.std.proofs.Math.Nat.{add-mul}
 use Rattle.std.proofs.lemmas.List.{length-map}
-use Rattle.std.proofs.lemmas.List.Sums.{sum_by-cons}
+use Rattle.std.proofs.lemmas.List.Sums.{sum_by-cons, sum_by-le}
 use Rattle.std.proofs.lemmas.Map.Made.{distinct_count-le}
+use Rattle.std.proofs.lemmas.List.Elements.{All-from_recursion}
 use Rattle.sim_base.specs.Clones.{Clone}
 use Rattle.sim_base.specs.declared.entry.Entry.{Entry}
 use Rattle.sim_base.specs.Marked.{SortedMarked}
@@ -19,7 +20,8 @@ use Rattle.run_laws.specs.Window.{part_step}
 use Rattle.run_laws.specs.Handlers.{HandlesLawfully}
 use Rattle.run_laws.specs.Runs.{log_at}
 use Rattle.run_laws.specs.Sharing.{prefixes, same_list, logs_at}
-use Rattle.run_laws.specs.CountLaws.{NoneIsBeyond, AreFew}
+use Rattle.run_laws.specs.StepLaws.{AreReady}
+use Rattle.run_laws.specs.CountLaws.{AreSized, NoneIsBeyond, AreFew}
 use Rattle.run_laws.specs.Prefixes.{IsCount, IsGained}
 use Rattle.run_laws.specs.Copies.{Copy, Carries, handle_until, takes, messages_taken, view, IsCutLog, GainTogether}
 use Rattle.run_laws.proofs.Running.{all_from_zero, run_is}
@@ -29,6 +31,7 @@ use Rattle.run_laws.proofs.Places.{place_in}
 use Rattle.run_laws.proofs.Counts.{in_map, map_has, logs_have_prefix, few_prefixes, none_cut}
 use Rattle.run_laws.proofs.ComesTo.{until_lawful}
 use Rattle.run_laws.proofs.Gaining.{begins_somehow}
+use Rattle.run_laws.proofs.Queue.{all_from}
 
 -- ---- gains
 
@@ -81,14 +84,13 @@ module _ {S M N K : Type 0} {sim : Simulation S M N} {Good : ℕ → S → Type 
 
   -- several together
   pub few_gains_together : (size : K → ℕ) (old : List (Copy S M N K)) (n : ℕ) →
-      ((a : Copy S M N K) → In a old → Good s a.state × SortedMarked sim.order a.pending
-      × IsCount (λ c. Carries has a c) (size a.set)) →
+      AreReady K sim Good s old → AreSized has size old →
       GainTogether sim has ends s bound old n → n ≤ sum_by (λ a. size a.set) old * sim.limit
-  few_gains_together size [] n f e = omega (arith, e)
-  few_gains_together size (a ∷ old) n f h =
-      let x = f a (inl refl) in
-      let one = few_gains a [] x.0 x.1 h.0 (size a.set) x.2 h.2 in
-      let rest = few_gains_together size old h.1 (λ b i. f b (inr i)) h.3 in
+  few_gains_together size [] n ready sized e = omega (arith, e)
+  few_gains_together size (a ∷ old) n ready sized h =
+      let x = ready a (inl refl) in
+      let one = few_gains a [] x.0 x.1 h.0 (size a.set) (sized a (inl refl)) h.2 in
+      let rest = few_gains_together size old h.1 (λ b i. ready b (inr i)) (λ b i. sized b (inr i)) h.3 in
       let e = h.4 in
       let c : sum_by (λ (b : Copy S M N K). size b.set) (a ∷ old) * sim.limit
       ≡ (size a.set + sum_by (λ (b : Copy S M N K). size b.set) old) * sim.limit =
@@ -97,17 +99,6 @@ module _ {S M N K : Type 0} {sim : Simulation S M N} {Good : ℕ → S → Type 
       omega (arith, one, rest, e, c, d)
 
 -- ---- counts
-
--- short lists have so many elements together
-short_sum : {E : Type 0} (n : ℕ) (logs : List (List E)) → ((l : List E) → In l logs → length l ≤ n) →
-    sum_by length logs ≤ length logs * n
-short_sum n [] f = omega arith
-short_sum n (l ∷ logs) f =
-    let h = short_sum n logs (λ k i. f k (inr i)) in
-    let one : length l ≤ n = f l (inl refl) in
-    let a = sum_by-cons length l logs in
-    let m = suc-mul (length logs) n in
-    omega (arith, h, one, a, m)
 
 module _ {S M N : Type 0} (sim : Simulation S M N) where
   -- where no log is beyond the limit
@@ -125,7 +116,9 @@ module _ {S M N : Type 0} (sim : Simulation S M N) where
       let few : length (flat_map prefixes logs) ≤ length logs * sim.limit =
       subst (λ t. length (flat_map prefixes t) ≤ length logs * sim.limit) (none_cut sim.limit logs each)
       (few_prefixes sim.limit logs) in
-      let sum : sum_by length logs ≤ length logs * sim.limit = short_sum sim.limit logs each in
+      let sum : sum_by length logs ≤ length logs * sim.limit =
+      sum_by-le length sim.limit logs (All-from_recursion (λ l. length l ≤ sim.limit) logs
+      (all_from (λ l. length l ≤ sim.limit) logs each)) in
       let different : distinct_count (same_list same) logs ≤ length logs = distinct_count-le (same_list same) logs in
       let once : distinct_count (same_list same) (flat_map prefixes logs) ≤ length (flat_map prefixes logs) =
       distinct_count-le (same_list same) (flat_map prefixes logs) in

@@ -14,10 +14,12 @@ use Rattle.run_laws.proofs.Lists.{in_filter, in_append}
 use Rattle.run_laws.proofs.Running.{fine_keeps}
 use Rattle.run_laws.proofs.Worlds.{in_openings, in_set_messages, world_lawful, begins_fine, run_reached, entry_of}
 
+-- ---- IsStation
+
 module _ {S M N : Type 0} {sim : Simulation S M N} {Good : ℕ → S → Type 0} (law : HandlesLawfully sim Good)
     (stations : SendsToStations sim Good) where
   -- what a world begins with is for stations
-  pub begins_for_stations : (plans : List Planned) → AreForStations sim plans → (z : M)
+  begins_for_stations : (plans : List Planned) → AreForStations sim plans → (z : M)
       → In z (begin sim plans).pending →
       IsStation sim (sim.to z)
   begins_for_stations plans there z i =

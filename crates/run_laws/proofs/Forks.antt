@@ -4,6 +4,8 @@ use Rattle.sim_base.specs.Clones.{Clone, fork_of}
 use Rattle.run_laws.specs.Simulation.{Simulation}
 use Rattle.run_laws.specs.Runs.{end_of, log_at, all_due}
 
+-- ---- fork_of
+
 module _ {S M N : Type 0} (sim : Simulation S M N) (c : Clone) (name : List ℕ) (no_end : c.end ≡ None) where
   -- the clone with the new name
   abbrev fork : Clone

@@ -7,17 +7,18 @@ use Rattle.std.proofs.lemmas.Bool.{cases_lt, lt-ltb, le-ltb}
 use Rattle.sim_base.specs.Clones.{Clone}
 use Rattle.sim_base.specs.declared.decision.Planned.{Planned}
 use Rattle.sim_base.specs.declared.entry.Entry.{Entry}
-use Rattle.sim_base.proofs.ListLaws.{all_push}
+use Rattle.sim_base.proofs.ListLaws.{all_push, all_weaker}
 use Rattle.run_laws.specs.Simulation.{Simulation}
 use Rattle.run_laws.specs.World.{log_of}
 use Rattle.run_laws.specs.Runs.{run, end_of, run_of, log_at}
 use Rattle.run_laws.specs.Handlers.{HandlesLawfully}
 use Rattle.run_laws.specs.Laws.{before}
-use Rattle.sim_base.proofs.Placing.{all_weaker}
 use Rattle.run_laws.proofs.Lists.{filter_all, filter_swap}
 use Rattle.run_laws.proofs.Machine.{reach_keeps}
 use Rattle.run_laws.proofs.Running.{fine_keeps}
 use Rattle.run_laws.proofs.Worlds.{world_lawful, run_reached, run_goes_on, entry_of}
+
+-- ---- before
 
 module _ {S M N : Type 0} {sim : Simulation S M N} {Good : ℕ → S → Type 0} (law : HandlesLawfully sim Good) where
   -- what was handled before a bound comes before it
@@ -54,7 +55,7 @@ module _ {S M N : Type 0} {sim : Simulation S M N} {Good : ℕ → S → Type 0}
       (run_goes_on law plans front bound l)
 
   -- the same of a clone, which may have ended
-  pub clone_trace_at_front : (c : Clone) (front bound : ℕ) → front ≤ bound
+  clone_trace_at_front : (c : Clone) (front bound : ℕ) → front ≤ bound
       → before sim front (run_of sim c bound).at.trace ≡ (run_of sim c front).at.trace
   clone_trace_at_front c front bound l = elim (cases_lt front (end_of sim c)) [
     | inl a ↦

@@ -3,17 +3,16 @@
 use Rattle.std.proofs.Common.{◌≡◌, ◌↔◌, ℕ, ◌+◌, ◌-◌, ◌*◌, ◌≤◌, ◌<◌, min, List, []}
 use Rattle.std.proofs.Common.{◌∷◌, ◌++◌, ◌⊎◌, inl, inr, Bool, true, nat_lt, ◌==◌, refl, sym}
 use Rattle.std.proofs.Common.{ap, ◌∙◌, subst, arith, length, length-append, map, take, drop, append_assoc, append-nil}
-use Rattle.std.specs.Bool.{Decides}
 use Rattle.std.specs.List.{AllByRecursion, flat_map}
 use Rattle.std.specs.Set.{distinct_count}
-use Rattle.std.proofs.lemmas.Bool.{lt-ltb, ltb-true}
-use Rattle.std.proofs.lemmas.List.{take-append-drop, length-map}
+use Rattle.std.proofs.lemmas.Bool.{lt-ltb}
+use Rattle.std.proofs.lemmas.List.{take-append-drop, length-map, append_cancel_left}
 use Rattle.std.proofs.lemmas.List.Elements.{filter-append}
 use Rattle.std.proofs.lemmas.Map.Made.{distinct_count-le}
 use Rattle.sim_base.specs.Clones.{Clone, clone_at}
 use Rattle.sim_base.specs.declared.entry.Entry.{Entry}
 use Rattle.run_laws.specs.Queue.{In}
-use Rattle.run_laws.specs.Machine.{Config, Reach}
+use Rattle.run_laws.specs.Machine.{Config, Reach, IsSettled}
 use Rattle.run_laws.specs.Simulation.{Simulation}
 use Rattle.run_laws.specs.World.{World, log_of, world_step}
 use Rattle.run_laws.specs.Window.{Part, local}
@@ -22,9 +21,10 @@ use Rattle.run_laws.specs.Fronts.{next_front}
 use Rattle.run_laws.specs.Sharing.{prefixes, same_list, logs_at, copies, handled_once, handled_to_limit, IsBeyond}
 use Rattle.run_laws.specs.Handlers.{HandlesLawfully}
 use Rattle.run_laws.specs.Laws.{before}
+use Rattle.run_laws.specs.CountLaws.{TellsEntries, NoneIsBeyond}
 use Rattle.run_laws.specs.Prefixes.{Apart, IsCount, IsGained}
 use Rattle.sim_base.specs.Marked.{JoinsMarks, SortedMarked}
-use Rattle.run_laws.specs.Copies.{Copy, Carries, Disjoint, takes, messages_taken, view, IsNarrowed, Turns, IsSettled}
+use Rattle.run_laws.specs.Copies.{Copy, Carries, Disjoint, takes, messages_taken, view, IsNarrowed, Turns}
 use Rattle.run_laws.specs.Copies.{IsCutLog, Gains, GainedBy, GainTogether, alone_from, AreOver, ends_of, Stands}
 use Rattle.run_laws.proofs.Queue.{all_in, all_from}
 use Rattle.run_laws.proofs.Lists.{in_filter, in_own, append_old, filter_all}
@@ -33,16 +33,19 @@ use Rattle.run_laws.proofs.Running.{fine_keeps}
 use Rattle.run_laws.proofs.Worlds.{run_reached, run_goes_on, entry_of}
 use Rattle.run_laws.proofs.Fronts.{trace_below, before-late, log_at_front}
 use Rattle.run_laws.proofs.CloneWindows.{windows_give_run}
+use Rattle.run_laws.proofs.NextFronts.{all_due-from_front}
 use Rattle.run_laws.proofs.Parts.{sorted_part}
-use Rattle.run_laws.proofs.CopyViews.{append_cancel, new_entry}
-use Rattle.run_laws.proofs.Prefixes.{count_same, count_both, count_unique, gained_same, too_long}
-use Rattle.run_laws.proofs.ComesTo.{until_lawful, comes_to_end, cut_of_some}
+use Rattle.run_laws.proofs.CopyViews.{new_entry}
+use Rattle.run_laws.proofs.Prefixes.{count_same, count_both, count_unique, gained_same, longer_than_itself}
+use Rattle.run_laws.proofs.ComesTo.{until_lawful, turns-settle, cut_of_some}
 use Rattle.run_laws.proofs.Steps.{ends_alone}
 use Rattle.run_laws.proofs.Stands.{clone_in}
 use Rattle.run_laws.proofs.Places.{place_in}
 use Rattle.run_laws.proofs.Limits.{cut_goes_on}
 use Rattle.run_laws.proofs.Counts.{distinct_is_count, same_list-Decides, in_map, map_has}
 use Rattle.run_laws.proofs.Counts.{prefixes_count, few_prefixes, none_cut}
+
+-- ---- ++
 
 -- where two lists together are empty, the first is
 nothing_first : {X : Type 0} (xs ys : List X) → xs ++ ys ≡ [] → xs ≡ []
@@ -69,21 +72,23 @@ one_goes_on (x ∷ xs) h (y ∷ p) rest e =
       | inr r ↦ let u = r.2 in inr (r.0, r.1, cc)
     ]
 
+-- ---- log_at, due_at
+
 module _ {S M N : Type 0} {sim : Simulation S M N} {Good : ℕ → S → Type 0} (law : HandlesLawfully sim Good) where
   -- a trace only grows
-  trace_grows : {bound : ℕ} (c d : Config (World S M N) M) →
+  trace-grows : {bound : ℕ} (c d : Config (World S M N) M) →
       Reach sim.order sim.time (world_step sim.to sim.handle) bound c d →
       (l : List (Entry M N)) × (d.at.trace ≡ c.at.trace ++ l)
-  trace_grows c d r = reach_keeps (λ d. (l : List (Entry M N)) × (d.at.trace ≡ c.at.trace ++ l))
+  trace-grows c d r = reach_keeps (λ d. (l : List (Entry M N)) × (d.at.trace ≡ c.at.trace ++ l))
       ([], sym (append-nil c.at.trace))
       (λ x m q early h. let e : Entry M N = entry_of sim (sim.to m) (x.states (sim.to m)) m in
       (h.0 ++ e ∷ [], ap (λ l. l ++ e ∷ []) h.1 ∙ append_assoc c.at.trace h.0 (e ∷ [])))
       r
 
   -- all that a station handled before a front comes before it
-  pub log_below : (c : Clone) (s front : ℕ) →
+  log_at-below : (c : Clone) (s front : ℕ) →
       AllByRecursion (λ e. nat_lt (sim.time e.msg) front ≡ true) (log_at sim c s front)
-  log_below c s front = all_from (λ e. nat_lt (sim.time e.msg) front ≡ true) (log_at sim c s front) (λ e i.
+  log_at-below c s front = all_from (λ e. nat_lt (sim.time e.msg) front ≡ true) (log_at sim c s front) (λ e i.
       let t : sim.time e.msg < min front (end_of sim c) =
       all_in (λ e. sim.time e.msg < min front (end_of sim c)) (run_of sim c front).at.trace e
       (trace_below law c.plans (min front (end_of sim c)))
@@ -91,11 +96,11 @@ module _ {S M N : Type 0} {sim : Simulation S M N} {Good : ℕ → S → Type 0}
       lt-ltb (sim.time e.msg) front (omega arith))
 
   -- a log at a front goes on to a later one
-  pub log_goes_on : (c : Clone) (s front bound : ℕ) → front ≤ bound →
+  log_at-goes_on : (c : Clone) (s front bound : ℕ) → front ≤ bound →
       (l : List (Entry M N)) × (log_at sim c s bound ≡ log_at sim c s front ++ l)
-  log_goes_on c s front bound l =
+  log_at-goes_on c s front bound l =
       let later : min front (end_of sim c) ≤ min bound (end_of sim c) = omega arith in
-      let h = trace_grows (run_of sim c front) (run_of sim c bound)
+      let h = trace-grows (run_of sim c front) (run_of sim c bound)
       (run_goes_on law c.plans (min front (end_of sim c)) (min bound (end_of sim c)) later) in (
         log_of sim.to s h.0,
         ap (log_of sim.to s) h.1 ∙ filter-append (λ e. sim.to e.msg == s)
@@ -106,25 +111,22 @@ module _ {S M N : Type 0} {sim : Simulation S M N} {Good : ℕ → S → Type 0}
   pub shorter_before : (c : Clone) (s front bound n : ℕ) → front ≤ bound → length (log_at sim c s bound) ≤ n →
       length (log_at sim c s front) ≤ n
   shorter_before c s front bound n l short =
-      let h = log_goes_on c s front bound l in
+      let h = log_at-goes_on c s front bound l in
       let e = ap length h.1 in
       let k = length-append (log_at sim c s front) h.0 in
       omega (arith, e, k)
 
   -- what is due at a front does not come before it
-  pub due_from_front : (c : Clone) (s front : ℕ) → AllByRecursion (λ m. front ≤ sim.time m) (due_at sim c s front)
-  due_from_front c s front = all_from (λ m. front ≤ sim.time m) (due_at sim c s front) (λ z i.
-      let h = in_own sim.to s (all_due sim c front) z i in
-      let k = in_filter (λ m. nat_lt (sim.time m) (end_of sim c)) (run_of sim c front).pending z h.0 in
-      let e : sim.time z < end_of sim c = ltb-true (sim.time z) (end_of sim c) k.1 in
-      let l : min front (end_of sim c) ≤ sim.time z =
-      all_in (λ m. min front (end_of sim c) ≤ sim.time m) (run_of sim c front).pending z
-      (run_reached law c.plans (min front (end_of sim c))).1.from_t k.0 in
-      omega arith)
+  due_at-from_front : (c : Clone) (s front : ℕ) → AllByRecursion (λ m. front ≤ sim.time m) (due_at sim c s front)
+  due_at-from_front c s front = all_from (λ m. front ≤ sim.time m) (due_at sim c s front) (λ z i.
+      all_in (λ m. front ≤ sim.time m) (all_due sim c front) z (all_due-from_front law c front)
+      (in_own sim.to s (all_due sim c front) z i).0)
+
+-- ---- Gains, GainedBy, GainTogether
 
 module _ {S M N K : Type 0} {sim : Simulation S M N} {Good : ℕ → S → Type 0} (law : HandlesLawfully sim Good)
     {has : K → ℕ → Bool} {join : K → K → K} (j : JoinsMarks has join) (ends : ℕ → ℕ) (s front bound : ℕ) where
-  -- a copy stands at the front for one of its clones
+  -- a copy is at the front, for one of its clones
   pub record AtFront (a : Copy S M N K) (c : ℕ) : Type 0 where
     pub good : Good s a.state
     pub sorted : SortedMarked sim.order a.pending
@@ -132,7 +134,7 @@ module _ {S M N K : Type 0} {sim : Simulation S M N} {Good : ℕ → S → Type 
     pub from_front : AllByRecursion (λ m. front ≤ sim.time m) (messages_taken sim has ends c a.pending)
 
   -- what a copy had before the front shows in what it gained
-  pub gained_before : (a : Copy S M N K) (p : List (Entry M N)) → ((c : ℕ) → Carries has a c → AtFront a c) →
+  gained_before : (a : Copy S M N K) (p : List (Entry M N)) → ((c : ℕ) → Carries has a c → AtFront a c) →
       Gains sim has ends s bound a p → before sim front p ≡ a.log
   gained_before a p at g =
       let cut = g.is_log in
@@ -161,7 +163,7 @@ module _ {S M N K : Type 0} {sim : Simulation S M N} {Good : ℕ → S → Type 
       ∙ sym (filter-append (λ e. nat_lt (sim.time e.msg) front) p rest) ∙ sym (ap (before sim front) whole) ∙ kept
       ∙ sym (append-nil a.log) in
       let none : own ≡ [] = nothing_first own (before sim front rest)
-      (append_cancel a.log (own ++ before sim front rest) [] both) in
+      (append_cancel_left a.log (own ++ before sim front rest) [] both) in
       is ∙ ap (λ l. a.log ++ l) none ∙ append-nil a.log
 
   -- no copies gain nothing
@@ -206,12 +208,14 @@ module _ {S M N K : Type 0} {sim : Simulation S M N} {Good : ℕ → S → Type 
 module _ {S M N K : Type 0} {sim : Simulation S M N} {Good : ℕ → S → Type 0} (law : HandlesLawfully sim Good)
     {has : K → ℕ → Bool} {join : K → K → K} (j : JoinsMarks has join) (cs : List Clone) (s front bound : ℕ)
     (old : List (Copy S M N K)) (st : Stands sim has cs front s old) where
+  -- ---- Stands
+
   -- a copy's state is good
   pub good_state : (a : Copy S M N K) (c : ℕ) → In a old → Carries has a c → Good s a.state
   good_state a c i h = subst (Good s) (sym (st.state a c i h))
       ((run_reached law (clone_at cs c).plans (min front (end_of sim (clone_at cs c)))).1.good s)
 
-  -- copies that stand for clones stand at the front
+  -- copies that stand for clones are at the front
   pub at_front : (a : Copy S M N K) (c : ℕ) → In a old → Carries has a c →
       AtFront law j (ends_of sim cs) s front bound a c
   at_front a c i h = record {
@@ -220,11 +224,11 @@ module _ {S M N K : Type 0} {sim : Simulation S M N} {Good : ℕ → S → Type 
     log_before = ap (before sim front) (st.log a c i h) ∙ log_at_front law (clone_at cs c) s front front (omega arith)
         ∙ sym (st.log a c i h);
     from_front = subst (AllByRecursion (λ m. front ≤ sim.time m)) (sym (st.due a c i h))
-        (due_from_front law (clone_at cs c) s front);
+        (due_at-from_front law (clone_at cs c) s front);
   }
 
   -- copies with one log are one copy
-  pub one_copy : (a b : Copy S M N K) (c d : ℕ) → In a old → In b old → Carries has a c → Carries has b d →
+  one_copy : (a b : Copy S M N K) (c d : ℕ) → In a old → In b old → Carries has a c → Carries has b d →
       a.log ≡ b.log → a ≡ b
   one_copy a b c d i l h k e = st.shared a b c d i l h k (sym (st.log a c i h) ∙ e ∙ st.log b d l k)
 
@@ -243,7 +247,7 @@ module _ {S M N K : Type 0} {sim : Simulation S M N} {Good : ℕ → S → Type 
 
   module _ (later : front ≤ bound) (within : bound ≤ next_front sim cs front) where
     -- a copy's window for a clone gives the clone's log at the bound
-    pub alone_log : (a : Copy S M N K) (c : ℕ) → In a old → Carries has a c →
+    alone_log : (a : Copy S M N K) (c : ℕ) → In a old → Carries has a c →
         (alone_from sim has (ends_of sim cs) s bound a c).at.log ≡ log_at sim (clone_at cs c) s bound
     alone_log a c i h =
         let k : Clone = clone_at cs c in
@@ -260,7 +264,7 @@ module _ {S M N K : Type 0} {sim : Simulation S M N} {Good : ℕ → S → Type 
     -- and so do the clone's turns
     pub last_log : (a : Copy S M N K) (c : ℕ) (d : Config (Part S M N) M) → In a old → Carries has a c →
         Turns sim has (ends_of sim cs) s bound c (view sim has (ends_of sim cs) c a []) d →
-        IsSettled sim has (ends_of sim cs) s bound d → d.at.log ≡ log_at sim (clone_at cs c) s bound
+        IsSettled sim.time bound d → d.at.log ≡ log_at sim (clone_at cs c) s bound
     last_log a c d i h ran done = (ends_alone law j (ends_of sim cs) s bound a c d (good_state a c i h)
         (st.sorted a i) ran done).log
         ∙ alone_log a c i h
@@ -276,6 +280,8 @@ module _ {S M N K : Type 0} {sim : Simulation S M N} {Good : ℕ → S → Type 
       (λ b. let x = st.carried c b.0 in
           h.all x.0 c x.1 x.2 (subst (λ l. sim.limit < length l) (sym (alone_log x.0 c x.1 x.2)) b.1)),
     )
+
+    -- ---- handled_to_limit, handled_once
 
     -- the logs at the bound, each cut to the limit
     abbrev cut_logs : List (List (Entry M N))
@@ -295,8 +301,7 @@ module _ {S M N K : Type 0} {sim : Simulation S M N} {Good : ℕ → S → Type 
 
     -- handled once at the bound, of no log more than the limit: what was at the front, and what the copies gained
     pub handled_grows_to_limit : (same : Entry M N → Entry M N → Bool) (total : ℕ) →
-        ((x y : Entry M N) → Decides (same x y) (x ≡ y)) →
-        ((c : ℕ) → c < length cs → length (log_at sim (clone_at cs c) s front) ≤ sim.limit) →
+        TellsEntries same → NoneIsBeyond sim cs s front →
         GainTogether sim has (ends_of sim cs) s bound old total →
         handled_to_limit sim same cs s bound ≡ handled_once sim same cs s front + total
     handled_grows_to_limit same total decides short together =
@@ -308,9 +313,11 @@ module _ {S M N K : Type 0} {sim : Simulation S M N} {Good : ℕ → S → Type 
         (prefixes_count same decides (logs_at sim cs s front))
         (counted_together old total (λ a i. i) st.disjoint together)))
       where
+        -- a log is one of the logs
         log_there : (f c : ℕ) → c < length cs → In (log_at sim (clone_at cs c) s f) (logs_at sim cs s f)
         log_there f c l = map_has (λ k. log_at sim k s f) cs (clone_at cs c) (clone_in cs c l)
 
+        -- and a cut log one of the cut logs
         cut_there : (c : ℕ) → c < length cs → In (take sim.limit (log_at sim (clone_at cs c) s bound)) cut_logs
         cut_there c l = map_has (take sim.limit) (logs_at sim cs s bound) (log_at sim (clone_at cs c) s bound)
             (log_there bound c l)
@@ -323,6 +330,7 @@ module _ {S M N K : Type 0} {sim : Simulation S M N} {Good : ℕ → S → Type 
         cut_on c l h e = ap (take sim.limit) e ∙ cut_goes_on sim.limit (log_at sim (clone_at cs c) s front) h
             (short c l)
 
+        -- no prefix of a log at the front was gained
         apart : (p : List (Entry M N)) → Early p → New p → ⊥
         apart p g h =
             let k = in_map (λ k. log_at sim k s front) cs g.log g.is_log in
@@ -330,18 +338,19 @@ module _ {S M N K : Type 0} {sim : Simulation S M N} {Good : ℕ → S → Type 
             let early : before sim front p ≡ p =
             filter_all (λ e. nat_lt (sim.time e.msg) front) p
             (all_from (λ e. nat_lt (sim.time e.msg) front ≡ true) p (λ x i.
-            all_in (λ e. nat_lt (sim.time e.msg) front ≡ true) (log_at sim k.0 s front) x (log_below law k.0 s front)
+            all_in (λ e. nat_lt (sim.time e.msg) front ≡ true) (log_at sim k.0 s front) x (log_at-below law k.0 s front)
             (subst (In x) (sym is) (append_old p g.rest x i)))) in
             let e : before sim front p ≡ h.0.log =
             gained_before law j (ends_of sim cs) s front bound h.0 p (λ c i. at_front h.0 c h.1 i) h.2 in
-            too_long h.0.log h.2.first h.2.more (sym h.2.longer ∙ sym early ∙ e)
+            longer_than_itself h.0.log h.2.first h.2.more (sym h.2.longer ∙ sym early ∙ e)
 
+        -- a prefix at the front is one of the cut logs
         late_if_early : (p : List (Entry M N)) → Early p → Late p
         late_if_early p g =
             let k = in_map (λ k. log_at sim k s front) cs g.log g.is_log in
             let c = place_in cs k.0 k.1 in
             let is : g.log ≡ log_at sim (clone_at cs c.0) s front = k.2 ∙ ap (λ k. log_at sim k s front) (sym c.2) in
-            let h = log_goes_on law (clone_at cs c.0) s front bound later in
+            let h = log_at-goes_on law (clone_at cs c.0) s front bound later in
             let more : List (Entry M N) = take (sim.limit - length (log_at sim (clone_at cs c.0) s front)) h.0 in
             record {
               log = take sim.limit (log_at sim (clone_at cs c.0) s bound);
@@ -353,6 +362,7 @@ module _ {S M N K : Type 0} {sim : Simulation S M N} {Good : ℕ → S → Type 
               prefix = cut_on c.0 c.1 h.0 h.1 ∙ ap (λ l. l ++ more) (sym is ∙ g.prefix) ∙ append_assoc p g.rest more;
             }
 
+        -- and so is one that was gained
         late_if_new : (p : List (Entry M N)) → New p → Late p
         late_if_new p h =
             let g = h.2 in
@@ -369,6 +379,7 @@ module _ {S M N K : Type 0} {sim : Simulation S M N} {Good : ℕ → S → Type 
                   ∙ sym cut.is ∙ g.prefix;
             }
 
+        -- and there are no others
         late_is : (p : List (Entry M N)) → Late p → Early p ⊎ New p
         late_is p g =
             let w = in_map (take sim.limit) (logs_at sim cs s bound) g.log g.is_log in
@@ -377,7 +388,7 @@ module _ {S M N K : Type 0} {sim : Simulation S M N} {Good : ℕ → S → Type 
             let a = st.carried c.0 c.1 in
             let is : g.log ≡ take sim.limit (log_at sim (clone_at cs c.0) s bound) =
             w.2 ∙ ap (take sim.limit) (k.2 ∙ ap (λ k. log_at sim k s bound) (sym c.2)) in
-            let h = log_goes_on law (clone_at cs c.0) s front bound later in
+            let h = log_at-goes_on law (clone_at cs c.0) s front bound later in
             let more : List (Entry M N) = take (sim.limit - length (log_at sim (clone_at cs c.0) s front)) h.0 in
             let e : log_at sim (clone_at cs c.0) s front ++ more ≡ p ++ g.rest = sym (cut_on c.0 c.1 h.0 h.1) ∙ sym is
             ∙ g.prefix in
@@ -392,7 +403,7 @@ module _ {S M N K : Type 0} {sim : Simulation S M N} {Good : ℕ → S → Type 
                 prefix = r.1;
               })
               | inr r ↦
-                  let d = comes_to_end law j (ends_of sim cs) s bound a.0 [] c.0 (good_state a.0 c.0 a.1 a.2)
+                  let d = turns-settle law j (ends_of sim cs) s bound a.0 [] c.0 (good_state a.0 c.0 a.1 a.2)
                   (st.sorted a.0 a.1) in
                   let there = last_log a.0 c.0 d.0 a.1 a.2 d.1 d.2 in
                   inr (
@@ -420,8 +431,7 @@ module _ {S M N K : Type 0} {sim : Simulation S M N} {Good : ℕ → S → Type 
 
     -- where no log gets too long, nothing is cut
     pub handled_grows : (same : Entry M N → Entry M N → Bool) (total : ℕ) →
-        ((x y : Entry M N) → Decides (same x y) (x ≡ y)) →
-        ((c : ℕ) → c < length cs → length (log_at sim (clone_at cs c) s bound) ≤ sim.limit) →
+        TellsEntries same → NoneIsBeyond sim cs s bound →
         GainTogether sim has (ends_of sim cs) s bound old total →
         handled_once sim same cs s bound ≡ handled_once sim same cs s front + total
     handled_grows same total decides short together =
@@ -435,8 +445,7 @@ module _ {S M N K : Type 0} {sim : Simulation S M N} {Good : ℕ → S → Type 
 
     -- and at most so much is handled once: as much as logs cut to the limit have
     pub handled_is_few : (same : Entry M N → Entry M N → Bool) (total : ℕ) →
-        ((x y : Entry M N) → Decides (same x y) (x ≡ y)) →
-        ((c : ℕ) → c < length cs → length (log_at sim (clone_at cs c) s front) ≤ sim.limit) →
+        TellsEntries same → NoneIsBeyond sim cs s front →
         GainTogether sim has (ends_of sim cs) s bound old total →
         handled_once sim same cs s front + total ≤ length cs * sim.limit
     handled_is_few same total decides short together =
@@ -448,6 +457,8 @@ module _ {S M N K : Type 0} {sim : Simulation S M N} {Good : ℕ → S → Type 
         let n : length (logs_at sim cs s bound) * sim.limit ≡ length cs * sim.limit =
         ap (λ k. k * sim.limit) (length-map cs (λ c. log_at sim c s bound)) in
         omega (arith, e, d, f, n)
+
+-- ---- copies
 
 module _ {S M N K : Type 0} {sim : Simulation S M N} {Good : ℕ → S → Type 0} (law : HandlesLawfully sim Good)
     {has : K → ℕ → Bool} {join : K → K → K} (j : JoinsMarks has join) (cs : List Clone) (s front : ℕ)
@@ -469,7 +480,7 @@ module _ {S M N K : Type 0} {sim : Simulation S M N} {Good : ℕ → S → Type 
   )
 
   -- there are as many copies as different logs
-  pub copies_are_logs : (same : Entry M N → Entry M N → Bool) → ((x y : Entry M N) → Decides (same x y) (x ≡ y)) →
+  pub copies_are_logs : (same : Entry M N → Entry M N → Bool) → TellsEntries same →
       copies sim same cs s front ≡ length old
   copies_are_logs same decides =
       count_unique (λ l. In l (logs_at sim cs s front)) (copies sim same cs s front) (length old)

@@ -1,17 +1,19 @@
 -- The small simulation of the examples meets what the laws ask.
 use Rattle.std.proofs.Common.{◌≡◌, ℕ, ◌+◌, ◌-◌, ◌<◌, ◌≤◌, [], ◌∷◌, ◌⊎◌, nat_lt, inl, inr}
 use Rattle.std.proofs.Common.{Bool, true, false, cond, ◌==◌, Some, None, refl, sym, ap, ◌∙◌, arith}
-use Rattle.std.specs.declared.cmp.Ordering.{Ordering}
-use Rattle.std.specs.declared.cmp.Ordering.TheVariants.{Less, Equal, Greater}
+use Rattle.std.specs.declared.cmp.Ordering.TheVariants.{Equal}
 use Rattle.std.specs.List.{AllByRecursion}
-use Rattle.std.specs.Cmp.{ranks, nat_cmp_total}
-use Rattle.std.specs.Ordering.{MatchOrdering, nat_cmp, ordering_then}
+use Rattle.std.specs.Cmp.{nat_cmp_total}
+use Rattle.std.specs.Ordering.{nat_cmp, ordering_then}
 use Rattle.std.proofs.lemmas.Bool.{cases_eq, ne_eqb}
 use Rattle.std.proofs.lemmas.Cmp.{on_total, then_total}
 use Rattle.sim_base.proofs.OrderEqual.{nat_same, both_equal}
 use Rattle.run_laws.specs.Queue.{In}
 use Rattle.run_laws.specs.Handlers.{IsTimed, HandlesLawfully, SendsToStations}
+use Rattle.run_laws.proofs.Rising.{ordering_then-le}
 use Rattle.run_laws.specs.Examples.{Ball, ball, ball_cmp, bounces, game, AnyState}
+
+-- ---- Ball, ball_cmp
 
 -- a ball is its three numbers
 ball_parts : (a b c d e f : ℕ) → a ≡ d → b ≡ e → c ≡ f → ball a b c ≡ ball d e f
@@ -25,15 +27,6 @@ ball_same x y e =
     ball_parts x.time x.number x.to y.time y.number y.to (nat_same x.time y.time h.0) (nat_same x.number y.number k.0)
     (nat_same x.to y.to k.1)
 
--- what comes first by a number and then by others has not the greater number
-not_later : (x y : ℕ) (s : Ordering) → ordering_then (nat_cmp x y) s ≡ Less → x ≤ y
-not_later x y s e = by (nat_cmp x y) (ranks x y) e
-  where
-    by : (r : Ordering) → MatchOrdering r (x < y) (x ≡ y) (y < x) → ordering_then r s ≡ Less → x ≤ y
-    by Less h e = omega (arith, h)
-    by Equal h e = omega (arith, h)
-    by Greater h e = let n : ⊥ = cc in absurd n
-
 -- balls are ordered by time first
 ball_order : IsTimed ball_cmp (λ b. b.time)
 ball_order = record {
@@ -42,8 +35,10 @@ ball_order = record {
         (then_total (on_total (λ (b : Ball). b.number) nat_cmp_total) (on_total (λ (b : Ball). b.to) nat_cmp_total));
     same = ball_same;
   };
-  timed = λ x y e. not_later x.time y.time (ordering_then (nat_cmp x.number y.number) (nat_cmp x.to y.to)) e;
+  timed = λ x y e. ordering_then-le x.time y.time (ordering_then (nat_cmp x.number y.number) (nat_cmp x.to y.to)) e;
 }
+
+-- ---- bounces
 
 -- one of two balls, if any
 one_of_two : (x y z : Ball) (b c : Bool) → In z (cond b (x ∷ []) (cond c (y ∷ []) [])) → (z ≡ x) ⊎ (z ≡ y)
@@ -65,6 +60,8 @@ all_later : (t : ℕ) (x y : Ball) (b c : Bool) → t < x.time → t < y.time �
 all_later t x y true c h k = (h, tt)
 all_later t x y false true h k = (k, tt)
 all_later t x y false false h k = tt
+
+-- ---- game
 
 -- balls are thrown back later, and to the other station by the lookahead
 pub game_is_lawful : HandlesLawfully game AnyState

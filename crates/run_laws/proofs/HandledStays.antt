@@ -1,7 +1,6 @@
 -- What was handled once at a front: nothing at the start, and the same after a decision, an end and a fork.
 use Rattle.std.proofs.Common.{◌≡◌, ℕ, zero, suc, ◌<◌, ◌≤◌, List, [], ◌∷◌, ◌++◌, inl, inr}
 use Rattle.std.proofs.Common.{Bool, None, refl, sym, ap, ◌∙◌, subst, arith, map, length, slice_set}
-use Rattle.std.specs.Bool.{Decides}
 use Rattle.std.specs.List.{flat_map}
 use Rattle.std.specs.Set.{distinct_count}
 use Rattle.sim_base.specs.Clones.{Clone, clone_at, clones_with_plan, clones_with_end, clones_with_fork, fork_of}
@@ -14,6 +13,7 @@ use Rattle.run_laws.specs.World.{log_of}
 use Rattle.run_laws.specs.Runs.{end_of, log_at}
 use Rattle.run_laws.specs.Handlers.{HandlesLawfully}
 use Rattle.run_laws.specs.Sharing.{prefixes, same_list, logs_at, handled_once}
+use Rattle.run_laws.specs.CountLaws.{TellsEntries}
 use Rattle.run_laws.specs.Prefixes.{IsGained}
 use Rattle.run_laws.proofs.Lists.{in_append, append_old}
 use Rattle.run_laws.proofs.Prefixes.{gained_same, count_unique}
@@ -22,6 +22,8 @@ use Rattle.run_laws.proofs.Stands.{clone_in}
 use Rattle.run_laws.proofs.Beginning.{run_at_0}
 use Rattle.run_laws.proofs.Forks.{log_at-fork}
 use Rattle.run_laws.proofs.Late.{decision_adds_due, end_drops_due}
+
+-- ---- map, prefixes
 
 -- a list in which the element at a place is changed to one with the same image has the same images
 map-set : {Y : Type 0} (f : Clone → Y) (cs : List Clone) (who : ℕ) (k : Clone) → who < length cs →
@@ -35,11 +37,11 @@ no_prefixes : {E C : Type 0} (f : C → List E) (cs : List C) → ((c : C) → f
 no_prefixes f [] h = refl
 no_prefixes f (c ∷ cs) h = ap (λ l. prefixes l ++ flat_map prefixes (map f cs)) (h c) ∙ no_prefixes f cs h
 
--- ---- handled
+-- ---- handled_once
 
 module _ {S M N : Type 0} (sim : Simulation S M N) where
   -- at front 0 each log is empty
-  pub log_at-0 : (c : Clone) (s : ℕ) → log_at sim c s 0 ≡ []
+  log_at-0 : (c : Clone) (s : ℕ) → log_at sim c s 0 ≡ []
   log_at-0 c s = ap (λ w. log_of sim.to s w.at.trace) (run_at_0 sim c)
 
   -- so nothing was handled once at front 0
@@ -68,9 +70,9 @@ module _ {S M N : Type 0} {sim : Simulation S M N} {Good : ℕ → S → Type 0}
       (ap (λ w. log_of sim.to s w.trace) (end_drops_due law (clone_at cs who) at front late within).world))
 
 module _ {S M N : Type 0} (sim : Simulation S M N) (same : Entry M N → Entry M N → Bool)
-    (decides : (x y : Entry M N) → Decides (same x y) (x ≡ y)) where
+    (decides : TellsEntries same) where
   -- the same logs have the same prefixes
-  pub same_prefixes : (xs ys : List (List (Entry M N))) → ((l : List (Entry M N)) → In l xs → In l ys) →
+  same_prefixes : (xs ys : List (List (Entry M N))) → ((l : List (Entry M N)) → In l xs → In l ys) →
       ((l : List (Entry M N)) → In l ys → In l xs) →
       distinct_count (same_list same) (flat_map prefixes xs) ≡ distinct_count (same_list same) (flat_map prefixes ys)
   same_prefixes xs ys f g = count_unique (IsGained (λ l. In l ys) [])

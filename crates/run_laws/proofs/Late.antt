@@ -19,6 +19,8 @@ use Rattle.run_laws.proofs.Lists.{in_filter, filter_keeps, sorted_filter, filter
 use Rattle.run_laws.proofs.Running.{run_late}
 use Rattle.run_laws.proofs.Worlds.{world_lawful, begins_fine, run_fine}
 
+-- ---- set_messages, begin
+
 module _ {S M N : Type 0} (sim : Simulation S M N) where
   -- the last decision has the place after the others
   set_messages-push : (k : ℕ) (plans : List Planned) (p : Planned) →
@@ -44,6 +46,8 @@ module _ {S M N : Type 0} (sim : Simulation S M N) where
       ∙ insert_all-push sim.order (first ++ set_messages sim 0 plans) m [] in
       ap (λ q. record { at = (begin sim plans).at; pending = q }) all
 
+-- ---- cond
+
 -- a message that passes two tests, one after the other
 both_tests : {M : Type 0} (cmp : M → M → Ordering) (b a : Bool) (m : M) (d l r : List M)
     → l ≡ cond a (insert cmp m r) r →
@@ -56,6 +60,8 @@ filter-cond : {X : Type 0} (p : X → Bool) (b : Bool) (l r : List X) →
     filter p (cond b l r) ≡ cond b (filter p l) (filter p r)
 filter-cond p true l r = refl
 filter-cond p false l r = refl
+
+-- ---- run, all_due, with one decision more
 
 module _ {S M N : Type 0} {sim : Simulation S M N} {Good : ℕ → S → Type 0} (law : HandlesLawfully sim Good) where
   -- a late decision is pending at the front, and changes nothing else
@@ -99,10 +105,12 @@ module _ {S M N : Type 0} {sim : Simulation S M N} {Good : ℕ → S → Type 0}
             (filter-insert law.order.order (λ m. sim.to m == s) m (all_due sim c front) (due_sorted c front));
       }
 
+  -- ---- all_due, with an end
+
   -- of two ends the earlier counts
   earlier_end : (q : List M) (at end : ℕ) → at ≤ end → Sorted sim.order q →
       earlier_than sim.time at q ≡ earlier_than sim.time at (earlier_than sim.time end q)
-  earlier_end q at end l s = same_elements law.order.order (earlier_than sim.time at q)
+  earlier_end q at end l s = same_elements law.order.order.total (earlier_than sim.time at q)
       (earlier_than sim.time at (earlier_than sim.time end q))
       (sorted_filter sim.order (λ m. nat_lt (sim.time m) at) q s)
       (sorted_filter sim.order (λ m. nat_lt (sim.time m) at) (earlier_than sim.time end q)

@@ -9,7 +9,7 @@ use Rattle.run_laws.specs.Window.{earlier_than}
 use Rattle.run_laws.specs.Fronts.{earlier, least_time}
 use Rattle.run_laws.specs.Handlers.{IsTimed}
 use Rattle.run_laws.specs.FrontLaws.{time_before, IsLeastTime}
-use Rattle.sim_base.proofs.Placing.{all_weaker}
+use Rattle.sim_base.proofs.ListLaws.{all_weaker}
 use Rattle.run_laws.proofs.Lists.{filter_none}
 
 -- ---- IsLeastTime
@@ -48,6 +48,7 @@ module _ {M : Type 0} (time : M → ℕ) where
       let e = b.0.2 in
       ap Some (let r : t ≡ u = omega (arith, x, y, d, e) in r)
 
+  -- the least time of one message is its own
   one_least : (m : M) → IsLeastTime time (λ z. z ≡ m) (Some (time m))
   one_least m = ((m, refl, refl), λ z e. let d : time z ≡ time m = ap time e in omega (arith, d))
 
@@ -57,31 +58,37 @@ module _ {M : Type 0} (time : M → ℕ) where
   least_time-is (m ∷ q) = least-either (λ z. z ≡ m) (λ z. In z q) (Some (time m)) (least_time time q) (one_least m)
       (least_time-is q)
 
+-- ---- earlier
+
+-- a time that is there already changes nothing
+earlier-twice : (t : ℕ) (u : Option ℕ) → earlier (Some t) (earlier (Some t) u) ≡ earlier (Some t) u
+earlier-twice t None = ap Some (let e : min t t ≡ t = omega arith in e)
+earlier-twice t (Some u) = ap Some (let e : min t (min t u) ≡ min t u = omega arith in e)
+
+-- two times may change places
+earlier-swap : (t u : ℕ) (v : Option ℕ) → earlier (Some t) (earlier (Some u) v) ≡ earlier (Some u) (earlier (Some t) v)
+earlier-swap t u None = ap Some (let e : min t u ≡ min u t = omega arith in e)
+earlier-swap t u (Some v) = ap Some (let e : min t (min u v) ≡ min u (min t v) = omega arith in e)
+
 -- ---- least_time
 
-twice : (t : ℕ) (u : Option ℕ) → earlier (Some t) (earlier (Some t) u) ≡ earlier (Some t) u
-twice t None = ap Some (let e : min t t ≡ t = omega arith in e)
-twice t (Some u) = ap Some (let e : min t (min t u) ≡ min t u = omega arith in e)
-
-swapped : (t u : ℕ) (v : Option ℕ) → earlier (Some t) (earlier (Some u) v) ≡ earlier (Some u) (earlier (Some t) v)
-swapped t u None = ap Some (let e : min t u ≡ min u t = omega arith in e)
-swapped t u (Some v) = ap Some (let e : min t (min u v) ≡ min u (min t v) = omega arith in e)
-
 module _ {M : Type 0} {cmp : M → M → Ordering} {time : M → ℕ} (o : IsTimed cmp time) where
-  least_place : (r : Ordering) (x y : M) (ys rest : List M) → cmp x y ≡ r →
+  -- wherever the message goes, its time counts once
+  least-insert_by : (r : Ordering) (x y : M) (ys rest : List M) → cmp x y ≡ r →
       least_time time rest ≡ earlier (Some (time x)) (least_time time ys) →
       least_time time (insert_by r x y ys rest) ≡ earlier (Some (time x)) (least_time time (y ∷ ys))
-  least_place Less x y ys rest e h = refl
-  least_place Equal x y ys rest e h =
+  least-insert_by Less x y ys rest e h = refl
+  least-insert_by Equal x y ys rest e h =
       sym (ap (λ u. earlier (Some (time u)) (least_time time (y ∷ ys))) (o.order.same x y e)
-      ∙ twice (time y) (least_time time ys))
-  least_place Greater x y ys rest e h = ap (earlier (Some (time y))) h ∙ swapped (time y) (time x) (least_time time ys)
+      ∙ earlier-twice (time y) (least_time time ys))
+  least-insert_by Greater x y ys rest e h =
+      ap (earlier (Some (time y))) h ∙ earlier-swap (time y) (time x) (least_time time ys)
 
   -- with a message more the least time is the lesser of the two
   pub least-insert : (x : M) (q : List M)
       → least_time time (insert cmp x q) ≡ earlier (Some (time x)) (least_time time q)
   least-insert x [] = refl
-  least-insert x (y ∷ ys) = least_place (cmp x y) x y ys (insert cmp x ys) refl (least-insert x ys)
+  least-insert x (y ∷ ys) = least-insert_by (cmp x y) x y ys (insert cmp x ys) refl (least-insert x ys)
 
   -- of a list in order the first is the least
   least-first : (m : M) (q : List M) → Sorted cmp (m ∷ q) → least_time time (m ∷ q) ≡ Some (time m)
@@ -112,6 +119,7 @@ module _ {M : Type 0} {cmp : M → M → Ordering} {time : M → ℕ} (o : IsTim
             ∙ sym (ap (time_before at) (least-first m q s) ∙ ap (λ b. cond b (Some (time m)) None) no)
       ]
     where
+      -- the first message has the least time
       first_of : (at : ℕ) (m : M) (q : List M) → time m < at → Sorted cmp (m ∷ q) →
           least_time time (m ∷ earlier_than time at q) ≡ Some (time m)
       first_of at m [] l s = refl

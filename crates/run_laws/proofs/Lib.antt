@@ -1,5 +1,5 @@
-pub mod Bools
 pub mod Queue
+pub mod MessageOrder
 pub mod Lists
 pub mod Machine
 pub mod Running

@@ -1,36 +1,36 @@
 -- The prefixes that the logs of a copy's clones gain up to a bound, each log cut to the limit.
-use Rattle.std.proofs.Common.{◌≡◌, ℕ, zero, suc, ◌+◌, ◌-◌, ◌≤◌, ◌<◌, List, [], ◌∷◌, ◌++◌, ◌⊎◌, inl, inr, Bool, true}
-use Rattle.std.proofs.Common.{refl, sym, ap, ◌∙◌, subst, arith, append-nil, length, length-append, take}
-use Rattle.std.proofs.lemmas.List.{take_all}
+use Rattle.std.proofs.Common.{◌≡◌, ℕ, zero, suc, ◌+◌, ◌-◌, ◌≤◌, ◌<◌, List, [], ◌∷◌, ◌++◌, ◌⊎◌, inl, inr, Bool}
+use Rattle.std.proofs.Common.{refl, sym, ap, ◌∙◌, subst, arith, length, length-append, take}
+use Rattle.std.proofs.lemmas.List.{take_all, append_cancel_left}
+use Rattle.std.proofs.Math.Seq.{take-append-add, take-append_seam}
 use Rattle.sim_base.specs.declared.entry.Entry.{Entry}
 use Rattle.run_laws.specs.Queue.{In}
-use Rattle.run_laws.specs.Machine.{Next, stay, go}
+use Rattle.run_laws.specs.Machine.{Next, stay, go, IsSettled}
 use Rattle.run_laws.specs.Simulation.{Simulation}
 use Rattle.run_laws.specs.Window.{part_step}
 use Rattle.run_laws.specs.Handlers.{IsTimed}
 use Rattle.run_laws.specs.Prefixes.{IsCount, IsGained}
 use Rattle.sim_base.specs.Marked.{JoinsMarks, SortedMarked}
 use Rattle.run_laws.specs.Copies.{Copy, Carries, handle_until, handled_by, sends_aside, takes}
-use Rattle.run_laws.specs.Copies.{messages_taken, view, IsSettled, IsCutLog, GoesOver}
-use Rattle.run_laws.proofs.Machine.{reach_first, reach_trans, done_stays, done_no_next}
+use Rattle.run_laws.specs.Copies.{messages_taken, view, IsCutLog, GoesOver, AllTake}
+use Rattle.run_laws.proofs.Machine.{reach_first, reach_trans, is_settled-stays, is_settled-no_next}
 use Rattle.run_laws.proofs.Parts.{sorted_part}
 use Rattle.run_laws.proofs.Prefixes.{gained_none, gained_more, gained_both, gained_same}
-use Rattle.run_laws.proofs.CopyViews.{append_cancel, new_entry, log_grows, log_begins}
+use Rattle.run_laws.proofs.CopyViews.{new_entry, log_grows, log_begins}
 use Rattle.run_laws.proofs.CopyViews.{firsts_part, settled_or_next, handled_view}
+
+-- ---- take
 
 -- a list that goes on, cut where its first part is not longer than the limit
 pub cut_goes_on : {E : Type 0} (limit : ℕ) (xs g : List E) → length xs ≤ limit →
     take limit (xs ++ g) ≡ xs ++ take (limit - length xs) g
-cut_goes_on limit [] g l = ap (λ n. take n g) (let e : limit ≡ limit - 0 = omega arith in e)
-cut_goes_on zero (x ∷ xs) g l = absurd (omega arith)
-cut_goes_on (suc limit) (x ∷ xs) g l = ap (λ u. x ∷ u)
-    (cut_goes_on limit xs g (omega arith)
-    ∙ ap (λ n. xs ++ take n g) (let e : limit - length xs ≡ suc limit - suc (length xs) = omega arith in e))
+cut_goes_on limit xs g l =
+    let e : limit ≡ length xs + (limit - length xs) = omega (arith, l) in
+    ap (λ n. take n (xs ++ g)) e ∙ take-append-add xs g (limit - length xs)
 
 -- cut where its first part ends, a list is that part
 cut_at : {E : Type 0} (limit : ℕ) (xs g : List E) → length xs ≡ limit → take limit (xs ++ g) ≡ xs
-cut_at limit xs g e = cut_goes_on limit xs g (omega (arith, e))
-    ∙ (ap (λ n. xs ++ take n g) (let d : limit - length xs ≡ 0 = omega (arith, e) in d) ∙ append-nil xs)
+cut_at limit xs g e = ap (λ n. take n (xs ++ g)) (sym e) ∙ take-append_seam xs g
 
 -- a cut list begins as the list
 first_of_cut : {E : Type 0} (n : ℕ) (g : List E) (x : E) (u : List E) → take n g ≡ x ∷ u → (v : List E) × (g ≡ x ∷ v)
@@ -47,13 +47,15 @@ cut_more limit short x log l less e h =
     let a : length (short ++ x ∷ []) ≤ limit = omega (arith, b, c) in
     (take (limit - length (short ++ x ∷ [])) h.0, e ∙ (ap (take limit) h.1 ∙ cut_goes_on limit (short ++ x ∷ []) h.0 a))
 
+-- ---- IsCutLog
+
 module _ {S M N K : Type 0} (sim : Simulation S M N) (has : K → ℕ → Bool) (ends : ℕ → ℕ) (s bound : ℕ) where
   -- a copy whose clones are settled gains nothing
-  pub cut_done : (r : Copy S M N K) (sent : List (M × K)) → length r.log ≤ sim.limit →
-      ((c : ℕ) → Carries has r c → IsSettled sim has ends s bound (view sim has ends c r sent)) →
+  pub cut_settled : (r : Copy S M N K) (sent : List (M × K)) → length r.log ≤ sim.limit →
+      ((c : ℕ) → Carries has r c → IsSettled sim.time bound (view sim has ends c r sent)) →
       IsCount (IsGained (IsCutLog sim has ends s bound r sent) r.log) 0
-  cut_done r sent l f = gained_none (IsCutLog sim has ends s bound r sent) r.log (λ k h.
-      let e = done_stays (f h.clone h.is_in) h.ran in
+  cut_settled r sent l f = gained_none (IsCutLog sim has ends s bound r sent) r.log (λ k h.
+      let e = is_settled-stays (f h.clone h.is_in) h.ran in
       h.is ∙ (ap (λ u. take sim.limit u.at.log) e ∙ take_all sim.limit r.log l))
 
   -- a copy whose log is as long as it may be gains nothing
@@ -81,7 +83,7 @@ module _ {S M N K : Type 0} (sim : Simulation S M N) (has : K → ℕ → Bool) 
   first_gained r sent t g x u l e =
       let h = log_grows sim s bound (ends g.clone) g.ran in
       let k : x ∷ u ≡ take (sim.limit - length r.log) h.0 =
-      append_cancel r.log (x ∷ u) (take (sim.limit - length r.log) h.0)
+      append_cancel_left r.log (x ∷ u) (take (sim.limit - length r.log) h.0)
       (sym e ∙ (g.is ∙ (ap (take sim.limit) h.1 ∙ cut_goes_on sim.limit r.log h.0 l))) in
       let f = first_of_cut (sim.limit - length r.log) h.0 x u (sym k) in
       (f.0, h.1 ∙ ap (λ w. r.log ++ w) f.1)
@@ -117,7 +119,7 @@ module _ {S M N K : Type 0} (sim : Simulation S M N) {has : K → ℕ → Bool} 
   pub cut_handle : (r : Copy S M N K) (m : M) (k : K) (q sent : List (M × K)) (n : ℕ)
       (some : (l : List (Entry M N)) × IsCutLog sim has ends s bound r sent l) → length r.log < sim.limit →
       r.pending ≡ (m, k) ∷ q → SortedMarked sim.order r.pending →
-      ((c : ℕ) → Carries has r c → takes sim has ends m k c ≡ true) → sim.time m < bound →
+      AllTake sim has ends r m k → sim.time m < bound →
       IsCount (IsGained (IsCutLog sim has ends s bound (handled_by sim join s r m q) (sent ++ sends_aside sim s r m))
       (handled_by sim join s r m q).log) n →
       IsCount (IsGained (IsCutLog sim has ends s bound r sent) r.log) (n + 1)
@@ -132,8 +134,8 @@ module _ {S M N K : Type 0} (sim : Simulation S M N) {has : K → ℕ → Bool} 
       let there : (t : List (Entry M N)) → IsCutLog sim has ends s bound r sent t
       → IsCutLog sim has ends s bound new out t = λ t g.
       elim (reach_first g.ran (next g.clone g.is_in)) [
-        | inl e ↦ absurd (done_no_next (view sim has ends g.clone r sent) (view sim has ends g.clone new out)
-            (subst (IsSettled sim has ends s bound) e g.settled) (next g.clone g.is_in))
+        | inl e ↦ absurd (is_settled-no_next (view sim has ends g.clone r sent) (view sim has ends g.clone new out)
+            (subst (IsSettled sim.time bound) e g.settled) (next g.clone g.is_in))
         | inr ran ↦ record {
           clone = g.clone;
           is_in = g.is_in;

@@ -1,10 +1,13 @@
--- What is in a part of a list, and in two lists together.
+-- What is in a part of a list, in two lists together, and at a place.
 use Rattle.std.proofs.Common.{◌≡◌, ℕ, List, [], ◌∷◌, ◌++◌, ◌⊎◌, inl, inr, Bool, true}
 use Rattle.std.proofs.Common.{false, cond, not, refl, sym, ap, ◌∙◌, subst, ◌==◌, eq-eqb, eqb-true}
+use Rattle.std.proofs.Common.{zero, suc, ◌<◌, Some, length, arith, slice_get, slice_set}
 use Rattle.std.specs.declared.cmp.Ordering.{Ordering}
 use Rattle.std.specs.declared.cmp.Ordering.TheVariants.{Less}
 use Rattle.std.specs.List.{AllByRecursion, filter}
 use Rattle.std.proofs.lemmas.Bool.{ne_eqb, false≢true}
+use Rattle.sim_base.proofs.Elements.{in_cons_if, cons_if_old, cons_if_new}
+use Rattle.std.proofs.lemmas.Option.{same_Some}
 use Rattle.sim_base.proofs.ListLaws.{all_push}
 use Rattle.run_laws.specs.Queue.{insert, insert_all, In, Sorted}
 use Rattle.run_laws.specs.Handlers.{IsOrder}
@@ -12,12 +15,7 @@ use Rattle.run_laws.specs.World.{to_it}
 use Rattle.run_laws.specs.Window.{to_others}
 use Rattle.run_laws.proofs.Queue.{all_in, all_from, in_insert, insert_old, insert_new, sorted_insert, same_elements}
 
--- what is in a list with one element more, on a condition
-pub in_cons_if : {X : Type 0} (b : Bool) (x : X) (xs : List X) (z : X) → In z (cond b (x ∷ xs) xs) →
-    ((b ≡ true) × (z ≡ x)) ⊎ In z xs
-in_cons_if true x xs z (inl e) = inl (refl, e)
-in_cons_if true x xs z (inr j) = inr j
-in_cons_if false x xs z j = inr j
+-- ---- filter
 
 -- what a test leaves in is in the list and passes
 pub in_filter : {X : Type 0} (p : X → Bool) (xs : List X) (z : X) → In z (filter p xs) → In z xs × (p z ≡ true)
@@ -26,16 +24,6 @@ in_filter p (x ∷ xs) z i = elim (in_cons_if (p x) x (filter p xs) z i) [
   | inl e ↦ (inl e.1, ap p e.1 ∙ e.0)
   | inr j ↦ let h = in_filter p xs z j in (inr h.0, h.1)
 ]
-
--- what was there stays, on any condition
-cons_if_old : {X : Type 0} (b : Bool) (x : X) (xs : List X) (z : X) → In z xs → In z (cond b (x ∷ xs) xs)
-cons_if_old true x xs z i = inr i
-cons_if_old false x xs z i = i
-
--- and the new element is there where the condition holds
-pub cons_if_new : {X : Type 0} (b : Bool) (x : X) (xs : List X) (z : X) → b ≡ true → z ≡ x → In z (cond b (x ∷ xs) xs)
-cons_if_new true x xs z b e = inl e
-cons_if_new false x xs z b e = absurd (false≢true b)
 
 -- and what is in the list and passes is left in
 pub filter_keeps : {X : Type 0} (p : X → Bool) (xs : List X) (z : X) → In z xs → p z ≡ true → In z (filter p xs)
@@ -94,7 +82,7 @@ module _ {X : Type 0} {cmp : X → X → Ordering} (o : IsOrder cmp) (p : X → 
     (s : Sorted cmp q) where
   -- by whether the new element passes
   filter_insert_by : (b : Bool) → p x ≡ b → filter p (insert cmp x q) ≡ cond b (insert cmp x (filter p q)) (filter p q)
-  filter_insert_by true e = same_elements o (filter p (insert cmp x q)) (insert cmp x (filter p q))
+  filter_insert_by true e = same_elements o.total (filter p (insert cmp x q)) (insert cmp x (filter p q))
       (sorted_filter cmp p (insert cmp x q) (sorted_insert o x q s))
       (sorted_insert o x (filter p q) (sorted_filter cmp p q s))
       (λ z i. let h = in_filter p (insert cmp x q) z i in elim (in_insert o x q z h.0) [
@@ -106,7 +94,7 @@ module _ {X : Type 0} {cmp : X → X → Ordering} (o : IsOrder cmp) (p : X → 
             (ap p a ∙ e)
         | inr a ↦ let h = in_filter p q z a in filter_keeps p (insert cmp x q) z (insert_old o x q z h.0) h.1
       ])
-  filter_insert_by false e = same_elements o (filter p (insert cmp x q)) (filter p q)
+  filter_insert_by false e = same_elements o.total (filter p (insert cmp x q)) (filter p q)
       (sorted_filter cmp p (insert cmp x q) (sorted_insert o x q s))
       (sorted_filter cmp p q s)
       (λ z i. let h = in_filter p (insert cmp x q) z i in elim (in_insert o x q z h.0) [
@@ -118,12 +106,6 @@ module _ {X : Type 0} {cmp : X → X → Ordering} (o : IsOrder cmp) (p : X → 
   -- what a test leaves of an insertion
   pub filter-insert : filter p (insert cmp x q) ≡ cond (p x) (insert cmp x (filter p q)) (filter p q)
   filter-insert = filter_insert_by (p x) refl
-
--- tests that agree leave the same
-pub filter-congr : {X : Type 0} (p r : X → Bool) (xs : List X) → ((x : X) → p x ≡ r x) → filter p xs ≡ filter r xs
-filter-congr p r [] f = refl
-filter-congr p r (x ∷ xs) f = ap (λ l. cond (p x) (x ∷ l) l) (filter-congr p r xs f)
-    ∙ ap (λ b. cond b (x ∷ filter r xs) (filter r xs)) (f x)
 
 module _ {X : Type 0} {cmp : X → X → Ordering} (o : IsOrder cmp) (p : X → Bool) where
   -- an insertion on a condition goes first or not at all
@@ -140,6 +122,8 @@ module _ {X : Type 0} {cmp : X → X → Ordering} (o : IsOrder cmp) (p : X → 
       filter-insert_all xs (insert cmp x q) (sorted_insert o x q s)
       ∙ ap (insert_all cmp (filter p xs)) (filter-insert o p x q s)
       ∙ insert_all-cond (p x) x (filter p xs) (filter p q)
+
+-- ---- ++
 
 -- what is in two lists together is in one of them
 pub in_append : {X : Type 0} (xs ys : List X) (z : X) → In z (xs ++ ys) → In z xs ⊎ In z ys
@@ -163,6 +147,37 @@ pub sorted_append : {X : Type 0} (cmp : X → X → Ordering) (xs : List X) (y :
     AllByRecursion (λ x. cmp x y ≡ Less) xs → Sorted cmp (xs ++ y ∷ [])
 sorted_append cmp [] y s f = (tt, tt)
 sorted_append cmp (x ∷ xs) y s f = (all_push (λ z. cmp x z ≡ Less) xs y s.0 f.0, sorted_append cmp xs y s.1 f.1)
+
+-- ---- slice_get
+
+-- what stands in a list with one element more at the end
+pub slice_get-push : {X : Type 0} (xs : List X) (y x : X) (i : ℕ) → slice_get (xs ++ y ∷ []) i ≡ Some x
+    → (slice_get xs i ≡ Some x) ⊎ ((i ≡ length xs) × (x ≡ y))
+slice_get-push [] y x zero e = inr (refl, same_Some x y (sym e))
+slice_get-push [] y x (suc i) e = absurd (cc)
+slice_get-push (z ∷ zs) y x zero e = inl e
+slice_get-push (z ∷ zs) y x (suc i) e = elim (slice_get-push zs y x i e) [
+  | inl h ↦ inl h
+  | inr h ↦ inr (ap suc h.0, h.1)
+]
+
+-- a list with another element at a place has it there
+pub slice_get-set_same : {X : Type 0} (xs : List X) (i : ℕ) (x : X) → i < length xs
+    → slice_get (slice_set xs i x) i ≡ Some x
+slice_get-set_same [] i x l = absurd (omega (arith, l))
+slice_get-set_same (y ∷ ys) zero x l = refl
+slice_get-set_same (y ∷ ys) (suc i) x l = slice_get-set_same ys i x (omega (arith, l))
+
+-- and elsewhere what stood there
+pub slice_get-set_other : {X : Type 0} (xs : List X) (i j : ℕ) (x : X) → (i ≡ j → ⊥)
+    → slice_get (slice_set xs j x) i ≡ slice_get xs i
+slice_get-set_other [] i j x n = refl
+slice_get-set_other (y ∷ ys) zero zero x n = absurd (n refl)
+slice_get-set_other (y ∷ ys) zero (suc j) x n = refl
+slice_get-set_other (y ∷ ys) (suc i) zero x n = refl
+slice_get-set_other (y ∷ ys) (suc i) (suc j) x n = slice_get-set_other ys i j x (λ e. n (ap suc e))
+
+-- ---- to_it, to_others
 
 module _ {M : Type 0} (to : M → ℕ) where
   -- the messages to a station

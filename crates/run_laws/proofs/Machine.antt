@@ -2,11 +2,13 @@
 use Rattle.std.proofs.Common.{◌≡◌, ℕ, ◌≤◌, ◌<◌, List, ◌∷◌, ◌⊎◌, inl, inr, refl, sym, ap, ◌∙◌, subst, arith}
 use Rattle.std.specs.declared.cmp.Ordering.{Ordering}
 use Rattle.std.specs.List.{AllByRecursion}
-use Rattle.run_laws.specs.Machine.{Config, after, Next, Reach, stay, go, Done}
+use Rattle.run_laws.specs.Machine.{Config, after, Next, Reach, stay, go, IsSettled}
+
+-- ---- Next, Reach
 
 module _ {X M : Type 0} {cmp : M → M → Ordering} {time : M → ℕ} {handle : X → M → X × List M} {bound : ℕ} where
   -- a machine has one turn at most
-  pub next_unique : {d e f : Config X M} → Next cmp time handle bound d e → Next cmp time handle bound d f → e ≡ f
+  next_unique : {d e f : Config X M} → Next cmp time handle bound d e → Next cmp time handle bound d f → e ≡ f
   next_unique {d} n k =
       let p : n.m ∷ n.q ≡ k.m ∷ k.q = sym n.pending ∙ k.pending in
       let a : n.m ≡ k.m = cc in
@@ -30,7 +32,7 @@ module _ {X M : Type 0} {cmp : M → M → Ordering} {time : M → ℕ} {handle 
   ]
 
   -- of two that are reached, one is reached from the other
-  pub reach_line : {c d e : Config X M} → Reach cmp time handle bound c d → Reach cmp time handle bound c e →
+  reach_line : {c d e : Config X M} → Reach cmp time handle bound c d → Reach cmp time handle bound c e →
       Reach cmp time handle bound d e ⊎ Reach cmp time handle bound e d
   reach_line r stay = inr r
   reach_line {c} {d} {e} r (go {d = before} s n) = elim (reach_line r s) [
@@ -41,22 +43,26 @@ module _ {X M : Type 0} {cmp : M → M → Ordering} {time : M → ℕ} {handle 
     ]
   ]
 
+  -- ---- IsSettled
+
   -- with nothing left before the bound there is no next message
-  pub done_no_next : (c e : Config X M) → Done time bound c → Next cmp time handle bound c e → ⊥
-  done_no_next c e d n = let h = subst (AllByRecursion (λ m. bound ≤ time m)) n.pending d in
+  pub is_settled-no_next : (c e : Config X M) → IsSettled time bound c → Next cmp time handle bound c e → ⊥
+  is_settled-no_next c e d n = let h = subst (AllByRecursion (λ m. bound ≤ time m)) n.pending d in
       let a : bound ≤ time n.m = h.0 in let b = n.early in omega arith
 
   -- with nothing left before the bound there is no turn
-  pub done_stays : {c d : Config X M} → Done time bound c → Reach cmp time handle bound c d → d ≡ c
-  done_stays f stay = refl
-  done_stays {c}
+  pub is_settled-stays : {c d : Config X M} → IsSettled time bound c → Reach cmp time handle bound c d → d ≡ c
+  is_settled-stays f stay = refl
+  is_settled-stays {c}
       {d} f (go {d = before} r n) = absurd
-      (done_no_next c d f (subst (λ x. Next cmp time handle bound x d) (done_stays f r) n))
+      (is_settled-no_next c d f (subst (λ x. Next cmp time handle bound x d) (is_settled-stays f r) n))
 
   -- two that are reached and have nothing left are one
-  pub ends_same : {c d e : Config X M} → Reach cmp time handle bound c d → Done time bound d →
-      Reach cmp time handle bound c e → Done time bound e → d ≡ e
-  ends_same r f s g = elim (reach_line r s) [ inl t ↦ sym (done_stays f t) | inr t ↦ done_stays g t ]
+  pub ends_same : {c d e : Config X M} → Reach cmp time handle bound c d → IsSettled time bound d →
+      Reach cmp time handle bound c e → IsSettled time bound e → d ≡ e
+  ends_same r f s g = elim (reach_line r s) [ inl t ↦ sym (is_settled-stays f t) | inr t ↦ is_settled-stays g t ]
+
+  -- ---- Reach, and what each turn keeps
 
   -- what holds at the start and is kept by each turn holds at the end
   pub reach_keeps : {c d : Config X M} (P : Config X M → Type 0) → P c →

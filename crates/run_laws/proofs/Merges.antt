@@ -1,35 +1,36 @@
--- What is in two merged lists, and their order; lists in one order with the same elements are one.
+-- What is in two merged lists, and their order.
 use Rattle.std.proofs.Common.{◌≡◌, List, [], ◌∷◌, ◌⊎◌, inl, inr, refl, sym, ap, ◌∙◌, subst}
 use Rattle.std.specs.Ordering.{ordering_reverse}
 use Rattle.std.specs.declared.cmp.Ordering.{Ordering}
 use Rattle.std.specs.declared.cmp.Ordering.TheVariants.{Less, Equal, Greater}
-use Rattle.std.specs.Cmp.{IsTotalOrder, tied_itself}
+use Rattle.std.specs.Cmp.{IsTotalOrder}
 use Rattle.std.specs.List.{AllByRecursion}
 use Rattle.run_laws.specs.Queue.{In, Sorted}
-use Rattle.sim_base.proofs.Placing.{all_weaker}
-use Rattle.run_laws.proofs.Queue.{all_in, all_from}
-use Rattle.run_laws.specs.Merges.{pick, merge_at, merge}
+use Rattle.sim_base.proofs.ListLaws.{all_weaker}
+use Rattle.run_laws.proofs.Queue.{all_in, all_from, less_if_greater}
+use Rattle.run_laws.specs.Merges.{merge_by, merge_at, merge}
 
 -- ---- In
 
 module _ {X : Type 0} (cmp : X → X → Ordering) where
   -- what is in a merge with x, by what is in the merge of the rest
-  in_pick : (r : Ordering) (x y : X) (xs ys with_x with_y : List X) (z : X) → (In z with_x → In z xs ⊎ In z (y ∷ ys)) →
-      (In z with_y → In z (x ∷ xs) ⊎ In z ys) →
-      In z (pick r x y with_x with_y) → In z (x ∷ xs) ⊎ In z (y ∷ ys)
-  in_pick Less x y xs ys with_x with_y z f g (inl e) = inl (inl e)
-  in_pick Less x y xs ys with_x with_y z f g (inr i) = elim (f i) [ inl a ↦ inl (inr a) | inr b ↦ inr b ]
-  in_pick Equal x y xs ys with_x with_y z f g (inl e) = inl (inl e)
-  in_pick Equal x y xs ys with_x with_y z f g (inr i) = elim (f i) [ inl a ↦ inl (inr a) | inr b ↦ inr b ]
-  in_pick Greater x y xs ys with_x with_y z f g (inl e) = inr (inl e)
-  in_pick Greater x y xs ys with_x with_y z f g (inr i) = elim (g i) [ inl a ↦ inl a | inr b ↦ inr (inr b) ]
+  in_merge_by : (r : Ordering) (x y : X) (xs ys with_x with_y : List X) (z : X) →
+      (In z with_x → In z xs ⊎ In z (y ∷ ys)) → (In z with_y → In z (x ∷ xs) ⊎ In z ys) →
+      In z (merge_by r x y with_x with_y) → In z (x ∷ xs) ⊎ In z (y ∷ ys)
+  in_merge_by Less x y xs ys with_x with_y z f g (inl e) = inl (inl e)
+  in_merge_by Less x y xs ys with_x with_y z f g (inr i) = elim (f i) [ inl a ↦ inl (inr a) | inr b ↦ inr b ]
+  in_merge_by Equal x y xs ys with_x with_y z f g (inl e) = inl (inl e)
+  in_merge_by Equal x y xs ys with_x with_y z f g (inr i) = elim (f i) [ inl a ↦ inl (inr a) | inr b ↦ inr b ]
+  in_merge_by Greater x y xs ys with_x with_y z f g (inl e) = inr (inl e)
+  in_merge_by Greater x y xs ys with_x with_y z f g (inr i) = elim (g i) [ inl a ↦ inl a | inr b ↦ inr (inr b) ]
 
+  -- by where the merge puts x
   in_merge_at : (x : X) (xs : List X) (rest : List X → List X) →
       ((ys : List X) (z : X) → In z (rest ys) → In z xs ⊎ In z ys) → (ys : List X) (z : X) →
       In z (merge_at cmp x rest ys) → In z (x ∷ xs) ⊎ In z ys
   in_merge_at x xs rest f [] z (inl e) = inl (inl e)
   in_merge_at x xs rest f [] z (inr i) = elim (f [] z i) [ inl a ↦ inl (inr a) | inr b ↦ inr b ]
-  in_merge_at x xs rest f (y ∷ ys) z i = in_pick (cmp x y) x y xs ys (rest (y ∷ ys))
+  in_merge_at x xs rest f (y ∷ ys) z i = in_merge_by (cmp x y) x y xs ys (rest (y ∷ ys))
       (merge_at cmp x rest ys) z (f (y ∷ ys) z) (in_merge_at x xs rest f ys z) i
 
   -- what is in a merge is in one of the lists
@@ -37,26 +38,28 @@ module _ {X : Type 0} (cmp : X → X → Ordering) where
   in_merge [] ys z i = inr i
   in_merge (x ∷ xs) ys z i = in_merge_at x xs (merge cmp xs) (in_merge xs) ys z i
 
-  pick_has : (r : Ordering) (x y : X) (xs ys with_x with_y : List X) (z : X) → (In z xs ⊎ In z (y ∷ ys) → In z with_x) →
-      (In z (x ∷ xs) ⊎ In z ys → In z with_y) →
-      In z (x ∷ xs) ⊎ In z (y ∷ ys) → In z (pick r x y with_x with_y)
-  pick_has Less x y xs ys with_x with_y z f g (inl (inl e)) = inl e
-  pick_has Less x y xs ys with_x with_y z f g (inl (inr i)) = inr (f (inl i))
-  pick_has Less x y xs ys with_x with_y z f g (inr i) = inr (f (inr i))
-  pick_has Equal x y xs ys with_x with_y z f g (inl (inl e)) = inl e
-  pick_has Equal x y xs ys with_x with_y z f g (inl (inr i)) = inr (f (inl i))
-  pick_has Equal x y xs ys with_x with_y z f g (inr i) = inr (f (inr i))
-  pick_has Greater x y xs ys with_x with_y z f g (inl i) = inr (g (inl i))
-  pick_has Greater x y xs ys with_x with_y z f g (inr (inl e)) = inl e
-  pick_has Greater x y xs ys with_x with_y z f g (inr (inr i)) = inr (g (inr i))
+  -- what is in one of two lists is in their merge, by which of their first elements goes first
+  merge_by_has : (r : Ordering) (x y : X) (xs ys with_x with_y : List X) (z : X) →
+      (In z xs ⊎ In z (y ∷ ys) → In z with_x) → (In z (x ∷ xs) ⊎ In z ys → In z with_y) →
+      In z (x ∷ xs) ⊎ In z (y ∷ ys) → In z (merge_by r x y with_x with_y)
+  merge_by_has Less x y xs ys with_x with_y z f g (inl (inl e)) = inl e
+  merge_by_has Less x y xs ys with_x with_y z f g (inl (inr i)) = inr (f (inl i))
+  merge_by_has Less x y xs ys with_x with_y z f g (inr i) = inr (f (inr i))
+  merge_by_has Equal x y xs ys with_x with_y z f g (inl (inl e)) = inl e
+  merge_by_has Equal x y xs ys with_x with_y z f g (inl (inr i)) = inr (f (inl i))
+  merge_by_has Equal x y xs ys with_x with_y z f g (inr i) = inr (f (inr i))
+  merge_by_has Greater x y xs ys with_x with_y z f g (inl i) = inr (g (inl i))
+  merge_by_has Greater x y xs ys with_x with_y z f g (inr (inl e)) = inl e
+  merge_by_has Greater x y xs ys with_x with_y z f g (inr (inr i)) = inr (g (inr i))
 
+  -- by where the merge puts x
   merge_at_has : (x : X) (xs : List X) (rest : List X → List X) →
       ((ys : List X) (z : X) → In z xs ⊎ In z ys → In z (rest ys)) → (ys : List X) (z : X) → In z (x ∷ xs) ⊎ In z ys →
       In z (merge_at cmp x rest ys)
   merge_at_has x xs rest f [] z (inl (inl e)) = inl e
   merge_at_has x xs rest f [] z (inl (inr i)) = inr (f [] z (inl i))
   merge_at_has x xs rest f [] z (inr i) = absurd i
-  merge_at_has x xs rest f (y ∷ ys) z i = pick_has (cmp x y) x y xs ys (rest (y ∷ ys))
+  merge_at_has x xs rest f (y ∷ ys) z i = merge_by_has (cmp x y) x y xs ys (rest (y ∷ ys))
       (merge_at cmp x rest ys) z (f (y ∷ ys) z) (merge_at_has x xs rest f ys z) i
 
   -- and what is in one of the lists is in the merge
@@ -68,42 +71,6 @@ module _ {X : Type 0} (cmp : X → X → Ordering) where
 -- ---- Sorted
 
 module _ {X : Type 0} {cmp : X → X → Ordering} (total : IsTotalOrder cmp) where
-  greater_turned : (x y : X) → cmp x y ≡ Greater → cmp y x ≡ Less
-  greater_turned x y e = total.antisymm y x ∙ ap ordering_reverse e
-
-  not_first_itself : (x : X) → cmp x x ≡ Less → ⊥
-  not_first_itself x e = let t = tied_itself total x in cc
-
-  not_each_first : (x y : X) → cmp x y ≡ Less → cmp y x ≡ Less → ⊥
-  not_each_first x y e f = not_first_itself x (total.trans x y x e f)
-
-  -- behind equal heads the rests have the same elements
-  rest_has : (x y : X) (p q : List X) → x ≡ y → AllByRecursion (λ z. cmp x z ≡ Less) p →
-      ((z : X) → In z (x ∷ p) → In z (y ∷ q)) → (z : X) → In z p → In z q
-  rest_has x y p q e l f z i = elim (f z (inr i)) [
-    | inl k ↦ absurd (not_first_itself x
-        (subst (λ w. cmp x w ≡ Less) (k ∙ sym e) (all_in (λ z. cmp x z ≡ Less) p z l i)))
-    | inr j ↦ j
-  ]
-
-  -- two lists in order with the same elements are one, even where the order does not tell all elements apart
-  pub same_rising : (p q : List X) → Sorted cmp p → Sorted cmp q → ((z : X) → In z p → In z q) →
-      ((z : X) → In z q → In z p) → p ≡ q
-  same_rising [] [] s t f g = refl
-  same_rising [] (y ∷ q) s t f g = absurd (g y (inl refl))
-  same_rising (x ∷ p) [] s t f g = absurd (f x (inl refl))
-  same_rising (x ∷ p) (y ∷ q) s t f g =
-      let e : x ≡ y = elim (f x (inl refl)) [
-        | inl e ↦ e
-        | inr i ↦ elim (g y (inl refl)) [
-          | inl e ↦ sym e
-          | inr j ↦ absurd (not_each_first x y (all_in (λ z. cmp x z ≡ Less) p y s.0 j)
-              (all_in (λ z. cmp y z ≡ Less) q x t.0 i))
-        ]
-      ] in
-      let r : p ≡ q = same_rising p q s.1 t.1 (rest_has x y p q e s.0 f) (rest_has y x q p (sym e) t.0 g) in
-      cc
-
   -- what comes before the heads of both comes before all of the merge
   before_merge : (a : X) (xs ys : List X) → AllByRecursion (λ z. cmp a z ≡ Less) xs →
       AllByRecursion (λ z. cmp a z ≡ Less) ys → AllByRecursion (λ z. cmp a z ≡ Less) (merge cmp xs ys)
@@ -113,21 +80,22 @@ module _ {X : Type 0} {cmp : X → X → Ordering} (total : IsTotalOrder cmp) wh
   ])
 
   -- no element of one ties with one of the other
-  abbrev pub NoTies : List X → List X → Type 0
+  abbrev NoTies : List X → List X → Type 0
   NoTies xs ys = (x y : X) → In x xs → In y ys → cmp x y ≡ Equal → ⊥
 
-  sorted_pick : (r : Ordering) (x y : X) (xs ys : List X) → cmp x y ≡ r → Sorted cmp (x ∷ xs) → Sorted cmp (y ∷ ys) →
-      NoTies (x ∷ xs) (y ∷ ys) →
+  -- the order is kept, whichever of the first elements goes first
+  sorted_merge_by : (r : Ordering) (x y : X) (xs ys : List X) → cmp x y ≡ r → Sorted cmp (x ∷ xs) →
+      Sorted cmp (y ∷ ys) → NoTies (x ∷ xs) (y ∷ ys) →
       Sorted cmp (merge cmp xs (y ∷ ys)) → Sorted cmp (merge cmp (x ∷ xs) ys) →
-      Sorted cmp (pick r x y (merge cmp xs (y ∷ ys)) (merge cmp (x ∷ xs) ys))
-  sorted_pick Less x y xs ys e s t apart a b = (
+      Sorted cmp (merge_by r x y (merge cmp xs (y ∷ ys)) (merge cmp (x ∷ xs) ys))
+  sorted_merge_by Less x y xs ys e s t apart a b = (
     before_merge x xs (y ∷ ys) s.0
         (e, all_weaker (λ z. cmp y z ≡ Less) (λ z. cmp x z ≡ Less) ys (λ z l. total.trans x y z e l) t.0),
     a,
   )
-  sorted_pick Equal x y xs ys e s t apart a b = absurd (apart x y (inl refl) (inl refl) e)
-  sorted_pick Greater x y xs ys e s t apart a b =
-      let l : cmp y x ≡ Less = greater_turned x y e in (
+  sorted_merge_by Equal x y xs ys e s t apart a b = absurd (apart x y (inl refl) (inl refl) e)
+  sorted_merge_by Greater x y xs ys e s t apart a b =
+      let l : cmp y x ≡ Less = less_if_greater total x y e in (
         before_merge y (x ∷ xs) ys (
           l,
           all_weaker (λ z. cmp x z ≡ Less) (λ z. cmp y z ≡ Less) xs
@@ -136,11 +104,12 @@ module _ {X : Type 0} {cmp : X → X → Ordering} (total : IsTotalOrder cmp) wh
         b,
       )
 
+  -- and wherever the merge puts x
   sorted_merge_at : (x : X) (xs : List X) →
       ((ys : List X) → Sorted cmp ys → NoTies xs ys → Sorted cmp (merge cmp xs ys)) → (ys : List X) →
       Sorted cmp (x ∷ xs) → Sorted cmp ys → NoTies (x ∷ xs) ys → Sorted cmp (merge cmp (x ∷ xs) ys)
   sorted_merge_at x xs f [] s t apart = (before_merge x xs [] s.0 tt, f [] tt (λ a b i j. absurd j))
-  sorted_merge_at x xs f (y ∷ ys) s t apart = sorted_pick (cmp x y) x y xs ys refl s t apart
+  sorted_merge_at x xs f (y ∷ ys) s t apart = sorted_merge_by (cmp x y) x y xs ys refl s t apart
       (f (y ∷ ys) t (λ a b i j. apart a b (inr i) j))
       (sorted_merge_at x xs f ys s t.1 (λ a b i j. apart a b i (inr j)))
 

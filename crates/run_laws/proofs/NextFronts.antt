@@ -13,7 +13,7 @@ use Rattle.run_laws.specs.Runs.{end_of, run_of, all_due}
 use Rattle.run_laws.specs.Fronts.{earlier, least_time, least_of, least, window_end, next_front, AreFronts}
 use Rattle.run_laws.specs.Handlers.{HandlesLawfully}
 use Rattle.run_laws.specs.FrontLaws.{RiseToHorizon}
-use Rattle.sim_base.proofs.Placing.{all_weaker}
+use Rattle.sim_base.proofs.ListLaws.{all_weaker}
 use Rattle.run_laws.proofs.Queue.{all_in, all_from}
 use Rattle.run_laws.proofs.Lists.{in_filter}
 use Rattle.run_laws.proofs.Worlds.{run_reached}
@@ -46,8 +46,8 @@ module _ {S M N : Type 0} (sim : Simulation S M N) where
 
 module _ {S M N : Type 0} {sim : Simulation S M N} {Good : ℕ → S → Type 0} (law : HandlesLawfully sim Good) where
   -- what is due at a front comes at it or later
-  pub all_due_from_front : (c : Clone) (front : ℕ) → AllByRecursion (λ m. front ≤ sim.time m) (all_due sim c front)
-  all_due_from_front c front = all_from (λ m. front ≤ sim.time m) (all_due sim c front) (λ m i.
+  pub all_due-from_front : (c : Clone) (front : ℕ) → AllByRecursion (λ m. front ≤ sim.time m) (all_due sim c front)
+  all_due-from_front c front = all_from (λ m. front ≤ sim.time m) (all_due sim c front) (λ m i.
       let h = in_filter (λ m. nat_lt (sim.time m) (end_of sim c)) (run_of sim c front).pending m i in
       let a : min front (end_of sim c) ≤ sim.time m =
       all_in (λ m. min front (end_of sim c) ≤ sim.time m) (run_of sim c front).pending m
@@ -61,7 +61,7 @@ module _ {S M N : Type 0} {sim : Simulation S M N} {Good : ℕ → S → Type 0}
   next_front-far (c ∷ cs) front = window_end-earlier sim (min sim.horizon (front + sim.lookahead))
       (least_of sim c front)
       (least sim cs front)
-      (window_end-far sim front (all_due sim c front) (all_due_from_front c front))
+      (window_end-far sim front (all_due sim c front) (all_due-from_front c front))
       (next_front-far cs front)
 
   -- so below the horizon the next front is later
@@ -93,6 +93,7 @@ module _ {S M N : Type 0} {sim : Simulation S M N} {Good : ℕ → S → Type 0}
         horizon = inr r.horizon;
       }
     where
+      -- numbers compare as they lie
       less : {a b : ℕ} → a < b → nat_cmp a b ≡ Less
       less {a} {b} l = sym (nat_cmp_is a b Less l)
 
@@ -101,6 +102,7 @@ module _ {S M N : Type 0} {sim : Simulation S M N} {Good : ℕ → S → Type 0}
       (fs : List ℕ) × AreFronts sim cs front fs
   fronts-go_on cs front l h = within sim.horizon front h (omega arith)
     where
+      -- by how far the horizon is
       within : (n front : ℕ) → front ≤ sim.horizon → sim.horizon ≤ front + n → (fs : List ℕ) × AreFronts sim cs front fs
       within zero front h k = ([], omega (arith, h, k))
       within (suc n) front h k = elim (cases_lt front sim.horizon) [

@@ -28,6 +28,8 @@ use Rattle.run_laws.proofs.Worlds.{put_cases, put_same, log_here, log_there, in_
 use Rattle.run_laws.proofs.Worlds.{entry_of, world_lawful, begins_fine, run_reached}
 use Rattle.run_laws.proofs.Rising.{key_total, begins_fresh, trace_rises, numbers_are_once}
 
+-- ---- In
+
 -- what is in a list with one element more at the end
 in_push : {X : Type 0} (xs : List X) (x z : X) → In z (xs ++ x ∷ []) → In z xs ⊎ (z ≡ x)
 in_push xs x z i = elim (in_append xs (x ∷ []) z i) [
@@ -52,6 +54,8 @@ module _ {X Y : Type 0} (f : X → Y) (cmp : Y → Y → Ordering) (total : IsTo
   same_image (z ∷ zs) x y s (inr i) (inl b) e = absurd (differ z zs x s i (ap f (sym b) ∙ sym e))
   same_image (z ∷ zs) x y s (inr i) (inr j) e = same_image zs x y s.1 i j e
 
+-- ---- HasUsedNumbers
+
 module _ {S M N : Type 0} {sim : Simulation S M N} {Good : ℕ → S → Type 0} {sender number : M → ℕ} {next : S → ℕ}
     (law : HandlesLawfully sim Good) (stations : SendsToStations sim Good)
     (fresh : HandlesFreshly sim Good sender number next) where
@@ -60,7 +64,7 @@ module _ {S M N : Type 0} {sim : Simulation S M N} {Good : ℕ → S → Type 0}
   later_world x m q = after sim.order (world_step sim.to sim.handle) x m q
 
   -- a world whose messages have numbers that are used up
-  record Told (plans : List Planned) (w : Config (World S M N) M) : Type 0 where
+  record HasUsedNumbers (plans : List Planned) (w : Config (World S M N) M) : Type 0 where
     pub used : (z : M) → IsMessageOf w z →
         ((sender z ≡ 0) × (number z < length plans))
         ⊎ (IsStation sim (sender z) × (number z < next (w.at.states (sender z))))
@@ -83,9 +87,9 @@ module _ {S M N : Type 0} {sim : Simulation S M N} {Good : ℕ → S → Type 0}
       ]
 
   -- a turn keeps a world so
-  told_step : (plans : List Planned) (x : World S M N) (m : M) (q : List M) → AllGood Good x →
-      Told plans (record { at = x; pending = m ∷ q }) → Told plans (later_world x m q)
-  told_step plans x m q good h =
+  used_numbers-step : (plans : List Planned) (x : World S M N) (m : M) (q : List M) → AllGood Good x →
+      HasUsedNumbers plans (record { at = x; pending = m ∷ q }) → HasUsedNumbers plans (later_world x m q)
+  used_numbers-step plans x m q good h =
       let r : ℕ = sim.to m in
       let st : S = x.states r in
       let g : Good r st = good r in
@@ -126,8 +130,8 @@ module _ {S M N : Type 0} {sim : Simulation S M N} {Good : ℕ → S → Type 0}
       let h = set_messages_low (suc k) ps z i in let n = h.1 in (h.0, omega (arith, n))
 
   -- a world begins so, where its decisions are for stations
-  begins_told : (plans : List Planned) → AreForStations sim plans → Told plans (begin sim plans)
-  begins_told plans there =
+  used_numbers-begin : (plans : List Planned) → AreForStations sim plans → HasUsedNumbers plans (begin sim plans)
+  used_numbers-begin plans there =
       let h = begins_fresh law stations fresh plans there in
       let first : List M = openings sim sim.stations in
       let pending : (z : M) → IsMessageOf (begin sim plans) z → In z (begin sim plans).pending =
@@ -151,9 +155,11 @@ module _ {S M N : Type 0} {sim : Simulation S M N} {Good : ℕ → S → Type 0}
       }
 
   module _ (c : Clone) (front : ℕ) (there : AreForStations sim c.plans) where
-    told : Told c.plans (run_of sim c front)
-    told = fine_keeps law.order (world_lawful law) 0 (Told c.plans) (begins_told c.plans there)
-        (λ x m q f early h. told_step c.plans x m q f.good h)
+    -- a run is so at each front
+    used_numbers-run : HasUsedNumbers c.plans (run_of sim c front)
+    used_numbers-run = fine_keeps law.order (world_lawful law) 0 (HasUsedNumbers c.plans)
+        (used_numbers-begin c.plans there)
+        (λ x m q f early h. used_numbers-step c.plans x m q f.good h)
         (begins_fine law c.plans) (run_reached law c.plans (min front (end_of sim c))).0
 
     -- no two entries have one sender and number
@@ -168,6 +174,8 @@ module _ {S M N : Type 0} {sim : Simulation S M N} {Good : ℕ → S → Type 0}
         same_image (λ e. e.msg) (key_order sim.time sender number) (key_total sim.time sender number) trace e f
         (trace_rises law stations fresh c front there) i j same
 
+  -- ---- NumbersAreLow, NumbersFit
+
   module _ {most : ℕ} (few : UsesFewNumbers sim Good next most) where
     -- each station's next number is at most `most` times the messages that it handled and one
     abbrev Low : World S M N → Type 0
@@ -177,6 +185,7 @@ module _ {S M N : Type 0} {sim : Simulation S M N} {Good : ℕ → S → Type 0}
     more : (k n u v : ℕ) → u ≤ most * (k + 1) → v ≤ u + most → n ≡ k + 1 → v ≤ most * (n + 1)
     more k n u v a b e = subst (λ n. v ≤ most * (n + 1)) (sym e) (grind (arith, a, b))
 
+    -- a turn keeps them so
     low_step : (plans : List Planned) (x : World S M N) (m : M) (q : List M) → AllGood Good x
         → IsStation sim (sim.to m) →
         Low x → Low (later_world x m q).at
@@ -197,10 +206,10 @@ module _ {S M N : Type 0} {sim : Simulation S M N} {Good : ℕ → S → Type 0}
     module _ (c : Clone) (front : ℕ) (there : AreForStations sim c.plans) where
       -- the next numbers of a run
       next_low : Low (run_of sim c front).at
-      next_low = (fine_keeps law.order (world_lawful law) 0 (λ w. Told c.plans w × Low w.at)
-          (begins_told c.plans there, λ s is_station. let o = few.opens s is_station in grind (arith, o))
+      next_low = (fine_keeps law.order (world_lawful law) 0 (λ w. HasUsedNumbers c.plans w × Low w.at)
+          (used_numbers-begin c.plans there, λ s is_station. let o = few.opens s is_station in grind (arith, o))
           (λ x m q f early h. (
-            told_step c.plans x m q f.good h.0,
+            used_numbers-step c.plans x m q f.good h.0,
             low_step c.plans x m q f.good (h.0.to_station m (inl refl)) h.1,
           ))
           (begins_fine law c.plans) (run_reached law c.plans (min front (end_of sim c))).0).1
@@ -209,7 +218,7 @@ module _ {S M N : Type 0} {sim : Simulation S M N} {Good : ℕ → S → Type 0}
       pub numbers_low : (m : M) → IsMessageOf (run_of sim c front) m →
           ((sender m ≡ 0) × (number m < length c.plans)) ⊎
           (IsStation sim (sender m) × (number m < most * (length (log_at sim c (sender m) front) + 1)))
-      numbers_low m i = elim ((told c front there).used m i) [
+      numbers_low m i = elim ((used_numbers-run c front there).used m i) [
         | inl a ↦ inl a
         | inr a ↦ let l = next_low (sender m) a.0 in let k = a.1 in inr (a.0, omega (arith, l, k))
       ]

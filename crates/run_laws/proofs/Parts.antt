@@ -10,7 +10,10 @@ use Rattle.run_laws.specs.Queue.{insert_by, insert, insert_all, Sorted}
 use Rattle.run_laws.specs.Handlers.{IsOrder}
 use Rattle.sim_base.specs.Marked.{Above, SortedMarked}
 use Rattle.run_laws.specs.Copies.{part, insert_marked_all}
-use Rattle.sim_base.proofs.Placing.{all_weaker, sorted_insert}
+use Rattle.sim_base.proofs.Placing.{sorted_insert}
+use Rattle.sim_base.proofs.ListLaws.{all_weaker}
+
+-- ---- part
 
 module _ {M K : Type 0} (takes : M → K → ℕ → Bool) where
   -- a clone takes the first message, or not
@@ -94,6 +97,8 @@ part-filter t u p c (x ∷ xs) f =
     ap (λ b. cond b (x.0 ∷ part u c xs) (part u c xs)) (f x.0 x.1)
     ∙ ap (λ l. cond (t x.0 x.1 c && p x.0) (x.0 ∷ l) l) (part-filter t u p c xs f)
     ∙ filter_both p (t x.0 x.1 c) x.0 (part t c xs)
+
+-- ---- insert_marked
 
 -- x comes before all that is there
 insert_first : {M : Type 0} (cmp : M → M → Ordering) (x : M) (q : List M) → AllByRecursion (λ y. cmp x y ≡ Less) q →

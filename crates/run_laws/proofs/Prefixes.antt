@@ -1,10 +1,12 @@
 -- Counting: two counts together, that a count is unique, and the prefixes that logs gained.
 use Rattle.std.proofs.Common.{◌≡◌, ℕ, suc, ◌+◌, ◌≤◌, List, [], ◌∷◌, ◌++◌, ◌⊎◌, inl}
 use Rattle.std.proofs.Common.{inr, refl, sym, ap, ◌∙◌, subst, arith, append_assoc, length, length-append}
+use Rattle.std.proofs.lemmas.List.{append_cancel_left}
 use Rattle.run_laws.specs.Queue.{In}
 use Rattle.run_laws.specs.Prefixes.{Apart, IsCount, IsGained}
 use Rattle.run_laws.proofs.Lists.{in_append, append_old, append_new}
-use Rattle.run_laws.proofs.CopyViews.{append_cancel}
+
+-- ---- Apart
 
 -- two lists without repeats that share nothing have no repeats together
 pub apart_append : {X : Type 0} (xs ys : List X) → Apart xs → Apart ys → ((z : X) → In z xs → In z ys → ⊥) →
@@ -14,6 +16,8 @@ apart_append (x ∷ xs) ys a b f = (
   λ i. elim (in_append xs ys x i) [ inl j ↦ a.0 j | inr j ↦ f x (inl refl) j ],
   apart_append xs ys a.1 b (λ z i j. f z (inr i) j),
 )
+
+-- ---- IsCount
 
 -- what holds of the same elements has the same count
 pub count_same : {X : Type 0} (P Q : X → Type 0) (n : ℕ) → ((x : X) → P x → Q x) → ((x : X) → Q x → P x) → IsCount P n →
@@ -76,13 +80,15 @@ count_unique P m n a b =
     no_longer b.members a.members b.apart (λ z i. a.all z (b.exact z i)) in
     let c = a.number in let d = b.number in omega (arith, c, d)
 
+-- ---- IsGained
+
 module _ {E : Type 0} where
   -- a list is not longer than itself
-  pub too_long : (xs : List E) (x : E) (ys : List E) → xs ++ x ∷ ys ≡ xs → ⊥
-  too_long xs x ys e = let h = ap length e in let k = length-append xs (x ∷ ys) in
+  pub longer_than_itself : (xs : List E) (x : E) (ys : List E) → xs ++ x ∷ ys ≡ xs → ⊥
+  longer_than_itself xs x ys e = let h = ap length e in let k = length-append xs (x ∷ ys) in
       let l : length (x ∷ ys) ≡ suc (length ys) = refl in omega (arith, h, k, l)
 
-  -- what was gained stands in the log behind what was there
+  -- what was gained is in the log, behind what was there
   gained_by : (short p log : List E) (x : E) (q t : List E) → p ≡ short ++ x ∷ q → log ≡ p ++ t →
       log ≡ short ++ x ∷ (q ++ t)
   gained_by short p log x q t e f = f ∙ (ap (λ u. u ++ t) e ∙ append_assoc short (x ∷ q) t)
@@ -95,7 +101,7 @@ module _ {E : Type 0} where
     apart = tt;
     exact = λ x i. absurd i;
     number = refl;
-    all = λ p g. too_long short g.first (g.more ++ g.rest)
+    all = λ p g. longer_than_itself short g.first (g.more ++ g.rest)
         (sym (gained_by short p g.log g.first g.more g.rest g.longer g.prefix) ∙ f g.log g.is_log);
   }
 
@@ -107,7 +113,7 @@ module _ {E : Type 0} where
   gained_more Log short e n some f h = record {
     members = (short ++ e ∷ []) ∷ h.members;
     apart = (
-      λ i. let g = h.exact (short ++ e ∷ []) i in too_long (short ++ e ∷ []) g.first g.more (sym g.longer),
+      λ i. let g = h.exact (short ++ e ∷ []) i in longer_than_itself (short ++ e ∷ []) g.first g.more (sym g.longer),
       h.apart,
     );
     exact = λ p i. elim i [
@@ -135,7 +141,8 @@ module _ {E : Type 0} where
     ];
     all = λ p g.
         let x = f g.log g.is_log in
-        let c : g.first ∷ (g.more ++ g.rest) ≡ e ∷ x.0 = append_cancel short (g.first ∷ (g.more ++ g.rest)) (e ∷ x.0)
+        let c : g.first ∷ (g.more ++ g.rest) ≡ e ∷ x.0 =
+        append_cancel_left short (g.first ∷ (g.more ++ g.rest)) (e ∷ x.0)
         (sym (gained_by short p g.log g.first g.more g.rest g.longer g.prefix)
         ∙ (x.1 ∙ append_assoc short (e ∷ []) x.0)) in
         let d : g.first ≡ e = cc in
@@ -143,6 +150,7 @@ module _ {E : Type 0} where
     number = let k = h.number in omega (arith, k);
   }
     where
+      -- by what comes behind the entry
       by_more : (q p log t : List E) → p ≡ short ++ e ∷ q → Log log → log ≡ p ++ t
           → In p ((short ++ e ∷ []) ∷ h.members)
       by_more [] p log t a b c = inl a
@@ -159,9 +167,9 @@ module _ {E : Type 0} where
           }))
 
   -- what is gained of some logs is gained of more
-  moved : (Log Log2 : List E → Type 0) (short p : List E) → ((l : List E) → Log l → Log2 l) → IsGained Log short p →
-      IsGained Log2 short p
-  moved Log Log2 short p f g = record {
+  gained_of_more : (Log Log2 : List E → Type 0) (short p : List E) → ((l : List E) → Log l → Log2 l)
+      → IsGained Log short p → IsGained Log2 short p
+  gained_of_more Log Log2 short p f g = record {
     log = g.log;
     is_log = f g.log g.is_log;
     first = g.first;
@@ -178,8 +186,8 @@ module _ {E : Type 0} where
   gained_both Log1 Log2 short m n f a b = count_same (λ p. IsGained Log1 short p ⊎ IsGained Log2 short p)
       (IsGained (λ l. Log1 l ⊎ Log2 l) short) (m + n)
       (λ p h. elim h [
-        | inl g ↦ moved Log1 (λ l. Log1 l ⊎ Log2 l) short p (λ l i. inl i) g
-        | inr g ↦ moved Log2 (λ l. Log1 l ⊎ Log2 l) short p (λ l i. inr i) g
+        | inl g ↦ gained_of_more Log1 (λ l. Log1 l ⊎ Log2 l) short p (λ l i. inl i) g
+        | inr g ↦ gained_of_more Log2 (λ l. Log1 l ⊎ Log2 l) short p (λ l i. inr i) g
       ])
       (λ p g. elim g.is_log [
         | inl l ↦ inl (record {
@@ -203,7 +211,7 @@ module _ {E : Type 0} where
       ])
       (count_both (IsGained Log1 short) (IsGained Log2 short) m n (λ p g h.
       let c : g.first ∷ g.more ≡ h.first ∷ h.more =
-      append_cancel short (g.first ∷ g.more) (h.first ∷ h.more) (sym g.longer ∙ h.longer) in
+      append_cancel_left short (g.first ∷ g.more) (h.first ∷ h.more) (sym g.longer ∙ h.longer) in
       let d : h.first ≡ g.first = cc in
       f g.first (g.more ++ g.rest) (h.more ++ h.rest)
       (subst Log1 (gained_by short p g.log g.first g.more g.rest g.longer g.prefix) g.is_log)
@@ -214,4 +222,4 @@ module _ {E : Type 0} where
   pub gained_same : (Log Log2 : List E → Type 0) (short : List E) (n : ℕ) → ((l : List E) → Log l → Log2 l) →
       ((l : List E) → Log2 l → Log l) → IsCount (IsGained Log short) n → IsCount (IsGained Log2 short) n
   gained_same Log Log2 short n f g h = count_same (IsGained Log short)
-      (IsGained Log2 short) n (λ p. moved Log Log2 short p f) (λ p. moved Log2 Log short p g) h
+      (IsGained Log2 short) n (λ p. gained_of_more Log Log2 short p f) (λ p. gained_of_more Log2 Log short p g) h

@@ -9,6 +9,8 @@ use Rattle.run_laws.specs.Handlers.{HandlesLawfully}
 use Rattle.run_laws.proofs.Machine.{reach_keeps}
 use Rattle.run_laws.proofs.Worlds.{put_cases, log_here, log_there, entry_of, run_reached}
 
+-- ---- replay
+
 module _ {S M N : Type 0} (sim : Simulation S M N) where
   -- one entry more is handled after the others
   replay-push : (s : ℕ) (st : S) (es : List (Entry M N)) (e : Entry M N) →
@@ -30,6 +32,8 @@ module _ {S M N : Type 0} (sim : Simulation S M N) where
       ∙ replay-push r (opening r) (log_of sim.to r x.trace) e
       ∙ ap (λ st. (sim.handle r st m).state) (sym (h r))))
       (λ s n. h s ∙ sym (ap (replay sim.to sim.handle s (opening s)) (log_there sim.to s x.trace e (λ p. n (sym p)))))
+
+-- ---- state_at
 
 module _ {S M N : Type 0} {sim : Simulation S M N} {Good : ℕ → S → Type 0} (law : HandlesLawfully sim Good) where
   -- the state of a station at a front is the replay of its log from its opening state

@@ -1,14 +1,15 @@
 -- The trace of a run rises strictly by time, sender and number, since no two messages of a run have one sender and
 -- number.
-use Rattle.std.proofs.Common.{◌≡◌, ℕ, suc, ◌<◌, min, List, [], ◌∷◌, ◌++◌, ◌⊎◌}
-use Rattle.std.proofs.Common.{inl, inr, Some, refl, sym, ap, ◌∙◌, subst, arith, map}
+use Rattle.std.proofs.Common.{◌≡◌, ℕ, suc, ◌<◌, ◌≤◌, min, List, [], ◌∷◌, ◌++◌, ◌⊎◌}
+use Rattle.std.proofs.Common.{inl, inr, refl, sym, ap, ◌∙◌, subst, arith, map}
 use Rattle.std.specs.declared.cmp.Ordering.{Ordering}
 use Rattle.std.specs.declared.cmp.Ordering.TheVariants.{Less, Equal, Greater}
 use Rattle.std.specs.List.{AllByRecursion}
-use Rattle.std.specs.Cmp.{IsTotalOrder, ranks, nat_cmp_total}
+use Rattle.std.specs.Cmp.{IsTotalOrder, ranks, nat_cmp_total, nat_cmp_is}
 use Rattle.std.specs.Ordering.{MatchOrdering, nat_cmp, ordering_then}
 use Rattle.std.proofs.lemmas.Cmp.{on_total, then_total}
 use Rattle.std.proofs.lemmas.List.{map_push}
+use Rattle.std.proofs.lemmas.Option.{same_Some}
 use Rattle.sim_base.specs.Clones.{Clone}
 use Rattle.sim_base.specs.declared.decision.Planned.{Planned}
 use Rattle.sim_base.specs.declared.entry.Entry.{Entry}
@@ -27,21 +28,35 @@ use Rattle.run_laws.proofs.Lists.{in_append, sorted_append}
 use Rattle.run_laws.proofs.Running.{fine_keeps}
 use Rattle.run_laws.proofs.Worlds.{put_cases, put_same, in_openings, in_set_messages}
 use Rattle.run_laws.proofs.Worlds.{entry_of, world_lawful, begins_fine, run_reached}
+use Rattle.run_laws.specs.Merges.{entry_order}
+
+-- ---- ordering_then
 
 -- what is less by the first of two orders is less
-below_first : (x y : ℕ) (s : Ordering) → x < y → ordering_then (nat_cmp x y) s ≡ Less
-below_first x y s l = by (nat_cmp x y) (ranks x y)
+ordering_then-lt : (x y : ℕ) (s : Ordering) → x < y → ordering_then (nat_cmp x y) s ≡ Less
+ordering_then-lt x y s l = ap (λ o. ordering_then o s) (sym (nat_cmp_is x y Less l))
+
+-- and what is less by both is not greater by the first
+pub ordering_then-le : (x y : ℕ) (s : Ordering) → ordering_then (nat_cmp x y) s ≡ Less → x ≤ y
+ordering_then-le x y s e = by (nat_cmp x y) (ranks x y) e
   where
-    by : (r : Ordering) → MatchOrdering r (x < y) (x ≡ y) (y < x) → ordering_then r s ≡ Less
-    by Less h = refl
-    by Equal h = absurd (omega (arith, h, l))
-    by Greater h = absurd (omega (arith, h, l))
+    -- by how the two numbers lie
+    by : (r : Ordering) → MatchOrdering r (x < y) (x ≡ y) (y < x) → ordering_then r s ≡ Less → x ≤ y
+    by Less h e = omega (arith, h)
+    by Equal h e = omega (arith, h)
+    by Greater h e = let n : ⊥ = cc in absurd n
+
+-- ---- key_order
 
 module _ {M : Type 0} (time sender number : M → ℕ) where
   -- the order of keys is total
   pub key_total : IsTotalOrder (key_order time sender number)
   key_total = then_total (on_total time nat_cmp_total)
       (then_total (on_total sender nat_cmp_total) (on_total number nat_cmp_total))
+
+  -- and so is the order of entries by key
+  pub entry_total : (N : Type 0) → IsTotalOrder (entry_order {M = M} {N = N} time sender number)
+  entry_total N = on_total (λ (e : Entry M N). e.msg) key_total
 
   -- keys that tie have one sender and number
   key_same : (x y : M) → key_order time sender number x y ≡ Equal → (sender x ≡ sender y) × (number x ≡ number y)
@@ -99,13 +114,13 @@ module _ {S M N : Type 0} {sim : Simulation S M N} {Good : ℕ → S → Type 0}
       -- all that is pending then comes after what was handled
       let above : (z : M) → In z (insert_all sim.order sent q) → key_order sim.time sender number m z ≡ Less =
       λ z i. elim (cases z i) [
-        | inl j ↦ below_first (sim.time m) (sim.time z) _
+        | inl j ↦ ordering_then-lt (sim.time m) (sim.time z) _
             (all_in (λ x. sim.time m < sim.time x) sent z (law.later r st m g) j)
         | inr j ↦ let l = all_in (λ y. sim.order m y ≡ Less) q z s.0 j in elim (fresh.keyed m z l) [
           | inl e ↦ e
           | inr e ↦ let k = key_same sim.time sender number m z e in let d =
               h.apart m z (inr (inl refl)) (inr (inr j)) k.0 k.1 in
-              absurd (not_below_itself law.order.order m (subst (λ y. sim.order m y ≡ Less) (sym d) l))
+              absurd (not_below_itself law.order.order.total m (subst (λ y. sim.order m y ≡ Less) (sym d) l))
         ]
       ] in
       record {
@@ -162,10 +177,6 @@ module _ {S M N : Type 0} {sim : Simulation S M N} {Good : ℕ → S → Type 0}
       absurd (omega (arith, n, a, b))
   set_messages_apart k (p ∷ ps) z y (inr i) (inr j) n = set_messages_apart (suc k) ps z y i j n
 
-  -- an option has one value
-  some_same : (z y : M) → Some z ≡ Some y → z ≡ y
-  some_same z y e = cc
-
   -- a world begins so, where its decisions are for stations
   pub begins_fresh : (plans : List Planned) → AreForStations sim plans → Fresh (begin sim plans)
   begins_fresh plans there =
@@ -192,7 +203,7 @@ module _ {S M N : Type 0} {sim : Simulation S M N} {Good : ℕ → S → Type 0}
           | inl a ↦ elim (seen y j) [
             | inl b ↦ let h = in_openings sim sim.stations z a in let k = in_openings sim sim.stations y b in
                 let same : h.0 ≡ k.0 = sym (fresh.opened h.0 z h.1 h.2).0 ∙ e ∙ (fresh.opened k.0 y k.1 k.2).0 in
-                some_same z y (sym h.2 ∙ ap (λ r. (sim.setup r).first) same ∙ k.2)
+                same_Some z y (sym h.2 ∙ ap (λ r. (sim.setup r).first) same ∙ k.2)
             | inr b ↦ let o = own z a in let t = analyst y b in absurd (omega (arith, e, o, t))
           ]
           | inr a ↦ elim (seen y j) [

@@ -12,6 +12,8 @@ use Rattle.run_laws.proofs.Gaining.{shorter_before, handled_grows}
 use Rattle.run_laws.proofs.NextFronts.{window_end-within, next_front-rises}
 use Rattle.run_laws.proofs.HandledStays.{handled-0}
 
+-- ---- WindowsGain
+
 module _ {S M N K : Type 0} {sim : Simulation S M N} {Good : ℕ → S → Type 0} (law : HandlesLawfully sim Good)
     {has : K → ℕ → Bool} {join : K → K → K} (j : JoinsMarks has join) (same : Entry M N → Entry M N → Bool)
     (decides : TellsEntries same)

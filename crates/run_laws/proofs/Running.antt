@@ -6,10 +6,10 @@ use Rattle.std.specs.declared.cmp.Ordering.TheVariants.{Less, Equal, Greater}
 use Rattle.std.specs.List.{AllByRecursion}
 use Rattle.std.proofs.lemmas.Bool.{cases_eq, ne_eqb}
 use Rattle.run_laws.specs.Queue.{insert_by, insert, insert_all, In, Sorted}
-use Rattle.run_laws.specs.Machine.{Config, count_at, after, turns, run_to, Next, Reach, stay, go, Done}
+use Rattle.run_laws.specs.Machine.{Config, count_at, after, turns, run_to, Next, Reach, stay, go, IsSettled}
 use Rattle.run_laws.specs.Handlers.{IsTimed, IsLawful}
 use Rattle.run_laws.specs.Laws.{and_pending, IsReady}
-use Rattle.sim_base.proofs.Placing.{all_weaker}
+use Rattle.sim_base.proofs.ListLaws.{all_weaker}
 use Rattle.run_laws.proofs.Queue.{all_in, all_from, all_insert_all}
 use Rattle.run_laws.proofs.Queue.{in_insert, sorted_insert, sorted_insert_all, insert_swap}
 use Rattle.run_laws.proofs.Machine.{reach_trans, ends_same}
@@ -26,6 +26,8 @@ module _ {M : Type 0} (time : M → ℕ) where
   pub all_from_zero : (q : List M) → AllByRecursion (λ m. 0 ≤ time m) q
   all_from_zero [] = tt
   all_from_zero (m ∷ q) = (omega arith, all_from_zero q)
+
+  -- ---- count_at
 
   -- a message of the time counts
   count_yes : (t : ℕ) (m : M) (q : List M) → time m ≡ t → count_at time t (m ∷ q) ≡ suc (count_at time t q)
@@ -73,6 +75,8 @@ module _ {M : Type 0} (time : M → ℕ) where
     count_insert_all t (x ∷ xs) q l = count_insert_all t xs (insert cmp x q) l.1
         ∙ count_insert t x q (λ e. let a : t < time x = l.0 in omega arith)
 
+-- ---- Sorted
+
 module _ {M : Type 0} {cmp : M → M → Ordering} {time : M → ℕ} (o : IsTimed cmp time) where
   -- the head of a list in order has the least time
   head_least : (m : M) (q : List M) (z : M) → Sorted cmp (m ∷ q) → In z (m ∷ q) → time m ≤ time z
@@ -88,6 +92,8 @@ module _ {M : Type 0} {cmp : M → M → Ordering} {time : M → ℕ} (o : IsTim
 
 module _ {X M : Type 0} {cmp : M → M → Ordering} {time : M → ℕ} {handle : X → M → X × List M} {Good : X → Type 0}
     (o : IsTimed cmp time) (law : IsLawful time handle Good) where
+  -- ---- Fine
+
   -- a turn keeps a machine fine
   fine_after : (t : ℕ) (x : X) (m : M) (q : List M) → Good x → Sorted cmp (m ∷ q) →
       AllByRecursion (λ m. t ≤ time m) (m ∷ q) → Fine cmp time Good t (after cmp handle x m q)
@@ -123,6 +129,8 @@ module _ {X M : Type 0} {cmp : M → M → Ordering} {time : M → ℕ} {handle 
       (subst (λ q. Fine cmp time Good t (record { at = e.at; pending = q })) n.pending (fine_reach t g r))
       n.early
       (subst (λ q. P (record { at = e.at; pending = q })) n.pending (fine_keeps t P a f g r)))
+
+  -- ---- run_to
 
   -- as many turns as there are messages of a time handle just those
   turns_reach : (bound t n : ℕ) (x : X) (q : List M) → t < bound
@@ -161,7 +169,7 @@ module _ {X M : Type 0} {cmp : M → M → Ordering} {time : M → ℕ} {handle 
 
   -- whatever turns lead to where nothing before the bound is left, that is the run
   pub run_is : (bound : ℕ) (c d : Config X M) → Fine cmp time Good 0 c → Reach cmp time handle bound c d →
-      Done time bound d → d ≡ run_to cmp handle time c bound
+      IsSettled time bound d → d ≡ run_to cmp handle time c bound
   run_is bound c d f r e = let h = run_reach bound bound c (omega arith) f in ends_same r e h.0 h.1.from_t
 
   -- a run to one bound goes on to a later one

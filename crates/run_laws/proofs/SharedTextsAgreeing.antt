@@ -20,20 +20,23 @@ use Rattle.run_laws.proofs.Worlds.{world_lawful}
 use Rattle.run_laws.proofs.Fronts.{trace_at_front}
 use Rattle.run_laws.specs.SharedTexts.{parting, shared_to, TellsPlans}
 
+-- ---- run_to
+
 module _ {X M : Type 0} {cmp : M → M → Ordering} {time : M → ℕ} {handle : X → M → X × List M} {Good : X → Type 0}
     (o : IsTimed cmp time) (law : IsLawful time handle Good) where
-  -- where a machine that begins with these messages stands at a bound
-  abbrev pub led : X → List M → ℕ → X
-  led x q bound = (run_to cmp handle time (record { at = x; pending = q }) bound).at
+  -- the state that a machine which begins with these messages has at a bound
+  abbrev state_at_bound : X → List M → ℕ → X
+  state_at_bound x q bound = (run_to cmp handle time (record { at = x; pending = q }) bound).at
 
-  -- messages from the bound on change nothing of where the run stands
-  pub late_left_out : (bound : ℕ) (x : X) → Good x → (ms q : List M) → Sorted cmp q →
-      led x (insert_all cmp ms q) bound ≡ led x (insert_all cmp (earlier_than time bound ms) q) bound
+  -- messages from the bound on change nothing of that state
+  late_left_out : (bound : ℕ) (x : X) → Good x → (ms q : List M) → Sorted cmp q →
+      state_at_bound x (insert_all cmp ms q) bound
+      ≡ state_at_bound x (insert_all cmp (earlier_than time bound ms) q) bound
   late_left_out bound x g [] q s = refl
   late_left_out bound x g (m ∷ ms) q s =
       let early : List M = earlier_than time bound ms in
       -- with or without the message, by whether it comes before the bound
-      let cut : Bool → X = λ b. led x (insert_all cmp (cond b (m ∷ early) early) q) bound in
+      let cut : Bool → X = λ b. state_at_bound x (insert_all cmp (cond b (m ∷ early) early) q) bound in
       elim (cases_lt (time m) bound) [
         | inl l ↦
             late_left_out bound x g ms (insert cmp m q) (sorted_insert o.order m q s)
@@ -45,7 +48,7 @@ module _ {X M : Type 0} {cmp : M → M → Ordering} {time : M → ℕ} {handle 
               sorted = sorted_insert_all o.order ms q s;
               from_t = all_from_zero time all.pending;
             } in
-            ap (λ p. led x p bound) (insert_swap o.order m ms q s)
+            ap (λ p. state_at_bound x p bound) (insert_swap o.order m ms q s)
             ∙ ap (λ c. c.at) (run_late o law bound all m l fine)
             ∙ late_left_out bound x g ms q s
             ∙ ap cut (sym (le-ltb (time m) bound l))
@@ -60,7 +63,8 @@ module _ {S M N : Type 0} {sim : Simulation S M N} {Good : ℕ → S → Type 0}
       let first : List M = openings sim sim.stations in
       let x : World S M N = (begin sim []).at in
       -- where the openings and the decisions below the time lead to
-      let world : List M → World S M N = λ l. led law.order (world_lawful law) x (insert_all sim.order l []) t in
+      let world : List M → World S M N = λ l.
+      state_at_bound law.order (world_lawful law) x (insert_all sim.order l []) t in
       let below : List Planned → List M = λ plans. earlier_than sim.time t (set_messages sim 0 plans) in
       let cut : (plans : List Planned) → (run sim plans t).at ≡ world (earlier_than sim.time t first ++ below plans) =
       λ plans.
@@ -80,6 +84,8 @@ module _ {S M N : Type 0} {sim : Simulation S M N} {Good : ℕ → S → Type 0}
   traces_agree c d t l k h e =
       before_time c t l h ∙ ap (λ w. w.trace) (worlds_agree c.plans d.plans t e) ∙ sym (before_time d t k h)
 
+-- ---- parting
+
 module _ {S M N : Type 0} (sim : Simulation S M N) where
   -- a message at the time or later is left out
   left_out : (t : ℕ) (m : M) (ms : List M) → t ≤ sim.time m →
@@ -88,7 +94,7 @@ module _ {S M N : Type 0} (sim : Simulation S M N) where
       ap (λ b. cond b (m ∷ earlier_than sim.time t ms) (earlier_than sim.time t ms)) (le-ltb (sim.time m) t l)
 
   module _ (same : Planned → Planned → Bool) (tells : TellsPlans sim same) where
-    -- so is a decision from then on, wherever it stands in the list
+    -- so is a decision from then on, wherever it is in the list
     late_plan : (k t : ℕ) (p : Planned) (ps : List Planned) → t ≤ p.at →
         earlier_than sim.time t (set_messages sim k (p ∷ ps)) ≡ earlier_than sim.time t (set_messages sim (suc k) ps)
     late_plan k t p ps l =
@@ -96,7 +102,7 @@ module _ {S M N : Type 0} (sim : Simulation S M N) where
         left_out t (sim.set_message k p) (set_messages sim (suc k) ps) (omega (arith, e, l))
 
     -- below where they part, two lists have the same decisions
-    pub agree_below : (most k t : ℕ) (ps qs : List Planned) → t ≤ parting same most ps qs →
+    agree_below : (most k t : ℕ) (ps qs : List Planned) → t ≤ parting same most ps qs →
         earlier_than sim.time t (set_messages sim k ps) ≡ earlier_than sim.time t (set_messages sim k qs)
     agree_below most k t [] [] l = refl
     agree_below most k t (p ∷ ps) [] l =

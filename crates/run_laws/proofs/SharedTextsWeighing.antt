@@ -4,9 +4,7 @@ use Rattle.std.proofs.Common.{true, false, not, cond, nat_lt, refl, sym, ap, ◌
 use Rattle.std.specs.Prelude.{sum_by}
 use Rattle.std.specs.List.{filter, flat_map, AllByRecursion}
 use Rattle.std.specs.declared.cmp.Ordering.{Ordering}
-use Rattle.std.specs.declared.cmp.Ordering.TheVariants.{Less, Equal, Greater}
-use Rattle.std.specs.Cmp.{ranks}
-use Rattle.std.specs.Ordering.{MatchOrdering, nat_cmp, ordering_then}
+use Rattle.std.specs.declared.cmp.Ordering.TheVariants.{Less}
 use Rattle.std.proofs.lemmas.Bool.{cases_eq, ne_eqb, cases_lt, lt-ltb, le-ltb}
 use Rattle.std.proofs.lemmas.List.Sums.{sum_by-cons}
 use Rattle.std.proofs.lemmas.List.Concat.{length-flat_map}
@@ -20,13 +18,14 @@ use Rattle.run_laws.specs.Simulation.{Simulation}
 use Rattle.run_laws.specs.World.{log_of}
 use Rattle.run_laws.specs.Runs.{end_of, trace_of, log_at}
 use Rattle.run_laws.specs.Handlers.{IsStation, AreForStations, HandlesLawfully, SendsToStations, HandlesFreshly}
+use Rattle.run_laws.specs.Handlers.{IsStationOf}
 use Rattle.run_laws.specs.Laws.{before}
-use Rattle.sim_base.proofs.Placing.{all_weaker}
-use Rattle.run_laws.proofs.Queue.{all_in, all_from}
+use Rattle.sim_base.proofs.ListLaws.{all_weaker}
+use Rattle.run_laws.proofs.Queue.{all_in, all_from, same_elements}
 use Rattle.run_laws.proofs.Lists.{in_filter, filter_keeps, filter_swap, filter_all, filter_none, sorted_filter}
 use Rattle.run_laws.specs.Merges.{entry_order}
-use Rattle.run_laws.proofs.Merges.{same_rising}
-use Rattle.run_laws.proofs.Traces.{entries_total, trace_sorted, of_station, in_trace}
+use Rattle.run_laws.proofs.Rising.{ordering_then-le, entry_total}
+use Rattle.run_laws.proofs.Traces.{trace_sorted, of_station, in_trace}
 use Rattle.run_laws.specs.SharedTexts.{station_sum, from_on, log_from, shared_to, TellsPlans}
 use Rattle.run_laws.specs.TraceLaws.{InLists}
 use Rattle.run_laws.proofs.SharedTextsAgreeing.{agree_to_parting}
@@ -72,7 +71,7 @@ module _ {M N : Type 0} (to : M → ℕ) (weigh : Entry M N → ℕ) where
   sum_of_none (suc n) = let a = sum_of_none n in omega (arith, a)
 
   -- entries for the stations 1 to n weigh what they do station after station
-  weighed : (n : ℕ) (es : List (Entry M N)) → AllByRecursion (λ e. (0 < to e.msg) × (to e.msg ≤ n)) es →
+  weighed : (n : ℕ) (es : List (Entry M N)) → AllByRecursion (λ e. IsStationOf n (to e.msg)) es →
       sum_by weigh es ≡ station_sum (weight es) n
   weighed n [] h = sym (sum_of_none n)
   weighed n (e ∷ es) h =
@@ -88,12 +87,6 @@ module _ {M N : Type 0} (to : M → ℕ) (weigh : Entry M N → ℕ) where
 
 -- ---- from_on
 
--- what is less by time first is not later
-first_timed : (x y : ℕ) (r s : Ordering) → MatchOrdering r (x < y) (x ≡ y) (y < x) → ordering_then r s ≡ Less → x ≤ y
-first_timed x y Less s m h = omega (arith, m)
-first_timed x y Equal s m h = omega (arith, m)
-first_timed x y Greater s m h = let a : ⊥ = cc in absurd a
-
 -- x comes before a time
 abbrev is_early : {X : Type 0} → (X → ℕ) → ℕ → X → Bool
 is_early time t x = nat_lt (time x) t
@@ -104,9 +97,11 @@ is_late time t x = not (nat_lt (time x) t)
 
 module _ {X : Type 0} (time : X → ℕ) (cmp : X → X → Ordering) (timed : (x y : X) → cmp x y ≡ Less → time x ≤ time y)
     (t : ℕ) where
+  -- an element before the time
   abbrev early : X → Bool
   early = is_early time t
 
+  -- and one at it or later
   abbrev late : X → Bool
   late = is_late time t
 
@@ -135,16 +130,17 @@ module _ {X : Type 0} (time : X → ℕ) (cmp : X → X → Ordering) (timed : (
 module _ {S M N : Type 0} {sim : Simulation S M N} {Good : ℕ → S → Type 0} {sender number : M → ℕ} {next : S → ℕ}
     (law : HandlesLawfully sim Good) (stations : SendsToStations sim Good)
     (fresh : HandlesFreshly sim Good sender number next) where
+  -- the order of entries by key
   abbrev by_key : Entry M N → Entry M N → Ordering
   by_key = entry_order sim.time sender number
 
+  -- the time of an entry
   abbrev time_of : Entry M N → ℕ
   time_of e = sim.time e.msg
 
   -- the order by key goes by time
   keys_timed : (e f : Entry M N) → by_key e f ≡ Less → time_of e ≤ time_of f
-  keys_timed e f h = first_timed (time_of e) (time_of f) (nat_cmp (time_of e) (time_of f)) _
-      (ranks (time_of e) (time_of f)) h
+  keys_timed e f h = ordering_then-le (time_of e) (time_of f) _ h
 
   -- a trace is what comes before a time, and then the rest
   pub trace_split : (c : Clone) (t : ℕ) → AreForStations sim c.plans →
@@ -201,7 +197,7 @@ module _ {S M N : Type 0} {sim : Simulation S M N} {Good : ℕ → S → Type 0}
       let later : Entry M N → Bool = is_late time_of t in
       let trace : List (Entry M N) = trace_of sim c in
       let rises = sorted_filter by_key later trace (trace_sorted law stations fresh c sim.horizon there) in
-      same_rising (entries_total law stations fresh) es (from_on sim t trace) sorted rises
+      same_elements (entry_total sim.time sender number N) es (from_on sim t trace) sorted rises
       (λ e i.
       let h = from e i in
       let k = in_filter later (log_at sim c h.0 sim.horizon) e h.2 in

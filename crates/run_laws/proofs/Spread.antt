@@ -3,19 +3,22 @@ use Rattle.std.proofs.Common.{◌≡◌, ℕ, List, [], ◌∷◌, Option, Some,
 use Rattle.std.proofs.Common.{◌&&◌, ◌||◌, cond, nat_lt, inl, inr, refl, sym, ap, ◌∙◌, eq-eqb}
 use Rattle.std.specs.Prelude.{is_some, if◌then◌else◌}
 use Rattle.std.specs.List.{AllByRecursion}
-use Rattle.std.proofs.lemmas.Bool.{cases_eq, eqb-true, ne_eqb}
+use Rattle.std.proofs.lemmas.Bool.{cases_eq, eqb-true, ne_eqb, and_parts, or_right}
 use Rattle.sim_base.specs.Pending.{spread_marks}
 use Rattle.sim_base.specs.Marked.{JoinsMarks, MeetsMarks}
 use Rattle.run_laws.specs.Simulation.{Simulation}
 use Rattle.run_laws.specs.Copies.{part, messages_taken, takes_as, origin_of}
 use Rattle.run_laws.specs.MarkLaws.{AreOf}
-use Rattle.run_laws.proofs.Bools.{and_cases, or_second}
 use Rattle.run_laws.proofs.Cuts.{and-second}
+
+-- ---- ||
 
 -- where the second of two does not pass, the first alone decides
 or-second : (a b : Bool) → b ≡ false → (a || b) ≡ a
 or-second true b h = refl
 or-second false b h = h
+
+-- ---- spread_marks
 
 module _ {K : Type 0} {has : K → ℕ → Bool} {join : K → K → K} {meet : K → K → Option K} (joins : JoinsMarks has join)
     (meets : MeetsMarks has meet)
@@ -25,9 +28,10 @@ module _ {K : Type 0} {has : K → ℕ → Bool} {join : K → K → K} {meet : 
   has_old : (k u : K) → meet k by ≡ Some u → has k old ≡ true
   has_old k u e =
       let d = common k by u e in
-      let h = and_cases (has k d.0) (has by d.0) (sym (meets.some k by u e d.0) ∙ d.1) in
+      let h = and_parts (has k d.0) (has by d.0) (sym (meets.some k by u e d.0) ∙ d.1) in
       ap (has k) (eqb-true old d.0 (sym (is_by d.0) ∙ h.1)) ∙ h.0
 
+  -- a message is marked with a clone where it was marked with the clone that it was
   spread_mark : (r : Option K) (k : K) (c : ℕ) → meet k by ≡ r → has k new ≡ false →
       has (if is_some r then join k more else k) c ≡ has k (origin_of old new c)
   spread_mark None k c e f = elim (cases_eq c new) [
@@ -36,7 +40,7 @@ module _ {K : Type 0} {has : K → ℕ → Bool} {join : K → K → K} {meet : 
     | inr n ↦ sym (ap (λ b. has k (cond b old c)) (ne_eqb c new n))
   ]
   spread_mark (Some u) k c e f = joins.joined k more c ∙ elim (cases_eq c new) [
-    | inl p ↦ or_second (has k c) (has more c) (is_more c ∙ eq-eqb new c (sym p)) ∙ sym (has_old k u e)
+    | inl p ↦ or_right (has k c) (has more c) (is_more c ∙ eq-eqb new c (sym p)) ∙ sym (has_old k u e)
         ∙ sym (ap (λ b. has k (cond b old c)) (eq-eqb c new p))
     | inr n ↦ or-second (has k c) (has more c) (is_more c ∙ ne_eqb new c (λ p. n (sym p)))
         ∙ sym (ap (λ b. has k (cond b old c)) (ne_eqb c new n))

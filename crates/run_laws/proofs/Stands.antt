@@ -11,7 +11,7 @@ use Rattle.run_laws.specs.Simulation.{Simulation}
 use Rattle.run_laws.specs.Window.{Part, earlier_than, alone_at, local}
 use Rattle.run_laws.specs.Runs.{end_of, log_at, state_at, all_due, due_at}
 use Rattle.run_laws.specs.Fronts.{next_front}
-use Rattle.run_laws.specs.Handlers.{IsStation, AreForStations, HandlesLawfully, SendsToStations}
+use Rattle.run_laws.specs.Handlers.{IsStation, HandlesLawfully, SendsToStations, AllAreForStations}
 use Rattle.run_laws.specs.Laws.{before, window, WindowsGive}
 use Rattle.run_laws.specs.Copies.{Copy, Carries, takes, messages_taken, alone_from, IsStepped}
 use Rattle.run_laws.specs.Copies.{ends_of, Stands, AllStepped, HasReceived, IsDelivered}
@@ -25,6 +25,8 @@ use Rattle.run_laws.proofs.Late.{due_sorted}
 use Rattle.run_laws.proofs.CloneWindows.{windows_give_run}
 use Rattle.run_laws.proofs.Parts.{sorted_part}
 
+-- ---- In
+
 -- a clone that is there is one of the clones
 pub clone_in : (cs : List Clone) (c : ℕ) → c < length cs → In (clone_at cs c) cs
 clone_in [] c l = absurd (omega arith)
@@ -36,6 +38,8 @@ nothing_in : {X : Type 0} (xs : List X) → ((x : X) → In x xs → ⊥) → xs
 nothing_in [] f = refl
 nothing_in (x ∷ xs) f = absurd (f x (inl refl))
 
+-- ---- IsStation
+
 -- a number is a station's, or not
 station_or_not : {S M N : Type 0} (sim : Simulation S M N) (r : ℕ) → IsStation sim r ⊎ (IsStation sim r → ⊥)
 station_or_not sim r = elim (cases_lt 0 r) [
@@ -46,9 +50,11 @@ station_or_not sim r = elim (cases_lt 0 r) [
   | inr a ↦ inr (λ h. let l : 0 < r = h.0 in omega arith)
 ]
 
+-- ---- window
+
 module _ {S M N : Type 0} {sim : Simulation S M N} {Good : ℕ → S → Type 0} (law : HandlesLawfully sim Good) where
   -- a station with nothing due lays nothing aside
-  pub idle_window : (c : Clone) (r front bound : ℕ) → due_at sim c r front ≡ [] →
+  idle_window : (c : Clone) (r front bound : ℕ) → due_at sim c r front ≡ [] →
       (window sim c r front bound).at.aside ≡ []
   idle_window c r front bound e =
       let x : Config (Part S M N) M = alone_at (log_at sim c r front) (state_at sim c r front) (due_at sim c r front) in
@@ -60,9 +66,11 @@ module _ {S M N : Type 0} {sim : Simulation S M N} {Good : ℕ → S → Type 0}
       })
       stay (subst (AllByRecursion (λ m. min bound (end_of sim c) ≤ sim.time m)) (sym e) tt)))
 
+-- ---- Stands
+
 module _ {S M N K : Type 0} {sim : Simulation S M N} {Good : ℕ → S → Type 0} (law : HandlesLawfully sim Good)
     (to_stations : SendsToStations sim Good) (has : K → ℕ → Bool) (cs : List Clone) (front bound : ℕ)
-    (for_stations : (c : ℕ) → c < length cs → AreForStations sim (clone_at cs c).plans) (later : front ≤ bound)
+    (for_stations : AllAreForStations sim cs) (later : front ≤ bound)
     (within : bound ≤ next_front sim cs front)
     (s : ℕ) (here : IsStation sim s) (olds : ℕ → List (Copy S M N K)) (sent : ℕ → List (M × K))
     (new done : List (Copy S M N K))
@@ -159,7 +167,7 @@ module _ {S M N K : Type 0} {sim : Simulation S M N} {Good : ℕ → S → Type 
       (window sim k s front bound).pending =
       step.pending g.old g.mid c g.in_old g.in_new g.has_old g.has_mid ∙ ap (λ u. earlier_than sim.time end u.pending)
       (is_window s here g.old c g.in_old g.has_old) in
-      same_elements law.order.order (messages_taken sim has (ends_of sim cs) c b.pending) (due_at sim k s bound)
+      same_elements law.order.order.total (messages_taken sim has (ends_of sim cs) c b.pending) (due_at sim k s bound)
       (sorted_part (takes sim has (ends_of sim cs)) sim.order c b.pending (got.sorted b i))
       (v.sorted s)
       (λ z t. elim (g.received.from c z g.has_mid t) [
@@ -183,7 +191,7 @@ module _ {S M N K : Type 0} {sim : Simulation S M N} {Good : ℕ → S → Type 
       ])
 
   -- the copies of station s stand for the clones at the bound
-  pub stands_window : Stands sim has cs bound s done
+  stands_window : Stands sim has cs bound s done
   stands_window = record {
     inhabited = λ b i. let d = got.from b i in let e = step.inhabited d.0 d.1 in
         (e.0, subst (λ k. has k e.0 ≡ true) (sym d.2.set) e.1);
@@ -217,8 +225,8 @@ pub stands_after_window : {S M N K : Type 0} {sim : Simulation S M N} {Good : �
     (law : HandlesLawfully sim Good) (to_stations : SendsToStations sim Good) (has : K → ℕ → Bool) (cs : List Clone)
     (front bound : ℕ) (olds news : ℕ → List (Copy S M N K)) (sent : ℕ → List (M × K)) (s : ℕ)
     (done : List (Copy S M N K)) →
-    ((c : ℕ) → c < length cs → AreForStations sim (clone_at cs c).plans) → front ≤ bound →
-    bound ≤ next_front sim cs front → AllStepped sim has cs front bound olds news sent → IsStation sim s →
+    AllAreForStations sim cs → front ≤ bound → bound ≤ next_front sim cs front →
+    AllStepped sim has cs front bound olds news sent → IsStation sim s →
     IsDelivered sim has cs s sent (news s) done → Stands sim has cs bound s done
 stands_after_window {S} {M} {N} {K} {sim} {Good} law to_stations has cs front bound olds news sent s done for_stations
     later within all here got =

@@ -1,28 +1,32 @@
 -- A step of all copies of a station: copy after copy, each with its results at the bound.
 use Rattle.std.proofs.Common.{◌≡◌, ℕ, ◌≤◌, ◌<◌, List, [], ◌∷◌, ◌++◌, inl, inr, Bool}
 use Rattle.std.proofs.Common.{true, false, nat_lt, refl, sym, ap, ◌∙◌, subst, arith, length}
-use Rattle.std.proofs.lemmas.Bool.{false≢true}
+use Rattle.std.proofs.lemmas.Bool.{false≢true, and_parts, false_from_ne_true}
 use Rattle.run_laws.specs.Queue.{In}
-use Rattle.run_laws.specs.Machine.{Config}
+use Rattle.run_laws.specs.Machine.{Config, IsSettled}
 use Rattle.run_laws.specs.Simulation.{Simulation}
 use Rattle.run_laws.specs.Window.{Part, earlier_than}
 use Rattle.run_laws.specs.Handlers.{HandlesLawfully}
 use Rattle.sim_base.specs.Marked.{JoinsMarks, SortedMarked}
 use Rattle.run_laws.specs.Copies.{Copy, Carries, takes, messages_taken, view, Turns}
-use Rattle.run_laws.specs.Copies.{IsSettled, ComesTo, alone_from, IsStepped, AreOver, SoFar}
-use Rattle.run_laws.proofs.Bools.{and_cases}
+use Rattle.run_laws.specs.Copies.{ComesTo, alone_from, IsStepped, AreOver, SoFar}
 use Rattle.run_laws.proofs.Lists.{in_append, append_old, append_new, filter_all}
 use Rattle.run_laws.proofs.Parts.{sorted_part, all_part}
 use Rattle.run_laws.proofs.Until.{IsCutOf, cut_of_local}
-use Rattle.run_laws.proofs.ComesTo.{disjoint_append, not_has, moved_view, comes_to_end}
+use Rattle.run_laws.proofs.ComesTo.{disjoint_append, view-moved, turns-settle}
+use Rattle.run_laws.specs.StepLaws.{AreReady}
+
+-- ---- messages_taken
 
 module _ {S M N K : Type 0} (sim : Simulation S M N) (has : K → ℕ → Bool) (ends : ℕ → ℕ) where
   -- what a clone takes comes before its end
-  pub taken_early : (c : ℕ) (q : List (M × K)) →
+  taken_early : (c : ℕ) (q : List (M × K)) →
       earlier_than sim.time (ends c) (messages_taken sim has ends c q) ≡ messages_taken sim has ends c q
   taken_early c q = filter_all (λ m. nat_lt (sim.time m) (ends c)) (messages_taken sim has ends c q)
       (all_part (takes sim has ends) c (λ m. nat_lt (sim.time m) (ends c) ≡ true) q
-      (λ x k e. (and_cases (has k c) (nat_lt (sim.time x) (ends c)) e).1))
+      (λ x k e. (and_parts (has k c) (nat_lt (sim.time x) (ends c)) e).1))
+
+  -- ---- SoFar
 
   module _ (s bound : ℕ) where
     -- at first no copy was stepped
@@ -51,7 +55,7 @@ module _ {S M N K : Type 0} {sim : Simulation S M N} {Good : ℕ → S → Type 
 
   -- it has nothing left before the bound
   abbrev Settles : Config (Part S M N) M → Type 0
-  Settles = IsSettled sim has ends s bound
+  Settles = IsSettled sim.time bound
 
   -- one copy more
   pub so_far_more : (old new results : List (Copy S M N K)) (r : Copy S M N K) (out next : List (M × K))
@@ -65,11 +69,11 @@ module _ {S M N K : Type 0} {sim : Simulation S M N} {Good : ℕ → S → Type 
       λ b c i l k. let x = h.from b i in apart x.0 c x.1 (x.2 c l) k in
       let same_out : (c : ℕ) → (Carries has r c → ⊥)
       → messages_taken sim has ends c next ≡ messages_taken sim has ends c out =
-      λ c f. e.others c (not_has has r.set c f) in
+      λ c f. e.others c (false_from_ne_true (has r.set c) f) in
       let was_out : (c : ℕ) → Carries has r c → messages_taken sim has ends c out ≡ [] =
       λ c k. h.idle c (λ a i l. apart a c i l k) in
       let begins : (c : ℕ) → Carries has r c → seen c r out ≡ seen c r [] =
-      λ c k. moved_view law j ends s bound c r out [] (was_out c k) in
+      λ c k. view-moved law j ends s bound c r out [] (was_out c k) in
       record {
         inhabited = λ b i. elim (in_append new results b i) [ inl l ↦ h.inhabited b l | inr l ↦ e.inhabited b l ];
         from = λ b i. elim (in_append new results b i) [
@@ -93,7 +97,7 @@ module _ {S M N K : Type 0} {sim : Simulation S M N} {Good : ℕ → S → Type 
         ran = λ a b c i l k t. elim (in_append old (r ∷ []) a i) [
           | inl u ↦ elim (in_append new results b l) [
             | inl v ↦ let x = h.ran a b c u v k t in let y =
-                moved_view law j ends s bound c b out next (sym (same_out c (apart a c u k))) in
+                view-moved law j ends s bound c b out next (sym (same_out c (apart a c u k))) in
                 (subst (λ z. Goes c (seen c a []) z) y x.0, subst Settles y x.1)
             | inr v ↦ absurd (apart a c u k (e.within b c v t))
           ]
@@ -159,7 +163,7 @@ module _ {S M N K : Type 0} {sim : Simulation S M N} {Good : ℕ → S → Type 
 
   -- where no clone is over the limit, each has what its window by itself gives
   pub stepped : (old new : List (Copy S M N K)) (out : List (M × K)) (over0 over : K) →
-      ((a : Copy S M N K) → In a old → Good s a.state × SortedMarked sim.order a.pending) →
+      AreReady K sim Good s old →
       ((c : ℕ) → has over c ≡ false) → SoFar sim has ends s bound old new out over0 over →
       IsStepped sim has ends s bound old new out
   stepped old new out over0 over fine none h =
@@ -185,7 +189,7 @@ module _ {S M N K : Type 0} {sim : Simulation S M N} {Good : ℕ → S → Type 
 
   -- those over the limit are the clones whose logs are too long
   pub are_over : (old new : List (Copy S M N K)) (out : List (M × K)) (over0 over : K) →
-      ((a : Copy S M N K) → In a old → Good s a.state × SortedMarked sim.order a.pending) →
+      AreReady K sim Good s old →
       ((c : ℕ) → has over0 c ≡ false) → SoFar sim has ends s bound old new out over0 over →
       AreOver sim has ends s bound old over
   are_over old new out over0 over fine none h = record {
@@ -193,7 +197,7 @@ module _ {S M N K : Type 0} {sim : Simulation S M N} {Good : ℕ → S → Type 
       | inl x ↦ absurd (false≢true (sym (none c) ∙ x))
       | inr x ↦
           let y = fine x.0 x.1 in
-          let d = comes_to_end law j ends s bound x.0 [] c y.0 y.1 in
+          let d = turns-settle law j ends s bound x.0 [] c y.0 y.1 in
           let e = ends_alone x.0 c d.0 y.0 y.1 d.1 d.2 in
           (x.0, x.1, x.2, subst (λ l. sim.limit < length l) e.log (x.3 d.0 d.1 d.2))
     ];

@@ -7,7 +7,7 @@ use Rattle.std.proofs.lemmas.Bool.{cases_Bool, cases_lt, lt-ltb, ltb-true, false
 use Rattle.std.proofs.lemmas.List.Elements.{filter-append}
 use Rattle.sim_base.specs.declared.entry.Entry.{Entry}
 use Rattle.run_laws.specs.Queue.{insert_all, In, Sorted}
-use Rattle.run_laws.specs.Machine.{Config, after, Next, Reach, stay, go, Done}
+use Rattle.run_laws.specs.Machine.{Config, after, Next, Reach, stay, go, IsSettled}
 use Rattle.run_laws.specs.Simulation.{Simulation, Outcome}
 use Rattle.run_laws.specs.World.{to_it}
 use Rattle.run_laws.specs.Window.{Part, to_others, earlier_than, part_step, alone_at, local}
@@ -17,6 +17,8 @@ use Rattle.run_laws.proofs.Queue.{all_in, all_from}
 use Rattle.run_laws.proofs.Lists.{in_filter, filter_keeps, filter_swap, filter-insert_all}
 use Rattle.run_laws.proofs.Running.{Fine, fine_reach, all_from_zero, run_is}
 use Rattle.run_laws.proofs.Worlds.{part_lawful}
+
+-- ---- earlier_than
 
 -- the head of what is left of a list in order before an end is the head of the list
 head_before : {M : Type 0} {cmp : M → M → Ordering} {time : M → ℕ} (o : IsTimed cmp time) (end : ℕ) (p : List M) (m : M)
@@ -38,6 +40,8 @@ head_before {M} {cmp} {time} o end (y ∷ ys) m q s e = elim (cases_Bool (nat_lt
       let h : time y ≤ time m = o.timed y m (all_in (λ z. cmp y z ≡ Less) ys m s.0 i.0) in
       absurd (false≢true (sym f ∙ lt-ltb (time y) end (omega arith)))
 ]
+
+-- ---- IsCutOf
 
 module _ {S M N : Type 0} (sim : Simulation S M N) (end : ℕ) where
   -- d is c without what comes at the end or later
@@ -106,7 +110,7 @@ module _ {S M N : Type 0} {sim : Simulation S M N} {Good : ℕ → S → Type 0}
   pub cut_of_local : (log : List (Entry M N)) (st : S) (q : List M) (e : Config (Part S M N) M) → Good s st →
       Sorted sim.order q → earlier_than sim.time end q ≡ q →
       Reach sim.order sim.time (part_step sim.to (handle_until sim end) s) bound (alone_at log st q) e →
-      Done sim.time bound e → IsCutOf sim end (local sim s log st q bound end) e
+      IsSettled sim.time bound e → IsCutOf sim end (local sim s log st q bound end) e
   cut_of_local log st q e good sorted early r done =
       let c : Config (Part S M N) M = alone_at log st q in
       let fine : Fine sim.order sim.time (λ p. Good s p.state) 0 c =
@@ -114,7 +118,7 @@ module _ {S M N : Type 0} {sim : Simulation S M N} {Good : ℕ → S → Type 0}
       let a = cut_reach c fine (record { state = refl; log = refl; aside = refl; pending = sym early }) r in
       let f : Config (Part S M N) M = a.0 in
       let cut : IsCutOf sim end f e = a.2 in
-      let left : Done sim.time (min bound end) f =
+      let left : IsSettled sim.time (min bound end) f =
       all_from (λ m. min bound end ≤ sim.time m) f.pending (λ z i. elim (cases_lt (sim.time z) end) [
         | inl l ↦ let b : bound ≤ sim.time z =
             all_in (λ m. bound ≤ sim.time m) e.pending z done

@@ -7,7 +7,7 @@ use Rattle.std.proofs.Common.{◌⊎◌, inl, inr, refl, sym, ap, ◌∙◌, sub
 use Rattle.std.proofs.lemmas.Bool.{cases_eq}
 use Rattle.sim_base.specs.declared.entry.Entry.{Entry}
 use Rattle.run_laws.specs.Queue.{insert_all, In, Sorted}
-use Rattle.run_laws.specs.Machine.{Config, after, run_to, Reach, stay, go, Done}
+use Rattle.run_laws.specs.Machine.{Config, after, run_to, Reach, stay, go, IsSettled}
 use Rattle.run_laws.specs.Simulation.{Simulation, Outcome}
 use Rattle.run_laws.specs.World.{World, to_it, log_of, put, world_step}
 use Rattle.run_laws.specs.Window.{Part, to_others, part_step, alone_at}
@@ -21,8 +21,8 @@ use Rattle.run_laws.proofs.Worlds.{log_there, entry_of, world_lawful, part_lawfu
 
 module _ {S M N : Type 0} (sim : Simulation S M N) (bound end : ℕ) (due : ℕ → List M) where
   -- a station's window when it begins, with these messages due
-  abbrev pub opened : Config (World S M N) M → ℕ → Config (Part S M N) M
-  opened w s = alone_at (log_of sim.to s w.at.trace) (w.at.states s) (due s)
+  abbrev window_start : Config (World S M N) M → ℕ → Config (Part S M N) M
+  window_start w s = alone_at (log_of sim.to s w.at.trace) (w.at.states s) (due s)
 
   -- the world w, which began as w0, against the window of each station so far
   pub record Split (w0 w : Config (World S M N) M) (k : ℕ → Config (Part S M N) M) : Type 0 where
@@ -36,7 +36,7 @@ module _ {S M N : Type 0} (sim : Simulation S M N) (bound end : ℕ) (due : ℕ 
     pub out : (m : M) → In m w.pending → sim.time m < end → In m (k (sim.to m)).pending
         ⊎ ((r : ℕ) × In m (k r).at.aside)
     pub near : (m : M) → In m w.pending → sim.time m < end → bound ≤ sim.time m + sim.lookahead
-    pub ran : (s : ℕ) → Reach sim.order sim.time (part_step sim.to sim.handle s) bound (opened w0 s) (k s)
+    pub ran : (s : ℕ) → Reach sim.order sim.time (part_step sim.to sim.handle s) bound (window_start w0 s) (k s)
 
   -- when the windows begin, each station has the messages that are due to it
   pub record Opens (w : Config (World S M N) M) : Type 0 where
@@ -46,20 +46,22 @@ module _ {S M N : Type 0} (sim : Simulation S M N) (bound end : ℕ) (due : ℕ 
     pub near : (z : M) → In z w.pending → sim.time z < end → bound ≤ sim.time z + sim.lookahead
 
   -- a station's window to the bound
-  abbrev pub ran_alone : Config (World S M N) M → ℕ → Config (Part S M N) M
-  ran_alone w s = run_to sim.order (part_step sim.to sim.handle s) sim.time (opened w s) bound
+  abbrev window_at_bound : Config (World S M N) M → ℕ → Config (Part S M N) M
+  window_at_bound w s = run_to sim.order (part_step sim.to sim.handle s) sim.time (window_start w s) bound
 
   -- what the windows give, against the world at the bound
   pub record Windows (w d : Config (World S M N) M) : Type 0 where
-    pub state : (s : ℕ) → (ran_alone w s).at.state ≡ d.at.states s
-    pub log : (s : ℕ) → log_of sim.to s d.at.trace ≡ (ran_alone w s).at.log
-    pub left : (s : ℕ) (z : M) → In z (ran_alone w s).pending → (sim.to z ≡ s) × In z d.pending
-    pub sent : (r : ℕ) (z : M) → In z (ran_alone w r).at.aside → In z d.pending
+    pub state : (s : ℕ) → (window_at_bound w s).at.state ≡ d.at.states s
+    pub log : (s : ℕ) → log_of sim.to s d.at.trace ≡ (window_at_bound w s).at.log
+    pub left : (s : ℕ) (z : M) → In z (window_at_bound w s).pending → (sim.to z ≡ s) × In z d.pending
+    pub sent : (r : ℕ) (z : M) → In z (window_at_bound w r).at.aside → In z d.pending
     pub all : (z : M) → In z d.pending → sim.time z < end →
-        In z (ran_alone w (sim.to z)).pending ⊎ ((r : ℕ) × In z (ran_alone w r).at.aside)
+        In z (window_at_bound w (sim.to z)).pending ⊎ ((r : ℕ) × In z (window_at_bound w r).at.aside)
 
 module _ {S M N : Type 0} {sim : Simulation S M N} {Good : ℕ → S → Type 0} (law : HandlesLawfully sim Good)
     (bound end : ℕ) (before_end : bound ≤ end) (due : ℕ → List M) where
+  -- ---- Split
+
   -- with a turn of the world, the receiver's window takes one
   split_step : (w0 : Config (World S M N) M) (x : World S M N) (m : M) (q : List M) (k : ℕ → Config (Part S M N) M) →
       AllGood Good x → Sorted sim.order (m ∷ q) → sim.time m < bound →
@@ -155,12 +157,13 @@ module _ {S M N : Type 0} {sim : Simulation S M N} {Good : ℕ → S → Type 0}
             | inr j ↦ h.near z (inr j) t
           ];
           ran = put_cases (λ s c. Reach sim.order sim.time (part_step sim.to sim.handle s) bound
-              (opened sim bound end due w0 s) c) k r v
+              (window_start sim bound end due w0 s) c) k r v
               (go (h.ran r) (record { m = m; q = p; pending = is; early = early; is = refl }))
               (λ s n. h.ran s);
         },
       )
     where
+      -- what comes at the bound or later is pending still
       stays : (z : M) → (bound ≤ sim.time z) × (In z (m ∷ q)) →
           (bound ≤ sim.time z) × In z (insert_all sim.order (sim.handle (sim.to m) (x.states (sim.to m)) m).sends q)
       stays z b = (
@@ -173,7 +176,7 @@ module _ {S M N : Type 0} {sim : Simulation S M N} {Good : ℕ → S → Type 0}
 
   -- at first the windows are as they open
   split_begin : (w : Config (World S M N) M) → Opens sim bound end due w →
-      Split sim bound end due w w (opened sim bound end due w)
+      Split sim bound end due w w (window_start sim bound end due w)
   split_begin w h = record {
     state = λ s. refl;
     log = λ s. refl;
@@ -192,13 +195,15 @@ module _ {S M N : Type 0} {sim : Simulation S M N} {Good : ℕ → S → Type 0}
       (k : ℕ → Config (Part S M N) M) × Split sim bound end due w d k
   split_reach w d f h r =
       fine_keeps law.order (world_lawful law) 0 (λ d. (k : ℕ → Config (Part S M N) M) × Split sim bound end due w d k)
-      (opened sim bound end due w, split_begin w h)
+      (window_start sim bound end due w, split_begin w h)
       (λ x m q f early a. split_step w x m q a.0 f.good f.sorted early a.1)
       f r
 
+  -- ---- Windows
+
   -- where the windows are at the bound, they give what the world has
   windows_of : (w d : Config (World S M N) M) (k : ℕ → Config (Part S M N) M) → Split sim bound end due w d k →
-      ((s : ℕ) → k s ≡ ran_alone sim bound end due w s) → Windows sim bound end due w d
+      ((s : ℕ) → k s ≡ window_at_bound sim bound end due w s) → Windows sim bound end due w d
   windows_of w d k h is = record {
     state = λ s. subst (λ c. c.at.state ≡ d.at.states s) (is s) (h.state s);
     log = λ s. subst (λ c. log_of sim.to s d.at.trace ≡ c.at.log) (is s) (h.log s);
@@ -213,10 +218,11 @@ module _ {S M N : Type 0} {sim : Simulation S M N} {Good : ℕ → S → Type 0}
   -- where the turns of a world lead and nothing before the bound is left, the windows give what the world has
   pub windows_give : (w d : Config (World S M N) M) → Fine sim.order sim.time (AllGood Good) 0 w →
       Opens sim bound end due w → Reach sim.order sim.time (world_step sim.to sim.handle) bound w d →
-      Done sim.time bound d → Windows sim bound end due w d
+      IsSettled sim.time bound d → Windows sim bound end due w d
   windows_give w d f h r done =
       let a = split_reach w d f h r in
-      windows_of w d a.0 a.1 (λ s. run_is law.order (part_lawful law s) bound (opened sim bound end due w s) (a.0 s)
+      windows_of w d a.0 a.1
+      (λ s. run_is law.order (part_lawful law s) bound (window_start sim bound end due w s) (a.0 s)
       (record { good = f.good s; sorted = h.sorted s; from_t = all_from_zero sim.time (due s) })
       (a.1.ran s)
       (all_from (λ m. bound ≤ sim.time m) (a.0 s).pending

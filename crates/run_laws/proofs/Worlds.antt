@@ -11,12 +11,14 @@ use Rattle.run_laws.specs.Simulation.{Simulation}
 use Rattle.run_laws.specs.World.{to_it, log_of, put, world_step, and_first, openings, set_messages, begin}
 use Rattle.run_laws.specs.Window.{part_step}
 use Rattle.run_laws.specs.Runs.{run}
-use Rattle.run_laws.specs.Handlers.{IsLawful, AllGood, HandlesLawfully}
+use Rattle.run_laws.specs.Handlers.{IsLawful, AllGood, HandlesLawfully, IsStationOf}
 use Rattle.run_laws.proofs.Queue.{all_in, all_from, sorted_insert_all}
 use Rattle.run_laws.proofs.Lists.{in_own, in_append}
 use Rattle.run_laws.proofs.Running.{Fine, all_from_zero, run_reach, run_on}
 
--- at its place the new value stands
+-- ---- put
+
+-- at its place is the new value
 pub put_same : {A : Type 0} (f : ℕ → A) (r : ℕ) (v : A) (s : ℕ) → s ≡ r → put f r v s ≡ v
 put_same f r v s e = rw (eq-eqb s r e)
 
@@ -32,6 +34,8 @@ put_cases P f r v a b s = elim (cases_eq s r) [
   | inr n ↦ subst (P s) (sym (put_other f r v s n)) (b s n)
 ]
 
+-- ---- log_of
+
 module _ {M N : Type 0} (to : M → ℕ) where
   -- a station's log has its own new entry
   pub log_here : (s : ℕ) (es : List (Entry M N)) (e : Entry M N) → to e.msg ≡ s →
@@ -44,6 +48,8 @@ module _ {M N : Type 0} (to : M → ℕ) where
       log_of to s (es ++ e ∷ []) ≡ log_of to s es
   log_there s es e h = filter-append (λ e. to e.msg == s) es (e ∷ []) ∙ ap (λ b. log_of to s es ++ cond b (e ∷ []) [])
       (ne_eqb (to e.msg) s h) ∙ append-nil (log_of to s es)
+
+-- ---- openings, set_messages
 
 module _ {S M N : Type 0} (sim : Simulation S M N) where
   -- the entry of a message that is handled in a state
@@ -60,7 +66,7 @@ module _ {S M N : Type 0} (sim : Simulation S M N) where
 
   -- an opening is the first message of a station
   pub in_openings : (n : ℕ) (z : M) → In z (openings sim n) →
-      (s : ℕ) × ((0 < s) × (s ≤ n)) × ((sim.setup s).first ≡ Some z)
+      (s : ℕ) × IsStationOf n s × ((sim.setup s).first ≡ Some z)
   in_openings zero z i = absurd i
   in_openings (suc n) z i = elim (first_in (openings sim n) (sim.setup (suc n)).first z i) [
     | inl j ↦ let h = in_openings n z j in let above : 0 < h.0 = h.1.0 in let most : h.0 ≤ n = h.1.1 in
@@ -75,6 +81,8 @@ module _ {S M N : Type 0} (sim : Simulation S M N) where
   in_set_messages k (p ∷ ps) z (inl e) = (k, p, omega arith, inl refl, e)
   in_set_messages k (p ∷ ps) z (inr j) = let h = in_set_messages (suc k) ps z j in let l = h.2 in
       (h.0, h.1, omega arith, inr h.3, h.4)
+
+-- ---- IsLawful
 
 module _ {S M N : Type 0} {sim : Simulation S M N} {Good : ℕ → S → Type 0} (law : HandlesLawfully sim Good) where
   -- the world keeps its stations good
@@ -102,6 +110,8 @@ module _ {S M N : Type 0} {sim : Simulation S M N} {Good : ℕ → S → Type 0}
     sorted = sorted_insert_all law.order.order (openings sim sim.stations ++ set_messages sim 0 plans) [] tt;
     from_t = all_from_zero sim.time (begin sim plans).pending;
   }
+
+  -- ---- run
 
   -- a run to a front is reached by turns before the front, and has none left
   pub run_reached : (plans : List Planned) (front : ℕ) →

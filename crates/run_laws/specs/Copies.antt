@@ -12,7 +12,7 @@ use Rattle.sim_base.specs.Pending.{insert_marked}
 use Rattle.sim_base.specs.Marked.{SortedMarked}
 use Rattle.sim_base.specs.declared.entry.Entry.{Entry}
 use Rattle.run_laws.specs.Queue.{insert, In}
-use Rattle.run_laws.specs.Machine.{Config, Reach, Done}
+use Rattle.run_laws.specs.Machine.{Config, Reach, IsSettled}
 use Rattle.run_laws.specs.Simulation.{Simulation, Outcome}
 use Rattle.run_laws.specs.World.{to_it}
 use Rattle.run_laws.specs.Window.{Part, to_others, earlier_than, part_step, local}
@@ -90,6 +90,14 @@ module _ {S M N K : Type 0} (sim : Simulation S M N) (has : K → ℕ → Bool) 
   abbrev pub takes_as : ℕ → ℕ → M → K → ℕ → Bool
   takes_as old new = takes_at sim.time has (λ c. ends (origin_of old new c))
 
+  -- all clones of a copy take a message
+  abbrev pub AllTake : Copy S M N K → M → K → Type 0
+  AllTake r m k = (c : ℕ) → Carries has r c → takes m k c ≡ true
+
+  -- no clone of a copy takes it
+  abbrev pub NoneTakes : Copy S M N K → M → K → Type 0
+  NoneTakes r m k = (c : ℕ) → Carries has r c → takes m k c ≡ false
+
   -- the messages that clone c takes
   abbrev pub messages_taken : ℕ → List (M × K) → List M
   messages_taken c xs = part takes c xs
@@ -113,17 +121,13 @@ module _ {S M N K : Type 0} (sim : Simulation S M N) (has : K → ℕ → Bool) 
     abbrev pub Turns : ℕ → Config (Part S M N) M → Config (Part S M N) M → Type 0
     Turns c = Reach sim.order sim.time (part_step sim.to (handle_until sim (ends c)) s) bound
 
-    -- nothing is left before the bound
-    abbrev pub IsSettled : Config (Part S M N) M → Type 0
-    IsSettled = Done sim.time bound
-
     -- l is what a log of one of the clones of r is at the bound, cut to the limit
     pub record IsCutLog (r : Copy S M N K) (sent : List (M × K)) (l : List (Entry M N)) : Type 0 where
       pub clone : ℕ
       pub is_in : Carries has r clone
       pub last : Config (Part S M N) M
       pub ran : Turns clone (view clone r sent) last
-      pub settled : IsSettled last
+      pub settled : IsSettled sim.time bound last
       pub is : l ≡ take sim.limit last.at.log
 
     -- p is a prefix that the logs of a copy's clones gain, each cut to the limit
@@ -141,7 +145,7 @@ module _ {S M N K : Type 0} (sim : Simulation S M N) (has : K → ℕ → Bool) 
 
     -- the log of clone c gets longer than the limit
     abbrev pub GoesOver : Copy S M N K → List (M × K) → ℕ → Type 0
-    GoesOver r sent c = (last : Config (Part S M N) M) → Turns c (view c r sent) last → IsSettled last →
+    GoesOver r sent c = (last : Config (Part S M N) M) → Turns c (view c r sent) last → IsSettled sim.time bound last →
         sim.limit < length last.at.log
 
     -- the results of r at the bound, as copies: with each, its clones have taken their turns; clones whose logs
@@ -153,7 +157,7 @@ module _ {S M N K : Type 0} (sim : Simulation S M N) (has : K → ℕ → Bool) 
       pub gained : IsCount (IsGained (IsCutLog r before) r.log) n
       pub within : (b : Copy S M N K) (c : ℕ) → In b results → Carries has b c → Carries has r c
       pub ran : (b : Copy S M N K) (c : ℕ) → In b results → Carries has b c →
-          Turns c (view c r before) (view c b after) × IsSettled (view c b after)
+          Turns c (view c r before) (view c b after) × IsSettled sim.time bound (view c b after)
       pub short : (b : Copy S M N K) → In b results → length b.log ≤ sim.limit
       pub some : (c : ℕ) → Carries has r c →
           ((b : Copy S M N K) × In b results × Carries has b c) ⊎ (has over_after c ≡ true)
@@ -202,7 +206,7 @@ module _ {S M N K : Type 0} (sim : Simulation S M N) (has : K → ℕ → Bool) 
       pub carried : (a : Copy S M N K) (c : ℕ) → In a old → Carries has a c →
           ((b : Copy S M N K) × In b new × Carries has b c) ⊎ (has over c ≡ true)
       pub ran : (a b : Copy S M N K) (c : ℕ) → In a old → In b new → Carries has a c → Carries has b c →
-          Turns c (view c a []) (view c b out) × IsSettled (view c b out)
+          Turns c (view c a []) (view c b out) × IsSettled sim.time bound (view c b out)
       pub short : (b : Copy S M N K) → In b new → length b.log ≤ sim.limit
       pub too_long : (c : ℕ) → has over c ≡ true →
           (has over0 c ≡ true) ⊎ ((a : Copy S M N K) × In a old × Carries has a c × GoesOver a [] c)

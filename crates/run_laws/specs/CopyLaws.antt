@@ -7,7 +7,7 @@ use Rattle.sim_base.specs.declared.decision.Planned.{Planned}
 use Rattle.run_laws.specs.Simulation.{Simulation}
 use Rattle.run_laws.specs.Runs.{end_of}
 use Rattle.run_laws.specs.Fronts.{IsWindow}
-use Rattle.run_laws.specs.Handlers.{IsStation, AreForStations}
+use Rattle.run_laws.specs.Handlers.{IsStation, AllAreForStations}
 use Rattle.run_laws.specs.Copies.{Copy, IsGiven, IsForked, first_copy, ends_of, Stands, AllStepped, IsDelivered}
 
 -- K are sets of clones
@@ -23,7 +23,7 @@ module _ {S M N : Type 0} (K : Type 0) (sim : Simulation S M N) where
   abbrev pub StandsAfterWindow : Type 0
   StandsAfterWindow = (has : K → ℕ → Bool) (cs : List Clone) (front bound : ℕ) (olds news : ℕ → List (Copy S M N K))
       (sent : ℕ → List (M × K)) (s : ℕ) (done : List (Copy S M N K)) →
-      ((c : ℕ) → c < length cs → AreForStations sim (clone_at cs c).plans) → IsWindow sim cs front bound →
+      AllAreForStations sim cs → IsWindow sim cs front bound →
       AllStepped sim has cs front bound olds news sent → IsStation sim s → IsDelivered sim has cs s sent (news s) done →
       Stands sim has cs bound s done
 
@@ -49,7 +49,7 @@ module _ {S M N : Type 0} (K : Type 0) (sim : Simulation S M N) where
       who < length cs → front ≤ at → at ≤ end_of sim (clone_at cs who) →
       Stands sim has cs front s olds → Stands sim has (clones_with_end cs who at) front s olds
 
-  -- a new clone stands beside its old one, where that has no end
+  -- a fork puts the new clone beside its old one, where that has no end
   abbrev pub StandsAfterFork : Type 0
   StandsAfterFork = (has : K → ℕ → Bool) (cs : List Clone) (front s old : ℕ) (name : List ℕ)
       (olds done : List (Copy S M N K)) →

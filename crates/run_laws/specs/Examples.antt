@@ -108,6 +108,6 @@ abbrev pub same_catch : Entry Ball ℕ → Entry Ball ℕ → Bool
 same_catch e f = ((e.msg.time == f.msg.time && e.msg.number == f.msg.number) && e.msg.to == f.msg.to) && e.line ==
     f.line
 
--- one station's window by itself, from how it stands in a clone at a front
+-- one station's window by itself, from what it is in a clone at a front
 abbrev pub window_of : Clone → ℕ → ℕ → ℕ → Config (Part ℕ Ball ℕ) Ball
 window_of c s front bound = window game c s front bound

@@ -9,7 +9,7 @@ use Rattle.run_laws.specs.Queue.{In, Sorted}
 use Rattle.run_laws.specs.Simulation.{Simulation}
 use Rattle.run_laws.specs.Runs.{end_of, due_at}
 use Rattle.run_laws.specs.Fronts.{earlier, least_time, least_of, least, next_front, AreFronts}
-use Rattle.run_laws.specs.Handlers.{IsStation, AreForStations}
+use Rattle.run_laws.specs.Handlers.{IsStation, AreForStations, AllAreForStations}
 use Rattle.run_laws.specs.Copies.{Copy, Carries, messages_taken, ends_of, Stands}
 
 -- a time, where it comes before another
@@ -102,6 +102,6 @@ module _ {S M N : Type 0} (K : Type 0) (sim : Simulation S M N) where
   abbrev pub LeastIsOfCopies : Type 0
   LeastIsOfCopies = (has : K → ℕ → Bool) (cs : List Clone) (front : ℕ) (copies : ℕ → List (Copy S M N K))
       (t : Option ℕ) →
-      ((c : ℕ) → c < length cs → AreForStations sim (clone_at cs c).plans) →
+      AllAreForStations sim cs →
       ((s : ℕ) → IsStation sim s → Stands sim has cs front s (copies s)) →
       IsLeastTime sim.time (IsTaken has cs copies) t → least sim cs front ≡ t

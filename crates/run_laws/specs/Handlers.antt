@@ -2,12 +2,13 @@
 --
 -- What is asked of a station holds in states that are good, which the author of a simulation may choose;
 -- a station opens in a good state, and stays in one.
-use Rattle.std.specs.Prelude.{◌≡◌, ◌⊎◌, ℕ, ◌+◌, ◌<◌, ◌≤◌, List, Some}
+use Rattle.std.specs.Prelude.{◌≡◌, ◌⊎◌, ℕ, ◌+◌, ◌<◌, ◌≤◌, List, Some, length}
 use Rattle.std.specs.List.{AllByRecursion}
 use Rattle.std.specs.Cmp.{IsTotalOrder}
-use Rattle.std.specs.Ordering.{nat_cmp, ordering_then}
 use Rattle.std.specs.declared.cmp.Ordering.{Ordering}
 use Rattle.std.specs.declared.cmp.Ordering.TheVariants.{Less, Equal}
+pub use Rattle.sim_base.specs.Entries.{key_order}
+use Rattle.sim_base.specs.Clones.{Clone, clone_at}
 use Rattle.sim_base.specs.declared.decision.Planned.{Planned}
 use Rattle.run_laws.specs.Queue.{In}
 use Rattle.run_laws.specs.Simulation.{Simulation}
@@ -28,24 +29,27 @@ pub record IsLawful {X M : Type 0} (time : M → ℕ) (handle : X → M → X ×
   pub keeps : (x : X) (m : M) → Good x → Good (handle x m).0
   pub later : (x : X) (m : M) → Good x → AllByRecursion (λ z. time m < time z) (handle x m).1
 
--- by time, then sender, then number
-abbrev pub key_order : {M : Type 0} → (M → ℕ) → (M → ℕ) → (M → ℕ) → M → M → Ordering
-key_order time sender number x y = ordering_then (nat_cmp (time x) (time y))
-    (ordering_then (nat_cmp (sender x) (sender y)) (nat_cmp (number x) (number y)))
-
 module _ {S M N : Type 0} where
   -- each station of a world is in a good state
   abbrev pub AllGood : (ℕ → S → Type 0) → World S M N → Type 0
   AllGood Good w = (s : ℕ) → Good s (w.states s)
 
+-- the number of one of n stations
+abbrev pub IsStationOf : ℕ → ℕ → Type 0
+IsStationOf n s = (0 < s) × (s ≤ n)
+
 module _ {S M N : Type 0} (sim : Simulation S M N) where
   -- the number of a station
   abbrev pub IsStation : ℕ → Type 0
-  IsStation s = (0 < s) × (s ≤ sim.stations)
+  IsStation s = IsStationOf sim.stations s
 
   -- the decisions are for stations
   abbrev pub AreForStations : List Planned → Type 0
   AreForStations plans = AllByRecursion (λ p. IsStation p.station) plans
+
+  -- and so are those of all clones
+  abbrev pub AllAreForStations : List Clone → Type 0
+  AllAreForStations cs = (c : ℕ) → c < length cs → AreForStations (clone_at cs c).plans
 
   -- what the runs, the windows and the copies rest on
   pub record HandlesLawfully (Good : ℕ → S → Type 0) : Type 0 where

@@ -7,7 +7,7 @@ use Rattle.sim_base.specs.Clones.{Clone, with_plan, with_end}
 use Rattle.sim_base.specs.declared.decision.Planned.{Planned}
 use Rattle.sim_base.specs.declared.entry.Entry.{Entry}
 use Rattle.run_laws.specs.Queue.{insert, In, Sorted}
-use Rattle.run_laws.specs.Machine.{Config, run_to, Reach, Done}
+use Rattle.run_laws.specs.Machine.{Config, run_to, Reach, IsSettled}
 use Rattle.run_laws.specs.Simulation.{Simulation}
 use Rattle.run_laws.specs.World.{World, replay}
 use Rattle.run_laws.specs.Window.{Part, local, earlier_than}
@@ -28,14 +28,15 @@ module _ {X M : Type 0} (cmp : M → M → Ordering) (time : M → ℕ) (handle 
   -- a run is reached by turns before the bound, and leaves no message before it
   abbrev pub RunIsReached : Type 0
   RunIsReached = (bound : ℕ) (c : Config X M) → IsReady c →
-      Reach cmp time handle bound c (run_to cmp handle time c bound) × Done time bound (run_to cmp handle time c bound)
+      Reach cmp time handle bound c (run_to cmp handle time c bound)
+      × IsSettled time bound (run_to cmp handle time c bound)
 
   -- whatever turns before the bound lead to where no message before it is left, that is the run
   abbrev pub RunIsDetermined : Type 0
   RunIsDetermined = (bound : ℕ) (c d : Config X M) → IsReady c →
-      Reach cmp time handle bound c d → Done time bound d → d ≡ run_to cmp handle time c bound
+      Reach cmp time handle bound c d → IsSettled time bound d → d ≡ run_to cmp handle time c bound
 
-  -- a run to one bound, and from where it stands to a later one, is the run to the later one
+  -- a run to one bound, and on from there to a later one, is the run to the later one
   abbrev pub RunGoesOn : Type 0
   RunGoesOn = (front bound : ℕ) (c : Config X M) → IsReady c → front ≤ bound →
       run_to cmp handle time (run_to cmp handle time c front) bound ≡ run_to cmp handle time c bound

@@ -6,7 +6,7 @@ use Rattle.std.specs.List.{AllByRecursion}
 use Rattle.std.specs.declared.cmp.Ordering.{Ordering}
 use Rattle.run_laws.specs.Queue.{insert_all}
 
--- where a machine stands, and its pending messages in their order
+-- the state of a machine, and its pending messages in their order
 pub record Config (X M : Type 0) : Type 0 where
   pub at : X
   pub pending : List M
@@ -44,7 +44,7 @@ module _ {X M : Type 0} (cmp : M → M → Ordering) (handle : X → M → X × 
   run_to time c (suc t) = let d = run_to time c t in turns (count_at time t d.pending) d
 
 module _ {X M : Type 0} (cmp : M → M → Ordering) (time : M → ℕ) (handle : X → M → X × List M) (bound : ℕ) where
-  -- d handles its least message, which comes before the bound, and then stands as e
+  -- d handles its least message, which comes before the bound, and becomes e
   pub record Next (d e : Config X M) : Type 0 where
     pub m : M
     pub q : List M
@@ -52,12 +52,12 @@ module _ {X M : Type 0} (cmp : M → M → Ordering) (time : M → ℕ) (handle 
     pub early : time m < bound
     pub is : e ≡ after cmp handle d.at m q
 
-  -- some turns, each of a message before the bound, lead from c to a machine that stands so
+  -- some turns, each of a message before the bound, lead from c to this machine
   pub data Reach (c : Config X M) : Config X M → Type 0 where
     stay : Reach c c
     go : {d e : Config X M} → Reach c d → Next d e → Reach c e
 
 module _ {X M : Type 0} (time : M → ℕ) (bound : ℕ) where
-  -- nothing before the bound is pending
-  abbrev pub Done : Config X M → Type 0
-  Done c = AllByRecursion (λ m. bound ≤ time m) c.pending
+  -- the machine is settled: nothing before the bound is pending
+  abbrev pub IsSettled : Config X M → Type 0
+  IsSettled c = AllByRecursion (λ m. bound ≤ time m) c.pending

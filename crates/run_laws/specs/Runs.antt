@@ -9,7 +9,7 @@ use Rattle.run_laws.specs.Simulation.{Simulation}
 use Rattle.run_laws.specs.World.{World, begin, world_step, to_it, log_of}
 
 module _ {S M N : Type 0} (sim : Simulation S M N) where
-  -- the run of a world from where it stands to a front: every message below the front is handled
+  -- the run of a world, from what it is now, to a front: every message below the front is handled
   abbrev pub run_from : Config (World S M N) M → ℕ → Config (World S M N) M
   run_from world front = run_to sim.order (world_step sim.to sim.handle) sim.time world front
 

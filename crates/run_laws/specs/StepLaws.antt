@@ -1,14 +1,15 @@
 -- What is proved of a step of a station's copies up to a bound, in words that contracts cite: copy after copy,
 -- the results of each are what its clones' own windows give; and of giving messages to copies.
-use Rattle.std.specs.Prelude.{◌≡◌, ◌⊎◌, ℕ, ◌+◌, ◌<◌, ◌≤◌, List, [], ◌∷◌, ◌++◌, Bool, true, false, length}
+use Rattle.std.specs.Prelude.{◌≡◌, ◌⊎◌, ℕ, ◌+◌, ◌<◌, ◌≤◌, List, [], ◌∷◌, ◌++◌, Bool, false, length}
 use Rattle.std.specs.List.{AllByRecursion, AllZip}
 use Rattle.sim_base.specs.Clones.{Clone}
 use Rattle.run_laws.specs.Queue.{In}
 use Rattle.run_laws.specs.Simulation.{Simulation}
 use Rattle.sim_base.specs.Marked.{JoinsMarks, SortedMarked}
-use Rattle.run_laws.specs.Copies.{Copy, Carries, handled_by, sends_aside, takes, IsNarrowed, IsSettled}
+use Rattle.run_laws.specs.Copies.{Copy, Carries, handled_by, sends_aside, IsNarrowed}
 use Rattle.run_laws.specs.Copies.{view, ComesTo, IsStepped, AreOver, SoFar, Disjoint, messages_taken}
-use Rattle.run_laws.specs.Copies.{GainTogether, IsGiven, SoFarGiven, ends_of, IsDelivered}
+use Rattle.run_laws.specs.Copies.{GainTogether, IsGiven, SoFarGiven, ends_of, IsDelivered, AllTake, NoneTakes}
+use Rattle.run_laws.specs.Machine.{IsSettled}
 
 -- what a step works with: which clones marks have and what marks are joined, when each clone ends, the station, and
 -- the bound up to which it goes
@@ -26,35 +27,27 @@ module _ {S M N : Type 0} (K : Type 0) (sim : Simulation S M N) (Good : ℕ → 
   abbrev pub Gives : Step K → Copy S M N K → List (Copy S M N K) → List (M × K) → List (M × K) → K → K → ℕ → Type 0
   Gives w = ComesTo sim w.has w.ends w.station w.bound
 
-  -- all clones of a copy take a message
-  abbrev pub AllTake : Step K → Copy S M N K → M × K → Type 0
-  AllTake w r x = (c : ℕ) → Carries w.has r c → takes sim w.has w.ends x.0 x.1 c ≡ true
-
-  -- no clone of a copy takes a message
-  abbrev pub NoneTakes : Step K → Copy S M N K → M × K → Type 0
-  NoneTakes w r x = (c : ℕ) → Carries w.has r c → takes sim w.has w.ends x.0 x.1 c ≡ false
-
-  -- copies are in good states, with their messages in order
-  abbrev pub AreReady : Step K → List (Copy S M N K) → Type 0
-  AreReady w old = (a : Copy S M N K) → In a old → Good w.station a.state × SortedMarked sim.order a.pending
+  -- copies of station s are in good states, with their messages in order
+  abbrev pub AreReady : ℕ → List (Copy S M N K) → Type 0
+  AreReady s old = (a : Copy S M N K) → In a old → Good s a.state × SortedMarked sim.order a.pending
 
   -- a copy whose messages all come at the bound or later has nothing left before it
   abbrev pub LateCopyIsSettled : Type 0
   LateCopyIsSettled = (w : Step K) (r : Copy S M N K) (sent : List (M × K)) (c : ℕ) →
       AllByRecursion (λ x. w.bound ≤ sim.time x.0) r.pending →
-      IsSettled sim w.has w.ends w.station w.bound (view sim w.has w.ends c r sent)
+      IsSettled sim.time w.bound (view sim w.has w.ends c r sent)
 
   -- a copy whose clones have nothing left before the bound stays, and gains nothing
   abbrev pub SettledCopyStays : Type 0
   SettledCopyStays = (w : Step K) (r : Copy S M N K) (sent : List (M × K)) (over : K) →
       (c : ℕ) × Carries w.has r c → length r.log ≤ sim.limit →
-      ((c : ℕ) → Carries w.has r c → IsSettled sim w.has w.ends w.station w.bound (view sim w.has w.ends c r sent)) →
+      ((c : ℕ) → Carries w.has r c → IsSettled sim.time w.bound (view sim w.has w.ends c r sent)) →
       Gives w r (r ∷ []) sent sent over over 0
 
   -- the clones of a copy whose log is full, and that all take a message before the bound, go over the limit
   abbrev pub FullCopyGoesOver : Type 0
   FullCopyGoesOver = (w : Step K) (r : Copy S M N K) (x : M × K) (q sent : List (M × K)) (over : K) →
-      length r.log ≡ sim.limit → r.pending ≡ x ∷ q → AllTake w r x → sim.time x.0 < w.bound →
+      length r.log ≡ sim.limit → r.pending ≡ x ∷ q → AllTake sim w.has w.ends r x.0 x.1 → sim.time x.0 < w.bound →
       Gives w r [] sent sent over (w.join over r.set) 0
 
   -- a message that all clones of a copy take is handled once for all of them, and gains one prefix
@@ -62,7 +55,8 @@ module _ {S M N : Type 0} (K : Type 0) (sim : Simulation S M N) (Good : ℕ → 
   SharedMessageIsHandledOnce = (w : Step K) (r : Copy S M N K) (x : M × K) (q sent after : List (M × K))
       (results : List (Copy S M N K)) (over over_after : K) (n : ℕ) →
       (c : ℕ) × Carries w.has r c → Good w.station r.state → length r.log < sim.limit →
-      r.pending ≡ x ∷ q → SortedMarked sim.order r.pending → AllTake w r x → sim.time x.0 < w.bound →
+      r.pending ≡ x ∷ q → SortedMarked sim.order r.pending → AllTake sim w.has w.ends r x.0 x.1 →
+      sim.time x.0 < w.bound →
       Gives w (handled_by sim w.join w.station r x.0 q) results (sent ++ sends_aside sim w.station r x.0) after over
       over_after n →
       Gives w r results sent after over over_after (n + 1)
@@ -71,7 +65,8 @@ module _ {S M N : Type 0} (K : Type 0) (sim : Simulation S M N) (Good : ℕ → 
   abbrev pub MessageOfNoneIsPassedOver : Type 0
   MessageOfNoneIsPassedOver = (w : Step K) (r : Copy S M N K) (x : M × K) (q before after : List (M × K))
       (results : List (Copy S M N K)) (over over_after : K) (n : ℕ) →
-      r.pending ≡ x ∷ q → NoneTakes w r x → Gives w (record r { pending = q }) results before after over over_after n →
+      r.pending ≡ x ∷ q → NoneTakes sim w.has w.ends r x.0 x.1 →
+      Gives w (record r { pending = q }) results before after over over_after n →
       Gives w r results before after over over_after n
 
   -- a copy of which some clones take the least message and some do not splits: its results are those of
@@ -80,7 +75,8 @@ module _ {S M N : Type 0} (K : Type 0) (sim : Simulation S M N) (Good : ℕ → 
   CopySplits = (w : Step K) (r some rest : Copy S M N K) (x : M × K) (q before mid after : List (M × K))
       (results1 results2 : List (Copy S M N K)) (over over1 over2 : K) (n1 n2 : ℕ) →
       length r.log ≤ sim.limit → r.pending ≡ x ∷ q → SortedMarked sim.order r.pending → sim.time x.0 < w.bound →
-      IsNarrowed sim w.has w.ends r some → IsNarrowed sim w.has w.ends r rest → AllTake w some x → NoneTakes w rest x →
+      IsNarrowed sim w.has w.ends r some → IsNarrowed sim w.has w.ends r rest →
+      AllTake sim w.has w.ends some x.0 x.1 → NoneTakes sim w.has w.ends rest x.0 x.1 →
       ((c : ℕ) → Carries w.has r c → Carries w.has some c ⊎ Carries w.has rest c) →
       Gives w some results1 before mid over over1 n1 → Gives w rest results2 mid after over1 over2 n2 →
       Gives w r (results1 ++ results2) before after over over2 (n1 + n2)
@@ -96,14 +92,14 @@ module _ {S M N : Type 0} (K : Type 0) (sim : Simulation S M N) (Good : ℕ → 
   -- a step with no clone over the limit gives for each clone what its own window gives
   abbrev pub StepGivesWindows : Type 0
   StepGivesWindows = (w : Step K) (old new : List (Copy S M N K)) (out : List (M × K)) (over0 over : K) →
-      AreReady w old → ((c : ℕ) → w.has over c ≡ false) →
+      AreReady w.station old → ((c : ℕ) → w.has over c ≡ false) →
       SoFar sim w.has w.ends w.station w.bound old new out over0 over →
       IsStepped sim w.has w.ends w.station w.bound old new out
 
   -- those that a step has put over the limit are the clones whose own windows give logs that are too long
   abbrev pub StepFindsThoseOver : Type 0
   StepFindsThoseOver = (w : Step K) (old new : List (Copy S M N K)) (out : List (M × K)) (over0 over : K) →
-      AreReady w old → ((c : ℕ) → w.has over0 c ≡ false) →
+      AreReady w.station old → ((c : ℕ) → w.has over0 c ≡ false) →
       SoFar sim w.has w.ends w.station w.bound old new out over0 over →
       AreOver sim w.has w.ends w.station w.bound old over
 

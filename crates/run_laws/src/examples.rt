@@ -43,7 +43,7 @@ pub fn due_times()
 {}
 
 /// A trace is the merge of the two stations' logs.
-pub fn merging()
+pub fn merges()
     ensures busy { merged_trace busy ≡ busy_trace }
     ensures last_minute { merged_trace last_minute ≡ last_minute_trace }
 {}
@@ -60,7 +60,7 @@ pub fn windows()
 {}
 
 /// What the three clones have in common at each station.
-pub fn sharing()
+pub fn counts()
     ensures copies_of_1 { copies game same_catch all_three 1 12 ≡ 3 }
     ensures handled_of_1 { handled_once game same_catch all_three 1 12 ≡ 8 }
     ensures handled_to_the_limit_of_1 { handled_to_limit game same_catch all_three 1 12 ≡ 4 }
@@ -75,7 +75,7 @@ pub fn sharing()
 {}
 
 /// The game meets what the laws ask of a simulation.
-pub fn lawful()
+pub fn game_is_lawful()
     ensures handles { HandlesLawfully game AnyState }
     ensures sends { SendsToStations game AnyState }
 {}

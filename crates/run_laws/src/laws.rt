@@ -56,7 +56,7 @@ pub trait Stations<S, M, N> {
 }
 
 /// One whose stations number what they send.
-pub trait Numbered<S, M, N>: Stations<S, M, N> {
+pub trait NumberingStations<S, M, N>: Stations<S, M, N> {
     ghost sender: { M → ℕ };
 
     ghost number: { M → ℕ };
@@ -66,8 +66,8 @@ pub trait Numbered<S, M, N>: Stations<S, M, N> {
     ghost fresh: { HandlesFreshly Self.sim Self.good sender number next };
 }
 
-/// A run is what its turns lead to, and it goes on from where it stands.
-pub fn running<X, M, T: Machine<X, M>>()
+/// A run is what its turns lead to, and a run to a front goes on to each later one.
+pub fn turns_make_the_run<X, M, T: Machine<X, M>>()
     ensures reached { RunIsReached T.order T.time T.handle T.good }
     ensures determined { RunIsDetermined T.order T.time T.handle T.good }
     ensures goes_on { RunGoesOn T.order T.time T.handle T.good }
@@ -75,7 +75,7 @@ pub fn running<X, M, T: Machine<X, M>>()
 {}
 
 /// A trace rises strictly, no number is used twice, and what is due is for stations.
-pub fn ordering<S, M, N, T: Numbered<S, M, N>>()
+pub fn traces_rise<S, M, N, T: NumberingStations<S, M, N>>()
     ensures rises { TraceRises T.sim T.sender T.number }
     ensures once { NumbersAreOnce T.sim T.sender T.number }
     ensures entries { EntriesAreApart T.sim T.sender T.number }
@@ -83,13 +83,13 @@ pub fn ordering<S, M, N, T: Numbered<S, M, N>>()
 {}
 
 /// A trace is what the logs of the stations make together, in the order of messages.
-pub fn merging<S, M, N, T: Numbered<S, M, N>>()
+pub fn logs_make_the_trace<S, M, N, T: NumberingStations<S, M, N>>()
     ensures of_logs { TraceIsOfLogs T.sim T.sender T.number }
     ensures merge { TraceIsMerge T.sim T.sender T.number }
 {}
 
 /// A log tells its station's state, and that log at each earlier front.
-pub fn logs<S, M, N, T: Stations<S, M, N>>()
+pub fn logs_tell_states<S, M, N, T: Stations<S, M, N>>()
     ensures replay { StateIsReplay T.sim }
     ensures good { ReplayIsGood T.sim T.good }
     ensures equal { EqualLogsEqualStates T.sim }
@@ -97,18 +97,18 @@ pub fn logs<S, M, N, T: Stations<S, M, N>>()
 {}
 
 /// What a decision or an end at or after a front changes there.
-pub fn deciding<S, M, N, T: Stations<S, M, N>>()
+pub fn decisions_change_what_is_due<S, M, N, T: Stations<S, M, N>>()
     ensures decision { DecisionAddsDue T.sim }
     ensures ending { EndDropsDue T.sim }
 {}
 
 /// Up to the next front each station may go by itself.
-pub fn windows<S, M, N, T: Stations<S, M, N>>()
+pub fn windows_give_runs<S, M, N, T: Stations<S, M, N>>()
     ensures alone { WindowsGiveRuns T.sim }
 {}
 
 /// From front to front (window boundaries) a run reaches the horizon, and there it ends.
-pub fn fronts<S, M, N, T: Stations<S, M, N>>()
+pub fn fronts_reach_the_horizon<S, M, N, T: Stations<S, M, N>>()
     ensures far { FrontIsFar T.sim }
     ensures rises { FrontRises T.sim }
     ensures to_horizon { FrontsRise T.sim }
@@ -117,7 +117,7 @@ pub fn fronts<S, M, N, T: Stations<S, M, N>>()
 {}
 
 /// The least time that is due in a clone, by its stations and after each change of it, and in all clones by the copies.
-pub fn due_times<S, M, N, K, T: Stations<S, M, N>>()
+pub fn least_times_are_of_stations<S, M, N, K, T: Stations<S, M, N>>()
     ensures stations { LeastIsOfStations T.sim }
     ensures decision { LeastAtDecision T.sim }
     ensures ending { LeastAtEnd T.sim }
@@ -128,7 +128,7 @@ pub fn due_times<S, M, N, K, T: Stations<S, M, N>>()
 
 /// What a step gives for a station's copies up to a bound, message by message and copy by copy, and that it is what
 /// the clones' own windows give.
-pub fn stepping<S, M, N, K, T: Stations<S, M, N>>()
+pub fn steps_give_windows<S, M, N, K, T: Stations<S, M, N>>()
     ensures late { LateCopyIsSettled K T.sim T.good }
     ensures settled { SettledCopyStays K T.sim T.good }
     ensures full { FullCopyGoesOver K T.sim T.good }
@@ -142,21 +142,21 @@ pub fn stepping<S, M, N, K, T: Stations<S, M, N>>()
 {}
 
 /// Cut to a half, and spread to a fork, pending messages are taken as they were.
-pub fn marking<S, M, N, K, T: Stations<S, M, N>>()
+pub fn halves_and_forks_take_the_same<S, M, N, K, T: Stations<S, M, N>>()
     ensures half { HalfTakesTheSame K T.sim }
     ensures half_marks { HalfKeepsItsMarks K T.sim }
     ensures fork { ForkTakesAsItsOrigin K T.sim }
 {}
 
 /// What a station was sent is given to its copies message by message, and then it is delivered.
-pub fn delivering<S, M, N, K, T: Stations<S, M, N>>()
+pub fn messages_are_delivered<S, M, N, K, T: Stations<S, M, N>>()
     ensures nothing { NothingIsGiven K T.sim }
     ensures message { MessageIsGiven K T.sim }
     ensures delivered { GivenIsDelivered K T.sim }
 {}
 
 /// From the start on, through windows, decisions, ends and forks, a station's copies stand for the clones.
-pub fn standing<S, M, N, K, T: Stations<S, M, N>>()
+pub fn copies_stand_for_clones<S, M, N, K, T: Stations<S, M, N>>()
     ensures start { StandsAtStart K T.sim }
     ensures window { StandsAfterWindow K T.sim }
     ensures decision { StandsAfterDecision K T.sim }
@@ -166,14 +166,14 @@ pub fn standing<S, M, N, K, T: Stations<S, M, N>>()
 {}
 
 /// How many copies there are, how many messages were handled once, and who is over the limit: by the logs alone.
-pub fn counting<S, M, N, K, T: Stations<S, M, N>>()
+pub fn counts_are_of_logs<S, M, N, K, T: Stations<S, M, N>>()
     ensures copies { CopiesAreLogs K T.sim }
     ensures grows { HandledGrows K T.sim }
     ensures over { OverIsBeyond K T.sim }
 {}
 
 /// Handled once is nothing at the start, and a decision, an end or a fork leaves it.
-pub fn handling<S, M, N, T: Stations<S, M, N>>()
+pub fn handled_once_stays<S, M, N, T: Stations<S, M, N>>()
     ensures first { NothingIsHandledAtFirst T.sim }
     ensures decision { HandledStaysAtDecision T.sim }
     ensures ending { HandledStaysAtEnd T.sim }
@@ -181,7 +181,7 @@ pub fn handling<S, M, N, T: Stations<S, M, N>>()
 {}
 
 /// What windows gain where logs may get too long, that it is little, and that all windows gain what is handled once.
-pub fn gaining<S, M, N, K, T: Stations<S, M, N>>()
+pub fn gains_add_up<S, M, N, K, T: Stations<S, M, N>>()
     ensures to_limit { HandledGrowsToLimit K T.sim }
     ensures few { HandledIsFew K T.sim }
     ensures copy { CopyGainsFew K T.sim T.good }
@@ -191,12 +191,12 @@ pub fn gaining<S, M, N, K, T: Stations<S, M, N>>()
 {}
 
 /// Where no log is beyond the limit the counts of a report are few.
-pub fn limits<S, M, N, T: Stations<S, M, N>>()
+pub fn counts_are_few<S, M, N, T: Stations<S, M, N>>()
     ensures few { CountsAreFew T.sim }
 {}
 
 /// Out of the copies: handled alone, the number of clones, and who shares a log.
-pub fn summing<S, M, N, K, T: Stations<S, M, N>>()
+pub fn counts_are_of_copies<S, M, N, K, T: Stations<S, M, N>>()
     ensures alone { AloneIsOfCopies K T.sim }
     ensures clones { ClonesAreOfCopies K T.sim }
     ensures class { CopyIsClass K T.sim }

@@ -7,16 +7,16 @@ ghost use Rattle.run_laws.specs.Simulation.{Simulation};
 ghost use Rattle.run_laws.specs.SharedTexts.{TracesAgree, TracesAgreeToParting, TraceIsSplit};
 ghost use Rattle.run_laws.specs.SharedTexts.{LinesAgree, LengthIsOfLogs, RestIsOfLogs};
 
-use crate::laws::{Numbered, Stations};
+use crate::laws::{NumberingStations, Stations};
 
 /// Two clones have one trace up to where their decision lists part.
-pub fn sharing<S, M, N, T: Stations<S, M, N>>()
+pub fn traces_agree<S, M, N, T: Stations<S, M, N>>()
     ensures agree { TracesAgree T.sim }
     ensures to_parting { TracesAgreeToParting T.sim }
 {}
 
 /// The lines that two clones share, how long the others are, and that the logs have them.
-pub fn lines<S, M, N, T: Numbered<S, M, N>>()
+pub fn lines_are_of_logs<S, M, N, T: NumberingStations<S, M, N>>()
     ensures split { TraceIsSplit T.sim }
     ensures agree { LinesAgree T.sim }
     ensures length { LengthIsOfLogs T.sim }

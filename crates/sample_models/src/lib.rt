@@ -1,6 +1,27 @@
-//! Models that the tests of several crates read, each as the text of a model file, and a journal that they expect. They
-//! stand here once, so that the tests of a lower and of a higher crate speak of the same network, and a change of it
-//! reaches them all. There is nothing to run and nothing to prove.
+//! Models that the tests of several crates read, each as the text of a model file, two scripts, and a journal that they
+//! expect.
+//!
+//! They stand here once, so that the tests of a lower and of a higher crate speak of the same network, and a change of
+//! it reaches them all:
+//!
+//! ```text
+//! ONE_DESK       gate -> desk -> out               the worked example
+//! NO_ROOM        three sources -> desk -> out      jobs that come at one time are lost
+//! DRAWN_GATE     gate -> out                       interarrival times that are drawn
+//! FAN_BY_TURN    gate -> fan -> slow -> out        a router by turn, whose second link goes to the sink
+//! CLASSES        two sources -> desk -> out        a server that serves by class
+//! BUSY           gate -> out                       windows that more than one thread steps
+//! CLINIC         examples/clinic.toml              a planner's model
+//! ```
+//!
+//! A test takes one as it stands, or with one piece of its text replaced:
+//!
+//! ```text
+//! let model = read_model(alloc, ONE_DESK.as_bytes())?;
+//! let limited = ONE_DESK.replacen(alloc, "horizon = 20", "horizon = 20\nlimit = 3", 1)?;
+//! ```
+//!
+//! There is nothing to run and nothing to prove.
 #![tactic(auto)]
 
 /// A source of two jobs, a desk with one server, and a sink, one after the other.
@@ -129,6 +150,21 @@ name = "out"
 kind = "sink"
 "#;
 
+/// Two stations and windows of more than 8,000 messages: more than one thread steps them.
+pub const BUSY: &str = r#"lookahead = 9000
+horizon = 27000
+limit = 65536
+[[station]]
+name = "gate"
+kind = "source"
+every = [1, 1]
+jobs = 27000
+link = [{ to = "out", delay = 9000 }]
+[[station]]
+name = "out"
+kind = "sink"
+"#;
+
 /// A walk-in clinic where one patient of four is x-rayed: `examples/clinic.toml` at the top of the repository, byte
 /// for byte.
 pub const CLINIC: &str = r#"# A walk-in clinic; times in minutes
@@ -177,6 +213,18 @@ link = [{ to = "doctor", delay = 3 }]
 name = "exit"
 kind = "sink"
 "#;
+
+/// Two branches with equal decisions, as a script.
+pub const EQUAL_SCRIPT: &str = "fork a from base
+fork b from base
+set a at 8 desk service 2 2
+set b at 8 desk service 2 2
+";
+
+/// The own script of its `b`.
+pub const OWN_SCRIPT_OF_B: &str = "fork b from base
+set b at 8 desk service 2 2
+";
 
 /// The journal of [`ONE_DESK`] where nobody decides and nobody looks: its fronts alone.
 pub const QUIET_JOURNAL: &str = "journal 0 7

@@ -12,19 +12,23 @@ use Rattle.shelf.specs.Rules.{IsHistory, Adds}
 use Rattle.shelf.proofs.Prefixes.{prefix_whole}
 use Rattle.shelf.proofs.Legals.{AreLegal-push}
 
+-- ---- the rule
+
 -- what a rule shows of the history: nothing
-abbrev pub shown : List RackView → List RackView
-shown racks = []
+abbrev pub shows_nothing : List RackView → List RackView
+shows_nothing racks = []
 
 -- and what its callers trade: nothing
-abbrev pub moved : List RackView → List RackView → ℕ → Type 0
-moved xs ys n = Unit {0}
+abbrev pub trades_nothing : List RackView → List RackView → ℕ → Type 0
+trades_nothing xs ys n = Unit {0}
+
+-- ---- Goes, Moves
 
 -- over a legal history that begins with what was seen the exchange goes as told, whether it finds more or not
-pub adds_goes : (all seen : List RackView) (r : RackView) (old : ℕ) → length seen ≡ old → MayFollow seen r
+adds_goes : (all seen : List RackView) (r : RackView) (old : ℕ) → length seen ≡ old → MayFollow seen r
     → AreLegal all → IsPrefix seen all
     → (b : Bool) → (length all == old) ≡ b
-    → Goes IsHistory shown moved 0 (seen, (no_nib, None)) (λ n. either (n == old) (old + 1) n)
+    → Goes IsHistory shows_nothing trades_nothing 0 (seen, (no_nib, None)) (λ n. either (n == old) (old + 1) n)
     (Adds (step 0 old (old + 1) r) (seen, (no_nib, None))) ((length all, true) ∷ (0, true) ∷ []) all
 adds_goes all seen r old len may legal pre true is =
     let here : length all ≡ old = grind (arith, nat_tests) in
@@ -55,11 +59,11 @@ adds_goes all seen r old len may legal pre false is =
 
 -- whatever the history is, the exchange adds the rack to all that was seen, or finds that the history is longer
 pub adds_moves : (seen : List RackView) (r : RackView) (old : ℕ) → length seen ≡ old → MayFollow seen r
-    → Moves IsHistory shown moved 0 (seen, (no_nib, None)) (λ n. either (n == old) (old + 1) n)
+    → Moves IsHistory shows_nothing trades_nothing 0 (seen, (no_nib, None)) (λ n. either (n == old) (old + 1) n)
     (Adds (step 0 old (old + 1) r) (seen, (no_nib, None)))
 adds_moves seen r old len may cs all kept pre away =
     let P : List Cell → Type 0 = λ c. (0 < length c) × ((cell c 0).1 ≡ true)
-    × Goes IsHistory shown moved 0 (seen, (no_nib, None)) (λ n. either (n == old) (old + 1) n)
+    × Goes IsHistory shows_nothing trades_nothing 0 (seen, (no_nib, None)) (λ n. either (n == old) (old + 1) n)
     (Adds (step 0 old (old + 1) r) (seen, (no_nib, None))) c all in
     subst P (sym kept.words) (
       omega arith,

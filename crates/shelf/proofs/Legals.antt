@@ -2,18 +2,16 @@
 use Rattle.std.proofs.Common.{◌≡◌, ◌==◌, ℕ, zero, suc, ◌+◌, ◌<◌, ◌≤◌, Bool, true, false, List, [], ◌∷◌, ◌++◌, Option}
 use Rattle.std.proofs.Common.{Some, None, length, map, take, refl, ap, sym, ◌∙◌, subst, arith, slice_get, get_or, ◌-◌}
 use Rattle.std.proofs.lemmas.List.{length-map}
+use Rattle.std.proofs.lemmas.Option.{get_or_from_slice_get, same_Some, slice_get-map, slice_get_read, slice_get_within}
+use Rattle.std.specs.Option.{option_map}
 use Rattle.std.specs.List.{AllByRecursion}
 use Rattle.std.proofs.lemmas.Bool.Decides.{nat_tests}
 use mathlib.Core.List.{IsPrefix}
+use Rattle.sim_base.proofs.ListLaws.{all_push}
+use Rattle.sim_base.proofs.Elements.{take_next}
 use Rattle.phys_proc.specs.Racks.{RackView}
 use Rattle.shelf.specs.Racks.{MayComeAfter, MayFollow, AreLegal, latest, or_this, if_this}
 use Rattle.shelf.specs.Racks.{HasRack, AreShown, OneEach, MayOpen}
-
--- what holds of a list and of one more holds of both together
-all_with : {A : Type 0} (P : A → Type 0) (xs : List A) (y : A) → AllByRecursion P xs → P y
-    → AllByRecursion P (xs ++ y ∷ [])
-all_with P [] y h p = (p, tt)
-all_with P (x ∷ xs) y h p = (h.0, all_with P xs y h.1 p)
 
 -- ---- AreLegal
 
@@ -22,7 +20,7 @@ pub AreLegal-push : (racks : List RackView) (r : RackView) → AreLegal racks �
     → AreLegal (racks ++ r ∷ [])
 AreLegal-push [] r legal may = (tt, tt)
 AreLegal-push (q ∷ racks) r legal may =
-    (all_with (λ (r : RackView). MayComeAfter r q) racks r legal.0 may.0, AreLegal-push racks r legal.1 may.1)
+    (all_push (λ (r : RackView). MayComeAfter r q) racks r legal.0 may.0, AreLegal-push racks r legal.1 may.1)
 
 -- ---- latest
 
@@ -56,7 +54,7 @@ latest-with s (q ∷ racks) r = ap (λ o. or_this o (q.station == s) q) (latest-
     by_test false = refl
 
 -- what goes on from a list shows of a station what the list showed, or what is later
-pub latest-later : (s : ℕ) (xs zs : List RackView) (q : RackView) → AreLegal (xs ++ zs) → latest s xs ≡ Some q
+latest-later : (s : ℕ) (xs zs : List RackView) (q : RackView) → AreLegal (xs ++ zs) → latest s xs ≡ Some q
     → (r : RackView) × (latest s (xs ++ zs) ≡ Some r) × (q.front ≤ r.front)
 latest-later s [] zs q legal e = absurd (cc)
 latest-later s (x ∷ xs) zs q legal e = by_rest (λ f. latest-later s xs zs q legal.1 f) (latest s xs) refl
@@ -90,16 +88,16 @@ pub front-later : (s : ℕ) (xs ys : List RackView) (q r : RackView) → AreLega
 front-later s xs ys q r legal begins e f =
     let h = latest-later s xs begins.0 q (subst AreLegal (sym begins.1) legal) e in
     let g : latest s ys ≡ Some h.0 = subst (λ zs. latest s zs ≡ Some h.0) begins.1 h.1 in
-    let same : r ≡ h.0 = of_some (sym f ∙ g) in
+    let same : r ≡ h.0 = same_Some r h.0 (sym f ∙ g) in
     omega (arith, h.2, ap (λ (x : RackView). x.front) same)
-  where
-    of_some : {x y : RackView} → Some x ≡ Some y → x ≡ y
-    of_some e = cc
+
+-- ---- HasRack
 
 -- a station that has a rack has one in a list that goes on
-has_on : (s : ℕ) (xs zs : List RackView) → HasRack s xs → HasRack s (xs ++ zs)
-has_on s [] zs has = let e = has.1 in absurd (cc)
-has_on s (x ∷ xs) zs has = by_rest (λ h. has_on s xs zs h) (latest s xs) refl (x.station == s) refl has.1
+HasRack-append : (s : ℕ) (xs zs : List RackView) → HasRack s xs → HasRack s (xs ++ zs)
+HasRack-append s [] zs has = let e = has.1 in absurd (cc)
+HasRack-append s (x ∷ xs) zs has =
+    by_rest (λ h. HasRack-append s xs zs h) (latest s xs) refl (x.station == s) refl has.1
   where
     this_or : (o : Option RackView) → (r : RackView) × (or_this o true x ≡ Some r)
     this_or (Some r) = (r, refl)
@@ -112,19 +110,27 @@ has_on s (x ∷ xs) zs has = by_rest (λ h. has_on s xs zs h) (latest s xs) refl
         (sym is) (this_or (latest s (xs ++ zs)))
     by_rest more None f false is e = absurd (cc)
 
--- and from then on
-pub has_later : (s : ℕ) (xs ys : List RackView) → IsPrefix xs ys → HasRack s xs → HasRack s ys
-has_later s xs ys begins has = subst (HasRack s) begins.1 (has_on s xs begins.0 has)
+-- and in one that begins with the other
+pub HasRack-later : (s : ℕ) (xs ys : List RackView) → IsPrefix xs ys → HasRack s xs → HasRack s ys
+HasRack-later s xs ys begins has = subst (HasRack s) begins.1 (HasRack-append s xs begins.0 has)
 
--- ---- opening
+-- a station that has a rack has one also with one rack more
+pub HasRack-push : (s : ℕ) (racks : List RackView) (r : RackView) → HasRack s racks → HasRack s (racks ++ r ∷ [])
+HasRack-push s racks r has = by_test (r.station == s) (latest-with s racks r)
+  where
+    by_test : (b : Bool) → latest s (racks ++ r ∷ []) ≡ if_this b r (latest s racks) → HasRack s (racks ++ r ∷ [])
+    by_test true e = (r, e)
+    by_test false e = (has.0, e ∙ has.1)
+
+-- ---- latest, of one rack for each station
 
 -- racks of later stations have none of an earlier one
-none_of : (s n : ℕ) (racks : List RackView) → s ≤ n
+latest-none : (s n : ℕ) (racks : List RackView) → s ≤ n
     → ((i : ℕ) (r : RackView) → slice_get racks i ≡ Some r → r.station ≡ n + i + 1) → latest s racks ≡ None
-none_of s n [] l each = refl
-none_of s n (x ∷ xs) l each =
+latest-none s n [] l each = refl
+latest-none s n (x ∷ xs) l each =
     let h = each 0 x refl in
-    by_test (none_of s (n + 1) xs (omega (arith, l)) (λ i r e. let h = each (suc i) r e in omega (arith, h)))
+    by_test (latest-none s (n + 1) xs (omega (arith, l)) (λ i r e. let h = each (suc i) r e in omega (arith, h)))
     (omega (arith, h, l)) (x.station == s) refl
   where
     by_test : latest s xs ≡ None → s < x.station → (b : Bool) → (x.station == s) ≡ b
@@ -133,21 +139,21 @@ none_of s n (x ∷ xs) l each =
     by_test rest above false is = rw (rest, is) refl
 
 -- of one rack for each station, each is the last of its station
-opens_at : (n : ℕ) (racks : List RackView)
+latest-at : (n : ℕ) (racks : List RackView)
     → ((i : ℕ) (r : RackView) → slice_get racks i ≡ Some r → r.station ≡ n + i + 1)
     → (i : ℕ) → i < length racks → slice_get racks i ≡ latest (n + i + 1) racks
-opens_at n [] each i l = absurd (omega (arith, l))
-opens_at n (x ∷ xs) each zero l =
+latest-at n [] each i l = absurd (omega (arith, l))
+latest-at n (x ∷ xs) each zero l =
     let none : latest (n + 0 + 1) xs ≡ None =
-    none_of (n + 0 + 1) (n + 1) xs (omega arith) (λ i r e. let h = each (suc i) r e in omega (arith, h)) in
+    latest-none (n + 0 + 1) (n + 1) xs (omega arith) (λ i r e. let h = each (suc i) r e in omega (arith, h)) in
     let h = each 0 x refl in by_test (x.station == n + 0 + 1) refl none h
   where
     by_test : (b : Bool) → (x.station == n + 0 + 1) ≡ b → latest (n + 0 + 1) xs ≡ None → x.station ≡ n + 0 + 1
         → Some x ≡ or_this (latest (n + 0 + 1) xs) (x.station == n + 0 + 1) x
     by_test true is none h = rw (none, is) refl
     by_test false is none h = absurd (grind (arith, nat_tests))
-opens_at n (x ∷ xs) each (suc i) l =
-    let h = opens_at (n + 1) xs (λ i r e. let h = each (suc i) r e in omega (arith, h)) i (omega (arith, l)) in
+latest-at n (x ∷ xs) each (suc i) l =
+    let h = latest-at (n + 1) xs (λ i r e. let h = each (suc i) r e in omega (arith, h)) i (omega (arith, l)) in
     let g = each 0 x refl in
     let k : (n + 1) + i + 1 ≡ n + suc i + 1 = omega arith in
     subst (λ s. slice_get xs i ≡ latest s xs) k h ∙ by_test (x.station == n + suc i + 1) refl g
@@ -159,16 +165,19 @@ opens_at n (x ∷ xs) each (suc i) l =
     by_test false is g None = rw is refl
     by_test false is g (Some r) = refl
 
+-- ---- OneEach, MayOpen
+
 -- what holds at each place holds of all
-all_at : {A : Type 0} (P : A → Type 0) (xs : List A)
+AllByRecursion-at : {A : Type 0} (P : A → Type 0) (xs : List A)
     → ((i : ℕ) (x : A) → i < length xs → slice_get xs i ≡ Some x → P x) → AllByRecursion P xs
-all_at P [] f = tt
-all_at P (x ∷ xs) f = (f 0 x (omega arith) refl, all_at P xs (λ i y l e. f (suc i) y (omega (arith, l)) e))
+AllByRecursion-at P [] f = tt
+AllByRecursion-at P (x ∷ xs) f =
+    (f 0 x (omega arith) refl, AllByRecursion-at P xs (λ i y l e. f (suc i) y (omega (arith, l)) e))
 
 -- racks of which each station has one, in order, are what readers are shown after them
-pub opens : (racks : List RackView) → OneEach racks → AreShown racks racks
-opens racks each = record {
-  each = λ i l. let h = opens_at 0 racks (λ i r e. let h = each i r e in omega (arith, h)) i l in
+pub AreShown-opening : (racks : List RackView) → OneEach racks → AreShown racks racks
+AreShown-opening racks each = record {
+  each = λ i l. let h = latest-at 0 racks (λ i r e. let h = each i r e in omega (arith, h)) i l in
       subst (λ s. slice_get racks i ≡ latest s racks) (zero_more i) h;
   all = λ s has. let h = latest-all (λ (r : RackView). (1 ≤ r.station) × (r.station ≤ length racks)) s racks has.0
       within has.1 in
@@ -179,11 +188,11 @@ opens racks each = record {
     zero_more i = omega arith
 
     within : AllByRecursion (λ (r : RackView). (1 ≤ r.station) × (r.station ≤ length racks)) racks
-    within = all_at (λ (r : RackView). (1 ≤ r.station) × (r.station ≤ length racks)) racks
+    within = AllByRecursion-at (λ (r : RackView). (1 ≤ r.station) × (r.station ≤ length racks)) racks
         (λ i r l e. let h = each i r e in (omega (arith, h), omega (arith, h, l)))
 
 -- each of the opening racks may follow those before it
-pub MayOpen-follows : (racks : List RackView) (i : ℕ) (r : RackView) → MayOpen racks → slice_get racks i ≡ Some r
+MayOpen-follows : (racks : List RackView) (i : ℕ) (r : RackView) → MayOpen racks → slice_get racks i ≡ Some r
     → MayFollow (take i racks) r
 MayOpen-follows racks i r may e = of_part racks i (λ j q l f. record {
   net = may.net j i q r f e;
@@ -197,22 +206,10 @@ MayOpen-follows racks i r may e = of_part racks i (λ j q l f. record {
     of_part (x ∷ xs) zero f = tt
     of_part (x ∷ xs) (suc i) f = (f 0 x (omega arith) refl, of_part xs i (λ j q l e. f (suc j) q (omega (arith, l)) e))
 
--- the image of what stands at a place
-image_at : {A : Type 0} (f : A → RackView) (xs : List A) (i : ℕ) (x : A) → i < length xs → x ≡ get_or xs i x
+-- the image of what is at a place
+slice_get-image : {A : Type 0} (f : A → RackView) (xs : List A) (i : ℕ) (x : A) → i < length xs → x ≡ get_or xs i x
     → slice_get (map f xs) i ≡ Some (f x)
-image_at f [] i x l e = absurd (omega (arith, l))
-image_at f (y ∷ ys) zero x l e = ap (λ z. Some (f z)) (sym e)
-image_at f (y ∷ ys) (suc i) x l e = image_at f ys i x (omega (arith, l)) e
-
--- the first elements and the one behind them
-take_more : (ys : List RackView) (i : ℕ) (y : RackView) → slice_get ys i ≡ Some y
-    → take (i + 1) ys ≡ take i ys ++ y ∷ []
-take_more [] i y e = absurd (cc)
-take_more (z ∷ zs) zero y e = let h : z ≡ y = cc in ap (λ w. w ∷ []) h
-take_more (z ∷ zs) (suc i) y e = ap (λ n. take n (z ∷ zs)) (one_more i) ∙ ap (λ l. z ∷ l) (take_more zs i y e)
-  where
-    one_more : (i : ℕ) → suc i + 1 ≡ suc (i + 1)
-    one_more i = omega arith
+slice_get-image f xs i x l e = slice_get-map f xs i ∙ ap (option_map f) (slice_get_read xs (length xs) i x refl l e)
 
 -- the next of the opening racks may follow those before it, and with it they are one more
 pub MayOpen-next : {A : Type 0} (f : A → RackView) (xs : List A) (i : ℕ) (x : A) (r : RackView)
@@ -220,11 +217,13 @@ pub MayOpen-next : {A : Type 0} (f : A → RackView) (xs : List A) (i : ℕ) (x 
     → published ≡ take i (map f xs) → MayOpen (map f xs) → i < length xs → x ≡ get_or xs i x → r ≡ f x
     → MayFollow published r × (published ++ r ∷ [] ≡ take (i + 1) (map f xs))
 MayOpen-next f xs i x r published e may l got is =
-    let g : slice_get (map f xs) i ≡ Some r = image_at f xs i x l got ∙ ap Some (sym is) in (
+    let g : slice_get (map f xs) i ≡ Some r = slice_get-image f xs i x l got ∙ ap Some (sym is) in (
       subst (λ q. MayFollow q r) (sym e) (MayOpen-follows (map f xs) i r may g),
-      ap (λ q. q ++ r ∷ []) e
-          ∙ sym (take_more (map f xs) i r g),
+      ap (λ q. q ++ r ∷ []) e ∙ sym (take_next (map f xs) i r (slice_get_within (map f xs) i r g)
+          (sym (get_or_from_slice_get (map f xs) i r r g))),
     )
+
+-- ---- AreShown
 
 -- a rack that readers are shown is the last of its station
 pub AreShown-at : {A : Type 0} (f : A → RackView) (xs : List A) (published : List RackView) (s : ℕ) (x : A)
@@ -235,17 +234,9 @@ AreShown-at f xs published s x shown has got =
     let m : s - 1 < length (map f xs) = omega (arith, l, length-map xs f) in
     let e : s - 1 + 1 ≡ s = omega (arith, k.0) in
     sym (subst (λ n. slice_get (map f xs) (s - 1) ≡ latest n published) e (shown.each (s - 1) m))
-    ∙ image_at f xs (s - 1) x l got
+    ∙ slice_get-image f xs (s - 1) x l got
 
 -- the place of the shown racks at which the rack of a station stands
 pub HasRack-bounds : {A : Type 0} (f : A → RackView) (xs : List A) (published : List RackView) (s : ℕ)
     → AreShown (map f xs) published → HasRack s published → (1 ≤ s) × (s ≤ length xs)
 HasRack-bounds f xs published s shown has = let k = shown.all s has in (k.0, omega (arith, k.1, length-map xs f))
-
--- a station that has a rack has one also with one rack more
-pub has_with : (s : ℕ) (racks : List RackView) (r : RackView) → HasRack s racks → HasRack s (racks ++ r ∷ [])
-has_with s racks r has = by_test (r.station == s) (latest-with s racks r)
-  where
-    by_test : (b : Bool) → latest s (racks ++ r ∷ []) ≡ if_this b r (latest s racks) → HasRack s (racks ++ r ∷ [])
-    by_test true e = (r, e)
-    by_test false e = (has.0, e ∙ has.1)

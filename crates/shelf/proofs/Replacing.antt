@@ -1,15 +1,17 @@
 -- One rack in the place of another.
-use Rattle.std.proofs.Common.{◌≡◌, ◌==◌, ◌⊎◌, inl, inr, ℕ, zero, suc, ◌+◌, ◌-◌, ◌<◌}
-use Rattle.std.proofs.Common.{◌≤◌, Bool, true, false, List, [], ◌∷◌, ◌++◌, Option, Some, None}
-use Rattle.std.proofs.Common.{length, map, refl, ap, sym, ◌∙◌, subst, arith, slice_get, get_or, length-append}
+use Rattle.std.proofs.Common.{◌≡◌, ◌==◌, ℕ, zero, suc, ◌+◌, ◌-◌, ◌<◌}
+use Rattle.std.proofs.Common.{◌≤◌, Bool, true, false, List, [], ◌∷◌, ◌++◌, Option, Some}
+use Rattle.std.proofs.Common.{length, map, refl, ap, sym, ◌∙◌, subst, arith, slice_get, length-append}
 use Rattle.std.proofs.lemmas.List.{length-map, map-append}
 use Rattle.std.proofs.lemmas.Bool.Decides.{nat_tests}
 use Rattle.phys_proc.specs.Racks.{RackView}
 use Rattle.shelf.specs.Racks.{HasRack, AreShown, EachIs, if_this, latest, with_rack}
 use Rattle.shelf.proofs.Legals.{latest-with}
 
--- one more, which should stand there
-pub EachIs-push : (want : ℕ → Option RackView) (xs : List RackView) (y : RackView) → EachIs want xs
+-- ---- EachIs
+
+-- where at each place stands what should, it is so with one more that should stand behind them
+EachIs-push : (want : ℕ → Option RackView) (xs : List RackView) (y : RackView) → EachIs want xs
     → Some y ≡ want (length xs) → EachIs want (xs ++ y ∷ [])
 EachIs-push want [] y each e = at_end
   where
@@ -33,6 +35,8 @@ EachIs-push_image f want xs ys x n e many each last = (
       (EachIs-push want (map f xs) (f x) each (last ∙ ap want (sym (length-map xs f ∙ many)))),
   ap length e ∙ omega (arith, length-append xs (x ∷ []), many),
 )
+
+-- ---- AreShown
 
 -- with the rack at its station's place readers are shown the last racks again
 pub AreShown-push : (shown published all : List RackView) (place : ℕ) (rack : RackView) → place ≡ rack.station - 1

@@ -69,35 +69,35 @@ impl Naming for Brand {
 
 /// An empty history, which has no name yet.
 #[derive(Drop)]
-pub struct Opened {
+pub struct NewHistory {
     head: Word<Rack, u64, HistoryRule>,
     seen: Seen<Rack, u64, HistoryRule>,
     pub ghost empty: { seen.log ≡ [] },
     pub ghost head_is: { head ≡ head_of seen.book },
 }
 
-impl Opened {
+impl NewHistory {
     /// A new history.
-    pub fn new() -> Opened {
+    pub fn new() -> NewHistory {
         let (seen, mut first, _second) = Seen::open(Start::alone(), 0, 0);
-        Opened {
+        NewHistory {
             head: Word::tracked(0, &mut first),
             seen,
         }
     }
 
     // Its word under a name, and what was seen of it: nothing.
-    pub(crate) fn named<J: Naming>(self) -> (History<J>, Published<J>)
+    pub(crate) fn named<J: Naming>(self) -> (History<J>, PublishedRacks<J>)
         requires name { self.seen.book ≡ J.book }
         ensures nothing { result.1 ≡ [] }
     {
-        let Opened { head, seen } = self;
+        let NewHistory { head, seen } = self;
         (
             History {
                 head,
                 of: PhantomData,
             },
-            Published {
+            PublishedRacks {
                 count: 0,
                 seen,
                 of: PhantomData,
@@ -116,13 +116,13 @@ pub struct History<J: Naming> {
 
 /// A beginning of the history that was seen. Contracts see the racks; the code keeps only their number.
 #[derive(Drop)]
-pub struct Published<J: Naming> {
+pub struct PublishedRacks<J: Naming> {
     count: u64,
     seen: Seen<Rack, u64, HistoryRule>,
     of: PhantomData<J>,
 }
 
-impl<J: Naming> Model for Published<J> {
+impl<J: Naming> Model for PublishedRacks<J> {
     ghost use Rattle.std.specs.Prelude.{◌≡◌, List, length};
     ghost use Rattle.phys_proc.specs.Racks.{RackView};
     ghost use Rattle.shelf.specs.Racks.{AreLegal};
@@ -134,7 +134,7 @@ impl<J: Naming> Model for Published<J> {
     ghost invariant = { λ p. (p.count ≡ length p.seen.log) × (p.seen.book ≡ J.book) × AreLegal p.seen.log };
 }
 
-impl<J: Naming> Published<J> {
+impl<J: Naming> PublishedRacks<J> {
     /// How many racks it has.
     pub fn len(&self) -> u64
         ensures value { result ≡ length self.now }
@@ -144,10 +144,10 @@ impl<J: Naming> Published<J> {
     }
 
     /// A copy.
-    pub fn again(&self) -> Published<J>
+    pub fn again(&self) -> PublishedRacks<J>
         ensures value { result ≡ self.now }
     {
-        Published {
+        PublishedRacks {
             count: self.count,
             seen: self.seen.again(),
             of: PhantomData,
@@ -155,7 +155,7 @@ impl<J: Naming> Published<J> {
     }
 
     /// The longer of two beginnings of the history, which the other begins.
-    pub fn longer(&self, other: &Published<J>) -> Published<J>
+    pub fn longer(&self, other: &PublishedRacks<J>) -> PublishedRacks<J>
         ensures one { (result ≡ self.now) ⊎ (result ≡ other.now) }
         ensures this { IsPrefix self.now result }
         ensures that { IsPrefix other.now result }

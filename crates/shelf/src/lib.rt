@@ -12,7 +12,7 @@
 //! ```
 //!
 //! ```text
-//! let (mut stocker, seats) = begin::<J, _>(rt, alloc, Opened::new(), racks, readers)?;  // the stocker keeps `rt`
+//! let (mut stocker, seats) = begin::<J, _>(rt, alloc, NewHistory::new(), racks, readers)?;  // the stocker keeps `rt`
 //! stocker.publish(alloc, rack)?;                      // the engine, after each window
 //! if let Some(told) = stocker.told() {                // once for each reader since the last publish
 //!     seat.learn(told);                               // no later look of this seat is older
@@ -33,7 +33,7 @@ mod seat;
 mod stocker;
 mod version;
 
-pub use history::{History, Naming, Opened, Published};
+pub use history::{History, Naming, NewHistory, PublishedRacks};
 pub use seat::{Seat, Told};
 pub use stocker::{MOST_READERS, Stocker, begin};
 pub use version::Version;

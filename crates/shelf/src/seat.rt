@@ -4,8 +4,8 @@ ghost use mathlib.Core.List.{IsPrefix};
 ghost use Rattle.phys_proc.specs.Racks.{RackView};
 ghost use Rattle.shelf.specs.Racks.{AreLegal, HasRack, IsGlance, latest};
 
-use crate::history::{Naming, Published};
-use crate::version::{Shown, Version};
+use crate::history::{Naming, PublishedRacks};
+use crate::version::{ShownVersion, Version};
 use left_right::ReadHandle;
 use phys_proc::Glance;
 use sim_base::Name;
@@ -32,7 +32,7 @@ impl<J: Naming> Model for Told<J> {
 #[derive(Drop)]
 pub struct Seat<J: Naming> {
     /// Its way to what the stocker shows.
-    pub(crate) handle: ReadHandle<Shown<J>>,
+    pub(crate) handle: ReadHandle<ShownVersion<J>>,
     /// The newest version that it saw or learnt.
     pub(crate) newest: Arc<Version<J>>,
 }
@@ -47,7 +47,7 @@ impl<J: Naming> Model for Seat<J> {
 }
 
 // Whether b knows more than a; else a knows all that b knows.
-fn is_behind<J: Naming>(a: &Published<J>, b: &Published<J>) -> bool
+fn is_behind<J: Naming>(a: &PublishedRacks<J>, b: &PublishedRacks<J>) -> bool
     ensures value { MatchBool result (IsPrefix a.now b.now) (IsPrefix b.now a.now) }
 {
     // for its clauses: both are beginnings of one history, so the shorter begins the longer
@@ -57,8 +57,8 @@ fn is_behind<J: Naming>(a: &Published<J>, b: &Published<J>) -> bool
 
 // The version that is shown, where it has more than what is known.
 fn newer_version<J: Naming>(
-    handle: &mut ReadHandle<Shown<J>>,
-    known: &Published<J>,
+    handle: &mut ReadHandle<ShownVersion<J>>,
+    known: &PublishedRacks<J>,
 ) -> Option<Arc<Version<J>>>
     ensures begins { IfSome result (λ v. IsPrefix known.now v.value) }
 {
@@ -72,7 +72,7 @@ fn newer_version<J: Naming>(
 }
 
 // Takes the newest version that there is, where that can be had.
-fn refresh<J: Naming>(handle: &mut ReadHandle<Shown<J>>, newest: &mut Arc<Version<J>>)
+fn refresh<J: Naming>(handle: &mut ReadHandle<ShownVersion<J>>, newest: &mut Arc<Version<J>>)
     ensures begins { IsPrefix newest.old.value newest.new.value }
 {
     if let Some(version) = newer_version(handle, newest.published()) {

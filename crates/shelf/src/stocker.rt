@@ -2,13 +2,14 @@
 ghost use Rattle.std.specs.Prelude.{All, ◌≡◌, ◌+◌, ◌<◌, ◌≤◌, ◌^◌, ◌++◌, ◌∷◌, []};
 ghost use Rattle.std.specs.Prelude.{length, map, List, Some, IfOk, IfSome, IfNone, OnOk, OnErr};
 ghost use Rattle.std.specs.Arc.{arc_value};
+ghost use Rattle.net_model.specs.declared.limits.TheConstants.{MOST_STATIONS};
 ghost use Rattle.phys_proc.specs.Racks.{RackView};
 ghost use Rattle.shelf.specs.Racks.{AreShown, HasRack, MayFollow, MayOpen, with_rack};
 ghost use Rattle.shelf.specs.declared.stocker.TheConstants.{MOST_READERS};
 
-use crate::history::{History, Naming, Opened, Published};
+use crate::history::{History, Naming, NewHistory, PublishedRacks};
 use crate::seat::{Seat, Told};
-use crate::version::{Put, Shown, Version};
+use crate::version::{NextVersion, ShownVersion, Version};
 use left_right::{Absorb, WriteHandle};
 use phys_proc::Rack;
 use sim_base::NoMemory;
@@ -21,8 +22,8 @@ const MOST_RACKS: u64 = 1 << 61;
 /// The greatest number of readers of a shelf.
 pub const MOST_READERS: u32 = 16;
 
-// Handles of one version, so many.
-fn handles<J: Naming>(
+// So many handles of one version.
+fn share_version<J: Naming>(
     alloc: Global,
     version: &Arc<Version<J>>,
     many: u32,
@@ -75,12 +76,12 @@ fn replace_rack(
 // Makes the opening racks the first of the history.
 fn publish_opening<J: Naming>(
     history: &History<J>,
-    nothing: Published<J>,
+    nothing: PublishedRacks<J>,
     racks: &[Arc<Rack>],
-) -> Result<Published<J>, NoMemory>
+) -> Result<PublishedRacks<J>, NoMemory>
     requires nothing { nothing ≡ [] }
     requires opening { MayOpen (map arc_value racks.now) }
-    requires few { length racks.now ≤ 64 }
+    requires few { length racks.now ≤ MOST_STATIONS }
     ensures opening { IfOk result (λ p. p ≡ map arc_value racks.now) }
 {
     let mut published = nothing;
@@ -96,13 +97,13 @@ fn publish_opening<J: Naming>(
 #[derive(Drop)]
 pub struct Stocker<J: Naming, R: Wait + Drop>
 where
-    Shown<J>: Absorb<Put<J>, State = ()>,
+    ShownVersion<J>: Absorb<NextVersion<J>, State = ()>,
 {
-    writer: WriteHandle<Shown<J>, Put<J>, R>,
+    writer: WriteHandle<ShownVersion<J>, NextVersion<J>, R>,
     history: History<J>,
     newest: Arc<Version<J>>,
     /// The racks that were published, the opening ones first.
-    pub published: Published<J>,
+    pub published: PublishedRacks<J>,
     /// How many readers there are.
     pub readers: u32,
     /// A handle for each reader that was not told of the last publish.
@@ -115,10 +116,10 @@ where
 fn next_version<J: Naming>(
     alloc: Global,
     history: &History<J>,
-    published: &Published<J>,
+    published: &PublishedRacks<J>,
     newest: &Version<J>,
     rack: Rack,
-) -> Result<(Published<J>, Arc<Version<J>>), NoMemory>
+) -> Result<(PublishedRacks<J>, Arc<Version<J>>), NoMemory>
     requires few { length published.now < 2 ^ 62 }
     requires newest { newest.now ≡ published.now }
     requires there { HasRack rack.station published.now }
@@ -138,7 +139,7 @@ fn next_version<J: Naming>(
 
 impl<J: Naming, R: Wait + Drop> Stocker<J, R>
 where
-    Shown<J>: Absorb<Put<J>, State = ()>,
+    ShownVersion<J>: Absorb<NextVersion<J>, State = ()>,
 {
     /// Makes this the rack of its station for all looks from now on. Out of memory readers see what they saw.
     pub fn publish(&mut self, alloc: Global, rack: Rack) -> Result<(), NoMemory>
@@ -160,9 +161,11 @@ where
             &self.newest,
             rack,
         )?;
-        let spares = handles(alloc, &version, self.readers)?;
+        let spares = share_version(alloc, &version, self.readers)?;
         let newest = Arc::try_clone(&version)?;
-        self.writer.append(Put::of(version)?).map_err(|_| NoMemory)?;
+        self.writer
+            .append(NextVersion::of(version)?)
+            .map_err(|_| NoMemory)?;
         self.writer.publish()?;
         self.published = next;
         self.newest = newest;
@@ -195,9 +198,9 @@ fn share_racks(alloc: Global, racks: Vec<Rack>) -> Result<Vec<Arc<Rack>>, NoMemo
 }
 
 // A seat for each reader, with the opening version.
-fn seats<J: Naming, R: Wait + Drop>(
+fn make_seats<J: Naming, R: Wait + Drop>(
     alloc: Global,
-    writer: &WriteHandle<Shown<J>, Put<J>, R>,
+    writer: &WriteHandle<ShownVersion<J>, NextVersion<J>, R>,
     version: &Arc<Version<J>>,
     readers: u32,
 ) -> Result<Vec<Seat<J>>, NoMemory>
@@ -217,18 +220,20 @@ fn seats<J: Naming, R: Wait + Drop>(
 pub fn begin<J: Naming, R: Wait + Drop>(
     rt: R,
     alloc: Global,
-    opened: Opened,
+    opened: NewHistory,
     racks: Vec<Rack>,
     readers: u32,
 ) -> Result<(Stocker<J, R>, Vec<Seat<J>>), NoMemory>
     requires name { opened.seen.book ≡ J.book }
     requires opening { MayOpen racks.items }
-    requires few { length racks.items ≤ 64 }
+    requires few { length racks.items ≤ MOST_STATIONS }
     requires some { 1 ≤ readers }
     requires most { readers ≤ MOST_READERS }
+    // what it gives: a stocker that has published these racks, without spares
     ensures published { IfOk result (λ r. r.0.published ≡ racks.items) }
     ensures readers { IfOk result (λ r. r.0.readers ≡ readers) }
     ensures spares { IfOk result (λ r. r.0.spares.items ≡ []) }
+    // and a seat for each reader, which has them
     ensures many { IfOk result (λ r. length r.1.items ≡ readers) }
     ensures seats { IfOk result (λ r. All (λ s. s ≡ racks.items) r.1.items) }
 {
@@ -236,14 +241,14 @@ pub fn begin<J: Naming, R: Wait + Drop>(
     let racks = share_racks(alloc, racks)?;
     let published = publish_opening(&history, nothing, racks.as_slice())?;
     let version = Arc::new(alloc, Version::of(published.again(), racks))?;
-    let first = Shown {
+    let first = ShownVersion {
         version: Arc::try_clone(&version)?,
     };
-    let second = Shown {
+    let second = ShownVersion {
         version: Arc::try_clone(&version)?,
     };
     let writer = WriteHandle::new(alloc, rt, first, second, readers as usize)?;
-    let seats = seats(alloc, &writer, &version, readers)?;
+    let seats = make_seats(alloc, &writer, &version, readers)?;
     let stocker = Stocker {
         writer,
         history,

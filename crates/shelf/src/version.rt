@@ -3,7 +3,7 @@ ghost use Rattle.std.specs.Prelude.{◌≡◌, map, Some};
 ghost use Rattle.std.specs.Arc.{arc_value};
 ghost use Rattle.shelf.specs.Racks.{AreShown, HasRack, latest};
 
-use crate::history::{Naming, Published};
+use crate::history::{Naming, PublishedRacks};
 use left_right::Absorb;
 use phys_proc::Rack;
 use std::alloc::AllocError;
@@ -14,7 +14,7 @@ use std::sync::Arc;
 /// The last rack of each station, and which racks were published up to then. Contracts see the latter.
 #[derive(Drop)]
 pub struct Version<J: Naming> {
-    published: Published<J>,
+    published: PublishedRacks<J>,
     racks: Vec<Arc<Rack>>,
 }
 
@@ -33,7 +33,7 @@ impl<J: Naming> Model for Version<J> {
 
 impl<J: Naming> Version<J> {
     /// A version of these racks.
-    pub fn of(published: Published<J>, racks: Vec<Arc<Rack>>) -> Version<J>
+    pub fn of(published: PublishedRacks<J>, racks: Vec<Arc<Rack>>) -> Version<J>
         requires shown { AreShown (map arc_value racks.items) published }
         ensures value { result ≡ published }
     {
@@ -41,7 +41,7 @@ impl<J: Naming> Version<J> {
     }
 
     /// What was published up to then.
-    pub fn published(&self) -> &Published<J>
+    pub fn published(&self) -> &PublishedRacks<J>
         ensures value { result.now ≡ self.now }
     {
         &self.published
@@ -65,30 +65,30 @@ impl<J: Naming> Version<J> {
 
 /// What `left_right` shows.
 #[derive(Drop)]
-pub struct Shown<J: Naming> {
+pub struct ShownVersion<J: Naming> {
     /// The version that a look at this state finds.
     pub version: Arc<Version<J>>,
 }
 
 /// Two handles of the next version, one for each of the two states.
 #[derive(Drop)]
-pub struct Put<J: Naming> {
+pub struct NextVersion<J: Naming> {
     first: Cell<Option<Arc<Version<J>>>>,
     second: Arc<Version<J>>,
 }
 
-impl<J: Naming> Put<J> {
+impl<J: Naming> NextVersion<J> {
     /// Shows this version.
-    pub fn of(version: Arc<Version<J>>) -> Result<Put<J>, AllocError> {
+    pub fn of(version: Arc<Version<J>>) -> Result<NextVersion<J>, AllocError> {
         let first = Arc::try_clone(&version)?;
-        Ok(Put {
+        Ok(NextVersion {
             first: Cell::new(Some(first)),
             second: version,
         })
     }
 }
 
-impl<J: Naming> Absorb<Put<J>> for Shown<J> {
+impl<J: Naming> Absorb<NextVersion<J>> for ShownVersion<J> {
     type State = ();
 
     ghost state = { λ s. tt };
@@ -97,15 +97,23 @@ impl<J: Naming> Absorb<Put<J>> for Shown<J> {
 
     ghost never_fails = { Unit {0} };
 
-    fn absorb_first(&mut self, operation: &Put<J>, _other: &Shown<J>) -> Result<(), AllocError> {
+    fn absorb_first(
+        &mut self,
+        operation: &NextVersion<J>,
+        _other: &ShownVersion<J>,
+    ) -> Result<(), AllocError> {
         if let Some(version) = operation.first.replace(None) {
             self.version = version;
         }
         Ok(())
     }
 
-    fn absorb_second(&mut self, operation: Put<J>, _other: &Shown<J>) -> Result<(), Put<J>> {
-        let Put { second, .. } = operation;
+    fn absorb_second(
+        &mut self,
+        operation: NextVersion<J>,
+        _other: &ShownVersion<J>,
+    ) -> Result<(), NextVersion<J>> {
+        let NextVersion { second, .. } = operation;
         self.version = second;
         Ok(())
     }

@@ -6,49 +6,49 @@ use Rattle.std.specs.Ordering.{is_lt}
 use Rattle.std.specs.Cmp.{IsTotalOrder}
 use Rattle.std.specs.List.{AllByRecursion}
 use Rattle.std.proofs.lemmas.List.{append-nil, take-append-drop, length-take, length-drop, map-append, length-map}
-use Rattle.sim_base.specs.Pending.{insert_marked, cut_by, spread_marks}
-use Rattle.sim_base.proofs.Cutting.{cut-append}
+use Rattle.sim_base.specs.Pending.{insert_marked, spread_marks}
 use Rattle.sim_base.specs.Marked.{SortedMarked}
 use Rattle.sim_base.specs.Blocks.{of_blocks, block_at, halves_of, AreFilled, AreSized, StartsAfter, IsBlockOf}
+use Rattle.sim_base.specs.declared.pending.blocks.TheConstants.{MOST_MESSAGES, HALF}
 use Rattle.std.specs.Prelude.{slice_get}
-use Rattle.sim_base.proofs.Placing.{all_left, insert_behind, insert_before}
+use Rattle.sim_base.proofs.Placing.{insert_behind, insert_before}
+use Rattle.sim_base.proofs.ListLaws.{all_left}
 use Rattle.sim_base.proofs.Placing.{all_before, sorted_right}
 
-is_less : (o : Ordering) → true ≡ is_lt o → o ≡ Less
-is_less Less e = refl
-is_less Equal e = absurd (cc)
-is_less Greater e = absurd (cc)
+-- ---- is_lt
+
+-- what `is_lt` tells is Less
+is_lt-Less : (o : Ordering) → true ≡ is_lt o → o ≡ Less
+is_lt-Less Less e = refl
+is_lt-Less Equal e = absurd (cc)
+is_lt-Less Greater e = absurd (cc)
+
+-- ---- halves_of
 
 module _ {X : Type 0} where
-  -- blocks of two lists are those of the one, and then those of the other
-  pub of_blocks-append : (bs cs : List (List X)) → of_blocks (bs ++ cs) ≡ of_blocks bs ++ of_blocks cs
-  of_blocks-append [] cs = refl
-  of_blocks-append (b ∷ bs) cs = ap (λ t. b ++ t) (of_blocks-append bs cs)
-      ∙ sym (append_assoc b (of_blocks bs) (of_blocks cs))
-
   -- a block that is cut in two keeps its messages
-  pub same_halved : (at : ℕ) (bs : List (List X)) → of_blocks (halves_of at bs) ≡ of_blocks bs
-  same_halved at [] = refl
-  same_halved zero (b ∷ bs) = sym (append_assoc (take 32 b) (drop 32 b) (of_blocks bs))
-      ∙ ap (λ t. t ++ of_blocks bs) (take-append-drop 32 b)
-  same_halved (suc at) (b ∷ bs) = ap (λ t. b ++ t) (same_halved at bs)
+  pub of_blocks-halves : (at : ℕ) (bs : List (List X)) → of_blocks (halves_of at bs) ≡ of_blocks bs
+  of_blocks-halves at [] = refl
+  of_blocks-halves zero (b ∷ bs) = sym (append_assoc (take HALF b) (drop HALF b) (of_blocks bs))
+      ∙ ap (λ t. t ++ of_blocks bs) (take-append-drop HALF b)
+  of_blocks-halves (suc at) (b ∷ bs) = ap (λ t. b ++ t) (of_blocks-halves at bs)
 
   -- and there is one block more then
-  pub length_halved : (at : ℕ) (bs : List (List X)) → at < length bs → length (halves_of at bs) ≡ suc (length bs)
-  length_halved at [] l = absurd (omega arith)
-  length_halved zero (b ∷ bs) l = refl
-  length_halved (suc at) (b ∷ bs) l = ap suc (length_halved at bs (omega arith))
+  pub length-halves : (at : ℕ) (bs : List (List X)) → at < length bs → length (halves_of at bs) ≡ suc (length bs)
+  length-halves at [] l = absurd (omega arith)
+  length-halves zero (b ∷ bs) l = refl
+  length-halves (suc at) (b ∷ bs) l = ap suc (length-halves at bs (omega arith))
 
   -- at its place is its first half then
   pub first_half : (at : ℕ) (bs : List (List X)) → at < length bs
-      → get_or (halves_of at bs) at [] ≡ take 32 (get_or bs at [])
+      → get_or (halves_of at bs) at [] ≡ take HALF (get_or bs at [])
   first_half at [] l = absurd (omega arith)
   first_half zero (b ∷ bs) l = refl
   first_half (suc at) (b ∷ bs) l = first_half at bs (omega arith)
 
   -- at the next place is its second half
   pub second_half : (at : ℕ) (bs : List (List X)) → at < length bs
-      → get_or (halves_of at bs) (suc at) [] ≡ drop 32 (get_or bs at [])
+      → get_or (halves_of at bs) (suc at) [] ≡ drop HALF (get_or bs at [])
   second_half at [] l = absurd (omega arith)
   second_half zero (b ∷ bs) l = refl
   second_half (suc at) (b ∷ bs) l = second_half at bs (omega arith)
@@ -60,41 +60,45 @@ module _ {X : Type 0} where
   behind_halves zero (b ∷ bs) l = refl
   behind_halves (suc at) (b ∷ bs) l = behind_halves at bs (omega arith)
 
-  half_lengths : (b : List X) → length b ≡ 64 → (length (take 32 b) ≡ 32) × (length (drop 32 b) ≡ 32)
-  half_lengths b full = (omega (arith, length-take 32 b), omega (arith, length-drop 32 b))
+  -- a full block has two halves of one length
+  half_lengths : (b : List X) → length b ≡ MOST_MESSAGES → (length (take HALF b) ≡ HALF) × (length (drop HALF b) ≡ HALF)
+  half_lengths b full = (omega (arith, length-take HALF b), omega (arith, length-drop HALF b))
 
-  filled_halved : (at : ℕ) (bs : List (List X)) → AreFilled bs → length (get_or bs at []) ≡ 64
+  -- where a full block is cut, no block is empty and none has too many messages
+  AreFilled-halves : (at : ℕ) (bs : List (List X)) → AreFilled bs → length (get_or bs at []) ≡ MOST_MESSAGES
       → AreFilled (halves_of at bs)
-  filled_halved at [] h full = h
-  filled_halved zero (b ∷ bs) h full = let l = half_lengths b full in
+  AreFilled-halves at [] h full = h
+  AreFilled-halves zero (b ∷ bs) h full = let l = half_lengths b full in
       ((omega arith, omega arith), ((omega arith, omega arith), h.1))
-  filled_halved (suc at) (b ∷ bs) h full = (h.0, filled_halved at bs h.1 full)
+  AreFilled-halves (suc at) (b ∷ bs) h full = (h.0, AreFilled-halves at bs h.1 full)
 
   -- halves are of a right size
-  pub sized_halved : (at : ℕ) (first : List X) (later : List (List X)) (first' : List X) (later' : List (List X))
-      → AreSized first later → length (block_at first later at) ≡ 64 → (first' ∷ later') ≡ halves_of at (first ∷ later)
-      → AreSized first' later'
-  sized_halved zero first later first' later' h full e =
+  pub AreSized-halves : (at : ℕ) (first : List X) (later : List (List X)) (first' : List X) (later' : List (List X))
+      → AreSized first later → length (block_at first later at) ≡ MOST_MESSAGES
+      → (first' ∷ later') ≡ halves_of at (first ∷ later) → AreSized first' later'
+  AreSized-halves zero first later first' later' h full e =
       let l = half_lengths first full in
-      let here : first' ≡ take 32 first = cc in
-      let there : later' ≡ drop 32 first ∷ later = cc in
+      let here : first' ≡ take HALF first = cc in
+      let there : later' ≡ drop HALF first ∷ later = cc in
       rw (here, there) record {
         first_filled = λ _. omega arith;
         first_small = omega arith;
         later_filled = ((omega arith, omega arith), h.later_filled);
       }
-  sized_halved (suc at) first later first' later' h full e =
+  AreSized-halves (suc at) first later first' later' h full e =
       let here : first' ≡ first = cc in
       let there : later' ≡ halves_of at later = cc in
       rw (here, there) record {
         first_filled = λ l. h.first_filled (some at later l);
         first_small = h.first_small;
-        later_filled = filled_halved at later h.later_filled full;
+        later_filled = AreFilled-halves at later h.later_filled full;
       }
     where
       some : (at : ℕ) (bs : List (List X)) → 0 < length (halves_of at bs) → 0 < length bs
       some at [] l = l
       some at (b ∷ bs) l = omega arith
+
+-- ---- insert_marked
 
 module _ {M K : Type 0} {cmp : M → M → Ordering} (o : IsTotalOrder cmp) (join : K → K → K) (m : M) (k : K) where
   -- all messages before a block that starts with m or before it come before m
@@ -109,50 +113,47 @@ module _ {M K : Type 0} {cmp : M → M → Ordering} (o : IsTotalOrder cmp) (joi
       (subst (SortedMarked cmp) (sym (append_assoc xs b (of_blocks bs))) s) h.1 (omega arith) starts)
 
   -- inserting into the block to which a message goes is inserting into all
-  pub put_at : (at : ℕ) (first : List (M × K)) (later : List (List (M × K)))
+  pub insert-of_blocks : (at : ℕ) (first : List (M × K)) (later : List (List (M × K)))
       → SortedMarked cmp (first ++ of_blocks later) → AreFilled later → IsBlockOf cmp m later at →
       insert_marked join cmp m k (first ++ of_blocks later) ≡ of_blocks
       (set (first ∷ later) at (insert_marked join cmp m k (block_at first later at)))
-  put_at zero first [] s h place = rw (append-nil first, append-nil (insert_marked join cmp m k first)) refl
-  put_at zero first ([] ∷ bs) s h place = absurd (let some = h.0.0 in omega arith)
-  put_at zero first ((y ∷ ys) ∷ bs) s h place = insert_before cmp join m k first y (ys ++ of_blocks bs)
-      (is_less _ (place.behind (omega arith)))
-  put_at (suc n) first [] s h place = absurd (let l = place.within in omega arith)
-  put_at (suc n) first (b ∷ bs) s h place =
+  insert-of_blocks zero first [] s h place = rw (append-nil first, append-nil (insert_marked join cmp m k first)) refl
+  insert-of_blocks zero first ([] ∷ bs) s h place = absurd (let some = h.0.0 in omega arith)
+  insert-of_blocks zero first ((y ∷ ys) ∷ bs) s h place = insert_before cmp join m k first y (ys ++ of_blocks bs)
+      (is_lt-Less _ (place.behind (omega arith)))
+  insert-of_blocks (suc n) first [] s h place = absurd (let l = place.within in omega arith)
+  insert-of_blocks (suc n) first (b ∷ bs) s h place =
       let l = place.within in
       let all = blocks_before first (b ∷ bs) n s h (omega arith) (place.before n (omega arith)) in
       insert_behind cmp join m k first (of_blocks (b ∷ bs)) all
-      ∙ ap (λ t. first ++ t) (put_at n b bs (sorted_right cmp first (of_blocks (b ∷ bs)) s) h.1 (record {
+      ∙ ap (λ t. first ++ t) (insert-of_blocks n b bs (sorted_right cmp first (of_blocks (b ∷ bs)) s) h.1 (record {
         within = omega arith;
         before = λ j e. place.before (suc j) (omega arith);
         behind = λ l'. place.behind (omega arith);
       }))
 
+-- ---- slice_get
+
 module _ {X : Type 0} where
   -- the first message of all is that of the first block
-  pub first_of_blocks : (first : List X) (later : List (List X)) → AreSized first later
+  pub slice_get-of_blocks : (first : List X) (later : List (List X)) → AreSized first later
       → slice_get (first ++ of_blocks later) 0 ≡ slice_get first 0
-  first_of_blocks (x ∷ xs) later h = refl
-  first_of_blocks [] [] h = refl
-  first_of_blocks [] (b ∷ bs) h = absurd (let l : 0 < 0 = h.first_filled (omega arith) in omega arith)
+  slice_get-of_blocks (x ∷ xs) later h = refl
+  slice_get-of_blocks [] [] h = refl
+  slice_get-of_blocks [] (b ∷ bs) h = absurd (let l : 0 < 0 = h.first_filled (omega arith) in omega arith)
 
-module _ {M K : Type 0} (meet : K → K → Option K) (by : K) where
-  -- what meets of blocks is what meets of each
-  pub cut_of_blocks : (bs : List (List (M × K))) → of_blocks (map (cut_by meet by) bs) ≡ cut_by meet by (of_blocks bs)
-  cut_of_blocks [] = refl
-  cut_of_blocks (b ∷ bs) = ap (λ t. cut_by meet by b ++ t) (cut_of_blocks bs)
-      ∙ sym (cut-append meet by b (of_blocks bs))
+-- ---- spread_marks
 
 module _ {M K : Type 0} (join : K → K → K) (meet : K → K → Option K) (by more : K) where
-  -- and so with marks that are spread
-  pub spread_of_blocks : (bs : List (List (M × K)))
+  -- marks that are spread in each block are spread in all messages
+  pub of_blocks-spread : (bs : List (List (M × K)))
       → of_blocks (map (spread_marks join meet by more) bs) ≡ spread_marks join meet by more (of_blocks bs)
-  spread_of_blocks [] = refl
-  spread_of_blocks (b ∷ bs) = ap (λ t. spread_marks join meet by more b ++ t) (spread_of_blocks bs)
+  of_blocks-spread [] = refl
+  of_blocks-spread (b ∷ bs) = ap (λ t. spread_marks join meet by more b ++ t) (of_blocks-spread bs)
       ∙ sym (map-append _ b (of_blocks bs))
 
   -- blocks that are filled are filled still
-  pub spread_filled : (bs : List (List (M × K))) → AreFilled bs → AreFilled (map (spread_marks join meet by more) bs)
-  spread_filled [] h = tt
-  spread_filled (b ∷ bs) h = let l : length (spread_marks join meet by more b) ≡ length b = length-map b _ in
-      ((omega (arith, h.0.0), omega (arith, h.0.1)), spread_filled bs h.1)
+  pub AreFilled-spread : (bs : List (List (M × K))) → AreFilled bs → AreFilled (map (spread_marks join meet by more) bs)
+  AreFilled-spread [] h = tt
+  AreFilled-spread (b ∷ bs) h = let l : length (spread_marks join meet by more b) ≡ length b = length-map b _ in
+      ((omega (arith, h.0.0), omega (arith, h.0.1)), AreFilled-spread bs h.1)

@@ -3,6 +3,7 @@ use Rattle.std.proofs.Common.{◌≡◌, refl, Result, Ok, Err, IfOk}
 use Rattle.sim_base.specs.Chain.{◌>>=◌}
 
 -- ---- >>=
+
 -- where all goes well, each step does
 pub bind-Ok : {A B F : Type 0} (r : Result A F) (f : A → Result B F) (y : B) → (r >>= f) ≡ Ok y
     → (x : A) × (r ≡ Ok x) × (f x ≡ Ok y)

@@ -12,18 +12,43 @@ use Rattle.sim_base.specs.Clones.{fork_of}
 use Rattle.sim_base.specs.CloneListViews.{CloneListView, AreReserved, clone_of, list_at}
 use Rattle.sim_base.specs.CloneListViews.{list_fork, lists_with_plan, list_with_plan, lists_with_end}
 
--- what contracts see of the list of a clone
+-- ---- clone_of: what contracts see
+
+-- of the list of a clone
 pub seen_at : (lists : List CloneListView) (c : ℕ) → clone_at (map clone_of lists) c ≡ clone_of (list_at lists c)
 seen_at [] c = refl
 seen_at (k ∷ ks) zero = refl
 seen_at (k ∷ ks) (suc c) = seen_at ks c
 
--- what they see of a fork
+-- of a fork
 pub seen_fork : (lists : List CloneListView) (new : List ℕ) (old reserved : ℕ)
     → map clone_of (lists ++ list_fork lists new old reserved ∷ []) ≡ clones_with_fork (map clone_of lists) new old
 seen_fork lists new old reserved = map_push clone_of lists (list_fork lists new old reserved)
     ∙ ap (λ c. map clone_of lists ++ (fork_of c new) ∷ [])
     (sym (seen_at lists old))
+
+-- of a decision more
+pub seen_added : (lists : List CloneListView) (c : ℕ) (plan : Planned)
+    → map clone_of (lists_with_plan lists c plan) ≡ clones_with_plan (map clone_of lists) c plan
+seen_added lists c plan = map-set clone_of lists c (list_with_plan (list_at lists c) plan)
+    ∙ ap (λ k. slice_set (map clone_of lists) c (record k { plans = k.plans ++ plan ∷ [] })) (sym (seen_at lists c))
+
+-- of an end
+pub seen_end : (lists : List CloneListView) (c : ℕ) → (clone_at (map clone_of lists) c).end ≡ (list_at lists c).end
+seen_end lists c = ap (λ k. k.end) (seen_at lists c)
+
+-- of an end given
+pub seen_ended : (lists : List CloneListView) (c at : ℕ)
+    → map clone_of (lists_with_end lists c at) ≡ clones_with_end (map clone_of lists) c at
+seen_ended lists c at = map-set clone_of lists c (record (list_at lists c) { end = Some at })
+    ∙ ap (λ k. slice_set (map clone_of lists) c (record k { end = Some at })) (sym (seen_at lists c))
+
+-- and of the place of a name
+pub seen_place : (name : List ℕ) (lists : List CloneListView)
+    → place_of name (map clone_of lists) ≡ position (λ k. bytes_eq k.name name) lists
+seen_place name lists = position-map (λ c. bytes_eq c.name name) clone_of lists
+
+-- ---- AreReserved
 
 -- a fork takes one spare list, and leaves the others
 pub reserved_after_fork : (lists : List CloneListView) (reserved_clones : ℕ)
@@ -70,24 +95,12 @@ reserved_set lists reserved_clones spare most c k e h =
       clones = omega (arith, long, h.clones);
     }
 
--- what holds of the new value and of the old one holds after, whichever it is
-pub holds_after : {X T E : Type 0} (P : X → Type 0) (r : Result T E) (new old after : X) → OnOk r (after ≡ new)
-    → OnErr r (after ≡ old) → P new → P old → P after
-holds_after P (Ok v) new old after ok err n o = rw ok n
-holds_after P (Err e) new old after ok err n o = rw err o
-
 -- each list has so much reserved
-pub plans_at : (most : ℕ) (lists : List CloneListView) (c : ℕ) → c < length lists
+plans_at : (most : ℕ) (lists : List CloneListView) (c : ℕ) → c < length lists
     → AllByRecursion (λ k. most ≤ k.plans.reserved) lists → most ≤ (list_at lists c).plans.reserved
 plans_at most [] c b h = absurd (omega arith)
 plans_at most (k ∷ ks) zero b h = h.0
 plans_at most (k ∷ ks) (suc c) b h = plans_at most ks c (omega arith) h.1
-
--- what they see of a decision more
-pub seen_added : (lists : List CloneListView) (c : ℕ) (plan : Planned)
-    → map clone_of (lists_with_plan lists c plan) ≡ clones_with_plan (map clone_of lists) c plan
-seen_added lists c plan = map-set clone_of lists c (list_with_plan (list_at lists c) plan)
-    ∙ ap (λ k. slice_set (map clone_of lists) c (record k { plans = k.plans ++ plan ∷ [] })) (sym (seen_at lists c))
 
 -- a list that is seen shorter than what is reserved can take one more
 pub reserved_to_add : (lists : List CloneListView) (seen : List Clone) (most c : ℕ) → map clone_of lists ≡ seen
@@ -99,17 +112,10 @@ reserved_to_add lists seen most c same b h fits =
     let short : length (list_at lists c).plans.items < most = rw (← same, seen_at lists c) at fits in
     omega (arith, enough)
 
--- what they see of a place
-pub seen_place : (name : List ℕ) (lists : List CloneListView)
-    → place_of name (map clone_of lists) ≡ position (λ k. bytes_eq k.name name) lists
-seen_place name lists = position-map (λ c. bytes_eq c.name name) clone_of lists
+-- ---- what holds of either value
 
--- what they see of an end
-pub seen_end : (lists : List CloneListView) (c : ℕ) → (clone_at (map clone_of lists) c).end ≡ (list_at lists c).end
-seen_end lists c = ap (λ k. k.end) (seen_at lists c)
-
--- what they see of an end given
-pub seen_ended : (lists : List CloneListView) (c at : ℕ)
-    → map clone_of (lists_with_end lists c at) ≡ clones_with_end (map clone_of lists) c at
-seen_ended lists c at = map-set clone_of lists c (record (list_at lists c) { end = Some at })
-    ∙ ap (λ k. slice_set (map clone_of lists) c (record k { end = Some at })) (sym (seen_at lists c))
+-- what holds of the new value and of the old one holds after, whichever it is
+pub holds_after : {X T E : Type 0} (P : X → Type 0) (r : Result T E) (new old after : X) → OnOk r (after ≡ new)
+    → OnErr r (after ≡ old) → P new → P old → P after
+holds_after P (Ok v) new old after ok err n o = rw ok n
+holds_after P (Err e) new old after ok err n o = rw err o

@@ -7,60 +7,73 @@ use Rattle.std.proofs.lemmas.List.Elements.{filter_map-append}
 use Rattle.sim_base.specs.Pending.{met_by, cut_by, spread_marks}
 use Rattle.sim_base.specs.Marked.{Above, SortedMarked}
 
+-- ---- cut_by
+
 module _ {M K : Type 0} (meet : K → K → Option K) (by : K) where
-  -- a message whose marks share v with `by` is kept with v
-  pub cut_kept : (x : M × K) (v : K) (rest : List (M × K)) → meet x.1 by ≡ Some v
+  -- a message whose marks share v with `by` stays with v
+  pub cut-Some : (x : M × K) (v : K) (rest : List (M × K)) → meet x.1 by ≡ Some v
       → cut_by meet by (x ∷ rest) ≡ (x.0, v) ∷ cut_by meet by rest
-  cut_kept x v rest e = rw e refl
+  cut-Some x v rest e = rw e refl
 
   -- a message whose marks share nothing is left out
-  pub cut_dropped : (x : M × K) (rest : List (M × K)) → meet x.1 by ≡ None
+  pub cut-None : (x : M × K) (rest : List (M × K)) → meet x.1 by ≡ None
       → cut_by meet by (x ∷ rest) ≡ cut_by meet by rest
-  cut_dropped x rest e = rw e refl
+  cut-None x rest e = rw e refl
 
   -- what meets of two lists
   pub cut-append : (xs ys : List (M × K)) → cut_by meet by (xs ++ ys) ≡ cut_by meet by xs ++ cut_by meet by ys
   cut-append xs ys = filter_map-append (met_by meet by) xs ys
 
+  -- one message, where it meets, makes a list at most one longer
   length_one : (r : Option K) (x : M × K) (rest : List (M × K)) (n : ℕ) → length rest ≤ n
       → length (cons_option (option_map (λ k. (x.0, k)) r) rest) ≤ suc n
   length_one None x rest n l = omega arith
   length_one (Some k) x rest n l = omega arith
 
   -- no more messages meet than there are
-  pub length_cut : (xs : List (M × K)) → length (cut_by meet by xs) ≤ length xs
-  length_cut [] = omega arith
-  length_cut (x ∷ xs) = length_one (meet x.1 by) x (cut_by meet by xs) (length xs) (length_cut xs)
+  pub length-cut : (xs : List (M × K)) → length (cut_by meet by xs) ≤ length xs
+  length-cut [] = omega arith
+  length-cut (x ∷ xs) = length_one (meet x.1 by) x (cut_by meet by xs) (length xs) (length-cut xs)
 
   module _ (cmp : M → M → Ordering) where
+    -- what comes before a message and others comes before them where it meets, and where it does not
     above_one : (r : Option K) (m : M) (x : M × K) (rest : List (M × K)) → cmp m x.0 ≡ Less → Above cmp m rest
         → Above cmp m (cons_option (option_map (λ k. (x.0, k)) r) rest)
     above_one None m x rest l h = h
     above_one (Some k) m x rest l h = (l, h)
 
-    above_cut : (m : M) (xs : List (M × K)) → Above cmp m xs → Above cmp m (cut_by meet by xs)
-    above_cut m [] h = tt
-    above_cut m (x ∷ xs) h = above_one (meet x.1 by) m x (cut_by meet by xs) h.0 (above_cut m xs h.1)
+    -- what comes before messages comes before those that meet
+    Above-cut : (m : M) (xs : List (M × K)) → Above cmp m xs → Above cmp m (cut_by meet by xs)
+    Above-cut m [] h = tt
+    Above-cut m (x ∷ xs) h = above_one (meet x.1 by) m x (cut_by meet by xs) h.0 (Above-cut m xs h.1)
 
+    -- one message, where it meets, goes in order before others
     sorted_one : (r : Option K) (x : M × K) (rest : List (M × K)) → Above cmp x.0 rest → SortedMarked cmp rest
         → SortedMarked cmp (cons_option (option_map (λ k. (x.0, k)) r) rest)
     sorted_one None x rest a s = s
     sorted_one (Some k) x rest a s = (a, s)
 
     -- what meets is in order
-    pub sorted_cut : (xs : List (M × K)) → SortedMarked cmp xs → SortedMarked cmp (cut_by meet by xs)
-    sorted_cut [] s = tt
-    sorted_cut (x ∷ xs) s = sorted_one (meet x.1 by) x (cut_by meet by xs) (above_cut x.0 xs s.0) (sorted_cut xs s.1)
+    pub SortedMarked-cut : (xs : List (M × K)) → SortedMarked cmp xs → SortedMarked cmp (cut_by meet by xs)
+    SortedMarked-cut [] s = tt
+    SortedMarked-cut (x ∷ xs) s =
+        sorted_one (meet x.1 by) x (cut_by meet by xs) (Above-cut x.0 xs s.0) (SortedMarked-cut xs s.1)
+
+-- ---- spread_marks
 
 module _ {M K : Type 0} (join : K → K → K) (meet : K → K → Option K) (by more : K) (cmp : M → M → Ordering) where
-  above_spread : (m : M) (xs : List (M × K)) → Above cmp m xs → Above cmp m (spread_marks join meet by more xs)
-  above_spread m [] h = tt
-  above_spread m (x ∷ xs) h = (h.0, above_spread m xs h.1)
+  -- other marks leave what comes before the messages
+  Above-spread : (m : M) (xs : List (M × K)) → Above cmp m xs → Above cmp m (spread_marks join meet by more xs)
+  Above-spread m [] h = tt
+  Above-spread m (x ∷ xs) h = (h.0, Above-spread m xs h.1)
 
   -- other marks keep the order
-  pub sorted_spread : (xs : List (M × K)) → SortedMarked cmp xs → SortedMarked cmp (spread_marks join meet by more xs)
-  sorted_spread [] s = tt
-  sorted_spread (x ∷ xs) s = (above_spread x.0 xs s.0, sorted_spread xs s.1)
+  pub SortedMarked-spread : (xs : List (M × K)) → SortedMarked cmp xs
+      → SortedMarked cmp (spread_marks join meet by more xs)
+  SortedMarked-spread [] s = tt
+  SortedMarked-spread (x ∷ xs) s = (Above-spread x.0 xs s.0, SortedMarked-spread xs s.1)
+
+-- ---- the first of two lists together
 
 module _ {X : Type 0} where
   -- the first of two lists is the first of the one

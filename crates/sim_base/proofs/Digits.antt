@@ -10,15 +10,21 @@ use Rattle.std.proofs.lemmas.Bool.{and_parts}
 use Rattle.std.proofs.lemmas.Bool.Decides.{nat_tests}
 use Rattle.sim_base.specs.Names.{is_digit}
 
+-- ---- digit_value
+
 -- the value of a digit is its byte less 48
-pub digit_value-digit : (c : ℕ) → is_digit c ≡ true → digit_value c ≡ c - 48
+digit_value-digit : (c : ℕ) → is_digit c ≡ true → digit_value c ≡ c - 48
 digit_value-digit c h = grind (arith, nat_tests)
 
+-- ---- is_digit
+
 -- where all bytes are digits, the one at each place is a digit
-pub digits_at : (ds : List ℕ) (i : ℕ) → list_all is_digit ds ≡ true → i < length ds → is_digit (get_or ds i 0) ≡ true
+digits_at : (ds : List ℕ) (i : ℕ) → list_all is_digit ds ≡ true → i < length ds → is_digit (get_or ds i 0) ≡ true
 digits_at [] i h b = absurd (omega arith)
 digits_at (d ∷ ds) zero h b = (and_parts (is_digit d) (list_all is_digit ds) h).0
 digits_at (d ∷ ds) (suc i) h b = digits_at ds i (and_parts (is_digit d) (list_all is_digit ds) h).1 (omega arith)
+
+-- ---- digits_value
 
 -- one digit more makes the value ten times as much plus the digit, and it stays below the next power of ten
 pub value_more : (ds : List ℕ) (i n : ℕ) → list_all is_digit ds ≡ true → i < length ds

@@ -15,6 +15,8 @@ use Rattle.sim_base.specs.CloneListViews.{list_fork, lists_with_plan, lists_with
 use Rattle.sim_base.proofs.ListLaws.{position-map, none_passes}
 use Rattle.sim_base.proofs.CloneLists.{seen_fork, seen_added, seen_ended}
 
+-- ---- names
+
 -- the name at a place
 name_there : (clones : List Clone) (c : ℕ) → get_or (names clones) c [] ≡ (clone_at clones c).name
 name_there [] c = refl
@@ -27,6 +29,8 @@ names_set : (clones : List Clone) (c : ℕ) (k : Clone) → k.name ≡ (clone_at
 names_set [] c k e = refl
 names_set (x ∷ xs) zero k e = ap (λ n. n ∷ names xs) e
 names_set (x ∷ xs) (suc c) k e = ap (λ ns. x.name ∷ ns) (names_set xs c k e)
+
+-- ---- AreClones
 
 -- a clone in another's place, of the same name
 AreClones-set : (clones : List Clone) (c : ℕ) (k : Clone) → k.name ≡ (clone_at clones c).name → AreClones clones
@@ -50,6 +54,8 @@ AreClones-forked clones new old unused few h =
           (none_passes (λ n. bytes_eq n new) (names clones) none));
     }
 
+-- ---- place_of
+
 -- a clone is found by its name
 place_of_name : (clones : List Clone) (c : ℕ) → AreClones clones → c < length clones
     → place_of (clone_at clones c).name clones ≡ Some c
@@ -62,6 +68,8 @@ place_of_name clones c h b =
     (λ k lt. rw at at (h.distinct k c [] lt (omega (arith, long))))
     (λ within. rw at ((bytes_eq-Decides name name).1 refl)) in
     sym (position-map p (λ k. k.name) clones) ∙ grind (arith, common_steps)
+
+-- ---- the clones after a step
 
 -- the clones after a fork
 pub clones_after_fork : (lists : List CloneListView) (seen : List Clone) (new : List ℕ) (old reserved : ℕ)
@@ -80,6 +88,8 @@ clones_after_plan lists c plan h = rw (seen_added lists c plan) (AreClones-set (
 pub clones_after_end : (lists : List CloneListView) (c at : ℕ) → AreClones (map clone_of lists)
     → AreClones (map clone_of (lists_with_end lists c at))
 clones_after_end lists c at h = rw (seen_ended lists c at) (AreClones-set (map clone_of lists) c _ refl h)
+
+-- ---- the clone that was read
 
 -- the clone that was read is the one at its place
 name_read : (lists : List CloneListView) (c : ℕ) (k : CloneListView) → c < length lists → k ≡ get_or lists c k

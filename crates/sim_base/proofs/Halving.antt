@@ -4,17 +4,21 @@ use Rattle.std.proofs.Common.{[], ◌∷◌, Bool, true, false, Ordering, length
 use Rattle.std.specs.List.{insert}
 use Rattle.std.proofs.lemmas.List.{length-take, length-drop, get_or_read}
 use Rattle.sim_base.specs.Blocks.{block_at, halves_of, AreFilled, AreSized, StartsAfter, IsBlockOf}
-use Rattle.sim_base.proofs.Blocks.{length_halved, first_half, second_half, behind_halves}
+use Rattle.sim_base.specs.declared.pending.blocks.TheConstants.{MOST_MESSAGES, HALF}
+use Rattle.sim_base.proofs.Blocks.{length-halves, first_half, second_half, behind_halves}
+
+-- ---- halves_of
 
 module _ {X : Type 0} where
   -- the first block is cut
   pub halve_first : (at : ℕ) (first first' half : List X) (later later' new : List (List X)) → at ≡ 0
-      → first' ≡ take 32 first → half ≡ drop 32 first → later' ≡ later → new ≡ insert later' at half
+      → first' ≡ take HALF first → half ≡ drop HALF first → later' ≡ later → new ≡ insert later' at half
       → (first' ∷ new) ≡ halves_of at (first ∷ later)
   halve_first at first first' half later later' new e f h l n = rw (n, l, e, f, h) refl
 
+  -- the first half in the place of a later block, and the second half behind it
   set_and_insert : (n : ℕ) (later : List (List X)) → n < length later
-      → insert (set later n (take 32 (get_or later n []))) (suc n) (drop 32 (get_or later n [])) ≡ halves_of n later
+      → insert (set later n (take HALF (get_or later n []))) (suc n) (drop HALF (get_or later n [])) ≡ halves_of n later
   set_and_insert n [] l = absurd (omega arith)
   set_and_insert zero (b ∷ bs) l = refl
   set_and_insert (suc n) (b ∷ bs) l = ap (λ t. b ∷ t) (set_and_insert n bs (omega arith))
@@ -22,7 +26,7 @@ module _ {X : Type 0} where
   -- a later block is cut
   pub halve_later : (at : ℕ) (first first' kept half old : List X) (later later' new : List (List X))
       → 0 < at → at ≤ length later → old ≡ get_or later (at - 1) old →
-      first' ≡ first → kept ≡ take 32 old → half ≡ drop 32 old → later' ≡ set later (at - 1) kept
+      first' ≡ first → kept ≡ take HALF old → half ≡ drop HALF old → later' ≡ set later (at - 1) kept
       → new ≡ insert later' at half → (first' ∷ new) ≡ halves_of at (first ∷ later)
   halve_later zero first first' kept half old later later' new some within is f k h l e = absurd (omega arith)
   halve_later (suc n) first first' kept half old later later' new some within is f k h l e =
@@ -35,47 +39,53 @@ module _ {X : Type 0} where
       (cut : (first' ∷ later') ≡ halves_of at (first ∷ later)) (within : at ≤ length later) where
     -- there is one later block more
     pub length_later : length later' ≡ suc (length later)
-    length_later = let all = length_halved at (first ∷ later) (omega arith) in let same = ap length cut in omega arith
+    length_later = let all = length-halves at (first ∷ later) (omega arith) in let same = ap length cut in omega arith
 
     -- at the place of the block is its first half
-    pub first_half_at : get_or (first' ∷ later') at [] ≡ take 32 (block_at first later at)
+    first_half_at : get_or (first' ∷ later') at [] ≡ take HALF (block_at first later at)
     first_half_at = ap (λ (bs : List (List X)). get_or bs at []) cut ∙ first_half at (first ∷ later) (omega arith)
 
     -- behind it is its second half
-    pub second_half_at : get_or later' at [] ≡ drop 32 (block_at first later at)
+    second_half_at : get_or later' at [] ≡ drop HALF (block_at first later at)
     second_half_at = ap (λ (bs : List (List X)). get_or bs (suc at) []) cut
         ∙ second_half at (first ∷ later) (omega arith)
 
     -- and then comes the block that was behind it
-    pub behind_at : get_or later' (suc at) [] ≡ get_or later at []
+    behind_at : get_or later' (suc at) [] ≡ get_or later at []
     behind_at = ap (λ (bs : List (List X)). get_or bs (suc (suc at)) []) cut
         ∙ behind_halves at (first ∷ later) (omega arith)
 
     -- where the block was full, there is a free place in the first half
-    pub first_free : length (block_at first later at) ≡ 64 → length (block_at first' later' at) < 64
-    first_free full = rw first_half_at (omega (arith, length-take 32 (block_at first later at)))
+    pub first_free : length (block_at first later at) ≡ MOST_MESSAGES
+        → length (block_at first' later' at) < MOST_MESSAGES
+    first_free full = rw first_half_at (omega (arith, length-take HALF (block_at first later at)))
 
     -- and in the second half
-    pub second_free : (to : ℕ) → to ≡ suc at → length (block_at first later at) ≡ 64
-        → length (block_at first' later' to) < 64
-    second_free to e full = rw (e, second_half_at) (omega (arith, length-drop 32 (block_at first later at)))
+    pub second_free : (to : ℕ) → to ≡ suc at → length (block_at first later at) ≡ MOST_MESSAGES
+        → length (block_at first' later' to) < MOST_MESSAGES
+    second_free to e full = rw (e, second_half_at) (omega (arith, length-drop HALF (block_at first later at)))
+
+-- ---- length of a block
 
 module _ {X : Type 0} where
-  filled_small : (n : ℕ) (bs : List (List X)) → AreFilled bs → length (get_or bs n []) ≤ 64
+  -- no later block has too many messages
+  filled_small : (n : ℕ) (bs : List (List X)) → AreFilled bs → length (get_or bs n []) ≤ MOST_MESSAGES
   filled_small n [] h = omega arith
   filled_small zero (b ∷ bs) h = h.0.1
   filled_small (suc n) (b ∷ bs) h = filled_small n bs h.1
 
-  -- no block has more than 64 messages
-  pub small_at : (at : ℕ) (first : List X) (later : List (List X)) → AreSized first later
-      → length (block_at first later at) ≤ 64
+  -- nor has any block
+  small_at : (at : ℕ) (first : List X) (later : List (List X)) → AreSized first later
+      → length (block_at first later at) ≤ MOST_MESSAGES
   small_at zero first later h = h.first_small
   small_at (suc n) first later h = filled_small n later h.later_filled
 
-  -- so one with 64 and more has 64
+  -- so one with the most or more is full
   pub full_at : (at : ℕ) (first : List X) (later : List (List X)) (n : ℕ) → AreSized first later
-      → n ≡ length (block_at first later at) → 64 ≤ n → length (block_at first later at) ≡ 64
+      → n ≡ length (block_at first later at) → MOST_MESSAGES ≤ n → length (block_at first later at) ≡ MOST_MESSAGES
   full_at at first later n h is full = let small = small_at at first later h in omega arith
+
+-- ---- StartsAfter and IsBlockOf
 
 module _ {M K : Type 0} (cmp : M → M → Ordering) (m : M) where
   -- what is read at a place
@@ -84,7 +94,7 @@ module _ {M K : Type 0} (cmp : M → M → Ordering) (m : M) where
   starts_there bs n b r l is starts = subst (λ t. StartsAfter cmp m t r) (get_or_read bs n b l is []) starts
 
   -- the first half starts as the block does
-  starts_half : (b : List (M × K)) (r : Bool) → StartsAfter cmp m b r → StartsAfter cmp m (take 32 b) r
+  starts_half : (b : List (M × K)) (r : Bool) → StartsAfter cmp m b r → StartsAfter cmp m (take HALF b) r
   starts_half [] r h = h
   starts_half (y ∷ ys) r h = h
 
@@ -99,10 +109,10 @@ module _ {M K : Type 0} (cmp : M → M → Ordering) (m : M) where
         before : (j : ℕ) → j + 1 ≡ at → StartsAfter cmp m (get_or later' j []) false
         before j e =
             let is : suc j ≡ at = omega arith in
-            let here : get_or (first' ∷ later') at [] ≡ take 32 (block_at first later at) =
+            let here : get_or (first' ∷ later') at [] ≡ take HALF (block_at first later at) =
             first_half_at at first first' later later' cut place.within in
-            let there : get_or later' j [] ≡ take 32 (get_or later j []) =
-            subst (λ n. get_or (first' ∷ later') n [] ≡ take 32 (get_or (first ∷ later) n [])) (sym is) here in
+            let there : get_or later' j [] ≡ take HALF (get_or later j []) =
+            subst (λ n. get_or (first' ∷ later') n [] ≡ take HALF (get_or (first ∷ later) n [])) (sym is) here in
             subst (λ b. StartsAfter cmp m b false) (sym there)
             (starts_half (get_or later j []) false (place.before j e))
 

@@ -1,10 +1,10 @@
 pub mod ListLaws
+pub mod Elements
 pub mod Chain
 pub mod OrderLaws
 pub mod OrderEqual
 pub mod KeyWords
 pub mod SameEntry
-pub mod Derived
 pub mod Digits
 pub mod NameBytes
 pub mod Placing

@@ -12,12 +12,16 @@ use Rattle.std.specs.Str.{IsAscii, IsUtf8}
 use Rattle.std.proofs.lemmas.Str.{IsUtf8-from_ascii}
 use Rattle.sim_base.specs.Padding.{IsPadded}
 
+-- ---- is_name
+
 -- a name is not too long
 pub short_name : (text : List ℕ) → is_name text ≡ true → length text ≤ LONGEST_NAME
 short_name [] h = omega arith
 short_name (b ∷ bs) h =
-    let (front, short) = and_parts (is_lower b && list_all is_name_byte bs) (nat_lt (length bs) LONGEST_NAME) h in
+    let (bytes, short) = and_parts (is_lower b && list_all is_name_byte bs) (nat_lt (length bs) LONGEST_NAME) h in
     grind (arith, nat_tests)
+
+-- ---- IsPadded
 
 -- a name with zeros behind it is padded
 pub padded_name : (text : List ℕ) → is_name text ≡ true
@@ -32,12 +36,19 @@ padded_name text h =
       named = rw (take-append_seam text (drop (length text) (replicate LONGEST_NAME 0))) h;
     }
 
+-- ---- is_name_byte
+
+-- a byte of a name is below 128
 name_byte_small : (b : ℕ) → is_name_byte b ≡ true → b < 128
 name_byte_small b h = grind (arith, nat_tests)
 
+-- a to z may stand in a name
 lower_is_name_byte : (b : ℕ) → is_lower b ≡ true → is_name_byte b ≡ true
 lower_is_name_byte b h = rw h refl
 
+-- ---- IsAscii and IsUtf8
+
+-- bytes that may stand in a name are ASCII
 small_bytes : (bs : List ℕ) → list_all is_name_byte bs ≡ true → IsAscii bs
 small_bytes [] h = λ i. grind arith
 small_bytes (b ∷ bs) h =
@@ -52,6 +63,6 @@ small_bytes (b ∷ bs) h =
 pub name_is_text : (text : List ℕ) → is_name text ≡ true → IsUtf8 text
 name_is_text [] h = absurd (false≢true h)
 name_is_text (b ∷ bs) h =
-    let (front, short) = and_parts (is_lower b && list_all is_name_byte bs) (nat_lt (length bs) LONGEST_NAME) h in
-    let (first, rest) = and_parts (is_lower b) (list_all is_name_byte bs) front in
+    let (bytes, short) = and_parts (is_lower b && list_all is_name_byte bs) (nat_lt (length bs) LONGEST_NAME) h in
+    let (first, rest) = and_parts (is_lower b) (list_all is_name_byte bs) bytes in
     IsUtf8-from_ascii (b ∷ bs) (small_bytes (b ∷ bs) (rw (lower_is_name_byte b first, rest) refl))

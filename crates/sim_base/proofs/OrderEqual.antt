@@ -13,24 +13,31 @@ use Rattle.sim_base.specs.declared.message.Payload.{Payload}
 use Rattle.sim_base.specs.declared.message.Payload.TheVariants.{Tick, Job, Done, Set}
 use Rattle.sim_base.specs.Order.{key_cmp, job_cmp, param_index, change_cmp, payload_cmp, msg_cmp}
 
+-- ---- ordering_then
+
 -- where two orders one after the other tie, each does
 pub both_equal : (o p : Ordering) → ordering_then o p ≡ Equal → (o ≡ Equal) × (p ≡ Equal)
 both_equal Less p e = absurd (cc)
 both_equal Equal p e = (refl, e)
 both_equal Greater p e = absurd (cc)
 
-then_less : (o p : Ordering) → ordering_then o p ≡ Less → (o ≡ Less) ⊎ (o ≡ Equal)
-then_less Less p e = inl refl
-then_less Equal p e = inr refl
-then_less Greater p e = absurd (cc)
+-- where two orders one after the other are Less, the first is Less or a tie
+ordering_then-Less : (o p : Ordering) → ordering_then o p ≡ Less → (o ≡ Less) ⊎ (o ≡ Equal)
+ordering_then-Less Less p e = inl refl
+ordering_then-Less Equal p e = inr refl
+ordering_then-Less Greater p e = absurd (cc)
+
+-- ---- nat_cmp
 
 -- numbers that tie are equal
 pub nat_same : (x y : ℕ) → nat_cmp x y ≡ Equal → x ≡ y
 nat_same x y e = subst (λ r. MatchOrdering r (x < y) (x ≡ y) (y < x)) e (ranks x y)
 
+-- a number that comes before another is below it
 nat_below : (x y : ℕ) → nat_cmp x y ≡ Less → x < y
 nat_below x y e = subst (λ r. MatchOrdering r (x < y) (x ≡ y) (y < x)) e (ranks x y)
 
+-- three numbers that tie one after another are equal
 three_same : (a b c x y z : ℕ) → ordering_then (nat_cmp a x) (ordering_then (nat_cmp b y) (nat_cmp c z)) ≡ Equal
     → (a ≡ x) × (b ≡ y) × (c ≡ z)
 three_same a b c x y z e =
@@ -38,16 +45,23 @@ three_same a b c x y z e =
     let second = both_equal (nat_cmp b y) (nat_cmp c z) first.1 in
     (nat_same a x first.0, nat_same b y second.0, nat_same c z second.1)
 
+-- ---- key_cmp and job_cmp
+
+-- keys that tie are equal
 key_same : (a b : Key) → key_cmp a b ≡ Equal → a ≡ b
 key_same a b e =
     let parts = three_same a.time a.sender a.number b.time b.sender b.number e in
     λ i. record { time = parts.0 i; sender = parts.1 i; number = parts.2 i }
 
+-- jobs that tie are equal
 job_same : (a b : JobOf) → job_cmp a b ≡ Equal → a ≡ b
 job_same a b e =
     let parts = three_same a.source a.count a.born b.source b.count b.born e in
     λ i. record { source = parts.0 i; count = parts.1 i; born = parts.2 i }
 
+-- ---- change_cmp
+
+-- the parameter at a place among all of them
 abbrev param_at : ℕ → Param
 param_at zero = Every
 param_at (suc zero) = Service
@@ -56,6 +70,7 @@ param_at (suc (suc (suc zero))) = Servers
 param_at (suc (suc (suc (suc zero)))) = Room
 param_at (suc (suc (suc (suc (suc n))))) = Weight
 
+-- each parameter stands at its place
 param_back : (p : Param) → param_at (param_index p) ≡ p
 param_back Every = refl
 param_back Service = refl
@@ -64,12 +79,16 @@ param_back Servers = refl
 param_back Room = refl
 param_back Weight = refl
 
+-- changes that tie are equal
 change_same : (a b : Change) → change_cmp a b ≡ Equal → a ≡ b
 change_same a b e =
     let parts = three_same (param_index a.param) a.a a.b (param_index b.param) b.a b.b e in
     let param : a.param ≡ b.param = sym (param_back a.param) ∙ (ap param_at parts.0 ∙ param_back b.param) in
     λ i. record { param = param i; a = parts.1 i; b = parts.2 i }
 
+-- ---- payload_cmp
+
+-- payloads that tie are equal
 payload_same : (p q : Payload) → payload_cmp p q ≡ Equal → p ≡ q
 payload_same Tick Tick e = refl
 payload_same (Job a) (Job b) e = ap Job (job_same a b e)
@@ -88,6 +107,8 @@ payload_same (Set a) Tick e = absurd (cc)
 payload_same (Set a) (Job b) e = absurd (cc)
 payload_same (Set a) (Done b) e = absurd (cc)
 
+-- ---- msg_cmp
+
 -- messages that are not ordered are one message
 pub msg_same : (a b : Msg) → msg_cmp a b ≡ Equal → a ≡ b
 msg_same a b e =
@@ -101,13 +122,13 @@ msg_same a b e =
 
 -- a message that comes before another has a lesser key or the same one
 pub msg-keyed : (a b : Msg) → msg_cmp a b ≡ Less → (key_cmp a.key b.key ≡ Less) ⊎ (key_cmp a.key b.key ≡ Equal)
-msg-keyed a b e = then_less (key_cmp a.key b.key)
+msg-keyed a b e = ordering_then-Less (key_cmp a.key b.key)
     (ordering_then (nat_cmp a.to b.to) (payload_cmp a.payload b.payload)) e
 
 -- and no later time
 pub msg-timed : (a b : Msg) → msg_cmp a b ≡ Less → a.key.time ≤ b.key.time
 msg-timed a b e = elim (msg-keyed a b e) [
-  | inl less ↦ elim (then_less (nat_cmp a.key.time b.key.time)
+  | inl less ↦ elim (ordering_then-Less (nat_cmp a.key.time b.key.time)
       (ordering_then (nat_cmp a.key.sender b.key.sender) (nat_cmp a.key.number b.key.number)) less) [
         | inl below ↦ (let h = nat_below a.key.time b.key.time below in omega arith)
         | inr same ↦ (let h = nat_same a.key.time b.key.time same in omega arith)

@@ -1,49 +1,33 @@
 -- Where a marked message goes in a list in order, and that the order is kept.
 use Rattle.std.proofs.Common.{◌≡◌, ℕ, zero, suc, ◌+◌, ◌<◌, ◌≤◌, refl, sym, ap}
 use Rattle.std.proofs.Common.{◌∙◌, subst, List, [], ◌∷◌, ◌++◌, Bool, true, false, Ordering, Less}
-use Rattle.std.proofs.Common.{Equal, Greater, length, get_or, set, arith, Some, None}
+use Rattle.std.proofs.Common.{Equal, Greater, length, get_or, set, arith}
 use Rattle.std.specs.Prelude.{slice_get}
 use Rattle.std.proofs.lemmas.List.{get_or_read}
+use Rattle.std.proofs.lemmas.Option.{slice_get-get_or}
 use Rattle.std.specs.Ordering.{is_lt, is_eq, is_gt, ordering_reverse}
-use Rattle.std.specs.Cmp.{IsTotalOrder}
+use Rattle.std.specs.Cmp.{IsTotalOrder, Equal-is}
 use Rattle.std.specs.List.{AllByRecursion, insert}
+use Rattle.sim_base.proofs.ListLaws.{all_weaker, all_left, all_right, all_at}
 use Rattle.sim_base.specs.Pending.{place_marked, insert_marked}
 use Rattle.sim_base.specs.Marked.{Above, SortedMarked}
 use Rattle.sim_base.specs.Blocks.{IsPlaceOf, is_there}
 
--- what is said of all may be weakened
-pub all_weaker : {X : Type 0} (P Q : X → Type 0) (xs : List X) → ((x : X) → P x → Q x) → AllByRecursion P xs
-    → AllByRecursion Q xs
-all_weaker P Q [] f h = tt
-all_weaker P Q (x ∷ xs) f h = (f x h.0, all_weaker P Q xs f h.1)
+-- ---- is_gt
 
--- what is said of all of two lists is said of all of the first
-pub all_left : {X : Type 0} (P : X → Type 0) (xs ys : List X) → AllByRecursion P (xs ++ ys) → AllByRecursion P xs
-all_left P [] ys h = tt
-all_left P (x ∷ xs) ys h = (h.0, all_left P xs ys h.1)
+-- what `is_gt` tells is Greater
+is_gt-Greater : (o : Ordering) → is_gt o ≡ true → o ≡ Greater
+is_gt-Greater Less e = absurd (cc)
+is_gt-Greater Equal e = absurd (cc)
+is_gt-Greater Greater e = refl
 
--- and of all of the second
-pub all_right : {X : Type 0} (P : X → Type 0) (xs ys : List X) → AllByRecursion P (xs ++ ys) → AllByRecursion P ys
-all_right P [] ys h = h
-all_right P (x ∷ xs) ys h = all_right P xs ys h.1
+-- what neither `is_gt` nor `is_eq` tells is Less
+is_gt-Less : (o : Ordering) → is_gt o ≡ false → is_eq o ≡ false → o ≡ Less
+is_gt-Less Less g e = refl
+is_gt-Less Equal g e = absurd (cc)
+is_gt-Less Greater g e = absurd (cc)
 
--- and what is said of each of both
-pub all_both : {X : Type 0} (P : X → Type 0) (xs ys : List X) → AllByRecursion P xs → AllByRecursion P ys
-    → AllByRecursion P (xs ++ ys)
-all_both P [] ys g h = h
-all_both P (x ∷ xs) ys g h = (g.0, all_both P xs ys g.1 h)
-
--- and of the one at a place
-pub all_at : {X : Type 0} (P : X → Type 0) (xs : List X) (i : ℕ) (d : X) → AllByRecursion P xs → i < length xs
-    → P (get_or xs i d)
-all_at P [] i d h l = absurd (omega arith)
-all_at P (x ∷ xs) zero d h l = h.0
-all_at P (x ∷ xs) (suc i) d h l = all_at P xs i d h.1 (omega arith)
-
-is_greater : (o : Ordering) → is_gt o ≡ true → o ≡ Greater
-is_greater Less e = absurd (cc)
-is_greater Equal e = absurd (cc)
-is_greater Greater e = refl
+-- ---- SortedMarked
 
 module _ {M K : Type 0} (cmp : M → M → Ordering) where
   -- a list in order has its first part in order
@@ -58,7 +42,7 @@ module _ {M K : Type 0} (cmp : M → M → Ordering) where
 
 module _ {M : Type 0} {cmp : M → M → Ordering} (o : IsTotalOrder cmp) where
   -- after what comes behind it, a message comes behind what is before that
-  pub after_later : (m : M) (x y : M) → cmp x y ≡ Less → is_lt (cmp m y) ≡ false → cmp m x ≡ Greater
+  after_later : (m : M) (x y : M) → cmp x y ≡ Less → is_lt (cmp m y) ≡ false → cmp m x ≡ Greater
   after_later m x y below late = by_order (cmp m y) refl late
     where
       by_order : (r : Ordering) → cmp m y ≡ r → is_lt r ≡ false → cmp m x ≡ Greater
@@ -79,6 +63,8 @@ module _ {M K : Type 0} {cmp : M → M → Ordering} (o : IsTotalOrder cmp) wher
   all_before m (x ∷ xs) y ys s late =
       (after_later o m x.0 y.0 (all_right _ xs (y ∷ ys) s.0).0 late, all_before m xs y ys s.1 late)
 
+-- ---- insert_marked
+
 module _ {M K : Type 0} (cmp : M → M → Ordering) (join : K → K → K) (m : M) (k : K) where
   -- a message goes behind all that come before it
   pub insert_behind : (xs ys : List (M × K)) → AllByRecursion (λ x. cmp m x.0 ≡ Greater) xs
@@ -86,6 +72,7 @@ module _ {M K : Type 0} (cmp : M → M → Ordering) (join : K → K → K) (m :
   insert_behind [] ys h = refl
   insert_behind (x ∷ xs) ys h = rw h.0 (ap (λ t. x ∷ t) (insert_behind xs ys h.1))
 
+  -- what comes after all of them stays behind a message that is put in its place
   before_place : (r : Ordering) (x : M × K) (xs zs : List (M × K))
       → insert_marked join cmp m k (xs ++ zs) ≡ insert_marked join cmp m k xs ++ zs
       → place_marked join r m k x (xs ++ zs) (insert_marked join cmp m k (xs ++ zs)) ≡ place_marked join r m k x xs
@@ -100,19 +87,24 @@ module _ {M K : Type 0} (cmp : M → M → Ordering) (join : K → K → K) (m :
   insert_before [] y ys l = rw l refl
   insert_before (x ∷ xs) y ys l = before_place (cmp m x.0) x xs (y ∷ ys) (insert_before xs y ys l)
 
+-- ---- SortedMarked of insert_marked
+
 module _ {M K : Type 0} {cmp : M → M → Ordering} (o : IsTotalOrder cmp) (join : K → K → K) (m : M) (k : K) where
+  -- what comes before a message and others comes before them with it in its place
   above_place : (r : Ordering) (z : M) (y : M × K) (ys rest : List (M × K)) → cmp z m ≡ Less → Above cmp z (y ∷ ys)
       → Above cmp z rest → Above cmp z (place_marked join r m k y ys rest)
   above_place Less z y ys rest e f g = (e, f)
   above_place Equal z y ys rest e f g = f
   above_place Greater z y ys rest e f g = (f.0, g)
 
+  -- and so after an insertion
   above_insert : (z : M) (xs : List (M × K)) → cmp z m ≡ Less → Above cmp z xs
       → Above cmp z (insert_marked join cmp m k xs)
   above_insert z [] e f = (e, tt)
   above_insert z (y ∷ ys) e f = above_place (cmp m y.0) z y ys (insert_marked join cmp m k ys) e f
       (above_insert z ys e f.1)
 
+  -- a message in its place keeps the order
   sorted_place : (r : Ordering) (y : M × K) (ys : List (M × K)) → cmp m y.0 ≡ r → SortedMarked cmp (y ∷ ys)
       → SortedMarked cmp (insert_marked join cmp m k ys)
       → SortedMarked cmp (place_marked join r m k y ys (insert_marked join cmp m k ys))
@@ -125,7 +117,10 @@ module _ {M K : Type 0} {cmp : M → M → Ordering} (o : IsTotalOrder cmp) (joi
   sorted_insert [] s = (tt, tt)
   sorted_insert (y ∷ ys) s = sorted_place (cmp m y.0) y ys refl s (sorted_insert ys s.1)
 
+-- ---- length of insert_marked
+
 module _ {M K : Type 0} (cmp : M → M → Ordering) (join : K → K → K) (m : M) (k : K) where
+  -- a message in its place makes a list at most one longer
   length_place : (r : Ordering) (y : M × K) (ys rest : List (M × K)) → length rest ≤ suc (length ys) → 0 < length rest
       → (0 < length (place_marked join r m k y ys rest))
       × (length (place_marked join r m k y ys rest) ≤ suc (suc (length ys)))
@@ -140,18 +135,20 @@ module _ {M K : Type 0} (cmp : M → M → Ordering) (join : K → K → K) (m :
   length_insert (y ∷ ys) = let h = length_insert ys in
       length_place (cmp m y.0) y ys (insert_marked join cmp m k ys) h.1 h.0
 
+-- ---- insert_marked at a place
+
 module _ {M K : Type 0} {cmp : M → M → Ordering} (o : IsTotalOrder cmp) (join : K → K → K) (m : M) (k : K) where
   -- the first comes before m, as the one at i does
   first_before : (x : M × K) (xs : List (M × K)) (i : ℕ) (d : M × K) → SortedMarked cmp (x ∷ xs) → i < suc (length xs)
       → is_gt (cmp m (get_or (x ∷ xs) i d).0) ≡ true → cmp m x.0 ≡ Greater
-  first_before x xs zero d s l g = is_greater _ g
+  first_before x xs zero d s l g = is_gt-Greater _ g
   first_before x xs (suc i) d s l g =
-      let greater : cmp m (get_or xs i d).0 ≡ Greater = is_greater _ g in
+      let greater : cmp m (get_or xs i d).0 ≡ Greater = is_gt-Greater _ g in
       let late : is_lt (cmp m (get_or xs i d).0) ≡ false = ap is_lt greater in
       after_later o m x.0 (get_or xs i d).0 (all_at _ xs i d s.0 (omega arith)) late
 
   -- a message that is not there yet goes to its place
-  pub insert_new : (xs : List (M × K)) (i : ℕ) (d : M × K) → SortedMarked cmp xs → i ≤ length xs
+  insert_new : (xs : List (M × K)) (i : ℕ) (d : M × K) → SortedMarked cmp xs → i ≤ length xs
       → ((j : ℕ) → j + 1 ≡ i → is_gt (cmp m (get_or xs j d).0) ≡ true)
       → (i < length xs → cmp m (get_or xs i d).0 ≡ Less) → insert_marked join cmp m k xs ≡ insert xs i (m, k)
   insert_new [] zero d s l before behind = refl
@@ -163,7 +160,7 @@ module _ {M K : Type 0} {cmp : M → M → Ordering} (o : IsTotalOrder cmp) (joi
       (λ l'. behind (omega arith))))
 
   -- a message that is there already gets the marks of both
-  pub insert_there : (xs : List (M × K)) (i : ℕ) (d : M × K) → SortedMarked cmp xs → i < length xs
+  insert_there : (xs : List (M × K)) (i : ℕ) (d : M × K) → SortedMarked cmp xs → i < length xs
       → ((j : ℕ) → j + 1 ≡ i → is_gt (cmp m (get_or xs j d).0) ≡ true) → cmp m (get_or xs i d).0 ≡ Equal
       → insert_marked join cmp m k xs ≡ set xs i ((get_or xs i d).0, join (get_or xs i d).1 k)
   insert_there [] i d s l before same = absurd (omega arith)
@@ -172,31 +169,7 @@ module _ {M K : Type 0} {cmp : M → M → Ordering} (o : IsTotalOrder cmp) (joi
       let greater : cmp m x.0 ≡ Greater = first_before x xs i d s (omega arith) (before i (omega arith)) in
       rw greater (ap (λ t. x ∷ t) (insert_there xs i d s.1 (omega arith) (λ j e. before (suc j) (omega arith)) same))
 
--- a place within the list has an element
-pub get_at : {X : Type 0} (xs : List X) (i : ℕ) (d : X) → i < length xs → slice_get xs i ≡ Some (get_or xs i d)
-get_at [] i d l = absurd (omega arith)
-get_at (x ∷ xs) zero d l = refl
-get_at (x ∷ xs) (suc i) d l = get_at xs i d (omega arith)
-
--- which is the one that was read there
-pub read_at : {X : Type 0} (xs : List X) (i : ℕ) (x : X) → i < length xs → x ≡ get_or xs i x → slice_get xs i ≡ Some x
-read_at xs i x l e = get_at xs i x l ∙ ap Some (sym e)
-
--- and one behind it has none
-pub past_at : {X : Type 0} (xs : List X) (i : ℕ) → length xs ≤ i → slice_get xs i ≡ None
-past_at [] i l = refl
-past_at (x ∷ xs) zero l = absurd (omega arith)
-past_at (x ∷ xs) (suc i) l = past_at xs i (omega arith)
-
-is_less_if : (r : Ordering) → is_gt r ≡ false → is_eq r ≡ false → r ≡ Less
-is_less_if Less g e = refl
-is_less_if Equal g e = absurd (cc)
-is_less_if Greater g e = absurd (cc)
-
-is_equal : (r : Ordering) → is_eq r ≡ true → r ≡ Equal
-is_equal Less e = absurd (cc)
-is_equal Equal e = refl
-is_equal Greater e = absurd (cc)
+-- ---- what was read at a place
 
 module _ {M K : Type 0} (cmp : M → M → Ordering) (m : M) where
   -- whether m comes after what was read at a place
@@ -206,7 +179,7 @@ module _ {M K : Type 0} (cmp : M → M → Ordering) (m : M) where
       (subst (λ y. is_gt (cmp m y.0) ≡ r) (get_or_read xs i x l read d) e)
 
   -- a message that is there is within the list
-  pub there_within : (xs : List (M × K)) (i : ℕ) → is_there cmp m (slice_get xs i) ≡ true → i < length xs
+  there_within : (xs : List (M × K)) (i : ℕ) → is_there cmp m (slice_get xs i) ≡ true → i < length xs
   there_within [] i e = absurd (cc)
   there_within (x ∷ xs) zero e = omega arith
   there_within (x ∷ xs) (suc i) e = let l = there_within xs i e in omega arith
@@ -217,8 +190,8 @@ module _ {M K : Type 0} {cmp : M → M → Ordering} (o : IsTotalOrder cmp) (joi
       → is_there cmp m (slice_get xs i) ≡ false → insert_marked join cmp m k xs ≡ insert xs i (m, k)
   new_at xs i s place there =
       insert_new o join m k xs i (m, k) s place.within (place.before (m, k))
-      (λ l. let no : is_eq (cmp m (get_or xs i (m, k)).0) ≡ false = rw (get_at xs i (m, k) l) at there in
-      is_less_if _ (place.behind (m, k) l) no)
+      (λ l. let no : is_eq (cmp m (get_or xs i (m, k)).0) ≡ false = rw (slice_get-get_or xs i (m, k) l) at there in
+      is_gt-Less _ (place.behind (m, k) l) no)
 
   -- and where it is
   pub joined_at : (xs : List (M × K)) (i : ℕ) (x : M × K) → SortedMarked cmp xs → IsPlaceOf cmp m xs i
@@ -226,6 +199,6 @@ module _ {M K : Type 0} {cmp : M → M → Ordering} (o : IsTotalOrder cmp) (joi
       → insert_marked join cmp m k xs ≡ set xs i (x.0, join x.1 k)
   joined_at xs i x s place there is =
       let l = there_within cmp m xs i there in
-      let yes : is_eq (cmp m (get_or xs i x).0) ≡ true = rw (get_at xs i x l) at there in
-      insert_there o join m k xs i x s l (place.before x) (is_equal _ yes) ∙ ap (λ y. set xs i (y.0, join y.1 k))
+      let yes : is_eq (cmp m (get_or xs i x).0) ≡ true = rw (slice_get-get_or xs i x l) at there in
+      insert_there o join m k xs i x s l (place.before x) ((Equal-is _).0 yes) ∙ ap (λ y. set xs i (y.0, join y.1 k))
       (sym is)

@@ -6,31 +6,35 @@ use Rattle.std.proofs.lemmas.List.{length-set, set-get_or}
 use Rattle.sim_base.specs.Pending.{insert_marked}
 use Rattle.sim_base.specs.Marked.{SortedMarked}
 use Rattle.sim_base.specs.Blocks.{of_blocks, block_at, AreFilled, AreSized, AreBlocks, IsBlockOf}
+use Rattle.sim_base.specs.declared.pending.blocks.TheConstants.{MOST_MESSAGES}
 use Rattle.sim_base.proofs.Placing.{sorted_left, sorted_right, sorted_insert, length_insert}
-use Rattle.sim_base.proofs.Blocks.{put_at}
+use Rattle.sim_base.proofs.Blocks.{insert-of_blocks}
+
+-- ---- set
 
 module _ {X : Type 0} where
-  filled_set : (n : ℕ) (bs : List (List X)) (b : List X) → AreFilled bs → 0 < length b → length b ≤ 64
+  -- another later block in place of one
+  AreFilled-set : (n : ℕ) (bs : List (List X)) (b : List X) → AreFilled bs → 0 < length b → length b ≤ MOST_MESSAGES
       → AreFilled (set bs n b)
-  filled_set n [] b h some few = h
-  filled_set zero (c ∷ bs) b h some few = ((some, few), h.1)
-  filled_set (suc n) (c ∷ bs) b h some few = (h.0, filled_set n bs b h.1 some few)
+  AreFilled-set n [] b h some few = h
+  AreFilled-set zero (c ∷ bs) b h some few = ((some, few), h.1)
+  AreFilled-set (suc n) (c ∷ bs) b h some few = (h.0, AreFilled-set n bs b h.1 some few)
 
   -- another block in place of one
-  pub sized_set : (at : ℕ) (first : List X) (later : List (List X)) (b first' : List X) (later' : List (List X))
-      → AreSized first later → 0 < length b → length b ≤ 64 → (first' ∷ later') ≡ set (first ∷ later) at b
+  pub AreSized-set : (at : ℕ) (first : List X) (later : List (List X)) (b first' : List X) (later' : List (List X))
+      → AreSized first later → 0 < length b → length b ≤ MOST_MESSAGES → (first' ∷ later') ≡ set (first ∷ later) at b
       → AreSized first' later'
-  sized_set zero first later b first' later' h some few e =
+  AreSized-set zero first later b first' later' h some few e =
       let here : first' ≡ b = cc in
       let there : later' ≡ later = cc in
       rw (here, there) record { first_filled = λ _. some; first_small = few; later_filled = h.later_filled }
-  sized_set (suc n) first later b first' later' h some few e =
+  AreSized-set (suc n) first later b first' later' h some few e =
       let here : first' ≡ first = cc in
       let there : later' ≡ set later n b = cc in
       rw (here, there) record {
         first_filled = λ l. h.first_filled (omega (arith, length-set later n b));
         first_small = h.first_small;
-        later_filled = filled_set n later b h.later_filled some few;
+        later_filled = AreFilled-set n later b h.later_filled some few;
       }
 
   -- to set a block behind the first is to set it among the later ones, one place before
@@ -45,24 +49,30 @@ module _ {X : Type 0} where
   later_at zero first later l = absurd (omega arith)
   later_at (suc n) first later l = let e : suc n - 1 ≡ n = omega arith in rw e refl
 
+-- ---- SortedMarked
+
 module _ {M K : Type 0} (cmp : M → M → Ordering) where
+  -- each of blocks that are in order together is in order
   sorted_of : (n : ℕ) (bs : List (List (M × K))) → SortedMarked cmp (of_blocks bs) → SortedMarked cmp (get_or bs n [])
   sorted_of n [] s = tt
   sorted_of zero (b ∷ bs) s = sorted_left cmp b (of_blocks bs) s
   sorted_of (suc n) (b ∷ bs) s = sorted_of n bs (sorted_right cmp b (of_blocks bs) s)
 
-  -- each block is in order
+  -- and so is the block of each number
   pub sorted_at : (at : ℕ) (first : List (M × K)) (later : List (List (M × K))) → AreBlocks cmp first later
       → SortedMarked cmp (block_at first later at)
   sorted_at at first later h = sorted_of at (first ∷ later) h.sorted
 
+-- ---- IsPut
+
 module _ {M K : Type 0} {cmp : M → M → Ordering} (o : IsTotalOrder cmp) (join : K → K → K) (m : M) (k : K) where
+  -- a message that is put into its block is put into all
   put_all : (at : ℕ) (first : List (M × K)) (later : List (List (M × K))) → AreBlocks cmp first later
       → IsBlockOf cmp m later at → (first' : List (M × K)) (later' : List (List (M × K))) →
       (first' ∷ later') ≡ set (first ∷ later) at (insert_marked join cmp m k (block_at first later at))
       → of_blocks (first' ∷ later') ≡ insert_marked join cmp m k (of_blocks (first ∷ later))
   put_all at first later blocks place first' later' e =
-      ap of_blocks e ∙ sym (put_at o join m k at first later blocks.sorted blocks.sized.later_filled place)
+      ap of_blocks e ∙ sym (insert-of_blocks o join m k at first later blocks.sorted blocks.sized.later_filled place)
 
 module _ {M K A E : Type 0} (cmp : M → M → Ordering) (join : K → K → K) (m : M) (k : K) where
   -- what a message that is put into a block is to all of them
@@ -75,7 +85,7 @@ module _ {M K A E : Type 0} (cmp : M → M → Ordering) (join : K → K → K) 
 module _ {M K A E : Type 0} {cmp : M → M → Ordering} (o : IsTotalOrder cmp) (join : K → K → K) (m : M) (k : K) where
   -- a message that is put into the block to which it goes is put into all; where that fails, none changes
   pub is_put : (at : ℕ) (first : List (M × K)) (later : List (List (M × K))) → AreBlocks cmp first later
-      → IsBlockOf cmp m later at → length (block_at first later at) < 64 →
+      → IsBlockOf cmp m later at → length (block_at first later at) < MOST_MESSAGES →
       (r : Result A E) (b first' : List (M × K)) (later' : List (List (M × K)))
       → (first' ∷ later') ≡ set (first ∷ later) at b
       → OnOk r (b ≡ insert_marked join cmp m k (block_at first later at)) → OnErr r (b ≡ block_at first later at)
@@ -90,8 +100,8 @@ module _ {M K A E : Type 0} {cmp : M → M → Ordering} (o : IsTotalOrder cmp) 
           sorted = subst (SortedMarked cmp) (sym all)
               (sorted_insert o join m k (of_blocks (first ∷ later)) blocks.sorted);
           sized =
-              sized_set at first later (insert_marked join cmp m k (block_at first later at)) first' later' blocks.sized
-              long.0 (omega arith) f;
+              AreSized-set at first later (insert_marked join cmp m k (block_at first later at)) first' later'
+              blocks.sized long.0 (omega arith) f;
         };
         ok = all;
         err = tt;

@@ -4,97 +4,107 @@ use Rattle.std.proofs.Common.{Option, Some, None, set}
 use Rattle.std.proofs.Common.{true, false, ◌==◌, if◌then◌else◌, length, take, drop, get_or, arith, append_assoc}
 use Rattle.std.specs.Prelude.{is_some}
 use Rattle.std.proofs.lemmas.Bool.{eqb-true, eqb-false}
-use Rattle.std.proofs.lemmas.List.{append-nil, drop_more, take_more, nil_from_length}
+use Rattle.std.proofs.lemmas.Grind.{flat_map-append}
+use Rattle.std.proofs.lemmas.List.{append-nil, drop_more, nil_from_length}
 use Rattle.sim_base.specs.Pending.{cut_by}
 use Rattle.sim_base.specs.Blocks.{of_blocks, AreFilled, StartsAt}
 use Rattle.sim_base.specs.declared.message.Msg.{Msg}
-use Rattle.sim_base.proofs.Placing.{all_at, all_both}
-use Rattle.sim_base.proofs.Blocks.{of_blocks-append}
-use Rattle.sim_base.proofs.Cutting.{cut_kept, cut_dropped, cut-append, length_cut}
+use Rattle.sim_base.specs.declared.pending.blocks.TheConstants.{MOST_MESSAGES}
+use Rattle.sim_base.proofs.Elements.{take_next}
+use Rattle.sim_base.proofs.ListLaws.{all_append, all_at}
+use Rattle.sim_base.proofs.Cutting.{cut-Some, cut-None, cut-append, length-cut}
+
+-- ---- drop
 
 module _ {X : Type 0} where
   -- what is taken out first is the next of the old list
-  pub turn : (old items rest done : List X) (i : ℕ) (x : X) → i < length old → items ≡ drop i old ++ done
+  drop_next : (old items rest done : List X) (i : ℕ) (x : X) → i < length old → items ≡ drop i old ++ done
       → items ≡ x ∷ rest → (x ≡ get_or old i x) × (rest ≡ drop (i + 1) old ++ done)
-  turn old items rest done i x l is leaves =
+  drop_next old items rest done i x l is leaves =
       let more : drop i old ≡ get_or old i x ∷ drop (i + 1) old = drop_more old i x l in
       let e : x ∷ rest ≡ get_or old i x ∷ (drop (i + 1) old ++ done) = sym leaves ∙ is ∙ ap (λ t. t ++ done) more in
       (cc, cc)
 
-  -- the elements so far, with one more
-  pub take_turn : (old : List X) (i : ℕ) (x : X) → i < length old → x ≡ get_or old i x
-      → take (i + 1) old ≡ take i old ++ x ∷ []
-  take_turn old i x l is = take_more old i x l ∙ ap (λ y. take i old ++ y ∷ []) (sym is)
+-- ---- cut_by: the messages of one block
 
 module _ {M K : Type 0} (meet : K → K → Option K) (by : K) (old items rest : List (M × K)) (i : ℕ) (x : M × K)
     (l : i < length old) (is : items ≡ drop i old ++ cut_by meet by (take i old)) (leaves : items ≡ x ∷ rest) where
+  -- what is taken out is the next message, and the others stay
   next : (x ≡ get_or old i x) × (rest ≡ drop (i + 1) old ++ cut_by meet by (take i old))
-  next = turn old items rest (cut_by meet by (take i old)) i x l is leaves
+  next = drop_next old items rest (cut_by meet by (take i old)) i x l is leaves
 
+  -- what meets so far, with one message more
   more : cut_by meet by (take (i + 1) old) ≡ cut_by meet by (take i old) ++ cut_by meet by (x ∷ [])
-  more = ap (cut_by meet by) (take_turn old i x l next.0) ∙ cut-append meet by (take i old) (x ∷ [])
+  more = ap (cut_by meet by) (take_next old i x l next.0) ∙ cut-append meet by (take i old) (x ∷ [])
 
   -- a message that stays
-  pub keep_kept : (v : K) → meet x.1 by ≡ Some v
+  pub rotated-Some : (v : K) → meet x.1 by ≡ Some v
       → rest ++ (x.0, v) ∷ [] ≡ drop (i + 1) old ++ cut_by meet by (take (i + 1) old)
-  keep_kept v e =
+  rotated-Some v e =
       let all : cut_by meet by (take (i + 1) old) ≡ cut_by meet by (take i old) ++ (x.0, v) ∷ [] =
-      more ∙ ap (λ t. cut_by meet by (take i old) ++ t) (cut_kept meet by x v [] e) in
+      more ∙ ap (λ t. cut_by meet by (take i old) ++ t) (cut-Some meet by x v [] e) in
       ap (λ t. t ++ (x.0, v) ∷ []) next.1 ∙ append_assoc (drop (i + 1) old) (cut_by meet by (take i old))
       ((x.0, v) ∷ []) ∙ ap (λ t. drop (i + 1) old ++ t) (sym all)
 
   -- and one that goes
-  pub keep_dropped : meet x.1 by ≡ None → rest ≡ drop (i + 1) old ++ cut_by meet by (take (i + 1) old)
-  keep_dropped e =
+  pub rotated-None : meet x.1 by ≡ None → rest ≡ drop (i + 1) old ++ cut_by meet by (take (i + 1) old)
+  rotated-None e =
       let all : cut_by meet by (take (i + 1) old) ≡ cut_by meet by (take i old) =
-      more ∙ ap (λ t. cut_by meet by (take i old) ++ t) (cut_dropped meet by x [] e)
+      more ∙ ap (λ t. cut_by meet by (take i old) ++ t) (cut-None meet by x [] e)
       ∙ append-nil (cut_by meet by (take i old)) in
       next.1 ∙ ap (λ t. drop (i + 1) old ++ t) (sym all)
+
+-- ---- HasRotated
 
 module _ {M K : Type 0} (meet : K → K → Option K) (by : K) (old : List (List (M × K))) where
   -- what the blocks so far have become
   pub record HasRotated (now : List (List (M × K))) (n : ℕ) : Type 0 where
     pub done : List (List (M × K))
     pub items : now ≡ drop n old ++ done
-    pub kept : of_blocks done ≡ cut_by meet by (of_blocks (take n old))
+    pub cut : of_blocks done ≡ cut_by meet by (of_blocks (take n old))
     pub filled : AreFilled done
 
   module _ (items rest : List (List (M × K))) (i : ℕ) (b : List (M × K)) (l : i < length old)
       (rotated : HasRotated items i) (leaves : items ≡ b ∷ rest) where
+    -- what is taken out is the next block, and the others stay
     next_block : (b ≡ get_or old i b) × (rest ≡ drop (i + 1) old ++ rotated.done)
-    next_block = turn old items rest rotated.done i b l rotated.items leaves
+    next_block = drop_next old items rest rotated.done i b l rotated.items leaves
 
+    -- what meets so far, with one block more
     more_blocks : cut_by meet by (of_blocks (take (i + 1) old)) ≡ of_blocks rotated.done ++ cut_by meet by b
     more_blocks =
-        ap (λ bs. cut_by meet by (of_blocks bs)) (take_turn old i b l next_block.0)
-        ∙ ap (cut_by meet by) (of_blocks-append (take i old) (b ∷ []) ∙ ap (λ t. of_blocks (take i old) ++ t)
+        ap (λ bs. cut_by meet by (of_blocks bs)) (take_next old i b l next_block.0)
+        ∙ ap (cut_by meet by) (flat_map-append (λ b. b) (take i old) (b ∷ []) ∙ ap (λ t. of_blocks (take i old) ++ t)
         (append-nil b))
-        ∙ cut-append meet by (of_blocks (take i old)) b ∙ ap (λ t. t ++ cut_by meet by b) (sym rotated.kept)
+        ∙ cut-append meet by (of_blocks (take i old)) b ∙ ap (λ t. t ++ cut_by meet by b) (sym rotated.cut)
 
     -- a block of which some messages stay
-    pub block_kept : AreFilled old → 0 < length (cut_by meet by b) → HasRotated (rest ++ cut_by meet by b ∷ []) (i + 1)
-    block_kept filled some =
-        let size = all_at (λ b. (0 < length b) × (length b ≤ 64)) old i b filled l in
-        let few : length b ≤ 64 = subst (λ c. length c ≤ 64) (sym next_block.0) size.1 in
-        let short = length_cut meet by b in
+    pub HasRotated-filled : AreFilled old → 0 < length (cut_by meet by b)
+        → HasRotated (rest ++ cut_by meet by b ∷ []) (i + 1)
+    HasRotated-filled filled some =
+        let size = all_at (λ b. (0 < length b) × (length b ≤ MOST_MESSAGES)) old i b filled l in
+        let few : length b ≤ MOST_MESSAGES = subst (λ c. length c ≤ MOST_MESSAGES) (sym next_block.0) size.1 in
+        let short = length-cut meet by b in
         record {
           done = rotated.done ++ cut_by meet by b ∷ [];
           items = ap (λ t. t ++ cut_by meet by b ∷ []) next_block.1 ∙ append_assoc (drop (i + 1) old) rotated.done
               (cut_by meet by b ∷ []);
-          kept = of_blocks-append rotated.done (cut_by meet by b ∷ []) ∙ ap (λ t. of_blocks rotated.done ++ t)
+          cut = flat_map-append (λ b. b) rotated.done (cut_by meet by b ∷ []) ∙ ap (λ t. of_blocks rotated.done ++ t)
               (append-nil (cut_by meet by b)) ∙ sym more_blocks;
-          filled = all_both _ rotated.done (cut_by meet by b ∷ []) rotated.filled ((some, omega arith), tt);
+          filled = all_append _ rotated.done (cut_by meet by b ∷ []) rotated.filled ((some, omega arith), tt);
         }
 
     -- and one of which none does
-    pub block_dropped : length (cut_by meet by b) ≡ 0 → HasRotated rest (i + 1)
-    block_dropped none = record {
+    pub HasRotated-empty : length (cut_by meet by b) ≡ 0 → HasRotated rest (i + 1)
+    HasRotated-empty none = record {
       done = rotated.done;
       items = next_block.1;
-      kept = sym (more_blocks ∙ ap (λ t. of_blocks rotated.done ++ t) (nil_from_length (cut_by meet by b) none)
+      cut = sym (more_blocks ∙ ap (λ t. of_blocks rotated.done ++ t) (nil_from_length (cut_by meet by b) none)
           ∙ append-nil (of_blocks rotated.done));
       filled = rotated.filled;
     }
+
+-- ---- cut_by, block by block
 
 module _ {M K : Type 0} (meet : K → K → Option K) (by : K) where
   -- what is cut so far, and one block more
@@ -113,6 +123,8 @@ module _ {M K : Type 0} (meet : K → K → Option K) (by : K) where
   cut_end so_far rest all none e = sym (append-nil so_far) ∙ ap (λ bs. so_far ++ cut_by meet by (of_blocks bs))
       (sym (nil_from_length rest none)) ∙ e
 
+-- ---- []
+
 -- a list whose length is 0 is empty
 pub empty_if : {X : Type 0} (xs : List X) → true ≡ (length xs == 0) → xs ≡ []
 empty_if xs e = nil_from_length xs (eqb-true (length xs) 0 (sym e))
@@ -121,20 +133,24 @@ empty_if xs e = nil_from_length xs (eqb-true (length xs) 0 (sym e))
 pub filled_if : {X : Type 0} (xs : List X) → false ≡ (length xs == 0) → 0 < length xs
 filled_if xs e = let some = eqb-false (length xs) 0 (sym e) in omega arith
 
+-- ---- spread_marks
+
 module _ {M K : Type 0} (join : K → K → K) (meet : K → K → Option K) (by more : K) where
   -- marks that meet the given ones are joined with the further ones
-  pub spread_met : (x : M × K) (k : K) (r : Option K) → r ≡ meet x.1 by → is_some r ≡ true → k ≡ join x.1 more
+  pub spread-Some : (x : M × K) (k : K) (r : Option K) → r ≡ meet x.1 by → is_some r ≡ true → k ≡ join x.1 more
       → ◌≡◌ {A = M × K} (x.0, k) (x.0, if is_some (meet x.1 by) then join x.1 more else x.1)
-  spread_met x k r e s is = let yes : is_some (meet x.1 by) ≡ true = ap is_some (sym e) ∙ s in rw (yes, is) refl
+  spread-Some x k r e s is = let yes : is_some (meet x.1 by) ≡ true = ap is_some (sym e) ∙ s in rw (yes, is) refl
 
   -- and marks that do not meet them stay
-  pub spread_apart : (x : M × K) (r : Option K) → r ≡ meet x.1 by → is_some r ≡ false
+  pub spread-None : (x : M × K) (r : Option K) → r ≡ meet x.1 by → is_some r ≡ false
       → ◌≡◌ {A = M × K} x (x.0, if is_some (meet x.1 by) then join x.1 more else x.1)
-  spread_apart x r e s = let no : is_some (meet x.1 by) ≡ false = ap is_some (sym e) ∙ s in rw no refl
+  spread-None x r e s = let no : is_some (meet x.1 by) ≡ false = ap is_some (sym e) ∙ s in rw no refl
+
+-- ---- StartsAt
 
 -- other marks at a message leave the time of the first
-pub starts_set : {K : Type 0} (time : ℕ) (xs : List (Msg × K)) (i : ℕ) (x : Msg × K) (k : K) → x ≡ get_or xs i x
+pub StartsAt-set : {K : Type 0} (time : ℕ) (xs : List (Msg × K)) (i : ℕ) (x : Msg × K) (k : K) → x ≡ get_or xs i x
     → StartsAt time xs → StartsAt time (set xs i (x.0, k))
-starts_set time [] i x k is s = tt
-starts_set time (y ∷ ys) zero x k is s = s ∙ ap (λ z. z.0.key.time) (sym is)
-starts_set time (y ∷ ys) (suc i) x k is s = s
+StartsAt-set time [] i x k is s = tt
+StartsAt-set time (y ∷ ys) zero x k is s = s ∙ ap (λ z. z.0.key.time) (sym is)
+StartsAt-set time (y ∷ ys) (suc i) x k is s = s

@@ -13,6 +13,9 @@ use Rattle.sim_base.specs.declared.entry.Line.TheVariants.{Source, Server, Passe
 use Rattle.sim_base.proofs.OrderLaws.{msg_total}
 use Rattle.sim_base.proofs.OrderEqual.{msg_same}
 
+-- ---- same_line
+
+-- lines of the same counts are equal
 line_equal : (a b : Line) → same_line a b ≡ true → a ≡ b
 line_equal (Source s) (Source t) e = ap Source (eqb-true s t e)
 line_equal (Source s) (Server b w d l) e = absurd (false≢true e)
@@ -40,6 +43,7 @@ line_equal (Sink g y) (Passed p) e = absurd (false≢true e)
 line_equal (Sink g y) (Sink g2 y2) e = let h = and_parts (g == g2) (y == y2) e in let p = eqb-true g g2 h.0 in let q =
     eqb-true y y2 h.1 in λ i. Sink (p i) (q i)
 
+-- a line has its own counts
 line_itself : (a : Line) → same_line a a ≡ true
 line_itself (Source s) = eq-eqb s s refl
 line_itself (Server b w d l) =
@@ -47,6 +51,8 @@ line_itself (Server b w d l) =
     (and_from (d == d) (l == l) (eq-eqb d d refl) (eq-eqb l l refl))
 line_itself (Passed p) = eq-eqb p p refl
 line_itself (Sink g y) = and_from (g == g) (y == y) (eq-eqb g g refl) (eq-eqb y y refl)
+
+-- ---- same_entry
 
 -- two entries are the same exactly where they are equal
 pub same_entry-Decides : (x y : Entry Msg Line) → Decides (same_entry x y) (x ≡ y)

@@ -1,17 +1,16 @@
 -- Pending messages in blocks: a first block, and later ones behind it.
-use Rattle.std.specs.Prelude.{◌≡◌, ℕ, zero, suc, ◌+◌, ◌/◌, ◌<◌, ◌≤◌, List, [], ◌∷◌, ◌++◌}
-use Rattle.std.specs.Prelude.{length, take, drop, Bool, true, false, slice_index_or, ⊤, Option, Some, None}
+use Rattle.std.specs.Prelude.{◌≡◌, ℕ, zero, suc, ◌+◌, ◌<◌, ◌≤◌, List, [], ◌∷◌, ◌++◌}
+use Rattle.std.specs.Prelude.{length, take, drop, flat_map, Bool, true, false, slice_index_or, ⊤, Option, Some, None}
 use Rattle.std.specs.List.{AllByRecursion}
 use Rattle.std.specs.Ordering.{is_lt, is_eq, is_gt}
 use Rattle.std.specs.declared.cmp.Ordering.{Ordering}
 use Rattle.sim_base.specs.Marked.{SortedMarked}
 use Rattle.sim_base.specs.declared.message.Msg.{Msg}
-use Rattle.sim_base.specs.declared.pending.blocks.TheConstants.{MOST_MESSAGES}
+use Rattle.sim_base.specs.declared.pending.blocks.TheConstants.{MOST_MESSAGES, HALF}
 
 -- the messages of blocks, one block after another
 abbrev pub of_blocks : {X : Type 0} → List (List X) → List X
-of_blocks [] = []
-of_blocks (b ∷ bs) = b ++ of_blocks bs
+of_blocks blocks = flat_map (λ b. b) blocks
 
 module _ {X : Type 0} where
   -- the block of this number: the first is 0
@@ -21,7 +20,7 @@ module _ {X : Type 0} where
   -- the block of this number is cut in two halves
   abbrev pub halves_of : ℕ → List (List X) → List (List X)
   halves_of at [] = []
-  halves_of zero (b ∷ bs) = take (MOST_MESSAGES / 2) b ∷ drop (MOST_MESSAGES / 2) b ∷ bs
+  halves_of zero (b ∷ bs) = take HALF b ∷ drop HALF b ∷ bs
   halves_of (suc at) (b ∷ bs) = b ∷ halves_of at bs
 
   -- no block is empty, and none has too many messages

@@ -1,4 +1,4 @@
--- How the decision lists of the clones are kept in memory.
+-- The decision lists of the clones in memory.
 use Rattle.std.specs.Prelude.{◌≡◌, ℕ, ◌+◌, ◌^◌, ◌<◌, ◌≤◌, List, [], ◌∷◌, ◌++◌, length}
 use Rattle.std.specs.Prelude.{map, false, AllPairs, Option, Some, None, slice_get, slice_set, unwrap_or, codes}
 use Rattle.std.specs.List.{AllByRecursion}

@@ -1,6 +1,7 @@
 pub mod Names
 pub mod Padding
 pub mod Order
+pub mod Entries
 pub mod KeyWords
 pub mod Same
 pub mod Params

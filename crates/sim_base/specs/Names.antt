@@ -19,7 +19,7 @@ is_leading b = nat_le 49 b && nat_le b 57
 abbrev pub is_name_byte : ℕ → Bool
 is_name_byte b = (is_lower b || is_digit b) || (b == 95)
 
--- 1 to 16 bytes of a to z, digits and _, the first of a to z
+-- 1 to LONGEST_NAME bytes of a to z, digits and _, the first of a to z
 abbrev pub is_name : List ℕ → Bool
 is_name [] = false
 is_name (b ∷ bs) = (is_lower b && list_all is_name_byte bs) && nat_lt (length bs) LONGEST_NAME

@@ -25,7 +25,7 @@
 //!
 //! What is reserved is taken once, so that a decision in the middle of a run needs no memory: a fork copies the
 //! old clone's list into a spare one, and a decision is a push. To find a clone by its name is a walk over the
-//! clones, 256 at most.
+//! clones, `MOST_CLONES` at most.
 //!
 //! Here stand the facts that the promises of exact sharing rest on: the order of messages is total, messages
 //! that tie in it are equal, and two entries are the same exactly where they are equal, every count included.
@@ -35,6 +35,7 @@ pub mod decision;
 pub mod entry;
 pub mod figures;
 pub mod laws;
+pub mod limits;
 pub mod lists;
 pub mod marks;
 pub mod memory;
@@ -48,6 +49,7 @@ pub mod steps;
 pub use decision::{Decision, Planned, same_plan};
 pub use entry::{Entry, Line, same_entry};
 pub use figures::Figures;
+pub use limits::MOST_FILE_BYTES;
 pub use lists::{Lists, MOST_CLONES, MOST_DECISIONS};
 pub use marks::Marks;
 pub use memory::NoMemory;

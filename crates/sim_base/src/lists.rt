@@ -18,6 +18,7 @@ pub const MOST_CLONES: u32 = 256;
 /// How many decisions the list of a clone may hold.
 pub const MOST_DECISIONS: u32 = 256;
 
+// A clone as it is stored: its list has memory reserved.
 #[derive(Drop)]
 struct CloneList {
     name: Name,
@@ -103,7 +104,7 @@ impl Lists {
             l ≡ record { clones = self.now.clones; reserved_clones = 0; reserved_plans = 0 }) }
     {
         Ok(Lists {
-            clones: copied(alloc, self.clones.as_slice())?,
+            clones: copy_clones(alloc, self.clones.as_slice())?,
             reserved_clones: 0,
             spare: Reserved::new(alloc),
             reserved_plans: 0,
@@ -225,6 +226,7 @@ impl Lists {
     }
 }
 
+// The place of the first clone of this name.
 fn place(clones: &[CloneList], name: &Name) -> Option<usize>
     ensures value { result ≡ position (λ k. bytes_eq k.name name.now) clones.now }
 {
@@ -233,6 +235,7 @@ fn place(clones: &[CloneList], name: &Name) -> Option<usize>
         .position(|clone| clone.name.as_bytes() == name.as_bytes())
 }
 
+// The name of the clone that is there from the start.
 fn base_name() -> Name
     ensures value { result ≡ codes "base" }
 {
@@ -242,6 +245,7 @@ fn base_name() -> Name
     }
 }
 
+// The base clone alone, and memory for so many clones.
 fn base_alone(
     alloc: Global,
     capacity: usize,
@@ -259,6 +263,7 @@ fn base_alone(
     Ok(clones)
 }
 
+// So many lists with no decision, each with memory for so many.
 #[tactic(auto, using(crate::proofs::ListLaws::all_push))]
 fn spare_lists(
     alloc: Global,
@@ -275,7 +280,8 @@ fn spare_lists(
     Ok(spare)
 }
 
-fn copied(alloc: Global, clones: &[CloneList]) -> Result<Vec<CloneList>, NoMemory>
+// The same clones, with no memory reserved.
+fn copy_clones(alloc: Global, clones: &[CloneList]) -> Result<Vec<CloneList>, NoMemory>
     ensures value { IfOk result (λ v. map clone_of v.items ≡ map clone_of clones.now) }
 {
     let mut copies = Vec::with_capacity(alloc, clones.len())?;
@@ -291,6 +297,7 @@ fn copied(alloc: Global, clones: &[CloneList]) -> Result<Vec<CloneList>, NoMemor
     Ok(copies)
 }
 
+// A fork of the old clone at the end: its list goes into `plans`, which is empty.
 fn push_fork(
     clones: &mut Vec<CloneList>,
     plans: Reserved<Planned>,
@@ -318,6 +325,7 @@ fn push_fork(
     Ok(())
 }
 
+// The clone at this place has its end.
 fn set_end(clones: &mut Vec<CloneList>, c: usize, at: u64)
     requires there { c < length clones.old.items }
     ensures ok { clones.new.items ≡ lists_with_end clones.old.items c at }
@@ -327,6 +335,7 @@ fn set_end(clones: &mut Vec<CloneList>, c: usize, at: u64)
     clone.end = Some(at);
 }
 
+// One decision more for the clone at this place.
 fn push_plan(clones: &mut Vec<CloneList>, c: usize, plan: Planned) -> Result<(), NoMemory>
     requires there { c < length clones.old.items }
     ensures ok { OnOk result (clones.new.items ≡ lists_with_plan clones.old.items c plan) }

@@ -20,7 +20,7 @@ pub const WORD_NUMBERS: u64 = 2_097_152;
 pub const WORD_PLACES: u64 = 64;
 
 /// How many words the keys of one time have: the 34 bits below it.
-pub const WORDS_OF_TIME: u64 = 17_179_869_184;
+pub const WORDS_OF_TIME: u64 = WORD_SENDERS as u64 * WORD_NUMBERS * WORD_PLACES;
 
 /// What orders messages: the time, then the sender, then the sender's running count.
 ///

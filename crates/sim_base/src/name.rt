@@ -12,7 +12,7 @@ use std::str;
 /// The most bytes of a name.
 pub const LONGEST_NAME: usize = 16;
 
-/// 1 to 16 bytes of `a-z`, `0-9` and `_`, the first of `a-z`.
+/// 1 to `LONGEST_NAME` bytes of `a-z`, `0-9` and `_`, the first of `a-z`.
 #[derive(Clone, Copy, Debug, PartialEq, Eq)]
 pub struct Name {
     bytes: [u8; LONGEST_NAME],
@@ -38,12 +38,14 @@ impl Model for Name {
     } };
 }
 
+// Whether the byte is one of a to z.
 fn is_lower_byte(byte: u8) -> bool
     ensures value { result ≡ is_lower byte }
 {
     b'a' <= byte && byte <= b'z'
 }
 
+// Whether the byte may stand in a name behind its first.
 fn may_follow(byte: u8) -> bool
     ensures value { result ≡ is_name_byte byte }
 {
@@ -62,6 +64,7 @@ fn are_name(text: &[u8]) -> bool
     }
 }
 
+// Whether all of the bytes may stand there.
 fn all_may_follow(rest: &[u8]) -> bool
     ensures value { result ≡ list_all is_name_byte rest.now }
 {
@@ -104,7 +107,7 @@ impl Name {
 
     /// Its bytes, and others behind them that fill up all.
     #[inline(always)]
-    pub fn padded(&self) -> &[u8; LONGEST_NAME]
+    pub fn padded_bytes(&self) -> &[u8; LONGEST_NAME]
         ensures { take (length self.now) result.now ≡ self.now }
     {
         &self.bytes

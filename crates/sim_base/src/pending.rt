@@ -1,8 +1,8 @@
 //! Pending messages: the future event list.
 //!
-//! They stand in blocks of at most 64, each in order and all before the next. Most lists have one block, which is
-//! never looked for. In a long list an insert halves over the blocks and then within one, and moves at most 64
-//! messages:
+//! They stand in blocks of at most `MOST_MESSAGES`, each in order and all before the next. Most lists have one block,
+//! which is never looked for. In a long list an insert halves over the blocks and then within one, and moves the
+//! messages of that one at most:
 //!
 //!     first [3 5 8 ..]   later [21 22 25 ..] [40 41 ..] ..
 ghost use Rattle.std.specs.Prelude.{◌≡◌, ◌<◌, ◌==◌, Option, List, [], ◌∷◌};
@@ -17,7 +17,7 @@ use crate::marks::Marks;
 use crate::memory::NoMemory;
 use crate::message::Msg;
 use block::Block;
-use blocks::{add_block, block_of, find_place, keep_later, next_block, put, spread_later};
+use blocks::{add_block, block_of, halve_if_full, keep_later, next_block, put, spread_later};
 use std::alloc::Global;
 use std::collections::VecDeque;
 use std::marker::Model;
@@ -62,11 +62,11 @@ impl<S: Marks> Pending<S> {
     ///
     /// Out of memory leaves all unchanged.
     pub fn insert(&mut self, msg: Msg, marks: S) -> Result<(), NoMemory>
-        ensures ok { OnOk result (self.new ≡ insert_marked S.joined msg_cmp msg marks self.old) }
+        ensures ok { OnOk result (self.new ≡ insert_marked S.union msg_cmp msg marks self.old) }
         ensures err { OnErr result (self.new ≡ self.old) }
     {
         let at = block_of(&self.later, &msg);
-        let at = find_place(&mut self.first, &mut self.later, at, &msg)?;
+        let at = halve_if_full(&mut self.first, &mut self.later, at, &msg)?;
         put(&mut self.first, &mut self.later, at, msg, marks)
     }
 
@@ -130,7 +130,7 @@ impl<S: Marks> Pending<S> {
 
     /// The least message whose marks meet `by`, with what they share, None exactly where there is none.
     pub fn least_with(&self, by: S) -> Option<(Msg, S)>
-        ensures value { result ≡ slice_get (cut_by S.met by self.now) 0 }
+        ensures value { result ≡ slice_get (cut_by S.common by self.now) 0 }
     {
         if let Some(found) = self.first.first_with(by) {
             return Some(found);
@@ -145,7 +145,7 @@ impl<S: Marks> Pending<S> {
 
     /// The messages whose marks meet `by`, each with what they share.
     pub fn cut(&self, alloc: Global, by: S) -> Result<Pending<S>, NoMemory>
-        ensures value { IfOk result (λ p. p ≡ cut_by S.met by self.now) }
+        ensures value { IfOk result (λ p. p ≡ cut_by S.common by self.now) }
     {
         let mut first = self.first.cut(alloc, by)?;
         let mut later = VecDeque::new(alloc);
@@ -169,7 +169,7 @@ impl<S: Marks> Pending<S> {
 
     /// Keeps the messages whose marks meet `by`, each with what they share. It takes no memory.
     pub fn keep(&mut self, by: S)
-        ensures value { self.new ≡ cut_by S.met by self.old }
+        ensures value { self.new ≡ cut_by S.common by self.old }
     {
         self.first.keep(by);
         keep_later(&mut self.later, by);
@@ -180,7 +180,7 @@ impl<S: Marks> Pending<S> {
 
     /// Joins `more` to the marks of each message whose marks meet `by`.
     pub fn spread(&mut self, by: S, more: S)
-        ensures value { self.new ≡ spread_marks S.joined S.met by more self.old }
+        ensures value { self.new ≡ spread_marks S.union S.common by more self.old }
     {
         self.first.spread(by, more);
         spread_later(&mut self.later, by, more);

@@ -1,8 +1,10 @@
 -- The words of a seed and a stream, and what is drawn from them.
-use Rattle.std.specs.Prelude.{ℕ, ◌+◌, ◌-◌, ◌%◌, ◌<◌, ◌≤◌, nat_lt, if◌then◌else◌, List, [], ◌∷◌, sum, take}
+use Rattle.std.specs.Prelude.{ℕ, ◌+◌, ◌-◌, ◌%◌, ◌<◌, ◌≤◌, nat_lt, if◌then◌else◌, List, [], ◌∷◌, length, sum, take}
+use Rattle.std.specs.List.{AllByRecursion}
 use Rattle.rand_pcg.specs.Lcg.{Lcg, started, advance, increment_of}
 unfoldable pub use Rattle.rand_pcg.specs.Lcg.{state_after}
 use Rattle.rand_pcg.specs.Pcg.{multiplier_64, pcg32}
+use Rattle.sim_draw.specs.declared.draws.TheConstants.{MOST_WEIGHT, MOST_WEIGHTS}
 
 -- one stream of a seed, of which so many words were drawn
 pub record DrawsView : Type 0 where
@@ -29,6 +31,13 @@ drawn_one d = record d { count = d.count + 1 }
 -- a number from lo to hi, by the next word
 abbrev pub range_of : ℕ → ℕ → DrawsView → ℕ
 range_of lo hi d = lo + next_of d % (hi - lo + 1)
+
+-- weights by which an index may be picked
+pub record AreWeights (weights : List ℕ) : Type 0 where
+  pub some : 1 ≤ length weights
+  pub few : length weights ≤ MOST_WEIGHTS
+  pub heavy : AllByRecursion (λ w. 1 ≤ w) weights
+  pub light : AllByRecursion (λ w. w ≤ MOST_WEIGHT) weights
 
 -- the first index whose running sum of weights exceeds x
 abbrev pub index_of : List ℕ → ℕ → ℕ

@@ -1,12 +1,21 @@
 //! Random variates: seeded draws from a range, and by weights.
-ghost use Rattle.std.specs.Prelude.{◌≡◌, ◌+◌, ◌-◌, ◌%◌, ◌^◌, ◌<◌, ◌≤◌, length, sum};
-ghost use Rattle.std.specs.List.{AllByRecursion};
+ghost use Rattle.std.specs.Prelude.{◌≡◌, ◌+◌, ◌-◌, ◌%◌, ◌<◌, ◌≤◌, length, sum};
 ghost use Rattle.sim_draw.specs.Drawing.{DrawsView, drawn_one, range_of, next_of};
-ghost use Rattle.sim_draw.specs.Drawing.{pick_of, index_of, drawn_by, IsFirstAbove};
+ghost use Rattle.sim_draw.specs.Drawing.{AreWeights, pick_of, index_of, drawn_by, IsFirstAbove};
+ghost use Rattle.sim_draw.specs.declared.draws.TheConstants.{MOST_BOUND, MOST_DRAWS};
 
 use rand_core::utils::NextWord;
 use rand_pcg::Lcg64Xsh32;
 use std::marker::Model;
+
+/// How many words of a stream may be drawn: 32 bits.
+pub const MOST_DRAWS: u64 = 4_294_967_296;
+/// The greatest upper bound of a range.
+pub const MOST_BOUND: u64 = 1_000_000;
+/// How many weights a pick may have.
+pub const MOST_WEIGHTS: usize = 16;
+/// The greatest weight.
+pub const MOST_WEIGHT: u32 = 1_000;
 
 /// Draws from one stream of a seed.
 ///
@@ -74,8 +83,8 @@ impl Draws {
     /// A number from `lo` to `hi`, by one word: `lo` and the word modulo the size of the range.
     pub fn range(&mut self, lo: u64, hi: u64) -> u64
         requires ordered { lo ≤ hi }
-        requires small { hi ≤ 1000000 }
-        requires few_drawn { self.old.count < 2 ^ 32 }
+        requires small { hi ≤ MOST_BOUND }
+        requires few_drawn { self.old.count < MOST_DRAWS }
         ensures value { result ≡ range_of lo hi self.old }
         ensures drawn { self.new ≡ drawn_one self.old }
         ensures least { lo ≤ result }
@@ -89,11 +98,8 @@ impl Draws {
     ///
     /// With one weight the answer is 0 and nothing is drawn.
     pub fn pick(&mut self, weights: &[u32]) -> usize
-        requires some { 1 ≤ length weights.now }
-        requires few { length weights.now ≤ 16 }
-        requires heavy { AllByRecursion (λ w. 1 ≤ w) weights.now }
-        requires light { AllByRecursion (λ w. w ≤ 1000) weights.now }
-        requires few_drawn { self.old.count < 2 ^ 32 }
+        requires valid { AreWeights weights.now }
+        requires few_drawn { self.old.count < MOST_DRAWS }
         ensures value { result ≡ pick_of weights.now self.old }
         ensures drawn { self.new ≡ drawn_by weights.now self.old }
         ensures within { result < length weights.now }
@@ -108,7 +114,7 @@ impl Draws {
 
     // One word.
     fn word(&mut self) -> u32
-        requires { self.old.count < 2 ^ 32 }
+        requires { self.old.count < MOST_DRAWS }
         ensures value { result ≡ next_of self.old }
         ensures drawn { self.new ≡ drawn_one self.old }
     {
@@ -118,14 +124,15 @@ impl Draws {
     }
 }
 
+// The sum of the weights.
 fn total(weights: &[u32]) -> u64
-    requires few { length weights.now ≤ 16 }
-    requires light { AllByRecursion (λ w. w ≤ 1000) weights.now }
+    requires { AreWeights weights.now }
     ensures { result ≡ sum weights.now }
 {
     weights.iter().map(|w| u64::from(*w)).sum()
 }
 
+// The first index whose running sum of weights exceeds x.
 fn index_above(weights: &[u32], x: u64) -> usize
     requires { x < sum weights.now }
     ensures value { result ≡ index_of weights.now x }

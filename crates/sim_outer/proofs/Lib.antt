@@ -1,3 +1,5 @@
 pub mod Prefixes
-pub mod Named
-pub mod Written
+pub mod Finding
+pub mod Writing
+pub mod Appending
+pub mod Counts

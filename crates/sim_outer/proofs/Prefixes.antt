@@ -7,6 +7,8 @@ use Rattle.std.specs.declared.option.Option.{Option}
 use Rattle.sim_outer.specs.Files.{prefix_of}
 use Rattle.sim_outer.specs.declared.inputs.TheConstants.{MOST_FETCHED}
 
+-- ---- prefix_of
+
 -- as many bytes of a file as it has, up to as many as a fetch gives, are what a fetch gives of it
 pub take_prefix_of : (file : List ℕ) → take (min (length file) MOST_FETCHED) file ≡ prefix_of file
 unfolding prefix_of

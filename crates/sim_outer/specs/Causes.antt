@@ -5,7 +5,7 @@ use Rattle.std.specs.Prelude.{◌≡◌, ℕ, zero, suc, ◌+◌, ◌-◌, ◌^�
 abbrev pub next_count : ℕ → ℕ
 next_count n = min (n + 1) (2 ^ 64 - 1)
 
--- a count rose: it is greater than before, or stands at the last value of 64 bits
+-- a count rose: it is greater than before, or is the last value of 64 bits
 abbrev pub HasRisen : ℕ → ℕ → Type 0
 HasRisen before now = next_count before ≤ now
 

@@ -1,13 +1,13 @@
 -- Files by their names, and what a fetch says of them where the contract knows the files' contents.
 use Rattle.std.specs.Prelude.{◌≡◌, ℕ, List, take, Option, Some, None}
-use Rattle.std.specs.FinMap as map
+use Rattle.std.specs.FinMap as finite
 use Rattle.std.specs.Ordering.{nat_cmp}
 use Rattle.std.specs.Cmp.Lexicographic.{slice_cmp}
 use Rattle.sim_outer.specs.declared.inputs.TheConstants.{MOST_FETCHED}
 
 -- the bytes of each file, by the bytes of its name
 abbrev pub Files : Type 0
-Files = map.FinMap (slice_cmp nat_cmp) (List ℕ)
+Files = finite.FinMap (slice_cmp nat_cmp) (List ℕ)
 
 -- the bytes of a file that a fetch gives: as many as it gives at most, or the whole file if it is shorter
 unfoldable pub prefix_of : List ℕ → List ℕ
@@ -16,9 +16,9 @@ prefix_of file = take MOST_FETCHED file
 -- these bytes are those that a fetch gives of the file of this name, which is there
 abbrev pub IsFetched : Option Files → List ℕ → List ℕ → Type 0
 IsFetched None name bytes = Unit {0}
-IsFetched (Some files) name bytes = (file : List ℕ) × (map.get files name ≡ Some file) × (bytes ≡ prefix_of file)
+IsFetched (Some files) name bytes = (file : List ℕ) × (finite.get files name ≡ Some file) × (bytes ≡ prefix_of file)
 
 -- the contract knows the files' contents, and none of them has this name
 abbrev pub Lacks : Option Files → List ℕ → Type 0
 Lacks None name = ⊥
-Lacks (Some files) name = map.get files name ≡ None
+Lacks (Some files) name = finite.get files name ≡ None

@@ -4,10 +4,11 @@ ghost use Rattle.sim_outer.specs.Causes.{IsCounted, HasRisen};
 ghost use Rattle.sim_outer.specs.Views.{InputsView};
 ghost use Rattle.sim_outer.specs.Files.{IsFetched, Lacks};
 
+use sim_base::MOST_FILE_BYTES;
 use std::alloc::{AllocError, Global};
 
-/// How many bytes of a file a fetch gives at most: 1 MiB and one byte, which tells that there are more.
-pub const MOST_FETCHED: usize = 1_048_577;
+/// How many bytes of a file a fetch gives at most: one more than a file may have, which tells that it has more.
+pub const MOST_FETCHED: usize = MOST_FILE_BYTES + 1;
 
 /// Why a fetch fails.
 #[derive(Clone, Copy, Debug, PartialEq, Eq)]
@@ -32,17 +33,17 @@ impl From<AllocError> for FetchFault {
 /// Files that are fetched by name.
 pub trait Inputs {
     // the files by their names and the calls that there were, where the contract knows them, and the faults
-    ghost seen: { Self → InputsView };
+    ghost view: { Self → InputsView };
 
     /// The first [`MOST_FETCHED`] bytes of the file of this name, or the whole file if it is shorter.
     ///
     /// It fails only where the count of faults rises in this call, or where the contract knows the files and
     /// none has this name.
     fn fetch(&mut self, alloc: Global, name: &str) -> Result<Vec<u8>, FetchFault>
-        ensures bytes { IfOk result (λ v. IsFetched (seen self.old).files name.now v.items) }
+        ensures bytes { IfOk result (λ v. IsFetched (view self.old).files name.now v.items) }
         ensures cause { IfErr result (λ e. e ≡ FetchFault.Failed →
-            HasRisen (seen self.old).faults (seen self.new).faults ⊎ Lacks (seen self.old).files name.now) }
-        ensures later { (seen self.old).faults ≤ (seen self.new).faults }
-        ensures same { (seen self.new).files ≡ (seen self.old).files }
-        ensures counted { IsCounted (seen self.old).calls (seen self.new).calls };
+            HasRisen (view self.old).faults (view self.new).faults ⊎ Lacks (view self.old).files name.now) }
+        ensures later { (view self.old).faults ≤ (view self.new).faults }
+        ensures same { (view self.new).files ≡ (view self.old).files }
+        ensures counted { IsCounted (view self.old).calls (view self.new).calls };
 }

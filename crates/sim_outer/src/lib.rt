@@ -1,7 +1,7 @@
 //! The outside: the words of the command line, inputs that are read by name, and sinks that take bytes.
 //!
 //! A program that is proved still meets files that are not there and pipes that break. What a file holds no
-//! clause can say; so a count of faults stands in its place. `Inputs` and `Sink` say what a caller may rely on:
+//! clause can say; so faults are counted in its place. `Inputs` and `Sink` say what a caller may rely on:
 //! a fetch that fails raised the count, or the file is known not to exist; a put that fails raised the count,
 //! and a prefix of the piece was taken. Calls are counted too, where the contract knows the count, so that a
 //! caller can promise how often it fetches and puts. A piece may be put in parts (`put_part`), which end with a
@@ -24,8 +24,8 @@
 //! let written = out.bytes();
 //! ```
 //!
-//! A fetch copies the file once, 1 MiB and a byte at most, which tells that there are more; a put takes no
-//! memory. `MemInputs` looks its files through one by one.
+//! A fetch copies the file once, at most `MOST_FETCHED` bytes: one more than a file may have tells that there are
+//! more. A put takes no memory. `MemInputs` looks its files through one by one.
 //!
 //! The types over real files and streams are the trusted edge, a few lines each; that they raise the count at
 //! each fault is proved. Here rests the promise that a status of the program has a cause: a file that was not

@@ -59,7 +59,7 @@ impl MemInputs {
 }
 
 impl Inputs for MemInputs {
-    ghost seen = { λ m. record { files = Some (files_by_name m.files); faults = m.faults; calls = Some m.calls } };
+    ghost view = { λ m. record { files = Some (files_by_name m.files); faults = m.faults; calls = Some m.calls } };
 
     fn fetch(&mut self, alloc: Global, name: &str) -> Result<Vec<u8>, FetchFault>
         ensures bytes { IfOk result (λ v. IsFetched (Some (files_by_name self.old.files)) name.now v.items) }

@@ -116,7 +116,7 @@ impl MemSink {
 }
 
 impl Sink for MemSink {
-    ghost seen = { λ s. record { bytes = Some s.taken; faults = s.faults; calls = Some s.calls } };
+    ghost view = { λ s. record { bytes = Some s.taken; faults = s.faults; calls = Some s.calls } };
 
     fn put(&mut self, piece: &[u8]) -> Result<(), PutFailed>
         ensures ok { OnOk result (IsAppended (Some self.old.taken) piece.now (Some self.new.taken)) }

@@ -8,7 +8,7 @@ use crate::sink::{PutFailed, Sink};
 pub struct NullSink;
 
 impl Sink for NullSink {
-    ghost seen = { λ _. record { bytes = None; faults = 0; calls = None } };
+    ghost view = { λ _. record { bytes = None; faults = 0; calls = None } };
 
     fn put(&mut self, _piece: &[u8]) -> Result<(), PutFailed>
         ensures takes { IsOk result }

@@ -36,7 +36,7 @@ impl<'a, R: Files> FileInputs<'a, R> {
 }
 
 impl<'a, R: Files> Inputs for FileInputs<'a, R> {
-    ghost seen = { λ s. record { files = None; faults = s; calls = None } };
+    ghost view = { λ s. record { files = None; faults = s; calls = None } };
 
     fn fetch(&mut self, alloc: Global, name: &str) -> Result<Vec<u8>, FetchFault> {
         let read = match fs::open(self.rt, name) {
@@ -75,7 +75,7 @@ impl<'a, R: Print> OutSink<'a, R> {
 }
 
 impl<'a, R: Print> Sink for OutSink<'a, R> {
-    ghost seen = { λ s. record { bytes = None; faults = s; calls = None } };
+    ghost view = { λ s. record { bytes = None; faults = s; calls = None } };
 
     fn put(&mut self, piece: &[u8]) -> Result<(), PutFailed> {
         let put = write_whole(&mut io::writer(self.rt), piece);
@@ -116,7 +116,7 @@ impl<'a, R: Eprint> ErrSink<'a, R> {
 }
 
 impl<'a, R: Eprint> Sink for ErrSink<'a, R> {
-    ghost seen = { λ s. record { bytes = None; faults = s; calls = None } };
+    ghost view = { λ s. record { bytes = None; faults = s; calls = None } };
 
     fn put(&mut self, piece: &[u8]) -> Result<(), PutFailed> {
         let put = write_whole(&mut ErrorWriter { rt: self.rt }, piece);

@@ -2,9 +2,9 @@
 use Rattle.std.proofs.Common.{◌≡◌, ◌≢◌, inl, inr, ℕ, suc, ◌+◌, ◌/◌, ◌%◌, ◌<◌, ◌≤◌, refl, sym, ap, ◌∙◌}
 use Rattle.std.proofs.Common.{subst, arith, List, [], ◌∷◌, length, get_or, set, replicate, Ordering, Less, Equal}
 use Rattle.std.proofs.Common.{Greater, nat_cmp, true, false, Option, Some, None, slice_get}
-use Rattle.std.specs.Cmp.{ranks}
+use Rattle.std.specs.Cmp.{nat_cmp_is}
 use Rattle.std.specs.List.{AllByRecursion}
-use Rattle.std.specs.Ordering.{MatchOrdering, ordering_then, is_lt}
+use Rattle.std.specs.Ordering.{ordering_then, is_lt}
 use Rattle.std.proofs.lemmas.Bool.{cases_eq, cases_lt}
 use Rattle.std.proofs.lemmas.List.{get_or-set_same, get_or-set_other, length-set, set-get_or, get_or_default}
 use Rattle.std.proofs.lemmas.List.{get_or-replicate, length-replicate}
@@ -18,26 +18,21 @@ use Rattle.sim_base.specs.declared.message.TheConstants.{WORD_TIMES, WORD_PLACES
 use Rattle.run_laws.proofs.Queue.{not_below_itself, less_if_greater}
 use Rattle.run_laws.specs.Queue.{In, insert, Sorted}
 use Rattle.run_laws.proofs.Queue.{all_in, all_from, sorted_insert, all_insert_all}
+use Rattle.run_laws.proofs.MessageOrder.{messages_ordered}
 use Rattle.trace_cursor.specs.Tournament.{IsLeast}
-use Rattle.trace_cursor.specs.Words.{no_word}
+use Rattle.trace_cursor.specs.declared.tree.TheConstants.{NO_WORD}
 use Rattle.solo_run.specs.EventLists.{EventListView, messages_of, all_messages, IsWordOf}
-use Rattle.solo_run.specs.EventLists.{HasFirst, IsFound, IsListOf, IsEventList}
-use Rattle.solo_run.proofs.Pairs.{messages_insert}
-use Rattle.solo_run.proofs.Merging.{MarkedMessages, messages_ordered, all_messages-in, all_messages-first}
+use Rattle.solo_run.specs.EventLists.{HasFirst, IsFound, IsListOf, AreStationLists, IsEventList}
+use Rattle.solo_run.proofs.Pairs.{messages_of-insert}
+use Rattle.solo_run.proofs.Merging.{MarkedMessages, all_messages-in, all_messages-first}
 use Rattle.solo_run.proofs.Merging.{all_messages-insert, all_messages-none}
 
 -- ---- key_word
 
--- of two numbers the lesser compares so
-less_is : (x y : ℕ) (r : Ordering) → MatchOrdering r (x < y) (x ≡ y) (y < x) → x < y → r ≡ Less
-less_is x y Less a l = refl
-less_is x y Equal a l = absurd (omega (arith, a, l))
-less_is x y Greater a l = absurd (omega (arith, a, l))
-
 -- messages of two lists are ordered as their words
-less_by_word : (p q : ℕ) (m z : Msg) → FitsWord m.key → FitsWord z.key → m.to ≡ suc p → z.to ≡ suc q
+msg_cmp-by_word : (p q : ℕ) (m z : Msg) → FitsWord m.key → FitsWord z.key → m.to ≡ suc p → z.to ≡ suc q
     → p < WORD_PLACES → q < WORD_PLACES → key_word p m.key < key_word q z.key → msg_cmp m z ≡ Less
-less_by_word p q m z a b am bz l k h =
+msg_cmp-by_word p q m z a b am bz l k h =
     let then : Ordering → Ordering =
     λ o. ordering_then o (ordering_then (nat_cmp m.to z.to) (payload_cmp m.payload z.payload)) in
     elim (words-ordered p q m.key z.key a b l k h) [
@@ -46,55 +41,57 @@ less_by_word p q m z a b am bz l k h =
           let ahead = d.1 in
           let below : m.to < z.to = omega (arith, ahead, am, bz) in
           ap then d.0 ∙ ap (λ o. ordering_then o (payload_cmp m.payload z.payload))
-          (less_is m.to z.to (nat_cmp m.to z.to) (ranks m.to z.to) below)
+          (sym (nat_cmp_is m.to z.to Less below))
     ]
 
 -- and by time first
-less_by_time : (m z : Msg) → m.key.time < z.key.time → msg_cmp m z ≡ Less
-less_by_time m z l = ap (λ o. ordering_then (ordering_then o (ordering_then (nat_cmp m.key.sender z.key.sender)
+msg_cmp-by_time : (m z : Msg) → m.key.time < z.key.time → msg_cmp m z ≡ Less
+msg_cmp-by_time m z l = ap (λ o. ordering_then (ordering_then o (ordering_then (nat_cmp m.key.sender z.key.sender)
     (nat_cmp m.key.number z.key.number))) (ordering_then (nat_cmp m.to z.to) (payload_cmp m.payload z.payload)))
-    (less_is m.key.time z.key.time (nat_cmp m.key.time z.key.time) (ranks m.key.time z.key.time) l)
+    (sym (nat_cmp_is m.key.time z.key.time Less l))
 
 -- ---- EventListView
 
 -- one view is another where their parts are
-pub view_is : (a b : List Msg) (m n : ℕ) → a ≡ b → m ≡ n → Path EventListView
+pub view-same : (a b : List Msg) (m n : ℕ) → a ≡ b → m ≡ n → Path EventListView
     (record { messages = a; stations = m }) (record { messages = b; stations = n })
-view_is a b m n p q = λ i. record { messages = p i; stations = q i }
+view-same a b m n p q = λ i. record { messages = p i; stations = q i }
 
 -- ---- Sorted
 
 -- what follows the head of a list in order comes after what comes before the head
-above : (m : Msg) (x : Msg × Unit {0}) (xs : MarkedMessages) (z : Msg) → Sorted msg_cmp (messages_of (x ∷ xs))
+sorted-after : (m : Msg) (x : Msg × Unit {0}) (xs : MarkedMessages) (z : Msg) → Sorted msg_cmp (messages_of (x ∷ xs))
     → msg_cmp m x.0 ≡ Less → In z (messages_of (x ∷ xs)) → msg_cmp m z ≡ Less
-above m x xs z s ahead (inl e) = subst (λ y. msg_cmp m y ≡ Less) (sym e) ahead
-above m x xs z s ahead (inr n) = messages_ordered.total.trans m x.0 z ahead
+sorted-after m x xs z s ahead (inl e) = subst (λ y. msg_cmp m y ≡ Less) (sym e) ahead
+sorted-after m x xs z s ahead (inr n) = messages_ordered.total.trans m x.0 z ahead
     (all_in (λ y. msg_cmp x.0 y ≡ Less) (messages_of xs) z s.0 n)
 
-not_earlier : (bound : ℕ) (x : Msg × Unit {0}) (xs : MarkedMessages) (z : Msg) → Sorted msg_cmp (messages_of (x ∷ xs))
-    → bound ≤ x.0.key.time → In z (messages_of (x ∷ xs)) → bound ≤ z.key.time
-not_earlier bound x xs z s late (inl e) = let same = ap (λ (y : Msg). y.key.time) e in omega (arith, late, same)
-not_earlier bound x xs z s late (inr n) =
+-- and where the head is not before a bound, nothing of the list is
+sorted-not_earlier : (bound : ℕ) (x : Msg × Unit {0}) (xs : MarkedMessages) (z : Msg)
+    → Sorted msg_cmp (messages_of (x ∷ xs)) → bound ≤ x.0.key.time → In z (messages_of (x ∷ xs)) → bound ≤ z.key.time
+sorted-not_earlier bound x xs z s late (inl e) = let same = ap (λ (y : Msg). y.key.time) e in omega (arith, late, same)
+sorted-not_earlier bound x xs z s late (inr n) =
     let later = msg-timed x.0 z (all_in (λ y. msg_cmp x.0 y ≡ Less) (messages_of xs) z s.0 n) in
     omega (arith, late, later)
 
 -- ---- IsEventList
 
 -- no message of any list
-pub nothing_is : (n : ℕ) (ls : List MarkedMessages) (words : List ℕ) → n ≤ WORD_PLACES → ls ≡ replicate n []
-    → words ≡ replicate n no_word → IsEventList ls words
-nothing_is n ls words few is words_is =
+pub is_event_list-nothing : (n : ℕ) (ls : List MarkedMessages) (words : List ℕ) → n ≤ WORD_PLACES → ls ≡ replicate n []
+    → words ≡ replicate n NO_WORD → IsEventList ls words
+is_event_list-nothing n ls words few is words_is =
     let long = ap length is ∙ length-replicate n [] in
     let empty : (i : ℕ) → i < length ls → get_or ls i [] ≡ [] =
     λ i there. ap (λ l. get_or l i []) is ∙ get_or-replicate n i [] [] (omega (arith, there, long)) in
     record {
       few = omega (arith, few, long);
-      count = ap length words_is ∙ (length-replicate n no_word ∙ sym long);
+      count = ap length words_is ∙ (length-replicate n NO_WORD ∙ sym long);
       lists_are = λ i there. subst (IsListOf i) (sym (empty i there)) (record { sorted = tt; own = tt });
       words_are = λ i there. subst (λ l. IsWordOf i l (get_or words i 0)) (sym (empty i there))
-          (ap (λ l. get_or l i 0) words_is ∙ get_or-replicate n i no_word 0 (omega (arith, there, long)));
+          (ap (λ l. get_or l i 0) words_is ∙ get_or-replicate n i NO_WORD 0 (omega (arith, there, long)));
     }
 
+-- and no message of all
 pub all_messages-nothing : (n : ℕ) (ls : List MarkedMessages) → ls ≡ replicate n [] → all_messages ls ≡ []
 all_messages-nothing n ls is =
     let long = ap length is ∙ length-replicate n [] in
@@ -103,8 +100,10 @@ all_messages-nothing n ls is =
 
 module _ (ls : List MarkedMessages) (words : List ℕ) (inv : IsEventList ls words) where
   module _ (i : ℕ) (there : i < length ls) (new : MarkedMessages) where
-    set_kept : IsListOf i new → (word : ℕ) → IsWordOf i new word → IsEventList (set ls i new) (set words i word)
-    set_kept is word word_is =
+    -- one of the lists is another, and its word that of the new one
+    is_event_list-set : IsListOf i new → (word : ℕ) → IsWordOf i new word
+        → IsEventList (set ls i new) (set words i word)
+    is_event_list-set is word word_is =
         let count = inv.count in
         let long = length-set ls i new in
         let long_words = length-set words i word in
@@ -129,49 +128,57 @@ module _ (ls : List MarkedMessages) (words : List ℕ) (inv : IsEventList ls wor
         }
 
     -- a list and its word change
-    pub changed : IsListOf i new → (here : MarkedMessages) → here ≡ get_or (set ls i new) i here
+    pub is_event_list-change : IsListOf i new → (here : MarkedMessages) → here ≡ get_or (set ls i new) i here
         → (word : ℕ) → IsWordOf i here word → (now : List ℕ) → now ≡ set words i word
         → IsEventList (set ls i new) now
-    changed is here at word word_is now now_is =
+    is_event_list-change is here at word word_is now now_is =
         let same = at ∙ get_or-set_same ls i new here there in
         subst (IsEventList (set ls i new)) (sym now_is)
-        (set_kept is word (subst (λ l. IsWordOf i l word) same word_is))
+        (is_event_list-set is word (subst (λ l. IsWordOf i l word) same word_is))
 
     module _ (old : MarkedMessages) (at : old ≡ get_or ls i old) where
+      -- the list that is read at the place
       here : get_or ls i [] ≡ old
       here = sym (at ∙ get_or_default ls i old [] there)
 
+      -- was its station's
       was : IsListOf i old
       was = subst (IsListOf i) here (inv.lists_are i there)
 
       -- nothing changes
-      pub unchanged : new ≡ old → set ls i new ≡ ls
-      unchanged same = ap (set ls i) (same ∙ at) ∙ set-get_or ls i old
+      pub set-unchanged : new ≡ old → set ls i new ≡ ls
+      set-unchanged same = ap (set ls i) (same ∙ at) ∙ set-get_or ls i old
 
       -- a message is inserted into its list
       module _ (join : Unit {0} → Unit {0} → Unit {0}) (m : Msg) (is : new ≡ insert_marked join msg_cmp m tt old) where
+        -- its messages are those before and the new one
         messages_are : messages_of new ≡ insert msg_cmp m (messages_of old)
-        messages_are = ap messages_of is ∙ messages_insert join m old
+        messages_are = ap messages_of is ∙ messages_of-insert join m old
 
-        pub inserted_is : m.to ≡ suc i → IsListOf i new
-        inserted_is to = record {
+        -- it is its station's still
+        pub is_list_of-insert : m.to ≡ suc i → IsListOf i new
+        is_list_of-insert to = record {
           sorted = subst (Sorted msg_cmp) (sym messages_are)
               (sorted_insert messages_ordered m (messages_of old) was.sorted);
           own = subst (AllByRecursion (λ z. z.to ≡ suc i)) (sym messages_are)
               (all_insert_all messages_ordered (λ (z : Msg). z.to ≡ suc i) (m ∷ []) (messages_of old) (to, tt) was.own);
         }
 
-        pub inserted : all_messages (set ls i new) ≡ insert msg_cmp m (all_messages ls)
-        inserted = all_messages-insert ls i new there m
+        -- and the message is inserted into the one list of all
+        pub all_messages-set_insert : all_messages (set ls i new) ≡ insert msg_cmp m (all_messages ls)
+        all_messages-set_insert = all_messages-insert ls i new there m
             (messages_are ∙ ap (λ l. insert msg_cmp m (messages_of l)) (sym here))
 
   module _ (w : ℕ) (h : IsLeast w words) (some : w ≢ 0) where
+    -- the least word is that of one of the lists
     low : h.place < length ls
     low = let count = inv.count in let there = h.there in omega (arith, count, there)
 
+    -- no list's word is less
     not_less : (j : ℕ) → j < length ls → w ≤ get_or words j 0
     not_less j below = let count = inv.count in h.least j (omega (arith, count, below))
 
+    -- no message of a list is before a bound that the least word is not before
     late_in : (bound j : ℕ) (l : MarkedMessages) (word : ℕ) (z : Msg) → bound < WORD_TIMES
         → bound ≤ w / WORDS_OF_TIME → j < WORD_PLACES → IsListOf j l → IsWordOf j l word → w ≤ word
         → In z (messages_of l)
@@ -187,7 +194,7 @@ module _ (ls : List MarkedMessages) (words : List ℕ) (inv : IsEventList ls wor
           | inr (inl e) ↦ let time = e.0 in omega (arith, soon, time)
           | inr (inr e) ↦ let none = e.2 in absurd (some (omega (arith, le, none)))
         ] in
-        not_earlier bound x xs z is.sorted begins i
+        sorted-not_earlier bound x xs z is.sorted begins i
 
     -- no message is before a bound that the least word is not before
     pub none_before : (bound : ℕ) → bound < WORD_TIMES → bound ≤ w / WORDS_OF_TIME
@@ -201,6 +208,7 @@ module _ (ls : List MarkedMessages) (words : List ℕ) (inv : IsEventList ls wor
 
     -- a word before a bound is that of the first message of all
     module _ (bound : ℕ) (soon : bound < WORD_TIMES) (early : w / WORDS_OF_TIME < bound) where
+      -- the first message of the list of the least word comes before what another list has
       before : (m : Msg) (p : ℕ) → FitsWord m.key → m.to ≡ suc p → p < WORD_PLACES → key_word p m.key ≡ w
           → (j : ℕ) (l : MarkedMessages) (word : ℕ) (z : Msg) → j ≢ p → j < WORD_PLACES → IsListOf j l
           → IsWordOf j l word → w ≤ word
@@ -208,13 +216,14 @@ module _ (ls : List MarkedMessages) (words : List ℕ) (inv : IsEventList ls wor
       before m p fits to low_p own j [] word z other few is word_is le i = absurd i
       before m p fits to low_p own j (x ∷ xs) word z other few is word_is le i =
           let ahead : msg_cmp m x.0 ≡ Less = elim word_is [
-            | inl e ↦ less_by_word p j m x.0 fits e.0 to is.own.0 low_p few
+            | inl e ↦ msg_cmp-by_word p j m x.0 fits e.0 to is.own.0 low_p few
                 (let theirs = e.1 in omega (arith, own, theirs, le, other, low_p, few))
-            | inr (inl e) ↦ less_by_time m x.0 (let late = e.0 in let time = fits.time in omega (arith, late, time))
+            | inr (inl e) ↦ msg_cmp-by_time m x.0 (let late = e.0 in let time = fits.time in omega (arith, late, time))
             | inr (inr e) ↦ let none = e.2 in absurd (some (omega (arith, le, none)))
           ] in
-          above m x xs z is.sorted ahead i
+          sorted-after m x xs z is.sorted ahead i
 
+      -- by the list of the least word
       has : (l : MarkedMessages) → get_or ls h.place [] ≡ l → IsListOf h.place l → IsWordOf h.place l w
           → HasFirst ls bound (w % WORD_PLACES)
       has [] is fit e = absurd (omega (arith, e, early, soon))
@@ -240,6 +249,7 @@ module _ (ls : List MarkedMessages) (words : List ℕ) (inv : IsEventList ls wor
         | inr (inr c) ↦ absurd (some c.2)
       ]
 
+      -- so its place is the word's
       pub has_first : HasFirst ls bound (w % WORD_PLACES)
       has_first = has (get_or ls h.place []) refl (inv.lists_are h.place low)
           (subst (IsWordOf h.place (get_or ls h.place [])) h.is (inv.words_are h.place low))
@@ -247,43 +257,53 @@ module _ (ls : List MarkedMessages) (words : List ℕ) (inv : IsEventList ls wor
   -- ---- HasFirst: the first message of all is taken out of its list
 
   module _ (bound i : ℕ) (f : HasFirst ls bound i) (old : MarkedMessages) (at : old ≡ get_or ls i old) where
+    -- the list that is read at the place
     list_is : get_or ls i [] ≡ old
     list_is = sym (at ∙ get_or_default ls i old [] f.there)
 
-    pub first_has : 0 < length old
-    first_has = let long = ap length (sym list_is ∙ f.is) in omega (arith, long)
+    -- has a message
+    pub has_first-some : 0 < length old
+    has_first-some = let long = ap length (sym list_is ∙ f.is) in omega (arith, long)
 
     module _ (m : Msg) (k : Unit {0}) (new : MarkedMessages) (taken : old ≡ (m, k) ∷ new) where
+      -- is its station's
       is_old : IsListOf i ((m, k) ∷ new)
       is_old = subst (IsListOf i) (list_is ∙ taken) (inv.lists_are i f.there)
 
-      pub taken_is : IsListOf i new
-      taken_is = record { sorted = is_old.sorted.1; own = is_old.own.1 }
+      -- and so is what is left of it
+      pub is_list_of-take : IsListOf i new
+      is_list_of-take = record { sorted = is_old.sorted.1; own = is_old.own.1 }
 
+      -- the message that was taken is the first of all
       message_is : f.message ≡ m
       message_is = ap (λ (l : MarkedMessages). (get_or l 0 (m, k)).0) (sym f.is ∙ (list_is ∙ taken))
 
-      pub taken_time : m.key.time < bound
-      taken_time = subst (λ (y : Msg). y.key.time < bound) message_is f.early
+      -- it is before the bound
+      pub take-time : m.key.time < bound
+      take-time = subst (λ (y : Msg). y.key.time < bound) message_is f.early
 
-      pub taken_first : all_messages ls ≡ m ∷ all_messages (set ls i new)
-      taken_first = all_messages-first ls i new f.there m (ap messages_of (list_is ∙ taken)) is_old.sorted
+      -- and what all have left is what is left of the one list
+      pub all_messages-take : all_messages ls ≡ m ∷ all_messages (set ls i new)
+      all_messages-take = all_messages-first ls i new f.there m (ap messages_of (list_is ∙ taken)) is_old.sorted
           (λ j z other below k. subst (λ y. msg_cmp y z ≡ Less) message_is (f.before j z other below k))
 
 -- ---- IsFound
 
-found_head : (l : MarkedMessages) (x : Msg × Unit {0}) → slice_get l 0 ≡ Some x → (xs : MarkedMessages) × (l ≡ x ∷ xs)
-found_head [] x e = absurd (cc)
-found_head (y ∷ ys) x e = (ys, cc)
+-- a list with a first message begins with it
+slice_get-head : (l : MarkedMessages) (x : Msg × Unit {0}) → slice_get l 0 ≡ Some x
+    → (xs : MarkedMessages) × (l ≡ x ∷ xs)
+slice_get-head [] x e = absurd (cc)
+slice_get-head (y ∷ ys) x e = (ys, cc)
 
 -- what is less, by the test
-pub less_if : (r : Ordering) → is_lt r ≡ true → r ≡ Less
-less_if Less e = refl
-less_if Equal e = absurd (cc)
-less_if Greater e = absurd (cc)
+pub is_lt-true : (r : Ordering) → is_lt r ≡ true → r ≡ Less
+is_lt-true Less e = refl
+is_lt-true Equal e = absurd (cc)
+is_lt-true Greater e = absurd (cc)
 
-pub unless_less : (r : Ordering) → is_lt r ≡ false → r ≢ Less
-unless_less r e is = let yes = ap is_lt is in cc
+-- and what is not less, by the test
+pub is_lt-false : (r : Ordering) → is_lt r ≡ false → r ≢ Less
+is_lt-false r e is = let yes = ap is_lt is in cc
 
 -- what was found, by its name
 pub found_is : (ls : List MarkedMessages) (n : ℕ) (found f : Option (ℕ × Msg)) → found ≡ f → IsFound ls n found
@@ -297,6 +317,7 @@ first_at ls n there l at r f is e = ap (λ k. slice_get k 0) (sym (at ∙ get_or
 
 -- one list more: what was found among the lists before stays, or the first message of the list is found
 module _ (ls : List MarkedMessages) (n : ℕ) where
+  -- a place among n + 1 other than n is one of the first n
   other : (j : ℕ) → j < n + 1 → j ≢ n → j < n
   other j below n = omega arith
 
@@ -308,6 +329,7 @@ module _ (ls : List MarkedMessages) (n : ℕ) where
     | inr apart ↦ h j (other j below apart)
   ]
     where
+      -- a list without a first message is empty
       empty : (l : MarkedMessages) → slice_get l 0 ≡ None → l ≡ []
       empty [] e = refl
       empty (x ∷ xs) e = absurd (cc)
@@ -321,11 +343,13 @@ module _ (ls : List MarkedMessages) (n : ℕ) where
   )
 
   module _ (x : Msg × Unit {0}) (e : slice_get (get_or ls n []) 0 ≡ Some x) where
+    -- the list at the place has this first message and no other
     is_it : (j : ℕ) (y : Msg × Unit {0}) → j ≡ n → slice_get (get_or ls j []) 0 ≡ Some y → y ≡ x
     is_it j y same is = let k = sym (subst (λ i. slice_get (get_or ls i []) 0 ≡ Some y) same is) ∙ e in cc
 
+    -- which does not come before itself
     not_itself : (j : ℕ) (y : Msg × Unit {0}) → j ≡ n → slice_get (get_or ls j []) 0 ≡ Some y → msg_cmp y.0 x.0 ≢ Less
-    not_itself j y same is less = not_below_itself messages_ordered x.0
+    not_itself j y same is less = not_below_itself messages_ordered.total x.0
         (subst (λ (z : Msg × Unit {0}). msg_cmp z.0 x.0 ≡ Less) (is_it j y same is) less)
 
     -- no list before has one
@@ -363,21 +387,24 @@ module _ (ls : List MarkedMessages) (n : ℕ) where
         ],
       )
 
-module _ (ls : List MarkedMessages) (bound : ℕ)
-    (lists_are : (i : ℕ) → i < length ls → IsListOf i (get_or ls i [])) where
+-- ---- HasFirst: by looking through
+
+module _ (ls : List MarkedMessages) (bound : ℕ) (lists_are : AreStationLists ls) where
   -- a message for another station that does not come first comes after
   ahead_of : (m z : Msg) → m.to ≢ z.to → msg_cmp z m ≢ Less → msg_cmp m z ≡ Less
   ahead_of m z other unless = by (msg_cmp m z) refl
     where
+      -- by how the two compare
       by : (r : Ordering) → msg_cmp m z ≡ r → r ≡ Less
       by Less e = refl
       by Equal e = absurd (other (ap (λ (y : Msg). y.to) (msg_same m z e)))
-      by Greater e = absurd (unless (less_if_greater messages_ordered m z e))
+      by Greater e = absurd (unless (less_if_greater messages_ordered.total m z e))
 
+  -- what is found is the first message of all, where it is before the bound
   pub found_is_first : (i : ℕ) (m : Msg) → IsFound ls (length ls) (Some (i, m)) → m.key.time < bound
       → HasFirst ls bound i
   found_is_first i m h early =
-      let head = found_head (get_or ls i []) (m, tt) h.1 in
+      let head = slice_get-head (get_or ls i []) (m, tt) h.1 in
       let mine : IsListOf i ((m, tt) ∷ head.0) = subst (IsListOf i) head.1 (lists_are i h.0) in
       record {
         there = h.0;
@@ -388,33 +415,38 @@ module _ (ls : List MarkedMessages) (bound : ℕ)
         before = λ j z other below k. after (get_or ls j []) j z mine.own.0 other below refl k;
       }
     where
+      -- what another list has comes after it
       after : (l : MarkedMessages) (j : ℕ) (z : Msg) → m.to ≡ suc i → j ≢ i → j < length ls → get_or ls j [] ≡ l
           → In z (messages_of l) → msg_cmp m z ≡ Less
       after [] j z to other below is k = absurd k
       after (x ∷ xs) j z to other below is k =
           let theirs : IsListOf j (x ∷ xs) = subst (IsListOf j) is (lists_are j below) in
           let it = theirs.own.0 in
-          above m x xs z theirs.sorted (ahead_of m x.0 (λ e. other (omega (arith, e, to, it)))
+          sorted-after m x xs z theirs.sorted (ahead_of m x.0 (λ e. other (omega (arith, e, to, it)))
           (h.2 j x below (ap (λ l. slice_get l 0) is))) k
 
+  -- where it is not, no message is before the bound
   pub found_late : (i : ℕ) (m : Msg) → IsFound ls (length ls) (Some (i, m)) → bound ≤ m.key.time
       → AllByRecursion (λ m. bound ≤ m.key.time) (all_messages ls)
   found_late i m h late = all_from (λ m. bound ≤ m.key.time) (all_messages ls) (λ z k.
       let f = all_messages-in ls z k in
       after (get_or ls f.0 []) f.0 z f.1 refl f.2)
     where
+      -- the first message of a list is not before the bound
       not_before : (x : Msg) → msg_cmp x m ≢ Less → bound ≤ x.key.time
       not_before x unless = elim (cases_lt x.key.time m.key.time) [
-        | inl l ↦ absurd (unless (less_by_time x m l))
+        | inl l ↦ absurd (unless (msg_cmp-by_time x m l))
         | inr l ↦ omega (arith, l, late)
       ]
 
+      -- nor is what follows it
       after : (l : MarkedMessages) (j : ℕ) (z : Msg) → j < length ls → get_or ls j [] ≡ l
           → In z (messages_of l) → bound ≤ z.key.time
       after [] j z below is k = absurd k
       after (x ∷ xs) j z below is k =
           let theirs : IsListOf j (x ∷ xs) = subst (IsListOf j) is (lists_are j below) in
-          not_earlier bound x xs z theirs.sorted (not_before x.0 (h.2 j x below (ap (λ l. slice_get l 0) is))) k
+          sorted-not_earlier bound x xs z theirs.sorted (not_before x.0 (h.2 j x below (ap (λ l. slice_get l 0) is))) k
 
+  -- and where nothing is found, there is no message
   pub found_none : IsFound ls (length ls) None → AllByRecursion (λ m. bound ≤ m.key.time) (all_messages ls)
   found_none none = subst (AllByRecursion (λ m. bound ≤ m.key.time)) (sym (all_messages-none ls none)) tt

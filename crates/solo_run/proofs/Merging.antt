@@ -5,25 +5,20 @@ use Rattle.std.proofs.lemmas.Bool.{cases_eq}
 use Rattle.std.proofs.lemmas.List.{get_or-set_same, get_or-set_other, length-set}
 use Rattle.sim_base.specs.Order.{msg_cmp}
 use Rattle.sim_base.specs.declared.message.Msg.{Msg}
-use Rattle.sim_base.proofs.OrderEqual.{msg_same}
-use Rattle.sim_base.proofs.OrderLaws.{msg_total}
-use Rattle.run_laws.specs.Handlers.{IsOrder}
 use Rattle.run_laws.specs.Queue.{In, insert, insert_all, Sorted}
 use Rattle.run_laws.proofs.Queue.{all_in, all_from, in_insert, insert_old, insert_new, sorted_insert, same_elements}
 use Rattle.run_laws.proofs.Queue.{in_insert_all, insert_all_old, insert_all_new, sorted_insert_all}
+use Rattle.run_laws.proofs.MessageOrder.{messages_ordered}
 use Rattle.solo_run.specs.EventLists.{messages_of, all_messages}
 
 -- the pending messages of a station
 abbrev pub MarkedMessages : Type 0
 MarkedMessages = List (Msg × Unit {0})
 
--- the order of messages tells any two apart
-pub messages_ordered : IsOrder msg_cmp
-messages_ordered = record { total = msg_total; same = msg_same }
+-- ---- all_messages
 
--- ---- merged
-
-pub sorted_merged : (ls : List MarkedMessages) → Sorted msg_cmp (all_messages ls)
+-- the one list is in order
+sorted_merged : (ls : List MarkedMessages) → Sorted msg_cmp (all_messages ls)
 sorted_merged [] = tt
 sorted_merged (l ∷ ls) = sorted_insert_all messages_ordered (messages_of l) (all_messages ls) (sorted_merged ls)
 
@@ -88,8 +83,8 @@ module _ (ls : List MarkedMessages) (i : ℕ) (new : MarkedMessages) (there : i 
   all_messages-insert m is =
       let o = messages_ordered in
       let old = messages_of (get_or ls i []) in
-      same_elements o (all_messages (set ls i new)) (insert msg_cmp m (all_messages ls)) (sorted_merged (set ls i new))
-      (sorted_insert o m (all_messages ls) (sorted_merged ls))
+      same_elements o.total (all_messages (set ls i new)) (insert msg_cmp m (all_messages ls))
+      (sorted_merged (set ls i new)) (sorted_insert o m (all_messages ls) (sorted_merged ls))
       (λ z k. elim (set-in z k) [
         | inl h ↦ elim (in_insert o m old z (subst (In z) is h)) [
           | inl e ↦ subst (λ y. In y (insert msg_cmp m (all_messages ls))) (sym e) (insert_new o m (all_messages ls))
@@ -113,7 +108,7 @@ module _ (ls : List MarkedMessages) (i : ℕ) (new : MarkedMessages) (there : i 
       ((j : ℕ) (z : Msg) → j ≢ i → j < length ls → In z (messages_of (get_or ls j [])) → msg_cmp m z ≡ Less)
       → all_messages ls ≡ m ∷ all_messages (set ls i new)
   all_messages-first m is sorted before =
-      same_elements messages_ordered (all_messages ls) (m ∷ all_messages (set ls i new)) (sorted_merged ls) (
+      same_elements messages_ordered.total (all_messages ls) (m ∷ all_messages (set ls i new)) (sorted_merged ls) (
         all_from (λ z. msg_cmp m z ≡ Less) (all_messages (set ls i new)) (λ z k. elim (set-in z k) [
           | inl h ↦ all_in (λ y. msg_cmp m y ≡ Less) (messages_of new) z sorted.0 h
           | inr h ↦ before h.0 z h.1 h.2 h.3

@@ -1,59 +1,52 @@
 -- What one turn of a one-thread run does.
-use Rattle.std.proofs.Common.{◌≡◌, inl, inr, ℕ, zero, suc, ◌+◌, ◌*◌, ◌-◌, ◌<◌, ◌≤◌, ◌^◌, cond, Bool, true, false, refl}
+use Rattle.std.proofs.Common.{◌≡◌, inl, inr, ℕ, zero, suc, ◌+◌, ◌*◌, ◌-◌, ◌<◌, ◌≤◌, refl}
 use Rattle.std.proofs.Common.{ap, sym, subst, ◌∙◌, List, [], ◌∷◌, ◌++◌, length, length-append, append-nil, Some, None}
 use Rattle.std.proofs.Common.{slice_get, slice_set, unwrap_or, nat_le, arith}
 use Rattle.std.proofs.Math.Nat.{suc-mul}
 use Rattle.std.proofs.Math.Path.{fun_ext}
 use Rattle.std.specs.List.{AllByRecursion, sum_by}
 use Rattle.std.proofs.lemmas.List.{length-set, append_assoc}
-use Rattle.std.proofs.lemmas.List.Sums.{sum_by-cons}
-use Rattle.std.proofs.lemmas.Bool.{cases_eq, cases_lt, le-leb, lt-leb}
-use Rattle.std.proofs.lemmas.Option.{slice_get_within}
+use Rattle.std.proofs.lemmas.List.Sums.{sum_by-cons, sum_by-set}
+use Rattle.std.proofs.lemmas.Bool.{cases_eq, cases_lt, cond-true, cond-false, le-leb, lt-leb}
+use Rattle.std.proofs.lemmas.Option.{get_or_from_slice_get, slice_get_within}
 use Rattle.sim_base.specs.Order.{msg_cmp}
 use Rattle.sim_base.specs.declared.message.Msg.{Msg}
 use Rattle.sim_base.specs.declared.entry.Entry.{Entry}
 use Rattle.sim_base.specs.declared.entry.Line.{Line}
 use Rattle.run_laws.specs.Queue.{insert_all, Sorted}
-use Rattle.run_laws.specs.Machine.{Config, after}
+use Rattle.run_laws.specs.Machine.{Config}
 use Rattle.run_laws.specs.Simulation.{Outcome}
 use Rattle.run_laws.specs.World.{World, put, log_of}
 use Rattle.run_laws.proofs.Queue.{sorted_insert_all, all_insert_all}
 use Rattle.run_laws.proofs.Worlds.{put_same, put_other, log_here, log_there}
+use Rattle.run_laws.proofs.Lists.{slice_get-set_same, slice_get-set_other}
 use Rattle.net_model.specs.Net.{Net}
 use Rattle.net_model.specs.Rules.{IsNet}
 use Rattle.stations.specs.Handling.{StateView, handle}
 use Rattle.stations.specs.Opening.{setup}
 use Rattle.stations.specs.Sends.{AreSends}
+use Rattle.stations.specs.declared.sender.TheConstants.{ALL_TIMES}
 use Rattle.stations.proofs.Lawful.{handles-well}
 use Rattle.stations.proofs.GoodLaws.{lawful-stations}
-use Rattle.solo_run.specs.EventLists.{IsForStation}
+use Rattle.solo_run.specs.EventLists.{IsForStation, EventListView}
 use Rattle.solo_run.specs.Limit.{receiver, first_beyond}
 use Rattle.solo_run.specs.SoloView.{SoloView, IsSolo, IsStateAfter}
-use Rattle.solo_run.specs.SoloView.{config_of, state_of, with_due}
-use Rattle.solo_run.specs.Turns.{HandlesAt, HasTurned, step_of}
+use Rattle.solo_run.specs.SoloView.{state_of, with_due}
+use Rattle.solo_run.specs.Turns.{HandlesAt, HasTurned}
 
-get_set_here : {X : Type 0} (xs : List X) (i : ℕ) (y : X) → i < length xs → slice_get (slice_set xs i y) i ≡ Some y
-get_set_here [] i y below = absurd (omega arith)
-get_set_here (x ∷ xs) zero y below = refl
-get_set_here (x ∷ xs) (suc i) y below = get_set_here xs i y (omega arith)
+-- ---- SoloView
 
-get_set_other : {X : Type 0} (xs : List X) (i j : ℕ) (y : X) → (j ≡ i → ⊥)
-    → slice_get (slice_set xs i y) j ≡ slice_get xs j
-get_set_other [] i j y other = refl
-get_set_other (x ∷ xs) zero zero y other = absurd (other refl)
-get_set_other (x ∷ xs) zero (suc j) y other = refl
-get_set_other (x ∷ xs) (suc i) zero y other = refl
-get_set_other (x ∷ xs) (suc i) (suc j) y other = get_set_other xs i j y (λ e. other (ap suc e))
+-- the view of a run with these parts
+abbrev pub solo_view : List StateView → List (Entry Msg Line) → EventListView → SoloView
+solo_view states trace pending = record { states = states; pending = pending.messages; trace = trace }
+
+-- ---- sum_by
 
 -- a sum with one element changed
-sum_set : {X : Type 0} (f : X → ℕ) (xs : List X) (i : ℕ) (x y : X) → slice_get xs i ≡ Some x
+sum_by-set_one : {X : Type 0} (f : X → ℕ) (xs : List X) (i : ℕ) (x y : X) → slice_get xs i ≡ Some x
     → sum_by f (slice_set xs i y) + f x ≡ sum_by f xs + f y
-sum_set f [] i x y is = absurd (cc)
-sum_set f (z ∷ xs) zero x y is =
-    let same : z ≡ x = cc in
-    omega (arith, sum_by-cons f y xs, sum_by-cons f z xs, ap f same)
-sum_set f (z ∷ xs) (suc i) x y is =
-    omega (arith, sum_by-cons f z (slice_set xs i y), sum_by-cons f z xs, sum_set f xs i x y is)
+sum_by-set_one f xs i x y is = subst (λ z. sum_by f (slice_set xs i y) + f z ≡ sum_by f xs + f y)
+    (get_or_from_slice_get xs i x x is) (sum_by-set f xs i y x (slice_get_within xs i x is))
 
 -- a sum of numbers that are at most n
 pub sum_most : {X : Type 0} (f : X → ℕ) (n : ℕ) (xs : List X) → ((i : ℕ) (x : X) → slice_get xs i ≡ Some x → f x ≤ n)
@@ -65,37 +58,34 @@ sum_most f n (x ∷ xs) most =
     let whole : length (x ∷ xs) * n ≡ length xs * n + n = suc-mul (length xs) n in
     omega (arith, sum_by-cons f x xs, first, rest, whole)
 
+-- ---- state_of
+
 -- the states of the numbers, where one changes
-state_put : (net : Net) (states : List StateView) (i : ℕ) (st : StateView) → i < length states → (s : ℕ)
+state_of-set : (net : Net) (states : List StateView) (i : ℕ) (st : StateView) → i < length states → (s : ℕ)
     → state_of net (slice_set states i st) s ≡ put (state_of net states) (suc i) st s
-state_put net states i st there zero =
+state_of-set net states i st there zero =
     sym (put_other (state_of net states) (suc i) st zero (λ e. absurd (omega (arith, e))))
-state_put net states i st there (suc j) = elim (cases_eq j i) [
+state_of-set net states i st there (suc j) = elim (cases_eq j i) [
   | inl e ↦ ap (λ o. unwrap_or o (setup net (suc j)).state) (ap (λ k. slice_get (slice_set states i st) k) e
-      ∙ get_set_here states i st there) ∙ sym (put_same (state_of net states) (suc i) st (suc j) (ap suc e))
-  | inr n ↦ ap (λ o. unwrap_or o (setup net (suc j)).state) (get_set_other states i j st n)
+      ∙ slice_get-set_same states i st there) ∙ sym (put_same (state_of net states) (suc i) st (suc j) (ap suc e))
+  | inr n ↦ ap (λ o. unwrap_or o (setup net (suc j)).state) (slice_get-set_other states j i st n)
       ∙ sym (put_other (state_of net states) (suc i) st (suc j) (λ e. n (omega (arith, e))))
 ]
 
-if_true : {A : Type 0} (b : Bool) (x y : A) → b ≡ true → cond b x y ≡ x
-if_true true x y is = refl
-if_true false x y is = absurd (cc)
-
-if_false : {A : Type 0} (b : Bool) (x y : A) → b ≡ false → cond b x y ≡ y
-if_false true x y is = absurd (cc)
-if_false false x y is = refl
+-- ---- first_beyond
 
 module _ (limit : ℕ) where
   -- an entry whose log is full before it
   pub beyond_here : (seen : List (Entry Msg Line)) (e : Entry Msg Line) (es : List (Entry Msg Line))
       → limit ≤ length (log_of receiver e.msg.to seen) → first_beyond limit seen (e ∷ es) ≡ Some e.msg.to
-  beyond_here seen e es full = if_true (nat_le limit (length (log_of receiver e.msg.to seen))) (Some e.msg.to)
+  beyond_here seen e es full = cond-true (nat_le limit (length (log_of receiver e.msg.to seen))) (Some e.msg.to)
       (first_beyond limit (seen ++ e ∷ []) es) (le-leb limit (length (log_of receiver e.msg.to seen)) full)
 
-  beyond_later : (seen : List (Entry Msg Line)) (e : Entry Msg Line) (es : List (Entry Msg Line))
+  -- an entry whose log is not full before it leaves it to those behind it
+  pub beyond_later : (seen : List (Entry Msg Line)) (e : Entry Msg Line) (es : List (Entry Msg Line))
       → length (log_of receiver e.msg.to seen) < limit
       → first_beyond limit seen (e ∷ es) ≡ first_beyond limit (seen ++ e ∷ []) es
-  beyond_later seen e es below = if_false (nat_le limit (length (log_of receiver e.msg.to seen))) (Some e.msg.to)
+  beyond_later seen e es below = cond-false (nat_le limit (length (log_of receiver e.msg.to seen))) (Some e.msg.to)
       (first_beyond limit (seen ++ e ∷ []) es) (lt-leb limit (length (log_of receiver e.msg.to seen)) below)
 
   -- where nothing went beyond the limit, it is for what follows to go beyond
@@ -110,52 +100,58 @@ module _ (limit : ℕ) where
   ]
 
   -- and one entry more does not go beyond it, where the log of its station is shorter than the limit
-  pub beyond_none : (seen : List (Entry Msg Line)) (e : Entry Msg Line) → first_beyond limit [] seen ≡ None
+  beyond_none : (seen : List (Entry Msg Line)) (e : Entry Msg Line) → first_beyond limit [] seen ≡ None
       → length (log_of receiver e.msg.to seen) < limit → first_beyond limit [] (seen ++ e ∷ []) ≡ None
   beyond_none seen e none below = beyond_append [] seen (e ∷ []) none ∙ beyond_later seen e [] below
+
+-- ---- a turn
 
 -- what a station sends is for stations
 sends_for : (net : Net) (now s k : ℕ) (ms : List Msg) → AreSends net now s k ms
     → AllByRecursion (IsForStation (length net.sites)) ms
 sends_for net now s k [] are = tt
 sends_for net now s k (m ∷ ms) are = (
-  record { first = are.0.first; last = are.0.last },
+  (are.0.first, are.0.last),
   sends_for net now s (suc k) ms are.1,
 )
 
 module _ (net : Net) (valid : IsNet net) (v : SoloView) (m : Msg) (new : List StateView)
     (next : List Msg) (sends : List Msg) (line : Line)
-    (early : m.key.time < 2 ^ 31)
+    (early : m.key.time < ALL_TIMES)
     (solo : IsSolo net (with_due m v))
     (h : HandlesAt net (m.to - 1) m v.states new sends line) where
   -- the entry that the turn adds to the trace
   abbrev pub e : Entry Msg Line
   e = record { msg = m; line = line }
 
+  -- the station of the message
   number : suc (m.to - 1) ≡ m.to
-  number = let low : 1 ≤ m.to = solo.targets.0.first in omega arith
+  number = let low : 1 ≤ m.to = solo.targets.0.0 in omega arith
 
+  -- its state before the turn
   old : IsStateAfter net v.trace (m.to - 1) h.before
   old = solo.states (m.to - 1) h.before h.is_there
 
+  -- is one of the states
   within : m.to - 1 < length v.states
   within = slice_get_within v.states (m.to - 1) h.before h.is_there
 
+  -- and has handled what the station's log has
   full_log : h.before.handled ≡ length (log_of receiver m.to v.trace)
-  full_log = old.log ∙ ap (λ k. length (log_of receiver k v.trace)) (let low : 1 ≤ m.to = solo.targets.0.first in
+  full_log = old.log ∙ ap (λ k. length (log_of receiver k v.trace)) (let low : 1 ≤ m.to = solo.targets.0.0 in
       omega arith)
 
-  config_is : next ≡ insert_all msg_cmp sends v.pending
-      → config_of net (record { states = new; pending = next; trace = v.trace ++ e ∷ [] }) ≡ after msg_cmp
-      (step_of net) (config_of net (with_due m v)).at m v.pending
-  config_is is =
+  -- the run has come to where the turn leads
+  pub has_turned : next ≡ insert_all msg_cmp sends v.pending
+      → HasTurned net v m (record { states = new; pending = next; trace = v.trace ++ e ∷ [] })
+  has_turned is =
       let at : state_of net v.states m.to ≡ h.before =
       subst (λ k. state_of net v.states k ≡ h.before) number
       (ap (λ o. unwrap_or o (setup net (suc (m.to - 1))).state) h.is_there) in
       let gives = ap (λ st. handle net st m) at ∙ h.gives in
       let one : state_of net new ≡ put (state_of net v.states) m.to h.after =
       subst (λ k. state_of net new ≡ put (state_of net v.states) k h.after) number
-      (ap (state_of net) h.new_states ∙ fun_ext (state_put net v.states (m.to - 1) h.after within)) in
+      (ap (state_of net) h.new_states ∙ fun_ext (state_of-set net v.states (m.to - 1) h.after within)) in
       let F : Outcome StateView Msg Line → Config (World StateView Msg Line) Msg =
       λ d. record {
         at = record {
@@ -175,18 +171,19 @@ module _ (net : Net) (valid : IsNet net) (v : SoloView) (m : Msg) (new : List St
       }) is
       ∙ sym (ap F gives)
 
+  -- the states after the turn
   states_after : (i : ℕ) (st : StateView) → slice_get new i ≡ Some st → IsStateAfter net (v.trace ++ e ∷ []) i st
   states_after i st is = elim (cases_eq i (m.to - 1)) [
     | inl here ↦
         let at : slice_get new (m.to - 1) ≡ Some h.after = ap (λ t. slice_get t (m.to - 1)) h.new_states
-        ∙ get_set_here v.states (m.to - 1) h.after within in
+        ∙ slice_get-set_same v.states (m.to - 1) h.after within in
         let same : st ≡ h.after = let k = sym is ∙ (ap (slice_get new) here ∙ at) in cc in
         let well = handles-well net h.before m valid old.fits old.suits early in
         let state = ap (λ d. d.state) h.gives in
         let station : h.after.sender.station ≡ h.before.sender.station = ap (λ d. d.sender.station) (sym state)
         ∙ well.station in
         let handled : h.after.handled ≡ h.before.handled + 1 = ap (λ d. d.handled) (sym state) ∙ well.handled in
-        let place : m.to ≡ i + 1 = let low : 1 ≤ m.to = solo.targets.0.first in omega (arith, here) in
+        let place : m.to ≡ i + 1 = let low : 1 ≤ m.to = solo.targets.0.0 in omega (arith, here) in
         let log = ap (λ t. length t) (log_here receiver (i + 1) v.trace e place) in
         let more = length-append (log_of receiver (i + 1) v.trace) (e ∷ []) in
         let count = full_log ∙ ap (λ k. length (log_of receiver k v.trace)) place in
@@ -201,7 +198,7 @@ module _ (net : Net) (valid : IsNet net) (v : SoloView) (m : Msg) (new : List St
         }
     | inr other ↦
         let at : slice_get v.states i ≡ Some st =
-        sym (ap (λ t. slice_get t i) h.new_states ∙ get_set_other v.states (m.to - 1) i h.after other) ∙ is in
+        sym (ap (λ t. slice_get t i) h.new_states ∙ slice_get-set_other v.states i (m.to - 1) h.after other) ∙ is in
         let was = solo.states i st at in
         record {
           fits = was.fits;
@@ -210,7 +207,7 @@ module _ (net : Net) (valid : IsNet net) (v : SoloView) (m : Msg) (new : List St
           within = was.within;
           log = was.log ∙ ap (λ t. length t)
               (sym (log_there receiver (i + 1) v.trace e
-              (λ k. other (let low : 1 ≤ m.to = solo.targets.0.first in omega (arith, k)))));
+              (λ k. other (let low : 1 ≤ m.to = solo.targets.0.0 in omega (arith, k)))));
         }
   ]
 
@@ -228,14 +225,14 @@ module _ (net : Net) (valid : IsNet net) (v : SoloView) (m : Msg) (new : List St
       subst (λ n. AllByRecursion (IsForStation n) sends) (sym (is ∙ solo.count)) sends_for_stations
 
   -- after the turn it is a run of the network still, with no log beyond the limit
-  pub solo_is : next ≡ insert_all msg_cmp sends v.pending
+  pub is_solo : next ≡ insert_all msg_cmp sends v.pending
       → IsSolo net (record { states = new; pending = next; trace = v.trace ++ e ∷ [] })
-  solo_is is =
+  is_solo is =
       let order = (lawful-stations net valid).order.order in
       let well = handles-well net h.before m valid old.fits old.suits early in
       let state = ap (λ d. d.state) h.gives in
       let handled : h.after.handled ≡ h.before.handled + 1 = ap (λ d. d.handled) (sym state) ∙ well.handled in
-      let sum = sum_set (λ st. st.handled) v.states (m.to - 1) h.before h.after h.is_there in
+      let sum = sum_by-set_one (λ st. st.handled) v.states (m.to - 1) h.before h.after h.is_there in
       let new_sum = ap (sum_by (λ st. st.handled)) h.new_states in
       let longer = length-append v.trace (e ∷ []) in
       let total = solo.total in
@@ -249,8 +246,3 @@ module _ (net : Net) (valid : IsNet net) (v : SoloView) (m : Msg) (new : List St
         total = omega (arith, handled, sum, new_sum, longer, total);
         below = beyond_none net.limit v.trace e solo.below (let below = h.below in omega (arith, full_log, below));
       }
-
-  -- and it has come to where the turn leads
-  pub turned : next ≡ insert_all msg_cmp sends v.pending
-      → HasTurned net v m (record { states = new; pending = next; trace = v.trace ++ e ∷ [] })
-  turned is = config_is is

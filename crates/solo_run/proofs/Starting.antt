@@ -1,6 +1,6 @@
 -- A run begins as its definition says.
-use Rattle.std.proofs.Common.{◌≡◌, ◌⊎◌, inl, inr, ℕ, zero, suc, ◌+◌, refl, ap, sym, subst, ◌∙◌, List, [], ◌∷◌, ◌++◌}
-use Rattle.std.proofs.Common.{length, length-append, Option, Some, None, slice_get, unwrap_or, arith}
+use Rattle.std.proofs.Common.{◌≡◌, inl, inr, ℕ, zero, suc, ◌+◌, refl, ap, sym, subst, ◌∙◌, List, [], ◌∷◌, ◌++◌}
+use Rattle.std.proofs.Common.{length, length-append, Option, Some, None, unwrap_or, arith}
 use Rattle.std.proofs.Math.Path.{fun_ext}
 use Rattle.std.specs.List.{AllByRecursion}
 use Rattle.std.proofs.lemmas.Option.{slice_get_cases}
@@ -13,6 +13,7 @@ use Rattle.run_laws.specs.World.{openings, set_messages, and_first}
 use Rattle.run_laws.specs.Handlers.{AreForStations}
 use Rattle.run_laws.proofs.Queue.{all_from, sorted_insert_all, insert_all-push}
 use Rattle.run_laws.proofs.ForStations.{pending_for_stations}
+use Rattle.run_laws.proofs.Lists.{slice_get-push}
 use Rattle.net_model.specs.Net.{Net}
 use Rattle.net_model.specs.Rules.{IsNet}
 use Rattle.stations.specs.Fits.{FitsState, SuitsNet}
@@ -25,25 +26,17 @@ use Rattle.solo_run.specs.EventLists.{IsForStation}
 use Rattle.solo_run.specs.SoloView.{IsSolo, config_of, state_of}
 use Rattle.solo_run.proofs.OneTurn.{sum_most}
 
-get_push : {X : Type 0} (xs : List X) (y : X) (i : ℕ) (x : X) → slice_get (xs ++ y ∷ []) i ≡ Some x
-    → (slice_get xs i ≡ Some x) ⊎ ((i ≡ length xs) × (x ≡ y))
-get_push [] y zero x is = inr (refl, cc)
-get_push [] y (suc i) x is = absurd (cc)
-get_push (z ∷ xs) y zero x is = inl is
-get_push (z ∷ xs) y (suc i) x is = elim (get_push xs y i x is) [
-  | inl h ↦ inl h
-  | inr h ↦ inr (ap suc h.0, h.1)
-]
+-- ---- AreOpeningStates
 
 -- one station more is open
-pub opened_more : (net : Net) (n : ℕ) (states : List StateView) (st : StateView) → AreOpeningStates net n states
+pub opening_states-push : (net : Net) (n : ℕ) (states : List StateView) (st : StateView) → AreOpeningStates net n states
     → (setup net (n + 1)).state ≡ st → FitsState st → SuitsNet net st → AreOpeningStates net (n + 1) (states ++ st ∷ [])
-opened_more net n states st before is fits suits =
+opening_states-push net n states st before is fits suits =
     let longer = length-append states (st ∷ []) in
     let count = before.count in
     record {
       count = omega (arith, longer, count);
-      each = λ i x at. elim (get_push states st i x at) [
+      each = λ i x at. elim (slice_get-push states st x i at) [
         | inl old ↦ before.each i x old
         | inr new ↦ rw new.1 record {
           is = sym is ∙ ap (λ k. (setup net (k + 1)).state) (sym (new.0 ∙ count));
@@ -53,6 +46,7 @@ opened_more net n states st before is fits suits =
       ];
     }
 
+-- what a station sends first is put among what is pending as if it were one of the openings before
 put_after : (net : Net) (ms q : List Msg) (o : Option Msg) → insert_all msg_cmp (and_first (simulation net) ms o) q
     ≡ and_put o (insert_all msg_cmp ms q)
 put_after net ms q None = refl
@@ -70,14 +64,17 @@ first_more net n q p first is sends =
     (sym sends ∙ ap (λ k. (setup net k).first) (sym number))
     ∙ ap (λ k. insert_all msg_cmp (openings (simulation net) k) q) number))
 
-insert_both : (xs ys q : List Msg) → insert_all msg_cmp (xs ++ ys) q ≡ insert_all msg_cmp ys (insert_all msg_cmp xs q)
-insert_both [] ys q = refl
-insert_both (x ∷ xs) ys q = insert_both xs ys (insert msg_cmp x q)
+-- messages of two lists are inserted one list after the other
+insert_all-append : (xs ys q : List Msg)
+    → insert_all msg_cmp (xs ++ ys) q ≡ insert_all msg_cmp ys (insert_all msg_cmp xs q)
+insert_all-append [] ys q = refl
+insert_all-append (x ∷ xs) ys q = insert_all-append xs ys (insert msg_cmp x q)
 
-opening_at : (net : Net) (states : List StateView) → AreOpeningStates net (length net.sites) states → (s : ℕ)
+-- each number has its opening state
+state_of-opening : (net : Net) (states : List StateView) → AreOpeningStates net (length net.sites) states → (s : ℕ)
     → state_of net states s ≡ (setup net s).state
-opening_at net states opened zero = refl
-opening_at net states opened (suc i) = elim (slice_get_cases states i).1 [
+state_of-opening net states opened zero = refl
+state_of-opening net states opened (suc i) = elim (slice_get_cases states i).1 [
   | inl found ↦
       let number : i + 1 ≡ suc i = omega arith in
       ap (λ o. unwrap_or o (setup net (suc i)).state) found.2
@@ -90,15 +87,17 @@ module _ (net : Net) (valid : IsNet net) (list : List Planned) (states : List St
     (opened : AreOpeningStates net (length net.sites) states)
     (first : firsts ≡ insert_all msg_cmp (openings (simulation net) (length net.sites)) [])
     (then_all : p ≡ insert_all msg_cmp (set_messages (simulation net) 0 list) firsts) where
+  -- what is pending is the openings and the decisions
   pending_is : p ≡ (start_of net list).pending
   pending_is = then_all ∙ (ap (insert_all msg_cmp (set_messages (simulation net) 0 list)) first
-      ∙ sym (insert_both (openings (simulation net) (length net.sites)) (set_messages (simulation net) 0 list) []))
+      ∙ sym (insert_all-append (openings (simulation net) (length net.sites)) (set_messages (simulation net) 0 list)
+      []))
 
-  -- with the opening states and these messages, the run stands where the world of the clone begins
+  -- with the opening states and these messages, the run is where the world of the clone begins
   pub begins : config_of net (record { states = states; pending = p; trace = [] }) ≡ start_of net list
   begins =
       ap (λ f. record { at = record { states = f; trace = [] }; pending = p })
-      (fun_ext (opening_at net states opened))
+      (fun_ext (state_of-opening net states opened))
       ∙ ap (λ q. record { at = record { states = λ s. (setup net s).state; trace = [] }; pending = q }) pending_is
 
   -- and where the decisions are for stations, it is a run of the network with no log beyond the limit
@@ -129,8 +128,7 @@ module _ (net : Net) (valid : IsNet net) (list : List Planned) (states : List St
             (openings (simulation net) (length net.sites) ++ set_messages (simulation net) 0 list) [] tt);
         targets = subst (AllByRecursion (IsForStation (length net.sites))) (sym pending_is)
             (all_from (IsForStation (length net.sites)) (start_of net list).pending
-            (λ z i. let h = pending_for_stations law (stations-to_stations net valid) list 0 there z i in
-            record { first = h.0; last = h.1 }));
+            (λ z i. pending_for_stations law (stations-to_stations net valid) list 0 there z i));
         total = omega (arith, none);
         below = refl;
       }

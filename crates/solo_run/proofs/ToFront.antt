@@ -8,10 +8,10 @@ use Rattle.sim_base.specs.Order.{msg_cmp}
 use Rattle.sim_base.specs.declared.message.Msg.{Msg}
 use Rattle.sim_base.specs.declared.entry.Entry.{Entry}
 use Rattle.sim_base.specs.declared.entry.Line.{Line}
-use Rattle.run_laws.specs.Machine.{Config, Next, Reach, stay, go, Done, after, run_to}
+use Rattle.run_laws.specs.Machine.{Config, Next, Reach, stay, go, IsSettled, after, run_to}
 use Rattle.run_laws.specs.World.{World, log_of}
-use Rattle.run_laws.specs.Handlers.{AllGood}
-use Rattle.run_laws.proofs.Machine.{reach_trans, reach_first, done_no_next}
+use Rattle.run_laws.specs.Handlers.{AllGood, IsStationOf}
+use Rattle.run_laws.proofs.Machine.{reach_trans, reach_first, is_settled-no_next}
 use Rattle.run_laws.proofs.Running.{Fine, all_from_zero, run_reach, run_is, fine_reach}
 use Rattle.run_laws.proofs.Worlds.{world_lawful}
 use Rattle.net_model.specs.Net.{Net, site_of}
@@ -25,23 +25,28 @@ use Rattle.stations.proofs.Lawful.{site_is}
 use Rattle.stations.proofs.GoodLaws.{lawful-stations}
 use Rattle.solo_run.specs.Limit.{receiver, first_beyond}
 use Rattle.solo_run.specs.SoloView.{SoloView, IsSolo, IsStateAfter, config_of, state_of, with_due}
-use Rattle.solo_run.specs.Turns.{GoesBeyond, IsFull, Stops, StopsAt, HasTurned, run_from, step_of}
+use Rattle.solo_run.specs.Turns.{GoesBeyond, IsFull, Stops, StopsAt, HasTurned, run_from, step_of, IsReached}
 use Rattle.solo_run.specs.declared.turn.SoloFault.{SoloFault}
 use Rattle.solo_run.specs.declared.turn.SoloFault.TheVariants.{NoMemory, Limit}
 use Rattle.solo_run.proofs.OneTurn.{beyond_append, beyond_here, sum_most}
 
+-- ---- Reach
+
 -- each turn appends to the trace
-grows : (net : Net) (bound : ℕ) {c d : Config (World StateView Msg Line) Msg}
+trace-grows : (net : Net) (bound : ℕ) {c d : Config (World StateView Msg Line) Msg}
     → Reach msg_cmp (λ m. m.key.time) (step_of net) bound c d → (rest : List (Entry Msg Line))
     × (d.at.trace ≡ c.at.trace ++ rest)
-grows net bound {c} stay = ([], sym (append-nil c.at.trace))
-grows net bound {c} {d} (go {d = b} r n) =
-    let h = grows net bound r in
+trace-grows net bound {c} stay = ([], sym (append-nil c.at.trace))
+trace-grows net bound {c} {d} (go {d = b} r n) =
+    let h = trace-grows net bound r in
     let e : Entry Msg Line = record { msg = n.m; line = (handle net (b.at.states n.m.to) n.m).line } in
     let one : d.at.trace ≡ b.at.trace ++ e ∷ [] = ap (λ k. k.at.trace) n.is in
     (h.0 ++ e ∷ [], one ∙ (ap (λ t. t ++ e ∷ []) h.1 ∙ append_assoc c.at.trace h.0 (e ∷ [])))
 
+-- ---- IsSolo
+
 module _ (net : Net) (valid : IsNet net) where
+  -- the state of a station is good
   good_station : (trace : List (Entry Msg Line)) (i : ℕ) (st : StateView) → IsStateAfter net trace i st
       → IsGood net (suc i) st
   good_station trace i st is =
@@ -55,6 +60,7 @@ module _ (net : Net) (valid : IsNet net) where
         fits = good_kind st.handled st.kind is.fits.kind;
       }
 
+  -- and so are those of all numbers
   good_states : (v : SoloView) → IsSolo net v → (s : ℕ) → IsGood net s (state_of net v.states s)
   good_states v solo zero = (lawful-stations net valid).opens zero
   good_states v solo (suc i) = elim (slice_get_cases v.states i).1 [
@@ -64,6 +70,7 @@ module _ (net : Net) (valid : IsNet net) where
         ((lawful-stations net valid).opens (suc i))
   ]
 
+  -- so the world of a run is fine
   fine_solo : (v : SoloView) → IsSolo net v → Fine msg_cmp (λ m. m.key.time) (AllGood (IsGood net)) 0 (config_of net v)
   fine_solo v solo = record {
     good = good_states v solo;
@@ -72,16 +79,17 @@ module _ (net : Net) (valid : IsNet net) where
   }
 
   -- no more is handled than the stations may handle
-  pub short : (v : SoloView) → IsSolo net v → length v.trace ≤ length net.sites * net.limit
-  short v solo =
+  pub trace-short : (v : SoloView) → IsSolo net v → length v.trace ≤ length net.sites * net.limit
+  trace-short v solo =
       let most = sum_most (λ st. st.handled) net.limit v.states (λ i st is. (solo.states i st is).within) in
       let count : length v.states * net.limit ≡ length net.sites * net.limit = ap (λ n. n * net.limit) solo.count in
       let total = solo.total in
       omega (arith, most, count, total)
 
+  -- ---- run_from, GoesBeyond, Stops
+
   -- turns before the front that leave nothing pending before it have come to the run
-  pub run_ends : (front : ℕ) (v w : SoloView) → IsSolo net v → IsSolo net w
-      → Reach msg_cmp (λ m. m.key.time) (step_of net) front (config_of net v) (config_of net w)
+  pub run_ends : (front : ℕ) (v w : SoloView) → IsSolo net v → IsSolo net w → IsReached net front v w
       → AllByRecursion (λ m. front ≤ m.key.time) w.pending → config_of net w ≡ run_from net v front
   run_ends front v w from to ran none =
       let law = lawful-stations net valid in
@@ -95,9 +103,8 @@ module _ (net : Net) (valid : IsNet net) where
   next_turn front w m new early t = record { m = m; q = w.pending; pending = refl; early = early; is = t }
 
   -- the least message is before the front, and its station has handled as many as it may
-  pub goes_beyond : (front : ℕ) (v w : SoloView) (m : Msg) (at_start at_end now station kept : ℕ)
-      → IsSolo net v → IsSolo net (with_due m w)
-      → Reach msg_cmp (λ m. m.key.time) (step_of net) front (config_of net v) (config_of net (with_due m w))
+  goes_beyond : (front : ℕ) (v w : SoloView) (m : Msg) (at_start at_end now station kept : ℕ)
+      → IsSolo net v → IsSolo net (with_due m w) → IsReached net front v (with_due m w)
       → m.key.time < front → IsFull net (m.to - 1) w.states now at_end station kept
       → now + length v.trace ≡ at_start + length w.trace
       → GoesBeyond net v front at_start at_end station kept
@@ -113,15 +120,15 @@ module _ (net : Net) (valid : IsNet net) where
       let next : Next msg_cmp (λ m. m.key.time) (step_of net) front c step =
       record { m = m; q = w.pending; pending = refl; early = early; is = refl } in
       let later : Reach msg_cmp (λ m. m.key.time) (step_of net) front step last = elim (reach_first on.0 next) [
-        | inl e ↦ absurd (done_no_next c step (subst (Done (λ m. m.key.time) front) e on.1.from_t) next)
+        | inl e ↦ absurd (is_settled-no_next c step (subst (IsSettled (λ m. m.key.time) front) e on.1.from_t) next)
         | inr r ↦ r
       ] in
       let e : Entry Msg Line = record { msg = m; line = (handle net (state_of net w.states m.to) m).line } in
-      let more = grows net front later in
+      let more = trace-grows net front later in
       let whole : (run_from net v front).at.trace ≡ w.trace ++ e ∷ more.0 = ap (λ k. k.at.trace) (sym same)
       ∙ (more.1 ∙ append_assoc w.trace (e ∷ []) more.0) in
       let old = here.states (m.to - 1) full.state full.is_there in
-      let low : 1 ≤ m.to = here.targets.0.first in
+      let low : 1 ≤ m.to = here.targets.0.0 in
       let place : m.to - 1 + 1 ≡ m.to = omega arith in
       let log = old.log ∙ ap (λ k. length (log_of receiver k w.trace)) place in
       let has = full.full in
@@ -138,17 +145,15 @@ module _ (net : Net) (valid : IsNet net) where
         before = here.below;
         first = ap (first_beyond net.limit []) whole ∙ (is ∙ ap Some (sym number));
         is_for = number;
-        first_station = omega (arith, low, number);
-        last_station = let high = here.targets.0.last in omega (arith, high, number);
+        is_station = subst (IsStationOf (length net.sites)) (sym number) here.targets.0;
         keeps = full.keeps;
         steps = omega (arith, unmoved, count);
-        bounded = short (with_due m w) here;
+        bounded = trace-short (with_due m w) here;
       }
 
   -- why the turns stop
   pub stops : (front : ℕ) (v w : SoloView) (m : Msg) (at_start at_end now : ℕ) (fault : SoloFault)
-      → IsSolo net v → IsSolo net (with_due m w)
-      → Reach msg_cmp (λ m. m.key.time) (step_of net) front (config_of net v) (config_of net (with_due m w))
+      → IsSolo net v → IsSolo net (with_due m w) → IsReached net front v (with_due m w)
       → m.key.time < front → StopsAt net (m.to - 1) w.states now at_end fault
       → now + length v.trace ≡ at_start + length w.trace
       → Stops net v front at_start at_end fault

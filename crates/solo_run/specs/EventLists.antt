@@ -8,8 +8,9 @@ use Rattle.sim_base.specs.Order.{msg_cmp}
 use Rattle.sim_base.specs.declared.message.Key.{Key}
 use Rattle.sim_base.specs.declared.message.Msg.{Msg}
 use Rattle.sim_base.specs.declared.message.TheConstants.{WORD_TIMES, WORD_PLACES}
+use Rattle.run_laws.specs.Handlers.{IsStationOf}
 use Rattle.run_laws.specs.Queue.{In, insert_all, Sorted}
-use Rattle.trace_cursor.specs.Words.{no_word}
+use Rattle.trace_cursor.specs.declared.tree.TheConstants.{NO_WORD}
 
 -- what contracts see of them: all messages in their order, and for how many stations
 pub record EventListView : Type 0 where
@@ -17,9 +18,8 @@ pub record EventListView : Type 0 where
   pub stations : ℕ
 
 -- a message is for one of so many stations
-pub record IsForStation (stations : ℕ) (m : Msg) : Type 0 where
-  pub first : 1 ≤ m.to
-  pub last : m.to ≤ stations
+abbrev pub IsForStation : ℕ → Msg → Type 0
+IsForStation stations m = IsStationOf stations m.to
 
 -- messages without their marks, of which a run of one clone has none
 abbrev pub messages_of : List (Msg × Unit {0}) → List Msg
@@ -34,11 +34,11 @@ all_messages (l ∷ ls) = insert_all msg_cmp (messages_of l) (all_messages ls)
 -- are to be looked through
 abbrev pub IsWordOfKey : ℕ → Key → ℕ → Type 0
 IsWordOfKey place k word = (FitsWord k × (word ≡ key_word place k))
-    ⊎ (((WORD_TIMES ≤ k.time) × (word ≡ no_word)) ⊎ (¬ (FitsWord k) × (k.time < WORD_TIMES) × (word ≡ 0)))
+    ⊎ (((WORD_TIMES ≤ k.time) × (word ≡ NO_WORD)) ⊎ (¬ (FitsWord k) × (k.time < WORD_TIMES) × (word ≡ 0)))
 
 -- a list's word: that of its first key, and no word where it is empty
 abbrev pub IsWordOf : ℕ → List (Msg × Unit {0}) → ℕ → Type 0
-IsWordOf place [] word = word ≡ no_word
+IsWordOf place [] word = word ≡ NO_WORD
 IsWordOf place (x ∷ xs) word = IsWordOfKey place x.0.key word
 
 -- the list at place i is in order, and for the station of number i + 1
@@ -46,11 +46,15 @@ pub record IsListOf (i : ℕ) (list : List (Msg × Unit {0})) : Type 0 where
   pub sorted : Sorted msg_cmp (messages_of list)
   pub own : AllByRecursion (λ m. m.to ≡ suc i) (messages_of list)
 
--- each list is its station's, and each word that of its list
+-- each list is its station's
+abbrev pub AreStationLists : List (List (Msg × Unit {0})) → Type 0
+AreStationLists lists = (i : ℕ) → i < length lists → IsListOf i (get_or lists i [])
+
+-- and each word that of its list
 pub record IsEventList (lists : List (List (Msg × Unit {0}))) (words : List ℕ) : Type 0 where
   pub few : length lists ≤ WORD_PLACES
   pub count : length words ≡ length lists
-  pub lists_are : (i : ℕ) → i < length lists → IsListOf i (get_or lists i [])
+  pub lists_are : AreStationLists lists
   pub words_are : (i : ℕ) → i < length lists → IsWordOf i (get_or lists i []) (get_or words i 0)
 
 -- the list at place i has the first message of all, and it is before the bound

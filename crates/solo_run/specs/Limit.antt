@@ -13,5 +13,5 @@ receiver m = m.to
 abbrev pub first_beyond : ℕ → List (Entry Msg Line) → List (Entry Msg Line) → Option ℕ
 first_beyond limit seen [] = None
 first_beyond limit seen (e ∷ es) =
-    if nat_le limit (length (log_of receiver e.msg.to seen)) then Some e.msg.to else first_beyond limit
-    (seen ++ e ∷ []) es
+    if nat_le limit (length (log_of receiver e.msg.to seen)) then Some e.msg.to
+    else first_beyond limit (seen ++ e ∷ []) es

@@ -31,7 +31,7 @@ abbrev pub state_of : Net → List StateView → ℕ → StateView
 state_of net states zero = (setup net zero).state
 state_of net states (suc i) = unwrap_or (slice_get states i) (setup net (suc i)).state
 
--- the world of a clone in which the run stands
+-- the world that the run of a clone has come to
 abbrev pub config_of : Net → SoloView → Config (World StateView Msg Line) Msg
 config_of net v = record {
   at = record { states = state_of net v.states; trace = v.trace };

@@ -4,9 +4,10 @@ use Rattle.sim_base.specs.Order.{msg_cmp}
 use Rattle.sim_base.specs.declared.message.Msg.{Msg}
 use Rattle.sim_base.specs.declared.entry.Entry.{Entry}
 use Rattle.sim_base.specs.declared.entry.Line.{Line}
-use Rattle.run_laws.specs.Machine.{Config, after}
+use Rattle.run_laws.specs.Machine.{Config, after, Reach}
 use Rattle.run_laws.specs.Runs as runs
 use Rattle.run_laws.specs.World.{World, world_step}
+use Rattle.run_laws.specs.Handlers.{IsStationOf}
 use Rattle.net_model.specs.Net.{Net}
 use Rattle.stations.specs.Fits.{FitsState, SuitsNet}
 use Rattle.stations.specs.Handling.{StateView, handle}
@@ -20,9 +21,13 @@ use Rattle.solo_run.specs.declared.turn.SoloFault.TheVariants.{NoMemory, Limit}
 abbrev pub step_of : Net → World StateView Msg Line → Msg → World StateView Msg Line × List Msg
 step_of net = world_step (simulation net).to (simulation net).handle
 
--- the run of a network from where it stands to a front
+-- the run of a network, from what it is now, to a front
 abbrev pub run_from : Net → SoloView → ℕ → Config (World StateView Msg Line) Msg
 run_from net v front = runs.run_from (simulation net) (config_of net v) front
+
+-- turns, each of a message before the front, lead from the one run to the other
+abbrev pub IsReached : Net → ℕ → SoloView → SoloView → Type 0
+IsReached net front v w = Reach msg_cmp (λ m. m.key.time) (step_of net) front (config_of net v) (config_of net w)
 
 -- the state at place i handles a message
 pub record HandlesAt (net : Net) (i : ℕ) (m : Msg) (old new : List StateView) (sends : List Msg) (line : Line) :
@@ -64,8 +69,7 @@ pub record GoesBeyond (net : Net) (v : SoloView) (front old_steps new_steps stat
   pub before : first_beyond net.limit [] done ≡ None
   pub first : first_beyond net.limit [] (run_from net v front).at.trace ≡ Some station
   pub is_for : station ≡ entry.msg.to
-  pub first_station : 1 ≤ station
-  pub last_station : station ≤ length net.sites
+  pub is_station : IsStationOf (length net.sites) station
   pub keeps : kept ≡ net.limit
   pub steps : new_steps + length v.trace ≡ old_steps + length done
   pub bounded : length done ≤ length net.sites * net.limit

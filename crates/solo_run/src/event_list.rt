@@ -7,20 +7,21 @@
 //!
 //! A key is one word of 64 bits, with the place of its list as the last six, so that a step is one `min` a level and
 //! no branch. The keys of a run fit; where one does not, all lists are looked through.
-ghost use Rattle.std.specs.Prelude.{ℕ, ◌+◌, ◌<◌, ◌≤◌, ◌≡◌, ◌∷◌, [], length, get_or};
+ghost use Rattle.std.specs.Prelude.{◌+◌, ◌<◌, ◌≤◌, ◌≡◌, ◌∷◌, [], length};
 ghost use Rattle.std.specs.Prelude.{IfOk, IfNone, IfSome, OnOk, OnErr};
 ghost use Rattle.std.specs.List.{AllByRecursion};
 ghost use Rattle.sim_base.specs.Order.{msg_cmp};
 ghost use Rattle.sim_base.specs.declared.message.TheConstants.{WORD_TIMES, WORD_PLACES};
 ghost use Rattle.run_laws.specs.Queue.{insert};
-ghost use Rattle.solo_run.specs.EventLists.{HasFirst, IsEventList, IsForStation, IsFound, IsListOf, all_messages};
-ghost use Rattle.solo_run.specs.EventLists.{IsWordOf, IsWordOfKey};
+ghost use Rattle.solo_run.specs.EventLists.{AreStationLists, HasFirst, IsEventList, IsForStation, IsFound};
+ghost use Rattle.solo_run.specs.EventLists.{IsWordOf, IsWordOfKey, all_messages};
 
 use sim_base::message::{WORD_PLACES, WORD_TIMES, WORDS_OF_TIME, compare};
 use sim_base::{Key, Msg, NoMemory, Pending};
 use std::alloc::Global;
 use std::marker::Model;
 use trace_cursor::Tree;
+use trace_cursor::tree::NO_WORD;
 
 /// Pending messages in their order, for so many stations.
 #[derive(Drop)]
@@ -109,7 +110,7 @@ fn first_before(lists: &Vec<Pending<()>>, words: &Tree, bound: u64) -> Option<us
 
 // The same by all first messages, where a key fits no word.
 fn look_through(lists: &Vec<Pending<()>>, bound: u64) -> Option<usize>
-    requires lists { (i : ℕ) → i < length lists.now.items → IsListOf i (get_or lists.now.items i []) }
+    requires lists { AreStationLists lists.now.items }
     ensures some { IfSome result (λ i. HasFirst lists.now.items bound i) }
     ensures none { IfNone result (AllByRecursion (λ m. bound ≤ m.key.time) (all_messages lists.now.items)) }
 {
@@ -161,7 +162,7 @@ fn word_of(list: &Pending<()>, i: usize) -> u64
 {
     match list.least() {
         Some((msg, ())) => word_of_key(msg.key, i),
-        None => u64::MAX,
+        None => NO_WORD,
     }
 }
 
@@ -176,6 +177,6 @@ fn word_of_key(key: Key, i: usize) -> u64
     } else if key.time < WORD_TIMES {
         0
     } else {
-        u64::MAX
+        NO_WORD
     }
 }

@@ -8,7 +8,7 @@
 //!        `------------------> turn: handle ---------------'
 //!     trace    .. [3 gate tick: sent=1]
 //!
-//!     let solo = Solo::new(alloc, &model, clone.list())?;             // the decisions are messages too
+//!     let solo = Solo::new(alloc, &model, lists.list(c))?;            // the decisions are messages too
 //!     let solo = solo.run_to(&model, model.horizon(), &mut steps)?;   // Err(SoloFault::Limit { .. }) at the limit
 //!     let trace = solo.trace();                                       // the log of what was handled, in order
 //!

@@ -1,9 +1,10 @@
 //! How a one-thread run begins: the opening states of the stations, and the first of the future event list.
-ghost use Rattle.std.specs.Prelude.{◌≡◌, ◌+◌, ◌≤◌, length, IfOk, IfSome, OnOk};
+ghost use Rattle.std.specs.Prelude.{◌≡◌, ◌+◌, length, IfOk, IfSome, OnOk};
 ghost use Rattle.std.specs.List.{AllByRecursion};
 ghost use Rattle.sim_base.specs.Order.{msg_cmp};
 ghost use Rattle.net_model.specs.Net.{Net};
 ghost use Rattle.net_model.specs.Rules.{IsNet};
+ghost use Rattle.run_laws.specs.Handlers.{IsStationOf};
 ghost use Rattle.run_laws.specs.Queue.{insert_all};
 ghost use Rattle.run_laws.specs.World.{openings, set_messages};
 ghost use Rattle.stations.specs.Runs.{simulation};
@@ -12,11 +13,13 @@ ghost use Rattle.solo_run.specs.EventLists.{IsForStation};
 
 use crate::event_list::EventList;
 use net_model::Model;
-use sim_base::{Key, Msg, NoMemory, Payload, Planned};
+use sim_base::{Msg, NoMemory, Planned};
 use stations::State;
+use stations::decision::set_message;
 use stations::state::setup;
 use std::alloc::Global;
 
+// What a station sends first, if anything, becomes pending.
 fn put_first(pending: &mut EventList, first: Option<Msg>) -> Result<(), NoMemory>
     requires first { IfSome first (IsForStation pending.old.stations) }
     ensures ok { OnOk result (pending.new.messages ≡ and_put first pending.old.messages) }
@@ -52,24 +55,13 @@ pub(crate) fn open_all(
 
 /// The decisions of a clone become pending messages, numbered from 0.
 pub(crate) fn plan_all(pending: &mut EventList, list: &[Planned]) -> Result<(), NoMemory>
-    requires stations { AllByRecursion (λ p. (1 ≤ p.station) × (p.station ≤ pending.old.stations)) list.now }
+    requires stations { AllByRecursion (λ p. IsStationOf pending.old.stations p.station) list.now }
     ensures ok { (net : Net) → OnOk result
         (pending.new.messages ≡ insert_all msg_cmp (set_messages (simulation net) 0 list.now) pending.old.messages) }
     ensures stations { pending.new.stations ≡ pending.old.stations }
 {
     for k in 0..list.len() {
-        let plan = list[k];
-        let key = Key {
-            time: plan.at,
-            sender: 0,
-            number: k as u64,
-        };
-        let msg = Msg {
-            key,
-            to: plan.station,
-            payload: Payload::Set(plan.change),
-        };
-        pending.insert(msg)?;
+        pending.insert(set_message(k, list[k]))?;
     }
     Ok(())
 }

@@ -1,4 +1,5 @@
-//! The one-thread run of one clone.
+//! The one-thread run of one clone: one event execution after another from its future event list, up to the horizon
+//! (the stop time).
 ghost use Rattle.std.specs.Prelude.{◌≡◌, ◌+◌, ◌≤◌, ◌<◌, length, IfOk, IfErr};
 ghost use Rattle.run_laws.specs.Handlers.{AreForStations};
 ghost use Rattle.run_laws.specs.World.{log_of};
@@ -57,7 +58,7 @@ impl Solo {
         })
     }
 
-    /// Handles every message before a front, at most the horizon: the run of the clone from where it stands.
+    /// Handles every message before a front, at most the horizon: the clone's run goes on to there.
     ///
     /// Counts a step for each message handled. It stops where a station would handle more messages than the limit,
     /// and names the station of the first such message; before it, all was handled.

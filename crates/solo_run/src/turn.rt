@@ -1,6 +1,6 @@
 //! Event execution in a one-thread run, a turn: the least pending message is handled at its station, and what that
 //! sends becomes pending.
-ghost use Rattle.std.specs.Prelude.{◌≡◌, ◌+◌, ◌-◌, ◌≤◌, ◌<◌, ◌^◌, ℕ};
+ghost use Rattle.std.specs.Prelude.{◌≡◌, ◌+◌, ◌-◌, ◌≤◌, ◌<◌, ℕ};
 ghost use Rattle.std.specs.Prelude.{length, IfErr, IfOk, OnOk, slice_get, Some};
 ghost use Rattle.std.specs.List.{AllByRecursion};
 ghost use Rattle.arrayvec.specs.ArrayVec.{array_vec_len};
@@ -8,6 +8,7 @@ ghost use Rattle.sim_base.specs.Order.{msg_cmp};
 ghost use Rattle.run_laws.specs.Queue.{insert_all};
 ghost use Rattle.stations.specs.Fits.{SuitsNet};
 ghost use Rattle.stations.specs.Handling.{StateView};
+ghost use Rattle.stations.specs.declared.sender.TheConstants.{ALL_TIMES};
 ghost use Rattle.solo_run.specs.EventLists.{IsForStation};
 ghost use Rattle.solo_run.specs.SoloView.{IsSolo, with_due};
 ghost use Rattle.solo_run.specs.Turns.{HandlesAt, StopsAt, HasTurned};
@@ -50,16 +51,22 @@ fn handle_at<L: Ledger>(
     out: &mut ArrayVec<Msg, MOST_SENDS>,
     steps: &mut Steps<L>,
 ) -> Result<Line, SoloFault>
+    // what it asks: a message to a station of the model, and the states of its stations in their order
     requires receiver { IsForStation (length model.now.sites) msg.now }
     requires count { length states.old.items ≡ length model.now.sites }
     requires suits { (i : ℕ) (st : StateView) → slice_get states.old.items i ≡ Some st → SuitsNet model.now st }
     requires numbers { (i : ℕ) (st : StateView) → slice_get states.old.items i ≡ Some st → (st.sender.station ≡ i + 1) }
-    requires early { msg.now.key.time < 2 ^ 31 }
+    // a time at which a station may handle a message, and nothing in `out`
+    requires early { msg.now.key.time < ALL_TIMES }
     requires empty { array_vec_len out.old ≡ 0 }
+    // what it gives: the receiver's state after the message, the others as they were, the sends and the line; it counts
+    // a step
     ensures ok { IfOk result (λ line. HandlesAt model.now (msg.now.to - 1) msg.now states.old.items states.new.items
         out.new.items line) }
     ensures counted { OnOk result (steps.new ≡ steps.old + 1) }
+    // what is kept, also where it fails: the number of states
     ensures same_count { length states.new.items ≡ length states.old.items }
+    // when it fails: out of memory, or at the limit, which the station has reached, and no step is counted then
     ensures full { IfErr result (λ e. StopsAt model.now (msg.now.to - 1) states.old.items steps.old steps.new e) }
 {
     let state = &mut states[msg.to as usize - 1];
@@ -88,7 +95,7 @@ impl Solo {
         steps: &mut Steps<L>,
     ) -> Result<(), SoloFault>
         requires solo { IsSolo model.now (with_due msg.now self.old) }
-        requires early { msg.now.key.time < 2 ^ 31 }
+        requires early { msg.now.key.time < ALL_TIMES }
 
         // The run comes to where the turn leads.
         ensures turned { OnOk result (HasTurned model.now self.old msg.now self.new) }

@@ -30,6 +30,7 @@ use Rattle.standing_crew.proofs.Runs.{EachAnsweredFrom-append}
 
 -- ---- items_out
 
+-- with one part more out, its items stand behind the others
 pub items_out-push : {W X : Type 0} (outs : List (Option (PartView W X))) (part : PartView W X)
     → items_out (outs ++ Some part ∷ []) ≡ items_out outs ++ part.items
 items_out-push [] part = append-nil part.items

@@ -39,11 +39,14 @@ pub(crate) fn hand_out<W: Work + Send + Drop>(
     items: Vec<W::In>,
     size: usize,
 ) -> Result<PartsOut<W>, NoMemory>
+    // what it asks: items for at most `MOST_TASKS` tasks, each ready for its task, and lines that nothing is out on
     requires few { length items.items ≤ MOST_TASKS }
     requires ready { EachReady (W.ready work.now.value) items.items }
     requires idle { All (λ line. line ≡ None) lines.items }
+    // what it gives: the parts that are out, one after the other from task 0 on, and lines that nothing is out on
     ensures out { IfOk result (λ r. AreOutFrom work.now.value 0 r.busy.items) }
     ensures idle { IfOk result (λ r. All (λ line. line ≡ None) r.idle.items) }
+    // what is kept: all items in their order, those that are out and then the caller's own, from `first` on
     ensures items { IfOk result (λ r. items_out r.busy.items ++ r.own.items ≡ items.items) }
     ensures first { IfOk result (λ r. r.first ≡ length (items_out r.busy.items)) }
 {

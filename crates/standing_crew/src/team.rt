@@ -67,8 +67,10 @@ impl<W: Work + Send + Drop> Team<W> {
     ) -> Result<(Team<W>, Vec<W::Out>), NoMemory>
         requires few { length items.items ≤ MOST_TASKS }
         requires ready { EachReady (W.ready work.value) items.items }
+        // what it gives: an answer for each item, at the item's place
         ensures count { IfOk result (λ r. length r.1.items ≡ length items.items) }
         ensures answers { IfOk result (λ r. EachAnswers (AnswersTo (W.answers work.value) items.items) r.1.items) }
+        // what is counted: the steps that the answers took
         ensures cost { IfOk result (λ r. steps.new ≡ steps.old + sum_by W.cost r.1.items) }
     {
         let Team { lines, bell } = self;

@@ -13,26 +13,32 @@ use Rattle.sim_draw.specs.Drawing.{range_of}
 use Rattle.stations.specs.Fits.{FitsDelay}
 use Rattle.stations.specs.Sending.{Outgoing, weights_of, after_pick}
 use Rattle.stations.specs.Delays.{delay_job, delay_set, delay_on}
-use Rattle.stations.proofs.Accepting.{delay-accepts}
+use Rattle.stations.proofs.Accepting.{is_accepted-delay}
 use Rattle.stations.proofs.Growing.{Grown, grown-more, grown-held, grown-same}
 use Rattle.stations.specs.declared.sender.TheConstants.{MOST_SENDS}
 
 module _ (net : Net) (site : Site) (now : ℕ) (links : AllByRecursion (IsLink net) site.links)
     (ahead : 1 ≤ net.lookahead)
     (a : Outgoing) (first : 1 ≤ a.sender.station) (last : a.sender.station ≤ length net.sites) where
+  -- ---- delay_set
+
+  -- after a change a delay fits one message more
   delay_set-fits : (lo hi handled : ℕ) (c : Change) (s : DelayState) → site.kind ≡ kind.Delay lo hi
       → FitsDelay handled s → FitsDelay (handled + 1) (delay_set site c s)
   delay_set-fits lo hi handled c s is f = by (is_accepted site c) refl
     where
       by : (t : Bool) → is_accepted site c ≡ t
           → FitsDelay (handled + 1) (if t then record s { lo = c.a; hi = c.b } else s)
-      by true accepted = record { range = delay-accepts lo hi site c is accepted; passed = omega (arith, f.passed) }
+      by true accepted = record { range = is_accepted-delay lo hi site c is accepted; passed = omega (arith, f.passed) }
       by false refused = record { range = f.range; passed = omega (arith, f.passed) }
 
-  delay_later : (handled : ℕ) (s : DelayState) → FitsDelay handled s → FitsDelay (handled + 1) s
-  delay_later handled s f = record { range = f.range; passed = omega (arith, f.passed) }
+  -- ---- delay_on
 
-  -- after any message a delay fits one message more, and sends at most 16 messages
+  -- a delay that stays as it is fits one message more
+  delay-later : (handled : ℕ) (s : DelayState) → FitsDelay handled s → FitsDelay (handled + 1) s
+  delay-later handled s f = record { range = f.range; passed = omega (arith, f.passed) }
+
+  -- after any message a delay fits one message more, and sends at most `MOST_SENDS` messages
   pub delay_on-good : (lo hi handled : ℕ) (p : Payload) (s : DelayState) → site.kind ≡ kind.Delay lo hi
       → FitsDelay handled s
       → FitsDelay (handled + 1) (delay_on site now p s a).state
@@ -44,5 +50,5 @@ module _ (net : Net) (site : Site) (now : ℕ) (links : AllByRecursion (IsLink n
         (range_of s.lo s.hi (after_pick (weights_of site.links) a).sender.draws) j a links ahead) (omega arith),
   )
   delay_on-good lo hi handled (Set c) s is f = (delay_set-fits lo hi handled c s is f, grown-same net now MOST_SENDS a)
-  delay_on-good lo hi handled Tick s is f = (delay_later handled s f, grown-same net now MOST_SENDS a)
-  delay_on-good lo hi handled (Done j) s is f = (delay_later handled s f, grown-same net now MOST_SENDS a)
+  delay_on-good lo hi handled Tick s is f = (delay-later handled s f, grown-same net now MOST_SENDS a)
+  delay_on-good lo hi handled (Done j) s is f = (delay-later handled s f, grown-same net now MOST_SENDS a)

@@ -4,10 +4,10 @@ use Rattle.std.proofs.Common.{[], ◌∷◌, length, refl, sym, ap, ◌∙◌, s
 use Rattle.std.specs.List.{AllByRecursion}
 use Rattle.std.proofs.lemmas.Option.{slice_get_cases}
 use Rattle.sim_base.specs.declared.message.Msg.{Msg}
-use Rattle.sim_base.proofs.OrderLaws.{msg_total}
-use Rattle.sim_base.proofs.OrderEqual.{msg_same, msg-keyed, msg-timed}
+use Rattle.sim_base.proofs.OrderEqual.{msg-keyed, msg-timed}
 use Rattle.run_laws.specs.Queue.{In}
 use Rattle.run_laws.specs.Handlers.{HandlesLawfully, SendsToStations, HandlesFreshly}
+use Rattle.run_laws.proofs.MessageOrder.{messages_ordered}
 use Rattle.net_model.specs.declared.station.Kind.TheVariants as kind
 use Rattle.net_model.specs.Net.{Net, Site, site_at, site_of, no_site}
 use Rattle.net_model.specs.Rules.{IsNet, IsSite}
@@ -23,8 +23,11 @@ use Rattle.stations.specs.Good.{IsGood, next_number, sender_of, number_of}
 use Rattle.stations.specs.Runs.{simulation}
 use Rattle.stations.proofs.KindLaws.{good_kind, kind_on-good}
 use Rattle.stations.proofs.Lawful.{site_valid, number_in, site_is}
-use Rattle.stations.proofs.OpeningLaws.{opening-fits, opening-kind, first_tick-station, first_tick-first}
+use Rattle.stations.proofs.OpeningLaws.{opening_kind-fits, opening_kind-is_of_kind}
+use Rattle.stations.proofs.OpeningLaws.{first_tick-station, first_tick-first}
 use Rattle.stations.specs.declared.sender.TheConstants.{MOST_SENDS}
+
+-- ---- site_of
 
 -- a number is that of a station, or no station has it
 site_cases : (net : Net) (s : ℕ) → ((site : Site) × (site_at net s ≡ Some site)) ⊎ (site_of net s ≡ no_site)
@@ -35,6 +38,8 @@ site_cases net (suc i) = elim (slice_get_cases net.sites i).1 [
 ]
 
 module _ (net : Net) (valid : IsNet net) where
+  -- ---- handle
+
   -- a good state handles a message and stays good, and sends as stations send
   pub record HandlesGood (s : ℕ) (st : StateView) (m : Msg) : Type 0 where
     pub good : IsGood net s (handle net st m).state
@@ -42,11 +47,12 @@ module _ (net : Net) (valid : IsNet net) where
     pub few : length (handle net st m).sends ≤ MOST_SENDS
     pub next : (handle net st m).state.sender.next ≡ st.sender.next + length (handle net st m).sends
 
-  at_station : (site : Site) (st : StateView) (m : Msg) → site_at net st.sender.station ≡ Some site
+  -- so it is at a station of the network
+  handles-at_station : (site : Site) (st : StateView) (m : Msg) → site_at net st.sender.station ≡ Some site
       → IsOfKind (site_of net st.sender.station) (site_of net st.sender.station).kind st.kind
       → GoodKind st.handled st.kind → HandlesGood st.sender.station st m
   unfolding handle
-  at_station site st m there of good =
+  handles-at_station site st m there of good =
       let at = site_of net st.sender.station in
       let lawful : IsSite net at = rw (site_is net st.sender.station site there)
       (site_valid net st.sender.station site valid there) in
@@ -63,29 +69,30 @@ module _ (net : Net) (valid : IsNet net) where
         next = omega (arith, g.next, count);
       }
 
-  -- a number that no station has is handled as a sink's
-  nowhere : (sender : Sender) (handled : ℕ) (k : KindState) (m : Msg) → site_of net sender.station ≡ no_site
-      → IsOfKind no_site kind.Sink k
+  -- a message to a number that no station has is handled as a sink's
+  handles-at_no_station : (sender : Sender) (handled : ℕ) (k : KindState) (m : Msg)
+      → site_of net sender.station ≡ no_site → IsOfKind no_site kind.Sink k
       → HandlesGood sender.station (record { sender = sender; handled = handled; kind = k }) m
   unfolding handle
-  nowhere sender handled (Sink s) m none of =
+  handles-at_no_station sender handled (Sink s) m none of =
       record {
         good = record { station = refl; kind = rw none tt; fits = tt };
         sends = tt;
         few = omega arith;
         next = omega arith;
       }
-  nowhere sender handled (Source s) m none of = absurd of
-  nowhere sender handled (Server s) m none of = absurd of
-  nowhere sender handled (Delay s) m none of = absurd of
-  nowhere sender handled (Router s) m none of = absurd of
+  handles-at_no_station sender handled (Source s) m none of = absurd of
+  handles-at_no_station sender handled (Server s) m none of = absurd of
+  handles-at_no_station sender handled (Delay s) m none of = absurd of
+  handles-at_no_station sender handled (Router s) m none of = absurd of
 
-  own_good : (st : StateView) (m : Msg)
+  -- so a state whose kind is that of its own number does, whatever the number
+  handles-own : (st : StateView) (m : Msg)
       → IsOfKind (site_of net st.sender.station) (site_of net st.sender.station).kind st.kind
       → GoodKind st.handled st.kind → HandlesGood st.sender.station st m
-  own_good st m of good = elim (site_cases net st.sender.station) [
-    | inl found ↦ at_station found.0 st m found.1 of good
-    | inr none ↦ nowhere st.sender st.handled st.kind m none
+  handles-own st m of good = elim (site_cases net st.sender.station) [
+    | inl found ↦ handles-at_station found.0 st m found.1 of good
+    | inr none ↦ handles-at_no_station st.sender st.handled st.kind m none
         (subst (λ (site : Site). IsOfKind site site.kind st.kind) none of)
   ]
 
@@ -93,10 +100,13 @@ module _ (net : Net) (valid : IsNet net) where
   pub handles-good : (s : ℕ) (st : StateView) (m : Msg) → IsGood net s st → HandlesGood s st m
   handles-good s st m good =
       subst (λ (r : ℕ). HandlesGood r st m) good.station
-      (own_good st m (subst (λ (r : ℕ). IsOfKind (site_of net r) (site_of net r).kind st.kind)
+      (handles-own st m (subst (λ (r : ℕ). IsOfKind (site_of net r) (site_of net r).kind st.kind)
       (sym good.station) good.kind) good.fits)
 
+  -- ---- AreSends
+
   module _ (now s : ℕ) where
+    -- what is sent comes later
     sends_later : (k : ℕ) (ms : List Msg) → AreSends net now s k ms → AllByRecursion (λ z. now < z.key.time) ms
     sends_later k [] are = tt
     sends_later k (m ∷ ms) are = (are.0.later, sends_later (suc k) ms are.1)
@@ -134,6 +144,8 @@ module _ (net : Net) (valid : IsNet net) where
         absurd (omega (arith, later.above, later.is.number))
     numbers_apart k (m ∷ ms) z y are (inr i) (inr j) same = numbers_apart (suc k) ms z y are.1 i j same
 
+-- ---- what the laws of runs ask
+
 module _ (net : Net) (valid : IsNet net) where
   -- a station opens in a good state
   pub opens_good : (s : ℕ) → IsGood net s (setup net s).state
@@ -141,12 +153,12 @@ module _ (net : Net) (valid : IsNet net) where
       let at = site_of net s in
       record {
         station = first_tick-station (opening_kind at at.kind) _;
-        kind = opening-kind at at.kind;
+        kind = opening_kind-is_of_kind at at.kind;
         fits = elim (site_cases net s) [
           | inl found ↦ (
               let lawful : IsSite net at = rw (site_is net s found.0 found.1)
               (site_valid net s found.0 valid found.1) in
-              good_kind 0 (opening_kind at at.kind) (opening-fits net at at.kind lawful refl))
+              good_kind 0 (opening_kind at at.kind) (opening_kind-fits net at at.kind lawful refl))
           | inr none ↦ subst (λ (site : Site). GoodKind 0 (opening_kind site site.kind)) (sym none) tt
         ];
       }
@@ -154,7 +166,7 @@ module _ (net : Net) (valid : IsNet net) where
   -- good states stay good, and what is sent comes later, to another station by the lookahead later or more
   pub lawful-stations : HandlesLawfully (simulation net) (IsGood net)
   lawful-stations = record {
-    order = record { order = record { total = msg_total; same = msg_same }; timed = msg-timed };
+    order = record { order = messages_ordered; timed = msg-timed };
     opens = opens_good;
     keeps = λ s st m good. (handles-good net valid s st m good).good;
     later = λ s st m good. sends_later net valid m.key.time s st.sender.next (handle net st m).sends

@@ -12,9 +12,11 @@ use Rattle.net_model.specs.Rules.{IsLink}
 use Rattle.sim_draw.specs.Drawing.{range_of}
 use Rattle.stations.specs.Sending.{Outgoing, send, draw, send_later, send_over, after_pick, link_by, route_by}
 use Rattle.stations.specs.Sends.{AreSends, IsJob}
-use Rattle.stations.proofs.Places.{all_at}
+use Rattle.stations.proofs.Places.{AllByRecursion-slice_get}
 
 module _ (net : Net) (now : ℕ) where
+  -- ---- Grown
+
   -- b is a after at most n messages more and at most n words drawn
   pub record Grown (n : ℕ) (a b : Outgoing) : Type 0 where
     pub station : b.sender.station ≡ a.sender.station
@@ -25,6 +27,7 @@ module _ (net : Net) (now : ℕ) where
     pub next : b.sender.next ≡ a.sender.next + length more
     pub are : AreSends net now a.sender.station a.sender.next more
 
+  -- sends, and behind them sends with the numbers that follow
   AreSends-append : (s k : ℕ) (ms ns : List Msg) → AreSends net now s k ms → AreSends net now s (k + length ms) ns
       → AreSends net now s k (ms ++ ns)
   AreSends-append s k [] ns are more = let same : k + 0 ≡ k = omega arith in
@@ -62,8 +65,8 @@ module _ (net : Net) (now : ℕ) where
   grown-same n a = grown-more 0 n a a (grown-none a) (omega arith)
 
   -- what has grown by at most n, and then by at most m, has grown by at most n + m
-  pub grown-then : (n m : ℕ) (a b c : Outgoing) → Grown n a b → Grown m b c → Grown (n + m) a c
-  grown-then n m a b c g h =
+  pub grown-trans : (n m : ℕ) (a b c : Outgoing) → Grown n a b → Grown m b c → Grown (n + m) a c
+  grown-trans n m a b c g h =
       let count = length-append g.more h.more in
       let here : AreSends net now a.sender.station (a.sender.next + length g.more) h.more =
       rw (← g.station, ← g.next) h.are in
@@ -77,8 +80,10 @@ module _ (net : Net) (now : ℕ) where
         are = AreSends-append a.sender.station a.sender.next g.more h.more g.are here;
       }
 
+  -- ---- send and send_later
+
   -- one message that is sent as it should be, after at most one word was drawn
-  pub grown-send : (time to : ℕ) (payload : Payload) (a o : Outgoing) → o.sender.station ≡ a.sender.station
+  grown-send : (time to : ℕ) (payload : Payload) (a o : Outgoing) → o.sender.station ≡ a.sender.station
       → o.sender.next ≡ a.sender.next → o.sends ≡ a.sends → o.sender.draws.count ≤ a.sender.draws.count + 1
       → now < time → (to ≢ a.sender.station → now + net.lookahead ≤ time)
       → (IsJob payload → now + net.lookahead ≤ time) → 1 ≤ to → to ≤ length net.sites
@@ -110,17 +115,20 @@ module _ (net : Net) (now : ℕ) where
         );
       }
 
-  picked-draws : (weights : List ℕ) (o : Outgoing)
-      → (after_pick weights o).sender.draws.count ≤ o.sender.draws.count + 1
-  picked-draws [] o = omega arith
-  picked-draws (w ∷ []) o = omega arith
-  picked-draws (w ∷ v ∷ ws) o = omega arith
+  -- ---- after_pick
 
-  -- a pick alone sends nothing
+  -- a pick takes at most one word drawn
+  after_pick-draws : (weights : List ℕ) (o : Outgoing)
+      → (after_pick weights o).sender.draws.count ≤ o.sender.draws.count + 1
+  after_pick-draws [] o = omega arith
+  after_pick-draws (w ∷ []) o = omega arith
+  after_pick-draws (w ∷ v ∷ ws) o = omega arith
+
+  -- and it sends nothing
   grown-picked : (weights : List ℕ) (o : Outgoing) → Grown 1 o (after_pick weights o)
   grown-picked weights o = record {
     station = refl;
-    draws = picked-draws weights o;
+    draws = after_pick-draws weights o;
     more = [];
     sends = sym (append-nil o.sends);
     few = omega arith;
@@ -135,6 +143,8 @@ module _ (net : Net) (now : ℕ) where
     grown-later lo hi payload own low =
         grown-send (now + range_of lo hi a.sender.draws) a.sender.station payload a (draw a) refl refl refl
         (omega arith) (omega arith) (λ other. absurd (other refl)) (λ job. absurd (own job)) first last
+
+  -- ---- send_over
 
   -- a job over a link, from a sender that has drawn at most one word since a
   over-link : (link : Option Link) (links : List Link) (i extra : ℕ) (job : JobOf) (a o : Outgoing)
@@ -152,7 +162,7 @@ module _ (net : Net) (now : ℕ) where
         are = tt;
       }
   over-link (Some link) links i extra job a o are ahead is station next sends draws =
-      let valid = all_at (IsLink net) links i link are (sym is) in
+      let valid = AllByRecursion-slice_get (IsLink net) links i link are (sym is) in
       grown-send ((now + extra) + link.delay) link.to (Job job) a o station next sends draws
       (omega (arith, valid.slow)) (λ other. omega (arith, valid.slow))
       (λ job. omega (arith, valid.slow)) valid.first valid.last
@@ -164,7 +174,7 @@ module _ (net : Net) (now : ℕ) where
       let zero_more : now + 0 ≡ now = omega arith in
       subst (λ (t : ℕ). Grown 1 a (send_over (link_by links weights a) t job (after_pick weights a))) zero_more
       (over-link (link_by links weights a) links _ 0 job a (after_pick weights a) are ahead refl refl refl refl
-      (picked-draws weights a))
+      (after_pick-draws weights a))
 
   -- a job over a given link of a station
   pub grown-over : (links : List Link) (i : ℕ) (job : JobOf) (a : Outgoing) → AllByRecursion (IsLink net) links
@@ -180,7 +190,7 @@ module _ (net : Net) (now : ℕ) where
       → Grown 2 a (send_over (link_by links weights a) (now + extra) job (draw (after_pick weights a)))
   grown-held links weights extra job a are ahead =
       let routed = after_pick weights a in
-      grown-then 1 1 a routed (send_over (link_by links weights a) (now + extra) job (draw routed))
+      grown-trans 1 1 a routed (send_over (link_by links weights a) (now + extra) job (draw routed))
       (grown-picked weights a)
       (over-link (link_by links weights a) links _ extra job routed (draw routed) are ahead refl refl refl refl
       (omega arith))

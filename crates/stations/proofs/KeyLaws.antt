@@ -23,8 +23,10 @@ use Rattle.stations.proofs.ReplayLaws.{sends-next_numbers}
 use Rattle.stations.specs.declared.sender.TheConstants.{MOST_SENDS}
 
 module _ (net : Net) (valid : IsNet net) where
-  -- a station uses up at most 16 numbers with one message
-  pub few-numbers : UsesFewNumbers (simulation net) (IsGood net) next_number MOST_SENDS
+  -- ---- UsesFewNumbers
+
+  -- a station uses up at most `MOST_SENDS` numbers with one message
+  few-numbers : UsesFewNumbers (simulation net) (IsGood net) next_number MOST_SENDS
   few-numbers = record {
     opens = λ s there. let first = (sends-next_numbers net valid).opens s in omega (arith, first);
     grows = λ s st m there good.
@@ -33,9 +35,11 @@ module _ (net : Net) (valid : IsNet net) where
         omega (arith, few, next);
   }
 
-  -- 16 numbers for each message of a log that keeps the limit, and 16 more, fit words
+  -- `MOST_SENDS` numbers for each message of a log that keeps the limit, and once more, fit words
   bound-enough : MOST_SENDS * (net.limit + 1) ≤ WORD_NUMBERS
   bound-enough = let short = valid.short in omega (arith, short)
+
+  -- ---- KeysAreSmall and LogKeysAreSmall
 
   -- at a front where no log is beyond the limit each message of a clone's run has a small sender and number
   pub keys-small : KeysAreSmall net

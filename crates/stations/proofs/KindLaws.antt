@@ -1,5 +1,5 @@
 -- What every kind keeps, and what it sends.
-use Rattle.std.proofs.Common.{◌≡◌, ℕ, ◌+◌, ◌^◌, ◌<◌, ◌≤◌, length, sym, ap, subst}
+use Rattle.std.proofs.Common.{◌≡◌, ℕ, ◌+◌, ◌<◌, ◌≤◌, length, sym, ap, subst}
 use Rattle.std.specs.List.{AllByRecursion}
 use Rattle.sim_base.specs.declared.message.Payload.{Payload}
 use Rattle.net_model.specs.declared.station.Kind.{Kind}
@@ -18,7 +18,9 @@ use Rattle.stations.proofs.DelayLaws.{delay_on-good}
 use Rattle.stations.proofs.RouterLaws.{router_on-good}
 use Rattle.stations.proofs.ServerLaws.{server_on-good}
 use Rattle.stations.proofs.SinkLaws.{sink_on-fits}
-use Rattle.stations.specs.declared.sender.TheConstants.{MOST_SENDS}
+use Rattle.stations.specs.declared.sender.TheConstants.{ALL_TIMES, MOST_SENDS}
+
+-- ---- GoodKind
 
 -- a state that fits is good, whatever its kind
 pub good_kind : (handled : ℕ) (s : KindState) → FitsKind handled s → GoodKind handled s
@@ -27,6 +29,8 @@ good_kind handled (Server s) f = f
 good_kind handled (Delay s) f = f
 good_kind handled (Router s) f = f
 good_kind handled (Sink s) f = tt
+
+-- ---- kind_on
 
 module _ (net : Net) (site : Site) (now : ℕ) where
   -- a reaction of any kind that fits after one message more, is of the station's kind, and sends as stations send
@@ -81,7 +85,7 @@ module _ (net : Net) (site : Site) (now : ℕ) (links : AllByRecursion (IsLink n
   kind_on-good kind.Sink handled p (Delay s) is of f = absurd of
   kind_on-good kind.Sink handled p (Router s) is of f = absurd of
 
-module _ (now : ℕ) (early : now < 2 ^ 31) where
+module _ (now : ℕ) (early : now < ALL_TIMES) where
   -- a good state fits, where the sums of a sink stay small
   pub kind_on-fits : (net : Net) (site : Site) (handled : ℕ) (p : Payload) (s : KindState) (o : Outgoing)
       → FitsKind handled s → GoodKind (handled + 1) (kind_on net site now p s o).state

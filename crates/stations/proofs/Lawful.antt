@@ -1,11 +1,12 @@
 -- What a network promises of the stations that stand in it.
-use Rattle.std.proofs.Common.{◌≡◌, ℕ, zero, suc, ◌+◌, ◌^◌, ◌<◌, ◌≤◌, List, []}
-use Rattle.std.proofs.Common.{◌∷◌, length, refl, sym, ap, subst, slice_get, Some, unwrap_or, arith}
-use Rattle.std.specs.List.{AllByRecursion}
-use Rattle.net_model.specs.declared.station.Link.{Link}
+use Rattle.std.proofs.Common.{◌≡◌, ℕ, zero, suc, ◌+◌, ◌<◌, ◌≤◌, List, []}
+use Rattle.std.proofs.Common.{length, refl, sym, ap, subst, Some, unwrap_or, arith}
+use Rattle.std.proofs.lemmas.List.{nil_from_length}
+use Rattle.std.proofs.lemmas.Option.{slice_get_within}
+use Rattle.sim_base.proofs.ListLaws.{all_weaker}
 use Rattle.net_model.specs.Net.{Net, Site, site_at, site_of, no_site}
-use Rattle.net_model.specs.Rules.{IsNet, IsSite, IsLink}
-use Rattle.net_model.specs.declared.limits.TheConstants.{MOST_TIME, MOST_WEIGHT}
+use Rattle.net_model.specs.Rules.{IsNet, IsSite, IsLink, IsWeight}
+use Rattle.net_model.specs.declared.limits.TheConstants.{MOST_TIME}
 use Rattle.stations.specs.declared.kind_state.KindState.{KindState}
 use Rattle.stations.specs.Fits.{AreLinks, IsOfKind, SuitsNet, FitsState}
 use Rattle.sim_base.specs.declared.message.Msg.{Msg}
@@ -13,41 +14,39 @@ use Rattle.stations.specs.declared.sender.Sender.{Sender}
 use Rattle.stations.specs.Handling.{StateView, handle, handled_as, kind_on, line_of}
 use Rattle.stations.specs.Sending.{Outgoing, outgoing, reaction}
 use Rattle.stations.specs.Sends.{AreSends}
-use Rattle.stations.proofs.Places.{all_at}
+use Rattle.stations.proofs.Places.{AllByRecursion-slice_get}
 use Rattle.stations.proofs.KindLaws.{good_kind, kind_on-good, kind_on-fits}
-use Rattle.stations.specs.declared.sender.TheConstants.{MOST_SENDS}
+use Rattle.stations.specs.declared.sender.TheConstants.{ALL_TIMES, MOST_SENDS}
+
+-- ---- site_at and site_of
 
 -- a station that is there meets the rules
 pub site_valid : (net : Net) (s : ℕ) (site : Site) → IsNet net → site_at net s ≡ Some site → IsSite net site
 site_valid net zero site valid is = absurd (cc)
-site_valid net (suc i) site valid is = all_at (IsSite net) net.sites i site valid.sites is
-
-below_length : {X : Type 0} (xs : List X) (i : ℕ) (x : X) → slice_get xs i ≡ Some x → i < length xs
-below_length [] i x is = absurd (cc)
-below_length (y ∷ ys) zero x is = omega arith
-below_length (y ∷ ys) (suc i) x is = (let rest = below_length ys i x is in omega arith)
+site_valid net (suc i) site valid is = AllByRecursion-slice_get (IsSite net) net.sites i site valid.sites is
 
 -- the number of a station that is there is from 1 to that of the last
 pub number_in : (net : Net) (s : ℕ) (site : Site) → site_at net s ≡ Some site → (1 ≤ s) × (s ≤ length net.sites)
 number_in net zero site is = absurd (cc)
-number_in net (suc i) site is = (omega arith, (let rest = below_length net.sites i site is in omega arith))
+number_in net (suc i) site is = (omega arith, (let rest = slice_get_within net.sites i site is in omega arith))
 
 -- a station that is found at a number is the station of that number
 pub site_is : (net : Net) (s : ℕ) (site : Site) → site_at net s ≡ Some site → site_of net s ≡ site
 site_is net s site is = ap (λ o. unwrap_or o no_site) is
 
-links_parts : (net : Net) (links : List Link) → AllByRecursion (IsLink net) links
-    → AllByRecursion (λ l. 1 ≤ l.weight) links × AllByRecursion (λ l. l.weight ≤ MOST_WEIGHT) links
-    × AllByRecursion (λ l. l.delay ≤ MOST_TIME) links
-links_parts net [] all = (tt, tt, tt)
-links_parts net (l ∷ ls) all = let rest = links_parts net ls all.1 in
-    ((all.0.heavy, rest.0), (all.0.light, rest.1), (all.0.small, rest.2))
+-- ---- AreLinks
 
 -- jobs may go over the links of a station that meets the rules and has a link
 pub are_links : (net : Net) (site : Site) → IsSite net site → 1 ≤ length site.links → AreLinks site.links
 are_links net site valid some =
-    let parts = links_parts net site.links valid.links in
-    record { some = some; few = valid.few; heavy = parts.0; light = parts.1; near = parts.2 }
+    record {
+      some = some;
+      few = valid.few;
+      weights = all_weaker (IsLink net) (λ l. IsWeight l.weight) site.links (λ l is. is.weight) valid.links;
+      near = all_weaker (IsLink net) (λ l. l.delay ≤ MOST_TIME) site.links (λ l is. is.small) valid.links;
+    }
+
+-- ---- handle
 
 -- what the handling of a message keeps, and what it sends
 pub record HandlesWell (net : Net) (st : StateView) (m : Msg) : Type 0 where
@@ -59,9 +58,9 @@ pub record HandlesWell (net : Net) (st : StateView) (m : Msg) : Type 0 where
   pub handled : (handle net st m).state.handled ≡ st.handled + 1
   pub station : (handle net st m).state.sender.station ≡ st.sender.station
 
--- so it is for each station of the network whose state fits, and each message before time 2 ^ 31
+-- so it is for each station of the network whose state fits, and each message that it may handle
 pub handles-well : (net : Net) (st : StateView) (m : Msg) → IsNet net → FitsState st → SuitsNet net st
-    → m.key.time < 2 ^ 31 → HandlesWell net st m
+    → m.key.time < ALL_TIMES → HandlesWell net st m
 unfolding handle
 handles-well net st m valid fits suits early =
     let site = site_of net st.sender.station in
@@ -92,10 +91,6 @@ handles-well net st m valid fits suits early =
       station = g.station;
     }
 
-no_element : {X : Type 0} (xs : List X) → length xs ≡ 0 → xs ≡ []
-no_element [] none = refl
-no_element (x ∷ xs) none = absurd (omega arith)
-
 -- the code's steps come to the handling of the message
 pub handle-is : (net : Net) (st : StateView) (m : Msg) (site : Site) (before after : List Msg) (kind' : KindState)
     (sender' : Sender) → site_at net st.sender.station ≡ Some site → length before ≡ 0
@@ -108,6 +103,6 @@ pub handle-is : (net : Net) (st : StateView) (m : Msg) (site : Site) (before aft
     }
 unfolding handle
 handle-is net st m site before after kind' sender' there none is =
-    let nothing = no_element before none in
+    let nothing = nil_from_length before none in
     let same = site_is net st.sender.station site there in
     rw same (ap (handled_as (st.handled + 1)) (rw nothing at is))

@@ -6,18 +6,22 @@ use Rattle.stations.specs.Servers.{class_of, least_class, place_of_class}
 use Rattle.stations.proofs.Places.{drop-at}
 
 module _ (net : Net) (jobs : List JobOf) (i : ℕ) (job : JobOf) (at : slice_get jobs i ≡ Some job) where
+  -- ---- least_class
+
   -- the least class goes on behind the job at the place
-  pub least-drop : (n : ℕ) → least_class net n (drop i jobs) ≡ least_class net (min n (class_of net job))
+  pub least_class-drop : (n : ℕ) → least_class net n (drop i jobs) ≡ least_class net (min n (class_of net job))
       (drop (i + 1) jobs)
-  least-drop n = ap (least_class net n) (drop-at jobs i job at)
+  least_class-drop n = ap (least_class net n) (drop-at jobs i job at)
+
+  -- ---- place_of_class
 
   -- the first of a class is at the place
-  pub place-here : (n : ℕ) → class_of net job ≡ n → place_of_class net n (drop i jobs) ≡ 0
-  place-here n is = ap (place_of_class net n) (drop-at jobs i job at)
+  pub place_of_class-here : (n : ℕ) → class_of net job ≡ n → place_of_class net n (drop i jobs) ≡ 0
+  place_of_class-here n is = ap (place_of_class net n) (drop-at jobs i job at)
       ∙ ap (λ b. cond (not b) (1 + place_of_class net n (drop (i + 1) jobs)) 0) (eq-eqb (class_of net job) n is)
 
   -- or it is behind it
-  pub place-later : (n : ℕ) → class_of net job ≢ n → place_of_class net n (drop i jobs) ≡ 1 + place_of_class net n
-      (drop (i + 1) jobs)
-  place-later n is = ap (place_of_class net n) (drop-at jobs i job at)
+  pub place_of_class-later : (n : ℕ) → class_of net job ≢ n
+      → place_of_class net n (drop i jobs) ≡ 1 + place_of_class net n (drop (i + 1) jobs)
+  place_of_class-later n is = ap (place_of_class net n) (drop-at jobs i job at)
       ∙ ap (λ b. cond (not b) (1 + place_of_class net n (drop (i + 1) jobs)) 0) (ne_eqb (class_of net job) n is)

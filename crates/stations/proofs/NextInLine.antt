@@ -6,19 +6,24 @@ use Rattle.sim_base.specs.declared.message.Job.{Job as JobOf}
 use Rattle.net_model.specs.Net.{Net, Site, serves_by_class}
 use Rattle.stations.specs.Servers.{class_of, least_class, least_in, place_of_class, next_place}
 
+-- ---- min
+
+-- the lesser of two numbers is one of them
 min_is : (a b : ℕ) → (min a b ≡ a) ⊎ (min a b ≡ b)
 min_is a b = elim (cases_lt a b) [ inl below ↦ inl (omega arith) | inr above ↦ inr (omega arith) ]
 
 module _ (net : Net) where
+  -- ---- least_class and least_in
+
   -- one of the jobs has the class n
   abbrev HasClass : ℕ → List JobOf → Type 0
   HasClass n [] = ⊥
   HasClass n (j ∷ js) = (class_of net j ≡ n) ⊎ HasClass n js
 
   -- the least of a class and of the classes of jobs is that class or one of theirs
-  least_reached : (n : ℕ) (js : List JobOf) → (least_class net n js ≡ n) ⊎ HasClass (least_class net n js) js
-  least_reached n [] = inl refl
-  least_reached n (j ∷ js) = elim (least_reached (min n (class_of net j)) js) [
+  least_class-reached : (n : ℕ) (js : List JobOf) → (least_class net n js ≡ n) ⊎ HasClass (least_class net n js) js
+  least_class-reached n [] = inl refl
+  least_class-reached n (j ∷ js) = elim (least_class-reached (min n (class_of net j)) js) [
     | inl same ↦ elim (min_is n (class_of net j)) [
       | inl first ↦ inl (same ∙ first)
       | inr second ↦ inr (inl (sym (same ∙ second)))
@@ -26,20 +31,24 @@ module _ (net : Net) where
     | inr has ↦ inr (inr has)
   ]
 
-  least_in_line : (jobs : List JobOf) → 1 ≤ length jobs → HasClass (least_in net jobs) jobs
-  least_in_line [] some = absurd (omega arith)
-  least_in_line (j ∷ js) some = elim (least_reached (class_of net j) js) [
+  -- where somebody waits, one who does has the least class
+  least_in-reached : (jobs : List JobOf) → 1 ≤ length jobs → HasClass (least_in net jobs) jobs
+  least_in-reached [] some = absurd (omega arith)
+  least_in-reached (j ∷ js) some = elim (least_class-reached (class_of net j) js) [
     | inl same ↦ inl (sym same)
     | inr has ↦ inr has
   ]
 
-  place_below : (n : ℕ) (jobs : List JobOf) → HasClass n jobs → place_of_class net n jobs < length jobs
-  place_below n [] has = absurd has
-  place_below n (j ∷ js) has = elim (cases_Bool (eqb (class_of net j) n)) [
+  -- ---- place_of_class and next_place
+
+  -- where one of the jobs has the class, the first one is in the line
+  place_of_class-below : (n : ℕ) (jobs : List JobOf) → HasClass n jobs → place_of_class net n jobs < length jobs
+  place_of_class-below n [] has = absurd has
+  place_of_class-below n (j ∷ js) has = elim (cases_Bool (eqb (class_of net j) n)) [
     | inl is ↦ rw is (omega arith)
     | inr other ↦ elim has [
       | inl same ↦ absurd (false≢true (sym other ∙ eq-eqb (class_of net j) n same))
-      | inr later ↦ (let below = place_below n js later in rw other (omega arith))
+      | inr later ↦ (let below = place_of_class-below n js later in rw other (omega arith))
     ]
   ]
 
@@ -48,5 +57,5 @@ module _ (net : Net) where
   next_place-below site jobs some = by (serves_by_class site.kind)
     where
       by : (b : Bool) → (if b then place_of_class net (least_in net jobs) jobs else 0) < length jobs
-      by true = place_below (least_in net jobs) jobs (least_in_line jobs some)
+      by true = place_of_class-below (least_in net jobs) jobs (least_in-reached jobs some)
       by false = omega arith

@@ -2,6 +2,7 @@
 use Rattle.std.proofs.Common.{◌≡◌, ℕ, ◌<◌, ◌≤◌, Bool, true, false, nat_lt, if◌then◌else◌, slice_get}
 use Rattle.std.proofs.Common.{inl, List, [], length, refl, sym, ap, subst, Some, arith}
 use Rattle.std.proofs.lemmas.List.{length-map}
+use Rattle.std.proofs.lemmas.Option.{same_Some}
 use Rattle.net_model.specs.declared.station.Kind.{Kind}
 use Rattle.net_model.specs.declared.station.Kind.TheVariants as kind
 use Rattle.net_model.specs.declared.station.Link.{Link}
@@ -16,68 +17,71 @@ use Rattle.sim_base.specs.declared.message.Msg.{Msg}
 use Rattle.stations.specs.declared.sender.Sender.{Sender}
 use Rattle.stations.specs.Sending.{Outgoing, outgoing, send_later}
 use Rattle.stations.specs.Opening.{opening_kind, first_tick, setup}
-use Rattle.stations.proofs.Growing.{Grown, grown-none, grown-more}
-use Rattle.stations.proofs.SourceLaws.{tick_grown}
+use Rattle.stations.proofs.Growing.{Grown, grown-same}
+use Rattle.stations.proofs.SourceLaws.{next_tick-grown}
 use Rattle.stations.proofs.Lawful.{site_valid, number_in, site_is, are_links}
 use Rattle.stations.proofs.Links.{are_weights}
 
+-- ---- opening_kind
+
 -- what a kind opens with fits
-pub opening-fits : (net : Net) (site : Site) (k : Kind) → IsSite net site → site.kind ≡ k
+pub opening_kind-fits : (net : Net) (site : Site) (k : Kind) → IsSite net site → site.kind ≡ k
     → FitsKind 0 (opening_kind site k)
-opening-fits net site (kind.Source lo hi jobs class) valid is =
+opening_kind-fits net site (kind.Source lo hi jobs class) valid is =
     let of : IsKind (kind.Source lo hi jobs class) = subst (λ (q : Kind). IsKind q) is valid.kind in
     record { range = of.every; jobs = of.few; sent = omega arith }
-opening-fits net site (kind.Server servers room lo hi by_class) valid is =
+opening_kind-fits net site (kind.Server servers room lo hi by_class) valid is =
     let of : IsKind (kind.Server servers room lo hi by_class) = subst (λ (q : Kind). IsKind q) is valid.kind in
     record {
-      some = of.some;
-      most = of.few;
-      room = of.small;
-      range = of.service;
+      rules = of;
       busy = omega arith;
       line = inl refl;
       short = omega arith;
       done = omega arith;
       lost = omega arith;
     }
-opening-fits net site (kind.Delay lo hi) valid is =
+opening_kind-fits net site (kind.Delay lo hi) valid is =
     record { range = subst (λ (q : Kind). IsKind q) is valid.kind; passed = omega arith }
-opening-fits net site (kind.Router turn) valid is =
+opening_kind-fits net site (kind.Router turn) valid is =
     record {
       weights = are_weights site.links
           (are_links net site valid (subst (λ (q : Kind). HasWayOut q site.links) is valid.way));
       passed = omega arith;
     }
-opening-fits net site kind.Sink valid is = record { got = omega arith; stay = omega arith }
+opening_kind-fits net site kind.Sink valid is = record { got = omega arith; stay = omega arith }
 
 -- and it is of this kind
-pub opening-kind : (site : Site) (k : Kind) → IsOfKind site k (opening_kind site k)
-opening-kind site (kind.Source lo hi jobs class) = tt
-opening-kind site (kind.Server servers room lo hi by_class) = tt
-opening-kind site (kind.Delay lo hi) = tt
-opening-kind site (kind.Router turn) = length-map site.links (λ (l : Link). l.weight)
-opening-kind site kind.Sink = tt
+pub opening_kind-is_of_kind : (site : Site) (k : Kind) → IsOfKind site k (opening_kind site k)
+opening_kind-is_of_kind site (kind.Source lo hi jobs class) = tt
+opening_kind-is_of_kind site (kind.Server servers room lo hi by_class) = tt
+opening_kind-is_of_kind site (kind.Delay lo hi) = tt
+opening_kind-is_of_kind site (kind.Router turn) = length-map site.links (λ (l : Link). l.weight)
+opening_kind-is_of_kind site kind.Sink = tt
+
+-- ---- first_tick
 
 -- a station that opens sends one message at most, as stations send, and draws one word at most
-pub first_tick_grown : (net : Net) (site : Site) (k : Kind) (o : Outgoing) → IsNet net → IsSite net site
+first_tick-grown : (net : Net) (site : Site) (k : Kind) (o : Outgoing) → IsNet net → IsSite net site
     → site.kind ≡ k → 1 ≤ o.sender.station → o.sender.station ≤ length net.sites
     → Grown net 0 1 o (first_tick (opening_kind site k) o)
-first_tick_grown net site (kind.Source lo hi jobs class) o valid lawful is first last =
-    let fits = opening-fits net site (kind.Source lo hi jobs class) lawful is in
-    tick_grown net 0 (record { lo = lo; hi = hi; jobs = jobs; sent = 0 }) o fits.range first last
-first_tick_grown net site (kind.Server servers room lo hi by_class) o valid lawful is first last =
-    grown-more net 0 0 1 o o (grown-none net 0 o) (omega arith)
-first_tick_grown net site (kind.Delay lo hi) o valid lawful is first last =
-    grown-more net 0 0 1 o o (grown-none net 0 o) (omega arith)
-first_tick_grown net site (kind.Router turn) o valid lawful is first last =
-    grown-more net 0 0 1 o o (grown-none net 0 o) (omega arith)
-first_tick_grown net site kind.Sink o valid lawful is first last =
-    grown-more net 0 0 1 o o (grown-none net 0 o) (omega arith)
+first_tick-grown net site (kind.Source lo hi jobs class) o valid lawful is first last =
+    let fits = opening_kind-fits net site (kind.Source lo hi jobs class) lawful is in
+    next_tick-grown net 0 (record { lo = lo; hi = hi; jobs = jobs; sent = 0 }) o fits.range first last
+first_tick-grown net site (kind.Server servers room lo hi by_class) o valid lawful is first last =
+    grown-same net 0 1 o
+first_tick-grown net site (kind.Delay lo hi) o valid lawful is first last =
+    grown-same net 0 1 o
+first_tick-grown net site (kind.Router turn) o valid lawful is first last =
+    grown-same net 0 1 o
+first_tick-grown net site kind.Sink o valid lawful is first last =
+    grown-same net 0 1 o
+
+-- ---- setup
 
 -- a station opens with a state that fits, and is one of the network
-pub opens-well : (net : Net) (s : ℕ) (site : Site) → IsNet net → site_at net s ≡ Some site
+pub setup-well : (net : Net) (s : ℕ) (site : Site) → IsNet net → site_at net s ≡ Some site
     → FitsState (setup net s).state × SuitsNet net (setup net s).state
-opens-well net s site valid there =
+setup-well net s site valid there =
     let at = site_of net s in
     let is = site_is net s site there in
     let here : site_at net s ≡ Some at = rw is there in
@@ -91,20 +95,20 @@ opens-well net s site valid there =
       };
       sends = [];
     } in
-    let g = first_tick_grown net at at.kind o valid lawful refl number.0 number.1 in (
+    let g = first_tick-grown net at at.kind o valid lawful refl number.0 number.1 in (
       record {
         sender = record {
           station = rw g.station number.0;
           next = omega (arith, g.next, g.few);
           draws = omega (arith, g.draws);
         };
-        kind = opening-fits net at at.kind lawful refl;
+        kind = opening_kind-fits net at at.kind lawful refl;
       },
-      record { site = at; is_there = rw g.station here; kind = opening-kind at at.kind },
+      record { site = at; is_there = rw g.station here; kind = opening_kind-is_of_kind at at.kind },
     )
 
 -- the code's steps come to the opening of the station
-pub opened-is : (net : Net) (s : ℕ) (site : Site) (begun : KindState) (sender' : Sender) (before after : List Msg)
+pub setup-is : (net : Net) (s : ℕ) (site : Site) (begun : KindState) (sender' : Sender) (before after : List Msg)
     → site_at net s ≡ Some site → begun ≡ opening_kind site site.kind → before ≡ []
     → first_tick begun (outgoing (record {
       station = s;
@@ -112,7 +116,7 @@ pub opened-is : (net : Net) (s : ℕ) (site : Site) (begun : KindState) (sender'
       draws = record { seed = net.seed; stream = site.stream; count = 0 };
     }) before) ≡ outgoing sender' after
     → (setup net s).state ≡ record { sender = sender'; handled = 0; kind = begun }
-opened-is net s site begun sender' before after there is none ticked =
+setup-is net s site begun sender' before after there is none ticked =
     let ticked_here = rw (none, is) at ticked in
     rw (site_is net s site there, is)
     (ap (λ (o : Outgoing). let st : StateView = record {
@@ -120,6 +124,8 @@ opened-is net s site begun sender' before after there is none ticked =
       handled = 0;
       kind = opening_kind site site.kind;
     } in st) ticked_here)
+
+-- ---- the message of a first tick
 
 -- the sender of the first tick is the station itself
 pub first_tick-station : (k : KindState) (o : Outgoing) → (first_tick k o).sender.station ≡ o.sender.station
@@ -139,9 +145,6 @@ pub record IsFirst (s next : ℕ) (m : Msg) : Type 0 where
   pub sender : m.key.sender ≡ s
   pub used : m.key.number < next
 
-some_is : {X : Type 0} {x y : X} → Some x ≡ Some y → x ≡ y
-some_is is = cc
-
 -- the message that a station opens with is from it and to it, and its number is used up
 pub first_tick-first : (k : KindState) (sender : Sender) (m : Msg)
     → slice_get (first_tick k (outgoing sender [])).sends 0 ≡ Some m
@@ -152,7 +155,7 @@ first_tick-first (Source s) sender m is = by (nat_lt s.sent s.jobs) is
         []).sends 0 ≡ Some m → IsFirst sender.station
         (if b then send_later 0 s.lo s.hi Tick (outgoing sender []) else outgoing sender []).sender.next m
     by true same =
-        let it = some_is same in
+        let it = same_Some _ m same in
         record {
           to = ap (λ (x : Msg). x.to) (sym it);
           sender = ap (λ (x : Msg). x.key.sender) (sym it);

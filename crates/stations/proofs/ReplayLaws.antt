@@ -1,5 +1,5 @@
 -- What a log leads to, and how what a station sends is numbered.
-use Rattle.std.proofs.Common.{◌≡◌, ℕ, zero, suc, ◌+◌, ◌*◌, ◌^◌, ◌<◌, ◌≤◌, inl, inr, List, [], ◌∷◌}
+use Rattle.std.proofs.Common.{◌≡◌, ℕ, zero, suc, ◌+◌, ◌*◌, ◌<◌, ◌≤◌, inl, inr, List, [], ◌∷◌}
 use Rattle.std.proofs.Common.{◌++◌, length, refl, ap, ◌∙◌, subst, Some, nat_lt, Bool, true, false, if◌then◌else◌, arith}
 use Rattle.std.specs.List.{AllByRecursion}
 use Rattle.std.proofs.lemmas.Option.{slice_get_cases}
@@ -21,8 +21,10 @@ use Rattle.stations.specs.Opening.{first_tick, opening_kind, setup}
 use Rattle.stations.specs.Sending.{Outgoing, send_later}
 use Rattle.stations.proofs.GoodLaws.{among, handles-good, opens_good}
 use Rattle.stations.proofs.Lawful.{handles-well, site_is}
-use Rattle.stations.proofs.OpeningLaws.{opens-well}
-use Rattle.stations.specs.declared.sender.TheConstants.{MOST_SENDS}
+use Rattle.stations.proofs.OpeningLaws.{setup-well}
+use Rattle.stations.specs.declared.sender.TheConstants.{ALL_TIMES, MOST_SENDS}
+
+-- ---- first_tick
 
 -- what a station opens with has at most one number
 first_tick-next : (k : KindState) (o : Outgoing) → (first_tick k o).sender.next ≤ o.sender.next + 1
@@ -36,11 +38,14 @@ first_tick-next (Delay s) o = omega arith
 first_tick-next (Router s) o = omega arith
 first_tick-next (Sink s) o = omega arith
 
+-- ---- replay
+
 module _ (net : Net) where
   -- the state after a log, from any state on
   abbrev replay_from : ℕ → StateView → List (Entry Msg Line) → StateView
   replay_from s st log = world.replay (λ (m : Msg). m.to) (λ (r : ℕ). handle net) s st log
 
+  -- it has handled one message more for each entry
   count_from : (s : ℕ) (st : StateView) (log : List (Entry Msg Line))
       → (replay_from s st log).handled ≡ st.handled + length log
   unfolding handle
@@ -51,6 +56,7 @@ module _ (net : Net) where
   pub replay-counts : ReplayCounts net
   replay-counts s log = count_from s (setup net s).state log ∙ omega arith
 
+  -- with one entry more it is what the message of that entry leads to
   goes_on_from : (s : ℕ) (st : StateView) (log : List (Entry Msg Line)) (e : Entry Msg Line)
       → replay_from s st (log ++ e ∷ []) ≡ (handle net (replay_from s st log) e.msg).state
   goes_on_from s st [] e = refl
@@ -60,15 +66,16 @@ module _ (net : Net) where
   pub replay-goes_on : ReplayGoesOn net
   replay-goes_on s log e = goes_on_from s (setup net s).state log e
 
--- a number of the network's is that of a station
-there : (net : Net) (s : ℕ) → 1 ≤ s → s ≤ length net.sites → (site : Site) × (site_at net s ≡ Some site)
-there net zero low high = absurd (omega arith)
-there net (suc i) low high = elim (slice_get_cases net.sites i).1 [
+-- a number from 1 to that of the last station is that of a station
+site_at-within : (net : Net) (s : ℕ) → 1 ≤ s → s ≤ length net.sites → (site : Site) × (site_at net s ≡ Some site)
+site_at-within net zero low high = absurd (omega arith)
+site_at-within net (suc i) low high = elim (slice_get_cases net.sites i).1 [
   | inl found ↦ (found.0, found.2)
   | inr past ↦ absurd (let beyond = past.0 in omega arith)
 ]
 
 module _ (net : Net) (valid : IsNet net) where
+  -- good states lead to good ones
   good_from : (s : ℕ) (st : StateView) (log : List (Entry Msg Line)) → IsGood net s st
       → IsGood net s (replay_from net s st log)
   good_from s st [] good = good
@@ -83,7 +90,7 @@ module _ (net : Net) (valid : IsNet net) where
   pub replay-suits : ReplaySuits net
   replay-suits s log low high =
       let good = replay-good s log in
-      let site = there net s low high in
+      let site = site_at-within net s low high in
       let is = site_is net s site.0 site.1 in
       record {
         site = site.0;
@@ -91,8 +98,9 @@ module _ (net : Net) (valid : IsNet net) where
         kind = subst (λ (q : Site). IsOfKind q q.kind (replay_from net s (setup net s).state log).kind) is good.kind;
       }
 
+  -- states that fit lead to such, where the times of the log are early
   fits_from : (s : ℕ) (st : StateView) (log : List (Entry Msg Line)) → FitsState st → SuitsNet net st
-      → AllByRecursion (λ e. e.msg.key.time < 2 ^ 31) log → FitsState (replay_from net s st log)
+      → AllByRecursion (λ e. e.msg.key.time < ALL_TIMES) log → FitsState (replay_from net s st log)
   fits_from s st [] fits suits early = fits
   fits_from s st (e ∷ es) fits suits early =
       let well = handles-well net st e.msg valid fits suits early.0 in
@@ -101,14 +109,17 @@ module _ (net : Net) (valid : IsNet net) where
   -- and it keeps what every state keeps, where the times of the log are early
   pub replay-fits : ReplayFits net
   replay-fits s log low high early =
-      let site = there net s low high in
-      let well = opens-well net s site.0 valid site.1 in
+      let site = site_at-within net s low high in
+      let well = setup-well net s site.0 valid site.1 in
       fits_from s (setup net s).state log well.0 well.1 early
 
+  -- ---- numbers
+
+  -- a station opens with at most one message
   opens_next : (s : ℕ) → (setup net s).state.sender.next ≤ 1
   opens_next s = first_tick-next (opening_kind (site_of net s) (site_of net s).kind) _
 
-  -- a station opens with at most one message and sends at most 16 at each, and each gets the next number
+  -- a station opens with at most one message and sends at most `MOST_SENDS` at each, and each gets the next number
   pub sends-next_numbers : SendsNextNumbers net
   sends-next_numbers = record {
     opens = opens_next;
@@ -117,6 +128,7 @@ module _ (net : Net) (valid : IsNet net) where
     sends = λ s st m good. (handles-good net valid s st m good).sends;
   }
 
+  -- for each entry the next number goes up by at most `MOST_SENDS`
   next_from : (s : ℕ) (st : StateView) (log : List (Entry Msg Line)) → IsGood net s st
       → (replay_from net s st log).sender.next ≤ st.sender.next + MOST_SENDS * length log
   next_from s st [] good = omega arith
@@ -125,7 +137,7 @@ module _ (net : Net) (valid : IsNet net) where
       let rest = next_from s (handle net st e.msg).state es one.good in
       omega (arith, rest, one.next, one.few)
 
-  -- so its next number is at most 16 for each entry of its log, and 16 more
+  -- so its next number is at most `MOST_SENDS` for each entry of its log, and once more
   pub numbers-small : NumbersAreSmall net
   numbers-small s log =
       let rest = next_from s (setup net s).state log (opens_good net valid s) in

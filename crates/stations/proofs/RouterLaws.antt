@@ -7,35 +7,40 @@ use Rattle.sim_base.specs.declared.message.Change.{Change}
 use Rattle.sim_base.specs.declared.message.Payload.{Payload}
 use Rattle.sim_base.specs.declared.message.Payload.TheVariants.{Tick, Job, Done, Set}
 use Rattle.sim_base.proofs.ListLaws.{all_set}
+use Rattle.sim_draw.specs.Drawing.{AreWeights}
 use Rattle.net_model.specs.Net.{Net, Site, routes_by_turn}
-use Rattle.net_model.specs.Rules.{IsLink}
+use Rattle.net_model.specs.Rules.{IsLink, IsWeight}
 use Rattle.net_model.specs.declared.limits.TheConstants.{MOST_WEIGHT}
 use Rattle.stations.specs.declared.kind_state.RouterState.{RouterState}
 use Rattle.stations.specs.Changes.{is_accepted}
-use Rattle.stations.specs.Fits.{AreWeights, FitsRouter, is_router}
+use Rattle.stations.specs.Fits.{FitsRouter, is_router}
 use Rattle.stations.specs.Sending.{Outgoing, send_over, route_by}
 use Rattle.stations.specs.Routers.{router_job, router_set, router_on}
-use Rattle.stations.proofs.Accepting.{router-accepts}
+use Rattle.stations.proofs.Accepting.{is_accepted-router}
 use Rattle.stations.proofs.Growing.{Grown, grown-more, grown-route, grown-over, grown-same}
 use Rattle.stations.specs.declared.sender.TheConstants.{MOST_SENDS}
 
 module _ (net : Net) (site : Site) (now : ℕ) (links : AllByRecursion (IsLink net) site.links)
     (ahead : 1 ≤ net.lookahead)
     (a : Outgoing) (first : 1 ≤ a.sender.station) (last : a.sender.station ≤ length net.sites) where
-  -- a router that fits, with a weight for each link
-  router_later : (handled : ℕ) (s : RouterState) → FitsRouter handled s → FitsRouter (handled + 1) s
-  router_later handled s f = record { weights = f.weights; passed = omega (arith, f.passed) }
+  -- ---- router_set
 
-  set_weights : (i w : ℕ) (ws : List ℕ) → AreWeights ws → 1 ≤ w → w ≤ MOST_WEIGHT → AreWeights (slice_set ws i w)
-  set_weights i w ws are low high =
+  -- a router that stays as it is fits one message more
+  router-later : (handled : ℕ) (s : RouterState) → FitsRouter handled s → FitsRouter (handled + 1) s
+  router-later handled s f = record { weights = f.weights; passed = omega (arith, f.passed) }
+
+  -- weights of which one is another weight now
+  set_weights : (i w : ℕ) (ws : List ℕ) → AreWeights ws → IsWeight w → AreWeights (slice_set ws i w)
+  set_weights i w ws are is =
       let count = length-set ws i w in
       record {
         some = omega (arith, count, are.some);
         few = omega (arith, count, are.few);
-        heavy = all_set (λ v. 1 ≤ v) ws i w are.heavy low;
-        light = all_set (λ v. v ≤ MOST_WEIGHT) ws i w are.light high;
+        heavy = all_set (λ v. 1 ≤ v) ws i w are.heavy is.heavy;
+        light = all_set (λ v. v ≤ MOST_WEIGHT) ws i w are.light is.light;
       }
 
+  -- after a change a router fits one message more, and still has a weight for each link
   router_set-fits : (handled : ℕ) (c : Change) (s : RouterState) → is_router site.kind ≡ true
       → length s.weights.items ≡ length site.links → FitsRouter handled s
       → FitsRouter (handled + 1) (router_set site c s)
@@ -46,15 +51,18 @@ module _ (net : Net) (site : Site) (now : ℕ) (links : AllByRecursion (IsLink n
           (if t then record s { weights = record { items = slice_set s.weights.items (c.a - 1) c.b } } else s) in
           FitsRouter (handled + 1) r × (length r.weights.items ≡ length site.links)
       by true accepted =
-          let change = router-accepts site c is accepted in (
+          let change = is_accepted-router site c is accepted in (
             record {
-              weights = set_weights (c.a - 1) c.b s.weights.items f.weights change.heavy change.light;
+              weights = set_weights (c.a - 1) c.b s.weights.items f.weights change.weight;
               passed = omega (arith, f.passed);
             },
             length-set s.weights.items (c.a - 1) c.b ∙ count,
           )
-      by false refused = (router_later handled s f, count)
+      by false refused = (router-later handled s f, count)
 
+  -- ---- router_job
+
+  -- a job that is sent on is at most `MOST_SENDS` messages
   router_job-grown : (j : JobOf) (s : RouterState) → Grown net now MOST_SENDS a (router_job site now j s a)
   router_job-grown j s = by (routes_by_turn site.kind)
     where
@@ -66,7 +74,9 @@ module _ (net : Net) (site : Site) (now : ℕ) (links : AllByRecursion (IsLink n
       by false = grown-more net now 1 MOST_SENDS a _ (grown-route net now site.links s.weights.items j a links ahead)
           (omega arith)
 
-  -- after any message a router fits one more, has a weight for each link, and sends at most 16 messages
+  -- ---- router_on
+
+  -- after any message a router fits one more, has a weight for each link, and sends at most `MOST_SENDS` messages
   pub router_on-good : (handled : ℕ) (p : Payload) (s : RouterState) → is_router site.kind ≡ true
       → length s.weights.items ≡ length site.links → FitsRouter handled s
       → FitsRouter (handled + 1) (router_on site now p s a).state
@@ -76,5 +86,5 @@ module _ (net : Net) (site : Site) (now : ℕ) (links : AllByRecursion (IsLink n
       (record { weights = f.weights; passed = omega (arith, f.passed) }, count, router_job-grown j s)
   router_on-good handled (Set c) s is count f = let r = router_set-fits handled c s is count f in
       (r.0, r.1, grown-same net now MOST_SENDS a)
-  router_on-good handled Tick s is count f = (router_later handled s f, count, grown-same net now MOST_SENDS a)
-  router_on-good handled (Done j) s is count f = (router_later handled s f, count, grown-same net now MOST_SENDS a)
+  router_on-good handled Tick s is count f = (router-later handled s f, count, grown-same net now MOST_SENDS a)
+  router_on-good handled (Done j) s is count f = (router-later handled s f, count, grown-same net now MOST_SENDS a)

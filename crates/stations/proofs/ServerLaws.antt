@@ -2,7 +2,7 @@
 use Rattle.std.proofs.Common.{◌≡◌, ℕ, zero, suc, ◌+◌, ◌-◌, ◌<◌, ◌≤◌, ◌⊎◌, inl, inr, [], ◌∷◌, ◌++◌, length, Bool, true}
 use Rattle.std.proofs.Common.{false, nat_lt, if◌then◌else◌, ltb-true, refl, slice_get, Some, length-append, arith}
 use Rattle.std.specs.List.{AllByRecursion}
-use Rattle.std.proofs.lemmas.Bool.{ltb-false}
+use Rattle.std.proofs.lemmas.Bool.{leb-true, ltb-false}
 use Rattle.std.proofs.lemmas.Option.{slice_get_cases}
 use Rattle.std.proofs.lemmas.List.Edits.{length-remove}
 use Rattle.sim_base.specs.declared.message.Job.{Job as JobOf}
@@ -12,7 +12,7 @@ use Rattle.sim_base.specs.declared.message.Param.TheVariants.{Every, Service, Ho
 use Rattle.sim_base.specs.declared.message.Payload.{Payload}
 use Rattle.sim_base.specs.declared.message.Payload.TheVariants.{Tick, Job, Done, Set}
 use Rattle.net_model.specs.Net.{Net, Site}
-use Rattle.net_model.specs.Rules.{IsLink, IsRange}
+use Rattle.net_model.specs.Rules.{IsLink, IsServer}
 use Rattle.net_model.specs.declared.limits.TheConstants.{MOST_ROOM, MOST_SERVERS}
 use Rattle.stations.specs.declared.kind_state.ServerState.{ServerState}
 use Rattle.stations.specs.Changes.{is_accepted}
@@ -20,29 +20,27 @@ use Rattle.stations.specs.Fits.{FitsServer}
 use Rattle.stations.specs.Sending.{Outgoing, Reaction, reaction, weights_of, route}
 use Rattle.stations.specs.Servers.{next_place, start, start_at, start_next, start_times}
 use Rattle.stations.specs.Servers.{server_job, server_done, server_change, server_set, server_on}
-use Rattle.stations.proofs.Accepting.{accepted-parts, range-bounds, within-bounds, room-bound}
+use Rattle.net_model.proofs.Bounds.{is_range-bounds, is_within-bounds}
+use Rattle.stations.proofs.Accepting.{is_accepted-parts}
 use Rattle.stations.proofs.NextInLine.{next_place-below}
-use Rattle.stations.proofs.Growing.{Grown, grown-none, grown-more, grown-then, grown-later, grown-route}
+use Rattle.stations.proofs.Growing.{Grown, grown-none, grown-more, grown-trans, grown-later, grown-route, grown-same}
 use Rattle.stations.specs.declared.sender.TheConstants.{MOST_SENDS}
 
+-- ---- a server that fits
+
 -- a server that could take n waiting jobs more into service
-pub record IsBusyBut (n handled : ℕ) (s : ServerState) : Type 0 where
-  pub some : 1 ≤ s.servers
-  pub most : s.servers ≤ MOST_SERVERS
-  pub room : s.room ≤ MOST_ROOM
-  pub range : IsRange 1 s.lo s.hi
+record IsBusyBut (n handled : ℕ) (s : ServerState) : Type 0 where
+  pub rules : IsServer s.servers s.room s.lo s.hi
   pub busy : s.busy ≤ MOST_SERVERS
   pub line : (length s.waiting ≡ 0) ⊎ (s.servers ≤ s.busy + n)
   pub short : length s.waiting ≤ MOST_ROOM
   pub done : s.done ≤ handled
   pub lost : s.lost ≤ handled
 
+-- a server that could take none more fits
 busy_fits : (handled : ℕ) (s : ServerState) → IsBusyBut 0 handled s → FitsServer handled s
 busy_fits handled s b = record {
-  some = b.some;
-  most = b.most;
-  room = b.room;
-  range = b.range;
+  rules = b.rules;
   busy = b.busy;
   line = elim b.line [ inl nobody ↦ inl nobody | inr full ↦ inr (omega arith) ];
   short = b.short;
@@ -50,13 +48,10 @@ busy_fits handled s b = record {
   lost = b.lost;
 }
 
--- more messages were handled
-pub server-later : (handled : ℕ) (s : ServerState) → FitsServer handled s → FitsServer (handled + 1) s
+-- a server that fits does so after one message more
+server-later : (handled : ℕ) (s : ServerState) → FitsServer handled s → FitsServer (handled + 1) s
 server-later handled s f = record {
-  some = f.some;
-  most = f.most;
-  room = f.room;
-  range = f.range;
+  rules = f.rules;
   busy = f.busy;
   line = f.line;
   short = f.short;
@@ -71,56 +66,53 @@ module _ (net : Net) (site : Site) (now : ℕ) (links : AllByRecursion (IsLink n
     pub holds : P r.state
     pub grown : Grown net now n a r.out
 
+  -- ---- start_at and start_next
+
   module _ (a : Outgoing) (first : 1 ≤ a.sender.station) (last : a.sender.station ≤ length net.sites) where
-    -- nobody waits, and nobody is started
-    nobody_started : (n handled : ℕ) (s : ServerState) → length s.waiting ≡ 0 → IsBusyBut (suc n) handled s
+    -- where nobody waits, nobody is started
+    start_at-None : (n handled : ℕ) (s : ServerState) → length s.waiting ≡ 0 → IsBusyBut (suc n) handled s
         → Holds (IsBusyBut n handled) 1 a (reaction s a)
-    nobody_started n handled s nobody b = record {
+    start_at-None n handled s nobody b = record {
       holds = record {
-        some = b.some;
-        most = b.most;
-        room = b.room;
-        range = b.range;
+        rules = b.rules;
         busy = b.busy;
         line = inl nobody;
         short = b.short;
         done = b.done;
         lost = b.lost;
       };
-      grown = grown-more net now 0 1 a a (grown-none net now a) (omega arith);
+      grown = grown-same net now 1 a;
     }
 
     -- the job at a place of the line is started
-    one_started : (n handled place : ℕ) (job : JobOf) (s : ServerState) → s.busy < s.servers
+    start_at-Some : (n handled place : ℕ) (job : JobOf) (s : ServerState) → s.busy < s.servers
         → place < length s.waiting → IsBusyBut (suc n) handled s
         → Holds (IsBusyBut n handled) 1 a (start_at now place (Some job) s a)
-    one_started n handled place job s free there b = record {
+    start_at-Some n handled place job s free there b = record {
       holds = record {
-        some = b.some;
-        most = b.most;
-        room = b.room;
-        range = b.range;
-        busy = omega (arith, b.most);
+        rules = b.rules;
+        busy = omega (arith, b.rules.few);
         line = elim b.line [ inl nobody ↦ absurd (omega arith) | inr full ↦ inr (omega arith) ];
         short = omega (arith, b.short, length-remove s.waiting place there);
         done = b.done;
         lost = b.lost;
       };
-      grown = grown-later net now a first last s.lo s.hi (Done job) (λ job. job) b.range.above;
+      grown = grown-later net now a first last s.lo s.hi (Done job) (λ job. job) b.rules.service.above;
     }
 
-    at_place : (n handled place : ℕ) (s : ServerState) → s.busy < s.servers
+    -- so it is with what stands at a place, which is in the line where somebody waits
+    start_at-good : (n handled place : ℕ) (s : ServerState) → s.busy < s.servers
         → (1 ≤ length s.waiting → place < length s.waiting) → IsBusyBut (suc n) handled s
         → Holds (IsBusyBut n handled) 1 a (start_at now place (slice_get s.waiting place) s a)
-    at_place n handled place s free there b = elim (slice_get_cases s.waiting place).1 [
-      | inl found ↦ rw found.2 (one_started n handled place found.0 s free found.1 b)
+    start_at-good n handled place s free there b = elim (slice_get_cases s.waiting place).1 [
+      | inl found ↦ rw found.2 (start_at-Some n handled place found.0 s free found.1 b)
       | inr past ↦ (
           let nobody : length s.waiting ≡ 0 =
           elim (length_cases (length s.waiting)) [
             | inl none ↦ none
             | inr some ↦ absurd (let below = there some in omega (arith, past.0))
           ] in
-          rw past.1 (nobody_started n handled s nobody b))
+          rw past.1 (start_at-None n handled s nobody b))
     ]
       where
         length_cases : (k : ℕ) → (k ≡ 0) ⊎ (1 ≤ k)
@@ -128,7 +120,7 @@ module _ (net : Net) (site : Site) (now : ℕ) (links : AllByRecursion (IsLink n
         length_cases (suc k) = inr (omega arith)
 
     -- one start: either a server was free and who waited was taken, or all are busy
-    pub start_next-good : (n handled : ℕ) (s : ServerState) → IsBusyBut (suc n) handled s
+    start_next-good : (n handled : ℕ) (s : ServerState) → IsBusyBut (suc n) handled s
         → Holds (IsBusyBut n handled) 1 a (start_next net site now s a)
     start_next-good n handled s b = by (nat_lt s.busy s.servers) refl
       where
@@ -136,36 +128,36 @@ module _ (net : Net) (site : Site) (now : ℕ) (links : AllByRecursion (IsLink n
             → Holds (IsBusyBut n handled) 1 a
             (if t then start_at now (next_place net site s.waiting)
             (slice_get s.waiting (next_place net site s.waiting)) s a else reaction s a)
-        by true free = at_place n handled (next_place net site s.waiting) s (ltb-true s.busy s.servers free)
+        by true free = start_at-good n handled (next_place net site s.waiting) s (ltb-true s.busy s.servers free)
             (next_place-below net site s.waiting) b
         by false full =
             let all_busy = ltb-false s.busy s.servers full in
             record {
               holds = record {
-                some = b.some;
-                most = b.most;
-                room = b.room;
-                range = b.range;
+                rules = b.rules;
                 busy = b.busy;
                 line = inr (omega arith);
                 short = b.short;
                 done = b.done;
                 lost = b.lost;
               };
-              grown = grown-more net now 0 1 a a (grown-none net now a) (omega arith);
+              grown = grown-same net now 1 a;
             }
 
-  -- the station is that of the sender before
+  -- ---- start_times
+
+  -- a sender that has grown is a station where the one before is
   first_along : (n : ℕ) (a b : Outgoing) → Grown net now n a b → 1 ≤ a.sender.station → 1 ≤ b.sender.station
   first_along n a b g first = rw g.station first
 
+  -- and its number is no more than that of the last
   last_along : (n : ℕ) (a b : Outgoing) → Grown net now n a b → a.sender.station ≤ length net.sites
       → b.sender.station ≤ length net.sites
   last_along n a b g last = rw g.station last
 
   module _ (a : Outgoing) (first : 1 ≤ a.sender.station) (last : a.sender.station ≤ length net.sites) where
     -- a server that could take n waiting jobs more can take none after n starts, of a message each at most
-    pub start_times-good : (n m handled : ℕ) (r : Reaction ServerState) → IsBusyBut n handled r.state
+    start_times-good : (n m handled : ℕ) (r : Reaction ServerState) → IsBusyBut n handled r.state
         → Grown net now m a r.out → Holds (IsBusyBut 0 handled) (m + n) a (start_times n net site now r)
     start_times-good zero m handled r b g =
         record { holds = b; grown = grown-more net now m (m + 0) a r.out g (omega arith) }
@@ -173,18 +165,17 @@ module _ (net : Net) (site : Site) (now : ℕ) (links : AllByRecursion (IsLink n
         let one = start_next-good r.out (first_along m a r.out g first) (last_along m a r.out g last) n handled
         r.state b in
         let rest = start_times-good n (m + 1) handled (start_next net site now r.state r.out) one.holds
-        (grown-then net now m 1 a r.out (start_next net site now r.state r.out).out g one.grown) in
+        (grown-trans net now m 1 a r.out (start_next net site now r.state r.out).out g one.grown) in
         record {
           holds = rest.holds;
           grown = grown-more net now ((m + 1) + n) (m + suc n) a
               (start_times n net site now (start_next net site now r.state r.out)).out rest.grown (omega arith);
         }
 
-    same_grown : (n : ℕ) → Grown net now n a a
-    same_grown n = grown-more net now 0 n a a (grown-none net now a) (omega arith)
+    -- ---- server_job
 
-    -- where a job comes, the server fits one message more and sends at most 16 messages
-    pub server_job-good : (handled : ℕ) (job : JobOf) (s : ServerState) → FitsServer handled s
+    -- where a job comes, the server fits one message more and sends at most `MOST_SENDS` messages
+    server_job-good : (handled : ℕ) (job : JobOf) (s : ServerState) → FitsServer handled s
         → Holds (FitsServer (handled + 1)) MOST_SENDS a (server_job now job s a)
     server_job-good handled job s f = by (nat_lt s.busy s.servers) (nat_lt (length s.waiting) s.room) refl refl
       where
@@ -196,53 +187,47 @@ module _ (net : Net) (site : Site) (now : ℕ) (links : AllByRecursion (IsLink n
             let below = ltb-true s.busy s.servers free in
             record {
               holds = record {
-                some = f.some;
-                most = f.most;
-                room = f.room;
-                range = f.range;
-                busy = omega (arith, f.most);
+                rules = f.rules;
+                busy = omega (arith, f.rules.few);
                 line = elim f.line [ inl nobody ↦ inl nobody | inr full ↦ absurd (omega arith) ];
                 short = f.short;
                 done = omega (arith, f.done);
                 lost = omega (arith, f.lost);
               };
               grown = grown-more net now 1 MOST_SENDS a (start now job s a).out
-                  (grown-later net now a first last s.lo s.hi (Done job) (λ job. job) f.range.above) (omega arith);
+                  (grown-later net now a first last s.lo s.hi (Done job) (λ job. job) f.rules.service.above)
+                  (omega arith);
             }
         by false true full space =
             let all_busy = ltb-false s.busy s.servers full in
             let fits = ltb-true (length s.waiting) s.room space in
             record {
               holds = record {
-                some = f.some;
-                most = f.most;
-                room = f.room;
-                range = f.range;
+                rules = f.rules;
                 busy = f.busy;
                 line = inr all_busy;
-                short = omega (arith, f.room, length-append s.waiting (job ∷ []));
+                short = omega (arith, f.rules.small, length-append s.waiting (job ∷ []));
                 done = omega (arith, f.done);
                 lost = omega (arith, f.lost);
               };
-              grown = same_grown MOST_SENDS;
+              grown = grown-same net now MOST_SENDS a;
             }
         by false false full no_space = record {
           holds = record {
-            some = f.some;
-            most = f.most;
-            room = f.room;
-            range = f.range;
+            rules = f.rules;
             busy = f.busy;
             line = f.line;
             short = f.short;
             done = omega (arith, f.done);
             lost = omega (arith, f.lost);
           };
-          grown = same_grown MOST_SENDS;
+          grown = grown-same net now MOST_SENDS a;
         }
 
-    -- where a service ends, the server fits one message more and sends at most 16 messages
-    pub server_done-good : (handled : ℕ) (job : JobOf) (s : ServerState) → FitsServer handled s
+    -- ---- server_done
+
+    -- where a service ends, the server fits one message more and sends at most `MOST_SENDS` messages
+    server_done-good : (handled : ℕ) (job : JobOf) (s : ServerState) → FitsServer handled s
         → Holds (FitsServer (handled + 1)) MOST_SENDS a (server_done net site now job s a)
     server_done-good handled job s f = by (nat_lt 0 s.busy) refl
       where
@@ -255,10 +240,7 @@ module _ (net : Net) (site : Site) (now : ℕ) (links : AllByRecursion (IsLink n
             let routed = grown-route net now site.links (weights_of site.links) job a links ahead in
             let after = route site.links now job a in
             let one_less : IsBusyBut 1 (handled + 1) (record s { busy = s.busy - 1; done = s.done + 1 }) = record {
-              some = f.some;
-              most = f.most;
-              room = f.room;
-              range = f.range;
+              rules = f.rules;
               busy = omega (arith, f.busy);
               line = elim f.line [ inl nobody ↦ inl nobody | inr full ↦ inr (omega arith) ];
               short = f.short;
@@ -270,55 +252,49 @@ module _ (net : Net) (site : Site) (now : ℕ) (links : AllByRecursion (IsLink n
             let r = start_next net site now (record s { busy = s.busy - 1; done = s.done + 1 }) after in
             record {
               holds = busy_fits (handled + 1) r.state one.holds;
-              grown = grown-more net now 2 MOST_SENDS a r.out (grown-then net now 1 1 a after r.out routed one.grown)
+              grown = grown-more net now 2 MOST_SENDS a r.out (grown-trans net now 1 1 a after r.out routed one.grown)
                   (omega arith);
             }
-        by false none = record { holds = server-later handled s f; grown = same_grown MOST_SENDS }
+        by false none = record { holds = server-later handled s f; grown = grown-same net now MOST_SENDS a }
 
-    -- where a parameter changes that a server takes, it fits one message more and sends at most 16 messages
-    change-good : (handled : ℕ) (p : Param) (c : Change) (s : ServerState) → c.param ≡ p → is_accepted site c ≡ true
-        → FitsServer handled s
+    -- ---- server_set
+
+    -- where a parameter changes that a server takes, it fits one message more and sends at most `MOST_SENDS` messages
+    server_change-good : (handled : ℕ) (p : Param) (c : Change) (s : ServerState) → c.param ≡ p
+        → is_accepted site c ≡ true → FitsServer handled s
         → Holds (FitsServer (handled + 1)) MOST_SENDS a (server_change net site now p c.a c.b s a)
-    change-good handled Service c s is accepted f =
-        let range = range-bounds 1 c.a c.b (let h = (accepted-parts site c accepted).1 in rw is at h) in
+    server_change-good handled Service c s is accepted f =
+        let range = is_range-bounds 1 c.a c.b (let h = (is_accepted-parts site c accepted).1 in rw is at h) in
         record {
           holds = record {
-            some = f.some;
-            most = f.most;
-            room = f.room;
-            range = range;
+            rules = record { some = f.rules.some; few = f.rules.few; small = f.rules.small; service = range };
             busy = f.busy;
             line = f.line;
             short = f.short;
             done = omega (arith, f.done);
             lost = omega (arith, f.lost);
           };
-          grown = same_grown MOST_SENDS;
+          grown = grown-same net now MOST_SENDS a;
         }
-    change-good handled Room c s is accepted f =
-        let room = room-bound c.a (let h = (accepted-parts site c accepted).1 in rw is at h) in
+    server_change-good handled Room c s is accepted f =
+        let room = leb-true c.a MOST_ROOM (let h = (is_accepted-parts site c accepted).1 in rw is at h) in
         record {
           holds = record {
-            some = f.some;
-            most = f.most;
-            room = room;
-            range = f.range;
+            rules = record { some = f.rules.some; few = f.rules.few; small = room; service = f.rules.service };
             busy = f.busy;
             line = f.line;
             short = f.short;
             done = omega (arith, f.done);
             lost = omega (arith, f.lost);
           };
-          grown = same_grown MOST_SENDS;
+          grown = grown-same net now MOST_SENDS a;
         }
-    change-good handled Servers c s is accepted f =
-        let bounds = within-bounds 1 16 c.a (let h = (accepted-parts site c accepted).1 in rw is at h) in
+    server_change-good handled Servers c s is accepted f =
+        let bounds = is_within-bounds 1 MOST_SERVERS c.a
+        (let h = (is_accepted-parts site c accepted).1 in rw is at h) in
         let few = bounds.1 in
         let begun : IsBusyBut (c.a - s.busy) (handled + 1) (record s { servers = c.a }) = record {
-          some = bounds.0;
-          most = few;
-          room = f.room;
-          range = f.range;
+          rules = record { some = bounds.0; few = few; small = f.rules.small; service = f.rules.service };
           busy = f.busy;
           line = inr (omega arith);
           short = f.short;
@@ -332,28 +308,31 @@ module _ (net : Net) (site : Site) (now : ℕ) (links : AllByRecursion (IsLink n
           holds = busy_fits (handled + 1) r.state rest.holds;
           grown = grown-more net now (0 + (c.a - s.busy)) MOST_SENDS a r.out rest.grown (omega arith);
         }
-    change-good handled Every c s is accepted f =
-        record { holds = server-later handled s f; grown = same_grown MOST_SENDS }
-    change-good handled Hold c s is accepted f =
-        record { holds = server-later handled s f; grown = same_grown MOST_SENDS }
-    change-good handled Weight c s is accepted f =
-        record { holds = server-later handled s f; grown = same_grown MOST_SENDS }
+    server_change-good handled Every c s is accepted f =
+        record { holds = server-later handled s f; grown = grown-same net now MOST_SENDS a }
+    server_change-good handled Hold c s is accepted f =
+        record { holds = server-later handled s f; grown = grown-same net now MOST_SENDS a }
+    server_change-good handled Weight c s is accepted f =
+        record { holds = server-later handled s f; grown = grown-same net now MOST_SENDS a }
 
     -- so it does where any change comes
-    set-good : (handled : ℕ) (c : Change) (s : ServerState) → FitsServer handled s
+    server_set-good : (handled : ℕ) (c : Change) (s : ServerState) → FitsServer handled s
         → Holds (FitsServer (handled + 1)) MOST_SENDS a (server_set net site now c s a)
-    set-good handled c s f = by (is_accepted site c) refl
+    server_set-good handled c s f = by (is_accepted site c) refl
       where
         by : (t : Bool) → is_accepted site c ≡ t
             → Holds (FitsServer (handled + 1)) MOST_SENDS a
             (if t then server_change net site now c.param c.a c.b s a else reaction s a)
-        by true accepted = change-good handled c.param c s refl accepted f
-        by false refused = record { holds = server-later handled s f; grown = same_grown MOST_SENDS }
+        by true accepted = server_change-good handled c.param c s refl accepted f
+        by false refused = record { holds = server-later handled s f; grown = grown-same net now MOST_SENDS a }
+
+    -- ---- server_on
 
     -- whatever message comes, a server keeps what servers keep, and sends as stations send
     pub server_on-good : (handled : ℕ) (p : Payload) (s : ServerState) → FitsServer handled s
         → Holds (FitsServer (handled + 1)) MOST_SENDS a (server_on net site now p s a)
     server_on-good handled (Job j) s f = server_job-good handled j s f
     server_on-good handled (Done j) s f = server_done-good handled j s f
-    server_on-good handled (Set c) s f = set-good handled c s f
-    server_on-good handled Tick s f = record { holds = server-later handled s f; grown = same_grown MOST_SENDS }
+    server_on-good handled (Set c) s f = server_set-good handled c s f
+    server_on-good handled Tick s f =
+        record { holds = server-later handled s f; grown = grown-same net now MOST_SENDS a }

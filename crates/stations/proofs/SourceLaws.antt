@@ -13,24 +13,28 @@ use Rattle.stations.specs.Changes.{is_accepted}
 use Rattle.stations.specs.Fits.{FitsSource}
 use Rattle.stations.specs.Sending.{Outgoing, weights_of, route, send_later}
 use Rattle.stations.specs.Sources.{next_tick, source_ticks, source_set, source_on}
-use Rattle.stations.proofs.Accepting.{source-accepts}
-use Rattle.stations.proofs.Growing.{Grown, grown-none, grown-more, grown-then, grown-later, grown-route, grown-same}
+use Rattle.stations.proofs.Accepting.{is_accepted-source}
+use Rattle.stations.proofs.Growing.{Grown, grown-more, grown-trans, grown-later, grown-route, grown-same}
 use Rattle.stations.specs.declared.sender.TheConstants.{MOST_SENDS}
 
--- the next tick, where one is sent
+-- ---- next_tick
+
 module _ (net : Net) (now : ℕ) where
   -- the next tick is at most one message and takes at most one word drawn
-  pub tick_grown : (s : SourceState) (o : Outgoing) → IsRange 1 s.lo s.hi → 1 ≤ o.sender.station
+  pub next_tick-grown : (s : SourceState) (o : Outgoing) → IsRange 1 s.lo s.hi → 1 ≤ o.sender.station
       → o.sender.station ≤ length net.sites → Grown net now 1 o (next_tick now s o)
-  tick_grown s o range low high = by (nat_lt s.sent s.jobs)
+  next_tick-grown s o range low high = by (nat_lt s.sent s.jobs)
     where
       by : (b : Bool) → Grown net now 1 o (if b then send_later now s.lo s.hi Tick o else o)
       by true = grown-later net now o low high s.lo s.hi Tick (λ job. job) range.above
-      by false = grown-more net now 0 1 o o (grown-none net now o) (omega arith)
+      by false = grown-same net now 1 o
 
 module _ (net : Net) (site : Site) (now : ℕ) (links : AllByRecursion (IsLink net) site.links)
     (ahead : 1 ≤ net.lookahead)
     (a : Outgoing) (first : 1 ≤ a.sender.station) (last : a.sender.station ≤ length net.sites) where
+  -- ---- source_set
+
+  -- after a change a source fits one message more
   source_set-fits : (lo hi jobs class handled : ℕ) (c : Change) (s : SourceState)
       → site.kind ≡ kind.Source lo hi jobs class → FitsSource handled s → FitsSource (handled + 1) (source_set site c s)
   source_set-fits lo hi jobs class handled c s is f = by (is_accepted site c) refl
@@ -38,12 +42,15 @@ module _ (net : Net) (site : Site) (now : ℕ) (links : AllByRecursion (IsLink n
       by : (t : Bool) → is_accepted site c ≡ t
           → FitsSource (handled + 1) (if t then record s { lo = c.a; hi = c.b } else s)
       by true accepted = record {
-        range = source-accepts lo hi jobs class site c is accepted;
+        range = is_accepted-source lo hi jobs class site c is accepted;
         jobs = f.jobs;
         sent = omega (arith, f.sent);
       }
       by false refused = record { range = f.range; jobs = f.jobs; sent = omega (arith, f.sent) }
 
+  -- ---- source_ticks
+
+  -- a job that is made and the next tick are at most `MOST_SENDS` messages
   source_ticks-grown : (s : SourceState) → IsRange 1 s.lo s.hi
       → Grown net now MOST_SENDS a (source_ticks site now s a).out
   source_ticks-grown s range =
@@ -51,11 +58,13 @@ module _ (net : Net) (site : Site) (now : ℕ) (links : AllByRecursion (IsLink n
       let t : SourceState = record s { sent = s.sent + 1 } in
       let routed = grown-route net now site.links (weights_of site.links) job a links ahead in
       let after = route site.links now job a in
-      let ticked = tick_grown net now t after range (rw routed.station first) (rw routed.station last) in
+      let ticked = next_tick-grown net now t after range (rw routed.station first) (rw routed.station last) in
       grown-more net now 2 MOST_SENDS a (next_tick now t after)
-      (grown-then net now 1 1 a after (next_tick now t after) routed ticked) (omega arith)
+      (grown-trans net now 1 1 a after (next_tick now t after) routed ticked) (omega arith)
 
-  -- after any message a source fits one message more, and sends at most 16 messages
+  -- ---- source_on
+
+  -- after any message a source fits one message more, and sends at most `MOST_SENDS` messages
   pub source_on-good : (lo hi jobs class handled : ℕ) (p : Payload) (s : SourceState)
       → site.kind ≡ kind.Source lo hi jobs class → FitsSource handled s
       → FitsSource (handled + 1) (source_on site now p s a).state

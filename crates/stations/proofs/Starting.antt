@@ -7,6 +7,8 @@ use Rattle.stations.specs.declared.kind_state.ServerState.{ServerState}
 use Rattle.stations.specs.Sending.{Outgoing, Reaction, reaction}
 use Rattle.stations.specs.Servers.{next_place, start_at, start_next, start_times}
 
+-- ---- IsOneMore
+
 -- b is a with at most one message more, at most one word drawn, and the same range
 pub record IsOneMore (a b : Reaction ServerState) : Type 0 where
   pub next : b.out.sender.next ≤ a.out.sender.next + 1
@@ -15,16 +17,20 @@ pub record IsOneMore (a b : Reaction ServerState) : Type 0 where
   pub lo : b.state.lo ≡ a.state.lo
   pub hi : b.state.hi ≡ a.state.hi
 
-same_one : (a : Reaction ServerState) → IsOneMore a a
-same_one a = record { next = omega arith; draws = omega arith; sends = omega arith; lo = refl; hi = refl }
+-- what stays as it is is so
+IsOneMore-same : (a : Reaction ServerState) → IsOneMore a a
+IsOneMore-same a = record { next = omega arith; draws = omega arith; sends = omega arith; lo = refl; hi = refl }
 
+-- ---- start_at, start_next, start_times
+
+-- at most one job is started
 start_at-one : (now place : ℕ) (job : Option JobOf) (s : ServerState) (o : Outgoing)
     → IsOneMore (reaction s o) (start_at now place job s o)
-start_at-one now place None s o = same_one (reaction s o)
+start_at-one now place None s o = IsOneMore-same (reaction s o)
 start_at-one now place (Some job) s o =
     record { next = omega arith; draws = omega arith; sends = simp length-append (omega arith); lo = refl; hi = refl }
 
--- where a server is free, at most one job is started
+-- so it is where a server is free or not
 pub start_next-one : (net : Net) (site : Site) (now : ℕ) (s : ServerState) (o : Outgoing)
     → IsOneMore (reaction s o) (start_next net site now s o)
 start_next-one net site now s o = by (nat_lt s.busy s.servers)
@@ -33,7 +39,7 @@ start_next-one net site now s o = by (nat_lt s.busy s.servers)
         (if b then start_at now (next_place net site s.waiting) (slice_get s.waiting (next_place net site s.waiting))
         s o else reaction s o)
     by true = start_at-one now (next_place net site s.waiting) (slice_get s.waiting (next_place net site s.waiting)) s o
-    by false = same_one (reaction s o)
+    by false = IsOneMore-same (reaction s o)
 
 -- of so many starts the next one is made
 pub start_times-more : (net : Net) (site : Site) (now times done : ℕ) (r : Reaction ServerState) → done < times

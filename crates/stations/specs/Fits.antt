@@ -1,13 +1,14 @@
 -- What every state of a station keeps, and when it is one of a station of the network.
-use Rattle.std.specs.Prelude.{◌≡◌, ℕ, ◌+◌, ◌*◌, ◌^◌, ◌≤◌, ◌⊎◌, List, length, Some, Bool, true, false}
+use Rattle.std.specs.Prelude.{◌≡◌, ℕ, ◌+◌, ◌*◌, ◌≤◌, ◌⊎◌, List, length, Some, Bool, true, false}
 use Rattle.std.specs.List.{AllByRecursion}
+use Rattle.sim_draw.specs.Drawing.{AreWeights}
 use Rattle.net_model.specs.declared.station.Kind.{Kind}
 use Rattle.net_model.specs.declared.station.Kind.TheVariants as kind
 use Rattle.net_model.specs.declared.station.Link.{Link}
 use Rattle.net_model.specs.declared.limits.TheConstants.{MOST_JOBS, MOST_LINKS, MOST_ROOM}
-use Rattle.net_model.specs.declared.limits.TheConstants.{MOST_SERVERS, MOST_TIME, MOST_WEIGHT}
+use Rattle.net_model.specs.declared.limits.TheConstants.{MOST_SERVERS, MOST_TIME}
 use Rattle.net_model.specs.Net.{Net, Site, site_at}
-use Rattle.net_model.specs.Rules.{IsRange}
+use Rattle.net_model.specs.Rules.{IsRange, IsServer, IsWeight}
 use Rattle.stations.specs.declared.sender.Sender.{Sender}
 use Rattle.stations.specs.declared.kind_state.KindState.{KindState}
 use Rattle.stations.specs.declared.kind_state.KindState.TheVariants.{Source, Server, Delay, Router, Sink}
@@ -17,21 +18,13 @@ use Rattle.stations.specs.declared.kind_state.DelayState.{DelayState}
 use Rattle.stations.specs.declared.kind_state.RouterState.{RouterState}
 use Rattle.stations.specs.declared.kind_state.SinkState.{SinkState}
 use Rattle.stations.specs.Handling.{StateView}
-use Rattle.stations.specs.declared.sender.TheConstants.{MOST_SENDS}
-
--- weights by which a link may be picked
-pub record AreWeights (weights : List ℕ) : Type 0 where
-  pub some : 1 ≤ length weights
-  pub few : length weights ≤ MOST_LINKS
-  pub heavy : AllByRecursion (λ w. 1 ≤ w) weights
-  pub light : AllByRecursion (λ w. w ≤ MOST_WEIGHT) weights
+use Rattle.stations.specs.declared.sender.TheConstants.{ALL_TIMES, MOST_SENDS}
 
 -- links over which jobs may go
 pub record AreLinks (links : List Link) : Type 0 where
   pub some : 1 ≤ length links
   pub few : length links ≤ MOST_LINKS
-  pub heavy : AllByRecursion (λ l. 1 ≤ l.weight) links
-  pub light : AllByRecursion (λ l. l.weight ≤ MOST_WEIGHT) links
+  pub weights : AllByRecursion (λ l. IsWeight l.weight) links
   pub near : AllByRecursion (λ l. l.delay ≤ MOST_TIME) links
 
 -- a station that sends has links
@@ -45,12 +38,9 @@ pub record FitsSource (handled : ℕ) (s : SourceState) : Type 0 where
   pub jobs : s.jobs ≤ MOST_JOBS
   pub sent : s.sent ≤ handled
 
--- nobody waits beside a free server
+-- a server's parameters keep to the rules, and nobody waits beside a free server
 pub record FitsServer (handled : ℕ) (s : ServerState) : Type 0 where
-  pub some : 1 ≤ s.servers
-  pub most : s.servers ≤ MOST_SERVERS
-  pub room : s.room ≤ MOST_ROOM
-  pub range : IsRange 1 s.lo s.hi
+  pub rules : IsServer s.servers s.room s.lo s.hi
   pub busy : s.busy ≤ MOST_SERVERS
   pub line : (length s.waiting ≡ 0) ⊎ (s.servers ≤ s.busy)
   pub short : length s.waiting ≤ MOST_ROOM
@@ -67,10 +57,10 @@ pub record FitsRouter (handled : ℕ) (s : RouterState) : Type 0 where
   pub weights : AreWeights s.weights.items
   pub passed : s.passed ≤ handled
 
--- a sink got no more jobs than it handled messages, and their stays are at most 2^31 for each message
+-- a sink got no more jobs than it handled messages, and their stays are at most `ALL_TIMES` for each message
 pub record FitsSink (handled : ℕ) (s : SinkState) : Type 0 where
   pub got : s.got ≤ handled
-  pub stay : s.stay ≤ 2 ^ 31 * handled
+  pub stay : s.stay ≤ ALL_TIMES * handled
 
 -- what a state of each kind keeps, after so many messages were handled
 abbrev pub FitsKind : ℕ → KindState → Type 0

@@ -1,5 +1,5 @@
 -- Laws of these stations, in words that contracts cite: what a log leads to, and how what they send is numbered.
-use Rattle.std.specs.Prelude.{◌≡◌, ℕ, ◌+◌, ◌*◌, ◌^◌, ◌<◌, ◌≤◌, List, [], ◌∷◌, ◌++◌, length}
+use Rattle.std.specs.Prelude.{◌≡◌, ℕ, ◌+◌, ◌*◌, ◌<◌, ◌≤◌, List, [], ◌∷◌, ◌++◌, length}
 use Rattle.std.specs.List.{AllByRecursion}
 use Rattle.sim_base.specs.Clones.{Clone}
 use Rattle.sim_base.specs.declared.message.TheConstants.{WORD_NUMBERS}
@@ -18,7 +18,7 @@ use Rattle.stations.specs.Handling.{StateView, handle}
 use Rattle.stations.specs.Opening.{setup}
 use Rattle.stations.specs.Runs.{simulation, replay, log_at, IsBeyond}
 use Rattle.stations.specs.Sends.{AreSends, IsJob}
-use Rattle.stations.specs.declared.sender.TheConstants.{MOST_SENDS}
+use Rattle.stations.specs.declared.sender.TheConstants.{ALL_TIMES, MOST_SENDS}
 
 module _ (net : Net) where
   -- the state that a log leads to is a good one of its station
@@ -36,7 +36,7 @@ module _ (net : Net) where
   -- and it keeps what every state keeps, where the times are early
   abbrev pub ReplayFits : Type 0
   ReplayFits = (s : ℕ) (log : List (Entry Msg Line)) → 1 ≤ s → s ≤ length net.sites →
-      AllByRecursion (λ e. e.msg.key.time < 2 ^ 31) log → FitsState (replay net s log)
+      AllByRecursion (λ e. e.msg.key.time < ALL_TIMES) log → FitsState (replay net s log)
 
   -- the replay of one entry more is what its message leads to from the replay
   abbrev pub ReplayGoesOn : Type 0

@@ -9,7 +9,7 @@ use Rattle.stations.specs.declared.kind_state.RouterState.{RouterState}
 use Rattle.stations.specs.Sending.{Outgoing, Reaction, reaction, send_over, route_by}
 use Rattle.stations.specs.Changes.{is_accepted}
 
--- a job goes over the next link in turn, or over a link that is picked by the weights
+-- a job goes over the next link by turn, or over a link that is picked by the weights
 abbrev pub router_job : Site → ℕ → JobOf → RouterState → Outgoing → Outgoing
 router_job site now job s o =
     if routes_by_turn site.kind

@@ -59,7 +59,7 @@ replay net s log = world.replay (λ (m : Msg). m.to) (λ (r : ℕ). handle net) 
 abbrev pub state_at : Net → Clone → ℕ → ℕ → StateView
 state_at net c s front = runs.state_at (simulation net) c s front
 
--- one station's window by itself, from how it stands in a clone at a front, to a bound
+-- one station's window by itself, from what it is in a clone at a front, to a bound
 abbrev pub window_of : Net → Clone → ℕ → ℕ → ℕ → Config (Part StateView Msg Line) Msg
 window_of net c s front bound = laws.window (simulation net) c s front bound
 

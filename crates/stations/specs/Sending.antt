@@ -1,5 +1,5 @@
 -- What a station sends.
-use Rattle.std.specs.Prelude.{ℕ, ◌+◌, ◌*◌, ◌^◌, ◌<◌, ◌≤◌, List, [], ◌∷◌, ◌++◌, map, slice_get, Option, Some, None}
+use Rattle.std.specs.Prelude.{ℕ, ◌+◌, ◌*◌, ◌<◌, ◌≤◌, List, [], ◌∷◌, ◌++◌, map, slice_get, Option, Some, None}
 use Rattle.sim_base.specs.declared.message.Msg.{Msg}
 use Rattle.sim_base.specs.declared.message.Job.{Job as JobOf}
 use Rattle.sim_base.specs.declared.message.Payload.{Payload}
@@ -7,7 +7,7 @@ use Rattle.sim_base.specs.declared.message.Payload.TheVariants.{Job}
 use Rattle.sim_draw.specs.Drawing.{drawn_one, range_of, pick_of, drawn_by}
 use Rattle.net_model.specs.declared.station.Link.{Link}
 use Rattle.stations.specs.declared.sender.Sender.{Sender}
-use Rattle.stations.specs.declared.sender.TheConstants.{MOST_SENDS}
+use Rattle.stations.specs.declared.sender.TheConstants.{ALL_COUNTS, ALL_TIMES, MOST_SENDS}
 
 -- a sender, and what it has sent since a message came, in order
 pub record Outgoing : Type 0 where
@@ -22,9 +22,9 @@ outgoing sender sends = record { sender = sender; sends = sends }
 -- places, its numbers and draws are far from their ends, and so is the time; a message takes at most two words drawn
 pub record MaySend (more now : ℕ) (sender : Sender) (sent : ℕ) : Type 0 where
   pub free : sent + more ≤ MOST_SENDS
-  pub next : sender.next + more ≤ 2 ^ 32
-  pub draws : sender.draws.count + 2 * more ≤ 2 ^ 32
-  pub early : now < 2 ^ 31
+  pub next : sender.next + more ≤ ALL_COUNTS
+  pub draws : sender.draws.count + 2 * more ≤ ALL_COUNTS
+  pub early : now < ALL_TIMES
 
 -- one message more goes out, with the sender's next number
 abbrev pub send : ℕ → ℕ → Payload → Outgoing → Outgoing

@@ -1,11 +1,10 @@
 //! Whether a station takes a change.
 ghost use Rattle.std.specs.Prelude.{◌≡◌, ◌≤◌, length};
 ghost use Rattle.net_model.specs.Net.{site_of};
-ghost use Rattle.net_model.specs.Rules.{is_range};
 ghost use Rattle.net_model.specs.Sites.{as_site};
 ghost use Rattle.stations.specs.Changes.{accepts as accepts_at, is_accepted, has_parameter, is_in_range};
 
-use net_model::limits::{MOST_ROOM, MOST_SERVERS, MOST_TIME, MOST_WEIGHT};
+use net_model::limits::{MOST_ROOM, MOST_SERVERS, MOST_WEIGHT, is_range};
 use net_model::{Kind, Model, Station};
 use sim_base::{Change, Param};
 
@@ -62,18 +61,12 @@ fn kind_has(kind: &Kind, param: Param) -> bool
     }
 }
 
-fn ordered(low: u64, change: &Change) -> bool
-    ensures { result ≡ is_range low change.now.a change.now.b }
-{
-    low <= change.a && change.a <= change.b && change.b <= MOST_TIME
-}
-
 fn in_range(links: usize, change: &Change) -> bool
     ensures { result ≡ is_in_range links change.now.param change.now.a change.now.b }
 {
     match change.param {
-        Param::Every | Param::Service => ordered(1, change),
-        Param::Hold => ordered(0, change),
+        Param::Every | Param::Service => is_range(1, change.a, change.b),
+        Param::Hold => is_range(0, change.a, change.b),
         Param::Servers => 1 <= change.a && change.a <= MOST_SERVERS,
         Param::Room => change.a <= MOST_ROOM,
         Param::Weight => {

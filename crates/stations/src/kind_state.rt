@@ -1,4 +1,5 @@
-//! What each kind of station keeps.
+//! What each kind of station (a logical process) keeps: parameters, such as a server's queue capacity, the jobs that
+//! wait, and counts, such as the jobs blocked at a full queue; a sink also sums up times in system.
 use crate::job_queue::JobQueue;
 use arrayvec::ArrayVec;
 use net_model::limits::MOST_LINKS;

@@ -40,8 +40,8 @@ pub fn logs_are_replayed()
     ensures goes_on { (net : Net) → ReplayGoesOn net }
 {}
 
-/// A station numbers what it sends one after the other, at most 16 for each message that it handles, so its
-/// numbers stay below 16 for each entry of its log and 16 more.
+/// A station numbers what it sends one after the other, at most `MOST_SENDS` for each message that it handles, so its
+/// numbers stay below so many for each entry of its log, and once more.
 pub fn sends_are_numbered()
     ensures next { (net : Net) → IsNet net → SendsNextNumbers net }
     ensures small { (net : Net) → IsNet net → NumbersAreSmall net }

@@ -28,6 +28,7 @@
 #![tactic(auto)]
 
 pub mod change;
+pub mod decision;
 mod delay;
 pub mod due;
 pub mod examples;

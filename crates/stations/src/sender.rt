@@ -1,12 +1,12 @@
 //! What a station sends by, and how it sends.
-ghost use Rattle.std.specs.Prelude.{◌≡◌, ◌<◌, ◌≤◌, ◌^◌, length, slice_get, Some};
+ghost use Rattle.std.specs.Prelude.{◌≡◌, ◌<◌, ◌≤◌, ◌*◌, length, slice_get, Some};
 ghost use Rattle.arrayvec.specs.ArrayVec.{array_vec_len};
-ghost use Rattle.sim_draw.specs.Drawing.{pick_of, drawn_by};
+ghost use Rattle.sim_draw.specs.Drawing.{AreWeights, pick_of, drawn_by};
 ghost use Rattle.net_model.specs.Rules.{IsRange};
 ghost use Rattle.net_model.specs.declared.limits.TheConstants.{MOST_LINKS, MOST_TIME};
-ghost use Rattle.stations.specs.Fits.{AreWeights, AreLinks};
+ghost use Rattle.stations.specs.Fits.{AreLinks};
 ghost use Rattle.stations.specs.Sending.{MaySend, outgoing, send, send_later, send_over, route, weights_of};
-ghost use Rattle.stations.specs.declared.sender.TheConstants.{MOST_SENDS};
+ghost use Rattle.stations.specs.declared.sender.TheConstants.{ALL_COUNTS, ALL_TIMES, MOST_SENDS};
 
 use arrayvec::ArrayVec;
 use net_model::Link;
@@ -16,6 +16,12 @@ use sim_draw::Draws;
 
 /// The most messages that a station sends for one that it handles.
 pub const MOST_SENDS: usize = 16;
+
+/// How many times there are at which a station may handle a message: 31 bits, more than the greatest horizon.
+pub const ALL_TIMES: u64 = 2_147_483_648;
+
+/// How many numbers there are for the messages of a station, for its draws, and for each of its counts: 32 bits.
+pub const ALL_COUNTS: u64 = 4_294_967_296;
 
 /// A station's number, the count of the messages that it has sent, and its draws.
 #[derive(Drop)]
@@ -34,7 +40,7 @@ pub(crate) fn send_message(
     payload: Payload,
 )
     requires free { array_vec_len out.old < MOST_SENDS }
-    requires next { sender.old.next < 2 ^ 32 }
+    requires next { sender.old.next < ALL_COUNTS }
     ensures { send time to payload (outgoing sender.old out.old.items) ≡ outgoing sender.new out.new.items }
 {
     out.push(Msg {
@@ -76,9 +82,9 @@ pub(crate) fn send_over_link(
     job: Job,
 )
     requires free { array_vec_len out.old < MOST_SENDS }
-    requires next { sender.old.next < 2 ^ 32 }
+    requires next { sender.old.next < ALL_COUNTS }
     requires near { link.now.delay ≤ MOST_TIME }
-    requires early { time < 2 ^ 32 }
+    requires early { time < 2 * ALL_TIMES }
     ensures { send_over (Some link.now) time job (outgoing sender.old out.old.items)
         ≡ outgoing sender.new out.new.items }
 {
@@ -89,7 +95,7 @@ pub(crate) fn send_over_link(
 pub(crate) fn pick_link(sender: &mut Sender, links: &[Link], weights: &[u32]) -> Link
     requires valid { AreWeights weights.now }
     requires same { length weights.now ≡ length links.now }
-    requires draws { sender.old.draws.count < 2 ^ 32 }
+    requires draws { sender.old.draws.count < ALL_COUNTS }
     ensures link { slice_get links.now (pick_of weights.now sender.old.draws) ≡ Some result }
     ensures drawn { sender.new ≡ record sender.old { draws = drawn_by weights.now sender.old.draws } }
 {
@@ -119,7 +125,7 @@ pub(crate) fn link_weights(links: &[Link]) -> ArrayVec<u32, MOST_LINKS>
 /// Picks a link by the weights of the model; with one link nothing is drawn.
 pub(crate) fn pick_by_model(sender: &mut Sender, links: &[Link]) -> Link
     requires valid { AreLinks links.now }
-    requires draws { sender.old.draws.count < 2 ^ 32 }
+    requires draws { sender.old.draws.count < ALL_COUNTS }
     ensures link { slice_get links.now (pick_of (weights_of links.now) sender.old.draws) ≡ Some result }
     ensures drawn { sender.new ≡ record sender.old { draws = drawn_by (weights_of links.now) sender.old.draws } }
     ensures near { result.delay ≤ MOST_TIME }

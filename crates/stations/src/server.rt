@@ -1,15 +1,14 @@
 //! Servers: queueing stations, each with a number of servers and a waiting room.
-ghost use Rattle.std.specs.Prelude.{◌≡◌, ◌<◌, ◌≤◌, ◌^◌, length, OnOk, OnErr};
+ghost use Rattle.std.specs.Prelude.{◌≡◌, ◌<◌, ◌≤◌, length, OnOk, OnErr};
 ghost use Rattle.arrayvec.specs.ArrayVec.{array_vec_len};
 ghost use Rattle.net_model.specs.Rules.{IsRange};
-ghost use Rattle.net_model.specs.declared.limits.TheConstants.{MOST_LIMIT};
+ghost use Rattle.net_model.specs.declared.limits.TheConstants.{MOST_LIMIT, MOST_SERVERS};
 ghost use Rattle.net_model.specs.Sites.{as_site};
-ghost use Rattle.net_model.specs.declared.limits.TheConstants.{MOST_SERVERS};
 ghost use Rattle.stations.specs.Fits.{AreLinks, FitsServer};
 ghost use Rattle.stations.specs.Sending.{MaySend, outgoing, reaction};
 ghost use Rattle.stations.specs.Servers.{least_in, place_of_class, next_place, start, start_next as next_started};
 ghost use Rattle.stations.specs.Servers.{start_times, server_job, server_done, server_change, server_set, server_on};
-ghost use Rattle.stations.specs.declared.sender.TheConstants.{MOST_SENDS};
+ghost use Rattle.stations.specs.declared.sender.TheConstants.{ALL_COUNTS, MOST_SENDS};
 ghost use Rattle.sim_base.specs.declared.message.Param.TheVariants.{Servers};
 
 use crate::change::takes_change;
@@ -20,6 +19,7 @@ use arrayvec::ArrayVec;
 use net_model::{Model, Station};
 use sim_base::{Change, Job, Msg, NoMemory, Param, Payload};
 
+// The least class among those who wait.
 fn least_waiting(model: &Model, jobs: &JobQueue) -> u32
     requires { 1 ≤ length jobs.now }
     ensures { result ≡ least_in model.now jobs.now }
@@ -31,6 +31,7 @@ fn least_waiting(model: &Model, jobs: &JobQueue) -> u32
     least
 }
 
+// The place of the first job of the class, or the length of the line.
 fn first_of_class(model: &Model, jobs: &JobQueue, class: u32) -> usize
     ensures { result ≡ place_of_class model.now class jobs.now }
 {
@@ -42,6 +43,7 @@ fn first_of_class(model: &Model, jobs: &JobQueue, class: u32) -> usize
     jobs.len()
 }
 
+// The place of the job that is served next: the first, or the first of the least class.
 fn place_of_next(model: &Model, station: &Station, jobs: &JobQueue) -> usize
     ensures { result ≡ next_place model.now (as_site station.now) jobs.now }
 {
@@ -51,6 +53,7 @@ fn place_of_next(model: &Model, station: &Station, jobs: &JobQueue) -> usize
     first_of_class(model, jobs, least_waiting(model, jobs))
 }
 
+// A job is taken into service.
 fn start_job(
     server: &mut ServerState,
     sender: &mut Sender,
@@ -60,7 +63,7 @@ fn start_job(
 )
     requires may_send { MaySend 1 now sender.old (array_vec_len out.old) }
     requires range { IsRange 1 server.old.lo server.old.hi }
-    requires busy { server.old.busy < 2 ^ 32 }
+    requires busy { server.old.busy < ALL_COUNTS }
     ensures { start now job server.old (outgoing sender.old out.old.items) ≡ reaction server.new
         (outgoing sender.new out.new.items) }
 {
@@ -90,7 +93,8 @@ fn start_next(
     }
 }
 
-fn job_comes(
+// A job comes: into service, into the waiting line, or it is lost where that is full.
+fn admit_job(
     server: &mut ServerState,
     sender: &mut Sender,
     out: &mut ArrayVec<Msg, MOST_SENDS>,
@@ -99,7 +103,7 @@ fn job_comes(
 ) -> Result<(), NoMemory>
     requires may_send { MaySend 1 now sender.old (array_vec_len out.old) }
     requires range { IsRange 1 server.old.lo server.old.hi }
-    requires lost { server.old.lost < 2 ^ 32 }
+    requires lost { server.old.lost < ALL_COUNTS }
     ensures ok { OnOk result (server_job now job server.old (outgoing sender.old out.old.items) ≡ reaction server.new
         (outgoing sender.new out.new.items)) }
     ensures err { OnErr result (reaction server.new (outgoing sender.new out.new.items) ≡ reaction server.old
@@ -115,7 +119,8 @@ fn job_comes(
     Ok(())
 }
 
-fn job_is_done(
+// A service ends: the job goes on, and the next one is taken into service.
+fn end_service(
     server: &mut ServerState,
     sender: &mut Sender,
     out: &mut ArrayVec<Msg, MOST_SENDS>,
@@ -127,7 +132,7 @@ fn job_is_done(
     requires may_send { MaySend 2 now sender.old (array_vec_len out.old) }
     requires links { AreLinks station.now.links.items }
     requires range { IsRange 1 server.old.lo server.old.hi }
-    requires done { server.old.done < 2 ^ 32 }
+    requires done { server.old.done < ALL_COUNTS }
     ensures { server_done model.now (as_site station.now) now job server.old (outgoing sender.old out.old.items)
         ≡ reaction server.new (outgoing sender.new out.new.items) }
 {
@@ -183,6 +188,7 @@ fn set_servers(
     start_many(server, sender, out, model, station, now, free);
 }
 
+// A parameter changes, where the server takes the change.
 fn set_server(
     server: &mut ServerState,
     sender: &mut Sender,
@@ -232,9 +238,9 @@ pub(crate) fn server_handles(
         (outgoing sender.old out.old.items)) }
 {
     match payload {
-        Payload::Job(job) => job_comes(server, sender, out, now, *job),
+        Payload::Job(job) => admit_job(server, sender, out, now, *job),
         Payload::Done(job) => {
-            job_is_done(server, sender, out, model, station, now, *job);
+            end_service(server, sender, out, model, station, now, *job);
             Ok(())
         }
         Payload::Set(change) => {

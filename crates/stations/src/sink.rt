@@ -1,8 +1,9 @@
 //! Sinks: the departures from the network, and the sum of their times in system.
-ghost use Rattle.std.specs.Prelude.{◌≡◌, ◌<◌, ◌^◌};
+ghost use Rattle.std.specs.Prelude.{◌≡◌, ◌<◌};
 ghost use Rattle.net_model.specs.declared.limits.TheConstants.{MOST_LIMIT};
 ghost use Rattle.stations.specs.Fits.{FitsSink};
 ghost use Rattle.stations.specs.Sinks.{sink_on};
+ghost use Rattle.stations.specs.declared.sender.TheConstants.{ALL_TIMES};
 
 use crate::kind_state::SinkState;
 use sim_base::Payload;
@@ -10,7 +11,7 @@ use sim_base::Payload;
 /// A sink handles a message.
 pub(crate) fn sink_handles(sink: &mut SinkState, now: u64, payload: &Payload)
     requires fits { FitsSink MOST_LIMIT sink.old }
-    requires early { now < 2 ^ 31 }
+    requires early { now < ALL_TIMES }
     ensures { sink.new ≡ sink_on now payload.now sink.old }
 {
     if let Payload::Job(job) = payload {

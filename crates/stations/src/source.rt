@@ -1,5 +1,5 @@
 //! Sources: the arrival processes of the network, where its jobs come from.
-ghost use Rattle.std.specs.Prelude.{◌≡◌, ◌<◌, ◌^◌};
+ghost use Rattle.std.specs.Prelude.{◌≡◌, ◌<◌};
 ghost use Rattle.arrayvec.specs.ArrayVec.{array_vec_len};
 ghost use Rattle.net_model.specs.Rules.{IsRange};
 ghost use Rattle.net_model.specs.declared.limits.TheConstants.{MOST_LIMIT};
@@ -7,7 +7,7 @@ ghost use Rattle.net_model.specs.Sites.{as_site};
 ghost use Rattle.stations.specs.Fits.{AreLinks, FitsSource};
 ghost use Rattle.stations.specs.Sending.{MaySend, outgoing, reaction};
 ghost use Rattle.stations.specs.Sources.{next_tick, source_ticks, source_set, source_on};
-ghost use Rattle.stations.specs.declared.sender.TheConstants.{MOST_SENDS};
+ghost use Rattle.stations.specs.declared.sender.TheConstants.{ALL_COUNTS, MOST_SENDS};
 
 use crate::change::takes_change;
 use crate::kind_state::SourceState;
@@ -42,7 +42,7 @@ fn make_job(
     requires may_send { MaySend 2 now sender.old (array_vec_len out.old) }
     requires links { AreLinks station.now.links.items }
     requires range { IsRange 1 source.old.lo source.old.hi }
-    requires sent { source.old.sent < 2 ^ 32 }
+    requires sent { source.old.sent < ALL_COUNTS }
     ensures { source_ticks (as_site station.now) now source.old (outgoing sender.old out.old.items)
         ≡ reaction source.new (outgoing sender.new out.new.items) }
 {

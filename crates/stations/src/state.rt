@@ -1,5 +1,5 @@
-//! The state of a station, and how it handles messages.
-ghost use Rattle.std.specs.Prelude.{◌≡◌, ◌+◌, ◌<◌, ◌≤◌, ◌^◌, [], length, IfOk, OnErr, OnOk};
+//! The state of a station (a logical process), and how it handles a message (event execution).
+ghost use Rattle.std.specs.Prelude.{◌≡◌, ◌+◌, ◌<◌, ◌≤◌, [], length, IfOk, OnErr, OnOk};
 ghost use Rattle.arrayvec.specs.ArrayVec.{array_vec_len};
 ghost use Rattle.net_model.specs.Sites.{as_site};
 ghost use Rattle.net_model.specs.declared.limits.TheConstants.{MOST_LIMIT, MOST_LINKS};
@@ -8,7 +8,7 @@ ghost use Rattle.stations.specs.Handling.{handle as handled_by, kind_on, line_of
 ghost use Rattle.stations.specs.Opening.{setup as opened_by, opening_kind, first_tick};
 ghost use Rattle.stations.specs.Sending.{MaySend, outgoing, reaction};
 ghost use Rattle.stations.specs.Sends.{AreSends};
-ghost use Rattle.stations.specs.declared.sender.TheConstants.{MOST_SENDS};
+ghost use Rattle.stations.specs.declared.sender.TheConstants.{ALL_TIMES, MOST_SENDS};
 
 use crate::delay::delay_handles;
 use crate::job_queue::JobQueue;
@@ -121,21 +121,28 @@ pub fn handle<L: Ledger>(
     out: &mut ArrayVec<Msg, MOST_SENDS>,
     steps: &mut Steps<L>,
 ) -> Result<Line, NoMemory>
+    // what it asks: a station of the network, nothing in `out`, and a message to this station; the station has handled
+    // fewer messages than the greatest limit, and the time is one at which it may handle one
     requires suits { SuitsNet model.now state.old }
     requires empty { array_vec_len out.old ≡ 0 }
     requires own { msg.now.to ≡ state.old.sender.station }
     requires below { state.old.handled < MOST_LIMIT }
-    requires early { msg.now.key.time < 2 ^ 31 }
+    requires early { msg.now.key.time < ALL_TIMES }
+    // what it gives: the state, the sends and the line of the definition; each send is later than the message, and
+    // they have the sender's next numbers
     ensures ok { IfOk result (λ line. handled_by model.now state.old msg.now
         ≡ record { state = state.new; sends = out.new.items; line = line }) }
     ensures sends { OnOk result (AreSends model.now msg.now.key.time state.old.sender.station state.old.sender.next
         out.new.items) }
     ensures next { OnOk result (state.new.sender.next ≡ state.old.sender.next + length out.new.items) }
+    // what is kept, also where it fails: it is a state of this station of the network, within its bounds
     ensures suits { SuitsNet model.now state.new }
     ensures fits { FitsState state.new }
     ensures own { state.new.sender.station ≡ state.old.sender.station }
+    // what is counted: the message in the state, and a step
     ensures one_more { OnOk result (state.new.handled ≡ state.old.handled + 1) }
     ensures counted { OnOk result (steps.new ≡ steps.old + 1) }
+    // out of memory leaves the state as it was, nothing sent, and no step counted
     ensures err { OnErr result (state.new ≡ state.old) }
     ensures nothing { OnErr result (out.new.items ≡ []) }
     ensures uncounted { OnErr result (steps.new ≡ steps.old) }
@@ -204,9 +211,12 @@ fn send_first(kind: &KindState, sender: &mut Sender, out: &mut ArrayVec<Msg, MOS
 
 /// A station opens: its state, and a source's first tick.
 pub fn setup(alloc: Global, model: &Model, station: u32) -> Result<(State, Option<Msg>), NoMemory>
+    // what it asks: the number of a station of the model
     requires low { 1 ≤ station }
     requires high { station ≤ length model.now.sites }
+    // what it gives: the state and the first tick of the definition
     ensures opened { IfOk result (λ p. opened_by model.now station ≡ record { state = p.0; first = p.1 }) }
+    // what holds of the state: it is one of this station of the network, within its bounds, and has handled nothing
     ensures suits { IfOk result (λ p. SuitsNet model.now p.0) }
     ensures fits { IfOk result (λ p. FitsState p.0) }
     ensures own { IfOk result (λ p. p.0.sender.station ≡ station) }

@@ -4,11 +4,13 @@ use Rattle.std.proofs.lemmas.Bool.{cases_lt}
 use Rattle.std.specs.Option.{option_or}
 use Rattle.study_run.specs.Overs.{first_below}
 
+-- ---- option_or
 -- neither is there
 pub both_none : {X : Type 0} (a b : Option X) → option_or a b ≡ None → (a ≡ None) × (b ≡ None)
 both_none None b h = (refl, h)
 both_none (Some x) b h = absurd (cc)
 
+-- ---- first_below
 -- x is there below n, and nothing before it
 pub record IsFirstAt {X : Type 0} (f : ℕ → Option X) (n : ℕ) (x : X) : Type 0 where
   pub place : ℕ

@@ -1,7 +1,7 @@
 -- The first log of a trace that is full, and the lengths of all.
-use Rattle.std.proofs.Common.{◌≡◌, inl, inr, ℕ, ◌<◌, ◌≤◌, ◌==◌, cond, refl, ap, sym, subst}
+use Rattle.std.proofs.Common.{◌≡◌, inl, inr, ℕ, ◌<◌, ◌≤◌, ◌==◌, refl, ap, sym, subst}
 use Rattle.std.proofs.Common.{◌∙◌, List, [], ◌∷◌, ◌++◌, length, length-append, append-nil, Option, Some, None, arith}
-use Rattle.std.proofs.lemmas.Bool.{cases_eq, cases_lt, lt-leb}
+use Rattle.std.proofs.lemmas.Bool.{cases_eq, cases_lt}
 use Rattle.std.proofs.lemmas.List.{append_assoc}
 use Rattle.std.proofs.lemmas.List.Elements.{filter-append}
 use Rattle.sim_base.specs.Clones.{Clone}
@@ -13,18 +13,13 @@ use Rattle.run_laws.specs.World.{log_of}
 use Rattle.run_laws.proofs.Worlds.{log_here, log_there}
 use Rattle.stations.specs.Runs.{trace_of}
 use Rattle.solo_run.specs.Limit.{receiver, first_beyond}
-use Rattle.solo_run.proofs.OneTurn.{beyond_append, beyond_here}
+use Rattle.solo_run.proofs.OneTurn.{beyond_append, beyond_here, beyond_later}
 use Rattle.study_run.specs.Limits.{IsFirstFull, IsWithin, MeetsLimitAlone}
 use Rattle.study_run.specs.Laws.{FullIsFound, FullIsLonger, FullIsOne, NotWithinAndMetAlone, WithinIsNotFull}
 
-module _ (limit : ℕ) where
-  -- the walk goes on behind an entry whose log was not full
-  later : (seen : List (Entry Msg Line)) (e : Entry Msg Line) (es : List (Entry Msg Line))
-      → length (log_of receiver e.msg.to seen) < limit
-      → first_beyond limit seen (e ∷ es) ≡ first_beyond limit (seen ++ e ∷ []) es
-  later seen e es below = ap (λ b. cond b (Some e.msg.to) (first_beyond limit (seen ++ e ∷ []) es))
-      (lt-leb limit (length (log_of receiver e.msg.to seen)) below)
+-- ---- first_beyond
 
+module _ (limit : ℕ) where
   -- the logs stay within the limit with an entry whose log was not full
   grown : (seen : List (Entry Msg Line)) (e : Entry Msg Line) → ((s : ℕ) → length (log_of receiver s seen) ≤ limit)
       → length (log_of receiver e.msg.to seen) < limit
@@ -47,7 +42,7 @@ module _ (limit : ℕ) where
   within seen (e ∷ es) h none s = elim (cases_lt (length (log_of receiver e.msg.to seen)) limit) [
     | inr full ↦ absurd (let k = sym (beyond_here limit seen e es full) ∙ none in cc)
     | inl below ↦ subst (λ t. length (log_of receiver s t) ≤ limit) (append_assoc seen (e ∷ []) es)
-        (within (seen ++ e ∷ []) es (grown seen e h below) (sym (later seen e es below) ∙ none) s)
+        (within (seen ++ e ∷ []) es (grown seen e h below) (sym (beyond_later limit seen e es below) ∙ none) s)
   ]
 
   -- the log that it finds is longer in the end
@@ -67,7 +62,7 @@ module _ (limit : ℕ) where
         subst (λ k. limit ≤ length (log_of receiver k seen)) same full in
         omega (arith, whole, parts, lengths, here, more, is_full)
     | inl below ↦ subst (λ t. limit < length (log_of receiver s t)) (append_assoc seen (e ∷ []) es)
-        (longer (seen ++ e ∷ []) es s (sym (later seen e es below) ∙ some))
+        (longer (seen ++ e ∷ []) es s (sym (beyond_later limit seen e es below) ∙ some))
   ]
 
   -- the entry at which the walk ends is the first whose log is full
@@ -91,7 +86,7 @@ module _ (limit : ℕ) where
           within = h;
         }
     | inl below ↦ subst (λ t. IsFirstFull limit t s) (append_assoc seen (e ∷ []) es)
-        (full_at (seen ++ e ∷ []) es s (grown seen e h below) (sym (later seen e es below) ∙ some))
+        (full_at (seen ++ e ∷ []) es s (grown seen e h below) (sym (beyond_later limit seen e es below) ∙ some))
   ]
 
   -- where no log is longer, the walk finds none
@@ -111,6 +106,8 @@ module _ (limit : ℕ) where
       ap (first_beyond limit []) f.parts
       ∙ (beyond_append limit [] f.done (f.entry ∷ f.rest) none
       ∙ (beyond_here limit f.done f.entry f.rest here ∙ ap Some f.is_for))
+
+-- ---- the laws
 
 -- a log is the first that is full exactly where the walk over the trace finds its station
 pub full_is_found : FullIsFound
@@ -141,6 +138,8 @@ not_both_alone net c s h m =
     let long = longer net.limit [] (trace_of net c) s (found_at net.limit (trace_of net c) s m.first) in
     let short = h s m.low m.high in
     absurd (omega (arith, long, short))
+
+-- ---- a clone's run
 
 -- the logs of a clone's run are within the limit where the walk over its trace finds none
 pub within_alone : (net : Net) (c : Clone) → first_beyond net.limit [] (trace_of net c) ≡ None → IsWithin net c

@@ -12,6 +12,7 @@ use Rattle.study_run.proofs.Meeting.{none_within}
 use Rattle.study_run.proofs.OverLaws.{comes_last, within_horizon}
 use Rattle.study_run.proofs.Worlds.{none_handled}
 
+-- ---- HasGoneOn
 -- it went on to a world of the same clones
 pub gone : (net : Net) (old new : WorldView) (s t : ℕ) → new.net ≡ net → new.clones ≡ old.clones
     → HasCome net old.clones new.front
@@ -23,6 +24,7 @@ gone net old new s t same clones come steps = record {
   steps = steps;
 }
 
+-- ---- total_handled, IsFaultOfAll, from the beginning
 module _ (net : Net) (w : WorldView) (first : w.front ≡ 0) where
   -- nothing was handled at first
   none_at_first : total_handled net w.clones w.front ≡ 0
@@ -40,6 +42,7 @@ module _ (net : Net) (w : WorldView) (first : w.front ≡ 0) where
   pub all_stopped : (s u : ℕ) (e : StudyFault) → HasStopped net w s u e → IsFaultOfAll net w.clones s u e
   all_stopped s u e h = let zero = none_at_first in h s (omega (arith, zero))
 
+-- ---- AreWithin
 -- at the horizon no log is too long
 pub all_within : (net : Net) (w v : WorldView) (s t : ℕ) → IsNet net → v.front ≡ net.horizon → HasGoneOn net w v s t
     → AreWithin net w.clones

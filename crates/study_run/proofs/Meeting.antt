@@ -15,7 +15,7 @@ use Rattle.stations.proofs.GoodLaws.{lawful-stations}
 use Rattle.world_core.specs.Overs.{IsFirstBeyond, NoneBeyond}
 use Rattle.study_run.specs.Limits.{AreWithin, MeetsLimit}
 use Rattle.study_run.specs.Laws.{MeetingIsFound, MeetingIsOne, NotWithinAndMet, WithinIsNotFound, WithinOrMet}
-use Rattle.study_run.specs.Overs.{first_over, first_over_of, over_at}
+use Rattle.study_run.specs.Overs.{first_overrun, first_overrun_of, overrun_at}
 use Rattle.study_run.proofs.OverLaws.{ended, is_first, no_windows, none_beyond, rises, window_more, within_horizon}
 
 -- ---- AreWithin
@@ -65,9 +65,10 @@ record MeetsFrom (net : Net) (cs : List Clone) (front s c : ℕ) : Type 0 where
 module _ (net : Net) (valid : IsNet net) (cs : List Clone) where
   -- the next window is the first, or it goes on behind it
   meets_next : (n front s c : ℕ) (below : front < net.horizon) (o : Option (ℕ × ℕ))
-      → over_at net cs (next_front net cs front) ≡ o
-      → option_or o (first_over net cs n (next_front net cs front)) ≡ Some (s, c)
-      → (first_over net cs n (next_front net cs front) ≡ Some (s, c) → MeetsFrom net cs (next_front net cs front) s c)
+      → overrun_at net cs (next_front net cs front) ≡ o
+      → option_or o (first_overrun net cs n (next_front net cs front)) ≡ Some (s, c)
+      → (first_overrun net cs n (next_front net cs front) ≡ Some (s, c)
+      → MeetsFrom net cs (next_front net cs front) s c)
       → MeetsFrom net cs front s c
   meets_next n front s c below (Some p) e h on =
       let f : ℕ = next_front net cs front in
@@ -106,17 +107,17 @@ module _ (net : Net) (valid : IsNet net) (cs : List Clone) where
       none_before fs before g (inr i) less = before g i less
 
   -- what the search finds from a front on
-  meets_from : (n front s c : ℕ) → first_over net cs n front ≡ Some (s, c) → MeetsFrom net cs front s c
+  meets_from : (n front s c : ℕ) → first_overrun net cs n front ≡ Some (s, c) → MeetsFrom net cs front s c
   meets_from zero front s c h = absurd (no_windows net cs front s c h)
   meets_from (suc n) front s c h = elim (cases_lt front net.horizon) [
-    | inl below ↦ meets_next n front s c below (over_at net cs (next_front net cs front)) refl
+    | inl below ↦ meets_next n front s c below (overrun_at net cs (next_front net cs front)) refl
         (sym (window_more net cs n front below) ∙ h)
         (λ rest. meets_from n (next_front net cs front) s c rest)
     | inr past ↦ absurd (let k = sym (ended net cs (suc n) front past) ∙ h in cc)
   ]
 
   -- where the search finds it, the limit is met
-  pub found_met : (s c : ℕ) → first_over_of net cs ≡ Some (s, c) → MeetsLimit net cs s c
+  pub found_met : (s c : ℕ) → first_overrun_of net cs ≡ Some (s, c) → MeetsLimit net cs s c
   found_met s c h =
       let m = meets_from net.horizon 0 s c h in
       record {
@@ -129,7 +130,7 @@ module _ (net : Net) (valid : IsNet net) (cs : List Clone) where
       }
 
   -- where it is met, not all logs are within it
-  pub not_within : (s c : ℕ) → AreWithin net cs → MeetsLimit net cs s c → ⊥
+  not_within : (s c : ℕ) → AreWithin net cs → MeetsLimit net cs s c → ⊥
   not_within s c h m =
       let e = m.is_end in
       let first = m.first in
@@ -182,22 +183,22 @@ pub not_both : NotWithinAndMet
 not_both net valid cs s c h m = not_within net valid cs s c h m
 
 -- all are within the limit, or it is met as the search finds it
-first_over_of-cases : (net : Net) → IsNet net → (cs : List Clone) (o : Option (ℕ × ℕ)) → first_over_of net cs ≡ o
-    → AreWithin net cs ⊎ ((s : ℕ) × ((c : ℕ) × ((first_over_of net cs ≡ Some (s, c)) × MeetsLimit net cs s c)))
-first_over_of-cases net valid cs None e = inl (none_within net cs (within_horizon net cs valid e))
-first_over_of-cases net valid cs (Some (s, c)) e = inr (s, (c, (e, found_met net valid cs s c e)))
+first_overrun_of-cases : (net : Net) → IsNet net → (cs : List Clone) (o : Option (ℕ × ℕ)) → first_overrun_of net cs ≡ o
+    → AreWithin net cs ⊎ ((s : ℕ) × ((c : ℕ) × ((first_overrun_of net cs ≡ Some (s, c)) × MeetsLimit net cs s c)))
+first_overrun_of-cases net valid cs None e = inl (none_within net cs (within_horizon net cs valid e))
+first_overrun_of-cases net valid cs (Some (s, c)) e = inr (s, (c, (e, found_met net valid cs s c e)))
 
 -- all logs are within the limit, or it is met
 pub within_or_met : WithinOrMet
-within_or_met net valid cs = elim (first_over_of-cases net valid cs (first_over_of net cs) refl) [
+within_or_met net valid cs = elim (first_overrun_of-cases net valid cs (first_overrun_of net cs) refl) [
   | inl within ↦ inl within
   | inr met ↦ inr (met.0, (met.1.0, met.1.1.1))
 ]
 
 -- where it is met, the search finds it
 met_found : (net : Net) → IsNet net → (cs : List Clone) (s c : ℕ) → MeetsLimit net cs s c
-    → first_over_of net cs ≡ Some (s, c)
-met_found net valid cs s c m = elim (first_over_of-cases net valid cs (first_over_of net cs) refl) [
+    → first_overrun_of net cs ≡ Some (s, c)
+met_found net valid cs s c m = elim (first_overrun_of-cases net valid cs (first_overrun_of net cs) refl) [
   | inl within ↦ absurd (not_within net valid cs s c within m)
   | inr met ↦
       let same = meeting_is_one net cs met.0 met.1.0 s c met.1.1.1 m in
@@ -213,7 +214,7 @@ pub meeting_is_found : MeetingIsFound
 meeting_is_found net valid cs s c = (met_found net valid cs s c, found_met net valid cs s c)
 
 -- where all are within it, the search finds nothing
-within_found : (net : Net) → IsNet net → (cs : List Clone) (o : Option (ℕ × ℕ)) → first_over_of net cs ≡ o
+within_found : (net : Net) → IsNet net → (cs : List Clone) (o : Option (ℕ × ℕ)) → first_overrun_of net cs ≡ o
     → AreWithin net cs → o ≡ None
 within_found net valid cs None e h = refl
 within_found net valid cs (Some (s, c)) e h = absurd (not_within net valid cs s c h (found_met net valid cs s c e))
@@ -221,6 +222,6 @@ within_found net valid cs (Some (s, c)) e h = absurd (not_within net valid cs s 
 -- the search finds nothing exactly where all logs are within the limit
 pub within_is_not_found : WithinIsNotFound
 within_is_not_found net valid cs = (
-  within_found net valid cs (first_over_of net cs) refl,
+  within_found net valid cs (first_overrun_of net cs) refl,
   λ none. none_within net cs (within_horizon net cs valid none),
 )

@@ -6,6 +6,7 @@ use Rattle.std.proofs.Math.Nat.{mul-le-mul}
 use Rattle.sim_base.specs.Clones.{Clone}
 use Rattle.sim_base.specs.Same.{same_entry}
 use Rattle.sim_base.specs.declared.figures.Figures.{Figures}
+use Rattle.sim_base.specs.declared.lists.TheConstants.{MOST_CLONES}
 use Rattle.net_model.specs.Net.{Net}
 use Rattle.net_model.specs.Rules.{IsNet}
 use Rattle.run_laws.specs.CountLaws.{AreFew}
@@ -17,8 +18,8 @@ use Rattle.study_run.specs.Laws.{TotalIsFew, TotalIsOfReport}
 use Rattle.study_run.specs.Limits.{AreWithin}
 use Rattle.trace_report.specs.Outputs.{figures_of, figures_to, report}
 
--- a clone at a station handles no more than the limit, and 64 stations of 256 clones no more than a number holds
-small : (net : Net) (cs : List Clone) → IsNet net → length cs ≤ 256
+-- a clone at a station handles no more than the limit, and all clones at all stations no more than a number holds
+small : (net : Net) (cs : List Clone) → IsNet net → length cs ≤ MOST_CLONES
     → length net.sites * (length cs * net.limit) < 2 ^ 64
 small net cs valid few =
     let a : length cs * net.limit ≤ 16777216 = mul-le-mul few valid.short in
@@ -48,9 +49,10 @@ module _ (net : Net) (cs : List Clone) where
   unfolding figures_to
   figures_none = refl
 
-  -- the sum of what each station has few of
+  -- where each station has at most so much
   module _ (f : Figures → ℕ) (each : (s : ℕ) → 1 ≤ s → s ≤ length net.sites
       → f (figures_of net cs s) ≤ length cs * net.limit) where
+    -- the stations 1 to n have at most n times as much
     figures_few : (n : ℕ) → n ≤ length net.sites → sum_by f (figures_to net cs n) ≤ n * (length cs * net.limit)
     unfolding figures_to
     figures_few zero l = omega arith
@@ -61,8 +63,8 @@ module _ (net : Net) (cs : List Clone) where
         subst (λ k. k ≤ suc n * (length cs * net.limit))
         (sym (sum_by_push f (figures_to net cs n) (figures_of net cs (n + 1)))) (omega (arith, h, one, m))
 
-    -- the sum over all stations is a number of 64 bits, where the clones are 256 at most
-    pub figures_small : IsNet net → length cs ≤ 256 → sum_by f (figures_to net cs (length net.sites)) < 2 ^ 64
+    -- the sum over all stations is a number of 64 bits, where the clones are not too many
+    pub figures_small : IsNet net → length cs ≤ MOST_CLONES → sum_by f (figures_to net cs (length net.sites)) < 2 ^ 64
     figures_small valid few =
         let a = figures_few (length net.sites) (omega arith) in
         let b = small net cs valid few in
@@ -75,6 +77,7 @@ module _ (net : Net) (cs : List Clone) where
 
   -- ---- the total
 
+  -- the sum over the figures of the stations 1 to n is the sum over these stations
   total_to : (n : ℕ) → sum_by (λ (f : Figures). f.handled) (figures_to net cs n) ≡ station_sum
       (λ s. handled_once net cs s net.horizon) n
   unfolding figures_to
@@ -86,6 +89,7 @@ module _ (net : Net) (cs : List Clone) where
       sum_by_push (λ (f : Figures). f.handled) (figures_to net cs n) (figures_of net cs (n + 1))
       ∙ ap₂ (λ a b. a + b) h at
 
+  -- where no log is longer than the limit, that is no more than the limit allows so many stations
   total_few : AreWithin net cs → (n : ℕ) → n ≤ length net.sites
       → station_sum (λ s. handled_once net cs s net.horizon) n ≤ n * (length cs * net.limit)
   total_few within zero l = omega arith
@@ -105,6 +109,7 @@ total_is_few net cs within = total_few net cs within (length net.sites) (omega a
 
 -- ---- as a world tells them
 
+-- figures of the same three numbers are the same
 same_figures : (f g : Figures) → f.copies ≡ g.copies → f.handled ≡ g.handled → f.alone ≡ g.alone → f ≡ g
 same_figures f g a b c =
     ap₂ (λ x y. record { copies = x; handled = y; alone = f.alone }) a b

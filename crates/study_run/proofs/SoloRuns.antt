@@ -1,5 +1,5 @@
 -- The run of one clone by itself.
-use Rattle.std.proofs.Common.{◌≡◌, ℕ, ◌+◌, ◌*◌, refl, sym, subst, ap}
+use Rattle.std.proofs.Common.{◌≡◌, ℕ, ◌+◌, refl, sym, subst, ap}
 use Rattle.std.proofs.Common.{ap₂, ◌∙◌, arith, min, List, [], length, Option, unwrap_or}
 use Rattle.sim_base.specs.Order.{msg_cmp}
 use Rattle.sim_base.specs.Clones.{Clone, clone_at}
@@ -13,7 +13,7 @@ use Rattle.solo_run.specs.Limit.{first_beyond}
 use Rattle.solo_run.specs.SoloView.{IsSolo, SoloView, config_of}
 use Rattle.solo_run.specs.Turns.{Stops, run_from, step_of}
 use Rattle.solo_run.specs.declared.turn.SoloFault.TheVariants.{Limit}
-use Rattle.solo_run.proofs.OneTurn.{sum_most}
+use Rattle.solo_run.proofs.ToFront.{trace-short}
 use Rattle.study_run.specs.Faults.{StopsAlone}
 use Rattle.study_run.specs.Limits.{IsWithin, MeetsLimitAlone}
 use Rattle.study_run.specs.Work.{IsFew}
@@ -25,7 +25,7 @@ module _ (net : Net) (c : Clone) (plans : List Planned) (end : Option ℕ) (fron
     (is_last : front ≡ min net.horizon (unwrap_or end net.horizon))
     (begins : config_of net v ≡ start_of net plans) where
   -- the trace of the run from where it begins
-  pub trace_from : (run_from net v front).at.trace ≡ trace_of net c
+  trace_from : (run_from net v front).at.trace ≡ trace_of net c
   trace_from = ap (λ k. (run_to msg_cmp (step_of net) (λ m. m.key.time) k front).at.trace) begins
       ∙ ap₂ (λ ps b. (run (simulation net) ps b).at.trace) same_plans
       (is_last ∙ ap (λ o. min net.horizon (unwrap_or o net.horizon)) same_end)
@@ -51,11 +51,9 @@ module _ (net : Net) (c : Clone) (plans : List Planned) (end : Option ℕ) (fron
     -- the stations have handled at most as many messages as they may
     pub steps_few : IsFew net 1 old new
     steps_few =
-        let all = sum_most (λ st. st.handled) net.limit s.states (λ i st is. (solo.states i st is).within) in
-        let count : length s.states * net.limit ≡ length net.sites * net.limit = ap (λ n. n * net.limit) solo.count in
-        let total = solo.total in
+        let short = trace-short net solo.valid s solo in
         let none = none_yet in
-        omega (arith, all, count, total, none, steps)
+        omega (arith, short, none, steps)
 
   -- where the run to the front stops at the limit, the run of the clone at its place ends so
   pub stops_alone : (cs : List Clone) (place old new station kept : ℕ) → clone_at cs place ≡ c
@@ -68,7 +66,7 @@ module _ (net : Net) (c : Clone) (plans : List Planned) (end : Option ℕ) (fron
       let some = ap (first_beyond net.limit []) (sym trace_from) ∙ h.first in
       record {
         meets = subst (λ k. MeetsLimitAlone net k station) (sym is)
-            (met_alone net c station h.first_station h.last_station some);
+            (met_alone net c station h.is_station.0 h.is_station.1 some);
         is_it = refl;
         few = omega (arith, none, steps, bounded);
       }

@@ -15,6 +15,7 @@ use Rattle.study_run.proofs.Meeting.{found_met}
 use Rattle.study_run.specs.Overs.{HasCome}
 use Rattle.study_run.proofs.OverLaws.{comes_next, over_here, rises}
 
+-- ---- station_sum
 -- at first nothing was handled
 pub none_handled : (net : Net) (cs : List Clone) (n : ℕ) → station_sum (λ s. handled_once net cs s 0) n ≡ 0
 none_handled net cs zero = refl
@@ -25,6 +26,7 @@ none_handled net cs (suc n) =
     let at = ap (λ s. handled_once net cs s 0) e in
     omega (arith, before, here, at)
 
+-- ---- StopsAll
 -- the window at whose end a log is beyond the limit
 stops_at : (net : Net) (cs : List Clone) (front : ℕ) → front < net.horizon → IsNet net
     → (start mid new station who kept : ℕ)
@@ -38,8 +40,10 @@ stops_at net cs front below valid start mid new station who kept come steps h =
       few = omega (arith, most, steps);
     }
 
+-- ---- next_front, HasCome, total_handled, StopsAll, one window on
 module _ (net told : Net) (cs those : List Clone) (front bound : ℕ) (same_net : told ≡ net) (same_clones : those ≡ cs)
     (next : bound ≡ next_front told those front) (below : front < net.horizon) where
+  -- the bound is the next front of this network and of these clones
   next_is : bound ≡ next_front net cs front
   next_is = next ∙ ap₂ (λ (n : Net) l. next_front n l front) same_net same_clones
 

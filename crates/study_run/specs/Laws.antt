@@ -10,7 +10,7 @@ use Rattle.run_laws.specs.World.{log_of}
 use Rattle.solo_run.specs.Limit.{receiver, first_beyond}
 use Rattle.world_core.specs.Worlds.{total_handled}
 use Rattle.study_run.specs.Limits.{AreWithin, IsWithin, MeetsLimit, IsFirstFull, MeetsLimitAlone}
-use Rattle.study_run.specs.Overs.{first_over_of}
+use Rattle.study_run.specs.Overs.{first_overrun_of}
 use Rattle.trace_report.specs.Outputs.{figures_to}
 use Rattle.study_run.specs.Work.{most_handled}
 
@@ -23,12 +23,12 @@ MeetingIsOne = (net : Net) (clones : List Clone) (s who t other : ℕ) → Meets
 -- it is met exactly where a search through the windows finds it
 abbrev pub MeetingIsFound : Type 0
 MeetingIsFound = (net : Net) → IsNet net → (clones : List Clone) (s who : ℕ) →
-    MeetsLimit net clones s who ↔ (first_over_of net clones ≡ Some (s, who))
+    MeetsLimit net clones s who ↔ (first_overrun_of net clones ≡ Some (s, who))
 
 -- which finds nothing exactly where all logs of the whole run are within the limit
 abbrev pub WithinIsNotFound : Type 0
 WithinIsNotFound = (net : Net) → IsNet net → (clones : List Clone) → AreWithin net clones
-    ↔ (first_over_of net clones ≡ None)
+    ↔ (first_overrun_of net clones ≡ None)
 
 -- so all logs are within it, or it is met
 abbrev pub WithinOrMet : Type 0

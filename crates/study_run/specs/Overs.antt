@@ -11,31 +11,32 @@ first_below f zero = None
 first_below f (suc n) = option_or (first_below f n) (f n)
 
 -- a station and a clone whose log there is beyond the limit at a front
-abbrev pub over_of : Net → List Clone → ℕ → ℕ → ℕ → Option (ℕ × ℕ)
-over_of net cs front s c = if nat_lt net.limit (length (log_at net (clone_at cs c) s front)) then Some (s, c) else None
+abbrev pub overrun_of : Net → List Clone → ℕ → ℕ → ℕ → Option (ℕ × ℕ)
+overrun_of net cs front s c =
+    if nat_lt net.limit (length (log_at net (clone_at cs c) s front)) then Some (s, c) else None
 
 -- the least such clone at a station
-abbrev pub over_in : Net → List Clone → ℕ → ℕ → Option (ℕ × ℕ)
-over_in net cs front s = first_below (over_of net cs front s) (length cs)
+abbrev pub overrun_in : Net → List Clone → ℕ → ℕ → Option (ℕ × ℕ)
+overrun_in net cs front s = first_below (overrun_of net cs front s) (length cs)
 
 -- the least such station, and the least such clone there
-abbrev pub over_at : Net → List Clone → ℕ → Option (ℕ × ℕ)
-over_at net cs front = first_below (λ i. over_in net cs front (i + 1)) (length net.sites)
+abbrev pub overrun_at : Net → List Clone → ℕ → Option (ℕ × ℕ)
+overrun_at net cs front = first_below (λ i. overrun_in net cs front (i + 1)) (length net.sites)
 
 -- the same at the first of the next n fronts of a run, up to the horizon, at which there is one
-unfoldable pub first_over : Net → List Clone → ℕ → ℕ → Option (ℕ × ℕ)
-first_over net cs zero front = None
-first_over net cs (suc n) front =
+unfoldable pub first_overrun : Net → List Clone → ℕ → ℕ → Option (ℕ × ℕ)
+first_overrun net cs zero front = None
+first_overrun net cs (suc n) front =
     if nat_lt front net.horizon
-    then option_or (over_at net cs (next_front net cs front)) (first_over net cs n (next_front net cs front))
+    then option_or (overrun_at net cs (next_front net cs front)) (first_overrun net cs n (next_front net cs front))
     else None
 
 -- the first in a whole run, of which the fronts are no more than the horizon's times
-abbrev pub first_over_of : Net → List Clone → Option (ℕ × ℕ)
-first_over_of net cs = first_over net cs net.horizon 0
+abbrev pub first_overrun_of : Net → List Clone → Option (ℕ × ℕ)
+first_overrun_of net cs = first_overrun net cs net.horizon 0
 
 -- a run has come to a front, and no log was beyond the limit: what is found from there on is what is found at all
 pub record HasCome (net : Net) (cs : List Clone) (front : ℕ) : Type 0 where
   pub left : ℕ
   pub enough : net.horizon ≤ left + front
-  pub same : first_over net cs left front ≡ first_over_of net cs
+  pub same : first_overrun net cs left front ≡ first_overrun_of net cs

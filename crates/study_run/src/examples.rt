@@ -6,7 +6,7 @@ ghost use Rattle.solo_run.specs.Limit.{first_beyond};
 ghost use Rattle.stations.specs.Runs.{trace_of};
 ghost use Rattle.stations.specs.Examples.OneDesk.{fast, one_desk, two_branches, short_logs};
 ghost use Rattle.world_core.specs.Worlds.{total_handled};
-ghost use Rattle.study_run.specs.Overs.{first_over_of};
+ghost use Rattle.study_run.specs.Overs.{first_overrun_of};
 
 /// Two branches of one server handle 13 messages once.
 pub fn two_branches_share()
@@ -16,11 +16,11 @@ pub fn two_branches_share()
 /// With three entries a log the desk of the faster branch is the first to go beyond, in the window that ends at 10;
 /// with four it is in a later one, and with five none is.
 pub fn limits_are_met()
-    ensures three { first_over_of short_logs two_branches ≡ Some (2, 1) }
-    ensures alone { first_over_of short_logs (base ∷ []) ≡ Some (2, 0) }
-    ensures two { first_over_of (record one_desk { limit = 2 }) two_branches ≡ Some (2, 0) }
-    ensures four { first_over_of (record one_desk { limit = 4 }) two_branches ≡ Some (2, 1) }
-    ensures five { first_over_of (record one_desk { limit = 5 }) two_branches ≡ None }
+    ensures three { first_overrun_of short_logs two_branches ≡ Some (2, 1) }
+    ensures alone { first_overrun_of short_logs (base ∷ []) ≡ Some (2, 0) }
+    ensures two { first_overrun_of (record one_desk { limit = 2 }) two_branches ≡ Some (2, 0) }
+    ensures four { first_overrun_of (record one_desk { limit = 4 }) two_branches ≡ Some (2, 1) }
+    ensures five { first_overrun_of (record one_desk { limit = 5 }) two_branches ≡ None }
 {}
 
 /// And alone: the desk's log is full before its fourth entry, that of the faster branch before its fifth.

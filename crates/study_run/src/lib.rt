@@ -12,7 +12,7 @@
 //! ```text
 //! let crew = StudyCrew { workers };
 //! let world = run_study(&rt, alloc, &crew, &NoGate, &model, book.calls(), &mut steps)?;
-//! let report = report_of(alloc, &model, &world)?;               // what the branches shared
+//! let report = make_report(alloc, &model, &world)?;               // what the branches shared
 //! let solo = run_alone(alloc, &model, book.lists(), 1, &mut steps)?;     // the same trace, without sharing
 //! ```
 //!
@@ -35,5 +35,5 @@ pub mod study;
 pub use alone::run_alone;
 pub use crew::StudyCrew;
 pub use fault::StudyFault;
-pub use report::report_of;
+pub use report::make_report;
 pub use study::run_study;

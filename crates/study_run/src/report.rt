@@ -9,8 +9,8 @@ use std::alloc::Global;
 use trace_report::report_text;
 use world_core::World;
 
-/// The text of the report of a world that has come to the horizon.
-pub fn report_of(alloc: Global, model: &Model, world: &World) -> Result<Vec<u8>, NoMemory>
+/// Makes the text of the report of a world that has come to the horizon.
+pub fn make_report(alloc: Global, model: &Model, world: &World) -> Result<Vec<u8>, NoMemory>
     requires may_report { MayReport model.now world.now }
     ensures text { IfOk result (λ text. text.items ≡ report model.now world.now.clones) }
 {

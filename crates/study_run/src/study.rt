@@ -183,11 +183,14 @@ fn run_to_horizon<C: Crew, G: Gate, L: Ledger, R: Threads + Wait + Sync>(
 ) -> Result<World, StudyFault>
     requires net { world.net ≡ model.now }
     requires front { world.front ≡ 0 }
+    // The same clones, at the horizon.
     ensures net { IfOk result (λ w. w.net ≡ model.now) }
     ensures clones { IfOk result (λ w. w.clones ≡ world.clones) }
     ensures front { IfOk result (λ w. w.front ≡ model.now.horizon) }
+    // No log is too long, and what clones share was handled once.
     ensures within { OnOk result (AreWithin model.now world.clones) }
     ensures steps { OnOk result (steps.new ≡ steps.old + total_handled model.now world.clones model.now.horizon) }
+    // Or out of memory, or the limit is met.
     ensures fault { IfErr result (λ e. IsFaultOfAll model.now world.clones steps.old steps.new e) }
 {
     let _valid = model.horizon();

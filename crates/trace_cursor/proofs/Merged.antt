@@ -6,7 +6,7 @@ use Rattle.std.specs.declared.cmp.Ordering.TheVariants.{Less, Equal, Greater}
 use Rattle.sim_base.specs.declared.entry.Entry.{Entry}
 use Rattle.sim_base.specs.declared.entry.Line.{Line}
 use Rattle.sim_base.specs.declared.message.Msg.{Msg}
-use Rattle.run_laws.specs.Merges.{pick, merge_at, merge}
+use Rattle.run_laws.specs.Merges.{merge_by, merge_at, merge}
 use Rattle.trace_cursor.specs.Words.{by_key, merge_onto}
 
 -- an entry of a log of the network
@@ -14,11 +14,11 @@ abbrev pub E : Type 0
 E = Entry Msg Line
 
 -- the first of a list comes after e
-abbrev pub IsAfter : List E → E → Type 0
+abbrev IsAfter : List E → E → Type 0
 IsAfter l e = (f : E) (fs : List E) → l ≡ f ∷ fs → by_key f e ≡ Greater
 
 -- the first of a list does not come before e
-abbrev pub IsNotBefore : List E → E → Type 0
+abbrev IsNotBefore : List E → E → Type 0
 IsNotBefore l e = (f : E) (fs : List E) → l ≡ f ∷ fs → (by_key e f ≡ Less) ⊎ (by_key e f ≡ Equal)
 
 -- ---- merge
@@ -27,27 +27,28 @@ IsNotBefore l e = (f : E) (fs : List E) → l ≡ f ∷ fs → (by_key e f ≡ L
 left_first : (e : E) (es l : List E) → IsNotBefore l e → merge by_key (e ∷ es) l ≡ e ∷ merge by_key es l
 left_first e es [] h = refl
 left_first e es (f ∷ fs) h = elim (h f fs refl) [
-  | inl a ↦ ap (λ r. pick r e f (merge by_key es (f ∷ fs)) (merge_at by_key e (merge by_key es) fs)) a
-  | inr a ↦ ap (λ r. pick r e f (merge by_key es (f ∷ fs)) (merge_at by_key e (merge by_key es) fs)) a
+  | inl a ↦ ap (λ r. merge_by r e f (merge by_key es (f ∷ fs)) (merge_at by_key e (merge by_key es) fs)) a
+  | inr a ↦ ap (λ r. merge_by r e f (merge by_key es (f ∷ fs)) (merge_at by_key e (merge by_key es) fs)) a
 ]
 
 -- the first of the right list goes first, where the left one's comes after it
 right_first : (l : List E) (e : E) (es : List E) → IsAfter l e → merge by_key l (e ∷ es) ≡ e ∷ merge by_key l es
 right_first [] e es h = refl
 right_first (f ∷ fs) e es h =
-    ap (λ r. pick r f e (merge by_key fs (e ∷ es)) (merge_at by_key f (merge by_key fs) es)) (h f fs refl)
+    ap (λ r. merge_by r f e (merge by_key fs (e ∷ es)) (merge_at by_key f (merge by_key fs) es)) (h f fs refl)
 
--- the first of a merge is the first of a list
-first_of_pick : (r : Ordering) (x y z : E) (a b t : List E) → pick r x y a b ≡ z ∷ t → (x ≡ z) ⊎ (y ≡ z)
-first_of_pick Less x y z a b t e = let h : x ≡ z = cc in inl h
-first_of_pick Equal x y z a b t e = let h : x ≡ z = cc in inl h
-first_of_pick Greater x y z a b t e = let h : y ≡ z = cc in inr h
+-- the first of a merge is the first of one of the lists, by which goes first
+first_of_merge_by : (r : Ordering) (x y z : E) (a b t : List E) → merge_by r x y a b ≡ z ∷ t → (x ≡ z) ⊎ (y ≡ z)
+first_of_merge_by Less x y z a b t e = let h : x ≡ z = cc in inl h
+first_of_merge_by Equal x y z a b t e = let h : x ≡ z = cc in inl h
+first_of_merge_by Greater x y z a b t e = let h : y ≡ z = cc in inr h
 
+-- so it is with a merge of two lists
 first_of_merge : (xs ys : List E) (z : E) (t : List E) → merge by_key xs ys ≡ z ∷ t →
     ((es : List E) × (xs ≡ z ∷ es)) ⊎ ((es : List E) × (ys ≡ z ∷ es))
 first_of_merge [] ys z t e = inr (t, e)
 first_of_merge (x ∷ xs) [] z t e = let h : x ≡ z = cc in inl (xs, ap (λ y. y ∷ xs) h)
-first_of_merge (x ∷ xs) (y ∷ ys) z t e = elim (first_of_pick (by_key x y) x y z _ _ t e) [
+first_of_merge (x ∷ xs) (y ∷ ys) z t e = elim (first_of_merge_by (by_key x y) x y z _ _ t e) [
   | inl h ↦ inl (xs, ap (λ y. y ∷ xs) h)
   | inr h ↦ inr (ys, ap (λ x. x ∷ ys) h)
 ]

@@ -5,11 +5,16 @@ use Rattle.std.proofs.lemmas.Bool.{cases_lt, cases_eq}
 use Rattle.std.proofs.lemmas.List.{get_or-drop}
 use Rattle.trace_cursor.specs.Tournament.{IsNode, IsTree, IsLeast}
 
+-- ---- min
+
 -- of two, the lesser is one
 min_cases : (a b : ℕ) → (min a b ≡ a) ⊎ (min a b ≡ b)
 min_cases a b = grind arith
 
+-- ---- IsTree
+
 module _ (nodes : List ℕ) (count : ℕ) (t : IsTree nodes count) where
+  -- each node that has others below it has the lesser word of the two
   node_right : (i : ℕ) → 1 ≤ i → i < count → IsNode nodes i
   node_right i a b = t.right i a b (λ e. omega (arith, e, a))
 

@@ -1,25 +1,30 @@
 -- The least word tells which entry is the first of all, and a cursor stays one.
-use Rattle.std.proofs.Common.{◌≡◌, ◌⊎◌, ℕ, zero, suc, ◌+◌, ◌%◌, ◌<◌, ◌≤◌, List, [], ◌∷◌}
-use Rattle.std.proofs.Common.{◌++◌, inl, inr, refl, sym, ap, ◌∙◌, subst, arith, length, get_or, set}
+use Rattle.std.proofs.Common.{◌≡◌, ◌⊎◌, ℕ, zero, suc, ◌%◌, ◌<◌, ◌≤◌, List, [], ◌∷◌}
+use Rattle.std.proofs.Common.{inl, inr, refl, sym, ap, ◌∙◌, subst, arith, length, get_or, set, ◌-◌}
 use Rattle.std.specs.Cmp.{IsTotalOrder}
 use Rattle.std.specs.Ordering.{ordering_reverse}
 use Rattle.std.specs.declared.cmp.Ordering.TheVariants.{Less, Equal, Greater}
 use Rattle.std.proofs.lemmas.Bool.{cases_eq, cases_lt}
-use Rattle.std.proofs.lemmas.Cmp.{on_total}
 use Rattle.std.proofs.lemmas.List.{length-set, get_or-set_same, get_or-set_other, get_or_past}
 use Rattle.sim_base.specs.KeyWords.{FitsWord, key_word}
 use Rattle.sim_base.specs.declared.message.Msg.{Msg}
 use Rattle.sim_base.proofs.KeyWords.{words-ordered}
 use Rattle.sim_base.specs.declared.message.TheConstants.{WORD_PLACES}
-use Rattle.run_laws.proofs.Rising.{key_total}
+use Rattle.sim_base.specs.declared.entry.Line.{Line}
+use Rattle.sim_base.proofs.ListLaws.{all_set}
 use Rattle.log_chain.specs.Packing.{FitWords}
 use Rattle.trace_cursor.specs.Tournament.{IsLeast}
-use Rattle.trace_cursor.specs.Words.{by_key, no_word, word_of, merge_all, AllFitWords}
+use Rattle.trace_cursor.specs.Words.{by_key, word_of, merge_all, AllFitWords}
 use Rattle.trace_cursor.specs.Cursors.{IsCursor}
+use Rattle.trace_cursor.specs.declared.tree.TheConstants.{NO_WORD}
 use Rattle.trace_cursor.proofs.Merged.{E, first_of_all, none_of_all}
+use Rattle.run_laws.proofs.Rising.{entry_total}
 
+-- ---- by_key
+
+-- the order of entries by key is total
 keys_total : IsTotalOrder by_key
-keys_total = on_total (λ (e : E). e.msg) (key_total (λ (m : Msg). m.key.time) (λ m. m.key.sender) (λ m. m.key.number))
+keys_total = entry_total (λ (m : Msg). m.key.time) (λ m. m.key.sender) (λ m. m.key.number) Line
 
 -- ---- key_word
 
@@ -52,18 +57,15 @@ fit_first : (ls : List (List E)) (i : ℕ) (e : E) (es : List E) → AllFitWords
     → FitsWord e.msg.key
 fit_first ls i e es h is = let all : FitWords (e ∷ es) = subst FitWords is (fit_at ls i h) in all.0
 
-fit_set : (ls : List (List E)) (i : ℕ) (l : List E) → AllFitWords ls → FitWords l → AllFitWords (set ls i l)
-fit_set [] i l a b = a
-fit_set (x ∷ ls) zero l a b = (b, a.1)
-fit_set (x ∷ ls) (suc i) l a b = (a.0, fit_set ls i l a.1 b)
-
 -- ---- IsLeast
 
 module _ (w : ℕ) (words : List ℕ) (ls : List (List E)) (reserved most : ℕ) (c : IsCursor ls words reserved most)
     (h : IsLeast w words) where
+  -- the words are few
   few : length words ≤ WORD_PLACES
   few = c.few
 
+  -- and there is one for each list
   place : length ls ≤ length words
   place = let a = c.within in let b = c.there in omega (arith, a, b)
 
@@ -83,7 +85,7 @@ module _ (w : ℕ) (words : List ℕ) (ls : List (List E)) (reserved most : ℕ)
       let same : w % WORD_PLACES ≡ h.place = omega (arith, e, p, few) in
       ap (λ i. word_of i (get_or ls i [])) same ∙ at_place
   here_of [] is e there =
-      let last : w % WORD_PLACES ≡ 63 = omega (arith, e) in
+      let last : w % WORD_PLACES ≡ WORD_PLACES - 1 = omega (arith, e) in
       let le = not_less (w % WORD_PLACES) (omega (arith, there, place)) in
       greatest (get_or ls (w % WORD_PLACES) []) (fit_at ls (w % WORD_PLACES) c.fit) le
     where
@@ -94,13 +96,14 @@ module _ (w : ℕ) (words : List ℕ) (ls : List (List E)) (reserved most : ℕ)
           let a = fit.0.time in let b = fit.0.sender in let d = fit.0.number in
           omega (arith, a, b, d, le, e)
 
+  -- it is there, where there is such a list
   here : w % WORD_PLACES < length ls → word_of (w % WORD_PLACES) (get_or ls (w % WORD_PLACES) []) ≡ w
   here = here_of (get_or ls h.place []) refl at_place
 
   -- so that list's first entry is the first of all
-  pub first_is : (e : E) (es : List E) → w % WORD_PLACES < length ls → get_or ls (w % WORD_PLACES) [] ≡ e ∷ es →
-      merge_all ls ≡ e ∷ merge_all (set ls (w % WORD_PLACES) es)
-  first_is e es there is =
+  pub merge_all-first : (e : E) (es : List E) → w % WORD_PLACES < length ls →
+      get_or ls (w % WORD_PLACES) [] ≡ e ∷ es → merge_all ls ≡ e ∷ merge_all (set ls (w % WORD_PLACES) es)
+  merge_all-first e es there is =
       let i : ℕ = w % WORD_PLACES in
       let word : key_word i e.msg.key ≡ w = sym (ap (word_of i) is) ∙ here there in
       let fe : FitsWord e.msg.key = fit_first ls i e es c.fit is in
@@ -119,7 +122,7 @@ module _ (w : ℕ) (words : List ℕ) (ls : List (List E)) (reserved most : ℕ)
 
   -- where that list has nothing left, the word is the greatest
   greatest_of : (l : List E) → get_or ls h.place [] ≡ l → word_of h.place l ≡ w → get_or ls (w % WORD_PLACES) [] ≡ []
-      → w ≡ no_word
+      → w ≡ NO_WORD
   greatest_of [] is e none = sym e
   greatest_of (x ∷ xs) is e none =
       let p = h.there in
@@ -131,7 +134,7 @@ module _ (w : ℕ) (words : List ℕ) (ls : List (List E)) (reserved most : ℕ)
   nothing_at : (j : ℕ) (l : List E) → j < length ls → get_or ls j [] ≡ l → get_or ls (w % WORD_PLACES) [] ≡ [] → l ≡ []
   nothing_at j [] lj is none = refl
   nothing_at j (f ∷ fs) lj is none =
-      let top : w ≡ no_word = greatest_of (get_or ls h.place []) refl at_place none in
+      let top : w ≡ NO_WORD = greatest_of (get_or ls h.place []) refl at_place none in
       let le = not_less j (omega (arith, lj, place)) in
       let wf = ap (word_of j) is in
       let ff = fit_first ls j f fs c.fit is in
@@ -141,26 +144,27 @@ module _ (w : ℕ) (words : List ℕ) (ls : List (List E)) (reserved most : ℕ)
       let x : ⊥ = cc in absurd x
 
   -- no list has an entry left where the list that the least word tells has none
-  pub none_is : get_or ls (w % WORD_PLACES) [] ≡ [] → merge_all ls ≡ []
-  none_is none = none_of_all ls (λ j lj. nothing_at j (get_or ls j []) lj refl none)
+  pub merge_all-none : get_or ls (w % WORD_PLACES) [] ≡ [] → merge_all ls ≡ []
+  merge_all-none none = none_of_all ls (λ j lj. nothing_at j (get_or ls j []) lj refl none)
 
   -- nor where there is no such list
-  pub none_past : length ls ≤ w % WORD_PLACES → merge_all ls ≡ []
-  none_past past = none_is (get_or_past ls (w % WORD_PLACES) [] past)
+  pub merge_all-past : length ls ≤ w % WORD_PLACES → merge_all ls ≡ []
+  merge_all-past past = merge_all-none (get_or_past ls (w % WORD_PLACES) [] past)
 
   -- where an entry is left, the least word tells a list
-  pub turn_there : 1 ≤ length (merge_all ls) → w % WORD_PLACES < length ls
-  turn_there some = elim (cases_lt (w % WORD_PLACES) (length ls)) [
+  pub least-there : 1 ≤ length (merge_all ls) → w % WORD_PLACES < length ls
+  least-there some = elim (cases_lt (w % WORD_PLACES) (length ls)) [
     | inl l ↦ l
-    | inr l ↦ let e = ap length (none_past l) in absurd (omega (arith, e, some))
+    | inr l ↦ let e = ap length (merge_all-past l) in absurd (omega (arith, e, some))
   ]
 
   -- which has one
-  pub turn_has : 1 ≤ length (merge_all ls) → 1 ≤ length (get_or ls (w % WORD_PLACES) [])
-  turn_has some = by (get_or ls (w % WORD_PLACES) []) refl
+  pub least-some : 1 ≤ length (merge_all ls) → 1 ≤ length (get_or ls (w % WORD_PLACES) [])
+  least-some some = by (get_or ls (w % WORD_PLACES) []) refl
     where
+      -- by what that list has
       by : (l : List E) → get_or ls (w % WORD_PLACES) [] ≡ l → 1 ≤ length l
-      by [] e = let n = ap length (none_is e) in absurd (omega (arith, n, some))
+      by [] e = let n = ap length (merge_all-none e) in absurd (omega (arith, n, some))
       by (x ∷ xs) e = omega arith
 
 -- ---- IsCursor
@@ -177,8 +181,8 @@ cursor_set ls words reserved most i l c there fit =
       few = let a = c.few in omega (arith, a, long_words);
       within = let a = c.within in omega (arith, a, long_ls);
       there = let a = c.there in omega (arith, a, long_words);
-      fits = c.fits;
-      fit = fit_set ls i l c.fit fit;
+      enough = c.enough;
+      fit = all_set FitWords ls i l c.fit fit;
       words_are = λ j lj. elim (cases_eq j i) [
         | inl e ↦
             let a = get_or-set_same words i (word_of i l) 0 (omega (arith, there, place)) in
@@ -191,8 +195,3 @@ cursor_set ls words reserved most i l c there fit =
             a ∙ (c.words_are j (omega (arith, lj, long_words)) ∙ ap (word_of j) (sym b))
       ];
     }
-
--- with a list more at the end there is one list more
-pub more_long : (ls : List (List E)) (l : List E) → length (ls ++ l ∷ []) ≡ length ls + 1
-more_long [] l = refl
-more_long (x ∷ xs) l = let h = more_long xs l in omega (arith, h)

@@ -14,9 +14,12 @@ use Rattle.run_laws.proofs.Traces.{log_rises, merged_in_lists, in_lists_merged, 
 use Rattle.run_laws.proofs.SharedTextsWeighing.{rest_of_logs}
 use Rattle.trace_cursor.specs.Rests.{merge_of_rests}
 
+-- ---- merge_of_rests
+
 module _ {S M N : Type 0} {sim : Simulation S M N} {Good : ℕ → S → Type 0} {sender number : M → ℕ} {next : S → ℕ}
     (law : HandlesLawfully sim Good) (stations : SendsToStations sim Good)
     (fresh : HandlesFreshly sim Good sender number next) (c : Clone) (t : ℕ) (there : AreForStations sim c.plans) where
+  -- the order of entries by key
   abbrev by_key : Entry M N → Entry M N → Ordering
   by_key = entry_order sim.time sender number
 

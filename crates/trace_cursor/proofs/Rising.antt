@@ -1,44 +1,37 @@
 -- What a walk from a time on asks of a log, and what a cursor asks of the walk.
-use Rattle.std.proofs.Common.{◌≡◌, ℕ, ◌<◌, ◌≤◌, Bool, true, false, not, nat_lt, List, [], ◌∷◌, arith, if◌then◌else◌}
+use Rattle.std.proofs.Common.{◌≡◌, ℕ, ◌≤◌, Bool, true, false, not, nat_lt, List, [], ◌∷◌, if◌then◌else◌}
 use Rattle.std.specs.List.{AllByRecursion, filter}
-use Rattle.std.specs.Ordering.{MatchOrdering, nat_cmp, ordering_then}
-use Rattle.std.specs.declared.cmp.Ordering.{Ordering}
-use Rattle.std.specs.declared.cmp.Ordering.TheVariants.{Less, Equal, Greater}
-use Rattle.std.specs.Cmp.{ranks}
+use Rattle.std.specs.declared.cmp.Ordering.TheVariants.{Less}
 use Rattle.sim_base.specs.declared.entry.Entry.{Entry}
 use Rattle.sim_base.specs.declared.entry.Line.{Line}
 use Rattle.sim_base.specs.declared.message.Msg.{Msg}
 use Rattle.run_laws.specs.Queue.{Sorted}
+use Rattle.run_laws.proofs.Rising.{ordering_then-le}
 use Rattle.log_chain.specs.Packing.{FitWords}
 use Rattle.log_chain.specs.Times.{times_of, RiseByTime, from_time}
 use Rattle.trace_cursor.specs.Words.{by_key}
 
--- what is less by time first is not later
-first_timed : (x y : ℕ) (r s : Ordering) → MatchOrdering r (x < y) (x ≡ y) (y < x) → ordering_then r s ≡ Less → x ≤ y
-first_timed x y Less s m h = omega (arith, m)
-first_timed x y Equal s m h = omega (arith, m)
-first_timed x y Greater s m h = let a : ⊥ = cc in absurd a
+-- ---- RiseByTime
 
 -- what comes before others by key is not of a later time
 not_later : (e : Entry Msg Line) (es : List (Entry Msg Line)) → AllByRecursion (λ f. by_key e f ≡ Less) es →
     AllByRecursion (λ n. e.msg.key.time ≤ n) (times_of es)
 not_later e [] h = tt
-not_later e (f ∷ fs) h = (
-  first_timed e.msg.key.time f.msg.key.time (nat_cmp e.msg.key.time f.msg.key.time) _
-      (ranks e.msg.key.time f.msg.key.time) h.0,
-  not_later e fs h.1,
-)
+not_later e (f ∷ fs) h = (ordering_then-le e.msg.key.time f.msg.key.time _ h.0, not_later e fs h.1)
 
 -- what rises by key rises by time
 pub rise_by_time : (es : List (Entry Msg Line)) → Sorted by_key es → RiseByTime es
 rise_by_time [] s = tt
 rise_by_time (e ∷ es) s = (not_later e es s.0, rise_by_time es s.1)
 
+-- ---- FitWords
+
 -- of keys that fit words, those of some entries do
 fit_filter : (keep : Entry Msg Line → Bool) (es : List (Entry Msg Line)) → FitWords es → FitWords (filter keep es)
 fit_filter keep [] h = tt
 fit_filter keep (e ∷ es) h = with_first (keep e) (fit_filter keep es h.1)
   where
+    -- by whether the first of them is left in
     with_first : (b : Bool) → FitWords (filter keep es) → FitWords (if b then e ∷ filter keep es else filter keep es)
     with_first true k = (h.0, k)
     with_first false k = k

@@ -23,6 +23,6 @@ pub record IsCursor (ls : List (List (Entry Msg Line))) (words : List ℕ) (rese
   pub few : length words ≤ WORD_PLACES
   pub within : length ls ≤ most
   pub there : most ≤ length words
-  pub fits : most ≤ reserved
+  pub enough : most ≤ reserved
   pub fit : AllFitWords ls
   pub words_are : AreWordsOf words ls

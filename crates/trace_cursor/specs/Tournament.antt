@@ -22,7 +22,7 @@ pub record IsTree (nodes : List ℕ) (count : ℕ) : Type 0 where
   pub size : length nodes ≡ 2 * count
   pub right : AreNodesBut nodes count 0
 
--- the least of a list's words, and where it stands
+-- the least of a list's words, and its place
 pub record IsLeast (word : ℕ) (words : List ℕ) : Type 0 where
   pub place : ℕ
   pub there : place < length words

@@ -1,25 +1,18 @@
 -- The words of lists: the key of what is first, with the place of the list.
 use Rattle.std.specs.Prelude.{ℕ, List, [], ◌∷◌}
 use Rattle.std.specs.List.{AllByRecursion}
-use Rattle.std.specs.declared.cmp.Ordering.{Ordering}
+pub use Rattle.sim_base.specs.Entries.{by_key}
 use Rattle.sim_base.specs.KeyWords.{key_word}
 use Rattle.sim_base.specs.declared.entry.Entry.{Entry}
 use Rattle.sim_base.specs.declared.entry.Line.{Line}
 use Rattle.sim_base.specs.declared.message.Msg.{Msg}
-use Rattle.run_laws.specs.Merges.{merge, entry_order}
+use Rattle.run_laws.specs.Merges.{merge}
 use Rattle.log_chain.specs.Packing.{FitWords}
+use Rattle.trace_cursor.specs.declared.tree.TheConstants.{NO_WORD}
 
--- entries by time, sender and number
-abbrev pub by_key : Entry Msg Line → Entry Msg Line → Ordering
-by_key = entry_order (λ (m : Msg). m.key.time) (λ m. m.key.sender) (λ m. m.key.number)
-
--- the greatest word, which is that of a log with nothing left
-abbrev pub no_word : ℕ
-no_word = 18446744073709551615
-
--- the word of the first entry that is left
+-- the word of the first entry that is left, and no word where none is
 abbrev pub word_of : ℕ → List (Entry Msg Line) → ℕ
-word_of place [] = no_word
+word_of place [] = NO_WORD
 word_of place (e ∷ es) = key_word place e.msg.key
 
 -- lists merged onto one, one after the other

@@ -6,7 +6,7 @@ ghost use Rattle.log_chain.specs.Packing.{FitWords};
 ghost use Rattle.log_chain.specs.Stored.{entry_in};
 ghost use Rattle.trace_cursor.specs.Words.{by_key, word_of};
 
-use crate::tree::Tree;
+use crate::tree::{NO_WORD, Tree};
 use log_chain::{StoredEntry, Walk};
 use sim_base::message::WORD_PLACES;
 use sim_base::{Entry, NoMemory};
@@ -115,15 +115,7 @@ fn places(most: usize) -> usize
     ensures some { 1 ≤ result }
     ensures few { result ≤ WORD_PLACES }
 {
-    match most {
-        0..=1 => 1,
-        2 => 2,
-        3..=4 => 4,
-        5..=8 => 8,
-        9..=16 => 16,
-        17..=32 => 32,
-        _ => 64,
-    }
+    most.next_power_of_two()
 }
 
 // The key of the next entry as a word, with the place of the walk; the greatest word at the end.
@@ -135,6 +127,6 @@ fn word(walk: &Walk<'_>, place: u64) -> u64
 {
     match walk.key() {
         Some(key) => key.word(place),
-        None => u64::MAX,
+        None => NO_WORD,
     }
 }

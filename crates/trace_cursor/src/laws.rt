@@ -5,10 +5,10 @@ ghost use Rattle.std.specs.Prelude.{ℕ, List};
 ghost use Rattle.run_laws.specs.Simulation.{Simulation};
 ghost use Rattle.trace_cursor.specs.Rests.{RestIsMerge, LogRises};
 
-use run_laws::laws::Numbered;
+use run_laws::laws::NumberingStations;
 
 /// The logs of a clone rise by key, and merged from a time on they are its trace from there on.
-pub fn merging<S, M, N, T: Numbered<S, M, N>>()
+pub fn rests_make_the_trace<S, M, N, T: NumberingStations<S, M, N>>()
     ensures log_rises { LogRises T.sim T.sender T.number }
     ensures rest { RestIsMerge T.sim T.sender T.number }
 {}

@@ -19,9 +19,9 @@
 //! ```
 //!
 //! The least of the next keys is found by a tournament ([`Tree`]): a key is one word of 64 bits, with the place of its
-//! log as the last six, so a step is one `min` a level and no branch, and the least word tells whose turn it is. The
+//! log as the last six, so a step is one `min` a level and no branch, and the least word tells which log is next. The
 //! keys of every run within the model's limits fit, and those of every log whose entries are all packed. A log with
-//! nothing left has the greatest word, and its turn never comes.
+//! nothing left has the greatest word, and is never next.
 //!
 //! Contracts see a cursor as the list of the entries that it will give, and its laws say that for a clone's logs this
 //! is the clone's trace: the promise that a text has each entry of its clone once and in order rests on it.

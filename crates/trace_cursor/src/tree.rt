@@ -1,8 +1,7 @@
 //! Tournaments of words.
-ghost use Rattle.std.specs.Prelude.{◌≡◌, ◌+◌, ◌-◌, ◌^◌, ◌<◌, ◌≤◌, length, replicate, slice_set, IfOk};
+ghost use Rattle.std.specs.Prelude.{◌≡◌, ◌+◌, ◌-◌, ◌*◌, ◌<◌, ◌≤◌, length, replicate, slice_set, IfOk};
 ghost use Rattle.trace_cursor.specs.Tournament.{beside, IsLeast};
-ghost use Rattle.trace_cursor.specs.Words.{no_word};
-ghost use Rattle.trace_cursor.specs.declared.tree.TheConstants.{MOST_WORDS};
+ghost use Rattle.trace_cursor.specs.declared.tree.TheConstants.{MOST_WORDS, NO_WORD};
 
 use sim_base::NoMemory;
 use std::alloc::Global;
@@ -10,6 +9,9 @@ use std::marker::Model;
 
 /// The most words of a tournament.
 pub const MOST_WORDS: usize = 1_048_576;
+
+/// The greatest word, which is that of a list with nothing left.
+pub const NO_WORD: u64 = u64::MAX;
 
 /// Words, and the least of them at hand: a change costs one `min` a level.
 #[derive(Drop)]
@@ -35,17 +37,17 @@ impl Tree {
     pub fn new(alloc: Global, count: usize) -> Result<Tree, NoMemory>
         requires some { 1 ≤ count }
         requires few { count ≤ MOST_WORDS }
-        ensures value { IfOk result (λ t. t ≡ replicate count no_word) }
+        ensures value { IfOk result (λ t. t ≡ replicate count NO_WORD) }
     {
-        let nodes = vec![in alloc; u64::MAX; 2 * count]?;
+        let nodes = vec![in alloc; NO_WORD; 2 * count]?;
         Ok(Tree { nodes, count })
     }
 
     /// Makes each word the greatest.
     pub fn clear(&mut self)
-        ensures value { self.new ≡ replicate (length self.old) no_word }
+        ensures value { self.new ≡ replicate (length self.old) NO_WORD }
     {
-        self.nodes.fill(u64::MAX);
+        self.nodes.fill(NO_WORD);
     }
 
     /// Puts a word in the place of another.
@@ -87,7 +89,7 @@ impl Tree {
 // The other node below the same one.
 fn beside(node: usize) -> usize
     requires below { 1 < node }
-    requires small { node < 2 ^ 32 }
+    requires small { node < 2 * MOST_WORDS }
     ensures value { result ≡ beside node }
 {
     if node % 2 == 0 { node + 1 } else { node - 1 }

@@ -7,6 +7,8 @@ use Rattle.sim_base.specs.declared.message.Payload.{Payload}
 use Rattle.net_model.specs.Net.{Net}
 use Rattle.trace_report.specs.TraceText.{key_text, payload_text, counts_text, entry_line}
 
+-- ---- key_text, payload_text, counts_text
+
 -- the key, what the message tells, and the counts, one behind the other, are an entry's line
 pub line_of_parts : (net : Net) (key : Key) (to : ℕ) (payload : Payload) (counts : Line) (before : List ℕ)
     → (((before ++ key_text net key to) ++ payload_text net payload) ++ codes " ") ++ (counts_text counts ++ codes "\n")
@@ -15,6 +17,8 @@ pub line_of_parts : (net : Net) (key : Key) (to : ℕ) (payload : Payload) (coun
       line = counts;
     })
 line_of_parts net key to payload counts before = simp append_assoc refl
+
+-- ---- take
 
 -- a text that was written at a place tells the place behind it
 pub place_behind : (at end : ℕ) (old new text : List ℕ) → take end new ≡ take at old ++ text → at ≤ length old

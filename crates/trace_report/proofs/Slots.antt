@@ -5,10 +5,14 @@ use Rattle.net_model.specs.Net.{Net, no_site, site_at, class_of_kind}
 use Rattle.trace_report.specs.TraceText.{name_or_analyst}
 use Rattle.trace_report.specs.Slots.{slot_of}
 
+-- ---- site_at
+
 -- past the last station there is none
 no_station : (net : Net) (s : ℕ) → length net.sites < s → site_at net s ≡ None
 no_station net zero l = absurd (omega arith)
 no_station net (suc s) l = slice_get_past net.sites s (omega arith)
+
+-- ---- slot_of
 
 -- so a number past the last is the analyst's, as 0 is
 pub slot_past : (net : Net) (s : ℕ) → length net.sites < s → slot_of net s ≡ slot_of net 0

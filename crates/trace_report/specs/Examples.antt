@@ -19,12 +19,12 @@ one_desk_text =
     ++ codes "15 out desk 3 job gate.1 got=2 stay=17\n"
 
 -- the figures of a station in one clone, where it handled so many messages
-abbrev pub of_one : ℕ → Figures
-of_one n = record { copies = 1; handled = n; alone = n }
+abbrev pub figures_of_one : ℕ → Figures
+figures_of_one n = record { copies = 1; handled = n; alone = n }
 
 -- the figures of one clone
 abbrev pub figures_alone : List Figures
-figures_alone = of_one 2 ∷ of_one 4 ∷ of_one 2 ∷ []
+figures_alone = figures_of_one 2 ∷ figures_of_one 4 ∷ figures_of_one 2 ∷ []
 
 -- and the report with these figures
 abbrev pub alone_text : List ℕ

@@ -3,3 +3,4 @@ pub mod TraceText
 pub mod ReportText
 pub mod Examples
 pub mod Outputs
+pub mod Writers

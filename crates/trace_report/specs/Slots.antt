@@ -1,6 +1,6 @@
 -- What lines show of a station's number.
 use Rattle.std.specs.Prelude.{◌≡◌, ℕ, ◌<◌, ◌≤◌, List, length, Some, slice_get}
-use Rattle.net_model.specs.Net.{Net, site_of, class_of_kind}
+use Rattle.net_model.specs.Net.{Net, class_from}
 use Rattle.net_model.specs.declared.limits.TheConstants.{MOST_STATIONS}
 use Rattle.trace_report.specs.declared.names.Slot.{Slot}
 use Rattle.trace_report.specs.declared.names.TheConstants.{SLOTS}
@@ -8,7 +8,7 @@ use Rattle.trace_report.specs.TraceText.{station_name}
 
 -- its name, or the analyst's, and the class of the jobs that it makes
 abbrev pub slot_of : Net → ℕ → Slot
-slot_of net s = record { name = station_name net s; class = class_of_kind (site_of net s).kind }
+slot_of net s = record { name = station_name net s; class = class_from net s }
 
 -- a network's, by the numbers from 0 to that of the last station that there may be
 pub record AreNames (net : Net) (slots : List Slot) : Type 0 where

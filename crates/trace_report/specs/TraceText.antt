@@ -12,7 +12,7 @@ use Rattle.sim_base.specs.declared.message.Key.{Key}
 use Rattle.sim_base.specs.declared.message.Msg.{Msg}
 use Rattle.sim_base.specs.declared.message.Payload.{Payload}
 use Rattle.sim_base.specs.declared.message.Payload.TheVariants.{Tick, Job, Done, Set}
-use Rattle.net_model.specs.Net.{Net, Site, site_at, site_of, class_of_kind}
+use Rattle.net_model.specs.Net.{Net, Site, site_at, class_from}
 
 -- the name of a station, or that of the analyst where there is no station
 abbrev pub name_or_analyst : Option Site → List ℕ
@@ -25,7 +25,7 @@ station_name net s = name_or_analyst (site_at net s)
 
 -- the class of a source's jobs; only format 2 has classes
 abbrev pub class_text : Net → ℕ → List ℕ
-class_text net source = if net.format == 2 then codes ":" ++ decimal (class_of_kind (site_of net source).kind) else []
+class_text net source = if net.format == 2 then codes ":" ++ decimal (class_from net source) else []
 
 -- a job, by its source and its count among that source's jobs
 abbrev pub job_text : Net → JobOf → List ℕ

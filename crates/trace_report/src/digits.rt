@@ -1,12 +1,16 @@
 //! How many digits a number has.
 ghost use Rattle.std.specs.Prelude.{◌≡◌, ◌<◌, ◌≤◌, length, decimal};
+ghost use Rattle.trace_report.specs.declared.digits.TheConstants.{LONGEST_NUMBER};
+
+/// How many digits a number of 64 bits has at most.
+pub const LONGEST_NUMBER: usize = 20;
 
 /// How many digits a number has.
 // A ladder, since the digits of a trace's numbers are few and seldom change from line to line.
 #[inline(always)]
 pub fn digits(n: u64) -> usize
     ensures count { result ≡ length (decimal n) }
-    ensures few { result ≤ 20 }
+    ensures few { result ≤ LONGEST_NUMBER }
 {
     if n < 10_000_000_000 {
         few_digits(n)
@@ -15,6 +19,7 @@ pub fn digits(n: u64) -> usize
     }
 }
 
+// The same of a number with at most ten.
 #[inline(always)]
 fn few_digits(n: u64) -> usize
     requires small { n < 10000000000 }

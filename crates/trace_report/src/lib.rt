@@ -15,11 +15,15 @@
 //! ```
 //!
 //! A name is copied as 16 bytes whatever its length, and a number is written from its last digit, so pieces may reach
-//! behind the line's end, never more than 256 bytes from its place: a buffer ends with as many that hold no text.
-//! `line_len` tells how long a line will be before it is written, by counting digits, for a buffer that is to be taken
-//! once. `trace_text` writes each line into a page that stays warm and appends it.
+//! behind the line's end, never more than `MOST_LINE` bytes from its place: a buffer ends with as many that hold no
+//! text. `line_len` tells how long a line will be before it is written, by counting digits, for a buffer that is to be
+//! taken once. `trace_text` writes each line into a page that stays warm and appends it.
 //!
-//! That each text is the one that the definitions name is the promise of this crate. Out of memory is the only error.
+//! A line costs a copy of a few bytes for each name and word, and a few divisions for each number. `trace_text`
+//! and `report_text` alone take memory, and out of memory is the only error.
+//!
+//! The promise that it carries: **every trace and the report are right**. Each text is the one that the definitions
+//! name.
 #![tactic(auto)]
 
 mod digits;

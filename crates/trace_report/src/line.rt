@@ -1,19 +1,24 @@
 //! How a trace line is worded, written forward: each function writes its part at a place and returns the place behind.
 //!
-//! `free` and `near` say how long a part can be: a name has at most 16 bytes, a number 20 digits.
+//! `free` and `WritesPiece` say how long a part can be, by the constants of `lengths`.
 ghost use Rattle.std.specs.Prelude.{◌≡◌, ◌+◌, ◌≤◌, ◌++◌, length, take, codes};
 ghost use Rattle.sim_base.specs.declared.entry.Line.TheVariants.{Server};
 ghost use Rattle.trace_report.specs.Slots.{AreNames};
-ghost use Rattle.log_chain.specs.Packing.{packed_entry};
+ghost use Rattle.log_chain.specs.Packing.{unpacked_entry};
 ghost use Rattle.log_chain.specs.Stored.{entry_in};
 ghost use Rattle.sim_base.specs.Params.{param_word};
 ghost use Rattle.trace_report.specs.TraceText.{station_name, class_text, job_text, values_text};
 ghost use Rattle.trace_report.specs.TraceText.{change_text, payload_text, counts_text, key_text, entry_line};
+ghost use Rattle.trace_report.specs.Writers.{WritesPiece};
 ghost use Rattle.trace_report.specs.declared.line.TheConstants.{MOST_LINE};
+ghost use Rattle.sim_base.specs.declared.name.TheConstants.{LONGEST_NAME};
+ghost use Rattle.trace_report.specs.declared.lengths.TheConstants.{LONGEST_CLASS, LONGEST_JOB, LONGEST_WORD};
+ghost use Rattle.trace_report.specs.declared.lengths.TheConstants.{LONGEST_VALUES, LONGEST_CHANGE, LONGEST_PAYLOAD};
+ghost use Rattle.trace_report.specs.declared.lengths.TheConstants.{LONGEST_COUNTS, LONGEST_KEY, LONGEST_END};
 
 use crate::names::Names;
 use crate::pieces::{put, put_count, put_name, put_number};
-use log_chain::{Packed, StoredEntry};
+use log_chain::{PackedEntry, StoredEntry};
 use net_model::Model;
 use sim_base::{Change, Entry, Job, Key, Line, Param, Payload};
 
@@ -21,21 +26,18 @@ use sim_base::{Change, Entry, Job, Key, Line, Param, Payload};
 #[inline(always)]
 fn put_station(bytes: &mut [u8], at: usize, model: &Model, names: &Names, s: u32) -> usize
     requires names { AreNames model.now names.now }
-    requires free { at + 16 ≤ length bytes.old }
-    ensures text { take result bytes.new ≡ take at bytes.old ++ station_name model.now s }
-    ensures size { length bytes.new ≡ length bytes.old }
-    ensures near { result ≤ at + 16 }
+    requires free { at + LONGEST_NAME ≤ length bytes.old }
+    ensures written { WritesPiece (station_name model.now s) LONGEST_NAME at result bytes.old bytes.new }
 {
     put_name(bytes, at, &names.slot(model, s).name)
 }
 
+// The class of a source's jobs, where the format has classes.
 #[inline(always)]
 fn put_class(bytes: &mut [u8], at: usize, model: &Model, names: &Names, source: u32) -> usize
     requires names { AreNames model.now names.now }
-    requires free { at + 21 ≤ length bytes.old }
-    ensures text { take result bytes.new ≡ take at bytes.old ++ class_text model.now source }
-    ensures size { length bytes.new ≡ length bytes.old }
-    ensures near { result ≤ at + 21 }
+    requires free { at + LONGEST_CLASS ≤ length bytes.old }
+    ensures written { WritesPiece (class_text model.now source) LONGEST_CLASS at result bytes.old bytes.new }
 {
     if model.format() == 2 {
         put_count(bytes, at, b":", u64::from(names.slot(model, source).class))
@@ -48,10 +50,8 @@ fn put_class(bytes: &mut [u8], at: usize, model: &Model, names: &Names, source: 
 #[inline(always)]
 fn put_job(bytes: &mut [u8], at: usize, model: &Model, names: &Names, job: &Job) -> usize
     requires names { AreNames model.now names.now }
-    requires free { at + 58 ≤ length bytes.old }
-    ensures text { take result bytes.new ≡ take at bytes.old ++ job_text model.now job.now }
-    ensures size { length bytes.new ≡ length bytes.old }
-    ensures near { result ≤ at + 58 }
+    requires free { at + LONGEST_JOB ≤ length bytes.old }
+    ensures written { WritesPiece (job_text model.now job.now) LONGEST_JOB at result bytes.old bytes.new }
 {
     let at = put_station(bytes, at, model, names, job.source);
     let at = put_count(bytes, at, b".", job.count);
@@ -61,17 +61,15 @@ fn put_job(bytes: &mut [u8], at: usize, model: &Model, names: &Names, job: &Job)
 /// A parameter's word.
 pub fn word_of(param: Param) -> &'static [u8]
     ensures value { result.now ≡ param_word param }
-    ensures short { length result.now ≤ 7 }
+    ensures short { length result.now ≤ LONGEST_WORD }
 {
     param.word().as_bytes()
 }
 
 // The values of a change.
 fn put_values(bytes: &mut [u8], at: usize, change: &Change) -> usize
-    requires free { at + 41 ≤ length bytes.old }
-    ensures text { take result bytes.new ≡ take at bytes.old ++ values_text change.now }
-    ensures size { length bytes.new ≡ length bytes.old }
-    ensures near { result ≤ at + 41 }
+    requires free { at + LONGEST_VALUES ≤ length bytes.old }
+    ensures written { WritesPiece (values_text change.now) LONGEST_VALUES at result bytes.old bytes.new }
 {
     let at = put_number(bytes, at, change.a);
     if change.param.values() == 2 {
@@ -83,10 +81,8 @@ fn put_values(bytes: &mut [u8], at: usize, change: &Change) -> usize
 
 // A change, as a script gives it.
 fn put_change(bytes: &mut [u8], at: usize, change: &Change) -> usize
-    requires free { at + 49 ≤ length bytes.old }
-    ensures text { take result bytes.new ≡ take at bytes.old ++ change_text change.now }
-    ensures size { length bytes.new ≡ length bytes.old }
-    ensures near { result ≤ at + 49 }
+    requires free { at + LONGEST_CHANGE ≤ length bytes.old }
+    ensures written { WritesPiece (change_text change.now) LONGEST_CHANGE at result bytes.old bytes.new }
 {
     let at = put(bytes, at, word_of(change.param));
     let at = put(bytes, at, b" ");
@@ -103,10 +99,8 @@ fn put_payload(
     payload: &Payload,
 ) -> usize
     requires names { AreNames model.now names.now }
-    requires free { at + 63 ≤ length bytes.old }
-    ensures text { take result bytes.new ≡ take at bytes.old ++ payload_text model.now payload.now }
-    ensures size { length bytes.new ≡ length bytes.old }
-    ensures near { result ≤ at + 63 }
+    requires free { at + LONGEST_PAYLOAD ≤ length bytes.old }
+    ensures written { WritesPiece (payload_text model.now payload.now) LONGEST_PAYLOAD at result bytes.old bytes.new }
 {
     match payload {
         Payload::Tick => put(bytes, at, b"tick"),
@@ -128,10 +122,9 @@ fn put_payload(
 // The counts of a server.
 #[inline(always)]
 fn put_server(bytes: &mut [u8], at: usize, busy: u64, wait: u64, done: u64, lost: u64) -> usize
-    requires free { at + 103 ≤ length bytes.old }
-    ensures text { take result bytes.new ≡ take at bytes.old ++ counts_text (Server busy wait done lost) }
-    ensures size { length bytes.new ≡ length bytes.old }
-    ensures near { result ≤ at + 103 }
+    requires free { at + LONGEST_COUNTS ≤ length bytes.old }
+    ensures written { WritesPiece (counts_text (Server busy wait done lost)) LONGEST_COUNTS
+        at result bytes.old bytes.new }
 {
     let at = put_count(bytes, at, b"busy=", busy);
     let at = put_count(bytes, at, b" wait=", wait);
@@ -142,10 +135,8 @@ fn put_server(bytes: &mut [u8], at: usize, busy: u64, wait: u64, done: u64, lost
 // The counts of a station after a message.
 #[inline(always)]
 fn put_counts(bytes: &mut [u8], at: usize, counts: &Line) -> usize
-    requires free { at + 103 ≤ length bytes.old }
-    ensures text { take result bytes.new ≡ take at bytes.old ++ counts_text counts.now }
-    ensures size { length bytes.new ≡ length bytes.old }
-    ensures near { result ≤ at + 103 }
+    requires free { at + LONGEST_COUNTS ≤ length bytes.old }
+    ensures written { WritesPiece (counts_text counts.now) LONGEST_COUNTS at result bytes.old bytes.new }
 {
     match counts {
         Line::Source { sent } => put_count(bytes, at, b"sent=", *sent),
@@ -167,10 +158,8 @@ fn put_counts(bytes: &mut [u8], at: usize, counts: &Line) -> usize
 #[inline(always)]
 fn put_key(bytes: &mut [u8], at: usize, model: &Model, names: &Names, key: &Key, to: u32) -> usize
     requires names { AreNames model.now names.now }
-    requires free { at + 76 ≤ length bytes.old }
-    ensures text { take result bytes.new ≡ take at bytes.old ++ key_text model.now key.now to }
-    ensures size { length bytes.new ≡ length bytes.old }
-    ensures near { result ≤ at + 76 }
+    requires free { at + LONGEST_KEY ≤ length bytes.old }
+    ensures written { WritesPiece (key_text model.now key.now to) LONGEST_KEY at result bytes.old bytes.new }
 {
     let at = put_number(bytes, at, key.time);
     let at = put(bytes, at, b" ");
@@ -184,10 +173,8 @@ fn put_key(bytes: &mut [u8], at: usize, model: &Model, names: &Names, key: &Key,
 // The counts, and the line's end.
 #[inline(always)]
 fn put_end(bytes: &mut [u8], at: usize, counts: &Line) -> usize
-    requires free { at + 104 ≤ length bytes.old }
-    ensures text { take result bytes.new ≡ take at bytes.old ++ (counts_text counts.now ++ codes "\n") }
-    ensures size { length bytes.new ≡ length bytes.old }
-    ensures near { result ≤ at + 104 }
+    requires free { at + LONGEST_END ≤ length bytes.old }
+    ensures written { WritesPiece (counts_text counts.now ++ codes "\n") LONGEST_END at result bytes.old bytes.new }
 {
     let at = put_counts(bytes, at, counts);
     put(bytes, at, b"\n")
@@ -214,12 +201,18 @@ pub fn write_line(bytes: &mut [u8], at: usize, model: &Model, names: &Names, ent
 }
 
 // Writes the line of a packed entry at a place, in the way of `write_line`: its parts are read one by one.
-fn write_packed(bytes: &mut [u8], at: usize, model: &Model, names: &Names, packed: &Packed) -> usize
+fn write_packed(
+    bytes: &mut [u8],
+    at: usize,
+    model: &Model,
+    names: &Names,
+    packed: &PackedEntry,
+) -> usize
     requires names { AreNames model.now names.now }
     requires free { at + MOST_LINE ≤ length bytes.old }
-    ensures text { take result bytes.new ≡ take at bytes.old ++ entry_line model.now (packed_entry packed.now) }
+    ensures text { take result bytes.new ≡ take at bytes.old ++ entry_line model.now (unpacked_entry packed.now) }
     ensures size { length bytes.new ≡ length bytes.old }
-    ensures place { result ≡ at + length (entry_line model.now (packed_entry packed.now)) }
+    ensures place { result ≡ at + length (entry_line model.now (unpacked_entry packed.now)) }
 {
     // a copy, which no byte that is written can change, so that each part is read once
     let packed = *packed;

@@ -8,13 +8,15 @@ use net_model::limits::MOST_STATIONS;
 use net_model::{Model, Station};
 use sim_base::Name;
 
-// The numbers of stations, and that of the analyst.
+/// How many numbers are looked up: those of stations, and that of the analyst.
 pub(crate) const SLOTS: usize = MOST_STATIONS + 1;
 
 /// What lines show of a station: its name, and the class of the jobs that it makes.
 #[derive(Clone, Copy)]
 pub struct Slot {
+    /// The station's name, or the analyst's.
     pub name: Name,
+    /// The class of the jobs that it makes: 1 where it makes none.
     pub class: u32,
 }
 
@@ -54,6 +56,7 @@ fn analyst() -> Name
     }
 }
 
+// The name that lines show for a number.
 fn name_of(model: &Model, s: u32) -> Name
     ensures { result ≡ station_name model.now s }
 {

@@ -1,12 +1,16 @@
 //! Pieces of lines, written forward into a slice: each function writes at a place and returns the place behind.
 //!
-//! The place goes through registers. A name is written as 16 bytes at once, and what it writes past its end the next
-//! piece overwrites.
+//! The place goes through registers. A name is written as `LONGEST_NAME` bytes at once, and what it writes past its end
+//! the next piece overwrites.
 ghost use Rattle.std.specs.Prelude.{◌≡◌, ◌+◌, ◌≤◌, ◌++◌, length, take, decimal};
+ghost use Rattle.sim_base.specs.declared.name.TheConstants.{LONGEST_NAME};
+ghost use Rattle.trace_report.specs.declared.digits.TheConstants.{LONGEST_NUMBER};
+ghost use Rattle.trace_report.specs.Writers.{WritesPiece};
 
 use crate::digits::digits;
 use itoa::write_digits;
 use sim_base::Name;
+use sim_base::name::LONGEST_NAME;
 
 /// Writes bytes.
 #[inline(always)]
@@ -24,22 +28,18 @@ pub fn put(bytes: &mut [u8], at: usize, piece: &[u8]) -> usize
 /// Writes a name.
 #[inline(always)]
 pub fn put_name(bytes: &mut [u8], at: usize, name: &Name) -> usize
-    requires free { at + 16 ≤ length bytes.old }
-    ensures text { take result bytes.new ≡ take at bytes.old ++ name.now }
-    ensures size { length bytes.new ≡ length bytes.old }
-    ensures near { result ≤ at + 16 }
+    requires free { at + LONGEST_NAME ≤ length bytes.old }
+    ensures written { WritesPiece name.now LONGEST_NAME at result bytes.old bytes.new }
 {
-    bytes[at..at + 16].copy_from_slice(name.padded());
+    bytes[at..at + LONGEST_NAME].copy_from_slice(name.padded_bytes());
     at + name.len()
 }
 
 /// Writes a number.
 #[inline(always)]
 pub fn put_number(bytes: &mut [u8], at: usize, n: u64) -> usize
-    requires free { at + 20 ≤ length bytes.old }
-    ensures text { take result bytes.new ≡ take at bytes.old ++ decimal n }
-    ensures size { length bytes.new ≡ length bytes.old }
-    ensures near { result ≤ at + 20 }
+    requires free { at + LONGEST_NUMBER ≤ length bytes.old }
+    ensures written { WritesPiece (decimal n) LONGEST_NUMBER at result bytes.old bytes.new }
 {
     let end = at + digits(n);
     let _ = write_digits(n, bytes, end);
@@ -49,10 +49,9 @@ pub fn put_number(bytes: &mut [u8], at: usize, n: u64) -> usize
 /// Writes a number behind a word.
 #[inline(always)]
 pub fn put_count(bytes: &mut [u8], at: usize, word: &[u8], n: u64) -> usize
-    requires free { at + length word.now + 20 ≤ length bytes.old }
-    ensures text { take result bytes.new ≡ take at bytes.old ++ (word.now ++ decimal n) }
-    ensures size { length bytes.new ≡ length bytes.old }
-    ensures near { result ≤ at + length word.now + 20 }
+    requires free { at + length word.now + LONGEST_NUMBER ≤ length bytes.old }
+    ensures written { WritesPiece (word.now ++ decimal n) (length word.now + LONGEST_NUMBER)
+        at result bytes.old bytes.new }
 {
     let at = put(bytes, at, word);
     put_number(bytes, at, n)

@@ -1,7 +1,8 @@
 //! Report texts.
-ghost use Rattle.std.specs.Prelude.{◌≡◌, ◌+◌, ◌*◌, ◌<◌, ◌≤◌, ◌^◌, ◌++◌, length, take, sum_by, IfOk};
+ghost use Rattle.std.specs.Prelude.{◌≡◌, ◌+◌, ◌*◌, ◌<◌, ◌≤◌, ◌^◌, length, sum_by, IfOk};
 ghost use Rattle.std.specs.List.{flat_map, zip};
 ghost use Rattle.trace_report.specs.ReportText.{report_text as report_of, station_line, total_line};
+ghost use Rattle.trace_report.specs.Writers.{WritesPiece};
 ghost use Rattle.trace_report.specs.declared.report.TheConstants.{MOST_REPORT_LINE};
 ghost use Rattle.net_model.specs.Sites.{as_site};
 
@@ -10,14 +11,14 @@ use net_model::{Model, Station};
 use sim_base::{Figures, NoMemory};
 use std::alloc::Global;
 
-// No line of a report is longer.
+/// How many bytes a line of a report has at most.
 pub(crate) const MOST_REPORT_LINE: usize = 128;
 
+// The line of a station.
 fn write_figures(bytes: &mut [u8], at: usize, station: &Station, figures: &Figures) -> usize
     requires free { at + MOST_REPORT_LINE ≤ length bytes.old }
-    ensures text { take result bytes.new ≡ take at bytes.old ++ station_line (as_site station.now) figures.now }
-    ensures size { length bytes.new ≡ length bytes.old }
-    ensures near { result ≤ at + MOST_REPORT_LINE }
+    ensures written { WritesPiece (station_line (as_site station.now) figures.now) MOST_REPORT_LINE
+        at result bytes.old bytes.new }
 {
     let at = put_name(bytes, at, &station.name);
     let at = put_count(bytes, at, b" copies=", figures.copies);
@@ -30,10 +31,9 @@ fn write_figures(bytes: &mut [u8], at: usize, station: &Station, figures: &Figur
 fn write_stations(bytes: &mut [u8], start: usize, model: &Model, figures: &[Figures]) -> usize
     requires all { length figures.now ≡ length model.now.sites }
     requires free { start + MOST_REPORT_LINE * length model.now.sites ≤ length bytes.old }
-    ensures text { take result bytes.new ≡ take start bytes.old
-        ++ flat_map (λ beside. station_line beside.0 beside.1) (zip model.now.sites figures.now) }
-    ensures size { length bytes.new ≡ length bytes.old }
-    ensures near { result ≤ start + MOST_REPORT_LINE * length model.now.sites }
+    ensures written { WritesPiece
+        (flat_map (λ beside. station_line beside.0 beside.1) (zip model.now.sites figures.now))
+        (MOST_REPORT_LINE * length model.now.sites) start result bytes.old bytes.new }
 {
     let mut at = start;
     for s in 0..model.len() {
@@ -42,6 +42,7 @@ fn write_stations(bytes: &mut [u8], start: usize, model: &Model, figures: &[Figu
     at
 }
 
+// How many messages all copies handled.
 fn handled_in_all(figures: &[Figures]) -> u64
     requires small { sum_by (λ f. f.handled) figures.now < 2 ^ 64 }
     ensures value { result ≡ sum_by (λ f. f.handled) figures.now }
@@ -49,6 +50,7 @@ fn handled_in_all(figures: &[Figures]) -> u64
     figures.iter().map(|f| f.handled).sum()
 }
 
+// How many messages the clones would have handled alone.
 fn alone_in_all(figures: &[Figures]) -> u64
     requires small { sum_by (λ f. f.alone) figures.now < 2 ^ 64 }
     ensures value { result ≡ sum_by (λ f. f.alone) figures.now }
@@ -56,13 +58,12 @@ fn alone_in_all(figures: &[Figures]) -> u64
     figures.iter().map(|f| f.alone).sum()
 }
 
+// The line of the sums.
 fn write_total(bytes: &mut [u8], at: usize, figures: &[Figures]) -> usize
     requires handled { sum_by (λ f. f.handled) figures.now < 2 ^ 64 }
     requires alone { sum_by (λ f. f.alone) figures.now < 2 ^ 64 }
     requires free { at + MOST_REPORT_LINE ≤ length bytes.old }
-    ensures text { take result bytes.new ≡ take at bytes.old ++ total_line figures.now }
-    ensures size { length bytes.new ≡ length bytes.old }
-    ensures near { result ≤ at + MOST_REPORT_LINE }
+    ensures written { WritesPiece (total_line figures.now) MOST_REPORT_LINE at result bytes.old bytes.new }
 {
     let at = put_count(bytes, at, b"total handled=", handled_in_all(figures));
     let at = put_count(bytes, at, b" alone=", alone_in_all(figures));

@@ -6,13 +6,12 @@ use Rattle.std.proofs.lemmas.Bool.{cases_Bool, cases_lt, false≢true}
 use Rattle.std.proofs.lemmas.Option.{slice_get_cases}
 use Rattle.std.proofs.Math.Nat.{suc-mul}
 use Rattle.std.proofs.lemmas.List.Sums.{sum_by-cons}
+use Rattle.std.proofs.Math.Numerals.{add-one}
 use Rattle.sim_base.specs.Order.{msg_cmp}
 use Rattle.sim_base.specs.Marked.{SortedMarked}
 use Rattle.sim_base.specs.Same.{same_entry}
 use Rattle.sim_base.specs.Clones.{Clone, clone_at}
 use Rattle.sim_base.specs.declared.message.Msg.{Msg}
-use Rattle.sim_base.proofs.OrderLaws.{msg_total}
-use Rattle.sim_base.proofs.OrderEqual.{msg_same}
 use Rattle.sim_base.proofs.SameEntry.{same_entry-Decides}
 use Rattle.clone_sets.specs.Sets.{has}
 use Rattle.clone_sets.proofs.SetLaws.{has-empty}
@@ -21,8 +20,8 @@ use Rattle.net_model.specs.Rules.{IsNet}
 use Rattle.stations.specs.Runs.{simulation, handled_once, IsBeyond}
 use Rattle.stations.proofs.GoodLaws.{lawful-stations, stations-to_stations}
 use Rattle.run_laws.specs.Queue.{In}
-use Rattle.run_laws.specs.Fronts.{next_front}
-use Rattle.run_laws.specs.Handlers.{IsStation, AreForStations, IsOrder}
+use Rattle.run_laws.specs.Fronts.{IsWindow}
+use Rattle.run_laws.specs.Handlers.{IsStation, AllAreForStations}
 use Rattle.run_laws.specs.Runs.{log_at}
 use Rattle.run_laws.specs.SharedTexts.{station_sum}
 use Rattle.run_laws.specs.Copies.{IsStepped, SoFarGiven, takes, messages_taken, ends_of, Stands, AllStepped}
@@ -33,14 +32,19 @@ use Rattle.run_laws.proofs.Parts.{part_yes, part_no, part-append}
 use Rattle.run_laws.proofs.Delivery.{given_none, given_more, delivered}
 use Rattle.run_laws.proofs.Stands.{stands_after_window}
 use Rattle.run_laws.proofs.Gaining.{over_is_beyond, handled_grows, handled_is_few}
+use Rattle.run_laws.proofs.MessageOrder.{messages_ordered}
 use Rattle.phys_proc.specs.Own.{StationCopy, MarkedMessages, IsCopy, with_message}
 use Rattle.phys_proc.specs.Procs.{ProcView}
 use Rattle.world_core.specs.declared.flow.Flow.{Flow}
-use Rattle.phys_proc.proofs.Onward.{sets_join}
-use Rattle.phys_proc.proofs.Given.{all_given}
+use Rattle.phys_proc.proofs.ComesFrom.{sets_join}
+use Rattle.phys_proc.proofs.Delivery.{all_given}
 use Rattle.world_core.specs.Worlds.{StandsAt, copies_at, total_handled}
 use Rattle.world_core.specs.Windows.{AllFlow, IsFlow, NoneOver, with_mail, sent_to}
 use Rattle.world_core.specs.Windows.{all_sent, done_at, sent_at, after_window, all_handled}
+use Rattle.world_core.proofs.Flows.{copies_at-got, done_at-got, sent_at-got}
+use Rattle.world_core.proofs.Places.{by_number}
+
+-- ---- sent_to and with_mail
 
 module _ (net : Net) (ends : ℕ → ℕ) where
   -- messages given one after the other
@@ -52,11 +56,8 @@ module _ (net : Net) (ends : ℕ → ℕ) where
   given_so_far (x ∷ ms) msgs new done f =
       subst (λ l. SoFarGiven (simulation net) has ends l new (with_mail (x ∷ ms) done)) (append_assoc msgs (x ∷ []) ms)
       (given_so_far ms (msgs ++ x ∷ []) new (map (with_message x.0 x.1) done)
-      (given_more (simulation net) has ends order msgs new done (map (with_message x.0 x.1) done) x.0 x.1 f
+      (given_more (simulation net) has ends messages_ordered msgs new done (map (with_message x.0 x.1) done) x.0 x.1 f
       (all_given net ends x.0 x.1 done (all_from (λ a. SortedMarked msg_cmp a.pending) done f.sorted))))
-    where
-      order : IsOrder msg_cmp
-      order = record { total = msg_total; same = msg_same }
 
   -- what a clone takes of the messages to a station
   taken_to : (i c : ℕ) (ms : MarkedMessages) (z : Msg)
@@ -89,6 +90,7 @@ module _ (net : Net) (ends : ℕ → ℕ) where
         ]
   ]
 
+  -- and what a clone takes of all messages, of those to its station
   to_taken : (i c : ℕ) (ms : MarkedMessages) (z : Msg) → In z (messages_taken (simulation net) has ends c ms)
       → z.to ≡ i + 1
       → In z (messages_taken (simulation net) has ends c (sent_to i ms))
@@ -123,6 +125,8 @@ module _ (net : Net) (ends : ℕ → ℕ) where
       not_taken t j = both (x.0.to == i + 1)
           (subst (In z) (sym (part_no (takes (simulation net) has ends) c x (sent_to i ms) t)) j) j
 
+-- ---- all_sent
+
 module _ (net : Net) (ends : ℕ → ℕ) (c : ℕ) (z : Msg) where
   -- what some station sent is among all that was sent
   from_all : (flows : List Flow) → In z (messages_taken (simulation net) has ends c (all_sent flows))
@@ -135,6 +139,7 @@ module _ (net : Net) (ends : ℕ → ℕ) (c : ℕ) (z : Msg) where
         | inr a ↦ let r = from_all fs a in (suc r.0, r.1)
       ]
 
+  -- and what it sent is among all of it
   in_all : (flows : List Flow) (j : ℕ) → In z (messages_taken (simulation net) has ends c (sent_at flows j))
       → In z (messages_taken (simulation net) has ends c (all_sent flows))
   in_all [] j h = absurd h
@@ -149,17 +154,16 @@ module _ (net : Net) (ends : ℕ → ℕ) (c : ℕ) (z : Msg) where
       (messages_taken (simulation net) has ends c (all_sent fs)) z
       (in_all fs j h))
 
--- a number of each place, by the number of its station
-abbrev by_number : {X : Type 0} → X → (ℕ → X) → ℕ → X
-by_number d f zero = d
-by_number d f (suc i) = f i
-
-one_up : (i : ℕ) → i + 1 ≡ suc i
-one_up i = omega arith
+-- ---- by the number of the station
 
 -- how many messages the station at a place has handled
 abbrev handled_at : List Flow → ℕ → ℕ
 handled_at flows i = unwrap_or (option_map (λ f. f.handled) (slice_get flows i)) 0
+
+-- it is what the answer at that place has
+handled_at-got : (flows : List Flow) (i : ℕ) (flow : Flow) → slice_get flows i ≡ Some flow
+    → handled_at flows i ≡ flow.handled
+handled_at-got flows i flow got = ap (λ o. unwrap_or (option_map (λ (f : Flow). f.handled) o) 0) got
 
 -- the first station's number, and the others'
 sum_shift : (f : ℕ → ℕ) (n : ℕ)
@@ -167,6 +171,7 @@ sum_shift : (f : ℕ → ℕ) (n : ℕ)
 sum_shift f zero = omega arith
 sum_shift f (suc n) = let h = sum_shift f n in omega (arith, h)
 
+-- what all stations have handled is the sum over the stations
 all_handled-sum : (flows : List Flow) → all_handled flows ≡ station_sum (by_number 0 (handled_at flows)) (length flows)
 all_handled-sum [] = refl
 all_handled-sum (f ∷ fs) =
@@ -175,57 +180,66 @@ all_handled-sum (f ∷ fs) =
     let b = sum_shift (handled_at (f ∷ fs)) (length fs) in
     omega (arith, h, a, b)
 
-module _ (net : Net) (valid : IsNet net) (cs : List Clone) (front bound : ℕ) (procs : List ProcView) (flows : List Flow)
-    (are_procs : length procs ≡ length net.sites) (count : length flows ≡ length net.sites)
-    (later : front ≤ bound) (within : bound ≤ next_front (simulation net) cs front)
-    (stood : (i : ℕ) (p : ProcView) → slice_get procs i ≡ Some p → StandsAt net cs front i p)
-    (stepped : AllFlow net (ends_of (simulation net) cs) bound procs flows) where
+-- ---- the stations of a world
+
+-- the copies of all stations stood for the clones at a front, and each station has answered for a window that is not
+-- past the next front
+pub record WorldStepped (net : Net) (cs : List Clone) (front bound : ℕ) (procs : List ProcView) (flows : List Flow) :
+    Type 0 where
+  pub valid : IsNet net
+  pub all_procs : length procs ≡ length net.sites
+  pub all_flows : length flows ≡ length net.sites
+  pub window : IsWindow (simulation net) cs front bound
+  pub stood : (i : ℕ) (p : ProcView) → slice_get procs i ≡ Some p → StandsAt net cs front i p
+  pub stepped : AllFlow net (ends_of (simulation net) cs) bound procs flows
+
+module _ (net : Net) (cs : List Clone) (front bound : ℕ) (procs : List ProcView) (flows : List Flow)
+    (world : WorldStepped net cs front bound procs flows) where
   -- each station of the network has its copies
   pub proc_of : (i : ℕ) → i < length net.sites → (p : ProcView) × (slice_get procs i ≡ Some p)
   proc_of i l = elim (slice_get_cases procs i).1 [
     | inl found ↦ (found.0, found.2)
-    | inr past ↦ absurd (let p = past.0 in omega (arith, p, are_procs, l))
+    | inr past ↦ absurd (let p = past.0 in omega (arith, p, world.all_procs, l))
   ]
 
   -- and an answer, which has them as the task leaves them
   pub flow_of : (i : ℕ) → i < length net.sites → (flow : Flow) × (slice_get flows i ≡ Some flow)
   flow_of i l = elim (slice_get_cases flows i).1 [
     | inl found ↦ (found.0, found.2)
-    | inr past ↦ absurd (let p = past.0 in omega (arith, p, count, l))
+    | inr past ↦ absurd (let p = past.0 in omega (arith, p, world.all_flows, l))
   ]
 
-  -- the copies at a place are those of the station that is read there
-  pub copies_of : (i : ℕ) (p : ProcView) → slice_get procs i ≡ Some p → copies_at procs i ≡ p.copies
-  copies_of i p got = ap (λ o. unwrap_or (option_map (λ (p : ProcView). p.copies) o) []) got
-
-  -- and they stand for the clones at the front
-  pub stand_of : (i : ℕ) → i < length net.sites → Stands (simulation net) has cs front (i + 1) (copies_at procs i)
+  -- its copies stand for the clones at the front
+  stand_of : (i : ℕ) → i < length net.sites → Stands (simulation net) has cs front (i + 1) (copies_at procs i)
   stand_of i l =
       let p = proc_of i l in
-      subst (Stands (simulation net) has cs front (i + 1)) (sym (copies_of i p.0 p.1)) (stood i p.0 p.1).copies
+      subst (Stands (simulation net) has cs front (i + 1)) (sym (copies_at-got procs i p.0 p.1))
+      (world.stood i p.0 p.1).copies
 
   -- the answer of a station, about its copies
   pub is_flow : (i : ℕ) (l : i < length net.sites) (flow : Flow) → slice_get flows i ≡ Some flow →
       IsFlow net (ends_of (simulation net) cs) bound i (proc_of i l).0 flow
-  is_flow i l flow got = let p = proc_of i l in stepped i p.0 flow p.1 got
+  is_flow i l flow got = let p = proc_of i l in world.stepped i p.0 flow p.1 got
 
   -- those over the limit are the clones whose logs are beyond it
   pub over_of : (i : ℕ) (l : i < length net.sites) (flow : Flow) → slice_get flows i ≡ Some flow → (c : ℕ) →
       (has flow.over c ≡ true) ↔ ((c < length cs) × IsBeyond net (i + 1) bound (clone_at cs c))
   over_of i l flow got c =
       let p = proc_of i l in
-      over_is_beyond (lawful-stations net valid) sets_join cs (i + 1) front bound p.0.copies
-      (stood i p.0 p.1).copies later within
+      over_is_beyond (lawful-stations net world.valid) sets_join cs (i + 1) front bound p.0.copies
+      (world.stood i p.0 p.1).copies world.window.later world.window.within
       flow.over (is_flow i l flow got).over c
+
+  -- ---- few messages
 
   -- no log was beyond the limit at the front
   short_of : (i : ℕ) → i < length net.sites → (c : ℕ) → c < length cs
       → length (log_at (simulation net) (clone_at cs c) (i + 1) front) ≤ net.limit
   short_of i l c there =
       let p = proc_of i l in
-      let st = (stood i p.0 p.1).copies in
+      let st = (world.stood i p.0 p.1).copies in
       let a = st.carried c there in
-      let copy = all_in (IsCopy net p.0.station) p.0.copies a.0 (stood i p.0 p.1).proc.copies a.1 in
+      let copy = all_in (IsCopy net p.0.station) p.0.copies a.0 (world.stood i p.0 p.1).proc.copies a.1 in
       subst (λ k. length k ≤ net.limit) (st.log a.0 c a.1 a.2) copy.short
 
   -- with what was handled before, a station has handled no more than the limit allows each clone
@@ -233,10 +247,11 @@ module _ (net : Net) (valid : IsNet net) (cs : List Clone) (front bound : ℕ) (
       handled_once net cs (i + 1) front + flow.handled ≤ length cs * net.limit
   few_at i l flow got =
       let p = proc_of i l in
-      handled_is_few (lawful-stations net valid) sets_join cs (i + 1) front bound p.0.copies
-      (stood i p.0 p.1).copies later within
+      handled_is_few (lawful-stations net world.valid) sets_join cs (i + 1) front bound p.0.copies
+      (world.stood i p.0 p.1).copies world.window.later world.window.within
       same_entry flow.handled same_entry-Decides (short_of i l) (is_flow i l flow got).gain
 
+  -- nor have the first n stations together
   few_to : (n : ℕ) → n ≤ length net.sites →
       station_sum (λ s. handled_once net cs s front) n + station_sum
       (by_number 0 (handled_at flows)) n ≤ n * (length cs * net.limit)
@@ -245,10 +260,9 @@ module _ (net : Net) (valid : IsNet net) (cs : List Clone) (front bound : ℕ) (
       let i : n < length net.sites = omega (arith, l) in
       let flow = flow_of n i in
       let a = few_to n (omega (arith, l)) in
-      let b = subst (λ s. handled_once net cs s front + flow.0.handled ≤ length cs * net.limit) (one_up n)
+      let b = subst (λ s. handled_once net cs s front + flow.0.handled ≤ length cs * net.limit) (add-one n)
       (few_at n i flow.0 flow.1) in
-      let c : handled_at flows n ≡ flow.0.handled =
-      ap (λ o. unwrap_or (option_map (λ (f : Flow). f.handled) o) 0) flow.1 in
+      let c : handled_at flows n ≡ flow.0.handled = handled_at-got flows n flow.0 flow.1 in
       let d : suc n * (length cs * net.limit) ≡ n * (length cs * net.limit) + length cs * net.limit =
       suc-mul n (length cs * net.limit) in
       omega (arith, a, b, c, d)
@@ -257,24 +271,26 @@ module _ (net : Net) (valid : IsNet net) (cs : List Clone) (front bound : ℕ) (
   pub few_handled : total_handled net cs front + all_handled flows ≤ length net.sites * (length cs * net.limit)
   few_handled =
       let h = few_to (length net.sites) (omega arith) in
-      let e = all_handled-sum flows ∙ ap (station_sum (by_number 0 (handled_at flows))) count in
+      let e = all_handled-sum flows ∙ ap (station_sum (by_number 0 (handled_at flows))) world.all_flows in
       omega (arith, h, e)
 
-  module _ (for_stations : (c : ℕ) → c < length cs → AreForStations (simulation net) (clone_at cs c).plans)
+  -- ---- at the bound
+
+  module _ (for_stations : AllAreForStations (simulation net) cs)
       (none : NoneOver flows) where
+    -- each station has stepped as the laws have it
     step_at : (i : ℕ) → i < length net.sites
         → IsStepped (simulation net) has (ends_of (simulation net) cs) (i + 1) bound (copies_at procs i)
         (done_at flows i) (sent_at flows i)
     step_at i l =
         let p = proc_of i l in
         let f = flow_of i l in
-        let c : copies_at procs i ≡ p.0.copies = copies_of i p.0 p.1 in
-        let d : done_at flows i ≡ f.0.done.copies =
-        ap (λ o. unwrap_or (option_map (λ (f : Flow). f.done.copies) o) []) f.1 in
-        let e : sent_at flows i ≡ f.0.sent.items =
-        ap (λ o. unwrap_or (option_map (λ (f : Flow). f.sent.items) o) []) f.1 in
+        let c : copies_at procs i ≡ p.0.copies = copies_at-got procs i p.0 p.1 in
+        let d : done_at flows i ≡ f.0.done.copies = done_at-got flows i f.0 f.1 in
+        let e : sent_at flows i ≡ f.0.sent.items = sent_at-got flows i f.0 f.1 in
         rw (c, d, e) ((is_flow i l f.0 f.1).windows (none i f.0 f.1))
 
+    -- and so have all of them
     all_stepped : AllStepped (simulation net) has cs front bound (by_number [] (copies_at procs))
         (by_number [] (done_at flows)) (by_number [] (sent_at flows))
     all_stepped = record {
@@ -287,7 +303,7 @@ module _ (net : Net) (valid : IsNet net) (cs : List Clone) (front bound : ℕ) (
             → Stands (simulation net) has cs front r (by_number [] (copies_at procs) r)
         stood_at zero here = absurd (let h = here.0 in omega (arith, h))
         stood_at (suc i) here = let l = here.1 in
-            subst (λ s. Stands (simulation net) has cs front s (copies_at procs i)) (one_up i)
+            subst (λ s. Stands (simulation net) has cs front s (copies_at procs i)) (add-one i)
             (stand_of i (omega (arith, l)))
 
         stepped_at : (r : ℕ) → IsStation (simulation net) r
@@ -296,15 +312,16 @@ module _ (net : Net) (valid : IsNet net) (cs : List Clone) (front bound : ℕ) (
         stepped_at zero here = absurd (let h = here.0 in omega (arith, h))
         stepped_at (suc i) here = let l = here.1 in
             subst (λ s. IsStepped (simulation net) has (ends_of (simulation net) cs) s bound (copies_at procs i)
-            (done_at flows i) (sent_at flows i)) (one_up i) (step_at i (omega (arith, l)))
+            (done_at flows i) (sent_at flows i)) (add-one i) (step_at i (omega (arith, l)))
 
         others : (r : ℕ) → ¬ (IsStation (simulation net) r) → by_number [] (sent_at flows) r ≡ []
         others zero other = refl
         others (suc i) other = elim (slice_get_cases flows i).1 [
-          | inl found ↦ absurd (let l = found.0 in other (omega arith, omega (arith, l, count)))
+          | inl found ↦ absurd (let l = found.0 in other (omega arith, omega (arith, l, world.all_flows)))
           | inr past ↦ ap (λ o. unwrap_or (option_map (λ (f : Flow). f.sent.items) o) []) past.1
         ]
 
+    -- what was sent to a station is delivered to its copies
     is_delivered : (i : ℕ) → i < length net.sites
         → IsDelivered (simulation net) has cs (i + 1) (by_number [] (sent_at flows)) (done_at flows i)
         (after_window flows i)
@@ -331,8 +348,7 @@ module _ (net : Net) (valid : IsNet net) (cs : List Clone) (front bound : ℕ) (
             → SortedMarked msg_cmp a.pending
         sorted_at i l a h =
             let f = flow_of i l in
-            let d : done_at flows i ≡ f.0.done.copies =
-            ap (λ o. unwrap_or (option_map (λ (f : Flow). f.done.copies) o) []) f.1 in
+            let d : done_at flows i ≡ f.0.done.copies = done_at-got flows i f.0 f.1 in
             (all_in (IsCopy net f.0.done.station) f.0.done.copies a (is_flow i l f.0 f.1).proc.copies
             (subst (In a) d h)).sorted
 
@@ -340,16 +356,16 @@ module _ (net : Net) (valid : IsNet net) (cs : List Clone) (front bound : ℕ) (
     pub stand_after : (i : ℕ) → i < length net.sites
         → Stands (simulation net) has cs bound (i + 1) (after_window flows i)
     stand_after i l =
-        subst (λ s. Stands (simulation net) has cs bound s (after_window flows i)) (sym (one_up i))
-        (stands_after_window (lawful-stations net valid) (stations-to_stations net valid) has cs front bound
+        subst (λ s. Stands (simulation net) has cs bound s (after_window flows i)) (sym (add-one i))
+        (stands_after_window (lawful-stations net world.valid) (stations-to_stations net world.valid) has cs front bound
         (by_number [] (copies_at procs)) (by_number [] (done_at flows)) (by_number [] (sent_at flows)) (suc i)
-        (after_window flows i) for_stations later within all_stepped
+        (after_window flows i) for_stations world.window.later world.window.within all_stepped
         (omega arith, omega arith)
         (subst (λ s. IsDelivered (simulation net) has cs s (by_number [] (sent_at flows)) (done_at flows i)
-        (after_window flows i)) (one_up i) (is_delivered i l)))
+        (after_window flows i)) (add-one i) (is_delivered i l)))
 
     -- no log is beyond the limit
-    pub none_long : (i : ℕ) → i < length net.sites → (c : ℕ) → c < length cs
+    none_long : (i : ℕ) → i < length net.sites → (c : ℕ) → c < length cs
         → length (log_at (simulation net) (clone_at cs c) (i + 1) bound) ≤ net.limit
     none_long i l c there =
         let f = flow_of i l in
@@ -364,10 +380,11 @@ module _ (net : Net) (valid : IsNet net) (cs : List Clone) (front bound : ℕ) (
         → handled_once net cs (i + 1) bound ≡ handled_once net cs (i + 1) front + flow.handled
     grown_at i l flow got =
         let p = proc_of i l in
-        handled_grows (lawful-stations net valid) sets_join cs (i + 1) front bound p.0.copies
-        (stood i p.0 p.1).copies later within same_entry flow.handled same_entry-Decides (none_long i l)
-        (is_flow i l flow got).gain
+        handled_grows (lawful-stations net world.valid) sets_join cs (i + 1) front bound p.0.copies
+        (world.stood i p.0 p.1).copies world.window.later world.window.within same_entry flow.handled same_entry-Decides
+        (none_long i l) (is_flow i l flow got).gain
 
+    -- and so the first n stations together
     grown_to : (n : ℕ) → n ≤ length net.sites
         → station_sum (λ s. handled_once net cs s bound) n
         ≡ station_sum (λ s. handled_once net cs s front) n + station_sum
@@ -377,15 +394,14 @@ module _ (net : Net) (valid : IsNet net) (cs : List Clone) (front bound : ℕ) (
         let i : n < length net.sites = omega (arith, l) in
         let flow = flow_of n i in
         let a = grown_to n (omega (arith, l)) in
-        let b = subst (λ s. handled_once net cs s bound ≡ handled_once net cs s front + flow.0.handled) (one_up n)
-        (grown_at n i flow.0 flow.1) in
-        let c : handled_at flows n ≡ flow.0.handled =
-        ap (λ o. unwrap_or (option_map (λ (f : Flow). f.handled) o) 0) flow.1 in
+        let b = subst (λ s. handled_once net cs s bound ≡ handled_once net cs s front + flow.0.handled)
+        (add-one n) (grown_at n i flow.0 flow.1) in
+        let c : handled_at flows n ≡ flow.0.handled = handled_at-got flows n flow.0 flow.1 in
         omega (arith, a, b, c)
 
     -- all stations together
     pub total_grows : total_handled net cs bound ≡ total_handled net cs front + all_handled flows
     total_grows =
         let h = grown_to (length net.sites) (omega arith) in
-        let e = all_handled-sum flows ∙ ap (station_sum (by_number 0 (handled_at flows))) count in
+        let e = all_handled-sum flows ∙ ap (station_sum (by_number 0 (handled_at flows))) world.all_flows in
         omega (arith, h, e)

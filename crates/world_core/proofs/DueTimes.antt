@@ -5,8 +5,9 @@ use Rattle.std.proofs.Common.{ap, ◌∙◌, subst, arith, length, slice_get, ge
 use Rattle.std.specs.List.{AllByRecursion}
 use Rattle.std.proofs.Math.Nat.{add-mul, mul-le-mul_left}
 use Rattle.std.proofs.lemmas.Bool.{cases_eq}
-use Rattle.std.proofs.lemmas.Option.{slice_get_cases}
+use Rattle.std.proofs.lemmas.Option.{slice_get_cases, same_Some, slice_get_within}
 use Rattle.std.proofs.lemmas.List.Sums.{sum_by-cons}
+use Rattle.std.proofs.Math.Numerals.{add-one}
 use Rattle.sim_base.specs.Clones.{Clone, clone_at}
 use Rattle.sim_base.specs.Same.{same_entry}
 use Rattle.sim_base.specs.declared.message.Msg.{Msg}
@@ -29,12 +30,15 @@ use Rattle.run_laws.proofs.Leasts.{least-unique, least_time-is}
 use Rattle.run_laws.proofs.DueTimes.{least_of-stations, least-copies}
 use Rattle.run_laws.proofs.Gaining.{copies_are_logs}
 use Rattle.run_laws.proofs.Sums.{alone-copies, clones-copies}
-use Rattle.phys_proc.specs.Gone.{ends_in}
+use Rattle.phys_proc.specs.Ends.{ends_in}
 use Rattle.phys_proc.specs.Own.{StationCopy, IsCopy, handled_alone_by, all_sizes, taken_at}
 use Rattle.phys_proc.specs.Procs.{ProcView, IsTakenBy, IsLeastTime, IsLeastOf}
-use Rattle.phys_proc.proofs.Onward.{sets_join}
+use Rattle.phys_proc.proofs.ComesFrom.{sets_join}
 use Rattle.world_core.specs.Worlds.{StandsAt, WorldStands, copies_at}
-use Rattle.world_core.proofs.Places.{at_got}
+use Rattle.world_core.proofs.Flows.{copies_at-got}
+use Rattle.world_core.proofs.Places.{by_number}
+
+-- ---- IsLeastTime
 
 -- the time of a message
 abbrev pub time_of : Msg → ℕ
@@ -56,6 +60,8 @@ least_as : (P Q : Msg → Type 0) (t : Option ℕ) → ((m : Msg) → P m → Q 
 least_as P Q None f g h = λ m q. h m (g m q)
 least_as P Q (Some t) f g h = ((h.0.0, f h.0.0 h.0.1, h.0.2), λ m q. h.1 m (g m q))
 
+-- ---- TakenTo
+
 -- a message that is taken at one of the first n places
 pub record TakenTo (ends : ℕ → ℕ) (procs : List ProcView) (n : ℕ) (m : Msg) : Type 0 where
   pub place : ℕ
@@ -76,6 +82,7 @@ module _ (net : Net) (cs : List Clone) (ended : List (ℕ × ℕ)) (front : ℕ)
 
   -- ---- of one clone
 
+  -- the least time of what a clone takes of the copies of a station is its least due time there
   least_here : (i c : ℕ) (p : ProcView) (t : Option ℕ) → slice_get procs i ≡ Some p → c < length cs
       → IsLeastOf ends p.copies c t →
       least_time time_of (due_at (simulation net) (clone_at cs c) (i + 1) front) ≡ t
@@ -91,18 +98,15 @@ module _ (net : Net) (cs : List Clone) (ended : List (ℕ × ℕ)) (front : ℕ)
       (by_law (IsTakenBy (ends_of (simulation net) cs) p.copies c) t h2)
       (least_time-is time_of (due_at (simulation net) (clone_at cs c) (i + 1) front)))
 
-  one_up : (i : ℕ) → i + 1 ≡ suc i
-  one_up i = omega arith
-
   -- the clone's least due time up to a station, with its least of the next station's copies, is that up to the next
   pub least_of_next : (i c : ℕ) (p : ProcView) (before here : Option ℕ) → slice_get procs i ≡ Some p → c < length cs →
       before ≡ least_to (simulation net) (clone_at cs c) front i → IsLeastOf ends p.copies c here →
       earlier before here ≡ least_to (simulation net) (clone_at cs c) front (i + 1)
   least_of_next i c p before here got l e h =
       let e1 : least_time time_of (due_at (simulation net) (clone_at cs c) (suc i) front) ≡ here =
-      subst (λ s. least_time time_of (due_at (simulation net) (clone_at cs c) s front) ≡ here) (one_up i)
+      subst (λ s. least_time time_of (due_at (simulation net) (clone_at cs c) s front) ≡ here) (add-one i)
       (least_here i c p here got l h) in
-      subst (λ s. earlier before here ≡ least_to (simulation net) (clone_at cs c) front s) (sym (one_up i))
+      subst (λ s. earlier before here ≡ least_to (simulation net) (clone_at cs c) front s) (sym (add-one i))
       (ap (λ b. earlier b here) e ∙ ap (earlier (least_to (simulation net) (clone_at cs c) front i)) (sym e1))
 
   -- and up to the last station it is the clone's least due time
@@ -135,15 +139,12 @@ module _ (net : Net) (cs : List Clone) (ended : List (ℕ × ℕ)) (front : ℕ)
           }
       to m (inr x) = record { place = i; before = omega arith; proc = p; got = got; clone = x.0; taken = x.1 }
 
-      of_some : (q : ProcView) → Some p ≡ Some q → p ≡ q
-      of_some q e = cc
-
       from : (m : Msg) → TakenTo ends procs (i + 1) m → TakenTo ends procs i m ⊎ ((c : ℕ) × IsTakenBy ends p.copies c m)
       from m x = elim (cases_eq x.place i) [
         | inl e ↦ inr (
           x.clone,
           subst (λ (q : ProcView). IsTakenBy ends q.copies x.clone m)
-              (sym (of_some x.proc (sym got ∙ ap (slice_get procs) (sym e) ∙ x.got))) x.taken,
+              (sym (same_Some p x.proc (sym got ∙ ap (slice_get procs) (sym e) ∙ x.got))) x.taken,
         )
         | inr n ↦ let l = x.before in inl
             (record {
@@ -159,18 +160,19 @@ module _ (net : Net) (cs : List Clone) (ended : List (ℕ × ℕ)) (front : ℕ)
           less : (x.place ≡ i → ⊥) → x.place < i + 1 → x.place < i
           less n l = grind (arith, l)
 
-  abbrev by_number : ℕ → List StationCopy
-  by_number zero = []
-  by_number (suc i) = copies_at procs i
+  -- the copies of each station, by its number
+  abbrev copies_of : ℕ → List StationCopy
+  copies_of = by_number [] (copies_at procs)
 
-  stand_there : (s : ℕ) → IsStation (simulation net) s → Stands (simulation net) has cs front s (by_number s)
+  -- and they stand for the clones
+  stand_there : (s : ℕ) → IsStation (simulation net) s → Stands (simulation net) has cs front s (copies_of s)
   stand_there zero h = absurd (let l = h.0 in omega (arith, l))
   stand_there (suc i) h = elim (slice_get_cases procs i).1 [
     | inl found ↦
         let w = world.each i found.0 found.2 in
-        subst (λ s. Stands (simulation net) has cs front s (copies_at procs i)) (one_up i)
+        subst (λ s. Stands (simulation net) has cs front s (copies_at procs i)) (add-one i)
         (subst (Stands (simulation net) has cs front (i + 1))
-        (sym (ap (λ o. unwrap_or (option_map (λ (p : ProcView). p.copies) o) []) found.2)) w.copies)
+        (sym (copies_at-got procs i found.0 found.2)) w.copies)
     | inr past ↦ absurd (let l = h.1 in let k = past.0 in let n = world.count in omega (arith, k, l, n))
   ]
 
@@ -178,14 +180,13 @@ module _ (net : Net) (cs : List Clone) (ended : List (ℕ × ℕ)) (front : ℕ)
   pub least_all : (n : ℕ) (t : Option ℕ) → length procs ≤ n → IsLeastBy time_of (TakenTo ends procs n) t
       → t ≡ least (simulation net) cs front
   least_all n t many h = sym (least-copies (lawful-stations net world.valid) (stations-to_stations net world.valid)
-      has cs front by_number world.for_stations stand_there t
-      (least_as (TakenTo ends procs n) (IsTaken CloneSet (simulation net) has cs by_number) t to from h))
+      has cs front copies_of world.for_stations stand_there t
+      (least_as (TakenTo ends procs n) (IsTaken CloneSet (simulation net) has cs copies_of) t to from h))
     where
-      to : (m : Msg) → TakenTo ends procs n m → IsTaken CloneSet (simulation net) has cs by_number m
+      to : (m : Msg) → TakenTo ends procs n m → IsTaken CloneSet (simulation net) has cs copies_of m
       to m x =
-          let e : copies_at procs x.place ≡ x.proc.copies =
-          ap (λ o. unwrap_or (option_map (λ (p : ProcView). p.copies) o) []) x.got in
-          let l = (at_got procs x.place x.proc x.proc x.got).0 in
+          let e : copies_at procs x.place ≡ x.proc.copies = copies_at-got procs x.place x.proc x.got in
+          let l = slice_get_within procs x.place x.proc x.got in
           let k = world.count in
           record {
             station = suc x.place;
@@ -197,7 +198,7 @@ module _ (net : Net) (cs : List Clone) (ended : List (ℕ × ℕ)) (front : ℕ)
             is_taken = subst (λ e. In m (taken_at e x.clone x.taken.copy.pending)) world.ends x.taken.is_taken;
           }
 
-      at_place : (s : ℕ) (m : Msg) (copy : StationCopy) (c : ℕ) → IsStation (simulation net) s → In copy (by_number s)
+      at_place : (s : ℕ) (m : Msg) (copy : StationCopy) (c : ℕ) → IsStation (simulation net) s → In copy (copies_of s)
           → Carries has copy c → In m (taken_at (ends_of (simulation net) cs) c copy.pending) → TakenTo ends procs n m
       at_place zero m copy c h i g k = absurd i
       at_place (suc i) m copy c h j g k = elim (slice_get_cases procs i).1 [
@@ -209,7 +210,7 @@ module _ (net : Net) (cs : List Clone) (ended : List (ℕ × ℕ)) (front : ℕ)
           clone = c;
           taken = record {
             copy = copy;
-            is_copy = subst (In copy) (ap (λ o. unwrap_or (option_map (λ (p : ProcView). p.copies) o) []) found.2) j;
+            is_copy = subst (In copy) (copies_at-got procs i found.0 found.2) j;
             is_in = g;
             is_taken = subst (λ e. In m (taken_at e c copy.pending)) (sym world.ends) k;
           };
@@ -219,28 +220,31 @@ module _ (net : Net) (cs : List Clone) (ended : List (ℕ × ℕ)) (front : ℕ)
       ]
         where
           found_at : (i : ℕ) (p : ProcView) → slice_get procs i ≡ Some p → i < n
-          found_at i p got = let l = (at_got procs i p p got).0 in omega (arith, l, many)
+          found_at i p got = let l = slice_get_within procs i p got in omega (arith, l, many)
 
-      from : (m : Msg) → IsTaken CloneSet (simulation net) has cs by_number m → TakenTo ends procs n m
+      from : (m : Msg) → IsTaken CloneSet (simulation net) has cs copies_of m → TakenTo ends procs n m
       from m x = at_place x.station m x.copy x.clone x.is_station x.is_copy x.is_in x.is_taken
 
 -- ---- figures
 
 module _ (net : Net) (cs : List Clone) (front i : ℕ) (p : ProcView) (here : StandsAt net cs front i p) where
   -- the station's different logs are as many as its copies
-  pub many_copies : copies net cs (i + 1) front ≡ length p.copies
+  many_copies : copies net cs (i + 1) front ≡ length p.copies
   many_copies = copies_are_logs (lawful-stations net here.proc.valid) sets_join cs
       (i + 1) front p.copies here.copies same_entry same_entry-Decides
 
+  -- what the clones of copies would handle alone is a sum over the copies
   alone_sum : (xs : List StationCopy) → handled_alone_by xs ≡ sum_by (λ (a : StationCopy). size a.set * length a.log) xs
   alone_sum [] = refl
   alone_sum (x ∷ xs) = let h = alone_sum xs in let e =
       sum_by-cons (λ (a : StationCopy). size a.set * length a.log) x xs in omega (arith, h, e)
 
   -- and what the clones would handle alone there is what its copies count
-  pub many_alone : handled_alone net cs (i + 1) front ≡ handled_alone_by p.copies
+  many_alone : handled_alone net cs (i + 1) front ≡ handled_alone_by p.copies
   many_alone = alone-copies has size (simulation net) cs front (i + 1) p.copies
       (λ a i. size_is_count a.set) here.copies ∙ sym (alone_sum p.copies)
+
+-- ---- IsCopy
 
 -- the logs of a station's copies are short
 pub all_short : (net : Net) (s : ℕ) (xs : List StationCopy) → net.limit ≤ MOST_LIMIT → AllByRecursion (IsCopy net s) xs
@@ -252,19 +256,19 @@ all_short net s (x ∷ xs) l h = let k = h.0 in let e = k.short in (omega (arith
 
 module _ (net : Net) (cs : List Clone) (ended : List (ℕ × ℕ)) (front : ℕ) (procs : List ProcView)
     (world : WorldStands net cs ended front procs) where
-  -- the copies have the figures of station s at the front, and no more than 256 clones
-  pub record Figured (s : ℕ) (p : ProcView) : Type 0 where
+  -- the copies have the figures of station s at the front, and no more clones than there may be
+  pub record HasFigures (s : ℕ) (p : ProcView) : Type 0 where
     pub copies_are : length p.copies ≡ copies net cs s front
     pub once : p.handled ≡ handled_once net cs s front
     pub each_alone : handled_alone_by p.copies ≡ handled_alone net cs s front
     pub sizes : all_sizes p.copies ≤ MOST_CLONES
 
   -- and so it is with the copies of each station
-  pub figured : (s : ℕ) (p : ProcView) → 1 ≤ s → slice_get procs (s - 1) ≡ Some p → Figured s p
-  figured s p low got =
+  pub has_figures : (s : ℕ) (p : ProcView) → 1 ≤ s → slice_get procs (s - 1) ≡ Some p → HasFigures s p
+  has_figures s p low got =
       let w = world.each (s - 1) p got in
       let same : s - 1 + 1 ≡ s = omega (arith, low) in
-      subst (λ s. Figured s p) same (record {
+      subst (λ s. HasFigures s p) same (record {
         copies_are = sym (many_copies net cs front (s - 1) p w);
         once = w.once;
         each_alone = sym (many_alone net cs front (s - 1) p w);
@@ -278,6 +282,8 @@ module _ (net : Net) (cs : List Clone) (ended : List (ℕ × ℕ)) (front : ℕ)
       sizes_sum (x ∷ xs) = let h = sizes_sum xs in let e = sum_by-cons (λ (a : StationCopy). size a.set) x xs in
           omega (arith, h, e)
 
+-- ---- handled_alone_by
+
 -- one copy more
 pub alone_next : (xs : List StationCopy) (x : StationCopy)
     → handled_alone_by (xs ++ x ∷ []) ≡ handled_alone_by xs + size x.set * length x.log
@@ -286,17 +292,17 @@ alone_next (y ∷ ys) x = let h = alone_next ys x in omega (arith, h)
 
 -- the sum of some of the copies is small
 pub alone_within : (xs : List StationCopy) (i : ℕ) (x : StationCopy) → i < length xs → x ≡ get_or xs i x
-    → AllByRecursion (λ (a : StationCopy). length a.log ≤ 65536) xs →
-    handled_alone_by (take i xs) + size x.set * length x.log ≤ all_sizes xs * 65536
+    → AllByRecursion (λ (a : StationCopy). length a.log ≤ MOST_LIMIT) xs →
+    handled_alone_by (take i xs) + size x.set * length x.log ≤ all_sizes xs * MOST_LIMIT
 alone_within [] i x l e h = absurd (omega (arith, l))
 alone_within (y ∷ ys) zero x l e h =
     let m = mul-le-mul_left (size y.set) h.0 in
-    let d = add-mul (size y.set) (all_sizes ys) 65536 in
+    let d = add-mul (size y.set) (all_sizes ys) MOST_LIMIT in
     let same : size x.set * length x.log ≡ size y.set * length y.log =
     ap (λ (a : StationCopy). size a.set * length a.log) e in
     omega (arith, m, d, same)
 alone_within (y ∷ ys) (suc i) x l e h =
     let k = alone_within ys i x (omega (arith, l)) e h.1 in
     let m = mul-le-mul_left (size y.set) h.0 in
-    let d = add-mul (size y.set) (all_sizes ys) 65536 in
+    let d = add-mul (size y.set) (all_sizes ys) MOST_LIMIT in
     omega (arith, k, m, d)

@@ -2,10 +2,13 @@
 use Rattle.std.proofs.Common.{◌≡◌, ℕ, ◌+◌, ◌<◌, ◌≤◌, List, inl, inr, Some}
 use Rattle.std.proofs.Common.{sym, ap, ◌∙◌, subst, arith, length, length-set, get_or, slice_get, slice_set}
 use Rattle.std.proofs.lemmas.Bool.{cases_eq}
+use Rattle.std.proofs.lemmas.Option.{same_Some, slice_get_within}
 use Rattle.phys_proc.specs.Procs.{ProcView}
 use Rattle.world_core.specs.Forking.{AllForked, HasForked}
-use Rattle.world_core.proofs.Places.{at_got, there_at, one_got}
-use Rattle.world_core.proofs.Delivering.{set_same, set_other, of_some}
+use Rattle.world_core.proofs.Places.{got_at, one_got}
+use Rattle.run_laws.proofs.Lists.{slice_get-set_same, slice_get-set_other}
+
+-- ---- ForkedTo
 
 -- the first n stations are forked, the others are as they were
 pub record ForkedTo (old new n : ℕ) (olds news : List ProcView) : Type 0 where
@@ -15,37 +18,37 @@ pub record ForkedTo (old new n : ℕ) (olds news : List ProcView) : Type 0 where
   pub others : (i : ℕ) → n ≤ i → slice_get news i ≡ slice_get olds i
 
 -- with the next station forked, one station more is
-pub forked_next : (old new n : ℕ) (olds news : List ProcView) (was now : ProcView) → ForkedTo old new n olds news
+pub ForkedTo-next : (old new n : ℕ) (olds news : List ProcView) (was now : ProcView) → ForkedTo old new n olds news
     → n < length olds → was ≡ get_or news n was → HasForked old new was now →
     ForkedTo old new (n + 1) olds (slice_set news n now)
-forked_next old new n olds news was now h l is fork = record {
+ForkedTo-next old new n olds news was now h l is fork = record {
   count = length-set news n now ∙ h.count;
   each = λ i p q less a b. elim (cases_eq i n) [
     | inl e ↦
         let k : n < length news = let c = h.count in omega (arith, l, c) in
-        let is_p : p ≡ was = one_got olds i n p was e a (sym (h.others n (omega arith)) ∙ there_at news n was k
-        ∙ ap Some (sym is)) in
-        let is_q : now ≡ q = of_some now q (sym (set_same news n now k) ∙ ap (slice_get (slice_set news n now))
+        let is_p : p ≡ was = one_got olds i n p was e a (sym (h.others n (omega arith)) ∙ got_at news n was k is) in
+        let is_q : now ≡ q = same_Some now q
+        (sym (slice_get-set_same news n now k) ∙ ap (slice_get (slice_set news n now))
         (sym e) ∙ b) in
         subst (HasForked old new p) is_q (subst (λ (o : ProcView). HasForked old new o now) (sym is_p) fork)
-    | inr ne ↦ h.each i p q (below i less ne) a (sym (set_other news i n now ne) ∙ b)
+    | inr ne ↦ h.each i p q (below i less ne) a (sym (slice_get-set_other news i n now ne) ∙ b)
   ];
-  others = λ i less. set_other news i n now (λ e. omega (arith, e, less)) ∙ h.others i (omega (arith, less));
+  others = λ i less. slice_get-set_other news i n now (λ e. omega (arith, e, less)) ∙ h.others i (omega (arith, less));
 }
   where
     below : (i : ℕ) → i < n + 1 → (i ≡ n → ⊥) → i < n
     below i less ne = grind (arith, less)
 
 -- where as many are forked as there are, all are
-pub forked_all : (old new n : ℕ) (olds news : List ProcView) → length olds ≤ n → ForkedTo old new n olds news
+pub ForkedTo-all : (old new n : ℕ) (olds news : List ProcView) → length olds ≤ n → ForkedTo old new n olds news
     → AllForked old new olds news
-forked_all old new n olds news l h = record {
+ForkedTo-all old new n olds news l h = record {
   count = h.count;
-  each = λ i p q a b. let k = (at_got olds i p p a).0 in h.each i p q (omega (arith, k, l)) a b;
+  each = λ i p q a b. let k = slice_get_within olds i p a in h.each i p q (omega (arith, k, l)) a b;
 }
 
 -- what stands there still is as it was
-pub still : (old new n : ℕ) (olds news : List ProcView) (p : ProcView) → ForkedTo old new n olds news
+pub ForkedTo-others : (old new n : ℕ) (olds news : List ProcView) (p : ProcView) → ForkedTo old new n olds news
     → n < length olds → p ≡ get_or news n p → slice_get olds n ≡ Some p
-still old new n olds news p h l is = sym (h.others n (omega arith))
-    ∙ there_at news n p (let c = h.count in omega (arith, l, c)) ∙ ap Some (sym is)
+ForkedTo-others old new n olds news p h l is = sym (h.others n (omega arith))
+    ∙ got_at news n p (let c = h.count in omega (arith, l, c)) is

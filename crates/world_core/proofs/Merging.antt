@@ -1,10 +1,11 @@
 -- Merging the logs of a clone's stations, one after the other.
-use Rattle.std.proofs.Common.{subst, ◌≡◌, ℕ, zero, suc, ◌+◌, ◌-◌, inl, inr, ◌<◌, ◌≤◌, List, [], ◌∷◌, ◌++◌, Some, refl}
+use Rattle.std.proofs.Common.{subst, ◌≡◌, ℕ, suc, ◌+◌, ◌-◌, inl, inr, ◌<◌, ◌≤◌, List, [], ◌∷◌, ◌++◌, Some, refl}
 use Rattle.std.proofs.Common.{sym, ap, ◌∙◌, arith, length, drop, slice_get, false, append-nil, append_assoc}
 use Rattle.std.specs.List.{AllByRecursion}
 use Rattle.std.specs.declared.cmp.Ordering.{Ordering}
 use Rattle.std.proofs.lemmas.Bool.{false≢true}
 use Rattle.std.proofs.lemmas.Option.{slice_get_cases}
+use Rattle.std.proofs.lemmas.List.{drop_all}
 use Rattle.sim_base.specs.Clones.{Clone, clone_at}
 use Rattle.sim_base.specs.declared.message.Msg.{Msg}
 use Rattle.sim_base.specs.declared.entry.Entry.{Entry}
@@ -24,33 +25,32 @@ use Rattle.world_core.specs.Worlds.{WorldStands}
 use Rattle.world_core.specs.Overs.{NoneBeyond}
 use Rattle.world_core.specs.Tracing.{by_key, HasLog}
 
+-- ---- merge
+
 module _ {X : Type 0} (cmp : X → X → Ordering) where
+  -- merged with an empty list, a list is as it was
   none_left : (xs : List X) → merge cmp xs [] ≡ xs
   none_left [] = refl
   none_left (x ∷ xs) = ap (λ l. x ∷ l) (none_left xs)
 
   module _ (xs ys out : List X) (i j : ℕ) (so_far : out ++ merge cmp (drop i xs) (drop j ys) ≡ merge cmp xs ys) where
-    drop_past : (zs : List X) (k : ℕ) → length zs ≤ k → drop k zs ≡ []
-    drop_past [] zero l = refl
-    drop_past [] (suc k) l = refl
-    drop_past (z ∷ zs) zero l = absurd (omega (arith, l))
-    drop_past (z ∷ zs) (suc k) l = drop_past zs k (omega (arith, l))
-
     -- where the second list is at its end, the rest of the first is all that is to be put out
     pub first_left : length ys ≤ j → (out ++ drop i xs) ++ drop j ys ≡ merge cmp xs ys
     first_left l =
         append_assoc out (drop i xs) (drop j ys)
-        ∙ ap (λ l. out ++ l) (ap (λ l. drop i xs ++ l) (drop_past ys j l) ∙ append-nil (drop i xs)
-        ∙ sym (none_left (drop i xs)) ∙ ap (merge cmp (drop i xs)) (sym (drop_past ys j l)))
+        ∙ ap (λ l. out ++ l) (ap (λ l. drop i xs ++ l) (drop_all j ys l) ∙ append-nil (drop i xs)
+        ∙ sym (none_left (drop i xs)) ∙ ap (merge cmp (drop i xs)) (sym (drop_all j ys l)))
         ∙ so_far
 
     -- and where the first is at its end, the rest of the second is
     pub second_left : length xs ≤ i → (out ++ drop i xs) ++ drop j ys ≡ merge cmp xs ys
     second_left l =
         append_assoc out (drop i xs) (drop j ys)
-        ∙ ap (λ l. out ++ l) (ap (λ l. l ++ drop j ys) (drop_past xs i l)
-        ∙ ap (λ l. merge cmp l (drop j ys)) (sym (drop_past xs i l)))
+        ∙ ap (λ l. out ++ l) (ap (λ l. l ++ drop j ys) (drop_all i xs l)
+        ∙ ap (λ l. merge cmp l (drop j ys)) (sym (drop_all i xs l)))
         ∙ so_far
+
+-- ---- the logs of a clone
 
 module _ (net : Net) (cs : List Clone) (ended : List (ℕ × ℕ)) (front : ℕ) (procs : List ProcView)
     (world : WorldStands net cs ended front procs) (who : ℕ) (there : who < length cs) where
@@ -77,7 +77,7 @@ module _ (net : Net) (cs : List Clone) (ended : List (ℕ × ℕ)) (front : ℕ)
       omega (arith, short, same)
 
   -- and so at no station the log of the clone is beyond the limit
-  pub log_within : (i : ℕ) → i < length procs → IsBeyond net (i + 1) front (clone_at cs who) → ⊥
+  log_within : (i : ℕ) → i < length procs → IsBeyond net (i + 1) front (clone_at cs who) → ⊥
   log_within i l beyond = elim (slice_get_cases procs i).1 [
     | inl found ↦
         let p = found.0 in

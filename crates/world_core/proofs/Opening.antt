@@ -3,6 +3,7 @@ use Rattle.std.proofs.Common.{◌≡◌, ◌↔◌, ◌==◌, true, ℕ, zero, s
 use Rattle.std.proofs.Common.{inl, inr, refl, sym, ap, ◌∙◌, subst, arith, length, eqb-true, eq-eqb, nat_lt}
 use Rattle.std.proofs.Math.Path.{fun_ext}
 use Rattle.std.proofs.lemmas.Bool.Decides.{nat_tests}
+use Rattle.std.proofs.lemmas.Option.{slice_get_within}
 use Rattle.sim_base.specs.Clones.{base, clone_at}
 use Rattle.sim_base.specs.Same.{same_entry}
 use Rattle.clone_sets.specs.Sets.{has, one}
@@ -15,36 +16,48 @@ use Rattle.run_laws.specs.Handlers.{AreForStations}
 use Rattle.run_laws.specs.Copies.{Stands, ends_of}
 use Rattle.run_laws.proofs.Beginning.{stands_first}
 use Rattle.run_laws.proofs.HandledStays.{handled-0}
+use Rattle.run_laws.proofs.Lists.{slice_get-push}
 use Rattle.phys_proc.specs.Procs.{ProcView}
-use Rattle.phys_proc.specs.Gone.{ends_in}
+use Rattle.phys_proc.specs.Ends.{ends_in}
 use Rattle.world_core.specs.Worlds.{WorldStands}
 use Rattle.world_core.specs.Opening.{IsFirstProc, AreFirst}
-use Rattle.world_core.proofs.Places.{push_got, at_got}
+
+-- ---- AreFirst
 
 -- one station more
 pub first_push : (net : Net) (procs : List ProcView) (new : ProcView) (n : ℕ) → length procs ≡ n → AreFirst net procs
     → IsFirstProc net n new → AreFirst net (procs ++ new ∷ [])
-first_push net procs new n count f first = λ i p got. elim (push_got procs new p i got) [
+first_push net procs new n count f first = λ i p got. elim (slice_get-push procs new p i got) [
   | inl h ↦ f i p h
   | inr h ↦ subst (λ k. IsFirstProc net k p) (sym (h.0 ∙ count)) (subst (IsFirstProc net n) (sym h.1) first)
 ]
 
+-- ---- one
+
+-- the set of the first clone has no other
 only_first : (c : ℕ) → (has (one 0) c ≡ true) ↔ (c ≡ 0)
 only_first c = ((λ e. sym (eqb-true 0 c (sym (has-one 0 c) ∙ e))), (λ e. has-one 0 c ∙ eq-eqb 0 c (sym e)))
 
+-- and has just the numbers below 1
 first_lives : (c : ℕ) → has (one 0) c ≡ nat_lt c 1
 first_lives c = has-one 0 c ∙ same c
   where
     same : (c : ℕ) → (0 == c) ≡ nat_lt c 1
     same c = grind (arith, nat_tests)
 
+-- ---- base
+
+-- where the base clone is alone, no clone ends before the horizon
 no_ends : (net : Net) (c : ℕ) → ends_in net.horizon [] c ≡ ends_of (simulation net) (base ∷ []) c
 no_ends net zero = refl
 no_ends net (suc c) = refl
 
+-- and no clone has decisions
 no_plans : (net : Net) (c : ℕ) → AreForStations (simulation net) (clone_at (base ∷ []) c).plans
 no_plans net zero = tt
 no_plans net (suc c) = tt
+
+-- ---- WorldStands
 
 -- stations as they open for the first clone stand for the base clone at front 0
 pub world_begins : (net : Net) (procs : List ProcView) → IsNet net → length procs ≡ length net.sites
@@ -58,7 +71,7 @@ world_begins net procs valid count first = record {
   for_stations = λ c l. no_plans net c;
   each = λ i p got.
       let f = first i p got in
-      let l = (at_got procs i p p got).0 in
+      let l = slice_get_within procs i p got in
       record {
         proc = f.station.proc;
         number = f.station.number;

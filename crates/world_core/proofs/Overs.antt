@@ -2,37 +2,30 @@
 use Rattle.std.proofs.Common.{◌≡◌, ◌↔◌, ℕ, zero, suc, ◌+◌, ◌<◌, ◌≤◌, List, inl}
 use Rattle.std.proofs.Common.{inr, Some, sym, ap, ◌∙◌, subst, true, arith, length, slice_get}
 use Rattle.std.proofs.lemmas.Bool.{false≢true}
-use Rattle.std.proofs.lemmas.Option.{slice_get_cases}
+use Rattle.std.proofs.lemmas.Option.{slice_get_cases, slice_get_within}
 use Rattle.sim_base.specs.Clones.{Clone, clone_at}
 use Rattle.clone_sets.specs.Sets.{has}
 use Rattle.clone_sets.proofs.SetLaws.{has-empty}
 use Rattle.net_model.specs.Net.{Net}
-use Rattle.net_model.specs.Rules.{IsNet}
-use Rattle.stations.specs.Runs.{simulation, IsBeyond}
-use Rattle.run_laws.specs.Fronts.{next_front}
-use Rattle.run_laws.specs.Copies.{ends_of}
+use Rattle.stations.specs.Runs.{IsBeyond}
 use Rattle.phys_proc.specs.Procs.{ProcView}
 use Rattle.world_core.specs.declared.flow.Flow.{Flow}
-use Rattle.world_core.specs.Worlds.{StandsAt}
-use Rattle.world_core.specs.Windows.{AllFlow, NoneOver}
+use Rattle.world_core.specs.Windows.{NoneOver}
 use Rattle.world_core.specs.Overs.{IsFirstBeyond, IsFirstOver, NoneBeyond}
-use Rattle.world_core.proofs.Places.{at_got}
-use Rattle.world_core.proofs.AfterWindow.{flow_of, over_of}
+use Rattle.world_core.proofs.AfterWindow.{WorldStepped, flow_of, over_of}
 
-module _ (net : Net) (valid : IsNet net) (cs : List Clone) (front bound : ℕ) (procs : List ProcView) (flows : List Flow)
-    (are_procs : length procs ≡ length net.sites) (count : length flows ≡ length net.sites)
-    (later : front ≤ bound) (within : bound ≤ next_front (simulation net) cs front)
-    (stood : (i : ℕ) (p : ProcView) → slice_get procs i ≡ Some p → StandsAt net cs front i p)
-    (stepped : AllFlow net (ends_of (simulation net) cs) bound procs flows) where
+module _ (net : Net) (cs : List Clone) (front bound : ℕ) (procs : List ProcView) (flows : List Flow)
+    (world : WorldStepped net cs front bound procs flows) where
+  -- those over the limit at a place are the clones whose logs are beyond it
   over_at : (i : ℕ) → i < length net.sites → (flow : Flow) → slice_get flows i ≡ Some flow → (c : ℕ) →
       (has flow.over c ≡ true) ↔ ((c < length cs) × IsBeyond net (i + 1) bound (clone_at cs c))
-  over_at = over_of net valid cs front bound procs flows are_procs count later within stood stepped
+  over_at = over_of net cs front bound procs flows world
 
   -- the first station and clone over the limit are the first whose log is beyond it at the bound
   pub first_beyond : (i who : ℕ) → IsFirstOver flows i who → IsFirstBeyond net cs bound (i + 1) who
   first_beyond i who h =
-      let place = (at_got flows i h.flow h.flow h.is_there).0 in
-      let l : i < length net.sites = omega (arith, place, count) in
+      let place = slice_get_within flows i h.flow h.is_there in
+      let l : i < length net.sites = omega (arith, place, world.all_flows) in
       let is = (over_at i l h.flow h.is_there who).0 h.first.in_set in
       let there = is.0 in
       record {
@@ -50,14 +43,12 @@ module _ (net : Net) (valid : IsNet net) (cs : List Clone) (front bound : ℕ) (
       before zero one less c k long = absurd (omega (arith, one))
       before (suc j) one less c k long = elim (slice_get_cases flows j).1 [
         | inl found ↦
-            let p = found.0 in
-            let l : j < length net.sites = let q = (at_got flows j found.0 found.0 found.2).0 in
-            omega (arith, q, count) in
+            let l : j < length net.sites = let q = found.1 in omega (arith, q, world.all_flows) in
             let e : suc j ≡ j + 1 = omega arith in
             absurd (false≢true (sym (ap (λ k. has k c) (h.none_before j found.0 (omega (arith, less)) found.2)
             ∙ has-empty c) ∙ (over_at j l found.0 found.2 c).1
             (k, subst (λ s. IsBeyond net s bound (clone_at cs c)) e long)))
-        | inr past ↦ absurd (let p = past.0 in let q = (at_got flows i h.flow h.flow h.is_there).0 in
+        | inr past ↦ absurd (let p = past.0 in let q = slice_get_within flows i h.flow h.is_there in
             omega (arith, p, q, less))
       ]
 
@@ -67,6 +58,6 @@ module _ (net : Net) (valid : IsNet net) (cs : List Clone) (front bound : ℕ) (
   none_beyond none (suc i) c low high there long =
       let l : i < length net.sites = omega (arith, high) in
       let e : suc i ≡ i + 1 = omega arith in
-      let f = flow_of net valid cs front bound procs flows are_procs count later within stood stepped i l in
+      let f = flow_of net cs front bound procs flows world i l in
       absurd (false≢true (sym (ap (λ k. has k c) (none i f.0 f.1) ∙ has-empty c)
       ∙ (over_at i l f.0 f.1 c).1 (there, subst (λ s. IsBeyond net s bound (clone_at cs c)) e long)))

@@ -6,6 +6,7 @@ use Rattle.std.proofs.Math.Path.{fun_ext}
 use Rattle.std.proofs.lemmas.Bool.{cases_eq, ne_eqb, lt-ltb, false≢true}
 use Rattle.std.proofs.lemmas.Bool.Decides.{nat_tests}
 use Rattle.std.proofs.lemmas.List.{length_push}
+use Rattle.std.proofs.lemmas.Option.{slice_get-get_or, slice_get_within}
 use Rattle.sim_base.specs.Order.{msg_cmp}
 use Rattle.sim_base.specs.Marked.{SortedMarked}
 use Rattle.sim_base.specs.Same.{same_entry}
@@ -28,14 +29,15 @@ use Rattle.run_laws.proofs.Queue.{all_from}
 use Rattle.run_laws.proofs.Places.{set_cases, clone_push_same, clone_push_other}
 use Rattle.run_laws.proofs.Deciding.{stands_after_decision, stands_after_other_decision, stands_end, stands_fork}
 use Rattle.run_laws.proofs.HandledStays.{handled-added, handled-ended, handled-forked}
-use Rattle.phys_proc.specs.Gone.{ends_in}
+use Rattle.phys_proc.specs.Ends.{ends_in}
 use Rattle.phys_proc.specs.Own.{StationCopy, with_message}
 use Rattle.phys_proc.specs.Procs.{ProcView}
-use Rattle.phys_proc.proofs.Given.{all_given}
+use Rattle.phys_proc.proofs.Delivery.{all_given}
 use Rattle.world_core.specs.Worlds.{StandsAt, WorldStands}
 use Rattle.world_core.specs.Windows.{AllDelivered, with_mail}
 use Rattle.world_core.specs.Forking.{AllForked, LivesAtAll, LivesNowhere}
-use Rattle.world_core.proofs.Places.{at_got, there_at}
+
+-- ---- LivesAtAll, LivesNowhere
 
 -- a clone lives at every station
 pub lives : (net : Net) (cs : List Clone) (ended : List (ℕ × ℕ)) (front : ℕ) (procs : List ProcView)
@@ -54,9 +56,11 @@ lives_not net cs ended front procs world = λ i p got. (world.each i p got).livi
 
 module _ (net : Net) (cs : List Clone) (name : List ℕ) (old : ℕ) (there : old < length cs)
     (open_end : (clone_at cs old).end ≡ None) where
+  -- the new clone
   abbrev new_clone : Clone
   new_clone = fork_of (clone_at cs old) name
 
+  -- no clone has another end
   ends_forked : (c : ℕ) → ends_of (simulation net) cs c ≡ ends_of (simulation net) (clones_with_fork cs name old) c
   ends_forked c = elim (cases_eq c (length cs)) [
     | inl e ↦ ap (λ k. end_of (simulation net) k) (beyond cs c (omega (arith, e)))
@@ -71,6 +75,7 @@ module _ (net : Net) (cs : List Clone) (name : List ℕ) (old : ℕ) (there : ol
       beyond (x ∷ xs) zero l = absurd (omega (arith, l))
       beyond (x ∷ xs) (suc c) l = beyond xs c (omega (arith, l))
 
+  -- the decisions of all clones are for stations
   plans_forked : ((c : ℕ) → c < length cs → AreForStations (simulation net) (clone_at cs c).plans) → (c : ℕ)
       → c < length (clones_with_fork cs name old) → AreForStations (simulation net) (clone_at
       (clones_with_fork cs name old) c).plans
@@ -84,6 +89,7 @@ module _ (net : Net) (cs : List Clone) (name : List ℕ) (old : ℕ) (there : ol
       less : (c ≡ length cs → ⊥) → c < length cs
       less n = let many = length_push cs new_clone in grind (arith, many, l)
 
+  -- with the new clone, just the clones live
   living_forked : (living : CloneSet) (c : ℕ) → ((c : ℕ) → has living c ≡ nat_lt c (length cs))
       → has (with living (length cs)) c ≡ nat_lt c (length (clones_with_fork cs name old))
   living_forked living c f =
@@ -110,8 +116,8 @@ module _ (net : Net) (cs : List Clone) (name : List ℕ) (old : ℕ) (there : ol
       each_forked : (i : ℕ) (q : ProcView) → slice_get news i ≡ Some q
           → StandsAt net (clones_with_fork cs name old) front i q
       each_forked i q got =
-          let l = (at_got news i q q got).0 in
-          let p = there_at procs i q (let k = done.count in omega (arith, l, k)) in
+          let l = slice_get_within news i q got in
+          let p = slice_get-get_or procs i q (let k = done.count in omega (arith, l, k)) in
           let w = world.each i (get_or procs i q) p in
           let d = done.each i (get_or procs i q) q p got in
           record {
@@ -128,6 +134,7 @@ module _ (net : Net) (cs : List Clone) (name : List ℕ) (old : ℕ) (there : ol
 -- ---- a set
 
 module _ (net : Net) (cs : List Clone) (who : ℕ) (plan : Planned) (there : who < length cs) where
+  -- the clone with the decision
   abbrev with_set : Clone
   with_set = record (clone_at cs who) { plans = (clone_at cs who).plans ++ plan ∷ [] }
 
@@ -135,9 +142,11 @@ module _ (net : Net) (cs : List Clone) (who : ℕ) (plan : Planned) (there : who
   abbrev tells : Msg
   tells = set_message (length (clone_at cs who).plans) plan
 
+  -- the message is for that clone
   for_it : has (one who) who ≡ true
   for_it = has-one who who ∙ eq-eqb who who refl
 
+  -- and for no other
   for_no_other : (c : ℕ) → (c ≡ who → ⊥) → has (one who) c ≡ false
   for_no_other c n = has-one who c ∙ ne_eqb who c (λ e. n (sym e))
 
@@ -165,8 +174,8 @@ module _ (net : Net) (cs : List Clone) (who : ℕ) (plan : Planned) (there : who
       each_added : (i : ℕ) (q : ProcView) → slice_get news i ≡ Some q
           → StandsAt net (clones_with_plan cs who plan) front i q
       each_added i q got =
-          let l = (at_got news i q q got).0 in
-          let p = there_at procs i q (let k = done.count in omega (arith, l, k)) in
+          let l = slice_get_within news i q got in
+          let p = slice_get-get_or procs i q (let k = done.count in omega (arith, l, k)) in
           let w = world.each i (get_or procs i q) p in
           let d = done.each i (get_or procs i q) q p got in
           record {
@@ -196,9 +205,11 @@ module _ (net : Net) (cs : List Clone) (who : ℕ) (plan : Planned) (there : who
 
 module _ (net : Net) (cs : List Clone) (who at : ℕ) (there : who < length cs)
     (open_end : (clone_at cs who).end ≡ None) where
+  -- the clone with the end
   abbrev with_end : Clone
   with_end = record (clone_at cs who) { end = Some at }
 
+  -- so far it ends at the horizon
   at_horizon : end_of (simulation net) (clone_at cs who) ≡ net.horizon
   at_horizon = ap (λ (o : Option ℕ). end_of (simulation net) (record (clone_at cs who) { end = o })) open_end
 

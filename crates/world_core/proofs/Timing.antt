@@ -10,6 +10,8 @@ use Rattle.phys_proc.specs.Own.{StationCopy, IsLate, AreLate, taken_at, takes_at
 use Rattle.phys_proc.specs.Procs.{IsTakenBy, IsLeastTime, IsWithLeast}
 use Rattle.world_core.proofs.DueTimes.{time_of, by_law, by_words}
 
+-- ---- AreLate
+
 -- what a clone takes of copies of which nothing is pending before a time comes at that time or later
 taken_late : (ends : ℕ → ℕ) (t : ℕ) (copies : List StationCopy) (c : ℕ) (m : Msg) → AreLate t copies
     → IsTakenBy ends copies c m → t ≤ m.key.time
@@ -17,6 +19,8 @@ taken_late ends t copies c m late x =
     let a = all_in (IsLate t) copies x.copy late x.is_copy in
     all_in (λ (m : Msg). t ≤ m.key.time) (taken_at ends c x.copy.pending) m
     (all_part_of (takes_at ends) c (λ (m : Msg). t ≤ m.key.time) x.copy.pending a) x.is_taken
+
+-- ---- IsLeastTime
 
 -- so where the least so far is no later, it stays
 pub least_stays : (ends : ℕ → ℕ) (time least : ℕ) (copies : List StationCopy) → time ≤ least → AreLate least copies

@@ -1,22 +1,25 @@
 -- The jobs of a window and what they are answered by, place by place.
 use Rattle.std.proofs.Common.{◌≡◌, ℕ, zero, suc, ◌<◌, List, [], ◌∷◌, Some, ap, arith, get_or, length, map}
 use Rattle.std.proofs.Common.{refl, slice_get, subst, sym}
+use Rattle.std.proofs.Math.ListN.{get_or-map}
 use Rattle.std.proofs.lemmas.List.{length-map}
+use Rattle.std.proofs.lemmas.Option.{slice_get_within, get_or_from_slice_get}
 use Rattle.net_model.specs.Net.{Net}
 use Rattle.phys_proc.specs.Own.{MarkedMessages}
 use Rattle.phys_proc.specs.Procs.{ProcView}
 use Rattle.world_core.specs.declared.flow.Flow.{Flow}
 use Rattle.crew_pool.specs.Tasks.{AnswersTo, EachAnswers, EachReady}
-use Rattle.world_core.specs.Jobs.{IsDone, IsJob}
+use Rattle.world_core.specs.Jobs.{IsJobAnswer, IsJob}
 use Rattle.world_core.specs.Posts.{ArePosts, PostView}
 use Rattle.world_core.specs.Windows.{AllDelivered, AllFlow, AllNumbered, AreNumbered}
 use Rattle.world_core.specs.declared.jobs.Job.{Job}
 use Rattle.world_core.specs.declared.jobs.Job.TheVariants.{Step, Give}
-use Rattle.world_core.specs.declared.jobs.Done.{Done}
-use Rattle.world_core.specs.declared.jobs.Done.TheVariants.{Stepped, Given}
+use Rattle.world_core.specs.declared.jobs.JobAnswer.{JobAnswer}
+use Rattle.world_core.specs.declared.jobs.JobAnswer.TheVariants.{Stepped, Given}
 use Rattle.world_core.proofs.Flows.{all_flow}
-use Rattle.world_core.proofs.Places.{at_got}
-use Rattle.world_core.proofs.Mail.{all_handed, posts_are_for}
+use Rattle.world_core.proofs.Mail.{AllDelivered-posts, AreFor-posts}
+
+-- ---- map
 
 -- what stands at a place of a list of images is the image of what stands there
 mapped_at : {X Y : Type 0} (f : X → Y) (xs : List X) (i : ℕ) (d : Y) → i < length (map f xs)
@@ -25,11 +28,7 @@ mapped_at f [] i d l = absurd (omega (arith, l))
 mapped_at f (x ∷ xs) zero d l = (x, refl, refl)
 mapped_at f (x ∷ xs) (suc i) d l = mapped_at f xs i d (omega (arith, l))
 
--- and so is what is read there
-get_mapped : {X Y : Type 0} (f : X → Y) (xs : List X) (i : ℕ) (d : X) → get_or (map f xs) i (f d) ≡ f (get_or xs i d)
-get_mapped f [] i d = refl
-get_mapped f (x ∷ xs) zero d = refl
-get_mapped f (x ∷ xs) (suc i) d = get_mapped f xs i d
+-- ---- EachReady
 
 -- stations that are numbered may be stepped
 pub steps_ready : (net : Net) (procs : List ProcView) (jobs : List Job) → jobs ≡ map (λ p. Step p) procs
@@ -46,34 +45,37 @@ mail_ready net sent procs posts jobs is numbered all = subst (EachReady (IsJob n
   where
     ready : EachReady (IsJob net) (map (λ q. Give q) posts)
     ready i d l = let at = mapped_at (λ q. Give q) posts i d l in
-        subst (IsJob net i) (sym at.1) (posts_are_for sent procs posts numbered all i at.0 at.2)
+        subst (IsJob net i) (sym at.1) (AreFor-posts sent procs posts numbered all i at.0 at.2)
+
+-- ---- EachAnswers
 
 -- answers to steps are what the steps give
 pub steps_answered : (net : Net) (ends : ℕ → ℕ) (bound : ℕ) (procs : List ProcView) (jobs : List Job)
-    (flows : List Flow) (dones : List Done) → jobs ≡ map (λ p. Step p) procs → map (λ f. Stepped f) flows ≡ dones
-    → EachAnswers (AnswersTo (IsDone net ends bound) jobs) dones → AllFlow net ends bound procs flows
-steps_answered net ends bound procs jobs flows dones is are h = all_flow net ends bound procs flows each
+    (flows : List Flow) (answers : List JobAnswer) → jobs ≡ map (λ p. Step p) procs
+    → map (λ f. Stepped f) flows ≡ answers → EachAnswers (AnswersTo (IsJobAnswer net ends bound) jobs) answers
+    → AllFlow net ends bound procs flows
+steps_answered net ends bound procs jobs flows answers is are h = all_flow net ends bound procs flows each
   where
-    told : EachAnswers (AnswersTo (IsDone net ends bound) (map (λ p. Step p) procs)) (map (λ f. Stepped f) flows)
-    told = subst (λ l. EachAnswers (AnswersTo (IsDone net ends bound) l) (map (λ f. Stepped f) flows)) is
-        (subst (λ l. EachAnswers (AnswersTo (IsDone net ends bound) jobs) l) (sym are) h)
+    told : EachAnswers (AnswersTo (IsJobAnswer net ends bound) (map (λ p. Step p) procs)) (map (λ f. Stepped f) flows)
+    told = subst (λ l. EachAnswers (AnswersTo (IsJobAnswer net ends bound) l) (map (λ f. Stepped f) flows)) is
+        (subst (λ l. EachAnswers (AnswersTo (IsJobAnswer net ends bound) jobs) l) (sym are) h)
 
     each : (i : ℕ) (flow : Flow) → i < length flows → (p : ProcView)
-        → IsDone net ends bound i (Step (get_or procs i p)) (Stepped (get_or flows i flow))
+        → IsJobAnswer net ends bound i (Step (get_or procs i p)) (Stepped (get_or flows i flow))
     each i flow l p =
         let m = length-map flows (λ f. Stepped f) in
-        subst (λ j. IsDone net ends bound i j (Stepped (get_or flows i flow))) (get_mapped (λ p. Step p) procs i p)
-        (subst (λ o. IsDone net ends bound i (get_or (map (λ p. Step p) procs) i (Step p)) o)
-        (get_mapped (λ f. Stepped f) flows i flow) (told i (Stepped flow) (omega (arith, l, m)) (Step p)))
+        subst (λ j. IsJobAnswer net ends bound i j (Stepped (get_or flows i flow))) (get_or-map (λ p. Step p) procs i p)
+        (subst (λ o. IsJobAnswer net ends bound i (get_or (map (λ p. Step p) procs) i (Step p)) o)
+        (get_or-map (λ f. Stepped f) flows i flow) (told i (Stepped flow) (omega (arith, l, m)) (Step p)))
 
 -- answers to mail are copies that were given it
 pub mail_answered : (net : Net) (ends : ℕ → ℕ) (bound : ℕ) (sent : MarkedMessages) (procs : List ProcView)
-    (posts : List PostView) (jobs : List Job) (news : List ProcView) (dones : List Done)
-    → jobs ≡ map (λ q. Give q) posts → map (λ p. Given p) news ≡ dones → ArePosts sent procs posts
-    → length dones ≡ length jobs → EachAnswers (AnswersTo (IsDone net ends bound) jobs) dones
+    (posts : List PostView) (jobs : List Job) (news : List ProcView) (answers : List JobAnswer)
+    → jobs ≡ map (λ q. Give q) posts → map (λ p. Given p) news ≡ answers → ArePosts sent procs posts
+    → length answers ≡ length jobs → EachAnswers (AnswersTo (IsJobAnswer net ends bound) jobs) answers
     → AllDelivered sent procs news
-mail_answered net ends bound sent procs posts jobs news dones is are all many h =
-    all_handed sent procs posts news all long each
+mail_answered net ends bound sent procs posts jobs news answers is are all many h =
+    AllDelivered-posts sent procs posts news all long each
   where
     long : length news ≡ length posts
     long =
@@ -83,19 +85,19 @@ mail_answered net ends bound sent procs posts jobs news dones is are all many h 
         let d = ap length are in
         omega (arith, a, b, c, d, many)
 
-    told : EachAnswers (AnswersTo (IsDone net ends bound) (map (λ q. Give q) posts)) (map (λ p. Given p) news)
-    told = subst (λ l. EachAnswers (AnswersTo (IsDone net ends bound) l) (map (λ p. Given p) news)) is
-        (subst (λ l. EachAnswers (AnswersTo (IsDone net ends bound) jobs) l) (sym are) h)
+    told : EachAnswers (AnswersTo (IsJobAnswer net ends bound) (map (λ q. Give q) posts)) (map (λ p. Given p) news)
+    told = subst (λ l. EachAnswers (AnswersTo (IsJobAnswer net ends bound) l) (map (λ p. Given p) news)) is
+        (subst (λ l. EachAnswers (AnswersTo (IsJobAnswer net ends bound) jobs) l) (sym are) h)
 
     each : (i : ℕ) (q : PostView) (n : ProcView) → slice_get posts i ≡ Some q → slice_get news i ≡ Some n
-        → IsDone net ends bound i (Give q) (Given n)
+        → IsJobAnswer net ends bound i (Give q) (Given n)
     each i q n there here =
-        let post = at_got posts i q q there in
-        let new = at_got news i n n here in
+        let post = get_or_from_slice_get posts i q q there in
+        let new = get_or_from_slice_get news i n n here in
         let m = length-map news (λ p. Given p) in
-        let l = new.0 in
-        subst (λ (x : PostView). IsDone net ends bound i (Give x) (Given n)) post.1
-        (subst (λ (x : ProcView). IsDone net ends bound i (Give (get_or posts i q)) (Given x)) new.1
-        (subst (λ j. IsDone net ends bound i j (Given (get_or news i n))) (get_mapped (λ q. Give q) posts i q)
-        (subst (λ o. IsDone net ends bound i (get_or (map (λ q. Give q) posts) i (Give q)) o)
-        (get_mapped (λ p. Given p) news i n) (told i (Given n) (omega (arith, l, m)) (Give q)))))
+        let l = slice_get_within news i n here in
+        subst (λ (x : PostView). IsJobAnswer net ends bound i (Give x) (Given n)) post
+        (subst (λ (x : ProcView). IsJobAnswer net ends bound i (Give (get_or posts i q)) (Given x)) new
+        (subst (λ j. IsJobAnswer net ends bound i j (Given (get_or news i n))) (get_or-map (λ q. Give q) posts i q)
+        (subst (λ o. IsJobAnswer net ends bound i (get_or (map (λ q. Give q) posts) i (Give q)) o)
+        (get_or-map (λ p. Given p) news i n) (told i (Given n) (omega (arith, l, m)) (Give q)))))

@@ -1,7 +1,8 @@
 -- The world after a window.
 use Rattle.std.proofs.Common.{◌≡◌, ℕ, ◌+◌, ◌*◌, ◌<◌, ◌≤◌, List, sym, ap, ◌∙◌}
-use Rattle.std.proofs.Common.{subst, arith, length, [], map, slice_get, Some, unwrap_or, option_map}
+use Rattle.std.proofs.Common.{subst, arith, length, map, slice_get, Some}
 use Rattle.std.proofs.lemmas.List.{length-map}
+use Rattle.std.proofs.lemmas.Option.{slice_get_within}
 use Rattle.sim_base.specs.Clones.{Clone}
 use Rattle.clone_sets.specs.Sets.{has}
 use Rattle.net_model.specs.Net.{Net}
@@ -9,17 +10,21 @@ use Rattle.stations.specs.Runs.{simulation}
 use Rattle.run_laws.specs.Fronts.{next_front, least}
 use Rattle.run_laws.specs.Copies.{Stands, ends_of}
 use Rattle.run_laws.proofs.NextFronts.{window_end-within}
-use Rattle.phys_proc.specs.Gone.{ends_in}
+use Rattle.phys_proc.specs.Ends.{ends_in}
 use Rattle.phys_proc.specs.Procs.{ProcView}
 use Rattle.world_core.specs.declared.flow.Flow.{Flow}
-use Rattle.phys_proc.proofs.Gone.{ends_soon}
+use Rattle.phys_proc.proofs.Ends.{ends_in-bound}
 use Rattle.world_core.specs.Worlds.{AreInNet, StandsAt, WorldStands, total_handled}
 use Rattle.world_core.specs.Windows.{AllNumbered, AllFlow, AllDelivered, AreNumbered, NoneOver}
 use Rattle.world_core.specs.Windows.{done_at, all_sent, all_handled, after_window, with_mail, sent_to}
 use Rattle.world_core.specs.Overs.{IsFirstOver, IsFirstBeyond, NoneBeyond}
-use Rattle.world_core.proofs.Places.{at_got, got_map, map_got}
-use Rattle.world_core.proofs.AfterWindow.{proc_of, flow_of, few_handled, stand_after, total_grows, grown_at}
+use Rattle.world_core.proofs.Flows.{done_at-got}
+use Rattle.world_core.proofs.Places.{got_map, map_got}
+use Rattle.world_core.proofs.AfterWindow.{WorldStepped, proc_of, flow_of, few_handled, stand_after}
+use Rattle.world_core.proofs.AfterWindow.{total_grows, grown_at}
 use Rattle.world_core.proofs.Overs.{first_beyond, none_beyond}
+
+-- ---- a world at its front
 
 -- the copies at a place stand for the clones also where the network and the lists are those that a reader is handed
 pub stands_for_reader : (net shown_net : Net) (cs shown : List Clone) (front i : ℕ) (p : ProcView) → shown_net ≡ net
@@ -43,55 +48,57 @@ clones_in_net net cs ended front procs world = record {
   plans = world.for_stations;
   ends = λ k l.
       let same : ends_in net.horizon ended k ≡ ends_of (simulation net) cs k = ap (λ f. f k) world.ends in
-      let soon = ends_soon net.horizon ended k in
+      let soon = ends_in-bound net.horizon ended k in
       omega (arith, same, soon);
 }
+
+-- ---- after a window
 
 module _ (net : Net) (cs : List Clone) (ended : List (ℕ × ℕ)) (front bound : ℕ) (procs : List ProcView)
     (world : WorldStands net cs ended front procs) (later : front < bound)
     (within : bound ≤ next_front (simulation net) cs front) where
+  -- the bound is not past the horizon
   early : bound ≤ net.horizon
   early = let h = window_end-within (simulation net) (least (simulation net) cs front) in omega (arith, within, h)
 
   module _ (flows : List Flow) (count : length flows ≡ length procs)
       (stepped : AllFlow net (ends_in net.horizon ended) bound procs flows) where
-    steps_of : AllFlow net (ends_of (simulation net) cs) bound procs flows
-    steps_of = subst (λ e. AllFlow net e bound procs flows) world.ends stepped
-
-    many : length flows ≡ length net.sites
-    many = count ∙ world.count
-
-    soon : front ≤ bound
-    soon = omega (arith, later)
+    -- the stations as they stood, and their answers
+    world_stepped : WorldStepped net cs front bound procs flows
+    world_stepped = record {
+      valid = world.valid;
+      all_procs = world.count;
+      all_flows = count ∙ world.count;
+      window = record { later = omega (arith, later); within = within };
+      stood = world.each;
+      stepped = subst (λ e. AllFlow net e bound procs flows) world.ends stepped;
+    }
 
     -- the first station and clone over the limit are the first whose log is beyond it at the bound
     pub first_beyond_is : (i who : ℕ) → IsFirstOver flows i who → IsFirstBeyond net cs bound (i + 1) who
-    first_beyond_is = first_beyond net world.valid cs front bound procs flows world.count many soon within world.each
-        steps_of
+    first_beyond_is = first_beyond net cs front bound procs flows world_stepped
 
     -- what was handled, and what is handled now, is no more than the limit allows each clone at each station
     pub few_are : total_handled net cs front + all_handled flows ≤ length net.sites * (length cs * net.limit)
-    few_are = few_handled net world.valid cs front bound procs flows world.count many soon within world.each steps_of
+    few_are = few_handled net cs front bound procs flows world_stepped
 
     -- the stations as their tasks answer them are in the order of their numbers
     pub done_numbered : AreNumbered (map (λ (f : Flow). f.done) flows)
     done_numbered = λ i p got.
         let f = got_map (λ (f : Flow). f.done) flows i p got in
-        let l : i < length net.sites = let k = (at_got flows i f.0 f.0 f.1).0 in omega (arith, k, many) in
-        let q = proc_of net world.valid cs front bound procs flows world.count many soon within world.each steps_of i
-        l in
-        ap (λ (p : ProcView). p.station) (sym f.2) ∙ (steps_of i q.0 f.0 q.1 f.1).number
+        let l : i < length net.sites = let k = slice_get_within flows i f.0 f.1 in
+        omega (arith, k, world_stepped.all_flows) in
+        let q = proc_of net cs front bound procs flows world_stepped i l in
+        ap (λ (p : ProcView). p.station) (sym f.2) ∙ (world_stepped.stepped i q.0 f.0 q.1 f.1).number
 
     module _ (none : NoneOver flows) where
       -- where no clone went over the limit, no log is beyond it at the bound
       pub none_are_beyond : NoneBeyond net cs bound
-      none_are_beyond = none_beyond net world.valid cs front bound procs flows world.count many soon within world.each
-          steps_of none
+      none_are_beyond = none_beyond net cs front bound procs flows world_stepped none
 
       -- what was handled up to the bound is what was handled before and what is handled in the window
       pub steps_sum : total_handled net cs bound ≡ total_handled net cs front + all_handled flows
-      steps_sum = total_grows net world.valid cs front bound procs flows world.count many soon within world.each
-          steps_of world.for_stations none
+      steps_sum = total_grows net cs front bound procs flows world_stepped world.for_stations none
 
       -- and with what was sent delivered, the world stands at the bound
       pub world_after : (news : List ProcView) → AllDelivered (all_sent flows) (map (λ (f : Flow). f.done) flows) news
@@ -99,7 +106,7 @@ module _ (net : Net) (cs : List Clone) (ended : List (ℕ × ℕ)) (front bound 
       world_after news given = record {
         valid = world.valid;
         early = early;
-        count = given.count ∙ length-map flows (λ (f : Flow). f.done) ∙ many;
+        count = given.count ∙ length-map flows (λ (f : Flow). f.done) ∙ world_stepped.all_flows;
         few = world.few;
         ends = world.ends;
         for_stations = world.for_stations;
@@ -109,28 +116,23 @@ module _ (net : Net) (cs : List Clone) (ended : List (ℕ × ℕ)) (front bound 
           each_after : (i : ℕ) (q : ProcView) → slice_get news i ≡ Some q → StandsAt net cs bound i q
           each_after i q got =
               let long : length news ≡ length net.sites = given.count ∙ length-map flows (λ (f : Flow). f.done)
-              ∙ many in
-              let l : i < length net.sites = let k = (at_got news i q q got).0 in omega (arith, k, long) in
-              let f = flow_of net world.valid cs front bound procs flows world.count many soon within world.each
-              steps_of i l in
-              let p = proc_of net world.valid cs front bound procs flows world.count many soon within world.each
-              steps_of i l in
+              ∙ world_stepped.all_flows in
+              let l : i < length net.sites = let k = slice_get_within news i q got in omega (arith, k, long) in
+              let f = flow_of net cs front bound procs flows world_stepped i l in
+              let p = proc_of net cs front bound procs flows world_stepped i l in
               let done : slice_get (map (λ (f : Flow). f.done) flows) i ≡ Some f.0.done =
               map_got (λ (f : Flow). f.done) flows i f.0 f.1 in
               let d = given.each i f.0.done q done got in
-              let s = steps_of i p.0 f.0 p.1 f.1 in
+              let s = world_stepped.stepped i p.0 f.0 p.1 f.1 in
               let w = world.each i p.0 p.1 in
-              let e : done_at flows i ≡ f.0.done.copies =
-              ap (λ o. unwrap_or (option_map (λ (f : Flow). f.done.copies) o) []) f.1 in
+              let e : done_at flows i ≡ f.0.done.copies = done_at-got flows i f.0 f.1 in
               let c : after_window flows i ≡ q.copies = ap (with_mail (sent_to i (all_sent flows))) e ∙ sym d.copies in
               record {
                 proc = d.proc net s.proc;
                 number = d.station ∙ s.number;
                 living = λ c. ap (λ k. has k c) (d.living ∙ s.living (none i f.0 f.1)) ∙ w.living c;
                 once = d.once ∙ s.once (none i f.0 f.1) ∙ ap (λ n. n + f.0.handled) w.once
-                    ∙ sym (grown_at net world.valid cs front bound procs flows world.count many soon within world.each
-                    steps_of world.for_stations none i l f.0 f.1);
+                    ∙ sym (grown_at net cs front bound procs flows world_stepped world.for_stations none i l f.0 f.1);
                 copies = subst (Stands (simulation net) has cs bound (i + 1)) c
-                    (stand_after net world.valid cs front bound procs flows world.count many soon within world.each
-                    steps_of world.for_stations none i l);
+                    (stand_after net cs front bound procs flows world_stepped world.for_stations none i l);
               }

@@ -3,6 +3,7 @@ use Rattle.std.specs.Prelude.{◌≡◌, ℕ, ◌+◌, ◌≤◌, ◌==◌, List
 use Rattle.std.specs.Prelude.{length, map, slice_get, unwrap_or, option_map, Some, sum_by}
 use Rattle.std.specs.List.{filter, flat_map}
 use Rattle.clone_sets.specs.Sets.{has, empty}
+use Rattle.clone_sets.specs.declared.set.CloneSet.{CloneSet}
 use Rattle.net_model.specs.Net.{Net}
 use Rattle.net_model.specs.Rules.{IsNet}
 use Rattle.stations.specs.Runs.{simulation}
@@ -31,17 +32,22 @@ pub record IsNumbered (net : Net) (i : ℕ) (p : ProcView) : Type 0 where
 abbrev pub AllNumbered : Net → List ProcView → Type 0
 AllNumbered net procs = (i : ℕ) (p : ProcView) → slice_get procs i ≡ Some p → IsNumbered net i p
 
--- what the task of place i answers: for each clone what its own window gives, and where some clone goes over the limit
--- just those clones; what was handled is what the copies gained
-pub record IsFlow (net : Net) (ends : ℕ → ℕ) (bound i : ℕ) (old : ProcView) (flow : Flow) : Type 0 where
-  pub windows : flow.over ≡ empty
-      → IsStepped (simulation net) has ends (i + 1) bound old.copies flow.done.copies flow.sent.items
-  pub over : AreOver (simulation net) has ends (i + 1) bound old.copies flow.over
-  pub gain : GainTogether (simulation net) has ends (i + 1) bound old.copies flow.handled
-  pub proc : IsProc net flow.done
-  pub number : flow.done.station ≡ i + 1
-  pub living : flow.over ≡ empty → flow.done.living ≡ old.living
-  pub once : flow.over ≡ empty → flow.done.handled ≡ old.handled + flow.handled
+-- the copies of station s have come to the bound, and so many messages were handled: for each clone what its own window
+-- gives, and where some clone goes over the limit just those clones; what was handled is what the copies gained
+pub record HasAdvanced (net : Net) (s : ℕ) (ends : ℕ → ℕ) (bound : ℕ) (old new : ProcView) (sent : MarkedMessages)
+    (full : CloneSet) (count : ℕ) : Type 0 where
+  pub windows : full ≡ empty → IsStepped (simulation net) has ends s bound old.copies new.copies sent
+  pub over : AreOver (simulation net) has ends s bound old.copies full
+  pub gain : GainTogether (simulation net) has ends s bound old.copies count
+  pub proc : IsProc net new
+  pub number : new.station ≡ s
+  pub living : full ≡ empty → new.living ≡ old.living
+  pub once : full ≡ empty → new.handled ≡ old.handled + count
+
+-- what the task of place i answers: what a step gives to station i + 1
+abbrev pub IsFlow : Net → (ℕ → ℕ) → ℕ → ℕ → ProcView → Flow → Type 0
+IsFlow net ends bound i old flow =
+    HasAdvanced net (i + 1) ends bound old flow.done flow.sent.items flow.over flow.handled
 
 -- each task has answered
 abbrev pub AllFlow : Net → (ℕ → ℕ) → ℕ → List ProcView → List Flow → Type 0

@@ -1,16 +1,17 @@
 -- A world: all clones at a front, and what its stations keep of them.
-use Rattle.std.specs.Prelude.{◌≡◌, ℕ, ◌+◌, ◌<◌, ◌≤◌, List, [], length, option_map, slice_get, unwrap_or, nat_lt, Some}
-use Rattle.sim_base.specs.Clones.{Clone, clone_at}
+use Rattle.std.specs.Prelude.{◌≡◌, ℕ, ◌+◌, ◌<◌, ◌≤◌, List, [], ◌∷◌, length, option_map, slice_get, unwrap_or}
+use Rattle.std.specs.Prelude.{nat_lt, Some}
+use Rattle.sim_base.specs.Clones.{Clone, base, clone_at}
 use Rattle.sim_base.specs.declared.lists.TheConstants.{MOST_CLONES}
 use Rattle.clone_sets.specs.Sets.{has}
 use Rattle.net_model.specs.Net.{Net}
 use Rattle.net_model.specs.Rules.{IsNet}
 use Rattle.stations.specs.Runs.{simulation, handled_once}
-use Rattle.run_laws.specs.Handlers.{AreForStations}
+use Rattle.run_laws.specs.Handlers.{AllAreForStations}
 use Rattle.run_laws.specs.SharedTexts.{station_sum}
 use Rattle.run_laws.specs.Copies.{Stands, ends_of}
 use Rattle.run_laws.specs.Runs.{end_of}
-use Rattle.phys_proc.specs.Gone.{ends_in}
+use Rattle.phys_proc.specs.Ends.{ends_in}
 use Rattle.phys_proc.specs.Own.{StationCopy}
 use Rattle.phys_proc.specs.Procs.{ProcView, IsProc}
 
@@ -19,6 +20,10 @@ pub record WorldView : Type 0 where
   pub net : Net
   pub clones : List Clone
   pub front : ℕ
+
+-- a world as it opens: the base clone alone, before anything is handled
+abbrev pub opening_world : Net → WorldView
+opening_world net = record { net = net; clones = base ∷ []; front = 0 }
 
 -- the copies of the station at a place of the list
 abbrev pub copies_at : List ProcView → ℕ → List StationCopy
@@ -41,7 +46,7 @@ pub record WorldStands (net : Net) (cs : List Clone) (ended : List (ℕ × ℕ))
   pub count : length procs ≡ length net.sites
   pub few : length cs ≤ MOST_CLONES
   pub ends : ends_in net.horizon ended ≡ ends_of (simulation net) cs
-  pub for_stations : (c : ℕ) → c < length cs → AreForStations (simulation net) (clone_at cs c).plans
+  pub for_stations : AllAreForStations (simulation net) cs
   pub each : (i : ℕ) (p : ProcView) → slice_get procs i ≡ Some p → StandsAt net cs front i p
 
 -- the messages that the stations have handled once, up to a front
@@ -50,5 +55,5 @@ total_handled net cs front = station_sum (λ s. handled_once net cs s front) (le
 
 -- clones whose decisions are for stations, and which end at the horizon at the latest
 pub record AreInNet (net : Net) (cs : List Clone) : Type 0 where
-  pub plans : (k : ℕ) → k < length cs → AreForStations (simulation net) (clone_at cs k).plans
+  pub plans : AllAreForStations (simulation net) cs
   pub ends : (k : ℕ) → k < length cs → end_of (simulation net) (clone_at cs k) ≤ net.horizon

@@ -69,8 +69,8 @@ fn give_by_team<L: Ledger, R: Wait>(
     let work = Arc::new(alloc, work)?;
     let posts = posts_of(alloc, procs, sent)?;
     let jobs = mail_for(alloc, posts)?;
-    let (team, dones) = team.all(rt, alloc, work, jobs, &NoGate, &mut steps)?;
-    let given = procs_of(alloc, dones)?;
+    let (team, answers) = team.all(rt, alloc, work, jobs, &NoGate, &mut steps)?;
+    let given = procs_of(alloc, answers)?;
     Ok((given, team))
 }
 

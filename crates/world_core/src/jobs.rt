@@ -1,12 +1,13 @@
 //! What the workers of a window are asked for: to step the copies (physical processes) of a station (a logical
 //! process), and then to give them their mail.
-ghost use Rattle.std.specs.Prelude.{◌≡◌, map, IfOk, OnOk, ◌++◌, ◌∷◌, []};
+ghost use Rattle.std.specs.Prelude.{◌≡◌, map, IfOk};
 ghost use Rattle.world_core.specs.declared.jobs.Job.TheVariants.{Step as Step', Give as Give'};
-ghost use Rattle.world_core.specs.declared.jobs.Done.TheVariants.{Stepped as Stepped', Given as Given'};
+ghost use Rattle.world_core.specs.declared.jobs.JobAnswer.TheVariants.{Stepped as Stepped', Given as Given'};
 
 use crate::flow::Flow;
 use crate::posts::Post;
 use crate::timed_proc::TimedProc;
+use crew_pool::add;
 use sim_base::NoMemory;
 use std::alloc::Global;
 
@@ -21,19 +22,11 @@ pub enum Job {
 
 /// What it answers.
 #[derive(Drop)]
-pub enum Done {
+pub enum JobAnswer {
     /// What the step gives.
     Stepped(Flow),
     /// The copies, with all of their mail.
     Given(TimedProc),
-}
-
-// Puts one more behind the others.
-fn add<X: Drop>(list: &mut Vec<X>, one: X) -> Result<(), NoMemory>
-    ensures value { OnOk result (list.new.items ≡ list.old.items ++ one ∷ []) }
-{
-    list.push(one)?;
-    Ok(())
 }
 
 /// A step for each station.
@@ -59,28 +52,28 @@ pub(crate) fn mail_for(alloc: Global, posts: Vec<Post>) -> Result<Vec<Job>, NoMe
 }
 
 /// What the steps give. No step is answered by anything else.
-pub(crate) fn flows_of(alloc: Global, dones: Vec<Done>) -> Result<Vec<Flow>, NoMemory>
-    ensures flows { IfOk result (λ flows. map (λ f. Stepped' f) flows.items ≡ dones.items) }
+pub(crate) fn flows_of(alloc: Global, answers: Vec<JobAnswer>) -> Result<Vec<Flow>, NoMemory>
+    ensures flows { IfOk result (λ flows. map (λ f. Stepped' f) flows.items ≡ answers.items) }
 {
-    let mut flows = Vec::with_capacity(alloc, dones.len())?;
-    for done in dones {
-        match done {
-            Done::Stepped(flow) => add(&mut flows, flow)?,
-            Done::Given(_) => return Err(NoMemory),
+    let mut flows = Vec::with_capacity(alloc, answers.len())?;
+    for answer in answers {
+        match answer {
+            JobAnswer::Stepped(flow) => add(&mut flows, flow)?,
+            JobAnswer::Given(_) => return Err(NoMemory),
         }
     }
     Ok(flows)
 }
 
 /// The copies that were given their mail. No mail is answered by anything else.
-pub(crate) fn procs_of(alloc: Global, dones: Vec<Done>) -> Result<Vec<TimedProc>, NoMemory>
-    ensures procs { IfOk result (λ procs. map (λ p. Given' p) procs.items ≡ dones.items) }
+pub(crate) fn procs_of(alloc: Global, answers: Vec<JobAnswer>) -> Result<Vec<TimedProc>, NoMemory>
+    ensures procs { IfOk result (λ procs. map (λ p. Given' p) procs.items ≡ answers.items) }
 {
-    let mut procs = Vec::with_capacity(alloc, dones.len())?;
-    for done in dones {
-        match done {
-            Done::Given(proc) => add(&mut procs, proc)?,
-            Done::Stepped(_) => return Err(NoMemory),
+    let mut procs = Vec::with_capacity(alloc, answers.len())?;
+    for answer in answers {
+        match answer {
+            JobAnswer::Given(proc) => add(&mut procs, proc)?,
+            JobAnswer::Stepped(_) => return Err(NoMemory),
         }
     }
     Ok(procs)

@@ -9,7 +9,7 @@ use std::alloc::Global;
 use std::sync::Arc;
 
 /// One share more of the model.
-pub(crate) fn shared(model: &Arc<Model>) -> Result<Arc<Model>, NoMemory>
+pub(crate) fn share_of(model: &Arc<Model>) -> Result<Arc<Model>, NoMemory>
     ensures value { IfOk result (λ m. m.value ≡ model.now.value) }
 {
     Ok(model.clone()?)
@@ -22,13 +22,15 @@ impl World {
     pub fn rack(&mut self, alloc: Global, station: u32) -> Result<Rack, NoMemory>
         requires low { 1 ≤ station }
         requires high { station ≤ length self.old.net.sites }
+        // what it gives: a rack of the station, at the front of this world
         ensures net { IfOk result (λ r. r.net ≡ self.old.net) }
         ensures clones { IfOk result (λ r. r.clones ≡ self.old.clones) }
         ensures station { IfOk result (λ r. r.station ≡ station) }
         ensures front { IfOk result (λ r. r.front ≡ self.old.front) }
+        // what is kept: the world, also out of memory
         ensures same { self.new ≡ self.old }
     {
-        let model = shared(&self.model)?;
+        let model = share_of(&self.model)?;
         let lists = self.lists.show(alloc)?;
         self.procs[station as usize - 1].rack(alloc, model, lists, self.front)
     }

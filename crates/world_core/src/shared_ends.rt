@@ -1,7 +1,7 @@
 //! When clones end (their stop times), which the workers that stay from window to window share.
 ghost use Rattle.std.specs.Prelude.{◌≡◌, ℕ, ◌<◌, ◌==◌, ◌∷◌, ◌++◌, [], min, if◌then◌else◌, IfOk, OnOk, OnErr};
 ghost use Rattle.sim_base.specs.declared.lists.TheConstants.{MOST_CLONES};
-ghost use Rattle.phys_proc.specs.Gone.{AreClones, ends_in};
+ghost use Rattle.phys_proc.specs.Ends.{AreClones, ends_in};
 
 use phys_proc::CloneEnds;
 use sim_base::NoMemory;
@@ -18,7 +18,7 @@ pub struct SharedEnds {
 
 impl std::marker::Model for SharedEnds {
     ghost use Rattle.std.specs.Prelude.{◌≡◌, List, ℕ};
-    ghost use Rattle.phys_proc.specs.Gone.{AreClones};
+    ghost use Rattle.phys_proc.specs.Ends.{AreClones};
 
     ghost Value = { List (ℕ × ℕ) };
 
@@ -76,7 +76,7 @@ impl SharedEnds {
     }
 
     /// One share more of it, for a window.
-    pub fn shared(&self) -> Result<Arc<CloneEnds>, NoMemory>
+    pub fn share(&self) -> Result<Arc<CloneEnds>, NoMemory>
         ensures value { IfOk result (λ made. made.value ≡ self.now) }
     {
         Ok(self.made.clone()?)

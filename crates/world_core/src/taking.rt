@@ -2,7 +2,6 @@
 ghost use Rattle.std.specs.Prelude.{◌≡◌, ◌<◌, ◌≤◌, None, length, IfOk, Some};
 ghost use Rattle.sim_base.specs.Clones.{clone_at, place_of, clones_with_fork, clones_with_plan, clones_with_end};
 ghost use Rattle.sim_base.specs.declared.lists.TheConstants.{MOST_CLONES};
-ghost use Rattle.stations.specs.Runs.{set_message};
 ghost use Rattle.decision_book.specs.Journal.{clones_after};
 ghost use Rattle.world_core.specs.Taking.{IsAccepted, AreAccepted, clones_after_calls};
 ghost use Rattle.world_core.specs.Forking.{AllForked, LivesAtAll, LivesNowhere};
@@ -12,23 +11,9 @@ use crate::timed_proc::TimedProc;
 use crate::world::World;
 use clone_sets::CloneSet;
 use decision_book::Call;
-use sim_base::{Decision, Key, Msg, Name, NoMemory, Payload, Planned};
+use sim_base::{Decision, Name, NoMemory, Planned};
+use stations::decision::set_message;
 use std::alloc::Global;
-
-// The message that tells its station of the decision at place k of a clone's list.
-fn message_of(k: usize, plan: &Planned) -> Msg
-    ensures value { result ≡ set_message k plan.now }
-{
-    Msg {
-        key: Key {
-            time: plan.at,
-            sender: 0,
-            number: k as u64,
-        },
-        to: plan.station,
-        payload: Payload::Set(plan.change),
-    }
-}
 
 // At each station the new clone stands beside the old one.
 fn fork_all(procs: &mut Vec<TimedProc>, old: u32, new: u32)
@@ -106,8 +91,10 @@ impl World {
         requires open { (clone_at self.clones old).end ≡ None }
         requires unused { place_of new self.clones ≡ None }
         requires few { length self.clones < MOST_CLONES }
+        // what is kept: the model and the front
         ensures net { IfOk result (λ w. w.net ≡ self.net) }
         ensures front { IfOk result (λ w. w.front ≡ self.front) }
+        // what it gives: the clones with the new one
         ensures clones { IfOk result (λ w. w.clones ≡ clones_with_fork self.clones new old) }
     {
         let World {
@@ -141,8 +128,10 @@ impl World {
         requires low { 1 ≤ plan.station }
         requires high { plan.station ≤ length self.net.sites }
         requires not_late { self.front ≤ plan.at }
+        // what is kept: the model and the front
         ensures net { IfOk result (λ w. w.net ≡ self.net) }
         ensures front { IfOk result (λ w. w.front ≡ self.front) }
+        // what it gives: the clones, where this one has the decision
         ensures clones { IfOk result (λ w. w.clones ≡ clones_with_plan self.clones who plan) }
     {
         let World {
@@ -155,7 +144,7 @@ impl World {
             outbox,
             team,
         } = self;
-        let msg = message_of(lists.lists().list(who).len(), &plan);
+        let msg = set_message(lists.lists().list(who).len(), plan);
         lists.add(who, plan)?;
         deliver_to(&mut procs, msg, CloneSet::one(who))?;
         Ok(World {
@@ -176,8 +165,10 @@ impl World {
         requires open { (clone_at self.clones who).end ≡ None }
         requires not_late { self.front ≤ at }
         requires early { at ≤ self.net.horizon }
+        // what is kept: the model and the front
         ensures net { IfOk result (λ w. w.net ≡ self.net) }
         ensures front { IfOk result (λ w. w.front ≡ self.front) }
+        // what it gives: the clones, where this one has an end
         ensures clones { IfOk result (λ w. w.clones ≡ clones_with_end self.clones who at) }
     {
         let World {

@@ -1,16 +1,17 @@
 //! The copies (physical processes) of a station (a logical process), beside a time that nothing in their future event
 //! lists is before.
-ghost use Rattle.std.specs.Prelude.{◌≡◌, ℕ, ◌<◌, ◌≤◌, ◌+◌, [], true, false, IfOk, OnOk, IsTrue, map, length};
-ghost use Rattle.std.specs.List.{AllZip};
+ghost use Rattle.std.specs.Prelude.{◌≡◌, ◌<◌, ◌≤◌, ◌+◌, [], true, false, IfOk, OnOk, IsTrue, map, length};
 ghost use Rattle.sim_base.specs.declared.lists.TheConstants.{MOST_CLONES};
-ghost use Rattle.clone_sets.specs.Sets.{has, with, empty};
+ghost use Rattle.clone_sets.specs.Sets.{has};
 ghost use Rattle.net_model.specs.Net.{Net};
 ghost use Rattle.stations.specs.Runs.{simulation};
-ghost use Rattle.run_laws.specs.Copies.{IsForked, IsStepped, AreOver, GainTogether, Stands};
+ghost use Rattle.run_laws.specs.Copies.{Stands};
 ghost use Rattle.phys_proc.specs.Own.{with_message, AreLate};
-ghost use Rattle.phys_proc.specs.Gone.{ends_in};
+ghost use Rattle.phys_proc.specs.Ends.{ends_in};
 ghost use Rattle.phys_proc.specs.Procs.{IsProc, IsLeastOf, IsWithLeast, AreShared};
 ghost use Rattle.phys_proc.specs.Racks.{view_of_copy};
+ghost use Rattle.world_core.specs.Forking.{HasForked};
+ghost use Rattle.world_core.specs.Windows.{HasAdvanced};
 
 use clone_sets::CloneSet;
 use net_model::Model;
@@ -99,18 +100,10 @@ impl TimedProc {
         requires proc { IsProc model.now self.old }
         requires early { bound ≤ model.now.horizon }
         requires silent { sent.old.items ≡ [] }
-        ensures windows { IfOk result (λ g. g.over ≡ empty →
-            IsStepped (simulation model.now) has (ends_in model.now.horizon ends.now) self.old.station bound
-            self.old.copies self.new.copies sent.new.items) }
-        ensures over { IfOk result (λ g. AreOver (simulation model.now) has (ends_in model.now.horizon ends.now)
-            self.old.station bound self.old.copies g.over) }
-        ensures gained { IfOk result (λ g. GainTogether (simulation model.now) has
-            (ends_in model.now.horizon ends.now) self.old.station bound self.old.copies g.handled) }
+        ensures advanced { IfOk result (λ g. HasAdvanced model.now self.old.station (ends_in model.now.horizon ends.now)
+            bound self.old self.new sent.new.items g.over g.handled) }
         ensures counted { IfOk result (λ g. steps.new ≡ steps.old + g.handled) }
-        ensures proc { OnOk result (IsProc model.now self.new) }
         ensures station { self.new.station ≡ self.old.station }
-        ensures living { IfOk result (λ g. g.over ≡ empty → self.new.living ≡ self.old.living) }
-        ensures handled { IfOk result (λ g. g.over ≡ empty → self.new.handled ≡ self.old.handled + g.handled) }
     {
         // also where memory is refused
         self.least = 0;
@@ -165,12 +158,7 @@ impl TimedProc {
         requires old { has self.old.living old ≡ true }
         requires new { has self.old.living new ≡ false }
         requires below { new < MOST_CLONES }
-        ensures copies { (net : Net) (ends : ℕ → ℕ) → IsProc net self.old →
-            AllZip (IsForked (simulation net) has ends old new) self.old.copies self.new.copies }
-        ensures proc { (net : Net) → IsProc net self.old → IsProc net self.new }
-        ensures station { self.new.station ≡ self.old.station }
-        ensures living { self.new.living ≡ with self.old.living new }
-        ensures handled { self.new.handled ≡ self.old.handled }
+        ensures forked { HasForked old new self.old self.new }
     {
         self.proc.fork(old, new);
     }

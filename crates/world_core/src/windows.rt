@@ -4,15 +4,15 @@
 ghost use Rattle.std.specs.Prelude.{◌≡◌, ◌+◌, ◌<◌, ◌≤◌, ◌++◌, ◌∷◌, []};
 ghost use Rattle.std.specs.Prelude.{Some, None, List, length, map, slice_get, IfOk, OnOk, IfSome};
 ghost use Rattle.net_model.specs.declared.limits.TheConstants.{MOST_STATIONS};
-ghost use Rattle.phys_proc.specs.Gone.{ends_in};
+ghost use Rattle.phys_proc.specs.Ends.{ends_in};
 ghost use Rattle.phys_proc.specs.Procs.{ProcView};
 ghost use Rattle.world_core.specs.declared.flow.Flow.{Flow as Flow'};
 ghost use Rattle.world_core.specs.Windows.{AllFlow, AllNumbered, IsFlow, MayStep, IsNumbered, all_handled, all_sent};
 ghost use Rattle.world_core.specs.Stepping.{FirstOver, AllStepped, SteppedAt};
 
 use crate::flow::Flow;
-use crate::jobs::{Done, Job, flows_of, steps_for};
-use crate::racks::shared;
+use crate::jobs::{Job, JobAnswer, flows_of, steps_for};
+use crate::racks::share_of;
 use crate::shared_ends::SharedEnds;
 use crate::timed_proc::TimedProc;
 use clone_sets::CloneSet;
@@ -52,8 +52,8 @@ impl Window {
         ensures value { IfOk result (λ w. w ≡ record { net = model.now.value; ends = ends.now; bound = bound }) }
     {
         Ok(Window {
-            model: shared(model)?,
-            ends: ends.shared()?,
+            model: share_of(model)?,
+            ends: ends.share()?,
             bound,
         })
     }
@@ -86,16 +86,16 @@ impl Window {
 impl Work for Window {
     type In = Job;
 
-    type Out = Done;
+    type Out = JobAnswer;
 
-    ghost use Rattle.phys_proc.specs.Gone.{ends_in};
-    ghost use Rattle.world_core.specs.Jobs.{IsDone, IsJob, steps_of};
+    ghost use Rattle.phys_proc.specs.Ends.{ends_in};
+    ghost use Rattle.world_core.specs.Jobs.{IsJobAnswer, IsJob, steps_of};
 
     ghost ready = { λ w i job. IsJob w.net i job };
 
-    ghost answers = { λ w i job done. IsDone w.net (ends_in w.net.horizon w.ends) w.bound i job done };
+    ghost answers = { λ w i job answer. IsJobAnswer w.net (ends_in w.net.horizon w.ends) w.bound i job answer };
 
-    ghost cost = { λ done. steps_of done };
+    ghost cost = { λ answer. steps_of answer };
 
     fn run<L: Ledger>(
         &self,
@@ -103,23 +103,23 @@ impl Work for Window {
         i: u32,
         item: Job,
         steps: &mut Steps<L>,
-    ) -> Result<Done, NoMemory> {
+    ) -> Result<JobAnswer, NoMemory> {
         match item {
             Job::Step(proc) => {
                 let flow = self.step(alloc, i, proc, steps)?;
-                Ok(Done::Stepped(flow))
+                Ok(JobAnswer::Stepped(flow))
             }
             Job::Give(post) => {
                 let proc = post.hand_over()?;
-                Ok(Done::Given(proc))
+                Ok(JobAnswer::Given(proc))
             }
         }
     }
 
-    fn spent(&self, out: &Done) -> u64 {
+    fn spent(&self, out: &JobAnswer) -> u64 {
         match out {
-            Done::Stepped(flow) => flow.handled,
-            Done::Given(_) => 0,
+            JobAnswer::Stepped(flow) => flow.handled,
+            JobAnswer::Given(_) => 0,
         }
     }
 
@@ -348,13 +348,13 @@ fn answers_of<C: Crew, G: Gate, L: Ledger, R: Threads + Wait + Sync>(
     match team {
         Some(team) => {
             let work = Arc::new(alloc, work)?;
-            let (team, dones) = team.all(rt, alloc, work, jobs, gate, steps)?;
-            let flows = flows_of(alloc, dones)?;
+            let (team, answers) = team.all(rt, alloc, work, jobs, gate, steps)?;
+            let flows = flows_of(alloc, answers)?;
             Ok((flows, Some(team)))
         }
         None => {
-            let dones = crew.all(rt, alloc, &work, jobs, gate, steps)?;
-            let flows = flows_of(alloc, dones)?;
+            let answers = crew.all(rt, alloc, &work, jobs, gate, steps)?;
+            let flows = flows_of(alloc, answers)?;
             Ok((flows, None))
         }
     }

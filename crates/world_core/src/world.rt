@@ -1,12 +1,11 @@
 //! The world of all clones, its time windows, none longer than the lookahead allows, and the team that steps the larger
 //! ones.
-ghost use Rattle.std.specs.Prelude.{◌≡◌, ◌+◌, ◌<◌, ◌≤◌, ◌∷◌, [], length, IfOk, IfErr};
-ghost use Rattle.sim_base.specs.Clones.{base};
+ghost use Rattle.std.specs.Prelude.{◌≡◌, ◌+◌, ◌<◌, ◌≤◌, length, IfOk, IfErr};
 ghost use Rattle.sim_base.specs.declared.lists.TheConstants.{MOST_CLONES};
 ghost use Rattle.net_model.specs.declared.limits.TheConstants.{MOST_STATIONS};
 ghost use Rattle.net_model.specs.Rules.{IsNet};
 ghost use Rattle.stations.specs.Runs.{next_front};
-ghost use Rattle.world_core.specs.Worlds.{AreInNet, total_handled};
+ghost use Rattle.world_core.specs.Worlds.{AreInNet, opening_world, total_handled};
 ghost use Rattle.world_core.specs.Opening.{AreFirst};
 ghost use Rattle.world_core.specs.Overs.{IsFault, NoneBeyond};
 ghost use Rattle.world_core.specs.declared.world.WorldFault.TheVariants.{EventLimit};
@@ -109,7 +108,7 @@ fn is_small(last: u64, has_team: bool) -> bool {
 impl World {
     /// The base clone alone, before anything is handled.
     pub fn new(alloc: Global, model: Arc<Model>) -> Result<World, NoMemory>
-        ensures begins { IfOk result (λ w. w ≡ record { net = model.value; clones = base ∷ []; front = 0 }) }
+        ensures begins { IfOk result (λ w. w ≡ opening_world model.value) }
     {
         let procs = open_all(alloc, &model)?;
         let lists = SharedLists::new(alloc)?;
@@ -159,6 +158,7 @@ impl World {
     /// The clones with their decisions and ends.
     pub fn lists(&self) -> &Lists
         ensures clones { result.now.clones ≡ self.now.clones }
+        // what holds of the clones of a world
         ensures few { length self.now.clones ≤ MOST_CLONES }
         ensures in_net { AreInNet self.now.net self.now.clones }
         ensures short { NoneBeyond self.now.net self.now.clones self.now.front }
@@ -182,11 +182,14 @@ impl World {
     ) -> Result<World, WorldFault>
         requires above { self.front < bound }
         requires within { bound ≤ next_front self.net self.clones self.front }
+        // what it gives: the same clones at the bound
         ensures net { IfOk result (λ w. w.net ≡ self.net) }
         ensures clones { IfOk result (λ w. w.clones ≡ self.clones) }
         ensures front { IfOk result (λ w. w.front ≡ bound) }
+        // what is counted: the messages that the stations handle, each once for all clones of a copy
         ensures steps { IfOk result (λ w. steps.new + total_handled self.net self.clones self.front
             ≡ steps.old + total_handled self.net self.clones bound) }
+        // no log is beyond the limit, or the fault names the first that is
         ensures short { IfOk result (λ w. NoneBeyond self.net self.clones bound) }
         ensures fault { IfErr result (λ e. IsFault self.net self.clones self.front bound steps.old steps.new e) }
     {

@@ -6,10 +6,15 @@ use sim_base::{Job, Line, Param, Payload};
 /// A message and its answer: the counts, how many messages are sent, and when the last of them arrives.
 #[derive(Clone, Copy)]
 pub struct Row {
+    /// When it is handled.
     pub time: u64,
+    /// What it is.
     pub payload: Payload,
+    /// The counts after it.
     pub line: Line,
+    /// How many messages are sent.
     pub sends: usize,
+    /// When the last of them arrives, if there is one.
     pub arrives: Option<u64>,
 }
 

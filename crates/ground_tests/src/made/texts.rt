@@ -2,8 +2,11 @@
 
 /// A number, and the text of its model.
 pub struct Row {
+    /// What is to be seen in the text.
     pub shows: &'static str,
+    /// The number of the study.
     pub number: u32,
+    /// The text of its model.
     pub model: &'static str,
 }
 

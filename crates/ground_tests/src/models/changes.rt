@@ -2,19 +2,26 @@
 
 use super::texts::{SEVENTEEN, SMALL};
 
-/// A text in which the first `old` becomes `new`, and its refusal: the number, the station or 0 for the top, and the
-/// key, or none where it is empty.
+/// A text in which the first `old` becomes `new`, and its refusal.
 pub struct Refused {
+    /// What is wrong then.
+    pub shows: &'static str,
+    /// What is replaced.
     pub old: &'static str,
+    /// What stands there then.
     pub new: &'static str,
+    /// The number of the refusal.
     pub number: u32,
+    /// The station, or 0 for the top.
     pub place: u32,
+    /// The key, or none where it is empty.
     pub key: &'static str,
 }
 
 /// Changes to the small model.
 pub const SMALL_CHANGES: &[Refused] = &[
     Refused {
+        shows: "no lookahead",
         old: "lookahead = 2\n",
         new: "",
         number: 3,
@@ -22,6 +29,7 @@ pub const SMALL_CHANGES: &[Refused] = &[
         key: "lookahead",
     },
     Refused {
+        shows: "no horizon",
         old: "horizon = 20\n",
         new: "",
         number: 3,
@@ -29,6 +37,7 @@ pub const SMALL_CHANGES: &[Refused] = &[
         key: "horizon",
     },
     Refused {
+        shows: "an unknown key",
         old: "lookahead",
         new: "speed = 3\nlookahead",
         number: 5,
@@ -36,6 +45,7 @@ pub const SMALL_CHANGES: &[Refused] = &[
         key: "speed",
     },
     Refused {
+        shows: "of several unknown keys the least is named",
         old: "lookahead",
         new: "zeal = 1\n\"\" = 2\nSpeed = 3\nlookahead",
         number: 5,
@@ -43,6 +53,7 @@ pub const SMALL_CHANGES: &[Refused] = &[
         key: "",
     },
     Refused {
+        shows: "a key that is cut and masked",
         old: "lookahead",
         new: "\"Zeal time\" = 1\nlookahead",
         number: 5,
@@ -50,6 +61,7 @@ pub const SMALL_CHANGES: &[Refused] = &[
         key: "?eal?time",
     },
     Refused {
+        shows: "a text for a number",
         old: "lookahead = 2",
         new: r#"lookahead = "2""#,
         number: 4,
@@ -57,6 +69,7 @@ pub const SMALL_CHANGES: &[Refused] = &[
         key: "lookahead",
     },
     Refused {
+        shows: "a date for a number",
         old: "lookahead = 2",
         new: "lookahead = 1979-05-27",
         number: 4,
@@ -64,6 +77,7 @@ pub const SMALL_CHANGES: &[Refused] = &[
         key: "lookahead",
     },
     Refused {
+        shows: "a real number",
         old: "lookahead = 2",
         new: "lookahead = 2.0",
         number: 4,
@@ -71,6 +85,7 @@ pub const SMALL_CHANGES: &[Refused] = &[
         key: "lookahead",
     },
     Refused {
+        shows: "a lookahead of 0",
         old: "lookahead = 2",
         new: "lookahead = 0",
         number: 8,
@@ -78,6 +93,7 @@ pub const SMALL_CHANGES: &[Refused] = &[
         key: "lookahead",
     },
     Refused {
+        shows: "a lookahead too great",
         old: "lookahead = 2",
         new: "lookahead = 1000001",
         number: 8,
@@ -85,6 +101,7 @@ pub const SMALL_CHANGES: &[Refused] = &[
         key: "lookahead",
     },
     Refused {
+        shows: "a horizon of 0",
         old: "horizon = 20",
         new: "horizon = 0",
         number: 8,
@@ -92,6 +109,7 @@ pub const SMALL_CHANGES: &[Refused] = &[
         key: "horizon",
     },
     Refused {
+        shows: "a horizon too great",
         old: "horizon = 20",
         new: "horizon = 1000000001",
         number: 8,
@@ -99,6 +117,7 @@ pub const SMALL_CHANGES: &[Refused] = &[
         key: "horizon",
     },
     Refused {
+        shows: "a seed below 0",
         old: "horizon = 20",
         new: "horizon = 20\nseed = -1",
         number: 8,
@@ -106,6 +125,7 @@ pub const SMALL_CHANGES: &[Refused] = &[
         key: "seed",
     },
     Refused {
+        shows: "a limit too great",
         old: "horizon = 20",
         new: "horizon = 20\nlimit = 65537",
         number: 8,
@@ -113,6 +133,7 @@ pub const SMALL_CHANGES: &[Refused] = &[
         key: "limit",
     },
     Refused {
+        shows: "an unknown format",
         old: "horizon = 20",
         new: "horizon = 20\nformat = 3",
         number: 8,
@@ -120,6 +141,7 @@ pub const SMALL_CHANGES: &[Refused] = &[
         key: "format",
     },
     Refused {
+        shows: "a key twice",
         old: "horizon = 20",
         new: "horizon = 20\nhorizon = 20",
         number: 2,
@@ -127,6 +149,7 @@ pub const SMALL_CHANGES: &[Refused] = &[
         key: "",
     },
     Refused {
+        shows: "a seed beyond TOML's numbers",
         old: "horizon = 20",
         new: "horizon = 20\nseed = 9223372036854775808",
         number: 2,
@@ -134,6 +157,7 @@ pub const SMALL_CHANGES: &[Refused] = &[
         key: "",
     },
     Refused {
+        shows: "a table for a number",
         old: "horizon = 20",
         new: "horizon = 20\nlookahead.far = 2",
         number: 2,
@@ -141,6 +165,7 @@ pub const SMALL_CHANGES: &[Refused] = &[
         key: "",
     },
     Refused {
+        shows: "a number for a name",
         old: r#"name = "desk""#,
         new: "name = 3",
         number: 4,
@@ -148,6 +173,7 @@ pub const SMALL_CHANGES: &[Refused] = &[
         key: "name",
     },
     Refused {
+        shows: "no name",
         old: "name = \"desk\"\n",
         new: "",
         number: 3,
@@ -155,6 +181,7 @@ pub const SMALL_CHANGES: &[Refused] = &[
         key: "name",
     },
     Refused {
+        shows: "a capital in a name",
         old: r#"name = "desk""#,
         new: r#"name = "Desk""#,
         number: 6,
@@ -162,6 +189,7 @@ pub const SMALL_CHANGES: &[Refused] = &[
         key: "",
     },
     Refused {
+        shows: "the analyst's name",
         old: r#"name = "desk""#,
         new: r#"name = "analyst""#,
         number: 6,
@@ -169,6 +197,7 @@ pub const SMALL_CHANGES: &[Refused] = &[
         key: "",
     },
     Refused {
+        shows: "a name of 17 bytes",
         old: r#"name = "desk""#,
         new: r#"name = "a_name_of_17_byte""#,
         number: 6,
@@ -176,6 +205,7 @@ pub const SMALL_CHANGES: &[Refused] = &[
         key: "",
     },
     Refused {
+        shows: "a name that is taken",
         old: r#"name = "desk""#,
         new: r#"name = "gate""#,
         number: 7,
@@ -183,6 +213,7 @@ pub const SMALL_CHANGES: &[Refused] = &[
         key: "",
     },
     Refused {
+        shows: "no kind",
         old: "kind = \"server\"\n",
         new: "",
         number: 3,
@@ -190,6 +221,7 @@ pub const SMALL_CHANGES: &[Refused] = &[
         key: "kind",
     },
     Refused {
+        shows: "a list for a kind",
         old: r#"kind = "server""#,
         new: r#"kind = ["server"]"#,
         number: 4,
@@ -197,6 +229,7 @@ pub const SMALL_CHANGES: &[Refused] = &[
         key: "kind",
     },
     Refused {
+        shows: "an unknown kind",
         old: r#"kind = "server""#,
         new: r#"kind = "clerk""#,
         number: 8,
@@ -204,6 +237,7 @@ pub const SMALL_CHANGES: &[Refused] = &[
         key: "kind",
     },
     Refused {
+        shows: "of two keys that a server does not have the lesser is named",
         old: "room = 5",
         new: "room = 5\nzeal = 1\nhold = [1, 2]",
         number: 5,
@@ -211,6 +245,7 @@ pub const SMALL_CHANGES: &[Refused] = &[
         key: "hold",
     },
     Refused {
+        shows: "an order in format 1",
         old: "room = 5",
         new: "room = 5\norder = \"class\"",
         number: 5,
@@ -218,6 +253,7 @@ pub const SMALL_CHANGES: &[Refused] = &[
         key: "order",
     },
     Refused {
+        shows: "a class in format 1",
         old: "jobs = 2",
         new: "jobs = 2\nclass = 2",
         number: 5,
@@ -225,6 +261,7 @@ pub const SMALL_CHANGES: &[Refused] = &[
         key: "class",
     },
     Refused {
+        shows: "a link of a sink",
         old: r#"kind = "sink""#,
         new: "kind = \"sink\"\nlink = [{ to = \"out\", delay = 2 }]",
         number: 5,
@@ -232,6 +269,7 @@ pub const SMALL_CHANGES: &[Refused] = &[
         key: "link",
     },
     Refused {
+        shows: "a stream below 0",
         old: "room = 5",
         new: "room = 5\nstream = -1",
         number: 8,
@@ -239,6 +277,7 @@ pub const SMALL_CHANGES: &[Refused] = &[
         key: "stream",
     },
     Refused {
+        shows: "a text for a stream",
         old: "room = 5",
         new: "room = 5\nstream = \"2\"",
         number: 4,
@@ -246,6 +285,7 @@ pub const SMALL_CHANGES: &[Refused] = &[
         key: "stream",
     },
     Refused {
+        shows: "no interarrival time",
         old: "every = [3, 3]\n",
         new: "",
         number: 3,
@@ -253,6 +293,7 @@ pub const SMALL_CHANGES: &[Refused] = &[
         key: "every",
     },
     Refused {
+        shows: "a number for a range",
         old: "every = [3, 3]",
         new: "every = 3",
         number: 4,
@@ -260,6 +301,7 @@ pub const SMALL_CHANGES: &[Refused] = &[
         key: "every",
     },
     Refused {
+        shows: "a range of one end",
         old: "every = [3, 3]",
         new: "every = [3]",
         number: 4,
@@ -267,6 +309,7 @@ pub const SMALL_CHANGES: &[Refused] = &[
         key: "every",
     },
     Refused {
+        shows: "a real number in a range",
         old: "every = [3, 3]",
         new: "every = [3, 3.5]",
         number: 4,
@@ -274,6 +317,7 @@ pub const SMALL_CHANGES: &[Refused] = &[
         key: "every",
     },
     Refused {
+        shows: "an interarrival time of 0",
         old: "every = [3, 3]",
         new: "every = [0, 3]",
         number: 8,
@@ -281,6 +325,7 @@ pub const SMALL_CHANGES: &[Refused] = &[
         key: "every",
     },
     Refused {
+        shows: "an interarrival time too great",
         old: "every = [3, 3]",
         new: "every = [3, 1000001]",
         number: 8,
@@ -288,6 +333,7 @@ pub const SMALL_CHANGES: &[Refused] = &[
         key: "every",
     },
     Refused {
+        shows: "an interarrival time below 0",
         old: "every = [3, 3]",
         new: "every = [-3, 3]",
         number: 8,
@@ -295,6 +341,7 @@ pub const SMALL_CHANGES: &[Refused] = &[
         key: "every",
     },
     Refused {
+        shows: "no number of jobs",
         old: "jobs = 2\n",
         new: "",
         number: 3,
@@ -302,6 +349,7 @@ pub const SMALL_CHANGES: &[Refused] = &[
         key: "jobs",
     },
     Refused {
+        shows: "too many jobs",
         old: "jobs = 2",
         new: "jobs = 1000001",
         number: 8,
@@ -309,6 +357,7 @@ pub const SMALL_CHANGES: &[Refused] = &[
         key: "jobs",
     },
     Refused {
+        shows: "no number of servers",
         old: "servers = 1\n",
         new: "",
         number: 3,
@@ -316,6 +365,7 @@ pub const SMALL_CHANGES: &[Refused] = &[
         key: "servers",
     },
     Refused {
+        shows: "no server",
         old: "servers = 1",
         new: "servers = 0",
         number: 8,
@@ -323,6 +373,7 @@ pub const SMALL_CHANGES: &[Refused] = &[
         key: "servers",
     },
     Refused {
+        shows: "17 servers",
         old: "servers = 1",
         new: "servers = 17",
         number: 8,
@@ -330,6 +381,7 @@ pub const SMALL_CHANGES: &[Refused] = &[
         key: "servers",
     },
     Refused {
+        shows: "no room",
         old: "room = 5\n",
         new: "",
         number: 3,
@@ -337,6 +389,7 @@ pub const SMALL_CHANGES: &[Refused] = &[
         key: "room",
     },
     Refused {
+        shows: "too much room",
         old: "room = 5",
         new: "room = 4097",
         number: 8,
@@ -344,6 +397,7 @@ pub const SMALL_CHANGES: &[Refused] = &[
         key: "room",
     },
     Refused {
+        shows: "no service time",
         old: "service = [4, 4]\n",
         new: "",
         number: 3,
@@ -351,6 +405,7 @@ pub const SMALL_CHANGES: &[Refused] = &[
         key: "service",
     },
     Refused {
+        shows: "a range of three ends",
         old: "service = [4, 4]",
         new: "service = [4, 4, 4]",
         number: 4,
@@ -358,6 +413,7 @@ pub const SMALL_CHANGES: &[Refused] = &[
         key: "service",
     },
     Refused {
+        shows: "a range that falls",
         old: "service = [4, 4]",
         new: "service = [5, 4]",
         number: 8,
@@ -365,6 +421,7 @@ pub const SMALL_CHANGES: &[Refused] = &[
         key: "service",
     },
     Refused {
+        shows: "a number for links",
         old: r#"link = [{ to = "out", delay = 2 }]"#,
         new: "link = 3",
         number: 4,
@@ -372,6 +429,7 @@ pub const SMALL_CHANGES: &[Refused] = &[
         key: "link",
     },
     Refused {
+        shows: "a number for a link",
         old: r#"link = [{ to = "out", delay = 2 }]"#,
         new: r#"link = [{ to = "out", delay = 2 }, 3]"#,
         number: 4,
@@ -379,6 +437,7 @@ pub const SMALL_CHANGES: &[Refused] = &[
         key: "link",
     },
     Refused {
+        shows: "17 links",
         old: r#"link = [{ to = "out", delay = 2 }]"#,
         new: SEVENTEEN,
         number: 12,
@@ -386,6 +445,7 @@ pub const SMALL_CHANGES: &[Refused] = &[
         key: "",
     },
     Refused {
+        shows: "an unknown key of a link",
         old: r#"link = [{ to = "out", delay = 2 }]"#,
         new: r#"link = [{ to = "out", delay = 2, speed = 1 }]"#,
         number: 5,
@@ -393,6 +453,7 @@ pub const SMALL_CHANGES: &[Refused] = &[
         key: "speed",
     },
     Refused {
+        shows: "a link to nowhere",
         old: r#"link = [{ to = "out", delay = 2 }]"#,
         new: "link = [{ delay = 2 }]",
         number: 3,
@@ -400,6 +461,7 @@ pub const SMALL_CHANGES: &[Refused] = &[
         key: "to",
     },
     Refused {
+        shows: "a number for the name that a link goes to",
         old: r#"link = [{ to = "out", delay = 2 }]"#,
         new: "link = [{ to = 3, delay = 2 }]",
         number: 4,
@@ -407,6 +469,7 @@ pub const SMALL_CHANGES: &[Refused] = &[
         key: "to",
     },
     Refused {
+        shows: "a link to an empty name",
         old: r#"link = [{ to = "out", delay = 2 }]"#,
         new: r#"link = [{ to = "", delay = 2 }]"#,
         number: 6,
@@ -414,6 +477,7 @@ pub const SMALL_CHANGES: &[Refused] = &[
         key: "",
     },
     Refused {
+        shows: "a link without a delay",
         old: r#"link = [{ to = "out", delay = 2 }]"#,
         new: r#"link = [{ to = "out" }]"#,
         number: 3,
@@ -421,6 +485,7 @@ pub const SMALL_CHANGES: &[Refused] = &[
         key: "delay",
     },
     Refused {
+        shows: "a text for a delay",
         old: r#"link = [{ to = "out", delay = 2 }]"#,
         new: r#"link = [{ to = "out", delay = "2" }]"#,
         number: 4,
@@ -428,6 +493,7 @@ pub const SMALL_CHANGES: &[Refused] = &[
         key: "delay",
     },
     Refused {
+        shows: "a delay of 0",
         old: r#"link = [{ to = "out", delay = 2 }]"#,
         new: r#"link = [{ to = "out", delay = 0 }]"#,
         number: 8,
@@ -435,6 +501,7 @@ pub const SMALL_CHANGES: &[Refused] = &[
         key: "delay",
     },
     Refused {
+        shows: "a delay too great",
         old: r#"link = [{ to = "out", delay = 2 }]"#,
         new: r#"link = [{ to = "out", delay = 1000001 }]"#,
         number: 8,
@@ -442,6 +509,7 @@ pub const SMALL_CHANGES: &[Refused] = &[
         key: "delay",
     },
     Refused {
+        shows: "a truth value for a weight",
         old: r#"link = [{ to = "out", delay = 2 }]"#,
         new: r#"link = [{ to = "out", delay = 2, weight = true }]"#,
         number: 4,
@@ -449,6 +517,7 @@ pub const SMALL_CHANGES: &[Refused] = &[
         key: "weight",
     },
     Refused {
+        shows: "a weight of 0",
         old: r#"link = [{ to = "out", delay = 2 }]"#,
         new: r#"link = [{ to = "out", delay = 2, weight = 0 }]"#,
         number: 8,
@@ -456,6 +525,7 @@ pub const SMALL_CHANGES: &[Refused] = &[
         key: "weight",
     },
     Refused {
+        shows: "a weight too great",
         old: r#"link = [{ to = "out", delay = 2 }]"#,
         new: r#"link = [{ to = "out", delay = 2, weight = 1001 }]"#,
         number: 8,
@@ -463,6 +533,7 @@ pub const SMALL_CHANGES: &[Refused] = &[
         key: "weight",
     },
     Refused {
+        shows: "a link to an unknown station",
         old: r#"link = [{ to = "out", delay = 2 }]"#,
         new: r#"link = [{ to = "exit", delay = 2 }]"#,
         number: 9,
@@ -470,6 +541,7 @@ pub const SMALL_CHANGES: &[Refused] = &[
         key: "",
     },
     Refused {
+        shows: "a link to the analyst",
         old: r#"link = [{ to = "out", delay = 2 }]"#,
         new: r#"link = [{ to = "analyst", delay = 2 }]"#,
         number: 9,
@@ -477,6 +549,7 @@ pub const SMALL_CHANGES: &[Refused] = &[
         key: "",
     },
     Refused {
+        shows: "a link into a source",
         old: r#"link = [{ to = "out", delay = 2 }]"#,
         new: r#"link = [{ to = "gate", delay = 2 }]"#,
         number: 14,
@@ -484,6 +557,7 @@ pub const SMALL_CHANGES: &[Refused] = &[
         key: "",
     },
     Refused {
+        shows: "a delay below the lookahead",
         old: r#"link = [{ to = "out", delay = 2 }]"#,
         new: r#"link = [{ to = "out", delay = 1 }]"#,
         number: 10,
@@ -491,6 +565,7 @@ pub const SMALL_CHANGES: &[Refused] = &[
         key: "",
     },
     Refused {
+        shows: "an empty list of links",
         old: r#"link = [{ to = "out", delay = 2 }]"#,
         new: "link = []",
         number: 11,
@@ -498,6 +573,7 @@ pub const SMALL_CHANGES: &[Refused] = &[
         key: "",
     },
     Refused {
+        shows: "no links",
         old: "link = [{ to = \"desk\", delay = 2 }]\n",
         new: "",
         number: 11,
@@ -509,6 +585,7 @@ pub const SMALL_CHANGES: &[Refused] = &[
 /// Texts in the place of the small model.
 pub const OTHER_TEXTS: &[Refused] = &[
     Refused {
+        shows: "no text",
         old: SMALL,
         new: "",
         number: 3,
@@ -516,6 +593,7 @@ pub const OTHER_TEXTS: &[Refused] = &[
         key: "lookahead",
     },
     Refused {
+        shows: "no station",
         old: SMALL,
         new: "lookahead = 2\nhorizon = 20\n",
         number: 3,
@@ -523,6 +601,7 @@ pub const OTHER_TEXTS: &[Refused] = &[
         key: "station",
     },
     Refused {
+        shows: "an empty list of stations",
         old: SMALL,
         new: "lookahead = 2\nhorizon = 20\nstation = []\n",
         number: 8,
@@ -530,6 +609,7 @@ pub const OTHER_TEXTS: &[Refused] = &[
         key: "station",
     },
     Refused {
+        shows: "a number for the stations",
         old: SMALL,
         new: "lookahead = 2\nhorizon = 20\nstation = 3\n",
         number: 4,
@@ -537,6 +617,7 @@ pub const OTHER_TEXTS: &[Refused] = &[
         key: "station",
     },
     Refused {
+        shows: "a number for a station",
         old: SMALL,
         new: "lookahead = 2\nhorizon = 20\nstation = [3]\n",
         number: 4,
@@ -544,6 +625,7 @@ pub const OTHER_TEXTS: &[Refused] = &[
         key: "station",
     },
     Refused {
+        shows: "a table for the stations",
         old: SMALL,
         new: "lookahead = 2\nhorizon = 20\n[station]\nname = \"gate\"\n",
         number: 4,
@@ -551,6 +633,7 @@ pub const OTHER_TEXTS: &[Refused] = &[
         key: "station",
     },
     Refused {
+        shows: "a station without any key",
         old: SMALL,
         new: "lookahead = 2\nhorizon = 20\n[[station]]\n",
         number: 3,
@@ -558,6 +641,7 @@ pub const OTHER_TEXTS: &[Refused] = &[
         key: "name",
     },
     Refused {
+        shows: "a text that breaks off",
         old: SMALL,
         new: "lookahead = 2\nhorizon = 20\n[[station]]\nevery = [3",
         number: 2,
@@ -569,6 +653,7 @@ pub const OTHER_TEXTS: &[Refused] = &[
 /// Changes to the model of the road, which is of format 2.
 pub const ROAD_CHANGES: &[Refused] = &[
     Refused {
+        shows: "a class where the format is left out",
         old: "format = 2\n",
         new: "",
         number: 5,
@@ -576,6 +661,7 @@ pub const ROAD_CHANGES: &[Refused] = &[
         key: "class",
     },
     Refused {
+        shows: "a class too great",
         old: "class = 2",
         new: "class = 5",
         number: 8,
@@ -583,6 +669,7 @@ pub const ROAD_CHANGES: &[Refused] = &[
         key: "class",
     },
     Refused {
+        shows: "a class of 0",
         old: "class = 2",
         new: "class = 0",
         number: 8,
@@ -590,6 +677,7 @@ pub const ROAD_CHANGES: &[Refused] = &[
         key: "class",
     },
     Refused {
+        shows: "an unknown order",
         old: r#"order = "class""#,
         new: r#"order = "best""#,
         number: 8,
@@ -597,6 +685,7 @@ pub const ROAD_CHANGES: &[Refused] = &[
         key: "order",
     },
     Refused {
+        shows: "a number for an order",
         old: r#"order = "class""#,
         new: "order = 1",
         number: 4,
@@ -604,6 +693,7 @@ pub const ROAD_CHANGES: &[Refused] = &[
         key: "order",
     },
     Refused {
+        shows: "no holding time",
         old: "hold = [150, 220]\n",
         new: "",
         number: 3,
@@ -611,6 +701,7 @@ pub const ROAD_CHANGES: &[Refused] = &[
         key: "hold",
     },
     Refused {
+        shows: "a holding time that falls",
         old: "hold = [150, 220]",
         new: "hold = [150, 149]",
         number: 8,
@@ -618,6 +709,7 @@ pub const ROAD_CHANGES: &[Refused] = &[
         key: "hold",
     },
     Refused {
+        shows: "a router without a way to choose",
         old: "by = \"turn\"\n",
         new: "",
         number: 3,
@@ -625,6 +717,7 @@ pub const ROAD_CHANGES: &[Refused] = &[
         key: "by",
     },
     Refused {
+        shows: "a number for a way to choose",
         old: r#"by = "turn""#,
         new: "by = 3",
         number: 4,
@@ -632,6 +725,7 @@ pub const ROAD_CHANGES: &[Refused] = &[
         key: "by",
     },
     Refused {
+        shows: "an unknown way to choose",
         old: r#"by = "turn""#,
         new: r#"by = "chance""#,
         number: 8,
@@ -639,6 +733,7 @@ pub const ROAD_CHANGES: &[Refused] = &[
         key: "by",
     },
     Refused {
+        shows: "an order of a router",
         old: r#"by = "turn""#,
         new: "by = \"turn\"\norder = \"class\"",
         number: 5,

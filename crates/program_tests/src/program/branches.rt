@@ -1,25 +1,16 @@
 //! Branches, and what they share.
 use super::{FAST, PLAIN, Row, texts};
+use sample_models::{EQUAL_SCRIPT, OWN_SCRIPT_OF_B};
 use std::test::Fail;
 
 const TWINS: &str = "set base at 8 desk service 2 2
 fork twin from base
 ";
 
-const EQUAL: &str = "fork a from base
-fork b from base
-set a at 8 desk service 2 2
-set b at 8 desk service 2 2
-";
-
 const APART: &str = "fork a from base
 fork b from base
 set a at 15 desk room 9
 set a at 8 desk service 2 2
-set b at 8 desk service 2 2
-";
-
-const ALONE: &str = "fork b from base
 set b at 8 desk service 2 2
 ";
 
@@ -48,7 +39,7 @@ const ROWS: &[Row] = &[
     },
     Row {
         shows: "branches of equal decisions never split",
-        script: EQUAL,
+        script: EQUAL_SCRIPT,
         traces: texts::EQUAL_BRANCHES,
         report: texts::EQUAL_BRANCHES_REPORT,
         ..PLAIN
@@ -63,7 +54,7 @@ const ROWS: &[Row] = &[
     Row {
         shows: "one of the equal branches alone",
         words: SOLO_B,
-        script: EQUAL,
+        script: EQUAL_SCRIPT,
         traces: texts::ONE_BRANCH,
         report: "",
         ..PLAIN
@@ -71,7 +62,7 @@ const ROWS: &[Row] = &[
     Row {
         shows: "the same by its own script",
         words: SOLO_B,
-        script: ALONE,
+        script: OWN_SCRIPT_OF_B,
         traces: texts::ONE_BRANCH,
         report: "",
         ..PLAIN

@@ -1,6 +1,7 @@
 //! Inputs and sinks that fail.
 use super::{
-    CUT, FAST, GOOD, LIVE, NO_MODEL, NO_SCRIPT, Outside, RUN, SOLO_BASE, begins_both, ended, texts,
+    CUT, FAST, GOOD, LIVE, NO_MODEL, NO_SCRIPT, Outside, RUN, SOLO_BASE, begins_both, run_program,
+    texts,
 };
 use crew_pool::NoGate;
 use sample_models::ONE_DESK;
@@ -21,7 +22,7 @@ struct Fault<'a> {
 
 impl<'a> Fault<'a> {
     fn holds<R: Threads + Wait + Sync>(&self, rt: &R, alloc: Global) -> bool {
-        match ended(rt, alloc, &NoGate, RUN, ONE_DESK, FAST, &self.outside) {
+        match run_program(rt, alloc, &NoGate, RUN, ONE_DESK, FAST, &self.outside) {
             Ok(ended) => {
                 ended.status == self.status
                     && ended.output().len() == self.size
@@ -49,7 +50,7 @@ fn is_unread<R: Threads + Wait + Sync>(
         fetch: &[fetch],
         ..GOOD
     };
-    match ended(rt, alloc, &NoGate, words, ONE_DESK, FAST, &outside) {
+    match run_program(rt, alloc, &NoGate, words, ONE_DESK, FAST, &outside) {
         Ok(ended) => ended.is(3, &[], line),
         Err(_) => false,
     }
@@ -201,7 +202,7 @@ fn solo_is_cut_off(rt: HostRuntime) -> Result<(), Fail> {
         put: &[(1, 7)],
         ..GOOD
     };
-    let ended = ended(&rt, rt.alloc(), &NoGate, SOLO_BASE, ONE_DESK, "", &outside)?;
+    let ended = run_program(&rt, rt.alloc(), &NoGate, SOLO_BASE, ONE_DESK, "", &outside)?;
     assert!(rt; ended.is(8, b"clone b", CUT));
     Ok(())
 }

@@ -1,7 +1,7 @@
 //! Live studies: analysts who decide and look while the engine runs.
-use super::{CUT, GOOD, LIMIT_3, LIVE, Outcome, Outside, RUN, ended, is_both, models, texts};
+use super::{CUT, GOOD, LIMIT_3, LIVE, Outcome, Outside, RUN, is_both, run_program, texts};
 use crew_pool::{Gate, NoGate};
-use sample_models::{CLINIC, ONE_DESK, QUIET_JOURNAL};
+use sample_models::{BUSY, CLINIC, ONE_DESK, QUIET_JOURNAL};
 use sim_base::NoMemory;
 use std::alloc::Global;
 use std::sync::Wait;
@@ -48,7 +48,7 @@ fn live<G: Gate, R: Threads + Wait + Sync>(
     script: &str,
 ) -> Result<Outcome, NoMemory> {
     let words = ["live", "m", "s", "--workers", workers];
-    ended(rt, alloc, gate, &words, ONE_DESK, script, &GOOD)
+    run_program(rt, alloc, gate, &words, ONE_DESK, script, &GOOD)
 }
 
 /// Whether a live study writes these three texts and nothing else.
@@ -106,7 +106,7 @@ fn live_to_limit<R: Threads + Wait + Sync>(
     outside: &Outside<'_>,
 ) -> Result<Outcome, NoMemory> {
     let model = LIMIT_3.changed_model(alloc)?;
-    ended(rt, alloc, &NoGate, LIVE, model.as_str(), script, outside)
+    run_program(rt, alloc, &NoGate, LIVE, model.as_str(), script, outside)
 }
 
 /// Fronts up to the one at which the limit is met, six looks, and then the line.
@@ -140,7 +140,7 @@ fn is_cut<R: Threads + Wait + Sync>(
     output: &[u8],
     errors: &str,
 ) -> bool {
-    match ended(rt, alloc, &NoGate, LIVE, ONE_DESK, "", outside) {
+    match run_program(rt, alloc, &NoGate, LIVE, ONE_DESK, "", outside) {
         Ok(ended) => ended.is(8, output, errors),
         Err(_) => false,
     }
@@ -327,7 +327,7 @@ fn meet<R: Threads + Wait + Sync>(rt: &R, alloc: Global, mode: &str) -> bool {
         missed: AtomicU64::new(0),
     };
     let words = [mode, "m", "s", "--workers", "2"];
-    match ended(rt, alloc, &gate, &words, models::BUSY, "", &GOOD) {
+    match run_program(rt, alloc, &gate, &words, BUSY, "", &GOOD) {
         Ok(ended) => {
             ended.status == 0
                 && gate.workers.load(Ordering::SeqCst) == 0b11
@@ -361,7 +361,7 @@ end d at 18
 ";
 
 /// The calls and fronts of a journal without looks, and what is written behind it.
-fn parted(output: &[u8]) -> Option<(&[u8], &[u8])> {
+fn split_journal(output: &[u8]) -> Option<(&[u8], &[u8])> {
     let head = place_of(output, b"\n")?;
     let looks = place_of(output, b"\nlooks 0\n")?;
     let events = output.get(head.saturating_add(1)..looks.saturating_add(1))?;
@@ -374,7 +374,7 @@ fn repeats<R: Threads + Wait + Sync>(rt: &R, alloc: Global, events: &[u8], behin
     let Ok(script) = std::str::from_utf8(events) else {
         return false;
     };
-    match ended(rt, alloc, &NoGate, RUN, ONE_DESK, script, &GOOD) {
+    match run_program(rt, alloc, &NoGate, RUN, ONE_DESK, script, &GOOD) {
         Ok(again) => again.is(0, behind, ""),
         Err(_) => false,
     }
@@ -385,18 +385,26 @@ fn is_repeated<R: Threads + Wait + Sync>(rt: &R, alloc: Global, workers: &str) -
     let Ok(live) = live(rt, alloc, &NoGate, workers, FOUR) else {
         return false;
     };
-    match parted(live.output()) {
+    match split_journal(live.output()) {
         Some((events, behind)) => live.status == 0 && repeats(rt, alloc, events, behind),
         None => false,
     }
 }
 
+/// Whether that is so of 25 studies, one after the other.
+fn are_repeated<R: Threads + Wait + Sync>(rt: &R, alloc: Global, workers: &str) -> bool {
+    for _time in 0..25u32 {
+        if !is_repeated(rt, alloc, workers) {
+            return false;
+        }
+    }
+    true
+}
+
 #[test]
 fn journals_are_repeated(rt: HostRuntime) -> Result<(), Fail> {
-    for _time in 0..25u32 {
-        for workers in ["1", "4"] {
-            assert!(rt; is_repeated(&rt, rt.alloc(), workers), "{}", workers);
-        }
+    for workers in ["1", "4"] {
+        assert!(rt; are_repeated(&rt, rt.alloc(), workers), "{}", workers);
     }
     Ok(())
 }
@@ -458,7 +466,7 @@ fn full_journal(rt: HostRuntime) -> Result<(), Fail> {
 fn clinic_live(rt: HostRuntime) -> Result<(), Fail> {
     let words = ["live", "m", "s", "--workers", "2"];
     let script = texts::CLINIC_SCRIPT;
-    let ended = ended(&rt, rt.alloc(), &NoGate, &words, CLINIC, script, &GOOD)?;
+    let ended = run_program(&rt, rt.alloc(), &NoGate, &words, CLINIC, script, &GOOD)?;
     assert!(rt; ended.status == 0 && ended.errors().is_empty());
     assert!(rt; ended.output().starts_with(b"journal 14 "));
     assert!(rt; has(ended.output(), "\nlooks 1\nlook ada night doctor front="));

@@ -1,7 +1,7 @@
 //! Many branches and many lines, and many workers.
-use super::{FAST, GOOD, PLAIN, REFUSED, RUN, Row, ended, models, texts};
+use super::{FAST, GOOD, PLAIN, REFUSED, RUN, Row, run_program, texts};
 use crew_pool::{Gate, NoGate};
-use sample_models::{CLINIC, ONE_DESK};
+use sample_models::{BUSY, CLINIC, ONE_DESK};
 use sim_base::NoMemory;
 use std::alloc::Global;
 use std::sync::Wait;
@@ -47,7 +47,7 @@ fn reports<R: Threads + Wait + Sync>(
     report: &str,
 ) -> bool {
     let words = ["run", "m", "s", "--workers", workers];
-    match ended(rt, alloc, &NoGate, &words, ONE_DESK, script, &GOOD) {
+    match run_program(rt, alloc, &NoGate, &words, ONE_DESK, script, &GOOD) {
         Ok(ended) => {
             ended.status == 0
                 && ended.errors().is_empty()
@@ -139,11 +139,11 @@ fn same_for_all<R: Threads + Wait + Sync>(
     model: &str,
     script: &str,
 ) -> bool {
-    let Ok(one) = ended(rt, alloc, &NoGate, RUN, model, script, &GOOD) else {
+    let Ok(one) = run_program(rt, alloc, &NoGate, RUN, model, script, &GOOD) else {
         return false;
     };
     let words = ["run", "m", "s", "--workers", more];
-    match ended(rt, alloc, &NoGate, &words, model, script, &GOOD) {
+    match run_program(rt, alloc, &NoGate, &words, model, script, &GOOD) {
         Ok(many) => one.status == 0 && many.is(0, one.output(), ""),
         Err(_) => false,
     }
@@ -164,7 +164,7 @@ fn any_number_of_workers(rt: HostRuntime) -> Result<(), Fail> {
 /// Windows that a team steps, and a text that several workers write.
 #[test]
 fn busy_by_four_workers(rt: HostRuntime) -> Result<(), Fail> {
-    assert!(rt; same_for_all(&rt, rt.alloc(), "4", models::BUSY, ""));
+    assert!(rt; same_for_all(&rt, rt.alloc(), "4", BUSY, ""));
     Ok(())
 }
 
@@ -194,7 +194,7 @@ fn has_tasks<R: Threads + Wait + Sync>(rt: &R, alloc: Global, workers: &str, tas
         calls: AtomicU64::new(0),
     };
     let words = ["run", "m", "s", "--workers", workers];
-    match ended(rt, alloc, &gate, &words, ONE_DESK, "", &GOOD) {
+    match run_program(rt, alloc, &gate, &words, ONE_DESK, "", &GOOD) {
         Ok(ended) => ended.status == 0 && gate.calls.load(Ordering::SeqCst) == tasks,
         Err(_) => false,
     }

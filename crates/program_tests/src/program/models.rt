@@ -37,21 +37,6 @@ by = "turn"
 link = [{ to = "spin", delay = 1 }]
 "#;
 
-/// Two stations and windows of more than 8,000 messages: more than one thread steps them.
-pub const BUSY: &str = r#"lookahead = 9000
-horizon = 27000
-limit = 65536
-[[station]]
-name = "gate"
-kind = "source"
-every = [1, 1]
-jobs = 27000
-link = [{ to = "out", delay = 9000 }]
-[[station]]
-name = "out"
-kind = "sink"
-"#;
-
 /// A sink that nothing reaches.
 pub const ONLY_OUT: &str = r#"lookahead = 1
 horizon = 1

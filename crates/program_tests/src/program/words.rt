@@ -1,5 +1,5 @@
 //! The words of the command line, files that are not there, and made studies.
-use super::{GOOD, NO_MODEL, NO_SCRIPT, PLAIN, REFUSED, Row, ended};
+use super::{GOOD, NO_MODEL, NO_SCRIPT, PLAIN, REFUSED, Row, run_program};
 use command_words::usage_line;
 use crew_pool::NoGate;
 use std::alloc::Global;
@@ -111,7 +111,7 @@ fn gives<R: Threads + Wait + Sync>(
     output: &[u8],
 ) -> bool {
     let words = ["gen", number, "--workers", workers];
-    match ended(rt, alloc, &NoGate, &words, "", "", &GOOD) {
+    match run_program(rt, alloc, &NoGate, &words, "", "", &GOOD) {
         Ok(ended) => ended.is(0, output, ""),
         Err(_) => false,
     }
@@ -119,7 +119,7 @@ fn gives<R: Threads + Wait + Sync>(
 
 /// Whether of a made study the report alone is written, the same by any number of workers.
 fn is_made<R: Threads + Wait + Sync>(rt: &R, alloc: Global, number: &str) -> bool {
-    let Ok(one) = ended(rt, alloc, &NoGate, &["gen", number], "", "", &GOOD) else {
+    let Ok(one) = run_program(rt, alloc, &NoGate, &["gen", number], "", "", &GOOD) else {
         return false;
     };
     one.status == 0

@@ -162,7 +162,7 @@ impl<S: Marks> Block<S> {
     /// Adds a message, or joins the marks to those that it has where it is there already.
     pub(crate) fn insert(&mut self, msg: Msg, marks: S) -> Result<(), NoMemory>
         requires sorted { SortedMarked msg_cmp self.old }
-        ensures ok { OnOk result (self.new ≡ insert_marked S.joined msg_cmp msg marks self.old) }
+        ensures ok { OnOk result (self.new ≡ insert_marked S.union msg_cmp msg marks self.old) }
         ensures err { OnErr result (self.new ≡ self.old) }
     {
         let place = self.place(&msg);
@@ -193,7 +193,7 @@ impl<S: Marks> Block<S> {
 
     /// The first message whose marks meet `by`, with what they share.
     pub(crate) fn first_with(&self, by: S) -> Option<(Msg, S)>
-        ensures value { result ≡ slice_get (cut_by S.met by self.now) 0 }
+        ensures value { result ≡ slice_get (cut_by S.common by self.now) 0 }
     {
         for item in self.items.iter() {
             if let Some(shared) = item.1.meet(by) {
@@ -205,7 +205,7 @@ impl<S: Marks> Block<S> {
 
     /// A block of the messages whose marks meet `by`, each with what they share.
     pub(crate) fn cut(&self, alloc: Global, by: S) -> Result<Block<S>, NoMemory>
-        ensures value { IfOk result (λ b. b ≡ cut_by S.met by self.now) }
+        ensures value { IfOk result (λ b. b ≡ cut_by S.common by self.now) }
     {
         let mut items = VecDeque::with_capacity(alloc, self.items.len())?;
         for item in self.items.iter() {
@@ -229,7 +229,7 @@ impl<S: Marks> Block<S> {
 
     /// Keeps the messages whose marks meet `by`, each with what they share. It takes no memory.
     pub(crate) fn keep(&mut self, by: S)
-        ensures value { self.new ≡ cut_by S.met by self.old }
+        ensures value { self.new ≡ cut_by S.common by self.old }
     {
         // each message is taken out first, and put in again as the last if it stays
         for _ in 0..self.items.len() {
@@ -247,7 +247,7 @@ impl<S: Marks> Block<S> {
 
     /// Joins `more` to the marks of each message whose marks meet `by`.
     pub(crate) fn spread(&mut self, by: S, more: S)
-        ensures value { self.new ≡ spread_marks S.joined S.met by more self.old }
+        ensures value { self.new ≡ spread_marks S.union S.common by more self.old }
     {
         for i in 0..self.items.len() {
             let item = &mut self.items[i];

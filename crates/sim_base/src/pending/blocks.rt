@@ -14,6 +14,9 @@ use std::collections::VecDeque;
 /// The most messages of a block.
 pub const MOST_MESSAGES: usize = 64;
 
+/// How many messages of a full block its first half has.
+pub const HALF: usize = MOST_MESSAGES / 2;
+
 /// To which block a message goes: 0 for the first, and 1 more than the place of a later one.
 pub(crate) fn block_of<S: Marks>(later: &VecDeque<Block<S>>, msg: &Msg) -> usize
     ensures value { IsBlockOf msg_cmp msg.now later.now.items result }
@@ -56,9 +59,9 @@ fn halve<S: Marks>(
 {
     later.reserve(1)?;
     let half = if at == 0 {
-        first.split_off(MOST_MESSAGES / 2)?
+        first.split_off(HALF)?
     } else {
-        later[at - 1].split_off(MOST_MESSAGES / 2)?
+        later[at - 1].split_off(HALF)?
     };
     let Ok(_) = later.insert(at, half) else {
         unreachable!()
@@ -66,8 +69,10 @@ fn halve<S: Marks>(
     Ok(())
 }
 
-/// Sees to a free place in the block to which a message goes, and says which block that is then.
-pub(crate) fn find_place<S: Marks>(
+/// Halves the block to which a message goes if it is full, and answers to which block the message goes then.
+///
+/// Out of memory leaves all messages where they are.
+pub(crate) fn halve_if_full<S: Marks>(
     first: &mut Block<S>,
     later: &mut VecDeque<Block<S>>,
     at: usize,
@@ -103,7 +108,7 @@ pub(crate) fn put<S: Marks>(
     requires place { IsBlockOf msg_cmp msg later.old.items at }
     requires free { length (block_at first.old later.old.items at) < MOST_MESSAGES }
     ensures blocks { AreBlocks msg_cmp first.new later.new.items }
-    ensures ok { OnOk result (of_blocks (first.new ∷ later.new.items) ≡ insert_marked S.joined msg_cmp msg marks
+    ensures ok { OnOk result (of_blocks (first.new ∷ later.new.items) ≡ insert_marked S.union msg_cmp msg marks
         (of_blocks (first.old ∷ later.old.items))) }
     ensures err { OnErr result (of_blocks (first.new ∷ later.new.items) ≡ of_blocks (first.old ∷ later.old.items)) }
 {
@@ -152,7 +157,7 @@ pub(crate) fn add_block<S: Marks>(
 /// Keeps of each later block what meets `by`, and no block without a message.
 pub(crate) fn keep_later<S: Marks>(later: &mut VecDeque<Block<S>>, by: S)
     requires filled { AreFilled later.old.items }
-    ensures value { of_blocks later.new.items ≡ cut_by S.met by (of_blocks later.old.items) }
+    ensures value { of_blocks later.new.items ≡ cut_by S.common by (of_blocks later.old.items) }
     ensures filled { AreFilled later.new.items }
 {
     // each block is taken out first, and put in again as the last if a message stays
@@ -173,7 +178,7 @@ pub(crate) fn keep_later<S: Marks>(later: &mut VecDeque<Block<S>>, by: S)
 /// Joins `more` to the marks of each message of later blocks whose marks meet `by`.
 pub(crate) fn spread_later<S: Marks>(later: &mut VecDeque<Block<S>>, by: S, more: S)
     requires filled { AreFilled later.old.items }
-    ensures value { of_blocks later.new.items ≡ spread_marks S.joined S.met by more (of_blocks later.old.items) }
+    ensures value { of_blocks later.new.items ≡ spread_marks S.union S.common by more (of_blocks later.old.items) }
     ensures filled { AreFilled later.new.items }
     ensures count { length later.new.items ≡ length later.old.items }
 {

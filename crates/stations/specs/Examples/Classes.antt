@@ -4,6 +4,7 @@ use Rattle.sim_base.specs.declared.message.Msg.{Msg}
 use Rattle.sim_base.specs.declared.entry.Entry.{Entry}
 use Rattle.sim_base.specs.declared.entry.Line.{Line}
 use Rattle.net_model.specs.declared.station.Kind.TheVariants.{Source, Server, Sink}
+use Rattle.net_model.specs.declared.limits.TheConstants.{USUAL_LIMIT}
 use Rattle.net_model.specs.Net.{Net}
 use Rattle.stations.specs.Examples.{at, tick, job, done, source, server, sink, link}
 
@@ -30,7 +31,7 @@ two_classes by_class = record {
   lookahead = 2;
   horizon = 20;
   seed = 0;
-  limit = 16384;
+  limit = USUAL_LIMIT;
   sites =
       record { name = codes "low"; kind = Source 3 3 2 2; stream = 1; links = link desk 2 ∷ [] }
       ∷ record { name = codes "high"; kind = Source 7 7 1 1; stream = 2; links = link desk 2 ∷ [] }

@@ -4,6 +4,7 @@ use Rattle.sim_base.specs.declared.message.Msg.{Msg}
 use Rattle.sim_base.specs.declared.entry.Entry.{Entry}
 use Rattle.sim_base.specs.declared.entry.Line.{Line}
 use Rattle.net_model.specs.declared.station.Kind.TheVariants.{Source, Sink}
+use Rattle.net_model.specs.declared.limits.TheConstants.{USUAL_LIMIT}
 use Rattle.net_model.specs.Net.{Net}
 use Rattle.stations.specs.Examples.{at, tick, job, source, sink, link}
 
@@ -22,7 +23,7 @@ drawn_gate = record {
   lookahead = 2;
   horizon = 20;
   seed = 42;
-  limit = 16384;
+  limit = USUAL_LIMIT;
   sites =
       record { name = codes "gate"; kind = Source 1 10 3 1; stream = 54; links = link out 2 ∷ [] }
       ∷ record { name = codes "out"; kind = Sink; stream = 2; links = [] } ∷ [];

@@ -6,6 +6,7 @@ use Rattle.sim_base.specs.declared.message.Param.TheVariants.{Servers}
 use Rattle.sim_base.specs.declared.entry.Entry.{Entry}
 use Rattle.sim_base.specs.declared.entry.Line.{Line}
 use Rattle.net_model.specs.declared.station.Kind.TheVariants.{Source, Server, Sink}
+use Rattle.net_model.specs.declared.limits.TheConstants.{USUAL_LIMIT}
 use Rattle.net_model.specs.Net.{Net}
 use Rattle.stations.specs.Examples.{at, analyst, tick, job, done, set, source, server, sink, link, set_at, clone}
 
@@ -36,7 +37,7 @@ three_sources room = record {
   lookahead = 2;
   horizon = 20;
   seed = 0;
-  limit = 16384;
+  limit = USUAL_LIMIT;
   sites =
       record { name = codes "s1"; kind = Source 3 3 1 1; stream = 1; links = link desk 2 ∷ [] }
       ∷ record { name = codes "s2"; kind = Source 3 3 1 1; stream = 2; links = link desk 2 ∷ [] }

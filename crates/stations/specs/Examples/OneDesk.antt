@@ -6,6 +6,7 @@ use Rattle.sim_base.specs.declared.message.Param.TheVariants.{Service}
 use Rattle.sim_base.specs.declared.entry.Entry.{Entry}
 use Rattle.sim_base.specs.declared.entry.Line.{Line}
 use Rattle.net_model.specs.declared.station.Kind.TheVariants.{Source, Server, Sink}
+use Rattle.net_model.specs.declared.limits.TheConstants.{USUAL_LIMIT}
 use Rattle.net_model.specs.Net.{Net}
 use Rattle.stations.specs.declared.kind_state.KindState.TheVariants.{Server as KindServer}
 use Rattle.stations.specs.Handling.{StateView}
@@ -30,7 +31,7 @@ one_desk = record {
   lookahead = 2;
   horizon = 20;
   seed = 0;
-  limit = 16384;
+  limit = USUAL_LIMIT;
   sites =
       record { name = codes "gate"; kind = Source 3 3 2 1; stream = 1; links = link desk 2 ∷ [] }
       ∷ record { name = codes "desk"; kind = Server 1 5 4 4 false; stream = 2; links = link out 2 ∷ [] }
@@ -97,7 +98,7 @@ quick_desk = record {
   lookahead = 5;
   horizon = 30;
   seed = 0;
-  limit = 16384;
+  limit = USUAL_LIMIT;
   sites =
       record { name = codes "gate"; kind = Source 1 1 3 1; stream = 1; links = link desk 5 ∷ [] }
       ∷ record { name = codes "desk"; kind = Server 1 5 1 1 false; stream = 2; links = link out 5 ∷ [] }

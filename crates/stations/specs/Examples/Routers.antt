@@ -4,6 +4,7 @@ use Rattle.sim_base.specs.declared.message.Msg.{Msg}
 use Rattle.sim_base.specs.declared.entry.Entry.{Entry}
 use Rattle.sim_base.specs.declared.entry.Line.{Line}
 use Rattle.net_model.specs.declared.station.Kind.TheVariants.{Source, Delay, Router, Sink}
+use Rattle.net_model.specs.declared.limits.TheConstants.{USUAL_LIMIT}
 use Rattle.net_model.specs.Net.{Net}
 use Rattle.stations.specs.Examples.{at, tick, job, source, passed, sink, link}
 
@@ -30,7 +31,7 @@ fan_network turn = record {
   lookahead = 2;
   horizon = 20;
   seed = 42;
-  limit = 16384;
+  limit = USUAL_LIMIT;
   sites =
       record { name = codes "gate"; kind = Source 3 3 2 1; stream = 1; links = link fan 2 ∷ [] }
       ∷ record {

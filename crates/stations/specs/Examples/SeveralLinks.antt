@@ -6,6 +6,7 @@ use Rattle.sim_base.specs.declared.entry.Entry.{Entry}
 use Rattle.sim_base.specs.declared.entry.Line.{Line}
 use Rattle.net_model.specs.declared.station.Kind.TheVariants.{Source, Server, Delay, Sink}
 use Rattle.net_model.specs.declared.station.Link.{Link}
+use Rattle.net_model.specs.declared.limits.TheConstants.{USUAL_LIMIT}
 use Rattle.net_model.specs.Net.{Net}
 use Rattle.stations.specs.Examples.{at, tick, job, done, source, server, passed, sink}
 
@@ -36,7 +37,7 @@ several_links = record {
   lookahead = 2;
   horizon = 25;
   seed = 42;
-  limit = 16384;
+  limit = USUAL_LIMIT;
   sites =
       record {
         name = codes "gate";

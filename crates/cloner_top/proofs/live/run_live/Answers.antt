@@ -1,5 +1,5 @@
+use Rattle.std.proofs.lemmas.Result.{IfErr-weaker}
 use Rattle.cloner_top.proofs.LiveRuns.{live_ok, live_stops}
-use Rattle.cloner_top.proofs.Runs.{on_err}
 use Rattle.cloner_top.proofs.live.run_live.Goals as goal
 
 pub returns-in-Ok-clause-ok : goal.returns-in-Ok-clause-ok
@@ -9,4 +9,4 @@ returns-in-Ok-clause-ok g c =
 
 pub returns-in-Ok-clause-err : goal.returns-in-Ok-clause-err
 returns-in-Ok-clause-err g c =
-    on_err _ (live_stops _ _ _ _ _ _ c.in-Ok.ensures.ran _ c.deref.ensures) c.world_or_halt.ensures.err
+    IfErr-weaker _ _ _ (live_stops _ _ _ _ _ _ c.in-Ok.ensures.ran _ c.deref.ensures) c.world_or_halt.ensures.err

@@ -1,13 +1,13 @@
-use Rattle.std.proofs.Common.{◌≡◌, ap, ◌∙◌, map, [], None, Some, subst, option_and_then}
+use Rattle.std.proofs.Common.{◌≡◌, ap, ◌∙◌, map, map-id, [], None, Some, subst, option_and_then}
 use Rattle.clap.specs.Words.{App, app_of, is_simple, is_simple_and_free, fault_of}
 use Rattle.clap.specs.Words.{matches_of, HasKind, rows_of, found_of}
 use Rattle.command_words.specs.Application.{cloner_app}
 use Rattle.command_words.specs.Clap.{clap_values, up_to_three}
 use Rattle.command_words.specs.Rules.{values}
-use Rattle.command_words.specs.Views.{values_view}
+use Rattle.command_words.specs.Views.{given_view}
 use Rattle.command_words.proofs.Bridge.{clap_finds_the_values}
 use Rattle.command_words.proofs.Forms.{form_found}
-use Rattle.command_words.proofs.Parse.{same_words, simple, simple_and_free, refused_words, read_words}
+use Rattle.command_words.proofs.Parse.{simple, simple_and_free, refused_words, read_words}
 use Rattle.command_words.proofs.given.given_words.Goals as goal
 
 pub returns-in-Err : goal.returns-in-Err
@@ -19,7 +19,7 @@ returns-in-Err c =
     (c.in-Err.ensures.kinds (ap is_simple_and_free is ∙ simple_and_free)) in
     let same : None ≡ option_and_then up_to_three (values c.args.words.now) =
     refused_words words c.in-Err.error fails (λ k. let bad = c.if-is_memory.ensures.value.1 k in absurd cc)
-    ∙ ap clap_values (same_words c.args.words.now)
+    ∙ ap clap_values (map-id c.args.words.now)
     ∙ clap_finds_the_values c.args.words.now c.note_texts.ensures.texts in
     record { value = same; asks = form_found c.args.words.now None same }
 
@@ -32,7 +32,7 @@ returns c =
     (c.in-Ok.ensures.kinds (ap is_simple_and_free is ∙ simple_and_free)) in
     let rows : rows_of (found_of c.in-Ok.matches) ≡ matches_of cloner_app words =
     (c.in-Ok.ensures.matches (ap is_simple is ∙ simple)).0 ∙ ap (λ a. matches_of a words) is in
-    let same : Some (values_view (record {
+    let same : Some (given_view (record {
       mode = c.get_str.result;
       first = c.get_str-2.result;
       second = c.get_str-3.result;
@@ -44,6 +44,6 @@ returns c =
       c.get_str-3.ensures,
       c.get_str-4.ensures,
       c.get_str-5.ensures,
-    ) (read_words words c.in-Ok.matches none rows ∙ ap clap_values (same_words c.args.words.now)
+    ) (read_words words c.in-Ok.matches none rows ∙ ap clap_values (map-id c.args.words.now)
     ∙ clap_finds_the_values c.args.words.now c.note_texts.ensures.texts) in
     record { value = same; asks = form_found c.args.words.now (Some _) same }

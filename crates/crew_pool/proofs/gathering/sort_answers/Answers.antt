@@ -1,5 +1,6 @@
 use Rattle.std.proofs.Common.{◌≡◌, ℕ, ◌+◌, length, sym, subst, arith}
-use Rattle.crew_pool.proofs.Answers.{length-push, EachAnswers-push}
+use Rattle.std.proofs.lemmas.List.{length_push}
+use Rattle.crew_pool.proofs.AnswerLists.{EachAnswers-push}
 use Rattle.crew_pool.proofs.DequeRule.{one_if_below-next}
 use Rattle.crew_pool.specs.Tasks.{AnswersTo}
 use Rattle.crew_pool.proofs.gathering.sort_answers.Goals as goal
@@ -12,7 +13,7 @@ loop-i-preserved g c =
     let found = taken.1 inv.2 in
     let outs = c.loop-i.outs.items in
     let added = c.in_ok-add.ensures.value in
-    let longer : length c.add.new.list.items ≡ length outs + 1 = rw added (length-push outs _) in
+    let longer : length c.add.new.list.items ≡ length outs + 1 = rw added (length_push outs _) in
     let one = subst (λ (n : ℕ). answers n c.in-Some.out) (sym inv.0) found.0 in (
       omega (arith, longer, inv.0),
       rw added (EachAnswers-push answers outs c.in-Some.out inv.1 one),

@@ -1,10 +1,10 @@
 use Rattle.std.proofs.Common.{ap, arith, ◌≡◌, ◌-◌, ◌+◌, [], ◌∙◌, ℕ, length}
+use Rattle.std.proofs.lemmas.List.{length_push}
 use Rattle.std.proofs.lemmas.List.Elements.{All-push}
 use Rattle.crossbeam_deque.specs.Handles.{worker_deque, worker_view}
 use Rattle.crew_pool.specs.declared.task_deque.SeatView.{SeatView}
 use Rattle.crew_pool.specs.Deque.{seat_view, IsStart}
 use Rattle.crew_pool.specs.declared.task_deque.TheConstants.{ALL_PARTS}
-use Rattle.crew_pool.proofs.Answers.{length-push}
 use Rattle.crew_pool.proofs.TaskMoves.{TasksOnce-forks}
 use Rattle.crew_pool.proofs.stealing.seat_thieves.Goals as goal
 
@@ -21,7 +21,7 @@ loop-worker-preserved g c =
     let made = c.another-seat.ensures in
     let starts = c.loop-worker.starts.items in
     let more = c.in_ok-add.ensures.value in
-    let longer : length c.add.new.list.items ≡ length starts + 1 = rw more (length-push starts _) in
+    let longer : length c.add.new.list.items ≡ length starts + 1 = rw more (length_push starts _) in
     let n = (worker_view c.args.owner.now).dealt in
     let fresh = made.rule.1 ∙ ap (λ (u : SeatView). seat_view 1 u.dealt []) inv.3 in (
       made.same.0.0 ∙ inv.0,

@@ -1,13 +1,13 @@
 use Rattle.std.proofs.Common.{arith}
-use Rattle.decision_desk.proofs.Turnings.{calls_said}
+use Rattle.decision_desk.proofs.Turnings.{Allows-raise_count}
 use Rattle.decision_desk.proofs.turns.raise_count.Goals as goal
 
 pub fetch_add-requires : goal.fetch_add-requires
 fetch_add-requires g c =
     let a = c.requires.account in (
       c.requires.table.table,
-      omega (arith, c.requires.table.words),
-      calls_said g.E.AddedCall.calls a.0 c.args.call.now _ _ c.args.seat.now.me c.requires.calls a.1 a.2
+      omega (arith, c.requires.table.sized.words),
+      Allows-raise_count g.E.AddedCall.calls a.0 c.args.call.now _ _ c.args.seat.now.me c.requires.calls a.1 a.2
           c.requires.turn.0 c.requires.turn.1,
     )
 

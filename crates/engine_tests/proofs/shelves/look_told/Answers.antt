@@ -1,7 +1,7 @@
-use Rattle.shelf.proofs.Legals.{has_later}
+use Rattle.shelf.proofs.Legals.{HasRack-later}
 use Rattle.engine_tests.proofs.shelves.look_told.Goals as goal
 
 pub look_once-requires : goal.look_once-requires
 look_once-requires g c = record {
-  there = has_later 1 c.args.seat.now c.learn.new.self c.learn.ensures.begins c.requires.there;
+  there = HasRack-later 1 c.args.seat.now c.learn.new.self c.learn.ensures.begins c.requires.there;
 }

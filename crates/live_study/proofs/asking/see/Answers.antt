@@ -1,7 +1,8 @@
 use Rattle.std.proofs.Common.{sym, subst, ◌∙◌}
 use Rattle.journal_text.specs.declared.looked.Looked.{Looked}
 use Rattle.live_study.specs.Looks.{HasRacks}
-use Rattle.live_study.proofs.Doing.{none_later, number_low, racks_later, seen_later}
+use Rattle.decision_book.proofs.Planned.{station_named-low}
+use Rattle.live_study.proofs.Doing.{none_later, racks_later, seen_later}
 use Rattle.live_study.proofs.asking.see.Goals as goal
 use Rattle.live_study.proofs.asking.see.Goals.{in-Some, in-None}
 
@@ -35,6 +36,6 @@ look-requires g c =
     let s = c.in-Some.s in
     record {
       there = c.requires.there s
-          (number_low c.args.station c.args.model.now s (sym c.find.ensures.value ∙ c.in-Some.is))
+          (station_named-low c.args.station c.args.model.now s (sym c.find.ensures.value ∙ c.in-Some.is))
           c.in-Some.ensures.there;
     }

@@ -1,7 +1,8 @@
 use Rattle.std.proofs.Common.{◌≡◌, ◌∙◌, ◌<◌, ap, arith, take, length}
 use Rattle.std.proofs.lemmas.List.{take_all}
+use Rattle.std.proofs.lemmas.Option.{get_or_from_slice_get}
 use Rattle.live_study.specs.Scripts.{acts_by}
-use Rattle.live_study.proofs.Beginning.{at_item, few_by, one_more}
+use Rattle.live_study.proofs.Beginning.{few_by, one_more}
 use Rattle.live_study.proofs.begin.acts_of.Goals as goal
 
 pub loop-i-preserved : goal.loop-i-preserved
@@ -10,7 +11,7 @@ loop-i-preserved c =
     let item = c.item.result in
     let less : c.loop-i.i < length items = omega (arith, c.loop-i-test.true, c.len-i-end.ensures.value) in
     c.in_ok-push_own.ensures.value ∙ one_more c.args.a items c.loop-i.i item _ less
-    (at_item items c.loop-i.i item c.item.ensures.value) c.loop-i.invariant
+    (get_or_from_slice_get items c.loop-i.i item item c.item.ensures.value) c.loop-i.invariant
 
 pub returns-clause-value : goal.returns-clause-value
 returns-clause-value c =

@@ -1,5 +1,7 @@
 use Rattle.std.proofs.Common.{◌≡◌, ◌++◌, ◌∷◌, [], ◌+◌, ◌-◌, ◌<◌, length, ap, ◌∙◌, arith}
-use Rattle.log_chain.proofs.Tails.{all_push_last, blocks_push_last, blocks_push_new, pushed_length, same_element, on_ok}
+use Rattle.std.proofs.lemmas.Result.{on_ok_weaker}
+use Rattle.log_chain.specs.declared.blocks.TheConstants.{BLOCK}
+use Rattle.log_chain.proofs.Tails.{all_of-set_last, blocks-set_last, blocks-push, push-length, same_element}
 use Rattle.log_chain.proofs.blocks.push.Goals as goal
 use Rattle.log_chain.proofs.blocks.push.Goals.{else-count-gt0-via-then-count-gt0+else-len-lt-BLOCK}
 use Rattle.log_chain.proofs.blocks.push.Goals.{else-count-gt0-via-else-count-gt0}
@@ -11,10 +13,10 @@ returns-then-len-lt-BLOCK-clause-blocks c =
     let long : length blocks.items ≡ last + 1 = omega (arith, c.len-count.ensures, blocks.ok.0) in
     let same = same_element blocks.items last last c.index_mut.result.now c.index.result.now (omega arith)
     (omega (arith, long)) c.index_mut.ensures.value c.index.ensures in
-    let small : length c.index_mut.result.now < 64 =
+    let small : length c.index_mut.result.now < BLOCK =
     omega (arith, ap length same, c.len.ensures.value, c.if-len-lt-BLOCK.true) in
-    blocks_push_last blocks.items last c.push.new.self c.requires.blocks long
-    (pushed_length c.push.result c.index_mut.result.now c.push.new.self c.args.entry.now c.push.ensures.ok
+    blocks-set_last blocks.items last c.push.new.self c.requires.blocks long
+    (push-length c.push.result c.index_mut.result.now c.push.new.self c.args.entry.now c.push.ensures.ok
     c.push.ensures.err small)
 
 pub returns-then-len-lt-BLOCK-clause-ok : goal.returns-then-len-lt-BLOCK-clause-ok
@@ -22,9 +24,9 @@ returns-then-len-lt-BLOCK-clause-ok c =
     let blocks = c.args.blocks.now in
     let last = c.len-count.result - 1 in
     let long : length blocks.items ≡ last + 1 = omega (arith, c.len-count.ensures, blocks.ok.0) in
-    on_ok c.push.result c.push.ensures.ok
-    (all_push_last blocks.items last c.index_mut.result.now c.push.new.self c.args.entry.now long
-    c.index_mut.ensures.value)
+    on_ok_weaker c.push.result
+    (all_of-set_last blocks.items last c.index_mut.result.now c.push.new.self c.args.entry.now long
+    c.index_mut.ensures.value) c.push.ensures.ok
 
 pub returns-clause-blocks : goal.returns-clause-blocks
 returns-clause-blocks c =
@@ -32,7 +34,7 @@ returns-clause-blocks c =
     let new : c.push-2.new.self ≡ c.args.entry.now ∷ [] = c.in_ok-push.ensures.ok
     ∙ ap (λ l. l ++ c.args.entry.now ∷ []) c.in_ok-block.ensures.value in
     rw c.in_ok-push-2.ensures.items
-    (blocks_push_new blocks.items c.push-2.new.self c.args.entry.now c.requires.blocks new (λ i l long here.
+    (blocks-push blocks.items c.push-2.new.self c.args.entry.now c.requires.blocks new (λ i l long here.
     elim c.else-count-gt0.branch [
       | else-count-gt0-via-then-count-gt0+else-len-lt-BLOCK w ↦
           let last = same_element blocks.items i (c.len-count.result - 1) l w.index.result.now

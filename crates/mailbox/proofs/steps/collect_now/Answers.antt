@@ -1,5 +1,5 @@
 use Rattle.std.proofs.Common.{arith, ◌∙◌}
-use Rattle.mailbox.proofs.Moves.{collects}
+use Rattle.mailbox.proofs.Moves.{IsMailbox-collects}
 use Rattle.mailbox.proofs.Tellings.{has_slot, HasCollected-hit}
 use Rattle.mailbox.proofs.steps.collect_now.Goals as goal
 
@@ -7,7 +7,7 @@ pub compare_exchange-requires : goal.compare_exchange-requires
 compare_exchange-requires g c = (
   c.requires.table.0,
   omega (arith, c.requires.table.1),
-  collects g.E.Errand.answers c.requires.sent.0 _ _ c.args.seat.now.me c.requires.sent.1,
+  IsMailbox-collects g.E.Errand.answers c.requires.sent.0 _ _ c.args.seat.now.me c.requires.sent.1,
 )
 
 pub exchange-requires : goal.exchange-requires

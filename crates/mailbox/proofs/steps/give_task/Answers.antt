@@ -1,6 +1,6 @@
 use Rattle.std.proofs.Common.{arith, ◌∙◌, Some}
 use Rattle.mailbox.specs.declared.mail.Letter.TheVariants.{Task}
-use Rattle.mailbox.proofs.Moves.{gives_task}
+use Rattle.mailbox.proofs.Moves.{IsMailbox-gives}
 use Rattle.mailbox.proofs.Tellings.{put_in}
 use Rattle.mailbox.proofs.steps.give_task.Goals as goal
 
@@ -8,6 +8,6 @@ pub store-requires : goal.store-requires
 store-requires g c = (
   c.exchange.ensures.0 ∙ c.requires.table.0,
   omega (arith, c.requires.table.1),
-  gives_task g.E.Errand.answers c.args.task _ _ c.exchange.new.seat.me
+  IsMailbox-gives g.E.Errand.answers c.args.task _ _ c.exchange.new.seat.me
       (put_in c.args.seat.now.me _ _ _ (Some (Task c.args.task)) c.requires.holding c.exchange.ensures.3),
 )

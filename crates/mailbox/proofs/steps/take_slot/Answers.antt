@@ -1,10 +1,10 @@
 use Rattle.std.proofs.Common.{arith}
-use Rattle.mailbox.proofs.Moves.{opens}
+use Rattle.mailbox.proofs.Moves.{IsMailbox-opens}
 use Rattle.mailbox.proofs.steps.take_slot.Goals as goal
 
 pub load-requires : goal.load-requires
 load-requires g c = (
   c.requires.table.0,
   omega (arith, c.requires.table.1),
-  opens g.E.Errand.answers _ _ c.args.seat.now.me c.requires.fresh,
+  IsMailbox-opens g.E.Errand.answers _ _ c.args.seat.now.me c.requires.fresh,
 )

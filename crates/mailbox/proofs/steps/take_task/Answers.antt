@@ -1,5 +1,5 @@
 use Rattle.std.proofs.Common.{arith, ◌∙◌}
-use Rattle.mailbox.proofs.Moves.{takes_task}
+use Rattle.mailbox.proofs.Moves.{IsMailbox-takes}
 use Rattle.mailbox.proofs.Tellings.{has_slot, HasTaken-hit}
 use Rattle.mailbox.proofs.steps.take_task.Goals as goal
 
@@ -7,7 +7,7 @@ pub compare_exchange-requires : goal.compare_exchange-requires
 compare_exchange-requires g c = (
   c.requires.table.0,
   omega (arith, c.requires.table.1),
-  takes_task g.E.Errand.answers _ _ c.args.seat.now.me c.requires.idle,
+  IsMailbox-takes g.E.Errand.answers _ _ c.args.seat.now.me c.requires.idle,
 )
 
 pub exchange-requires : goal.exchange-requires

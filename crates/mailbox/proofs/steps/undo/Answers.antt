@@ -1,5 +1,5 @@
 use Rattle.std.proofs.Common.{arith, ◌∙◌}
-use Rattle.mailbox.proofs.Moves.{undoes}
+use Rattle.mailbox.proofs.Moves.{IsMailbox-undoes}
 use Rattle.mailbox.proofs.Tellings.{has_slot, HasUndone-hit}
 use Rattle.mailbox.proofs.steps.undo.Goals as goal
 
@@ -7,7 +7,7 @@ pub compare_exchange-requires : goal.compare_exchange-requires
 compare_exchange-requires g c = (
   c.requires.table.0,
   omega (arith, c.requires.table.1),
-  undoes g.E.Errand.answers c.requires.sent.0 _ _ c.args.seat.now.me c.requires.sent.1,
+  IsMailbox-undoes g.E.Errand.answers c.requires.sent.0 _ _ c.args.seat.now.me c.requires.sent.1,
 )
 
 pub exchange-requires : goal.exchange-requires

@@ -7,7 +7,7 @@ use Rattle.net_model.proofs.resolve.resolve_links.Given as goal
 abbrev pub invariant-links : goal.invariant-links
 invariant-links l =
     record {
-      so_far : links_of_named l.lookahead (map as_draft l.drafts) l.place l.fn.links ≡ after l.found.items
-          (links_of_named l.lookahead (map as_draft l.drafts) l.place (drop l.link-index l.fn.links));
+      so_far : links_of_named l.lookahead (map as_draft l.drafts) l.station l.fn.links ≡ after l.found.items
+          (links_of_named l.lookahead (map as_draft l.drafts) l.station (drop l.link-index l.fn.links));
       count : length l.found.items ≡ l.link-index;
     }

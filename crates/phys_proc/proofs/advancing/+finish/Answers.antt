@@ -1,20 +1,21 @@
-use Rattle.std.proofs.Common.{◌+◌, ◌^◌, ◌<◌, ◌≤◌, ◌∙◌, ap, arith, subst}
+use Rattle.std.proofs.Common.{◌+◌, ◌<◌, ◌≤◌, ◌∙◌, ap, arith, subst}
 use Rattle.clone_sets.specs.Sets.{size, union}
-use Rattle.phys_proc.specs.Gone.{ends_in}
+use Rattle.stations.specs.declared.sender.TheConstants.{ALL_COUNTS}
+use Rattle.phys_proc.specs.Ends.{ends_in}
 use Rattle.phys_proc.specs.Own.{StationCopy, may_handle}
-use Rattle.phys_proc.proofs.Finishing.{of_settled, of_full, of_parts, some_fits, others_fit}
+use Rattle.phys_proc.proofs.Finishing.{advance-settled, advance-full, advance-parts, some_fits, others_fit}
 use Rattle.phys_proc.proofs.Finishing.{some_smaller, others_smaller, both_few}
-use Rattle.phys_proc.proofs.Onward.{left_few}
+use Rattle.phys_proc.proofs.ComesFrom.{left_few}
 use Rattle.phys_proc.proofs.advancing.+finish.Goals as goal
 
 pub returns-in_ok-put-in-Settled-clause-comes : goal.returns-in_ok-put-in-Settled-clause-comes
-returns-in_ok-put-in-Settled-clause-comes g t c = of_settled c.args.model.now c.args.station
+returns-in_ok-put-in-Settled-clause-comes g t c = advance-settled c.args.model.now c.args.station
     (ends_in c.args.model.now.horizon c.args.ends.now) c.args.bound c.args.copy c.args.stage.now.sent.items
     c.args.steps.now c.requires.fits c.args.stage.now.done c.put.new.self c.args.stage.now.over
     (rw c.in-Settled.is at c.requires.stop) c.in_ok-put-in-Settled.ensures.more
 
 pub returns-in-Full-clause-comes : goal.returns-in-Full-clause-comes
-returns-in-Full-clause-comes g t c = of_full c.args.model.now c.args.station
+returns-in-Full-clause-comes g t c = advance-full c.args.model.now c.args.station
     (ends_in c.args.model.now.horizon c.args.ends.now) c.args.bound c.args.copy c.args.stage.now.sent.items
     c.args.steps.now c.requires.fits c.args.stage.now.done c.args.stage.now.over c.union-stage.result
     (rw c.in-Full.is at c.requires.stop)
@@ -54,7 +55,7 @@ finish-requires g t c =
     let few0 = c.requires.few in
     let counted = o.counted in
     let handled = first.handled in
-    let few : c.go_on.new.stage.handled + may_handle net.limit a1 ≤ 2 ^ 32 =
+    let few : c.go_on.new.stage.handled + may_handle net.limit a1 ≤ ALL_COUNTS =
     omega (arith, both, left, few0, counted, handled) in
     λ κs within. (
       subst (λ n. size a1.set < n) c.decreases fall,
@@ -115,7 +116,7 @@ finish-requires-in-Parts g t c =
     let handled1 = c.in_ok-finish-in-Parts.ensures.handled in
     let counted2 = o.counted in
     let handled2 = second.handled in
-    let few : c.go_on-in-Parts.new.stage.handled + may_handle net.limit b1 ≤ 2 ^ 32 =
+    let few : c.go_on-in-Parts.new.stage.handled + may_handle net.limit b1 ≤ ALL_COUNTS =
     omega (arith, both, left, left1, few0, counted, handled, gained, steps, handled1, counted2, handled2) in
     λ κs within. (
       subst (λ n. size b1.set < n) c.decreases fall,
@@ -127,7 +128,7 @@ returns-in_ok-finish-in-Parts-2-clause-comes g t c =
     let first = c.in_ok-first-in-Parts.ensures in
     let second = c.in_ok-second-in-Parts.ensures in
     let last = c.finish-in-Parts.new in
-    of_parts c.args.model.now c.args.station
+    advance-parts c.args.model.now c.args.station
     (ends_in c.args.model.now.horizon c.args.ends.now) c.args.bound c.args.copy c.args.stage.now.sent.items
     c.args.steps.now c.requires.fits c.args.stage.now.takers (rw c.in-Parts.is at c.requires.stop)
     c.in_ok-some-in-Parts.some c.go_on.new.copy c.in_ok-some-in-Parts.others c.go_on-in-Parts.new.copy

@@ -1,14 +1,15 @@
 use Rattle.std.proofs.Common.{◌<◌, arith, sym, ap, subst, ◌∙◌, length, eqb-true, refl}
 use Rattle.std.proofs.lemmas.Bool.{eqb-false}
 use Rattle.phys_proc.specs.Own.{NextDue, NothingDue}
-use Rattle.phys_proc.specs.Gone.{ends_in}
+use Rattle.phys_proc.specs.Ends.{ends_in}
 use Rattle.phys_proc.proofs.Finishing.{settled_here, due_here}
-use Rattle.phys_proc.proofs.Onward.{onward_start, onward_same, onward_new, came_on, fewer_left, longer_log}
+use Rattle.phys_proc.proofs.ComesFrom.{comes_from-start, comes_from-same, comes_from-new, comes_from-handle}
+use Rattle.phys_proc.proofs.ComesFrom.{fewer_left, longer_log}
 use Rattle.phys_proc.proofs.advancing.go_on.Goals as goal
 
 pub loop-takers-init : goal.loop-takers-init
 loop-takers-init g c = record {
-  onward = onward_start c.args.model.now c.args.station (ends_in c.args.model.now.horizon c.args.ends.now)
+  onward = comes_from-start c.args.model.now c.args.station (ends_in c.args.model.now.horizon c.args.ends.now)
       c.args.bound c.args.copy.now c.args.stage.now.sent.items c.args.steps.now c.requires.fits;
   done = refl;
   over = refl;
@@ -19,7 +20,7 @@ pub returns-in_default-clause-onward : goal.returns-in_default-clause-onward
 returns-in_default-clause-onward g c =
     let d = subst (λ h. NothingDue (ends_in h c.args.ends.now) c.args.bound c.loop-takers.copy c.next_due.new.copy)
     c.horizon.ensures.value c.in_default.ensures.none in
-    onward_same c.args.model.now c.args.station (ends_in c.args.model.now.horizon c.args.ends.now) c.args.bound
+    comes_from-same c.args.model.now c.args.station (ends_in c.args.model.now.horizon c.args.ends.now) c.args.bound
     c.args.copy.now c.loop-takers.copy c.next_due.new.copy c.args.stage.now.sent.items c.loop-takers.stage.sent.items
     c.args.steps.now c.loop-takers.steps c.loop-takers.invariant.onward d.same
 
@@ -33,7 +34,7 @@ pub returns-then-len-limit-clause-onward : goal.returns-then-len-limit-clause-on
 returns-then-len-limit-clause-onward g c =
     let d = subst (λ h. NextDue (ends_in h c.args.ends.now) c.args.bound c.loop-takers.copy c.next_due.new.copy
     c.in-Some.ensures.some.0 c.in-Some.takers) c.horizon.ensures.value c.in-Some.ensures.some.1 in
-    onward_same c.args.model.now c.args.station (ends_in c.args.model.now.horizon c.args.ends.now) c.args.bound
+    comes_from-same c.args.model.now c.args.station (ends_in c.args.model.now.horizon c.args.ends.now) c.args.bound
     c.args.copy.now c.loop-takers.copy c.next_due.new.copy c.args.stage.now.sent.items c.loop-takers.stage.sent.items
     c.args.steps.now c.loop-takers.steps c.loop-takers.invariant.onward d.same
 
@@ -56,7 +57,7 @@ pub returns-else-eq-clause-onward : goal.returns-else-eq-clause-onward
 returns-else-eq-clause-onward g c =
     let d = subst (λ h. NextDue (ends_in h c.args.ends.now) c.args.bound c.loop-takers.copy c.next_due.new.copy
     c.in-Some.ensures.some.0 c.in-Some.takers) c.horizon.ensures.value c.in-Some.ensures.some.1 in
-    onward_same c.args.model.now c.args.station (ends_in c.args.model.now.horizon c.args.ends.now) c.args.bound
+    comes_from-same c.args.model.now c.args.station (ends_in c.args.model.now.horizon c.args.ends.now) c.args.bound
     c.args.copy.now c.loop-takers.copy c.next_due.new.copy c.args.stage.now.sent.items c.loop-takers.stage.sent.items
     c.args.steps.now c.loop-takers.steps c.loop-takers.invariant.onward d.same
 
@@ -75,7 +76,7 @@ pub handle_least-requires-clause-fits : goal.handle_least-requires-clause-fits
 handle_least-requires-clause-fits g c =
     let d = subst (λ h. NextDue (ends_in h c.args.ends.now) c.args.bound c.loop-takers.copy c.next_due.new.copy
     c.in-Some.ensures.some.0 c.in-Some.takers) c.horizon.ensures.value c.in-Some.ensures.some.1 in
-    (onward_new c.args.model.now c.args.station (ends_in c.args.model.now.horizon c.args.ends.now) c.args.bound
+    (comes_from-new c.args.model.now c.args.station (ends_in c.args.model.now.horizon c.args.ends.now) c.args.bound
     c.args.copy.now c.loop-takers.copy c.next_due.new.copy c.args.stage.now.sent.items c.loop-takers.stage.sent.items
     c.args.steps.now c.loop-takers.steps c.loop-takers.invariant.onward
     c.in-Some.ensures.some.0 c.in-Some.takers d).fits
@@ -101,8 +102,8 @@ loop-takers-preserved g c =
     let less : length c.next_due.new.copy.log < c.args.model.now.limit = let l = c.if-len-limit.false in let a =
     c.len.ensures in let b = c.limit.ensures.value in omega (arith, l, a, b, log) in
     record {
-      onward = came_on c.args.model.now c.args.station (ends_in c.args.model.now.horizon c.args.ends.now) c.args.bound
-          c.args.copy.now c.loop-takers.copy c.next_due.new.copy c.args.stage.now.sent.items
+      onward = comes_from-handle c.args.model.now c.args.station (ends_in c.args.model.now.horizon c.args.ends.now)
+          c.args.bound c.args.copy.now c.loop-takers.copy c.next_due.new.copy c.args.stage.now.sent.items
           c.loop-takers.stage.sent.items c.args.steps.now c.loop-takers.steps
           inv.onward c.in-Some.ensures.some.0 c.in-Some.takers d
           c.handle_least.new.copy c.handle_least.new.sent.items c.handle_least.new.steps

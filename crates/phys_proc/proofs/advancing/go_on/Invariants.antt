@@ -1,11 +1,11 @@
 use Rattle.std.proofs.Common.{◌≡◌, ◌+◌, ◌-◌, length}
-use Rattle.phys_proc.specs.Gone.{ends_in}
-use Rattle.phys_proc.specs.Own.{Onward}
+use Rattle.phys_proc.specs.Ends.{ends_in}
+use Rattle.phys_proc.specs.Own.{ComesFrom}
 use Rattle.phys_proc.proofs.advancing.go_on.Given as goal
 
 abbrev pub invariant-loop-takers : goal.invariant-loop-takers
 invariant-loop-takers g l = record {
-  onward : Onward l.model l.station (ends_in l.model.horizon l.ends) l.bound l.fn.copy l.copy l.fn.stage.sent.items
+  onward : ComesFrom l.model l.station (ends_in l.model.horizon l.ends) l.bound l.fn.copy l.copy l.fn.stage.sent.items
       l.stage.sent.items l.fn.steps l.steps;
   done : l.stage.done ≡ l.fn.stage.done;
   over : l.stage.over ≡ l.fn.stage.over;

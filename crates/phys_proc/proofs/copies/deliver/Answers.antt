@@ -1,10 +1,11 @@
 use Rattle.std.proofs.Common.{arith, sym, ap, ap₂, ◌∙◌, get_or, slice_set, length, eqb-true}
+use Rattle.std.proofs.Math.Seq.{map-set_same}
 use Rattle.std.proofs.lemmas.Bool.{false≢true}
+use Rattle.std.proofs.lemmas.Slice.Zip.{AllZip-long}
 use Rattle.clone_sets.specs.Sets.{minus, empty}
-use Rattle.phys_proc.specs.Own.{StationCopy, with_message, but_pending}
-use Rattle.phys_proc.proofs.Given.{map_first-suc, map_first-length, length-map_first, rest_more, given_to_all}
-use Rattle.phys_proc.proofs.Noted.{leasts_long, least_at, leasts_set}
-use Rattle.phys_proc.proofs.Shares.{same_set}
+use Rattle.phys_proc.specs.Own.{StationCopy, with_message, but_pending, IsLate}
+use Rattle.phys_proc.proofs.Delivery.{map_first-suc, map_first-length, length-map_first, rest_more, given_to_all}
+use Rattle.phys_proc.proofs.CopyLeasts.{least_at, leasts_set}
 use Rattle.phys_proc.proofs.copies.deliver.Goals as goal
 
 pub loop-i-preserved : goal.loop-i-preserved
@@ -17,16 +18,7 @@ loop-i-preserved c =
           (c.in_ok-give.ensures.given ∙ ap f (c.index_mut.ensures.value ∙ ap (λ l. get_or l c.loop-i.i d) h))
           ∙ map_first-suc f c.loop-i.i c.args.copies.now.items d
           (omega (arith, c.loop-i-test.true, c.loop-i.auto.i-end, c.len-i-end.ensures, c.args.copies.now.ok.0));
-      same = same_set c.loop-i.i c.loop-i.copies.items c.give.new.copy d
-          (omega (
-            arith,
-            c.loop-i-test.true,
-            c.loop-i.auto.i-end,
-            c.len-i-end.ensures,
-            c.args.copies.now.ok.0,
-            ap length c.loop-i.invariant.given,
-            length-map_first (with_message c.args.msg c.args.set) c.loop-i.i c.args.copies.now.items,
-          ))
+      same = map-set_same but_pending c.loop-i.copies.items c.loop-i.i c.give.new.copy d
           (c.in_ok-give.ensures.same ∙ ap but_pending c.index_mut.ensures.value) ∙ c.loop-i.invariant.same;
       each = leasts_set c.loop-i.leasts.items c.loop-i.copies.items c.loop-i.i c.give.new.least c.give.new.copy
           c.loop-i.invariant.each c.in_ok-give.ensures.late;
@@ -49,17 +41,7 @@ returns-clause-given c = c.loop-i.invariant.given
 
 pub returns-in_err-give-clause-same : goal.returns-in_err-give-clause-same
 returns-in_err-give-clause-same c =
-    let d = c.index_mut.result.now in
-    same_set c.loop-i.i c.loop-i.copies.items c.give.new.copy d
-    (omega (
-      arith,
-      c.loop-i-test.true,
-      c.loop-i.auto.i-end,
-      c.len-i-end.ensures,
-      c.args.copies.now.ok.0,
-      ap length c.loop-i.invariant.given,
-      length-map_first (with_message c.args.msg c.args.set) c.loop-i.i c.args.copies.now.items,
-    ))
+    map-set_same but_pending c.loop-i.copies.items c.loop-i.i c.give.new.copy c.index_mut.result.now
     (c.in_err-give.ensures.same ∙ ap but_pending c.index_mut.ensures.value) ∙ c.loop-i.invariant.same
 
 pub index_mut-requires-in-loop-i : goal.index_mut-requires-in-loop-i
@@ -72,7 +54,7 @@ index_mut-requires-in-loop-i c = omega (
   c.loop-i.leasts.ok.0,
   ap length c.loop-i.invariant.given,
   length-map_first (with_message c.args.msg c.args.set) c.loop-i.i c.args.copies.now.items,
-  leasts_long c.loop-i.leasts.items c.loop-i.copies.items c.loop-i.invariant.each,
+  AllZip-long IsLate c.loop-i.leasts.items c.loop-i.copies.items c.loop-i.invariant.each,
 )
 
 pub give-requires : goal.give-requires

@@ -1,7 +1,7 @@
 use Rattle.std.proofs.Common.{◌≡◌, map}
 use Rattle.std.specs.List.{AllZip}
 use Rattle.phys_proc.specs.Own.{with_message, but_pending, IsLate}
-use Rattle.phys_proc.proofs.Given.{map_first, rest_after}
+use Rattle.phys_proc.proofs.Delivery.{map_first, rest_after}
 use Rattle.phys_proc.proofs.copies.deliver.Given as goal
 
 abbrev pub invariant-loop-i : goal.invariant-loop-i

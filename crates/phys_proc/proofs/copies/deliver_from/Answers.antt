@@ -1,15 +1,16 @@
 use Rattle.std.proofs.Common.{arith, sym, ap, ◌∙◌, slice_set, eqb-true}
+use Rattle.std.proofs.Math.Seq.{map-set_same}
+use Rattle.std.proofs.lemmas.Slice.Zip.{AllZip-long}
 use Rattle.clone_sets.specs.Sets.{minus, empty}
-use Rattle.phys_proc.specs.Own.{StationCopy, with_message, but_pending}
-use Rattle.phys_proc.proofs.Given.{given_alone, given_first}
-use Rattle.phys_proc.proofs.Noted.{leasts_long, least_at, leasts_set}
-use Rattle.phys_proc.proofs.Shares.{disjoint_same, same_set}
+use Rattle.phys_proc.specs.Own.{StationCopy, with_message, but_pending, IsLate}
+use Rattle.phys_proc.proofs.Delivery.{given_alone, given_first}
+use Rattle.phys_proc.proofs.CopyLeasts.{least_at, leasts_set}
+use Rattle.phys_proc.proofs.Shares.{disjoint_same}
 use Rattle.phys_proc.proofs.copies.deliver_from.Goals as goal
 
 pub returns-in_err-give-clause-same : goal.returns-in_err-give-clause-same
 returns-in_err-give-clause-same c =
-    same_set c.args.guess c.args.copies.now.items c.give.new.copy c.index_mut.result.now
-    (omega (arith, c.if-guess-len.false, c.len.ensures, c.args.copies.now.ok.0))
+    map-set_same but_pending c.args.copies.now.items c.args.guess c.give.new.copy c.index_mut.result.now
     (c.in_err-give.ensures.same ∙ ap but_pending c.index_mut.ensures.value)
 
 pub returns-then-is_empty-clause-given : goal.returns-then-is_empty-clause-given
@@ -25,15 +26,13 @@ returns-then-is_empty-clause-given c =
 
 pub returns-then-is_empty-clause-same : goal.returns-then-is_empty-clause-same
 returns-then-is_empty-clause-same c =
-    same_set c.args.guess c.args.copies.now.items c.give.new.copy c.index_mut.result.now
-    (omega (arith, c.if-guess-len.false, c.len.ensures, c.args.copies.now.ok.0))
+    map-set_same but_pending c.args.copies.now.items c.args.guess c.give.new.copy c.index_mut.result.now
     (c.in_ok-give.ensures.same ∙ ap but_pending c.index_mut.ensures.value)
 
 pub deliver-requires-2 : goal.deliver-requires-2
 deliver-requires-2 c = record {
   disjoint = disjoint_same c.args.copies.now.items (slice_set c.args.copies.now.items c.args.guess c.give.new.copy)
-      (same_set c.args.guess c.args.copies.now.items c.give.new.copy c.index_mut.result.now
-      (omega (arith, c.if-guess-len.false, c.len.ensures, c.args.copies.now.ok.0))
+      (map-set_same but_pending c.args.copies.now.items c.args.guess c.give.new.copy c.index_mut.result.now
       (c.in_ok-give.ensures.same ∙ ap but_pending c.index_mut.ensures.value)) c.requires.disjoint;
   each = leasts_set c.args.leasts.now.items c.args.copies.now.items c.args.guess c.give.new.least c.give.new.copy
       c.requires.each c.in_ok-give.ensures.late;
@@ -41,8 +40,7 @@ deliver-requires-2 c = record {
 
 pub returns-in_err-place-clause-same : goal.returns-in_err-place-clause-same
 returns-in_err-place-clause-same c = c.in_err-place.ensures.same
-    ∙ same_set c.args.guess c.args.copies.now.items c.give.new.copy c.index_mut.result.now
-    (omega (arith, c.if-guess-len.false, c.len.ensures, c.args.copies.now.ok.0))
+    ∙ map-set_same but_pending c.args.copies.now.items c.args.guess c.give.new.copy c.index_mut.result.now
     (c.in_ok-give.ensures.same ∙ ap but_pending c.index_mut.ensures.value)
 
 pub returns-clause-given : goal.returns-clause-given
@@ -57,8 +55,7 @@ returns-clause-given c = c.in_ok-place.ensures.given
 
 pub returns-clause-same : goal.returns-clause-same
 returns-clause-same c = c.in_ok-place.ensures.same
-    ∙ same_set c.args.guess c.args.copies.now.items c.give.new.copy c.index_mut.result.now
-    (omega (arith, c.if-guess-len.false, c.len.ensures, c.args.copies.now.ok.0))
+    ∙ map-set_same but_pending c.args.copies.now.items c.args.guess c.give.new.copy c.index_mut.result.now
     (c.in_ok-give.ensures.same ∙ ap but_pending c.index_mut.ensures.value)
 
 pub index_mut-requires-2 : goal.index_mut-requires-2
@@ -68,7 +65,7 @@ index_mut-requires-2 c = omega (
   c.len.ensures,
   c.args.copies.now.ok.0,
   c.args.leasts.now.ok.0,
-  leasts_long c.args.leasts.now.items c.args.copies.now.items c.requires.each,
+  AllZip-long IsLate c.args.leasts.now.items c.args.copies.now.items c.requires.each,
 )
 
 pub give-requires : goal.give-requires

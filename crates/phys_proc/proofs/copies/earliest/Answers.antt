@@ -12,6 +12,6 @@ returns-in-Some c = record {
 
 pub returns-in-None : goal.returns-in-None
 returns-in-None c = record {
-  late = from_none c.args.copy.now 18446744073709551615
+  late = from_none c.args.copy.now _
       (c.in-None.ensures.value ∙ ap (λ (u : StationCopy). first_time u.pending) c.copy.view_is);
 }

@@ -1,6 +1,6 @@
 use Rattle.std.proofs.Common.{arith, ap, ap₂, ◌∙◌, get_or, slice_set}
 use Rattle.phys_proc.specs.Own.{copy_after_fork}
-use Rattle.phys_proc.proofs.Given.{map_first-suc, map_first-length}
+use Rattle.phys_proc.proofs.Delivery.{map_first-suc, map_first-length}
 use Rattle.phys_proc.proofs.copies.fork.Goals as goal
 
 pub loop-i-preserved : goal.loop-i-preserved

@@ -1,6 +1,6 @@
 use Rattle.std.proofs.Common.{◌≡◌}
 use Rattle.phys_proc.specs.Own.{copy_after_fork}
-use Rattle.phys_proc.proofs.Given.{map_first}
+use Rattle.phys_proc.proofs.Delivery.{map_first}
 use Rattle.phys_proc.proofs.copies.fork.Given as goal
 
 abbrev pub invariant-loop-i : goal.invariant-loop-i

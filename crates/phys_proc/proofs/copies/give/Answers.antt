@@ -1,6 +1,6 @@
 use Rattle.std.proofs.Common.{subst, sym}
 use Rattle.phys_proc.specs.Own.{IsLate}
-use Rattle.phys_proc.proofs.Noted.{least_inserted}
+use Rattle.phys_proc.proofs.CopyLeasts.{least_inserted}
 use Rattle.phys_proc.proofs.copies.give.Goals as goal
 
 pub returns-in_ok-insert-clause-late : goal.returns-in_ok-insert-clause-late

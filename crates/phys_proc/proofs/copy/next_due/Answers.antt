@@ -2,9 +2,9 @@ use Rattle.std.proofs.Common.{sym, refl, ap, ◌∙◌, eqb-true, arith}
 use Rattle.std.proofs.lemmas.Bool.{eqb-false}
 use Rattle.clone_sets.specs.Sets.{has, empty}
 use Rattle.clone_sets.proofs.SetLaws.{has-empty}
-use Rattle.phys_proc.proofs.Parted.{nothing_late, nothing_left, next_is_due, none_takes, same_more, first_is}
-use Rattle.phys_proc.proofs.Parted.{first_timed, first_marked, none_timed, some_waits}
-use Rattle.phys_proc.specs.Gone.{ends_in, is_gone}
+use Rattle.phys_proc.proofs.Halves.{nothing_late, nothing_left, next_is_due, none_takes, same_more, first_is}
+use Rattle.phys_proc.proofs.Halves.{first_timed, first_marked, none_timed, some_waits}
+use Rattle.phys_proc.specs.Ends.{ends_in, has_ended}
 use Rattle.phys_proc.proofs.copy.next_due.Goals as goal
 
 pub returns-then-time-bound-clause-none : goal.returns-then-time-bound-clause-none
@@ -19,9 +19,9 @@ returns-then-not-is_empty-clause-some c =
     c.in-Some-least_marks.ensures.value in (
       f.0,
       next_is_due c.args.horizon c.args.ends.now c.args.bound c.requires.early c.args.copy.now _ f.0
-          c.in-Some-least_marks.marks c.minus-takers.result c.meet.result c.gone.result c.loop-time.invariant
+          c.in-Some-least_marks.marks c.minus-takers.result c.meet.result c.ended_clones.result c.loop-time.invariant
           c.meet.ensures.members c.minus-takers.ensures.members
-          (λ x. c.gone.ensures.gone x ∙ ap (λ t. is_gone t c.args.ends.now x) (sym f.2))
+          (λ x. c.ended_clones.ensures.ended x ∙ ap (λ t. has_ended t c.args.ends.now x) (sym f.2))
           (let l = c.if-time-bound.false in let t = f.2 in omega (arith, l, t))
           (λ e. eqb-false c.minus-takers.result empty (sym c.if-not-is_empty.ensures.value) e) f.1,
     )
@@ -37,9 +37,9 @@ loop-time-preserved c =
     same_more (ends_in c.args.horizon c.args.ends.now) c.args.copy.now _ _ f.0 c.in-Some-least_marks.marks
     c.loop-time.invariant (first_is _ _ _ _ f.1 c.take_message-passed.ensures.value.1) refl refl refl
     (none_takes c.args.horizon c.args.ends.now c.args.bound c.requires.early c.args.copy.now _ f.0
-    c.in-Some-least_marks.marks c.minus-takers.result c.meet.result c.gone.result c.loop-time.invariant
+    c.in-Some-least_marks.marks c.minus-takers.result c.meet.result c.ended_clones.result c.loop-time.invariant
     c.meet.ensures.members c.minus-takers.ensures.members
-    (λ x. c.gone.ensures.gone x ∙ ap (λ t. is_gone t c.args.ends.now x) (sym f.2))
+    (λ x. c.ended_clones.ensures.ended x ∙ ap (λ t. has_ended t c.args.ends.now x) (sym f.2))
     (let l = c.if-time-bound.false in let t = f.2 in omega (arith, l, t))
     (λ x. ap (λ k. has k x) (eqb-true c.minus-takers.result empty (sym c.if-not-is_empty.ensures.value)) ∙ has-empty x))
 

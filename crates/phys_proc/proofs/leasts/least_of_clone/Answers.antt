@@ -4,7 +4,7 @@ use Rattle.sim_base.specs.Pending.{cut_by}
 use Rattle.clone_sets.specs.Sets.{has, common}
 use Rattle.run_laws.specs.Queue.{In}
 use Rattle.phys_proc.specs.Own.{StationCopy, taken_at}
-use Rattle.phys_proc.proofs.Taken.{least_one, least_ended, least_unmarked, least_beside}
+use Rattle.phys_proc.proofs.LeastTimes.{least_one, least_ended, least_unmarked, least_beside}
 use Rattle.phys_proc.proofs.leasts.least_of_clone.Goals as goal
 
 pub returns-then-not-has : goal.returns-then-not-has

@@ -3,7 +3,7 @@ use Rattle.std.proofs.lemmas.Bool.{eqb-false}
 use Rattle.sim_base.specs.Pending.{cut_by}
 use Rattle.clone_sets.specs.Sets.{common, size, empty}
 use Rattle.phys_proc.specs.Own.{StationCopy}
-use Rattle.phys_proc.proofs.Taken.{none_alive, none_soon, some_takes, others_more, fewer_alive}
+use Rattle.phys_proc.proofs.LeastTimes.{none_alive, none_soon, some_takes, others_more, fewer_alive}
 use Rattle.phys_proc.proofs.leasts.least_of_copy.Goals as goal
 
 pub returns-then-time-horizon : goal.returns-then-time-horizon
@@ -20,7 +20,8 @@ returns-then-not-is_empty c = record {
       c.loop-first.invariant c.requires.sorted c.in-Some.first
       (c.in-Some.ensures.value ∙ ap (λ (u : StationCopy). slice_get (cut_by common c.loop-first.alive u.pending) 0)
       c.copy.view_is)
-      c.minus-takers.result c.gone.result c.minus-takers.ensures.members c.gone.ensures.gone c.if-time-horizon.false
+      c.minus-takers.result c.ended_clones.result c.minus-takers.ensures.members c.ended_clones.ensures.ended
+      c.if-time-horizon.false
       (λ e. eqb-false c.minus-takers.result empty (sym c.if-not-is_empty.ensures.value) e);
 }
 
@@ -36,9 +37,9 @@ loop-first-preserved c = others_more c.args.horizon c.args.ends.now c.args.copy.
     c.args.copy.now.pending c.loop-first.invariant c.requires.sorted c.in-Some.first
     (c.in-Some.ensures.value ∙ ap (λ (u : StationCopy). slice_get (cut_by common c.loop-first.alive u.pending) 0)
     c.copy.view_is)
-    c.minus-takers.result c.gone.result c.minus-takers.ensures.members c.gone.ensures.gone c.if-time-horizon.false
-    (eqb-true c.minus-takers.result empty (sym c.if-not-is_empty.ensures.value)) c.minus-alive.result
-    c.minus-alive.ensures.members
+    c.minus-takers.result c.ended_clones.result c.minus-takers.ensures.members c.ended_clones.ensures.ended
+    c.if-time-horizon.false (eqb-true c.minus-takers.result empty (sym c.if-not-is_empty.ensures.value))
+    c.minus-alive.result c.minus-alive.ensures.members
 
 pub returns : goal.returns
 returns c = record {

@@ -1,6 +1,6 @@
 use Rattle.clone_sets.specs.Sets.{size}
-use Rattle.phys_proc.specs.Gone.{ends_in}
-use Rattle.phys_proc.proofs.Taken.{OthersNone}
+use Rattle.phys_proc.specs.Ends.{ends_in}
+use Rattle.phys_proc.proofs.LeastTimes.{OthersNone}
 use Rattle.phys_proc.proofs.leasts.least_of_copy.Given as goal
 
 abbrev pub invariant-loop-first : goal.invariant-loop-first

@@ -1,4 +1,4 @@
-use Rattle.phys_proc.proofs.First.{first_fits}
+use Rattle.phys_proc.proofs.Opening.{first_fits}
 use Rattle.phys_proc.proofs.proc.opening.Goals as goal
 
 pub returns-clause-fits : goal.returns-clause-fits

@@ -1,5 +1,5 @@
 use Rattle.std.proofs.Common.{◌++◌, refl, subst, sym}
-use Rattle.phys_proc.specs.Gone.{ends_in}
+use Rattle.phys_proc.specs.Ends.{ends_in}
 use Rattle.phys_proc.specs.Own.{IsStepResult}
 use Rattle.phys_proc.specs.Stages.{MayStepCopies}
 use Rattle.phys_proc.proofs.AllCopies.{idle}

@@ -1,19 +1,20 @@
 use Rattle.std.proofs.Common.{◌≡◌, ◌<◌, arith, ap, refl, subst, sym, length, take, slice_set}
 use Rattle.std.proofs.lemmas.List.{length-set, take_more_set}
-use Rattle.phys_proc.specs.Gone.{ends_in}
+use Rattle.std.proofs.lemmas.Slice.Zip.{AllZip-long}
+use Rattle.sim_base.proofs.Elements.{take_next}
+use Rattle.phys_proc.specs.Ends.{ends_in}
 use Rattle.phys_proc.specs.Own.{StationCopy, IsCopy, IsLate, AreLate, IsAdvance, may_handle}
 use Rattle.phys_proc.specs.Stops.{IsStop}
 use Rattle.phys_proc.proofs.Late.{late_put, late_before}
-use Rattle.phys_proc.proofs.Noted.{leasts_long, least_at, leasts_set, leasts_without}
-use Rattle.phys_proc.proofs.Onward.{left_few}
-use Rattle.phys_proc.proofs.Taken.{take_one}
-use Rattle.phys_proc.proofs.Standing.{standing_start, standing_fits, standing_few, standing_next, standing_out}
-use Rattle.phys_proc.proofs.Standing.{standing_idle, standing_end, copy_at, set_there, without_take, without_shorter}
+use Rattle.phys_proc.proofs.CopyLeasts.{least_at, leasts_set, leasts_without}
+use Rattle.phys_proc.proofs.ComesFrom.{left_few}
+use Rattle.phys_proc.proofs.InPlace.{stepped_to-start, stepped_to-fits, stepped_to-few, stepped_to-next, stepped_to-out}
+use Rattle.phys_proc.proofs.InPlace.{stepped_to-idle, stepped_to-end, copy_at, set_there, without_take, without_shorter}
 use Rattle.phys_proc.proofs.stepping.step_in_place.Goals as goal
 
 pub loop-i-init : goal.loop-i-init
 loop-i-init g c = record {
-  far = standing_start c.args.model.now c.requires.may_step.valid c.args.station
+  far = stepped_to-start c.args.model.now c.requires.may_step.valid c.args.station
       (ends_in c.args.model.now.horizon c.args.ends.now) c.args.bound c.args.copies.now.items c.args.stage.now.done
       c.args.stage.now.sent.items c.args.stage.now.over c.args.steps.now c.requires.new.none c.requires.new.silent
       c.requires.new.under;
@@ -24,21 +25,21 @@ loop-i-init g c = record {
 }
 
 pub go_on-requires-clause-fits : goal.go_on-requires-clause-fits
-go_on-requires-clause-fits g c = standing_fits c.args.model.now c.requires.may_step.valid c.args.station
+go_on-requires-clause-fits g c = stepped_to-fits c.args.model.now c.requires.may_step.valid c.args.station
     (ends_in c.args.model.now.horizon c.args.ends.now) c.args.bound c.args.copies.now.items c.loop-i.copies.items
     c.loop-i.stage.done c.loop-i.i c.loop-i.stage.sent.items c.loop-i.stage.over c.args.steps.now c.loop-i.steps
     c.loop-i.invariant.far (omega (arith, c.loop-i-test.true, c.len.ensures)) c.index_mut.result.now
     c.index_mut.ensures.value c.requires.may_step.fits
 
 pub go_on-requires-clause-few : goal.go_on-requires-clause-few
-go_on-requires-clause-few g c = standing_few c.args.model.now c.requires.may_step.valid c.args.station
+go_on-requires-clause-few g c = stepped_to-few c.args.model.now c.requires.may_step.valid c.args.station
     (ends_in c.args.model.now.horizon c.args.ends.now) c.args.bound c.args.copies.now.items c.loop-i.copies.items
     c.loop-i.stage.done c.loop-i.i c.loop-i.stage.sent.items c.loop-i.stage.over c.args.steps.now c.loop-i.steps
     c.loop-i.invariant.far (omega (arith, c.loop-i-test.true, c.len.ensures)) c.index_mut.result.now
     c.index_mut.ensures.value c.requires.may_step.few c.loop-i.stage.handled c.loop-i.invariant.handled
 
 pub returns-clause-stepped : goal.returns-clause-stepped
-returns-clause-stepped g c = standing_end c.args.model.now c.requires.may_step.valid c.args.station
+returns-clause-stepped g c = stepped_to-end c.args.model.now c.requires.may_step.valid c.args.station
     (ends_in c.args.model.now.horizon c.args.ends.now) c.args.bound c.args.copies.now.items c.loop-i.copies.items
     c.loop-i.stage.done c.loop-i.i c.loop-i.stage.sent.items c.loop-i.stage.over c.args.steps.now c.loop-i.steps
     c.loop-i.invariant.far (omega (arith, c.loop-i-test.false, c.len.ensures))
@@ -54,8 +55,9 @@ loop-i-preserved-in-Settled g c =
     let one = c.in_ok-stop.ensures in
     let there : l.i < length cs = omega (arith, c.loop-i-test.true, c.len.ensures) in
     record {
-      far = standing_next net c.requires.may_step.valid c.args.station ends c.args.bound c.args.copies.now.items cs
-          l.stage.done l.i l.stage.sent.items l.stage.over c.args.steps.now l.steps l.invariant.far there c.index_mut.result.now
+      far = stepped_to-next net c.requires.may_step.valid c.args.station ends c.args.bound c.args.copies.now.items cs
+          l.stage.done l.i l.stage.sent.items l.stage.over c.args.steps.now l.steps l.invariant.far there
+          c.index_mut.result.now
           c.index_mut.ensures.value c.requires.may_step.disjoint y (slice_set cs l.i y) s.done s.sent.items s.over
           c.go_on.new.steps one.onward (rw c.in-Settled.is at one.stop) refl one.done one.over;
       late = subst (AreLate c.min-least-in-Settled.result) (sym (take_more_set cs l.i y there))
@@ -82,7 +84,7 @@ finish-requires g c =
     let one = c.in_ok-stop.ensures in
     let there : l.i < length cs = omega (arith, c.loop-i-test.true, c.len.ensures) in
     let same : z ≡ y = set_there cs l.i z y there c.remove-copy.ensures.value in
-    let few = standing_few net c.requires.may_step.valid c.args.station ends c.args.bound c.args.copies.now.items cs
+    let few = stepped_to-few net c.requires.may_step.valid c.args.station ends c.args.bound c.args.copies.now.items cs
     l.stage.done l.i l.stage.sent.items l.stage.over c.args.steps.now l.steps l.invariant.far there x
     c.index_mut.ensures.value c.requires.may_step.few l.stage.handled l.invariant.handled in
     let left = left_few net c.args.station ends c.args.bound x y l.stage.sent.items c.go_on.new.stage.sent.items
@@ -113,8 +115,9 @@ loop-i-preserved g c =
     let same : c.remove-copy.result ≡ y = set_there cs l.i c.remove-copy.result y there c.remove-copy.ensures.value in
     let after = c.remove-copy.new.self.items in
     record {
-      far = standing_out net c.requires.may_step.valid c.args.station ends c.args.bound c.args.copies.now.items cs
-          l.stage.done l.i l.stage.sent.items l.stage.over c.args.steps.now l.steps l.invariant.far there c.index_mut.result.now
+      far = stepped_to-out net c.requires.may_step.valid c.args.station ends c.args.bound c.args.copies.now.items cs
+          l.stage.done l.i l.stage.sent.items l.stage.over c.args.steps.now l.steps l.invariant.far there
+          c.index_mut.result.now
           c.index_mut.ensures.value c.requires.may_step.disjoint y after s.done f.done s.sent.items f.sent.items
           s.over f.over
           c.go_on.new.steps c.finish.new.steps one.onward
@@ -139,7 +142,7 @@ index-first-requires g c = omega (
   c.loop-i-test.true,
   c.len.ensures,
   c.loop-i.leasts.ok.0,
-  leasts_long c.loop-i.leasts.items c.loop-i.copies.items c.loop-i.invariant.each,
+  AllZip-long IsLate c.loop-i.leasts.items c.loop-i.copies.items c.loop-i.invariant.each,
 )
 
 pub index_mut-requires-in-Settled : goal.index_mut-requires-in-Settled
@@ -148,7 +151,7 @@ index_mut-requires-in-Settled g c = omega (
   c.loop-i-test.true,
   c.len.ensures,
   c.loop-i.leasts.ok.0,
-  leasts_long c.loop-i.leasts.items c.loop-i.copies.items c.loop-i.invariant.each,
+  AllZip-long IsLate c.loop-i.leasts.items c.loop-i.copies.items c.loop-i.invariant.each,
 )
 
 pub remove-requires : goal.remove-requires
@@ -157,7 +160,7 @@ remove-requires g c = omega (
   c.loop-i-test.true,
   c.len.ensures,
   c.loop-i.leasts.ok.0,
-  leasts_long c.loop-i.leasts.items c.loop-i.copies.items c.loop-i.invariant.each,
+  AllZip-long IsLate c.loop-i.leasts.items c.loop-i.copies.items c.loop-i.invariant.each,
 )
 
 pub returns-clause-each : goal.returns-clause-each
@@ -175,14 +178,14 @@ loop-i-preserved-then-bound-first g c =
     let first = c.index-first.result.now in
     let late : IsLate first x = least_at l.leasts.items cs l.i first first x l.invariant.each there
     c.index-first.ensures at.1 in
-    let fits = standing_fits net c.requires.may_step.valid c.args.station ends c.args.bound c.args.copies.now.items cs
+    let fits = stepped_to-fits net c.requires.may_step.valid c.args.station ends c.args.bound c.args.copies.now.items cs
     l.stage.done l.i l.stage.sent.items l.stage.over c.args.steps.now l.steps l.invariant.far there x at.1
     c.requires.may_step.fits in
     record {
-      far = standing_idle net c.requires.may_step.valid c.args.station ends c.args.bound c.args.copies.now.items cs
+      far = stepped_to-idle net c.requires.may_step.valid c.args.station ends c.args.bound c.args.copies.now.items cs
           l.stage.done l.i l.stage.sent.items l.stage.over c.args.steps.now l.steps l.invariant.far there x at.1
           c.requires.may_step.disjoint fits (late_before c.args.bound first x c.if-bound-first.true late);
-      late = subst (AreLate c.min-least.result) (sym (take_one cs l.i x there at.1))
+      late = subst (AreLate c.min-least.result) (sym (take_next cs l.i x there at.1))
           (late_put l.least first c.min-least.result (take l.i cs) x c.min-least.ensures l.invariant.late late);
       each = l.invariant.each;
       within = omega (arith, there);

@@ -1,13 +1,13 @@
 use Rattle.std.proofs.Common.{◌≡◌, ◌+◌, ◌-◌, ◌≤◌, length, take}
 use Rattle.std.specs.List.{AllZip}
-use Rattle.phys_proc.specs.Gone.{ends_in}
+use Rattle.phys_proc.specs.Ends.{ends_in}
 use Rattle.phys_proc.specs.Own.{IsLate, AreLate}
-use Rattle.phys_proc.proofs.Standing.{Standing}
+use Rattle.phys_proc.proofs.InPlace.{IsSteppedTo}
 use Rattle.phys_proc.proofs.stepping.step_in_place.Given as goal
 
 abbrev pub invariant-loop-i : goal.invariant-loop-i
 invariant-loop-i g l = record {
-  far : Standing l.model l.station (ends_in l.model.horizon l.ends) l.bound l.fn.copies.items l.i l.copies.items
+  far : IsSteppedTo l.model l.station (ends_in l.model.horizon l.ends) l.bound l.fn.copies.items l.i l.copies.items
       l.stage.done l.stage.sent.items l.stage.over l.fn.steps l.steps;
   late : AreLate l.least (take l.i l.copies.items);
   each : AllZip IsLate l.leasts.items l.copies.items;

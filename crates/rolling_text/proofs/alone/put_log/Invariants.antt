@@ -8,7 +8,7 @@ use Rattle.rolling_text.proofs.alone.put_log.Given as goal
 abbrev pub invariant-loop-left : goal.invariant-loop-left
 invariant-loop-left g l = record {
   taken : IsTakenTo (flat_map (entry_line l.model) l.log) (flat_map (entry_line l.model) l.walk)
-      (g.O.Sink.seen l.fn.out) (g.O.Sink.seen l.out);
+      (g.O.Sink.view l.fn.out) (g.O.Sink.view l.out);
   left : l.left ≡ length l.walk;
   free : MOST_LINE ≤ length l.piece;
 }

@@ -8,6 +8,6 @@ invariant-loop g l = record {
   order : l.made ≤ l.span.until;
   given : l.given ≡ span_of l.traces (record l.span { from = l.made });
   put : IsSpanPut l.traces (record l.span { until = l.made }) l.fn.texts.page l.texts.page
-      (g.O.Sink.seen l.fn.out) (g.O.Sink.seen l.out);
+      (g.O.Sink.view l.fn.out) (g.O.Sink.view l.out);
   can : CanPut l.traces.net l.texts;
 }

@@ -1,7 +1,8 @@
-use Rattle.std.proofs.Common.{◌+◌, ap, arith, length, refl, subst}
+use Rattle.std.proofs.Common.{◌+◌, ap, arith, length, refl, subst, sym}
 use Rattle.sim_base.specs.Clones.{clone_at}
 use Rattle.net_model.specs.Net.{Net}
 use Rattle.log_chain.specs.Times.{from_time}
+use Rattle.trace_report.specs.Slots.{AreNames}
 use Rattle.rolling_text.specs.Texts.{HaveShortLines}
 use Rattle.rolling_text.proofs.LogLaws.{log_rises_by_time, walk_is, all_gathered}
 use Rattle.rolling_text.proofs.ShortLines.{short_none, met_more}
@@ -10,17 +11,21 @@ use Rattle.rolling_text.proofs.bounds.meet_rest.Goals as goal
 pub loop-s-init : goal.loop-s-init
 loop-s-init c = record { short = short_none c.args.world.now.net; within = omega arith }
 
+pub meet_log-requires-clause-names : goal.meet_log-requires-clause-names
+meet_log-requires-clause-names c = subst (λ (n : Net). AreNames n c.args.names.now)
+    (sym c.model-model.ensures.value) c.requires.may_trace.names_are
+
 pub meet_log-requires-clause-rises : goal.meet_log-requires-clause-rises
-meet_log-requires-clause-rises c = log_rises_by_time c.args.world.now c.requires.over c.args.c c.requires.there
-    (c.loop-s.s + 1) c.log.result.now c.log.ensures.value
+meet_log-requires-clause-rises c = log_rises_by_time c.args.world.now c.requires.may_trace.over c.args.c
+    c.requires.there (c.loop-s.s + 1) c.log.result.now c.log.ensures.value
 
 pub loop-s-preserved : goal.loop-s-preserved
 loop-s-preserved c =
     let world = c.args.world.now in
     let sites = ap (λ (n : Net). length n.sites) c.model-model.ensures.value in
     let h = c.loop-s.invariant in
-    let walk = walk_is world c.requires.over c.args.c c.requires.there (c.loop-s.s + 1) c.args.from c.log.result.now
-    (from_time c.args.from c.log.result.now) c.log.ensures.value refl in
+    let walk = walk_is world c.requires.may_trace.over c.args.c c.requires.there (c.loop-s.s + 1) c.args.from
+    c.log.result.now (from_time c.args.from c.log.result.now) c.log.ensures.value refl in
     record {
       short = met_more world.net (clone_at world.clones c.args.c) c.loop-s.s c.args.from h.short
           (subst (HaveShortLines world.net) walk
@@ -35,7 +40,7 @@ returns c =
     let sites = ap (λ (n : Net). length n.sites) c.model-model.ensures.value in
     record {
       short = subst (HaveShortLines world.net)
-          (all_gathered world c.requires.over c.args.c c.requires.there c.loop-s.s c.args.from _
+          (all_gathered world c.requires.may_trace.over c.args.c c.requires.there c.loop-s.s c.args.from _
           (omega (arith, c.loop-s-test.false, c.loop-s.auto.s-end, c.len-s-end.ensures.value, sites)) refl)
           c.loop-s.invariant.short;
     }

@@ -31,8 +31,8 @@ loop-s-preserved c =
     ap length c.walk_from.ensures.value ∙ length-drop c.place_of_time-place.result log in
     let long = c.len.ensures.value in
     record {
-      left = gathered world c.requires.over c.args.c c.requires.there c.loop-s.s c.args.time c.loop-s.cursor.left log walk
-          c.add.new.self.left h.left c.log-log.ensures.value
+      left = gathered world c.requires.over c.args.c c.requires.there c.loop-s.s c.args.time c.loop-s.cursor.left log
+          walk c.add.new.self.left h.left c.log-log.ensures.value
           (c.walk_from.ensures.value ∙ c.place_of_time-place.ensures.value) (ap (λ (v : CursorView). v.left) added);
       count = omega (arith, h.count, size, new, rest, long, c.saturating_sub-count.ensures);
       few = omega (arith, h.few, long, c.log-log.ensures.short, c.saturating_sub-count.ensures);

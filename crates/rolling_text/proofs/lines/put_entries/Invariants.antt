@@ -8,7 +8,7 @@ abbrev pub invariant-loop-left : goal.invariant-loop-left
 invariant-loop-left g l = record {
   put : IsPutTo l.keeps (flat_map (entry_line l.model) l.fn.cursor.left) (flat_map (entry_line l.model) l.cursor.left)
       l.fn.page l.page
-      (g.O.Sink.seen l.fn.out) (g.O.Sink.seen l.out);
+      (g.O.Sink.view l.fn.out) (g.O.Sink.view l.out);
   left : l.left ≤ length l.cursor.left;
   behind : drop l.left l.cursor.left ≡ drop l.count l.fn.cursor.left;
   size : length l.piece ≡ length l.fn.piece;

@@ -35,7 +35,8 @@ returns c =
     let sites = ap (λ (n : Net). length n.sites) c.model.ensures.value in
     record {
       value = c.loop-s.invariant.count ∙ ap length (all_gathered world c.requires.over c.args.c c.requires.there
-          c.loop-s.s c.args.time (merge_of_rests (simulation world.net) sender_of number_of (clone_at world.clones c.args.c)
-          c.args.time c.loop-s.s)
+          c.loop-s.s c.args.time
+          (merge_of_rests (simulation world.net) sender_of number_of (clone_at world.clones c.args.c) c.args.time
+          c.loop-s.s)
           (omega (arith, c.loop-s-test.false, c.loop-s.auto.s-end, c.len-s-end.ensures.value, sites)) refl);
     }

@@ -1,5 +1,6 @@
 use Rattle.std.proofs.Common.{◌≡◌, ◌-◌, ◌++◌, ◌∙◌, ap, arith, drop, take}
 use Rattle.sim_base.specs.Clones.{clone_at}
+use Rattle.rolling_text.specs.declared.texts.TheConstants.{MARGIN}
 use Rattle.rolling_text.specs.Texts.{body, rest}
 use Rattle.rolling_text.proofs.Joined.{can_drop, kept_joined, margin_stays, text_is}
 use Rattle.rolling_text.proofs.putting.begin_text.Goals as goal
@@ -13,13 +14,13 @@ overflow_sub-keep c =
     omega (arith, a, c.len.ensures.value)
 
 -- what is kept and the clone's own rest are its lines
-joined : (c : goal.After-put_head) → drop 32 c.cut.new.self.text
+joined : (c : goal.After-put_head) → drop MARGIN c.cut.new.self.text
     ++ rest c.args.traces.now.net (clone_at c.args.traces.now.clones c.args.c) c.args.time
     ≡ body c.args.traces.now.net (clone_at c.args.traces.now.clones c.args.c)
 joined c =
     let v = c.args.traces.now in
     let is = c.len-clones.ensures in
-    ap (λ t. drop 32 c.cut.new.self.text ++ rest v.net (clone_at v.clones c.args.c) t) c.requires.time
+    ap (λ t. drop MARGIN c.cut.new.self.text ++ rest v.net (clone_at v.clones c.args.c) t) c.requires.time
     ∙ kept_joined v.net is.valid v.clones is.in_net c.args.c c.args.dropped c.requires.there c.args.page.now.text
     c.requires.margin c.requires.left c.cut.new.self.text
     (c.cut.ensures.text ∙ ap (λ n. take (n - c.args.dropped) c.args.page.now.text) c.len.ensures.value)

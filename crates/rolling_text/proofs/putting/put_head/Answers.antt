@@ -14,8 +14,8 @@ pub put_at-requires-3 : goal.put_at-requires-3
 put_at-requires-3 c = let few = short_name c.as_bytes-bytes.result.now c.as_bytes-bytes.ensures.named in
     record {
       within = third_fits c.as_bytes-bytes.result.now c.args.page.now.text c.put_at.new.self.text
-          c.put_at-2.new.self.text _ (length c.as_bytes-bytes.result.now) refl few c.requires.margin c.put_at.ensures.text
-          c.put_at-2.ensures.text refl;
+          c.put_at-2.new.self.text _ (length c.as_bytes-bytes.result.now) refl few c.requires.margin
+          c.put_at.ensures.text c.put_at-2.ensures.text refl;
     }
 
 pub returns-clause-size : goal.returns-clause-size

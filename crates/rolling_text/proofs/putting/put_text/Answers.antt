@@ -23,16 +23,18 @@ put_rest-requires-clause-fits g c κs within =
 
 pub returns-in-Err-put_rest-clause-err : goal.returns-in-Err-put_rest-clause-err
 returns-in-Err-put_rest-clause-err g c =
-    let v = c.args.traces.now in
     let begun = c.begin_text-start in
     rest_cut _ _ _ begun.ensures.text _ _ _ c.in-Ok.ensures.ok c.in-Err-put_rest.ensures.err
 
 pub returns-in-Ok-put-clause-ok : goal.returns-in-Ok-put-clause-ok
 returns-in-Ok-put-clause-ok g c =
-    let v = c.args.traces.now in
     let begun = c.begin_text-start in
     text_put _ _ _ begun.ensures.text _ _ _ _ c.in-Ok.ensures.ok c.in-Ok-put_rest.ensures.ok
-    (record { bytes = c.in-Ok-put.ensures.ok; later = c.in-Ok-put.ensures.later; counted = c.in-Ok-put.ensures.counted })
+    (record {
+      bytes = c.in-Ok-put.ensures.ok;
+      later = c.in-Ok-put.ensures.later;
+      counted = c.in-Ok-put.ensures.counted;
+    })
 
 pub returns-in-Ok-put-clause-left : goal.returns-in-Ok-put-clause-left
 returns-in-Ok-put-clause-left g c next =
@@ -54,7 +56,6 @@ returns-in-Ok-put-clause-left g c next =
 
 pub returns-in-Err-put-clause-err : goal.returns-in-Err-put-clause-err
 returns-in-Err-put-clause-err g c =
-    let v = c.args.traces.now in
     let begun = c.begin_text-start in
     end_cut _ _ _ begun.ensures.text _ _ _ _ c.in-Ok.ensures.ok c.in-Ok-put_rest.ensures.ok
     (record {

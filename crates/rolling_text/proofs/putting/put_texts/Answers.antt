@@ -1,9 +1,11 @@
 use Rattle.std.proofs.Common.{◌<◌, [], append-nil, arith, refl, ap, ◌∙◌, length, drop}
 use Rattle.std.proofs.Math.ListN.{drop_of_length-le}
+use Rattle.sim_outer.proofs.Appending.{appended_nothing}
+use Rattle.sim_outer.proofs.Counts.{none_counted, counted_more}
+use Rattle.rolling_text.specs.declared.texts.TheConstants.{MARGIN}
 use Rattle.rolling_text.specs.Texts.{parting_at}
 use Rattle.rolling_text.proofs.AllTexts.{put_whole, put_part}
-use Rattle.rolling_text.proofs.Calls.{none_counted, counted_more, counted_to}
-use Rattle.rolling_text.proofs.Pieces.{appended_nothing}
+use Rattle.rolling_text.proofs.Calls.{counted_to}
 use Rattle.rolling_text.proofs.putting.put_texts.Goals as goal
 
 pub loop-c-init : goal.loop-c-init
@@ -13,13 +15,13 @@ loop-c-init g c = record {
   reserved = omega arith;
   left = λ more. record {
     others = [];
-    before = append-nil (drop 32 c.args.texts.page.text)
-        ∙ drop_of_length-le c.args.texts.page.text {i = 32} (omega (arith, c.requires.ready.margin));
+    before = append-nil (drop MARGIN c.args.texts.page.text)
+        ∙ drop_of_length-le c.args.texts.page.text {i = MARGIN} (omega (arith, c.requires.ready.margin));
     drops = refl;
   };
-  appended = appended_nothing (g.O.Sink.seen c.args.out.now).bytes;
+  appended = appended_nothing (g.O.Sink.view c.args.out.now).bytes;
   later = omega arith;
-  counted = none_counted (g.O.Sink.seen c.args.out.now).calls;
+  counted = none_counted (g.O.Sink.view c.args.out.now).calls;
 }
 
 pub put_text-requires-clause-fits : goal.put_text-requires-clause-fits
@@ -34,8 +36,8 @@ returns-in-Err-clause-part g c =
 
 pub returns-in-Err-clause-some : goal.returns-in-Err-clause-some
 returns-in-Err-clause-some g c =
-    counted_to c.loop-c.c (length (c.args.traces.now.clones)) (g.O.Sink.seen c.args.out.now).calls
-    (g.O.Sink.seen c.loop-c.out).calls (g.O.Sink.seen c.put_text.new.out).calls
+    counted_to c.loop-c.c (length (c.args.traces.now.clones)) (g.O.Sink.view c.args.out.now).calls
+    (g.O.Sink.view c.loop-c.out).calls (g.O.Sink.view c.put_text.new.out).calls
     (omega (arith, c.loop-c-test.true, c.len-clones.ensures.value)) c.loop-c.invariant.counted
     c.in-Err.ensures.err.counted
 
@@ -51,9 +53,10 @@ loop-c-preserved g c =
       can = put.can;
       margin = put.margin;
       reserved = omega (arith, h.reserved, put.reserved);
-      left = λ more. put.left (c.parts_at-next.ensures.value ∙ ap (parting_at net cs) (omega (arith, more, c.min.ensures)));
+      left = λ more.
+          put.left (c.parts_at-next.ensures.value ∙ ap (parting_at net cs) (omega (arith, more, c.min.ensures)));
       appended = put_whole net cs c.loop-c.c there _ _ _ h.appended put.ok.bytes;
       later = omega (arith, h.later, more_faults);
-      counted = counted_more c.loop-c.c (g.O.Sink.seen c.args.out.now).calls (g.O.Sink.seen c.loop-c.out).calls
-          (g.O.Sink.seen c.put_text.new.out).calls h.counted put.ok.counted;
+      counted = counted_more c.loop-c.c (g.O.Sink.view c.args.out.now).calls (g.O.Sink.view c.loop-c.out).calls
+          (g.O.Sink.view c.put_text.new.out).calls h.counted put.ok.counted;
     }

@@ -14,9 +14,9 @@ invariant-loop-c g l = record {
   margin : MARGIN ≤ length l.texts.page.text;
   reserved : l.fn.texts.page.reserved ≤ l.texts.page.reserved;
   left : l.c < l.clones → AreLeft l.traces.net l.traces.clones l.c l.dropped (drop MARGIN l.texts.page.text);
-  appended : IsAppended (g.O.Sink.seen l.fn.out).bytes
+  appended : IsAppended (g.O.Sink.view l.fn.out).bytes
       (flat_map (clone_text l.traces.net) (take l.c l.traces.clones))
-      (g.O.Sink.seen l.out).bytes;
-  later : (g.O.Sink.seen l.fn.out).faults ≤ (g.O.Sink.seen l.out).faults;
-  counted : AreCounted l.c (g.O.Sink.seen l.fn.out).calls (g.O.Sink.seen l.out).calls;
+      (g.O.Sink.view l.out).bytes;
+  later : (g.O.Sink.view l.fn.out).faults ≤ (g.O.Sink.view l.out).faults;
+  counted : AreCounted l.c (g.O.Sink.view l.fn.out).calls (g.O.Sink.view l.out).calls;
 }

@@ -36,5 +36,5 @@ returns-clause-err g c =
     ∙ ap (λ (v : WorldTracesView). v.net) c.traces.view_is)
     c.gather_span-count.ensures.left in
     on_err_weaker c.put_entries.result
-    (λ cut. subst (λ l. IsCutOff l (g.O.Sink.seen c.args.out.now) (g.O.Sink.seen c.put_entries.new.out)) lines cut)
+    (λ cut. subst (λ l. IsCutOff l (g.O.Sink.view c.args.out.now) (g.O.Sink.view c.put_entries.new.out)) lines cut)
     c.put_entries.ensures.err

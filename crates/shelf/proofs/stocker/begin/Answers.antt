@@ -2,7 +2,7 @@ use Rattle.std.proofs.Common.{◌≡◌, ◌∙◌, ap, sym, subst, map, List}
 use Rattle.std.specs.Arc.{arc_value}
 use Rattle.phys_proc.specs.Racks.{RackView}
 use Rattle.shelf.specs.Racks.{AreShown, OneEach}
-use Rattle.shelf.proofs.Legals.{opens}
+use Rattle.shelf.proofs.Legals.{AreShown-opening}
 use Rattle.shelf.proofs.stocker.begin.Goals as goal
 
 pub of-requires : goal.of-requires
@@ -12,5 +12,5 @@ of-requires g c =
     c.again.ensures.value ∙ (c.in_ok-published.ensures.opening ∙ ap (map arc_value) c.as_slice.ensures.value) in
     record {
       shown = subst (λ (p : List RackView). AreShown racks p) (sym e)
-          (opens racks (subst OneEach (sym c.in_ok-racks.ensures.value) c.requires.opening.each));
+          (AreShown-opening racks (subst OneEach (sym c.in_ok-racks.ensures.value) c.requires.opening.each));
     }

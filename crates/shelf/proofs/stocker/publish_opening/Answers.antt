@@ -1,4 +1,4 @@
-use Rattle.std.proofs.Common.{◌≡◌, ◌+◌, ◌≤◌, ◌∙◌, ap, sym, arith, length, map}
+use Rattle.std.proofs.Common.{◌∙◌, arith}
 use Rattle.std.specs.Arc.{arc_value}
 use Rattle.shelf.proofs.Legals.{MayOpen-next}
 use Rattle.shelf.proofs.stocker.publish_opening.Goals as goal

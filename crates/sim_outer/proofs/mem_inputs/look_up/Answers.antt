@@ -2,7 +2,7 @@ use Rattle.std.proofs.Common.{rules, ◌≡◌, true, false, sym, ◌∙◌}
 use Rattle.std.specs.Cmp.Lexicographic.{nat_list_cmp_total}
 use Rattle.std.specs.FinMap as finite
 use Rattle.std.specs.Str.{bytes_eq}
-use Rattle.sim_outer.proofs.Named.{find-drop}
+use Rattle.sim_outer.proofs.Finding.{find-drop}
 use Rattle.sim_outer.proofs.mem_inputs.look_up.Goals as goal
 
 pub loop-word-init : goal.loop-word-init

@@ -1,5 +1,5 @@
 use Rattle.std.proofs.Common.{rules}
-use Rattle.sim_outer.proofs.Written.{Appends-more}
+use Rattle.sim_outer.proofs.Writing.{Appends-more}
 use Rattle.sim_outer.proofs.real.write_whole.Goals as goal
 
 pub loop-done-preserved : goal.loop-done-preserved

@@ -17,7 +17,8 @@ loop-k-preserved c =
     let more = drop_more c.args.list.now k none c.loop-k-test.true in
     let number : suc k ≡ k + 1 = omega arith in
     let e : c.insert.new.self.messages ≡ insert msg_cmp (set_message k plan) c.loop-k.pending.messages =
-    ap (λ (v : EventListView). v.messages) c.in_ok-insert.ensures.ok in
+    ap (λ (v : EventListView). v.messages) c.in_ok-insert.ensures.ok
+    ∙ ap (λ m. insert msg_cmp m c.loop-k.pending.messages) c.set_message.ensures.value in
     record {
       added = λ net. let sim = simulation net in
           rw e (ap (λ j. insert_all msg_cmp (set_messages sim j (drop (k + 1) c.args.list.now))

@@ -1,14 +1,11 @@
-use Rattle.std.proofs.Common.{◌≡◌, ℕ, ◌-◌, ◌<◌, ◌∙◌, arith, refl, subst, sym}
+use Rattle.std.proofs.Common.{◌-◌, ◌<◌, ◌∙◌, arith, refl, subst, sym}
+use Rattle.std.proofs.Math.Path.{subst₂}
 use Rattle.world_core.specs.Overs.{IsFault}
 use Rattle.world_core.specs.Worlds.{total_handled}
 use Rattle.study_run.specs.Faults.{StopsAll}
 use Rattle.study_run.proofs.Goings.{gone}
 use Rattle.study_run.proofs.Worlds.{comes_in, rises_in, steps_in, stops_in}
 use Rattle.study_run.proofs.study.go_on.Goals as goal
-
--- a relation of two numbers, by their other names
-both : {s t c d : ℕ} (P : ℕ → ℕ → Type 0) → s ≡ t → c ≡ d → P s c → P t d
-both {s} {t} {c} {d} P e f h = subst (λ k. P k d) e (subst (λ k. P s k) f h)
 
 pub window-init : goal.window-init
 window-init g c = record {
@@ -39,7 +36,7 @@ returns-in-Err-EventLimit-clause-stopped g c start is =
     (subst (λ e. IsFault c.window.world.net c.window.world.clones c.window.world.front c.bound-bound.result
     c.window.steps c.window-in-window.new.steps e)
     c.in-Err-EventLimit.field-0-is c.in-Err-EventLimit.ensures.fault) in
-    both (StopsAll c.args.model.now c.args.world.clones start c.window-in-window.new.steps)
+    subst₂ (StopsAll c.args.model.now c.args.world.clones start c.window-in-window.new.steps)
     (sym c.in-Err-EventLimit.station-is) (sym c.in-Err-EventLimit.who-is) stops
 
 pub window-smaller : goal.window-smaller

@@ -1,13 +1,14 @@
 use Rattle.std.proofs.Common.{sym, arith}
-use Rattle.trace_report.proofs.Tenths.{one_digit, two_digits, three_digits, four_digits, five_digits}
-use Rattle.trace_report.proofs.Tenths.{six_digits, seven_digits, eight_digits, nine_digits, ten_digits}
+use Rattle.itoa.proofs.Decimal.{length_one, length_two}
+use Rattle.trace_report.proofs.Tenths.{three_digits, four_digits, five_digits, six_digits}
+use Rattle.trace_report.proofs.Tenths.{seven_digits, eight_digits, nine_digits, ten_digits}
 use Rattle.trace_report.proofs.digits.few_digits.Goals as goal
 
 pub returns-then-n-lt10-clause-count : goal.returns-then-n-lt10-clause-count
-returns-then-n-lt10-clause-count c = sym (one_digit c.args.n (omega arith))
+returns-then-n-lt10-clause-count c = sym (length_one c.args.n (omega arith))
 
 pub returns-then-n-lt100-clause-count : goal.returns-then-n-lt100-clause-count
-returns-then-n-lt100-clause-count c = sym (two_digits c.args.n (omega arith) (omega arith))
+returns-then-n-lt100-clause-count c = sym (length_two c.args.n (omega arith) (omega arith))
 
 pub returns-then-n-lt1000-clause-count : goal.returns-then-n-lt1000-clause-count
 returns-then-n-lt1000-clause-count c = sym (three_digits c.args.n (omega arith) (omega arith))

@@ -5,8 +5,12 @@ use Rattle.trace_report.proofs.line.write_line.Goals as goal
 pub returns-clause-text : goal.returns-clause-text
 returns-clause-text c =
     let entry = c.args.entry.now in
-    rw (c.put_end.ensures.text, c.put-at.ensures.text, c.put_payload-at.ensures.text, c.put_key-at.ensures.text)
-    (line_of_parts c.args.model.now entry.msg.key entry.msg.to entry.msg.payload entry.line _)
+    rw (
+      c.put_end.ensures.written.text,
+      c.put-at.ensures.text,
+      c.put_payload-at.ensures.written.text,
+      c.put_key-at.ensures.written.text,
+    ) (line_of_parts c.args.model.now entry.msg.key entry.msg.to entry.msg.payload entry.line _)
 
 pub returns-clause-place : goal.returns-clause-place
 returns-clause-place c =
@@ -15,12 +19,12 @@ returns-clause-place c =
     (omega (
       arith,
       c.requires.free,
-      c.put_end.ensures.size,
+      c.put_end.ensures.written.size,
       c.put-at.ensures.size,
-      c.put_payload-at.ensures.size,
-      c.put_key-at.ensures.size,
-      c.put_end.ensures.near,
+      c.put_payload-at.ensures.written.size,
+      c.put_key-at.ensures.written.size,
+      c.put_end.ensures.written.near,
       c.put-at.ensures.place,
-      c.put_payload-at.ensures.near,
-      c.put_key-at.ensures.near,
+      c.put_payload-at.ensures.written.near,
+      c.put_key-at.ensures.written.near,
     ))

@@ -1,16 +1,16 @@
 use Rattle.std.proofs.Common.{arith}
-use Rattle.log_chain.specs.Packing.{packed_entry}
+use Rattle.log_chain.specs.Packing.{unpacked_entry}
 use Rattle.trace_report.proofs.Lines.{line_of_parts, place_behind}
 use Rattle.trace_report.proofs.line.write_packed.Goals as goal
 
 pub returns-clause-text : goal.returns-clause-text
 returns-clause-text c =
-    let entry = packed_entry c.args.packed.now in
+    let entry = unpacked_entry c.args.packed.now in
     rw (
-      c.put_end.ensures.text,
+      c.put_end.ensures.written.text,
       c.put-at.ensures.text,
-      c.put_payload-at.ensures.text,
-      c.put_key-at.ensures.text,
+      c.put_payload-at.ensures.written.text,
+      c.put_key-at.ensures.written.text,
       c.key.ensures.value,
       c.to.ensures.value,
       c.payload.ensures.value,
@@ -24,12 +24,12 @@ returns-clause-place c =
     (omega (
       arith,
       c.requires.free,
-      c.put_end.ensures.size,
+      c.put_end.ensures.written.size,
       c.put-at.ensures.size,
-      c.put_payload-at.ensures.size,
-      c.put_key-at.ensures.size,
-      c.put_end.ensures.near,
+      c.put_payload-at.ensures.written.size,
+      c.put_key-at.ensures.written.size,
+      c.put_end.ensures.written.near,
       c.put-at.ensures.place,
-      c.put_payload-at.ensures.near,
-      c.put_key-at.ensures.near,
+      c.put_payload-at.ensures.written.near,
+      c.put_key-at.ensures.written.near,
     ))

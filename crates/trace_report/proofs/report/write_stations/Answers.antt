@@ -11,13 +11,19 @@ loop-s-preserved c =
     let more = station_lines_more c.args.model.now c.args.figures.now c.loop-s.s (as_site c.station.result.now)
     (record { copies = 0; handled = 0; alone = 0 }) (take c.args.start c.args.bytes.now) (omega arith)
     (omega arith) c.station.ensures.value in (
-      cc (more, c.write_figures-at.ensures.text, c.loop-s.invariant.0),
-      omega (arith, c.write_figures-at.ensures.near, c.loop-s.invariant.1),
+      cc (more, c.write_figures-at.ensures.written.text, c.loop-s.invariant.0),
+      omega (arith, c.write_figures-at.ensures.written.near, c.loop-s.invariant.1),
     )
 
-pub returns-clause-text : goal.returns-clause-text
-returns-clause-text c =
+pub returns : goal.returns
+returns c =
     let sites = c.args.model.now.sites in
     let whole : take c.loop-s.s (zip sites c.args.figures.now) ≡ zip sites c.args.figures.now =
     take_all c.loop-s.s _ (omega (arith, length-zip sites c.args.figures.now)) in
-    rw (c.loop-s.invariant.0, whole) refl
+    record {
+      written = record {
+        text = rw (c.loop-s.invariant.0, whole) refl;
+        size = omega arith;
+        near = omega arith;
+      };
+    }

@@ -1,13 +1,13 @@
 use Rattle.std.proofs.Common.{◌∷◌, [], arith, sym, subst, take}
 use Rattle.std.proofs.lemmas.List.{take_all}
+use Rattle.sim_base.proofs.Elements.{take_next}
 use Rattle.world_core.specs.Windows.{AllDelivered}
-use Rattle.world_core.proofs.Places.{take_next}
-use Rattle.world_core.proofs.Delivering.{delivered_more, still_numbered}
+use Rattle.world_core.proofs.Delivering.{AllDelivered-append, AreNumbered-delivered}
 use Rattle.world_core.proofs.delivery.deliver_all.Goals as goal
 
 pub deliver_to-requires : goal.deliver_to-requires
 deliver_to-requires c = record {
-  numbered = still_numbered (take c.loop-pair.pair-index c.args.sent.now)
+  numbered = AreNumbered-delivered (take c.loop-pair.pair-index c.args.sent.now)
       c.args.procs.now.items c.loop-pair.procs.items c.requires.numbered c.loop-pair.invariant;
 }
 
@@ -17,7 +17,7 @@ loop-pair-preserved c =
     let i = c.loop-pair.pair-index in
     subst (λ l. AllDelivered l c.args.procs.now.items c.deliver_to.new.procs.items)
     (sym (take_next ms i c.pair-item.result c.loop-pair-test.true c.pair-item.is))
-    (delivered_more (take i ms) (c.pair-item.result ∷ []) c.args.procs.now.items c.loop-pair.procs.items
+    (AllDelivered-append (take i ms) (c.pair-item.result ∷ []) c.args.procs.now.items c.loop-pair.procs.items
     c.deliver_to.new.procs.items c.loop-pair.invariant c.in_ok-deliver_to.ensures.given)
 
 pub returns : goal.returns

@@ -1,5 +1,5 @@
 use Rattle.std.proofs.Common.{◌-◌, arith}
-use Rattle.world_core.proofs.Delivering.{to_none, to_one}
+use Rattle.world_core.proofs.Delivering.{AllDelivered-none, AllDelivered-one}
 use Rattle.world_core.proofs.delivery.deliver_to.Goals.{else-msg-ge1-via-then-msg-ge1+else-msg-len}
 use Rattle.world_core.proofs.delivery.deliver_to.Goals.{else-msg-ge1-via-else-msg-ge1}
 use Rattle.world_core.proofs.delivery.deliver_to.Goals as goal
@@ -11,7 +11,7 @@ returns-in_ok-deliver c =
     let many = c.len.ensures in
     let d = c.in_ok-deliver.ensures in
     record {
-      given = to_one c.args.msg c.args.set c.args.procs.now.items (c.args.msg.to - 1) c.index_mut.result.now
+      given = AllDelivered-one c.args.msg c.args.set c.args.procs.now.items (c.args.msg.to - 1) c.index_mut.result.now
           c.deliver.new.self
           (omega (arith, one, few, many)) (omega (arith, one)) c.index_mut.ensures.value d.given d.station d.living
           d.handled d.proc;
@@ -22,8 +22,14 @@ returns-else-msg-ge1 c = elim c.else-msg-ge1.branch [
   | else-msg-ge1-via-then-msg-ge1+else-msg-len w ↦
       let few = w.if-msg-len.false in
       let many = w.len.ensures in
-      record { given = to_none c.args.msg c.args.set c.args.procs.now.items (λ i l e. omega (arith, l, e, few, many)) }
+      record {
+        given = AllDelivered-none c.args.msg c.args.set c.args.procs.now.items
+            (λ i l e. omega (arith, l, e, few, many));
+      }
   | else-msg-ge1-via-else-msg-ge1 w ↦
       let none = w.if-msg-ge1.false in
-      record { given = to_none c.args.msg c.args.set c.args.procs.now.items (λ i l e. omega (arith, e, none)) }
+      record {
+        given = AllDelivered-none c.args.msg c.args.set c.args.procs.now.items
+            (λ i l e. omega (arith, e, none));
+      }
 ]

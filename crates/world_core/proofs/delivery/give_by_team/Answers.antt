@@ -1,4 +1,4 @@
-use Rattle.phys_proc.specs.Gone.{ends_in}
+use Rattle.phys_proc.specs.Ends.{ends_in}
 use Rattle.world_core.proofs.Working.{mail_answered, mail_ready}
 use Rattle.world_core.proofs.delivery.give_by_team.Goals as goal
 
@@ -12,7 +12,7 @@ returns g c =
     let w = c.in_ok-work.work.value in
     record {
       given = mail_answered w.net (ends_in w.net.horizon w.ends) w.bound c.args.sent.now c.args.procs.items
-          c.in_ok-posts.posts.items c.in_ok-jobs.jobs.items c.in_ok-given.given.items c.in_ok-team.dones.items
+          c.in_ok-posts.posts.items c.in_ok-jobs.jobs.items c.in_ok-given.given.items c.in_ok-team.answers.items
           c.in_ok-jobs.ensures.jobs c.in_ok-given.ensures.procs c.in_ok-posts.ensures.posts
           c.in_ok-team.ensures.count c.in_ok-team.ensures.answers;
     }

@@ -1,8 +1,8 @@
 use Rattle.std.proofs.Common.{◌≡◌, ◌+◌, ◌*◌, arith, ap, ap₂, sym, ◌∙◌, length, take}
 use Rattle.std.proofs.lemmas.List.{take_all}
+use Rattle.sim_base.proofs.Elements.{take_next}
 use Rattle.clone_sets.specs.Sets.{size}
 use Rattle.phys_proc.specs.Own.{handled_alone_by}
-use Rattle.world_core.proofs.Places.{take_next}
 use Rattle.world_core.proofs.DueTimes.{alone_next, alone_within}
 use Rattle.world_core.proofs.looking.alone_in.Goals as goal
 

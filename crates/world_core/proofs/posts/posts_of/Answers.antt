@@ -1,12 +1,12 @@
 use Rattle.std.proofs.Common.{arith, sym, subst, take}
 use Rattle.std.proofs.lemmas.List.{take_all}
+use Rattle.sim_base.proofs.Elements.{take_next}
 use Rattle.world_core.specs.Posts.{ArePosts}
-use Rattle.world_core.proofs.Places.{take_next}
-use Rattle.world_core.proofs.Mail.{posts_none}
+use Rattle.world_core.proofs.Mail.{ArePosts-none}
 use Rattle.world_core.proofs.posts.posts_of.Goals as goal
 
 pub loop-pair-init : goal.loop-pair-init
-loop-pair-init c = posts_none c.args.procs.items c.in_ok-posts.posts.items c.in_ok-posts.ensures.empty
+loop-pair-init c = ArePosts-none c.args.procs.items c.in_ok-posts.posts.items c.in_ok-posts.ensures.empty
 
 pub loop-pair-preserved : goal.loop-pair-preserved
 loop-pair-preserved c =

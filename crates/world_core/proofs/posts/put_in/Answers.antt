@@ -1,5 +1,5 @@
 use Rattle.std.proofs.Common.{◌-◌, arith}
-use Rattle.world_core.proofs.Mail.{sorted_none, sorted_one}
+use Rattle.world_core.proofs.Mail.{ArePosts-other, ArePosts-push}
 use Rattle.world_core.proofs.posts.put_in.Goals.{else-msg-ge1-via-then-msg-ge1+else-msg-len}
 use Rattle.world_core.proofs.posts.put_in.Goals.{else-msg-ge1-via-else-msg-ge1}
 use Rattle.world_core.proofs.posts.put_in.Goals as goal
@@ -10,7 +10,7 @@ returns-in_ok-put c =
     let few = c.if-msg-len.true in
     let many = c.len.ensures in
     record {
-      sorted = λ sent procs h. sorted_one c.args.msg c.args.set sent procs c.args.posts.now.items (c.args.msg.to - 1)
+      sorted = λ sent procs h. ArePosts-push c.args.msg c.args.set sent procs c.args.posts.now.items (c.args.msg.to - 1)
           c.index_mut.result.now c.put.new.self (omega (arith, one, few, many)) (omega (arith, one))
           c.index_mut.ensures.value c.in_ok-put.ensures.proc c.in_ok-put.ensures.mail h;
     }
@@ -21,13 +21,13 @@ returns-else-msg-ge1 c = elim c.else-msg-ge1.branch [
       let few = w.if-msg-len.false in
       let many = w.len.ensures in
       record {
-        sorted = λ sent procs h. sorted_none c.args.msg c.args.set sent procs c.args.posts.now.items
+        sorted = λ sent procs h. ArePosts-other c.args.msg c.args.set sent procs c.args.posts.now.items
             (λ i l e. omega (arith, l, e, few, many)) h;
       }
   | else-msg-ge1-via-else-msg-ge1 w ↦
       let none = w.if-msg-ge1.false in
       record {
-        sorted = λ sent procs h. sorted_none c.args.msg c.args.set sent procs c.args.posts.now.items
+        sorted = λ sent procs h. ArePosts-other c.args.msg c.args.set sent procs c.args.posts.now.items
             (λ i l e. omega (arith, e, none)) h;
       }
 ]

@@ -1,8 +1,9 @@
 use Rattle.std.proofs.Common.{◌≡◌, inl, inr, arith, sym, ap, ◌∙◌, subst}
 use Rattle.std.proofs.lemmas.Bool.{cases_eq}
+use Rattle.std.proofs.lemmas.Option.{slice_get_within}
 use Rattle.world_core.specs.declared.flow.Flow.{Flow}
 use Rattle.clone_sets.specs.Sets.{IsFirst}
-use Rattle.world_core.proofs.Places.{got_at, at_got, one_got}
+use Rattle.world_core.proofs.Places.{got_at, one_got}
 use Rattle.world_core.proofs.windows.first_over.Goals as goal
 
 pub returns-in-Some-clause-first : goal.returns-in-Some-clause-first
@@ -27,6 +28,5 @@ loop-i-preserved c = λ j f l got. elim (cases_eq j c.loop-i.i) [
 
 pub returns-clause-first : goal.returns-clause-first
 returns-clause-first c = λ i flow got.
-    let h = at_got c.args.flows.now i flow flow got in
-    let l = h.0 in
+    let l = slice_get_within c.args.flows.now i flow got in
     c.loop-i.invariant i flow (omega (arith, l, c.loop-i-test.false, c.loop-i.auto.i-end)) got

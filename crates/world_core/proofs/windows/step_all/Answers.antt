@@ -1,5 +1,5 @@
 use Rattle.std.proofs.Common.{subst, sym}
-use Rattle.phys_proc.specs.Gone.{ends_in}
+use Rattle.phys_proc.specs.Ends.{ends_in}
 use Rattle.world_core.specs.Windows.{AllNumbered, WindowView}
 use Rattle.world_core.specs.Stepping.{AllStepped}
 use Rattle.world_core.proofs.windows.step_all.Goals as goal

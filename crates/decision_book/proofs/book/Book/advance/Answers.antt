@@ -1,12 +1,13 @@
 use Rattle.std.proofs.Common.{ap, List}
 use Rattle.decision_book.specs.Journal.{Event}
-use Rattle.decision_book.proofs.Booking.{advanced, journal_advanced}
+use Rattle.decision_book.proofs.Booking.{IsBook-front, journal_of-front}
 use Rattle.decision_book.proofs.book.Book.advance.Goals as goal
 
 pub invariant_of-self-2 : goal.invariant_of-self-2
 invariant_of-self-2 c =
     let b = c.self.inside in
-    rw c.in_ok-push.ensures.ok (advanced b.model.value b.lists b.calls b.fronts b.front c.args.front c.self.invariant
+    rw c.in_ok-push.ensures.ok
+    (IsBook-front b.model.value b.lists b.calls b.fronts b.front c.args.front c.self.invariant
     (rw (← c.self.view_is, c.self.invariant.situation) at c.requires.above)
     (rw (← c.self.view_is) at c.requires.within))
 
@@ -15,4 +16,4 @@ returns-clause-ok c =
     let b = c.self.inside in
     rw (c.in_ok-push.ensures.ok, ← c.self.view_is)
     (ap (λ (es : List Event). record { net = b.model.value; events = es })
-    (journal_advanced b.model.value b.lists b.calls b.fronts b.front c.args.front c.self.invariant))
+    (journal_of-front b.model.value b.lists b.calls b.fronts b.front c.args.front c.self.invariant))

@@ -1,6 +1,6 @@
 use Rattle.std.proofs.Common.{arith, ap, ◌∙◌}
 use Rattle.decision_desk.specs.Passes.{HelmView, PassView}
-use Rattle.decision_desk.proofs.Restings.{joins}
+use Rattle.decision_desk.proofs.Restings.{Joins-pass}
 use Rattle.decision_desk.proofs.desk.Desk.absorb.Goals as goal
 
 pub join_seat-requires : goal.join_seat-requires
@@ -10,7 +10,7 @@ join_seat-requires c =
       ap (λ (h : HelmView). h.desk) c.helm.view_is ∙ c.requires.helm,
       ap (λ (h : PassView). h.desk) c.pass.view_is ∙ c.requires.pass,
       ap (λ m. m.1) p,
-      omega (arith, c.args.self.now.sized.0),
-      joins _ _ _ _ (ap (λ m. m.0.waits) r) (ap (λ m. m.0.turn) r) c.helm.invariant.some_part (ap (λ m. m.0.waits) p)
-          (ap (λ m. m.0.turn) p) (ap (λ m. m.0.steers) p),
+      omega (arith, c.args.self.now.sized.words),
+      Joins-pass _ _ _ _ (ap (λ m. m.0.waits) r) (ap (λ m. m.0.turn) r) c.helm.invariant.some_part
+          (ap (λ m. m.0.waits) p) (ap (λ m. m.0.turn) p) (ap (λ m. m.0.steers) p),
     )

@@ -4,7 +4,7 @@ use Rattle.net_model.specs.Net.{Net}
 use Rattle.decision_book.specs.Books.{BookView}
 use Rattle.decision_desk.specs.declared.desk.TheConstants.{ALL_PARTS}
 use Rattle.decision_desk.specs.Turns.{IsDesk, helm_view}
-use Rattle.decision_desk.proofs.Restings.{begins}
+use Rattle.decision_desk.proofs.Restings.{IsDesk-opening}
 use Rattle.decision_desk.proofs.desk.Desk.open.Goals as goal
 
 pub new-requires : goal.new-requires
@@ -16,4 +16,4 @@ new-requires c =
     subst (λ xs. IsDesk (opening (0 ∷ 0 ∷ 0 ∷ 0 ∷ []) xs (helm_view net ALL_PARTS [] [] 0 [])))
     (sym (c.push_reserved.ensures.items ∙ (ap (λ l. l ++ Some c.in_ok-book.book ∷ []) c.in_ok-slots.ensures.items
     ∙ ap (λ (b : BookView). Some b ∷ []) book)))
-    (begins net)
+    (IsDesk-opening net)

@@ -31,7 +31,7 @@ returns c =
       ahead = subst (λ (v : BookView). IsTurnAhead v (helm_at c.args.known v.events)
           (calls_at c.args.known v.events) fresh c.end_of_window-front.result) c.book-book.ensures.value
           (is_turn_ahead b fresh c.args.known c.end_of_window-front.result c.args.least.now
-          c.change_all.new.times.items all
+          c.take_calls.new.times.items all
           (subst (λ (v : BookView). IsSince v c.args.known c.args.least.now)
           (sym c.book-book.ensures.value) c.requires.since)
           (subst (λ (n : Net). IsNet n) c.model.ensures.value c.end_of_window-front.ensures.valid)
@@ -39,7 +39,7 @@ returns c =
           (c.in_ok-fresh.ensures.value ∙ ap (λ (l : List Call). accepted_of (drop c.args.known l))
           c.calls.ensures.value)
           c.lists.ensures.value
-          (c.in_ok-change_all.ensures.ok
+          (c.in_ok-take_calls.ensures.ok
           ∙ (ap (λ (ts : List (Option ℕ)). leasts_with_calls all ts c.as_slice.result.now) times
           ∙ ap (leasts_with_calls all c.args.least.now) c.as_slice.ensures.value))
           (c.end_of_window-front.ensures.value

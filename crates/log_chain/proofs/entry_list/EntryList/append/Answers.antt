@@ -1,6 +1,6 @@
 use Rattle.std.proofs.Common.{◌≡◌, ◌++◌, length, sym, ap₂, ◌∙◌, subst, arith, eqb-true, vec_len}
 use Rattle.log_chain.specs.Packing.{ArePlaced}
-use Rattle.log_chain.proofs.Packs.{entries_append, entries_other}
+use Rattle.log_chain.proofs.Packs.{entries_of-append, entries_of-other}
 use Rattle.log_chain.proofs.entry_list.EntryList.append.Goals as goal
 
 pub returns-then-is_empty : goal.returns-then-is_empty
@@ -12,7 +12,7 @@ returns-then-is_empty c =
     let placed = subst (λ n. ArePlaced n o.packed.items) none c.other.invariant in
     record {
       ok = rw (c.in_ok-extend_from_slice.ensures.items, c.as_slice.ensures.value)
-          (entries_append r.wide.items r.packed.items o.packed.items
-          ∙ ap₂ (λ xs ys. xs ++ ys) c.self.view_is (entries_other r.wide.items o.wide.items o.packed.items placed
+          (entries_of-append r.wide.items r.packed.items o.packed.items
+          ∙ ap₂ (λ xs ys. xs ++ ys) c.self.view_is (entries_of-other r.wide.items o.wide.items o.packed.items placed
           ∙ c.other.view_is));
     }

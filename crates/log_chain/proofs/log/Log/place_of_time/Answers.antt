@@ -4,7 +4,7 @@ use Rattle.sim_base.specs.declared.entry.Entry.{Entry}
 use Rattle.sim_base.specs.declared.entry.Line.{Line}
 use Rattle.sim_base.specs.declared.message.Msg.{Msg}
 use Rattle.log_chain.specs.Times.{times_of}
-use Rattle.log_chain.proofs.Timing.{rises_at, begins_at}
+use Rattle.log_chain.proofs.Timing.{rises-at, from_time-drop}
 use Rattle.log_chain.proofs.log.Log.place_of_time.Goals as goal
 
 pub loop-low-preserved-then-time_at-time : goal.loop-low-preserved-then-time_at-time
@@ -17,7 +17,7 @@ loop-low-preserved-then-time_at-time c =
       within = c.loop-low.invariant.within;
       before = λ k b. omega (
         arith,
-        rises_at (times_of es) k middle c.requires.rises (omega (arith, b))
+        rises-at (times_of es) k middle c.requires.rises (omega (arith, b))
             (omega (arith, many)),
         c.time_at.ensures.value,
         c.if-time_at-time.true,
@@ -36,7 +36,7 @@ loop-low-preserved c =
       before = c.loop-low.invariant.before;
       behind = λ k o there. omega (
         arith,
-        rises_at (times_of es) middle k c.requires.rises o
+        rises-at (times_of es) middle k c.requires.rises o
             (omega (arith, many, there)),
         c.time_at.ensures.value,
         c.if-time_at-time.false,
@@ -45,6 +45,6 @@ loop-low-preserved c =
 
 pub returns : goal.returns
 returns c = record {
-  value = begins_at c.args.self.now c.args.time c.loop-low.low (omega arith) c.loop-low.invariant.before
+  value = from_time-drop c.args.self.now c.args.time c.loop-low.low (omega arith) c.loop-low.invariant.before
       (λ k o there. c.loop-low.invariant.behind k (omega (arith, o, c.loop-low-test.false)) there);
 }

@@ -1,7 +1,8 @@
-use Rattle.std.proofs.Common.{◌≡◌, length, ap, arith, length-append}
-use Rattle.log_chain.specs.Blocks.{all_of}
+use Rattle.std.proofs.Common.{◌≡◌, ◌+◌, length, ap, arith, length-append}
+use Rattle.sim_base.specs.Blocks.{of_blocks}
+use Rattle.log_chain.specs.declared.log.TheConstants.{MOST_SEGMENTS}
 use Rattle.log_chain.specs.Segments.{entries_in}
-use Rattle.log_chain.proofs.Chains.{few_segments, power_below}
+use Rattle.log_chain.proofs.Chains.{halving-few, power_below}
 use Rattle.log_chain.proofs.log.Log.segments.Goals as goal
 
 pub returns-clause-many : goal.returns-clause-many
@@ -10,9 +11,9 @@ returns-clause-many c =
     let count : c.len.result ≡ length l.segments.items = omega (arith, c.len.ensures, l.segments.ok.0) in
     rw count (omega (
       arith,
-      few_segments l.segments.items c.self.invariant.halving,
+      halving-few l.segments.items c.self.invariant.halving,
       ap length c.self.view_is,
-      length-append (entries_in l.segments.items) (all_of l.blocks.items),
+      length-append (entries_in l.segments.items) (of_blocks l.blocks.items),
     ))
 
 pub overflow_cast-result : goal.overflow_cast-result
@@ -25,11 +26,11 @@ overflow_cast-result c =
       c.self.invariant.tail,
       c.self.invariant.most,
       ap length c.self.view_is,
-      length-append (entries_in l.segments.items) (all_of l.blocks.items),
+      length-append (entries_in l.segments.items) (of_blocks l.blocks.items),
     )) in
     omega (arith, less)
 
 pub returns-clause-few : goal.returns-clause-few
 returns-clause-few c short =
-    let less = power_below c.len.result 17 _ (returns-clause-many c) (omega (arith, short)) in
+    let less = power_below c.len.result (MOST_SEGMENTS + 1) _ (returns-clause-many c) (omega (arith, short)) in
     omega (arith, less)

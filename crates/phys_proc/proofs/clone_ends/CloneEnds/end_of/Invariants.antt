@@ -1,5 +1,5 @@
 use Rattle.std.proofs.Common.{◌≡◌, ◌≤◌, min, drop}
-use Rattle.phys_proc.specs.Gone.{ends_in}
+use Rattle.phys_proc.specs.Ends.{ends_in}
 use Rattle.phys_proc.proofs.clone_ends.CloneEnds.end_of.Given as goal
 
 abbrev pub invariant-loop-i : goal.invariant-loop-i

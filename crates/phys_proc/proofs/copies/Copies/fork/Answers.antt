@@ -1,8 +1,8 @@
 use Rattle.std.specs.List.{AllZip}
 use Rattle.std.proofs.Common.{subst, sym}
 use Rattle.phys_proc.specs.Own.{IsLate, AreLate}
-use Rattle.phys_proc.proofs.Forked.{late_forked}
-use Rattle.phys_proc.proofs.Noted.{leasts_forked}
+use Rattle.phys_proc.proofs.Forks.{late_forked}
+use Rattle.phys_proc.proofs.CopyLeasts.{leasts_forked}
 use Rattle.phys_proc.proofs.copies.Copies.fork.Goals as goal
 
 pub invariant_of-self : goal.invariant_of-self

@@ -1,7 +1,7 @@
 use Rattle.std.proofs.Common.{◌++◌, ◌∷◌, [], ◌∙◌, ap, sym, subst}
 use Rattle.phys_proc.specs.Own.{AreLate}
 use Rattle.phys_proc.proofs.Late.{late_put}
-use Rattle.phys_proc.proofs.Noted.{leasts_put}
+use Rattle.phys_proc.proofs.CopyLeasts.{leasts_put}
 use Rattle.phys_proc.proofs.copies.Copies.put.Goals as goal
 
 pub invariant_of-self-2 : goal.invariant_of-self-2

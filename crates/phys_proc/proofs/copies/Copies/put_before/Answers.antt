@@ -1,7 +1,7 @@
 use Rattle.std.proofs.Common.{◌≡◌, ◌++◌, ◌∙◌, refl, sym, subst}
 use Rattle.phys_proc.specs.Own.{AreLate}
 use Rattle.phys_proc.proofs.Late.{late_joined}
-use Rattle.phys_proc.proofs.Noted.{leasts_joined}
+use Rattle.phys_proc.proofs.CopyLeasts.{leasts_joined}
 use Rattle.phys_proc.proofs.copies.Copies.put_before.Goals as goal
 
 pub invariant_of-self-2 : goal.invariant_of-self-2

@@ -1,16 +1,29 @@
-use Rattle.std.proofs.Common.{◌+◌, ◌≤◌, ◌*◌, arith, ap, sym, subst, ◌∙◌, eq-eqb, eqb-true}
+use Rattle.std.proofs.Common.{◌≡◌, ℕ, ◌+◌, ◌≤◌, ◌*◌, List, arith, ap, sym, subst, ◌∙◌, eq-eqb, eqb-true}
 use Rattle.std.proofs.lemmas.Nat.{mul-le}
+use Rattle.sim_base.specs.declared.lists.TheConstants.{MOST_CLONES}
 use Rattle.clone_sets.specs.Sets.{has, size, empty}
+use Rattle.net_model.specs.Net.{Net}
+use Rattle.net_model.specs.declared.limits.TheConstants.{MOST_LIMIT}
 use Rattle.stations.specs.Runs.{simulation}
 use Rattle.run_laws.specs.Copies.{IsStepped, AreOver, GainTogether}
-use Rattle.phys_proc.specs.Own.{all_sizes, IsStepResult}
+use Rattle.phys_proc.specs.Own.{StationCopy, all_sizes, IsStepResult}
 use Rattle.phys_proc.specs.Procs.{ProcView, IsProc, KeepsShares}
 use Rattle.phys_proc.specs.Stages.{MayStepCopies}
-use Rattle.phys_proc.specs.Gone.{ends_in}
+use Rattle.phys_proc.specs.declared.advancing.Stage.{Stage}
+use Rattle.phys_proc.specs.Ends.{ends_in}
 use Rattle.phys_proc.proofs.AllCopies.{all_stepped, all_over, all_gained, all_few, all_shared}
 use Rattle.phys_proc.proofs.Shares.{few_members, few_clones, sizes_are, shares_after, few_handled}
 use Rattle.phys_proc.proofs.proc.Proc.advance.Goals.{then-is_empty, else-is_empty}
 use Rattle.phys_proc.proofs.proc.Proc.advance.Goals as goal
+
+-- the result of a step, said of the station and the copies that these are equal to
+step_result : (net : Net) (s s1 : ℕ) (ends : ℕ → ℕ) (bound : ℕ) (old old1 : List StationCopy) (st : Stage)
+    (steps0 steps : ℕ) → s1 ≡ s → old1 ≡ old
+    → IsStepResult net s1 ends bound old1 st.done st.sent.items st.over steps0 steps
+    → IsStepResult net s ends bound old st.done st.sent.items st.over steps0 steps
+step_result net s s1 ends bound old old1 st steps0 steps e f h =
+    subst (λ r. IsStepResult net r ends bound old st.done st.sent.items st.over steps0 steps) e
+    (subst (λ k. IsStepResult net s1 ends bound k st.done st.sent.items st.over steps0 steps) f h)
 
 pub step_copies-requires-clause-may_step : goal.step_copies-requires-clause-may_step
 step_copies-requires-clause-may_step g c =
@@ -35,17 +48,16 @@ overflow_add-self g c =
     let i = c.self.inside in
     let h = subst (IsProc net) (sym c.self.view_is) c.requires.proc in
     let st = c.step_copies.new.stage in
-    let far = subst (λ s. IsStepResult net s ends c.args.bound i.copies st.done st.sent.items st.over c.args.steps.now
-    c.step_copies.new.steps) (ap (λ (u : ProcView). u.station) (c.self-2.view_is ∙ c.take_copies-copies.ensures.none))
-    (subst (λ k. IsStepResult net c.self-2.inside.station ends c.args.bound k st.done st.sent.items st.over
-    c.args.steps.now c.step_copies.new.steps) c.take_copies-copies.ensures.copies
-    c.in_ok-step_copies.ensures.stepped) in
+    let far = step_result net i.station c.self-2.inside.station ends c.args.bound i.copies c.take_copies-copies.result
+    st c.args.steps.now c.step_copies.new.steps
+    (ap (λ (u : ProcView). u.station) (c.self-2.view_is ∙ c.take_copies-copies.ensures.none))
+    c.take_copies-copies.ensures.copies c.in_ok-step_copies.ensures.stepped in
     let sizes = few_clones i.living i.copies c.self.invariant.shares
     (few_members i.living c.len-clones.result c.len-clones.ensures.value c.len-clones.ensures.members) in
     let a = few_handled net i.station i.handled i.copies h.copies sizes h.valid.short c.self.invariant.once in
     let b = all_few net h.valid i.station ends c.args.bound i.copies st.done st.sent.items st.over c.args.steps.now
     c.step_copies.new.steps h.copies far st.handled c.in_ok-step_copies.ensures.handled in
-    let m = mul-le (all_sizes i.copies) net.limit 256 65536 sizes h.valid.short in
+    let m = mul-le (all_sizes i.copies) net.limit MOST_CLONES MOST_LIMIT sizes h.valid.short in
     omega (arith, a, b, m)
 
 pub invariant_of-self-then-is_empty : goal.invariant_of-self-then-is_empty
@@ -55,11 +67,10 @@ invariant_of-self-then-is_empty g c =
     let i = c.self.inside in
     let h = subst (IsProc net) (sym c.self.view_is) c.requires.proc in
     let st = c.step_copies.new.stage in
-    let far = subst (λ s. IsStepResult net s ends c.args.bound i.copies st.done st.sent.items st.over c.args.steps.now
-    c.step_copies.new.steps) (ap (λ (u : ProcView). u.station) (c.self-2.view_is ∙ c.take_copies-copies.ensures.none))
-    (subst (λ k. IsStepResult net c.self-2.inside.station ends c.args.bound k st.done st.sent.items st.over
-    c.args.steps.now c.step_copies.new.steps) c.take_copies-copies.ensures.copies
-    c.in_ok-step_copies.ensures.stepped) in
+    let far = step_result net i.station c.self-2.inside.station ends c.args.bound i.copies c.take_copies-copies.result
+    st c.args.steps.now c.step_copies.new.steps
+    (ap (λ (u : ProcView). u.station) (c.self-2.view_is ∙ c.take_copies-copies.ensures.none))
+    c.take_copies-copies.ensures.copies c.in_ok-step_copies.ensures.stepped in
     let none = eqb-true st.over empty (sym c.if-is_empty.ensures.value) in
     subst (λ s. KeepsShares
     (record { station = s; living = i.living; handled = i.handled + st.handled; copies = st.done }))
@@ -78,11 +89,10 @@ returns-clause-windows g c =
     let i = c.self.inside in
     let h = subst (IsProc net) (sym c.self.view_is) c.requires.proc in
     let st = c.step_copies.new.stage in
-    let far = subst (λ s. IsStepResult net s ends c.args.bound i.copies st.done st.sent.items st.over c.args.steps.now
-    c.step_copies.new.steps) (ap (λ (u : ProcView). u.station) (c.self-2.view_is ∙ c.take_copies-copies.ensures.none))
-    (subst (λ k. IsStepResult net c.self-2.inside.station ends c.args.bound k st.done st.sent.items st.over
-    c.args.steps.now c.step_copies.new.steps) c.take_copies-copies.ensures.copies
-    c.in_ok-step_copies.ensures.stepped) in
+    let far = step_result net i.station c.self-2.inside.station ends c.args.bound i.copies c.take_copies-copies.result
+    st c.args.steps.now c.step_copies.new.steps
+    (ap (λ (u : ProcView). u.station) (c.self-2.view_is ∙ c.take_copies-copies.ensures.none))
+    c.take_copies-copies.ensures.copies c.in_ok-step_copies.ensures.stepped in
     λ none. elim c.if-is_empty.branch [
       | then-is_empty w ↦ subst (λ (u : ProcView). IsStepped (simulation net) has ends c.args.self.now.station
           c.args.bound c.args.self.now.copies u.copies st.sent.items) (sym w.self-is)
@@ -99,11 +109,10 @@ returns-clause-over g c =
     let i = c.self.inside in
     let h = subst (IsProc net) (sym c.self.view_is) c.requires.proc in
     let st = c.step_copies.new.stage in
-    let far = subst (λ s. IsStepResult net s ends c.args.bound i.copies st.done st.sent.items st.over c.args.steps.now
-    c.step_copies.new.steps) (ap (λ (u : ProcView). u.station) (c.self-2.view_is ∙ c.take_copies-copies.ensures.none))
-    (subst (λ k. IsStepResult net c.self-2.inside.station ends c.args.bound k st.done st.sent.items st.over
-    c.args.steps.now c.step_copies.new.steps) c.take_copies-copies.ensures.copies
-    c.in_ok-step_copies.ensures.stepped) in
+    let far = step_result net i.station c.self-2.inside.station ends c.args.bound i.copies c.take_copies-copies.result
+    st c.args.steps.now c.step_copies.new.steps
+    (ap (λ (u : ProcView). u.station) (c.self-2.view_is ∙ c.take_copies-copies.ensures.none))
+    c.take_copies-copies.ensures.copies c.in_ok-step_copies.ensures.stepped in
     subst (λ (u : ProcView). AreOver (simulation net) has ends u.station c.args.bound u.copies st.over) c.self.view_is
     (all_over net h.valid i.station ends c.args.bound i.copies st.done st.sent.items st.over c.args.steps.now
     c.step_copies.new.steps h.copies far)
@@ -115,11 +124,10 @@ returns-clause-gained g c =
     let i = c.self.inside in
     let h = subst (IsProc net) (sym c.self.view_is) c.requires.proc in
     let st = c.step_copies.new.stage in
-    let far = subst (λ s. IsStepResult net s ends c.args.bound i.copies st.done st.sent.items st.over c.args.steps.now
-    c.step_copies.new.steps) (ap (λ (u : ProcView). u.station) (c.self-2.view_is ∙ c.take_copies-copies.ensures.none))
-    (subst (λ k. IsStepResult net c.self-2.inside.station ends c.args.bound k st.done st.sent.items st.over
-    c.args.steps.now c.step_copies.new.steps) c.take_copies-copies.ensures.copies
-    c.in_ok-step_copies.ensures.stepped) in
+    let far = step_result net i.station c.self-2.inside.station ends c.args.bound i.copies c.take_copies-copies.result
+    st c.args.steps.now c.step_copies.new.steps
+    (ap (λ (u : ProcView). u.station) (c.self-2.view_is ∙ c.take_copies-copies.ensures.none))
+    c.take_copies-copies.ensures.copies c.in_ok-step_copies.ensures.stepped in
     subst (λ (u : ProcView). GainTogether (simulation net) has ends u.station c.args.bound u.copies st.handled)
     c.self.view_is (all_gained net h.valid i.station ends c.args.bound i.copies st.done st.sent.items st.over
     c.args.steps.now c.step_copies.new.steps h.copies far st.handled
@@ -132,11 +140,10 @@ returns-clause-few g c =
     let i = c.self.inside in
     let h = subst (IsProc net) (sym c.self.view_is) c.requires.proc in
     let st = c.step_copies.new.stage in
-    let far = subst (λ s. IsStepResult net s ends c.args.bound i.copies st.done st.sent.items st.over c.args.steps.now
-    c.step_copies.new.steps) (ap (λ (u : ProcView). u.station) (c.self-2.view_is ∙ c.take_copies-copies.ensures.none))
-    (subst (λ k. IsStepResult net c.self-2.inside.station ends c.args.bound k st.done st.sent.items st.over
-    c.args.steps.now c.step_copies.new.steps) c.take_copies-copies.ensures.copies
-    c.in_ok-step_copies.ensures.stepped) in
+    let far = step_result net i.station c.self-2.inside.station ends c.args.bound i.copies c.take_copies-copies.result
+    st c.args.steps.now c.step_copies.new.steps
+    (ap (λ (u : ProcView). u.station) (c.self-2.view_is ∙ c.take_copies-copies.ensures.none))
+    c.take_copies-copies.ensures.copies c.in_ok-step_copies.ensures.stepped in
     subst (λ (u : ProcView). st.handled ≤ size u.living * net.limit) c.self.view_is
     (subst (λ n. st.handled ≤ n * net.limit) (sizes_are i.living i.copies c.self.invariant.shares)
     (all_few net h.valid i.station ends c.args.bound i.copies st.done st.sent.items st.over c.args.steps.now

@@ -2,7 +2,7 @@ use Rattle.std.proofs.Common.{sym, ap, subst, ◌∙◌}
 use Rattle.std.specs.List.{AllByRecursion}
 use Rattle.phys_proc.specs.Own.{IsCopy}
 use Rattle.phys_proc.specs.Procs.{ProcView, IsProc}
-use Rattle.phys_proc.proofs.Given.{all_fit}
+use Rattle.phys_proc.proofs.Delivery.{all_fit}
 use Rattle.phys_proc.proofs.Shares.{shares_same}
 use Rattle.phys_proc.proofs.proc.Proc.deliver.Goals as goal
 

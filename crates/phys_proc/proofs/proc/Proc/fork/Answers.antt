@@ -4,7 +4,7 @@ use Rattle.stations.specs.Runs.{simulation}
 use Rattle.std.specs.List.{AllZip}
 use Rattle.run_laws.specs.Copies.{IsForked}
 use Rattle.phys_proc.specs.Procs.{ProcView, IsProc}
-use Rattle.phys_proc.proofs.Forked.{shares_forked, forked_fits, all_forked, fresh_in}
+use Rattle.phys_proc.proofs.Forks.{shares_forked, forked_fits, all_forked, fresh_in}
 use Rattle.phys_proc.proofs.proc.Proc.fork.Goals as goal
 
 pub invariant_of-self : goal.invariant_of-self

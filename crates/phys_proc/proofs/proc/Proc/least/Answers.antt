@@ -1,9 +1,12 @@
 use Rattle.std.proofs.Common.{◌+◌, ◌<◌, arith, refl, subst, ◌∙◌, ap, take, length, get_or}
 use Rattle.std.proofs.lemmas.List.{take_all}
-use Rattle.phys_proc.specs.Gone.{ends_in}
+use Rattle.std.proofs.lemmas.Slice.Zip.{AllZip-long}
+use Rattle.sim_base.proofs.Elements.{take_next}
+use Rattle.phys_proc.specs.Own.{IsLate}
+use Rattle.phys_proc.specs.Ends.{ends_in}
 use Rattle.phys_proc.specs.Procs.{IsLeast}
-use Rattle.phys_proc.proofs.Noted.{leasts_long, least_at}
-use Rattle.phys_proc.proofs.Taken.{take_one, least_with}
+use Rattle.phys_proc.proofs.CopyLeasts.{least_at}
+use Rattle.phys_proc.proofs.LeastTimes.{least_with}
 use Rattle.phys_proc.proofs.proc.Proc.least.Goals as goal
 
 pub returns : goal.returns
@@ -19,7 +22,7 @@ returns c =
 pub bounds-leasts-i : goal.bounds-leasts-i
 bounds-leasts-i c =
     let e = ap length c.copies-copies.ensures.value in
-    let n = leasts_long c.leasts-leasts.result.now c.args.self.now.copies c.leasts-leasts.ensures.each in
+    let n = AllZip-long IsLate c.leasts-leasts.result.now c.args.self.now.copies c.leasts-leasts.ensures.each in
     omega (arith, e, n, c.loop-i-test.true)
 
 pub with_copy-least-requires-clause-late : goal.with_copy-least-requires-clause-late
@@ -41,6 +44,6 @@ loop-i-preserved c =
     let same = c.copies-copies.ensures.value in
     let e = ap length same in
     let there : i < length xs = omega (arith, e, c.loop-i-test.true) in
-    let whole = take_one xs i x there (c.index-copies-i.is ∙ ap (λ k. get_or k i x) same) in
+    let whole = take_next xs i x there (c.index-copies-i.is ∙ ap (λ k. get_or k i x) same) in
     least_with (ends_in net.horizon c.args.ends.now) (take i xs) (take (i + 1) xs) x whole c.loop-i.least
     c.with_copy-least.result (rw (← c.horizon.ensures.value) c.with_copy-least.ensures.least) c.loop-i.invariant

@@ -1,8 +1,9 @@
 use Rattle.std.proofs.Common.{◌+◌, ◌<◌, arith, sym, ap, subst, ◌∙◌, take, length, get_or}
 use Rattle.std.proofs.lemmas.List.{take_all}
-use Rattle.phys_proc.specs.Gone.{ends_in}
+use Rattle.sim_base.proofs.Elements.{take_next}
+use Rattle.phys_proc.specs.Ends.{ends_in}
 use Rattle.phys_proc.specs.Procs.{IsLeastOf}
-use Rattle.phys_proc.proofs.Taken.{take_one, least_of_more}
+use Rattle.phys_proc.proofs.LeastTimes.{least_of_more}
 use Rattle.phys_proc.proofs.proc.Proc.least_of.Goals as goal
 
 pub loop-copy-preserved : goal.loop-copy-preserved
@@ -13,7 +14,7 @@ loop-copy-preserved c =
     let x = c.copy-item.result in
     let same = c.copies-copy-items.ensures.value in
     let l : i < length xs = subst (λ k. i < length k) same c.loop-copy-test.true in
-    let whole = take_one xs i x l (c.copy-item.is ∙ ap (λ k. get_or k i x) same) in
+    let whole = take_next xs i x l (c.copy-item.is ∙ ap (λ k. get_or k i x) same) in
     let end = c.end_of-end.ensures.end ∙ ap (λ h. ends_in h c.args.ends.now c.args.c) c.horizon.ensures.value in
     subst (IsLeastOf (ends_in net.horizon c.args.ends.now) (take (i + 1) xs) c.args.c)
     (sym c.earlier-least.ensures.value)

@@ -1,5 +1,5 @@
 use Rattle.std.proofs.Common.{take}
-use Rattle.phys_proc.specs.Gone.{ends_in}
+use Rattle.phys_proc.specs.Ends.{ends_in}
 use Rattle.phys_proc.specs.Procs.{IsLeastOf}
 use Rattle.phys_proc.proofs.proc.Proc.least_of.Given as goal
 

@@ -1,11 +1,11 @@
 use Rattle.std.proofs.Common.{sym, subst, ap, ◌∙◌, List}
-use Rattle.std.proofs.lemmas.Bool.{false≢true}
 use Rattle.clone_sets.specs.Sets.{has, one}
-use Rattle.clone_sets.proofs.SetLaws.{has-one, has-empty}
+use Rattle.clone_sets.proofs.SetLaws.{has-one}
 use Rattle.stations.specs.Runs.{simulation}
 use Rattle.run_laws.specs.Copies.{first_copy}
 use Rattle.phys_proc.specs.Own.{StationCopy}
 use Rattle.phys_proc.specs.Procs.{KeepsShares}
+use Rattle.phys_proc.proofs.Counting.{not_empty}
 use Rattle.phys_proc.proofs.Shares.{shares_one}
 use Rattle.phys_proc.proofs.proc.Proc.new.Goals as goal
 
@@ -16,5 +16,4 @@ invariant_of-result c =
     (sym c.in_ok-copies.ensures.first)
     (shares_one c.args.station c.one.result (first_copy (simulation c.args.model.now) (one 0) c.args.station)
     (sym c.one.ensures.value)
-    (λ e. false≢true (sym (has-empty 0)
-    ∙ (ap (λ k. has k 0) (sym e) ∙ (ap (λ k. has k 0) c.one.ensures.value ∙ has-one 0 0)))))
+    (not_empty c.one.result 0 (ap (λ k. has k 0) c.one.ensures.value ∙ has-one 0 0)))

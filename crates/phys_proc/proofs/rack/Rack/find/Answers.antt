@@ -3,8 +3,8 @@ use Rattle.std.specs.List.{AllByRecursion}
 use Rattle.sim_base.specs.Clones.{place_of}
 use Rattle.clone_sets.specs.Sets.{has}
 use Rattle.run_laws.specs.Queue.{In}
-use Rattle.phys_proc.specs.Racks.{SeenView, RackView, IsSeen}
-use Rattle.phys_proc.proofs.Seeing.{is_seen, not_none}
+use Rattle.phys_proc.specs.Racks.{RackCopyView, RackView, IsSeen}
+use Rattle.phys_proc.proofs.RackViews.{is_seen, not_none}
 use Rattle.phys_proc.proofs.rack.Rack.find.Goals as goal
 
 pub unreachable-requires : goal.unreachable-requires
@@ -14,7 +14,7 @@ unreachable-requires c =
     let l : c.in-Some.c < length cs =
     subst (λ k. c.in-Some.c < length k) (ap (λ u. u.clones) c.deref.ensures) c.in-Some.ensures.there in
     not_none i.model.value cs i.station i.front i.copies.items c.in-Some.c c.self.invariant l
-    (subst (AllByRecursion (λ (h : SeenView). has h.set c.in-Some.c ≡ false)) c.as_slice.ensures.value
+    (subst (AllByRecursion (λ (h : RackCopyView). has h.set c.in-Some.c ≡ false)) c.as_slice.ensures.value
     c.in_default-find_copy.ensures.none)
 
 pub returns-clause-found : goal.returns-clause-found

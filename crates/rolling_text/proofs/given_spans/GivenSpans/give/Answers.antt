@@ -10,8 +10,8 @@ invariant_of-self-2 c =
     let h = c.self.invariant in
     let net = t.traces.now.net in
     let list = clone_at t.traces.now.clones t.c in
-    let given = subst (λ o. IfSome c.ordered-mailbox.result (λ l. l ≡ Some o)) c.new-order.ensures.value
-    c.ordered-mailbox.ensures.given in
+    let given = subst (λ o. IfSome c.with_order-mailbox.result (λ l. l ≡ Some o)) c.new-order.ensures.value
+    c.with_order-mailbox.ensures.given in
     record {
       there = h.there;
       in_order = subst (λ bs. AreInOrder net list t.made bs c.min-until.result) (sym c.in_ok-add.ensures.ok)

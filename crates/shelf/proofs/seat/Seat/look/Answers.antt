@@ -1,8 +1,7 @@
-use Rattle.std.proofs.Common.{◌≡◌, ◌≤◌, ◌∙◌, ap, sym, subst, arith, Some, List}
-use mathlib.Core.List.{IsPrefix}
+use Rattle.std.proofs.Common.{◌≡◌, ◌∙◌, sym, subst, arith, Some, List}
 use Rattle.phys_proc.specs.Racks.{RackView}
 use Rattle.shelf.specs.Racks.{AreLegal, HasRack, latest}
-use Rattle.shelf.proofs.Legals.{has_later, front-later}
+use Rattle.shelf.proofs.Legals.{HasRack-later, front-later}
 use Rattle.shelf.proofs.seat.Seat.look.Goals as goal
 
 pub glance_at-requires : goal.glance_at-requires
@@ -12,7 +11,7 @@ glance_at-requires g c =
     let has = subst (λ (l : List RackView). HasRack c.args.station l) (sym c.self.view_is) c.requires.there in
     record {
       there = subst (λ (l : List RackView). HasRack c.args.station l) (sym c.deref-2.ensures)
-          (has_later c.args.station known now c.refresh.ensures.begins has);
+          (HasRack-later c.args.station known now c.refresh.ensures.begins has);
     }
 
 pub returns-clause-front : goal.returns-clause-front

@@ -7,7 +7,8 @@ use Rattle.sim_base.proofs.pending.Pending.cut.Given as goal
 abbrev pub invariant-loop-block : goal.invariant-loop-block
 invariant-loop-block g l = record {
   all : of_blocks (l.first ∷ l.later.items)
-      ++ cut_by g.S.Marks.met l.by (of_blocks (deque_iter_rest l.block-iterator)) ≡ cut_by g.S.Marks.met l.by l.self;
+      ++ cut_by g.S.Marks.common l.by (of_blocks (deque_iter_rest l.block-iterator))
+      ≡ cut_by g.S.Marks.common l.by l.self;
   sized : AreSized l.first l.later.items;
   rest : AreFilled (deque_iter_rest l.block-iterator);
 }

@@ -3,7 +3,7 @@ use Rattle.sim_base.specs.Pending.{cut_by}
 use Rattle.sim_base.specs.Order.{msg_cmp}
 use Rattle.sim_base.specs.Marked.{SortedMarked}
 use Rattle.sim_base.specs.Blocks.{of_blocks}
-use Rattle.sim_base.proofs.Cutting.{cut-append, sorted_cut, length_cut}
+use Rattle.sim_base.proofs.Cutting.{cut-append, SortedMarked-cut, length-cut}
 use Rattle.sim_base.proofs.Placing.{sorted_right}
 use Rattle.sim_base.proofs.Rotating.{filled_if, empty_if}
 use Rattle.sim_base.proofs.pending.Pending.keep.Goals as goal
@@ -15,24 +15,25 @@ invariant_of-self g c =
     let all = c.next_block.ensures.same ∙ c.keep_later.ensures.value in
     record {
       sorted = subst (SortedMarked msg_cmp) (sym all)
-          (sorted_cut g.S.Marks.met c.args.by msg_cmp rest (sorted_right msg_cmp first rest c.self.invariant.sorted));
+          (SortedMarked-cut g.S.Marks.common c.args.by msg_cmp rest
+          (sorted_right msg_cmp first rest c.self.invariant.sorted));
       sized = c.next_block.ensures.sized;
     }
 
 pub invariant_of-self-else-is_empty : goal.invariant_of-self-else-is_empty
 invariant_of-self-else-is_empty g c =
-    let met = g.S.Marks.met in
+    let meet = g.S.Marks.common in
     let first = c.self.inside.first in
     let rest = of_blocks c.self.inside.later.items in
     let all = ap (λ xs. xs ++ of_blocks c.keep_later.new.later.items) c.keep.ensures.value
-    ∙ ap (λ ys. cut_by met c.args.by first ++ ys) c.keep_later.ensures.value
-    ∙ sym (cut-append met c.args.by first rest) in
+    ∙ ap (λ ys. cut_by meet c.args.by first ++ ys) c.keep_later.ensures.value
+    ∙ sym (cut-append meet c.args.by first rest) in
     let some = filled_if c.keep.new.self c.if-is_empty.ensures.value in
-    let short = length_cut met c.args.by first in
+    let short = length-cut meet c.args.by first in
     let same = ap length c.keep.ensures.value in
     record {
       sorted = subst (SortedMarked msg_cmp) (sym all)
-          (sorted_cut met c.args.by msg_cmp (first ++ rest) c.self.invariant.sorted);
+          (SortedMarked-cut meet c.args.by msg_cmp (first ++ rest) c.self.invariant.sorted);
       sized = record {
         first_filled = λ _. some;
         first_small = omega (arith, c.self.invariant.sized.first_small);
@@ -42,21 +43,21 @@ invariant_of-self-else-is_empty g c =
 
 pub returns-then-is_empty : goal.returns-then-is_empty
 returns-then-is_empty g c =
-    let met = g.S.Marks.met in
+    let meet = g.S.Marks.common in
     let first = c.self.inside.first in
     let rest = of_blocks c.self.inside.later.items in
     let none = sym c.keep.ensures.value ∙ empty_if c.keep.new.self c.if-is_empty.ensures.value in
     record {
-      value = c.next_block.ensures.same ∙ c.keep_later.ensures.value ∙ ap (λ xs. xs ++ cut_by met c.args.by rest)
-          (sym none) ∙ sym (cut-append met c.args.by first rest) ∙ ap (cut_by met c.args.by) c.self.view_is;
+      value = c.next_block.ensures.same ∙ c.keep_later.ensures.value ∙ ap (λ xs. xs ++ cut_by meet c.args.by rest)
+          (sym none) ∙ sym (cut-append meet c.args.by first rest) ∙ ap (cut_by meet c.args.by) c.self.view_is;
     }
 
 pub returns-else-is_empty : goal.returns-else-is_empty
 returns-else-is_empty g c =
-    let met = g.S.Marks.met in
+    let meet = g.S.Marks.common in
     let first = c.self.inside.first in
     let rest = of_blocks c.self.inside.later.items in
     let all = ap (λ xs. xs ++ of_blocks c.keep_later.new.later.items) c.keep.ensures.value
-    ∙ ap (λ ys. cut_by met c.args.by first ++ ys) c.keep_later.ensures.value
-    ∙ sym (cut-append met c.args.by first rest) in
-    record { value = all ∙ ap (cut_by met c.args.by) c.self.view_is }
+    ∙ ap (λ ys. cut_by meet c.args.by first ++ ys) c.keep_later.ensures.value
+    ∙ sym (cut-append meet c.args.by first rest) in
+    record { value = all ∙ ap (cut_by meet c.args.by) c.self.view_is }

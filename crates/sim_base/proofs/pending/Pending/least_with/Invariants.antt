@@ -5,5 +5,5 @@ use Rattle.sim_base.specs.Pending.{cut_by}
 use Rattle.sim_base.proofs.pending.Pending.least_with.Given as goal
 
 abbrev pub invariant-loop-block : goal.invariant-loop-block
-invariant-loop-block g l = cut_by g.S.Marks.met l.by (of_blocks (deque_iter_rest l.block-iterator))
-    ≡ cut_by g.S.Marks.met l.by l.self
+invariant-loop-block g l = cut_by g.S.Marks.common l.by (of_blocks (deque_iter_rest l.block-iterator))
+    ≡ cut_by g.S.Marks.common l.by l.self

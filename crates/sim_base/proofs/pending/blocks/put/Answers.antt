@@ -26,7 +26,7 @@ insert-requires-else-at-eq0 g c =
 
 pub returns-then-at-eq0-clause-blocks : goal.returns-then-at-eq0-clause-blocks
 returns-then-at-eq0-clause-blocks g c =
-    let put = is_put msg_total g.S.Marks.joined c.args.msg c.args.marks c.args.at c.args.first.now
+    let put = is_put msg_total g.S.Marks.union c.args.msg c.args.marks c.args.at c.args.first.now
     c.args.later.now.items c.requires.blocks c.requires.place c.requires.free c.insert.result c.insert.new.self
     c.insert.new.self c.args.later.now.items
     (rw c.if-at-eq0.true refl) (rw c.if-at-eq0.true c.insert.ensures.ok) (rw c.if-at-eq0.true c.insert.ensures.err) in
@@ -34,7 +34,7 @@ returns-then-at-eq0-clause-blocks g c =
 
 pub returns-then-at-eq0-clause-ok : goal.returns-then-at-eq0-clause-ok
 returns-then-at-eq0-clause-ok g c =
-    let put = is_put msg_total g.S.Marks.joined c.args.msg c.args.marks c.args.at c.args.first.now
+    let put = is_put msg_total g.S.Marks.union c.args.msg c.args.marks c.args.at c.args.first.now
     c.args.later.now.items c.requires.blocks c.requires.place c.requires.free c.insert.result c.insert.new.self
     c.insert.new.self c.args.later.now.items
     (rw c.if-at-eq0.true refl) (rw c.if-at-eq0.true c.insert.ensures.ok) (rw c.if-at-eq0.true c.insert.ensures.err) in
@@ -42,7 +42,7 @@ returns-then-at-eq0-clause-ok g c =
 
 pub returns-then-at-eq0-clause-err : goal.returns-then-at-eq0-clause-err
 returns-then-at-eq0-clause-err g c =
-    let put = is_put msg_total g.S.Marks.joined c.args.msg c.args.marks c.args.at c.args.first.now
+    let put = is_put msg_total g.S.Marks.union c.args.msg c.args.marks c.args.at c.args.first.now
     c.args.later.now.items c.requires.blocks c.requires.place c.requires.free c.insert.result c.insert.new.self
     c.insert.new.self c.args.later.now.items
     (rw c.if-at-eq0.true refl) (rw c.if-at-eq0.true c.insert.ensures.ok) (rw c.if-at-eq0.true c.insert.ensures.err) in
@@ -54,7 +54,7 @@ returns-else-at-eq0-clause-blocks g c =
     let read = get_or_read c.args.later.now.items (c.args.at - 1) c.index_mut.result.now
     (omega (arith, c.requires.place.within)) c.index_mut.ensures.value [] in
     let is = read ∙ later_at c.args.at c.args.first.now c.args.later.now.items some in
-    let put = is_put msg_total g.S.Marks.joined c.args.msg c.args.marks c.args.at c.args.first.now
+    let put = is_put msg_total g.S.Marks.union c.args.msg c.args.marks c.args.at c.args.first.now
     c.args.later.now.items c.requires.blocks c.requires.place c.requires.free c.insert-else-at-eq0.result
     c.insert-else-at-eq0.new.self c.args.first.now _
     (set_later c.args.at c.args.first.now c.args.later.now.items c.insert-else-at-eq0.new.self some)
@@ -67,7 +67,7 @@ returns-else-at-eq0-clause-ok g c =
     let read = get_or_read c.args.later.now.items (c.args.at - 1) c.index_mut.result.now
     (omega (arith, c.requires.place.within)) c.index_mut.ensures.value [] in
     let is = read ∙ later_at c.args.at c.args.first.now c.args.later.now.items some in
-    let put = is_put msg_total g.S.Marks.joined c.args.msg c.args.marks c.args.at c.args.first.now
+    let put = is_put msg_total g.S.Marks.union c.args.msg c.args.marks c.args.at c.args.first.now
     c.args.later.now.items c.requires.blocks c.requires.place c.requires.free c.insert-else-at-eq0.result
     c.insert-else-at-eq0.new.self c.args.first.now _
     (set_later c.args.at c.args.first.now c.args.later.now.items c.insert-else-at-eq0.new.self some)
@@ -80,7 +80,7 @@ returns-else-at-eq0-clause-err g c =
     let read = get_or_read c.args.later.now.items (c.args.at - 1) c.index_mut.result.now
     (omega (arith, c.requires.place.within)) c.index_mut.ensures.value [] in
     let is = read ∙ later_at c.args.at c.args.first.now c.args.later.now.items some in
-    let put = is_put msg_total g.S.Marks.joined c.args.msg c.args.marks c.args.at c.args.first.now
+    let put = is_put msg_total g.S.Marks.union c.args.msg c.args.marks c.args.at c.args.first.now
     c.args.later.now.items c.requires.blocks c.requires.place c.requires.free c.insert-else-at-eq0.result
     c.insert-else-at-eq0.new.self c.args.first.now _
     (set_later c.args.at c.args.first.now c.args.later.now.items c.insert-else-at-eq0.new.self some)

@@ -1,12 +1,12 @@
 use Rattle.std.proofs.Common.{◌≡◌, ◌∙◌, ap, arith, length, replicate, []}
 use Rattle.std.proofs.lemmas.List.{length-replicate}
-use Rattle.solo_run.proofs.Events.{nothing_is, all_messages-nothing, view_is}
+use Rattle.solo_run.proofs.Events.{is_event_list-nothing, all_messages-nothing, view-same}
 use Rattle.solo_run.proofs.event_list.EventList.new.Goals as goal
 
 pub invariant_of-result : goal.invariant_of-result
 invariant_of-result c =
     let end : c.loop-station._station ≡ c.args.stations = omega arith in
-    nothing_is c.args.stations c.loop-station.lists.items c.in_ok-words.words
+    is_event_list-nothing c.args.stations c.loop-station.lists.items c.in_ok-words.words
     c.requires.few (c.loop-station.invariant ∙ ap (λ n. replicate n []) end) c.in_ok-words.ensures.value
 
 pub returns : goal.returns
@@ -15,6 +15,6 @@ returns c =
     let end : c.loop-station._station ≡ c.args.stations = omega arith in
     let empty = c.loop-station.invariant ∙ ap (λ n. replicate n []) end in
     record {
-      value = view_is _ [] _ c.args.stations (all_messages-nothing c.args.stations lists empty)
+      value = view-same _ [] _ c.args.stations (all_messages-nothing c.args.stations lists empty)
           (ap length empty ∙ length-replicate c.args.stations []);
     }

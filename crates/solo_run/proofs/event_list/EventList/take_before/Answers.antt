@@ -1,19 +1,20 @@
 use Rattle.std.proofs.Common.{◌∙◌, sym}
 use Rattle.std.proofs.lemmas.List.{length-set}
-use Rattle.solo_run.proofs.Events.{changed, first_has, taken_is, taken_time, taken_first, view_is}
+use Rattle.solo_run.proofs.Events.{is_event_list-change, has_first-some, is_list_of-take, take-time, all_messages-take}
+use Rattle.solo_run.proofs.Events.{view-same}
 use Rattle.solo_run.proofs.event_list.EventList.take_before.Goals as goal
 
 pub take_message-msg-requires : goal.take_message-msg-requires
 take_message-msg-requires c = record {
-  some = first_has c.self.inside.lists.items _ c.self.invariant c.args.bound c.in_ok-i.i c.in_ok-i.ensures.some
+  some = has_first-some c.self.inside.lists.items _ c.self.invariant c.args.bound c.in_ok-i.i c.in_ok-i.ensures.some
       c.index_mut.result.now c.index_mut.ensures.value;
 }
 
 pub invariant_of-self : goal.invariant_of-self
 invariant_of-self c =
-    changed c.self.inside.lists.items _ c.self.invariant c.in_ok-i.i c.in_ok-i.ensures.some.there
+    is_event_list-change c.self.inside.lists.items _ c.self.invariant c.in_ok-i.i c.in_ok-i.ensures.some.there
     c.take_message-msg.new.self
-    (taken_is c.self.inside.lists.items _ c.self.invariant c.args.bound c.in_ok-i.i c.in_ok-i.ensures.some
+    (is_list_of-take c.self.inside.lists.items _ c.self.invariant c.args.bound c.in_ok-i.i c.in_ok-i.ensures.some
     c.index_mut.result.now c.index_mut.ensures.value c.take_message-msg.result c.take_message-msg.ensures.value.0
     c.take_message-msg.new.self c.take_message-msg.ensures.value.1)
     c.index.result.now c.index.ensures c.word_of-word.result c.word_of-word.ensures.value
@@ -21,12 +22,12 @@ invariant_of-self c =
 
 pub returns-clause-some : goal.returns-clause-some
 returns-clause-some c = (
-  sym c.self.view_is ∙ view_is _ _ _ _
-      (taken_first c.self.inside.lists.items _ c.self.invariant c.args.bound c.in_ok-i.i c.in_ok-i.ensures.some
+  sym c.self.view_is ∙ view-same _ _ _ _
+      (all_messages-take c.self.inside.lists.items _ c.self.invariant c.args.bound c.in_ok-i.i c.in_ok-i.ensures.some
       c.index_mut.result.now c.index_mut.ensures.value c.take_message-msg.result c.take_message-msg.ensures.value.0
       c.take_message-msg.new.self c.take_message-msg.ensures.value.1)
       (sym (length-set c.self.inside.lists.items c.in_ok-i.i c.take_message-msg.new.self)),
-  taken_time c.self.inside.lists.items _ c.self.invariant c.args.bound c.in_ok-i.i c.in_ok-i.ensures.some
+  take-time c.self.inside.lists.items _ c.self.invariant c.args.bound c.in_ok-i.i c.in_ok-i.ensures.some
       c.index_mut.result.now c.index_mut.ensures.value c.take_message-msg.result c.take_message-msg.ensures.value.0
       c.take_message-msg.new.self c.take_message-msg.ensures.value.1,
 )

@@ -1,10 +1,10 @@
 use Rattle.std.proofs.Common.{refl, ap, sym, subst, ◌∙◌, length, arith}
-use Rattle.sim_base.specs.Order.{msg_cmp}
-use Rattle.run_laws.specs.Machine.{Reach, stay, go}
+use Rattle.run_laws.specs.Machine.{stay, go}
 use Rattle.solo_run.specs.EventLists.{EventListView}
 use Rattle.solo_run.specs.SoloView.{SoloView, IsSolo, config_of}
-use Rattle.solo_run.specs.Turns.{step_of}
-use Rattle.solo_run.proofs.ToFront.{next_turn, run_ends, short, stops}
+use Rattle.solo_run.specs.Turns.{IsReached}
+use Rattle.solo_run.proofs.OneTurn.{solo_view}
+use Rattle.solo_run.proofs.ToFront.{next_turn, run_ends, trace-short, stops}
 use Rattle.solo_run.proofs.solo.Solo.run_to.Goals as goal
 
 pub loop-due-init : goal.loop-due-init
@@ -12,16 +12,12 @@ loop-due-init g c = record { solo = c.requires.solo; ran = stay; steps = refl }
 
 pub turn-requires-clause-solo : goal.turn-requires-clause-solo
 turn-requires-clause-solo g c =
-    let taken = ap (λ (p : EventListView). let v : SoloView = record {
-      states = c.self.inside.states.items;
-      pending = p.messages;
-      trace = c.self.inside.trace;
-    } in v) c.in-Some.ensures.some.0 in
+    let taken = ap (solo_view c.self.inside.states.items c.self.inside.trace) c.in-Some.ensures.some.0 in
     subst (λ (v : SoloView). IsSolo c.args.model.now v) (sym c.self.view_is ∙ taken) c.loop-due.invariant.solo
 
 pub loop-due-smaller : goal.loop-due-smaller
 loop-due-smaller g c =
-    let new = short c.args.model.now c.requires.solo.valid c.turn.new.self c.in-Ok.ensures.solo in
+    let new = trace-short c.args.model.now c.requires.solo.valid c.turn.new.self c.in-Ok.ensures.solo in
     let same = ap (λ (v : SoloView). length v.trace) c.self.view_is in
     omega (arith, new, same, c.in-Ok.ensures.longer)
 
@@ -30,18 +26,9 @@ loop-due-preserved g c =
     let net = c.args.model.now in
     let inv = c.loop-due.invariant in
     let some = c.in-Some.ensures.some in
-    let w : SoloView = record {
-      states = c.self.inside.states.items;
-      pending = c.take_before.new.self.messages;
-      trace = c.self.inside.trace;
-    } in
-    let taken = ap (λ (p : EventListView). let v : SoloView = record {
-      states = c.self.inside.states.items;
-      pending = p.messages;
-      trace = c.self.inside.trace;
-    } in v) some.0 in
-    let ran = subst (λ (v : SoloView). Reach msg_cmp (λ m. m.key.time) (step_of net) c.args.front
-    (config_of net c.args.self) (config_of net v)) (sym c.self.view_is ∙ taken) inv.ran in
+    let w = solo_view c.self.inside.states.items c.self.inside.trace c.take_before.new.self in
+    let taken = ap (solo_view c.self.inside.states.items c.self.inside.trace) some.0 in
+    let ran = subst (λ (v : SoloView). IsReached net c.args.front c.args.self v) (sym c.self.view_is ∙ taken) inv.ran in
     let same = ap (λ (v : SoloView). length v.trace) c.self.view_is in
     record {
       solo = c.in-Ok.ensures.solo;
@@ -55,20 +42,11 @@ returns-in-Err-clause-stops g c =
     let net = c.args.model.now in
     let inv = c.loop-due.invariant in
     let some = c.in-Some.ensures.some in
-    let w : SoloView = record {
-      states = c.self.inside.states.items;
-      pending = c.take_before.new.self.messages;
-      trace = c.self.inside.trace;
-    } in
-    let taken = ap (λ (p : EventListView). let v : SoloView = record {
-      states = c.self.inside.states.items;
-      pending = p.messages;
-      trace = c.self.inside.trace;
-    } in v) some.0 in
+    let w = solo_view c.self.inside.states.items c.self.inside.trace c.take_before.new.self in
+    let taken = ap (solo_view c.self.inside.states.items c.self.inside.trace) some.0 in
     let is = sym c.self.view_is ∙ taken in
     let here = subst (λ (v : SoloView). IsSolo net v) is inv.solo in
-    let ran = subst (λ (v : SoloView). Reach msg_cmp (λ m. m.key.time) (step_of net) c.args.front
-    (config_of net c.args.self) (config_of net v)) is inv.ran in
+    let ran = subst (λ (v : SoloView). IsReached net c.args.front c.args.self v) is inv.ran in
     let same = ap (λ (v : SoloView). length v.trace) c.self.view_is in
     let count = inv.steps in
     stops net c.requires.solo.valid c.args.front c.args.self w c.in-Some.due _ _ c.loop-due.steps c.in-Err.fault
@@ -79,18 +57,9 @@ returns-clause-ok g c =
     let net = c.args.model.now in
     let inv = c.loop-due.invariant in
     let none = c.in_default.ensures.none in
-    let w : SoloView = record {
-      states = c.self.inside.states.items;
-      pending = c.self.inside.pending.messages;
-      trace = c.self.inside.trace;
-    } in
+    let w = solo_view c.self.inside.states.items c.self.inside.trace c.self.inside.pending in
     let back = sym c.self.view_is in
     let here = subst (λ (v : SoloView). IsSolo net v) back inv.solo in
-    let ran = subst (λ (v : SoloView). Reach msg_cmp (λ m. m.key.time) (step_of net) c.args.front
-    (config_of net c.args.self) (config_of net v)) back inv.ran in
-    ap (λ (p : EventListView). let v : SoloView = record {
-      states = c.self.inside.states.items;
-      pending = p.messages;
-      trace = c.self.inside.trace;
-    } in config_of net v) none.0
+    let ran = subst (λ (v : SoloView). IsReached net c.args.front c.args.self v) back inv.ran in
+    ap (λ (p : EventListView). config_of net (solo_view c.self.inside.states.items c.self.inside.trace p)) none.0
     ∙ run_ends net c.requires.solo.valid c.args.front c.args.self w c.requires.solo here ran none.1

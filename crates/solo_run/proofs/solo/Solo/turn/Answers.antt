@@ -1,7 +1,7 @@
 use Rattle.std.proofs.Common.{subst, sym, []}
 use Rattle.solo_run.specs.SoloView.{SoloView, IsSolo, with_due}
 use Rattle.solo_run.specs.Turns.{HasTurned}
-use Rattle.solo_run.proofs.OneTurn.{sends_may_be_pending, solo_is, turned}
+use Rattle.solo_run.proofs.OneTurn.{sends_may_be_pending, is_solo, has_turned, solo_view}
 use Rattle.solo_run.proofs.solo.Solo.turn.Goals as goal
 
 pub handle_at-requires-clause-suits : goal.handle_at-requires-clause-suits
@@ -20,11 +20,7 @@ pub put_all-requires : goal.put_all-requires
 put_all-requires g c =
     let net = c.args.model.now in
     let m = c.args.msg.now in
-    let v : SoloView = record {
-      states = c.self.inside.states.items;
-      pending = c.self.inside.pending.messages;
-      trace = c.self.inside.trace;
-    } in
+    let v = solo_view c.self.inside.states.items c.self.inside.trace c.self.inside.pending in
     let solo = subst (λ (w : SoloView). IsSolo net (with_due m w)) (sym c.self.view_is) c.requires.solo in
     record {
       all = rw c.as_slice.ensures.value
@@ -36,31 +32,19 @@ pub returns-clause-turned : goal.returns-clause-turned
 returns-clause-turned g c =
     let net = c.args.model.now in
     let m = c.args.msg.now in
-    let v : SoloView = record {
-      states = c.self.inside.states.items;
-      pending = c.self.inside.pending.messages;
-      trace = c.self.inside.trace;
-    } in
+    let v = solo_view c.self.inside.states.items c.self.inside.trace c.self.inside.pending in
     let solo = subst (λ (w : SoloView). IsSolo net (with_due m w)) (sym c.self.view_is) c.requires.solo in
-    let new : SoloView = record {
-      states = c.handle_at.new.states.items;
-      pending = c.put_all.new.pending.messages;
-      trace = c.push.new.self;
-    } in
+    let new = solo_view c.handle_at.new.states.items c.push.new.self c.put_all.new.pending in
     subst (λ (w : SoloView). HasTurned net w m new) c.self.view_is
     (rw c.in-Ok-push.ensures.ok
-    (turned net solo.valid v m c.handle_at.new.states.items c.put_all.new.pending.messages _ _ c.requires.early solo
+    (has_turned net solo.valid v m c.handle_at.new.states.items c.put_all.new.pending.messages _ _ c.requires.early solo
     c.in_ok-line.ensures.ok (rw c.as_slice.ensures.value at c.in-Ok.ensures.ok)))
 
 pub returns-clause-solo : goal.returns-clause-solo
 returns-clause-solo g c =
     let net = c.args.model.now in
     let m = c.args.msg.now in
-    let v : SoloView = record {
-      states = c.self.inside.states.items;
-      pending = c.self.inside.pending.messages;
-      trace = c.self.inside.trace;
-    } in
+    let v = solo_view c.self.inside.states.items c.self.inside.trace c.self.inside.pending in
     let solo = subst (λ (w : SoloView). IsSolo net (with_due m w)) (sym c.self.view_is) c.requires.solo in
-    rw c.in-Ok-push.ensures.ok (solo_is net solo.valid v m c.handle_at.new.states.items c.put_all.new.pending.messages
+    rw c.in-Ok-push.ensures.ok (is_solo net solo.valid v m c.handle_at.new.states.items c.put_all.new.pending.messages
     _ _ c.requires.early solo c.in_ok-line.ensures.ok (rw c.as_slice.ensures.value at c.in-Ok.ensures.ok))

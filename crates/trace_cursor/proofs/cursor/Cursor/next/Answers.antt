@@ -1,8 +1,8 @@
 use Rattle.std.proofs.Common.{◌≤◌, ◌<◌, ◌%◌, length, sym, ap, ◌∙◌, arith}
 use Rattle.sim_base.specs.declared.message.TheConstants.{WORD_PLACES}
 use Rattle.trace_cursor.specs.Cursors.{CursorView}
-use Rattle.trace_cursor.proofs.Popping.{none_past}
-use Rattle.trace_cursor.proofs.Stepping.{stepped, given, ended}
+use Rattle.trace_cursor.proofs.Popping.{merge_all-past}
+use Rattle.trace_cursor.proofs.Stepping.{cursor-next, left-some, left-none}
 use Rattle.trace_cursor.proofs.cursor.Cursor.next.Goals as goal
 
 pub returns-then-i-len-clause-none : goal.returns-then-i-len-clause-none
@@ -11,8 +11,8 @@ returns-then-i-len-clause-none c =
     let past : length walks.items ≤ c.least-place.result % WORD_PLACES =
     omega (arith, c.if-i-len.true, c.len.ensures, walks.ok.0) in
     let nothing = sym (ap (λ (v : CursorView). v.left) c.self.view_is)
-    ∙ none_past c.least-place.result c.self.inside.tree walks.items _ _ c.self.invariant c.least-place.ensures.value
-    past in
+    ∙ merge_all-past c.least-place.result c.self.inside.tree walks.items _ _ c.self.invariant
+    c.least-place.ensures.value past in
     (nothing, nothing)
 
 pub invariant_of-self : goal.invariant_of-self
@@ -20,8 +20,8 @@ invariant_of-self c =
     let walks = c.self.inside.walks in
     let there : c.least-place.result % WORD_PLACES < length walks.items =
     omega (arith, c.if-i-len.false, c.len.ensures, walks.ok.0) in
-    stepped walks.items c.self.inside.tree _ _ c.self.invariant c.least-place.result c.least-place.ensures.value there
-    c.index_mut.result.now c.next-entry.new.self c.index_mut.ensures.value
+    cursor-next walks.items c.self.inside.tree _ _ c.self.invariant c.least-place.result c.least-place.ensures.value
+    there c.index_mut.result.now c.next-entry.new.self c.index_mut.ensures.value
     c.next-entry.result c.next-entry.ensures.some c.next-entry.ensures.none
     c.set.new.self c.word.result c.index.result.now c.index.ensures c.word.ensures.value c.set.ensures.value
 
@@ -30,7 +30,7 @@ returns-clause-some c =
     let walks = c.self.inside.walks in
     let there : c.least-place.result % WORD_PLACES < length walks.items =
     omega (arith, c.if-i-len.false, c.len.ensures, walks.ok.0) in
-    given walks.items c.self.inside.tree _ _ c.self.invariant c.least-place.result c.least-place.ensures.value there
+    left-some walks.items c.self.inside.tree _ _ c.self.invariant c.least-place.result c.least-place.ensures.value there
     c.index_mut.result.now c.next-entry.new.self c.index_mut.ensures.value
     c.next-entry.result c.next-entry.ensures.some c.next-entry.ensures.none
     c.args.self.now c.self.view_is
@@ -40,7 +40,7 @@ returns-clause-none c =
     let walks = c.self.inside.walks in
     let there : c.least-place.result % WORD_PLACES < length walks.items =
     omega (arith, c.if-i-len.false, c.len.ensures, walks.ok.0) in
-    ended walks.items c.self.inside.tree _ _ c.self.invariant c.least-place.result c.least-place.ensures.value there
+    left-none walks.items c.self.inside.tree _ _ c.self.invariant c.least-place.result c.least-place.ensures.value there
     c.index_mut.result.now c.next-entry.new.self c.index_mut.ensures.value
     c.next-entry.result c.next-entry.ensures.some c.next-entry.ensures.none
     c.args.self.now c.self.view_is

@@ -1,12 +1,12 @@
 use Rattle.std.proofs.Common.{Some, arith}
 use Rattle.log_chain.specs.Stored.{entry_in}
-use Rattle.trace_cursor.proofs.Stepping.{stepped, given, turn_is, turn_some, turn_fits}
+use Rattle.trace_cursor.proofs.Stepping.{cursor-next, left-some, next-there, next-some, next-fits}
 use Rattle.trace_cursor.proofs.cursor.Cursor.take.Goals as goal
 
 pub index_mut-requires : goal.index_mut-requires
 index_mut-requires c =
     let walks = c.self.inside.walks in
-    let there = turn_is walks.items c.self.inside.tree _ _ c.self.invariant c.least-place.result
+    let there = next-there walks.items c.self.inside.tree _ _ c.self.invariant c.least-place.result
     c.least-place.ensures.value c.args.self.now c.self.view_is c.requires.some in
     omega (arith, there, walks.ok.0)
 
@@ -14,7 +14,7 @@ pub take-entry-requires : goal.take-entry-requires
 take-entry-requires c =
     let walks = c.self.inside.walks in
     record {
-      some = turn_some walks.items c.self.inside.tree _ _ c.self.invariant c.least-place.result
+      some = next-some walks.items c.self.inside.tree _ _ c.self.invariant c.least-place.result
           c.least-place.ensures.value c.args.self.now c.self.view_is c.requires.some c.index_mut.result.now
           c.index_mut.ensures.value;
     }
@@ -22,14 +22,14 @@ take-entry-requires c =
 pub index-requires : goal.index-requires
 index-requires c =
     let walks = c.self.inside.walks in
-    let there = turn_is walks.items c.self.inside.tree _ _ c.self.invariant c.least-place.result
+    let there = next-there walks.items c.self.inside.tree _ _ c.self.invariant c.least-place.result
     c.least-place.ensures.value c.args.self.now c.self.view_is c.requires.some in
     omega (arith, there, walks.ok.0)
 
 pub word-requires-clause-fit : goal.word-requires-clause-fit
 word-requires-clause-fit c =
     let walks = c.self.inside.walks in
-    turn_fits walks.items c.self.inside.tree _ _ c.self.invariant c.least-place.result c.least-place.ensures.value
+    next-fits walks.items c.self.inside.tree _ _ c.self.invariant c.least-place.result c.least-place.ensures.value
     c.args.self.now c.self.view_is c.requires.some c.index_mut.result.now c.take-entry.new.self c.index.result.now
     (entry_in c.take-entry.result) c.index_mut.ensures.value c.take-entry.ensures.value c.index.ensures
 
@@ -37,26 +37,26 @@ pub set-requires : goal.set-requires
 set-requires c =
     let walks = c.self.inside.walks in
     let h = c.self.invariant in
-    let there = turn_is walks.items c.self.inside.tree _ _ h c.least-place.result c.least-place.ensures.value
+    let there = next-there walks.items c.self.inside.tree _ _ h c.least-place.result c.least-place.ensures.value
     c.args.self.now c.self.view_is c.requires.some in
     record { there = omega (arith, there, h.within, h.there) }
 
 pub invariant_of-self : goal.invariant_of-self
 invariant_of-self c =
     let walks = c.self.inside.walks in
-    let there = turn_is walks.items c.self.inside.tree _ _ c.self.invariant c.least-place.result
+    let there = next-there walks.items c.self.inside.tree _ _ c.self.invariant c.least-place.result
     c.least-place.ensures.value c.args.self.now c.self.view_is c.requires.some in
-    stepped walks.items c.self.inside.tree _ _ c.self.invariant c.least-place.result c.least-place.ensures.value there
-    c.index_mut.result.now c.take-entry.new.self c.index_mut.ensures.value
+    cursor-next walks.items c.self.inside.tree _ _ c.self.invariant c.least-place.result c.least-place.ensures.value
+    there c.index_mut.result.now c.take-entry.new.self c.index_mut.ensures.value
     (Some (entry_in c.take-entry.result)) c.take-entry.ensures.value tt
     c.set.new.self c.word.result c.index.result.now c.index.ensures c.word.ensures.value c.set.ensures.value
 
 pub returns-clause-value : goal.returns-clause-value
 returns-clause-value c =
     let walks = c.self.inside.walks in
-    let there = turn_is walks.items c.self.inside.tree _ _ c.self.invariant c.least-place.result
+    let there = next-there walks.items c.self.inside.tree _ _ c.self.invariant c.least-place.result
     c.least-place.ensures.value c.args.self.now c.self.view_is c.requires.some in
-    given walks.items c.self.inside.tree _ _ c.self.invariant c.least-place.result c.least-place.ensures.value there
+    left-some walks.items c.self.inside.tree _ _ c.self.invariant c.least-place.result c.least-place.ensures.value there
     c.index_mut.result.now c.take-entry.new.self c.index_mut.ensures.value
     (Some (entry_in c.take-entry.result)) c.take-entry.ensures.value tt
     c.args.self.now c.self.view_is

@@ -1,10 +1,10 @@
 use Rattle.std.proofs.Common.{◌≡◌, ◌<◌, ◌≤◌, sym, ap, subst, ◌∙◌, length, get_or, take}
 use Rattle.std.proofs.lemmas.List.{take_all}
+use Rattle.sim_base.proofs.Elements.{take_next}
 use Rattle.phys_proc.specs.Own.{MarkedMessages}
 use Rattle.world_core.specs.Windows.{IsDeliveredTo}
 use Rattle.world_core.specs.Posts.{PostView}
-use Rattle.world_core.proofs.Places.{take_next}
-use Rattle.world_core.proofs.Mail.{given_next}
+use Rattle.world_core.proofs.Mail.{IsDeliveredTo-push}
 use Rattle.world_core.proofs.posts.Post.hand_over.Goals as goal
 
 pub deliver-requires : goal.deliver-requires
@@ -31,7 +31,7 @@ loop-pair-preserved c =
     subst (λ l. IsDeliveredTo l c.args.self.proc c.deliver.new.self)
     (sym (take_next ms i x (subst (λ (l : MarkedMessages). i < length l) same c.loop-pair-test.true)
     (c.pair-item.is ∙ ap (λ (l : MarkedMessages). get_or l i x) same)))
-    (given_next (take i ms) x c.args.self.proc c.loop-pair.proc c.deliver.new.self c.loop-pair.invariant
+    (IsDeliveredTo-push (take i ms) x c.args.self.proc c.loop-pair.proc c.deliver.new.self c.loop-pair.invariant
     (record { copies = e.given; station = e.station; living = e.living; once = e.handled; proc = e.proc }))
 
 pub returns : goal.returns

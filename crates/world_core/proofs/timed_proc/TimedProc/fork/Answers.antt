@@ -1,10 +1,20 @@
-use Rattle.std.proofs.Common.{subst, sym}
+use Rattle.std.proofs.Common.{subst, sym, ◌∙◌}
 use Rattle.phys_proc.specs.Own.{AreLate}
 use Rattle.phys_proc.specs.Procs.{ProcView}
-use Rattle.phys_proc.proofs.Forked.{late_forked}
+use Rattle.phys_proc.proofs.Forks.{late_forked}
+use Rattle.world_core.specs.Forking.{HasForked}
 use Rattle.world_core.proofs.timed_proc.TimedProc.fork.Goals as goal
 
 pub invariant_of-self : goal.invariant_of-self
 invariant_of-self c = subst (AreLate c.self.inside.least) (sym c.fork.ensures.forked)
     (late_forked c.args.old c.args.new c.self.inside.least c.deref_mut.result.now.copies
     (subst (λ (p : ProcView). AreLate c.self.inside.least p.copies) (sym c.deref_mut.ensures.value) c.self.invariant))
+
+pub returns : goal.returns
+returns c =
+    let e = c.fork.ensures in
+    record {
+      forked = subst (λ (u : ProcView). HasForked c.args.old c.args.new u c.fork.new.self)
+          (c.deref_mut.ensures.value ∙ c.self.view_is)
+          (record { copies = e.each_forked; proc = e.proc; station = e.station; living = e.living; once = e.handled });
+    }

@@ -1,5 +1,5 @@
 use Rattle.std.proofs.Common.{subst, ◌∙◌}
-use Rattle.phys_proc.specs.Gone.{ends_in}
+use Rattle.phys_proc.specs.Ends.{ends_in}
 use Rattle.phys_proc.specs.Procs.{ProcView, IsLeastOf}
 use Rattle.world_core.proofs.timed_proc.TimedProc.least_of.Goals as goal
 

@@ -1,6 +1,6 @@
 use Rattle.std.proofs.Common.{◌≡◌, inr, sym, ap, subst, ◌∙◌}
 use Rattle.run_laws.specs.Fronts.{earlier}
-use Rattle.phys_proc.specs.Gone.{ends_in}
+use Rattle.phys_proc.specs.Ends.{ends_in}
 use Rattle.phys_proc.specs.Procs.{ProcView, IsLeast}
 use Rattle.world_core.proofs.timed_proc.TimedProc.with_least.Goals.{in-Some+else-is_idle, in_default}
 use Rattle.world_core.proofs.timed_proc.TimedProc.with_least.Goals as goal

@@ -1,5 +1,5 @@
 use Rattle.std.proofs.Common.{◌≡◌, ap, ap₂, subst, ◌∙◌}
-use Rattle.phys_proc.specs.Gone.{ends_in}
+use Rattle.phys_proc.specs.Ends.{ends_in}
 use Rattle.phys_proc.specs.Procs.{ProcView}
 use Rattle.world_core.specs.Windows.{WindowView, IsFlow}
 use Rattle.world_core.specs.declared.flow.Flow.{Flow}
@@ -15,7 +15,6 @@ returns-clause-flow g c =
     c.deref.ensures c.deref-2.ensures ∙ c.self.view_is in
     let net = v.net in
     let ends = ends_in v.net.horizon v.ends in
-    let e = c.in_ok-gain.ensures in
     let flow : Flow = record {
       done = c.advance.new.self;
       sent = c.advance.new.sent;
@@ -25,5 +24,4 @@ returns-clause-flow g c =
     subst (λ (w : WindowView). IsFlow w.net (ends_in w.net.horizon w.ends) w.bound c.args._i c.args.proc flow) here
     (subst (λ (p : ProcView). IsFlow net ends c.self.inside.bound c.args._i p flow) same
     (is_flow net ends c.self.inside.bound c.args._i c.lend-sent.new.self flow
-    (ap (λ (p : ProcView). p.station) same ∙ c.requires.numbered.number)
-    e.windows e.over e.gained e.proc e.station e.living e.handled))
+    (ap (λ (p : ProcView). p.station) same ∙ c.requires.numbered.number) c.in_ok-gain.ensures.advanced))

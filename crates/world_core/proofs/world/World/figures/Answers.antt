@@ -6,7 +6,7 @@ use Rattle.stations.specs.Runs.{copies, handled_once, handled_alone}
 use Rattle.phys_proc.specs.Own.{StationCopy, all_sizes, handled_alone_by}
 use Rattle.world_core.specs.Worlds.{WorldView}
 use Rattle.world_core.proofs.Places.{got_at}
-use Rattle.world_core.proofs.DueTimes.{figured, all_short}
+use Rattle.world_core.proofs.DueTimes.{has_figures, all_short}
 use Rattle.world_core.proofs.world.World.figures.Goals as goal
 
 pub alone_in-requires-clause-short : goal.alone_in-requires-clause-short
@@ -28,8 +28,8 @@ alone_in-requires-clause-few c =
     let high = subst (λ (w : WorldView). c.args.station ≤ length w.net.sites) (sym c.self.view_is) c.requires.high in
     let many = c.self.invariant.count in
     let got = got_at procs (c.args.station - 1) p (omega (arith, c.requires.low, high, many)) c.index-proc.ensures in
-    let f = figured c.self.inside.model.value c.self.inside.lists.clones c.self.inside.ends c.self.inside.front procs
-    c.self.invariant c.args.station p c.requires.low got in
+    let f = has_figures c.self.inside.model.value c.self.inside.lists.clones c.self.inside.ends c.self.inside.front
+    procs c.self.invariant c.args.station p c.requires.low got in
     subst (λ k. all_sizes k ≤ MOST_CLONES) (sym c.copies-2.ensures.value) f.sizes
 
 pub returns-clause-copies : goal.returns-clause-copies
@@ -39,8 +39,8 @@ returns-clause-copies c =
     let high = subst (λ (w : WorldView). c.args.station ≤ length w.net.sites) (sym c.self.view_is) c.requires.high in
     let many = c.self.invariant.count in
     let got = got_at procs (c.args.station - 1) p (omega (arith, c.requires.low, high, many)) c.index-proc.ensures in
-    let f = figured c.self.inside.model.value c.self.inside.lists.clones c.self.inside.ends c.self.inside.front procs
-    c.self.invariant c.args.station p c.requires.low got in
+    let f = has_figures c.self.inside.model.value c.self.inside.lists.clones c.self.inside.ends c.self.inside.front
+    procs c.self.invariant c.args.station p c.requires.low got in
     ap length c.copies.ensures.value
     ∙ subst (λ (w : WorldView). length p.copies ≡ copies w.net w.clones c.args.station w.front) c.self.view_is
     f.copies_are
@@ -52,8 +52,8 @@ returns-clause-handled c =
     let high = subst (λ (w : WorldView). c.args.station ≤ length w.net.sites) (sym c.self.view_is) c.requires.high in
     let many = c.self.invariant.count in
     let got = got_at procs (c.args.station - 1) p (omega (arith, c.requires.low, high, many)) c.index-proc.ensures in
-    let f = figured c.self.inside.model.value c.self.inside.lists.clones c.self.inside.ends c.self.inside.front procs
-    c.self.invariant c.args.station p c.requires.low got in
+    let f = has_figures c.self.inside.model.value c.self.inside.lists.clones c.self.inside.ends c.self.inside.front
+    procs c.self.invariant c.args.station p c.requires.low got in
     c.handled.ensures.value ∙ subst (λ (w : WorldView). p.handled ≡ handled_once w.net w.clones c.args.station w.front)
     c.self.view_is f.once
 
@@ -64,8 +64,8 @@ returns-clause-alone c =
     let high = subst (λ (w : WorldView). c.args.station ≤ length w.net.sites) (sym c.self.view_is) c.requires.high in
     let many = c.self.invariant.count in
     let got = got_at procs (c.args.station - 1) p (omega (arith, c.requires.low, high, many)) c.index-proc.ensures in
-    let f = figured c.self.inside.model.value c.self.inside.lists.clones c.self.inside.ends c.self.inside.front procs
-    c.self.invariant c.args.station p c.requires.low got in
+    let f = has_figures c.self.inside.model.value c.self.inside.lists.clones c.self.inside.ends c.self.inside.front
+    procs c.self.invariant c.args.station p c.requires.low got in
     c.alone_in.ensures.value ∙ ap handled_alone_by c.copies-2.ensures.value
     ∙ subst (λ (w : WorldView). handled_alone_by p.copies ≡ handled_alone w.net w.clones c.args.station w.front)
     c.self.view_is f.each_alone

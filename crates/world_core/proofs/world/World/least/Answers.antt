@@ -2,7 +2,7 @@ use Rattle.std.proofs.Common.{◌≡◌, ◌<◌, subst, arith, length, ℕ, Lis
 use Rattle.net_model.specs.Net.{Net}
 use Rattle.stations.specs.Runs.{simulation}
 use Rattle.run_laws.specs.Fronts.{least}
-use Rattle.phys_proc.specs.Gone.{ends_in}
+use Rattle.phys_proc.specs.Ends.{ends_in}
 use Rattle.phys_proc.specs.Procs.{IsWithLeast}
 use Rattle.world_core.specs.Worlds.{WorldView}
 use Rattle.world_core.proofs.Places.{got_at}

@@ -1,4 +1,4 @@
-use Rattle.phys_proc.specs.Gone.{ends_in}
+use Rattle.phys_proc.specs.Ends.{ends_in}
 use Rattle.world_core.proofs.DueTimes.{IsLeastTo}
 use Rattle.world_core.proofs.world.World.least.Given as goal
 

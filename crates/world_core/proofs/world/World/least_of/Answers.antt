@@ -3,7 +3,7 @@ use Rattle.net_model.specs.Net.{Net}
 use Rattle.sim_base.specs.Clones.{clone_at}
 use Rattle.stations.specs.Runs.{simulation}
 use Rattle.run_laws.specs.Fronts.{least_of}
-use Rattle.phys_proc.specs.Gone.{ends_in}
+use Rattle.phys_proc.specs.Ends.{ends_in}
 use Rattle.phys_proc.specs.Procs.{IsLeastOf}
 use Rattle.world_core.specs.Worlds.{WorldView}
 use Rattle.world_core.proofs.Places.{got_at}

@@ -18,8 +18,8 @@ invariant_of-result c =
     let high = subst (λ (w : WorldView). c.args.plan.station ≤ length w.net.sites)
     (sym c.self.view_is) c.requires.high in
     let late = subst (λ (w : WorldView). w.front ≤ c.args.plan.at) (sym c.self.view_is) c.requires.not_late in
-    let tells : c.message_of-msg.result ≡ set_message (length (clone_at cs c.args.who).plans) c.args.plan =
-    c.message_of-msg.ensures.value ∙ ap (λ (l : List Planned). set_message (length l) c.args.plan)
+    let tells : c.set_message-msg.result ≡ set_message (length (clone_at cs c.args.who).plans) c.args.plan =
+    c.set_message-msg.ensures.value ∙ ap (λ (l : List Planned). set_message (length l) c.args.plan)
     (c.list.ensures.value ∙ ap (λ (l : ListsView). (clone_at l.clones c.args.who).plans) c.lists.ensures.value) in
     subst (λ cs. WorldStands net cs c.self.inside.ends c.self.inside.front c.deliver_to.new.procs.items)
     (sym c.in_ok-add.ensures.clones)
@@ -27,5 +27,5 @@ invariant_of-result c =
     c.deliver_to.new.procs.items c.requires.low high late c.self.invariant
     (subst (λ (m : Msg). AllDelivered ((m, one c.args.who) ∷ []) c.self.inside.procs.items
     c.deliver_to.new.procs.items) tells
-    (subst (λ (k : CloneSet). AllDelivered ((c.message_of-msg.result, k) ∷ []) c.self.inside.procs.items
+    (subst (λ (k : CloneSet). AllDelivered ((c.set_message-msg.result, k) ∷ []) c.self.inside.procs.items
     c.deliver_to.new.procs.items) c.one.ensures.value c.in_ok-deliver_to.ensures.given)))

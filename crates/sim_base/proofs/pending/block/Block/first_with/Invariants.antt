@@ -4,4 +4,5 @@ use Rattle.sim_base.specs.Pending.{cut_by}
 use Rattle.sim_base.proofs.pending.block.Block.first_with.Given as goal
 
 abbrev pub invariant-loop-item : goal.invariant-loop-item
-invariant-loop-item g l = cut_by g.S.Marks.met l.by (deque_iter_rest l.item-iterator) ≡ cut_by g.S.Marks.met l.by l.self
+invariant-loop-item g l = cut_by g.S.Marks.common l.by (deque_iter_rest l.item-iterator)
+    ≡ cut_by g.S.Marks.common l.by l.self

@@ -16,9 +16,9 @@ returns-then-has_at-clause-ok g c =
     let there = subst (λ xs. is_there msg_cmp c.args.msg (slice_get xs c.place-place.result) ≡ true)
     (sym c.self.view_is) (sym c.if-has_at.ensures.value) in
     rw c.join-item.ensures
-    (sym (joined_at msg_total g.S.Marks.joined c.args.msg c.args.marks c.self.inside.items.items c.place-place.result
+    (sym (joined_at msg_total g.S.Marks.union c.args.msg c.args.marks c.self.inside.items.items c.place-place.result
     c.index_mut-item.result.now sorted place there c.index_mut-item.ensures.value)
-    ∙ ap (insert_marked g.S.Marks.joined msg_cmp c.args.msg c.args.marks) c.self.view_is)
+    ∙ ap (insert_marked g.S.Marks.union msg_cmp c.args.msg c.args.marks) c.self.view_is)
 
 pub returns-then-place-eq0-clause-ok : goal.returns-then-place-eq0-clause-ok
 returns-then-place-eq0-clause-ok g c =
@@ -28,8 +28,8 @@ returns-then-place-eq0-clause-ok g c =
     let there = subst (λ xs. is_there msg_cmp c.args.msg (slice_get xs c.place-place.result) ≡ false)
     (sym c.self.view_is) (sym c.if-has_at.ensures.value) in
     c.in_ok-insert.ensures.items ∙ sym
-    (new_at msg_total g.S.Marks.joined c.args.msg c.args.marks c.self.inside.items.items c.place-place.result
-    sorted place there) ∙ ap (insert_marked g.S.Marks.joined msg_cmp c.args.msg c.args.marks) c.self.view_is
+    (new_at msg_total g.S.Marks.union c.args.msg c.args.marks c.self.inside.items.items c.place-place.result
+    sorted place there) ∙ ap (insert_marked g.S.Marks.union msg_cmp c.args.msg c.args.marks) c.self.view_is
 
 pub returns-else-place-eq0-clause-ok : goal.returns-else-place-eq0-clause-ok
 returns-else-place-eq0-clause-ok g c =
@@ -39,5 +39,5 @@ returns-else-place-eq0-clause-ok g c =
     let there = subst (λ xs. is_there msg_cmp c.args.msg (slice_get xs c.place-place.result) ≡ false)
     (sym c.self.view_is) (sym c.if-has_at.ensures.value) in
     c.in_ok-insert.ensures.items ∙ sym
-    (new_at msg_total g.S.Marks.joined c.args.msg c.args.marks c.self.inside.items.items c.place-place.result
-    sorted place there) ∙ ap (insert_marked g.S.Marks.joined msg_cmp c.args.msg c.args.marks) c.self.view_is
+    (new_at msg_total g.S.Marks.union c.args.msg c.args.marks c.self.inside.items.items c.place-place.result
+    sorted place there) ∙ ap (insert_marked g.S.Marks.union msg_cmp c.args.msg c.args.marks) c.self.view_is

@@ -1,0 +1,18 @@
+-- When clones end.
+use Rattle.std.specs.Prelude.{ℕ, ◌<◌, ◌==◌, ◌&&◌, ◌||◌, Bool, false, List, [], ◌∷◌, if◌then◌else◌, min, nat_le}
+use Rattle.std.specs.List.{AllByRecursion}
+use Rattle.sim_base.specs.declared.lists.TheConstants.{MOST_CLONES}
+
+-- the least end that is listed for a clone, the horizon where none is
+abbrev pub ends_in : ℕ → List (ℕ × ℕ) → ℕ → ℕ
+ends_in horizon [] c = horizon
+ends_in horizon (e ∷ es) c = if e.0 == c then min e.1 (ends_in horizon es c) else ends_in horizon es c
+
+-- whether a clone has ended at a time
+abbrev pub has_ended : ℕ → List (ℕ × ℕ) → ℕ → Bool
+has_ended t [] c = false
+has_ended t (e ∷ es) c = (nat_le e.1 t && e.0 == c) || has_ended t es c
+
+-- the ends are those of numbers that clones may have
+abbrev pub AreClones : List (ℕ × ℕ) → Type 0
+AreClones es = AllByRecursion (λ e. e.0 < MOST_CLONES) es

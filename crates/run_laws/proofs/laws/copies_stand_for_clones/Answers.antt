@@ -1,0 +1,30 @@
+use Rattle.run_laws.proofs.Beginning.{stands_first}
+use Rattle.run_laws.proofs.Stands.{stands_after_window}
+use Rattle.run_laws.proofs.Deciding.{stands_after_decision, stands_after_other_decision, stands_end, stands_fork}
+use Rattle.run_laws.proofs.laws.copies_stand_for_clones.Goals as goal
+
+pub returns-clause-start : goal.returns-clause-start
+returns-clause-start g c = λ has only s first_alone here.
+    stands_first g.T.Stations.lawful g.T.Stations.to_stations has only first_alone s here
+
+pub returns-clause-window : goal.returns-clause-window
+returns-clause-window g c = λ has cs front bound olds news sent s done there window stepped here delivered.
+    stands_after_window g.T.Stations.lawful g.T.Stations.to_stations has cs front bound olds news sent s done there
+    window.later window.within stepped here delivered
+
+pub returns-clause-decision : goal.returns-clause-decision
+returns-clause-decision g c = λ has cs front s who p m k copies done there is late to_s for_it for_no_other zip st.
+    stands_after_decision g.T.Stations.lawful has cs front s who p m k copies done there is late to_s for_it
+    for_no_other zip st
+
+pub returns-clause-other_decision : goal.returns-clause-other_decision
+returns-clause-other_decision g c = λ has cs front s who p m copies there is late not st.
+    stands_after_other_decision g.T.Stations.lawful has cs front s who p m copies there is late not st
+
+pub returns-clause-ending : goal.returns-clause-ending
+returns-clause-ending g c = λ has cs front s who at copies there late within st.
+    stands_end g.T.Stations.lawful has cs front s who there copies at late within st
+
+pub returns-clause-forking : goal.returns-clause-forking
+returns-clause-forking g c = λ has cs front s old name copies done there no_end zip st.
+    stands_fork g.T.Stations.sim has cs old name front s copies done there no_end zip st

@@ -1,5 +1,0 @@
-use Rattle.run_laws.proofs.FewGains.{counts_are_few}
-use Rattle.run_laws.proofs.laws.limits.Goals as goal
-
-pub returns : goal.returns
-returns g c = record { few = counts_are_few g.T.Stations.sim }
